@@ -1,0 +1,106 @@
+//! Boxes of 32-bit coordinates.
+
+ghost use Rattle.std.specs.Prelude.{◌≡◌};
+ghost use Rattle.std.specs.Option.{SomeIff};
+ghost use Rattle.rt_geo.specs.Boxes.{IsRect, overlaps, ranges_meet, rect_of};
+
+use std::marker::Model;
+
+/// A closed box: a minimum and a maximum on each axis, each minimum at most its maximum.
+#[derive(Clone, Copy, Debug, PartialEq, Eq)]
+pub struct Bounds {
+    min_x: i32,
+    max_x: i32,
+    min_y: i32,
+    max_y: i32,
+}
+
+impl Model for Bounds {
+    ghost use Rattle.rt_geo.specs.Boxes.{IsRect, Rect, rect_of};
+
+    ghost Value = { Rect };
+
+    ghost view = { λ b. rect_of b.min_x b.max_x b.min_y b.max_y };
+
+    ghost invariant = { λ b. IsRect (rect_of b.min_x b.max_x b.min_y b.max_y) };
+
+    ghost inverse = { λ r. record { min_x = r.min_x; max_x = r.max_x; min_y = r.min_y; max_y = r.max_y } };
+}
+
+/// A box with its id: one row of a table.
+#[derive(Clone, Copy, Debug, PartialEq, Eq)]
+pub struct Entry {
+    /// The row's id, which no other row of its table has.
+    pub id: i64,
+    /// The row's box.
+    pub bounds: Bounds,
+}
+
+impl Bounds {
+    /// The box with these sides. `None` where a minimum is above its maximum, and nowhere else.
+    pub fn new(min_x: i32, max_x: i32, min_y: i32, max_y: i32) -> Option<Bounds>
+        ensures { SomeIff result (IsRect (rect_of min_x max_x min_y max_y)) (rect_of min_x max_x min_y max_y) }
+    {
+        if min_x <= max_x && min_y <= max_y {
+            Some(Bounds {
+                min_x,
+                max_x,
+                min_y,
+                max_y,
+            })
+        } else {
+            None
+        }
+    }
+
+    /// The least x of its points.
+    pub fn min_x(&self) -> i32
+        ensures value { result ≡ self.now.min_x }
+        ensures valid { IsRect self.now }
+    {
+        self.min_x
+    }
+
+    /// The greatest x of its points.
+    pub fn max_x(&self) -> i32
+        ensures value { result ≡ self.now.max_x }
+        ensures valid { IsRect self.now }
+    {
+        self.max_x
+    }
+
+    /// The least y of its points.
+    pub fn min_y(&self) -> i32
+        ensures value { result ≡ self.now.min_y }
+        ensures valid { IsRect self.now }
+    {
+        self.min_y
+    }
+
+    /// The greatest y of its points.
+    pub fn max_y(&self) -> i32
+        ensures value { result ≡ self.now.max_y }
+        ensures valid { IsRect self.now }
+    {
+        self.max_y
+    }
+}
+
+/// Whether two boxes share a point. Boxes that touch do.
+pub fn overlaps(a: Bounds, b: Bounds) -> bool
+    ensures { result ≡ overlaps a b }
+{
+    meet_on_x(a, b) && meet_on_y(a, b)
+}
+
+fn meet_on_x(a: Bounds, b: Bounds) -> bool
+    ensures { result ≡ ranges_meet a.min_x a.max_x b.min_x b.max_x }
+{
+    a.min_x <= b.max_x && b.min_x <= a.max_x
+}
+
+fn meet_on_y(a: Bounds, b: Bounds) -> bool
+    ensures { result ≡ ranges_meet a.min_y a.max_y b.min_y b.max_y }
+{
+    a.min_y <= b.max_y && b.min_y <= a.max_y
+}
