@@ -1,0 +1,13 @@
+-- Steps that may fail, one after the other, as `?` chains them in code.
+use Rattle.std.specs.Prelude.{Result, Ok, Err}
+
+infixl 10 ◌>>=◌
+-- the next step, from the value of the one before; the first fault ends the chain
+abbrev pub ◌>>=◌ : {A B E : Type 0} → Result A E → (A → Result B E) → Result B E
+Ok a >>= next = next a
+Err e >>= next = Err e
+
+-- the same value, or the fault in other words
+abbrev pub map_fault : {A E F : Type 0} → (E → F) → Result A E → Result A F
+map_fault words (Ok a) = Ok a
+map_fault words (Err e) = Err (words e)
