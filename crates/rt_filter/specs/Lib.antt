@@ -1,3 +1,11 @@
+pub mod Answers
+pub mod Devices
+pub mod Endings
+pub mod Lines
 pub mod Numbers
+pub mod Queries
+pub mod Replies
+pub mod Runs
+pub mod Sorting
 pub mod Steps
 pub mod Tables

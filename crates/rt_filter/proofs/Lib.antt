@@ -1,0 +1,4 @@
+pub mod AnswerLemmas
+pub mod RangeLemmas
+pub mod SortingLemmas
+pub mod WordLemmas

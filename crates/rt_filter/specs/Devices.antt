@@ -1,0 +1,22 @@
+-- What a pull and a push do to the bytes that a device tells.
+use Rattle.std.specs.Prelude.{◌≡◌, ℕ, List, take, Option, IfSome, Result, MatchResult}
+use Rattle.std.specs.Io.KnownBytes.{Appends, Consumes, IsAtEnd}
+
+-- where the bytes are still told after a failure, they are as before
+abbrev pub IsUnmoved : Option (List ℕ) → Option (List ℕ) → Type 0
+IsUnmoved old new = IfSome new (λ after. IfSome old (λ before. after ≡ before))
+
+-- a pull of n bytes: the next n bytes stand in front of the room, none only where none are to come; a failure consumes nothing
+abbrev pub Pulls : {E : Type 0} → Option (List ℕ) → Option (List ℕ) → Result ℕ E → List ℕ → Type 0
+Pulls old new pulled room =
+    MatchResult pulled (λ n. Consumes old new (take n room) × (n ≡ 0 → IsAtEnd new)) (λ _. IsUnmoved old new)
+
+-- a push of n bytes: the first n bytes were appended; a failure appends nothing
+abbrev pub Pushes : {E : Type 0} → Option (List ℕ) → Option (List ℕ) → Result ℕ E → List ℕ → Type 0
+Pushes old new pushed piece =
+    MatchResult pushed (λ n. Appends old new (take n piece)) (λ _. IsUnmoved old new)
+
+-- what a device is of, and how many of its calls failed
+pub record Device (D : Type 0) : Type 0 where
+  pub device : D
+  pub failures : ℕ

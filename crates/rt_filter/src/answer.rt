@@ -1,0 +1,51 @@
+//! The answers to a query, by a scan of the table.
+
+ghost use Rattle.std.specs.Prelude.{◌≡◌, IfOk, filter, map};
+ghost use Rattle.rt_filter.specs.Sorting.{first_of};
+ghost use Rattle.rt_filter.specs.Answers.{accepts, answers, entries_of, score};
+
+use crate::query::{Order, Region};
+use crate::table::Table;
+use std::alloc::{AllocError, Global};
+
+/// The ids and scores of the boxes that the region accepts, by score and then id, the first so many where
+/// there is a limit.
+pub(crate) fn answers(
+    alloc: Global,
+    table: &Table,
+    region: &Region,
+    order: &Order,
+    limit: Option<u64>,
+) -> Result<Vec<(i64, u128)>, AllocError>
+    ensures { IfOk result (λ found. found.items ≡ answers (entries_of table.now.entries) (accepts region.now) (score order.now) limit) }
+{
+    let mut found = accepted(alloc, table, region, order)?;
+    found.sort_unstable_by_key(|answer| (answer.1, answer.0));
+    cut(&mut found, limit);
+    Ok(found)
+}
+
+// Keeps the first so many, where there is a limit.
+fn cut(found: &mut Vec<(i64, u128)>, limit: Option<u64>)
+    ensures { found.new.items ≡ first_of limit found.old.items }
+{
+    if let Some(limit) = limit {
+        found.truncate(limit as usize);
+    }
+}
+
+// The ids and scores of the boxes that the region accepts.
+fn accepted(
+    alloc: Global,
+    table: &Table,
+    region: &Region,
+    order: &Order,
+) -> Result<Vec<(i64, u128)>, AllocError>
+    ensures { IfOk result (λ found. found.items ≡ map (λ e. (e.0, score order.now e.1)) (filter (λ e. accepts region.now e.1) table.now.entries)) }
+{
+    table
+        .iter()
+        .filter(|(_, bounds)| region.accepts(**bounds))
+        .map(|(id, bounds)| (*id, order.score(*bounds)))
+        .collect(alloc)
+}

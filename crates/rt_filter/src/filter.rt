@@ -1,0 +1,170 @@
+//! A whole run: a table and queries in, answers out.
+
+ghost use Rattle.std.specs.Prelude.{◌≡◌, ◌+◌, ◌-◌, ◌++◌, ◌<◌, ◌≤◌, ◌^◌, ◌⊎◌, ℕ, List, [], Some, None, IfSome, IfOk, IfErr, OnOk, OnErr, MatchResult, length, if◌then◌else◌, true};
+ghost use Rattle.rt_filter.specs.Answers.{entries_of};
+ghost use Rattle.rt_filter.specs.Endings.{Ends, IsStatusOf, is_before_output, is_before_queries, is_read, is_write};
+ghost use Rattle.rt_filter.specs.Lines.{lines};
+ghost use Rattle.rt_filter.specs.Replies.{any_fault, output};
+
+use crate::reply::answer_lines;
+use crate::settings::Settings;
+use crate::sink::{Sink, WriteFault};
+use crate::source::Source;
+use crate::table::{TableFault, read_table};
+use std::alloc::{AllocError, Global};
+use std::io::Read;
+
+/// The most bytes of one pull: the longest line and its line feed.
+const PULL: usize = 4097;
+
+/// Why a run ended before all was read and written.
+#[derive(Clone, Copy, Debug, PartialEq, Eq)]
+pub enum RunFault {
+    /// The table is faulty.
+    BadTable,
+    /// The table couldn't be read.
+    TableRead,
+    /// A pull of the queries failed, or the turns were used up.
+    Read,
+    /// A push or a flush of the output failed.
+    Write,
+    /// No memory was left.
+    Memory,
+}
+
+/// How a run ended.
+#[derive(Clone, Copy, Debug, PartialEq, Eq)]
+pub struct Outcome {
+    /// 0 where all is well, 1 where some query line was faulty, 3 to 6 by the fault.
+    pub status: u8,
+    /// Why it ended early, where it did.
+    pub fault: Option<RunFault>,
+}
+
+/// Loads the table, answers every query line, and writes the answers.
+///
+/// At most `turns` pulls are made. The finished output is pushed from its front until all of it is taken,
+/// and flushed once where it isn't empty.
+pub fn run<R: Read + Drop, S: Source, K: Sink>(
+    alloc: Global,
+    settings: &Settings,
+    reader: R,
+    source: &mut S,
+    sink: &mut K,
+    turns: u64,
+) -> Outcome
+    requires source_count { S.failed source.old < 2 ^ 64 - 1 }
+    requires sink_count { K.failed sink.old < 2 ^ 64 - 1 }
+
+    // The headline. Where the three devices tell their bytes, the run ends as `run_of` of the bytes: what
+    // is written, the fault and the status. After a failed push or flush, what went out is a front of that.
+    ensures ending { (table queries before : List ℕ) → R.remaining reader ≡ Some table → S.coming source.old ≡ Some queries → K.written sink.old ≡ Some before
+        → Ends settings.now (record { table = table; queries = queries; before = before; coming = S.coming source.new; written = K.written sink.new }) result }
+    ensures status { IsStatusOf result.fault result.status }
+
+    // Each failure of a device is told, and no other. A source may also be given up when the turns are used up.
+    ensures pushes { K.failed sink.new ≡ K.failed sink.old + (if is_write result.fault then 1 else 0) }
+    ensures pulls { (S.failed source.new ≡ S.failed source.old) ⊎ ((S.failed source.new ≡ S.failed source.old + 1) × (is_read result.fault ≡ true)) }
+    ensures turns { is_read result.fault ≡ true → S.failed source.new ≡ S.failed source.old → IfSome (S.coming source.old) (λ queries. turns ≤ length queries) }
+
+    // What comes later is not touched.
+    ensures unread { is_before_queries result.fault ≡ true → source.new ≡ source.old }
+    ensures unwritten { is_before_output result.fault ≡ true → sink.new ≡ sink.old }
+{
+    let fault = match replies(alloc, settings, reader, source, turns) {
+        Ok((out, bad)) => match push_all(sink, &out) {
+            Ok(()) => {
+                return Outcome {
+                    status: u8::from(bad),
+                    fault: None,
+                };
+            }
+            Err(WriteFault) => RunFault::Write,
+        },
+        Err(fault) => fault,
+    };
+    Outcome {
+        status: fault.status(),
+        fault: Some(fault),
+    }
+}
+
+impl RunFault {
+    fn status(self) -> u8
+        ensures { IsStatusOf (Some self) result }
+    {
+        match self {
+            RunFault::BadTable | RunFault::TableRead => 3,
+            RunFault::Read => 4,
+            RunFault::Write => 5,
+            RunFault::Memory => 6,
+        }
+    }
+}
+
+// The whole output of the queries, and whether some line is faulty.
+fn replies<R: Read + Drop, S: Source>(
+    alloc: Global,
+    settings: &Settings,
+    reader: R,
+    source: &mut S,
+    turns: u64,
+) -> Result<(Vec<u8>, bool), RunFault>
+    requires { S.failed source.old < 2 ^ 64 - 1 }
+{
+    let table = read_table(alloc, reader, settings.header(), settings.max_entries())?;
+    let mut queries = Vec::new(alloc);
+    pull_all(source, turns, &mut queries)?;
+    let mut out = Vec::new(alloc);
+    let bad = answer_lines(alloc, &table, &queries, &mut out)?;
+    Ok((out, bad))
+}
+
+// Pulls until the source has no more.
+fn pull_all<S: Source>(source: &mut S, turns: u64, queries: &mut Vec<u8>) -> Result<(), RunFault>
+    requires { S.failed source.old < 2 ^ 64 - 1 }
+{
+    let mut room = [0u8; PULL];
+    for _turn in 0..turns {
+        let n = source.pull(&mut room).map_err(|_| RunFault::Read)?;
+        if n == 0 {
+            return Ok(());
+        }
+        queries.extend_from_slice(&room[..n])?;
+    }
+    Err(RunFault::Read)
+}
+
+// Pushes until all is taken, and then flushes, unless there is nothing to push.
+fn push_all<K: Sink>(sink: &mut K, out: &[u8]) -> Result<(), WriteFault>
+    requires { K.failed sink.old < 2 ^ 64 - 1 }
+{
+    if out.is_empty() {
+        return Ok(());
+    }
+    let mut rest = out;
+    while !rest.is_empty() {
+        let n = sink.push(rest)?;
+        if n == 0 {
+            return Err(WriteFault);
+        }
+        rest = &rest[n..];
+    }
+    sink.flush()
+}
+
+impl From<TableFault> for RunFault {
+    fn from(fault: TableFault) -> RunFault {
+        match fault {
+            TableFault::Read => RunFault::TableRead,
+            TableFault::Memory => RunFault::Memory,
+            _ => RunFault::BadTable,
+        }
+    }
+}
+
+impl From<AllocError> for RunFault {
+    fn from(_: AllocError) -> RunFault {
+        RunFault::Memory
+    }
+}

@@ -1,0 +1,189 @@
+//! Where answers go.
+
+ghost use Rattle.std.specs.Prelude.{◌≡◌, ◌+◌, ◌-◌, ◌<◌, ◌≤◌, ◌^◌, ℕ, List, [], Option, Some, IfOk, OnOk, OnErr, length};
+ghost use Rattle.std.specs.Io.KnownBytes.{Keeps};
+ghost use Rattle.rt_filter.specs.Devices.{IsUnmoved, Pushes};
+
+use std::io::Write;
+use std::marker::Model;
+
+/// A push or a flush that failed.
+#[derive(Clone, Copy, Debug, PartialEq, Eq)]
+pub struct WriteFault;
+
+/// A place that takes bytes in pieces, and may fail.
+pub trait Sink {
+    // The bytes written, where they are told.
+    ghost written: { Self → Option (List ℕ) };
+
+    // How many calls failed, each push that took no byte among them.
+    ghost failed: { Self → ℕ };
+
+    /// Takes bytes from the front of the piece, and tells how many: 0 only where it failed.
+    fn push(&mut self, piece: &[u8]) -> Result<usize, WriteFault>
+        requires piece { 0 < length piece.now }
+        requires count { failed self.old < 2 ^ 64 - 1 }
+        ensures bound { IfOk result (λ n. n ≤ length piece.now) }
+        ensures bytes { Pushes (written self.old) (written self.new) result piece.now }
+        ensures went { IfOk result (λ n. 0 < n → failed self.new ≡ failed self.old) }
+        ensures took_none { IfOk result (λ n. n ≡ 0 → failed self.new ≡ failed self.old + 1) }
+        ensures fails { OnErr result (failed self.new ≡ failed self.old + 1) };
+
+    /// Hands on what was taken. It takes no byte itself.
+    fn flush(&mut self) -> Result<(), WriteFault>
+        requires { failed self.old < 2 ^ 64 - 1 }
+        ensures bytes { OnOk result (Keeps (written self.old) (written self.new)) }
+        ensures went { OnOk result (failed self.new ≡ failed self.old) }
+        ensures lost { OnErr result (IsUnmoved (written self.old) (written self.new)) }
+        ensures fails { OnErr result (failed self.new ≡ failed self.old + 1) };
+
+    /// How many calls failed so far.
+    fn failures(&self) -> u64
+        ensures { result ≡ failed self.now };
+}
+
+/// A writer of std as a sink. Each error of its `write` and `flush` is one failure.
+#[derive(Drop)]
+pub struct WriteSink<W: Write> {
+    writer: W,
+    failures: u64,
+}
+
+impl<W: Write> Model for WriteSink<W> {
+    ghost use Rattle.rt_filter.specs.Devices.{Device};
+
+    ghost Value = { Device W };
+
+    ghost view = { λ s. record { device = s.writer; failures = s.failures } };
+}
+
+impl<W: Write> WriteSink<W> {
+    pub fn new(writer: W) -> WriteSink<W>
+        ensures writer { result.device ≡ writer }
+        ensures count { result.failures ≡ 0 }
+    {
+        WriteSink {
+            writer,
+            failures: 0,
+        }
+    }
+}
+
+impl<W: Write> Sink for WriteSink<W> {
+    ghost written = { λ s. W.contents s.device };
+
+    ghost failed = { λ s. s.failures };
+
+    fn push(&mut self, piece: &[u8]) -> Result<usize, WriteFault> {
+        match self.writer.write(piece) {
+            Ok(0) => {
+                self.failures += 1;
+                Ok(0)
+            }
+            Ok(n) => Ok(n),
+            Err(_) => {
+                self.failures += 1;
+                Err(WriteFault)
+            }
+        }
+    }
+
+    fn flush(&mut self) -> Result<(), WriteFault> {
+        match self.writer.flush() {
+            Ok(()) => Ok(()),
+            Err(_) => {
+                self.failures += 1;
+                Err(WriteFault)
+            }
+        }
+    }
+
+    fn failures(&self) -> u64 {
+        self.failures
+    }
+}
+
+/// Room in memory as a sink: at most `piece` bytes a push, and one call, counted from 1, that fails.
+#[derive(Drop)]
+pub struct SliceSink<'a> {
+    room: &'a mut [u8],
+    len: usize,
+    piece: usize,
+    fail_at: Option<u64>,
+    calls: u64,
+    failures: u64,
+}
+
+impl<'a> Model for SliceSink<'a> {
+    ghost use Rattle.std.specs.Prelude.{List, ℕ, ◌<◌, ◌≤◌, length, take};
+    ghost use Rattle.rt_filter.specs.Devices.{Device};
+
+    ghost Value = { Device (List ℕ) };
+
+    ghost view = { λ s. record { device = take s.len s.room.now; failures = s.failures } };
+
+    ghost invariant = { λ s. (s.len ≤ length s.room.now) × (0 < s.piece) };
+}
+
+impl<'a> SliceSink<'a> {
+    /// This room, filled from its front, at most `piece` bytes a push, which is at least 1. Call number
+    /// `fail_at`, pushes and flushes counted together from 1, fails; at 0 or none, no call does. A push
+    /// takes 0 bytes where the room is used up.
+    pub fn new(room: &'a mut [u8], piece: usize, fail_at: Option<u64>) -> SliceSink<'a>
+        requires { 0 < piece }
+        ensures written { result.device ≡ [] }
+        ensures count { result.failures ≡ 0 }
+    {
+        SliceSink {
+            room,
+            len: 0,
+            piece,
+            fail_at,
+            calls: 0,
+            failures: 0,
+        }
+    }
+
+    /// The bytes taken.
+    pub fn written(&self) -> &[u8]
+        ensures { result.now ≡ self.now.device }
+    {
+        &self.room[..self.len]
+    }
+}
+
+impl Sink for SliceSink<'_> {
+    ghost written = { λ s. Some s.device };
+
+    ghost failed = { λ s. s.failures };
+
+    fn push(&mut self, piece: &[u8]) -> Result<usize, WriteFault> {
+        self.calls = self.calls.saturating_add(1);
+        if self.fail_at == Some(self.calls) {
+            self.failures += 1;
+            return Err(WriteFault);
+        }
+        let at = self.len;
+        let n = piece.len().min(self.piece).min(self.room.len() - at);
+        if n == 0 {
+            self.failures += 1;
+            return Ok(0);
+        }
+        self.room[at..at + n].copy_from_slice(&piece[..n]);
+        self.len = at + n;
+        Ok(n)
+    }
+
+    fn flush(&mut self) -> Result<(), WriteFault> {
+        self.calls = self.calls.saturating_add(1);
+        if self.fail_at == Some(self.calls) {
+            self.failures += 1;
+            return Err(WriteFault);
+        }
+        Ok(())
+    }
+
+    fn failures(&self) -> u64 {
+        self.failures
+    }
+}
