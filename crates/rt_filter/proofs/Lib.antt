@@ -1,4 +1,7 @@
 pub mod AnswerLemmas
+pub mod LineLemmas
+mod NumberLemmas
 pub mod RangeLemmas
+mod Rows
 pub mod SortingLemmas
 pub mod WordLemmas
