@@ -10,7 +10,7 @@ abbrev pub full_parts : List (List ℕ) → List (List ℕ)
 full_parts parts = filter (λ part. not (is_empty part)) parts
 
 -- the parts that stand after the first one
-abbrev later_parts : (ℕ → Bool) → List ℕ → List (List ℕ)
+abbrev pub later_parts : (ℕ → Bool) → List ℕ → List (List ℕ)
 later_parts p [] = []
 later_parts p (c ∷ xs) = slice_split p xs
 
@@ -29,7 +29,7 @@ module _ (p : ℕ → Bool) where
       by false e h = rw (e, e) refl
 
   -- the first part, and the later ones
-  parts_are : (xs : List ℕ) → slice_split p xs ≡ take (position_or_len p xs) xs ∷ later_parts p (drop (position_or_len p xs) xs)
+  pub parts_are : (xs : List ℕ) → slice_split p xs ≡ take (position_or_len p xs) xs ∷ later_parts p (drop (position_or_len p xs) xs)
   parts_are [] = refl
   parts_are (c ∷ xs) = by (p c) refl (parts_are xs)
     where
