@@ -1,6 +1,7 @@
 pub mod AnswerLemmas
 pub mod LineLemmas
 mod NumberLemmas
+pub mod Permutations
 pub mod RangeLemmas
 mod Rows
 pub mod SortingLemmas

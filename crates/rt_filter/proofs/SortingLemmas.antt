@@ -1,14 +1,10 @@
 -- Lists that are put in order by a total order: a rearrangement has the same order, and a list in order is its own.
-use Rattle.std.specs.Prelude.{◌≡◌, Bool, true, false, cond, List, [], ◌∷◌, ℕ, zero, suc, ◌<◌, ◌+◌, length, get_or, set}
-use Rattle.std.specs.List.{AllByRecursion, swap}
-use Rattle.std.specs.List.Sorted.{IsPermutation}
-use Rattle.std.proofs.Common.{refl, sym, ◌∙◌, ap, subst, rules, arith, ⊎_elim, add-one}
+use Rattle.std.proofs.Common.{◌≡◌, Bool, true, false, cond, List, [], ◌∷◌, ℕ, zero, suc, ◌<◌, ◌+◌, length, get_or, refl, sym, ◌∙◌, ap, rules, arith}
 use native.Mathlib.Numerals.{unary_clauses}
-use Rattle.std.proofs.lemmas.Bool.{cases_eq}
-use Rattle.std.proofs.lemmas.List.{length-set, get_or-set_same, get_or-set_other}
-use Rattle.std.proofs.lemmas.List.Edits.{swap_is}
-use Rattle.std.proofs.lemmas.List.Sorted.{IsPermutation-keeps}
+use Rattle.std.specs.List.{AllByRecursion}
+use Rattle.std.specs.List.Sorted.{IsPermutation}
 use Rattle.rt_filter.specs.Sorting.{put, sorted}
+use Rattle.rt_filter.proofs.Permutations.{along_permutation}
 
 -- a total order, by its test
 pub record IsOrder {X : Type 0} (le : X → X → Bool) : Type 0 where
@@ -28,46 +24,9 @@ module _ {X : Type 0} (le : X → X → Bool) (o : IsOrder le) where
   put-put x y [] = put_put_nil x y
   put-put x y (z ∷ zs) = put_put_cons x y z zs (put-put x y zs)
 
-  -- ---- an element that was put can be taken away again
-  abbrev unput : X → List X → List X
-  unput x [] = []
-  unput x (y ∷ ys) = cond (le x y) ys (y ∷ unput x ys)
-
-  le_same : (x : X) → le x x ≡ true
-  le_same x = grind (arith, o.total)
-
-  unput_cons : (x y : X) (ys : List X) → unput x (put le x ys) ≡ ys → unput x (put le x (y ∷ ys)) ≡ y ∷ ys
-  unput_cons x y ys h = let s = le_same x in grind (arith, s, h)
-
-  unput-put : (x : X) (ys : List X) → unput x (put le x ys) ≡ ys
-  unput-put x [] = rw le_same refl
-  unput-put x (y ∷ ys) = unput_cons x y ys (unput-put x ys)
-
-  put_cancel : (x : X) (ys zs : List X) → put le x ys ≡ put le x zs → ys ≡ zs
-  put_cancel x ys zs h = sym (unput-put x ys) ∙ ap (unput x) h ∙ unput-put x zs
-
   -- ---- a rearrangement has the same order
-  sorted-set : (xs : List X) (i : ℕ) (d v : X) → i < length xs → put le (get_or xs i d) (sorted le (set xs i v)) ≡ put le v (sorted le xs)
-  sorted-set [] i d v h = absurd (omega (arith, h))
-  sorted-set (x ∷ xs) zero d v h = put-put x v (sorted le xs)
-  sorted-set (x ∷ xs) (suc i) d v h =
-      put-put (get_or xs i d) x (sorted le (set xs i v)) ∙ ap (put le x) (sorted-set xs i d v (omega (arith, h))) ∙ put-put x v (sorted le xs)
-
-  sorted-swap : (l : List X) (i j : ℕ) (d : X) → i < length l → j < length l → sorted le (swap l i j) ≡ sorted le l
-  sorted-swap l i j d p q =
-      let w : List X = set l i (get_or l j d) in
-      let long : length w ≡ length l = length-set l i (get_or l j d) in
-      let there : get_or w j d ≡ get_or l j d = ⊎_elim (λ e. ap (λ n. get_or w n d) e ∙ get_or-set_same l i (get_or l j d) d p) (λ n. get_or-set_other l i j (get_or l j d) d n) (cases_eq j i) in
-      let first = sorted-set l i d (get_or l j d) p in
-      let second = sorted-set w j d (get_or l i d) (omega arith) in
-      ap (sorted le) (sym (swap_is l i j d p q)) ∙ put_cancel (get_or l j d) _ _ (ap (λ g. put le g (sorted le (set w j (get_or l i d)))) (sym there) ∙ second ∙ first)
-
-  sorted_swap : (l : List X) (i j : ℕ) → i < length l → j < length l → sorted le (swap l i j) ≡ sorted le l
-  sorted_swap [] i j p q = refl
-  sorted_swap (x ∷ l) i j p q = sorted-swap (x ∷ l) i j x p q
-
-  pub sorted-IsPermutation : (xs ys : List X) → IsPermutation xs ys → sorted le ys ≡ sorted le xs
-  sorted-IsPermutation xs ys h = IsPermutation-keeps xs (λ l. sorted le l ≡ sorted le xs) refl (λ l i j p q k. sorted_swap l i j p q ∙ k) ys h
+  pub sorted-IsPermutation : (xs ys : List X) → IsPermutation xs ys → sorted le xs ≡ sorted le ys
+  sorted-IsPermutation = along_permutation (λ xs ys. sorted le xs ≡ sorted le ys) (λ xs. refl) (λ x xs ys h. ap (put le x) h) (λ x y xs. put-put x y (sorted le xs)) (λ xs ys zs h k. h ∙ k)
 
   -- ---- a list in order is its own
   -- each element is at most all later ones
@@ -102,4 +61,4 @@ module _ {X : Type 0} (le : X → X → Bool) (o : IsOrder le) where
 
   -- what a sort gives: a rearrangement in which no element is above the next
   pub sort_gives : (xs ys : List X) → IsPermutation xs ys → IsRising ys → ys ≡ sorted le xs
-  sort_gives xs ys same rising = sym (sorted-IsAscending ys (rising_ascends ys rising)) ∙ sorted-IsPermutation xs ys same
+  sort_gives xs ys same rising = sym (sorted-IsAscending ys (rising_ascends ys rising)) ∙ sym (sorted-IsPermutation xs ys same)
