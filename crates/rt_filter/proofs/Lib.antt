@@ -1,4 +1,5 @@
 pub mod AnswerLemmas
+pub mod DeviceLemmas
 pub mod LineLemmas
 mod NumberLemmas
 pub mod Permutations

@@ -1,6 +1,8 @@
 -- How a run may end, by the fault that it reports.
-use Rattle.std.specs.Prelude.{◌≡◌, ℕ, ◌+◌, ◌⊎◌, List, [], ◌++◌, Bool, true, false, if◌then◌else◌, Option, Some, None, IfSome}
+use Rattle.std.specs.Prelude.{◌≡◌, ℕ, ◌+◌, ◌⊎◌, List, [], ◌++◌, Bool, true, false, if◌then◌else◌, Option, Some, None, IfSome, ⊤}
 use Rattle.rt_filter.specs.Runs.{Choices, Run, run_of}
+use Rattle.rt_filter.specs.declared.table.TableFault.{TableFault}
+use Rattle.rt_filter.specs.declared.table.TableFault.TheVariants as load
 use Rattle.rt_filter.specs.declared.filter.Outcome.{Outcome}
 use Rattle.rt_filter.specs.declared.filter.RunFault.{RunFault}
 use Rattle.rt_filter.specs.declared.filter.RunFault.TheVariants.{BadTable, TableRead, Read, Write, Memory}
@@ -92,3 +94,21 @@ abbrev pub is_before_output : Option RunFault → Bool
 is_before_output None = false
 is_before_output (Some Write) = false
 is_before_output other = true
+
+-- ---- the parts of a run
+
+-- why there are no replies: a fault of the table, which its bytes have, or a failure outside. After a failed pull the table is sound
+abbrev pub Stops : Choices → (table : List ℕ) → RunFault → Type 0
+Stops choices table BadTable = (queries : List ℕ) → run_of choices table queries ≡ record { written = []; fault = Some BadTable; status = 3 }
+Stops choices table Read = (queries : List ℕ) → (run_of choices table queries).fault ≡ None
+Stops choices table other = ⊤
+
+-- a push was cut short: what went out is a front of the bytes
+abbrev pub WentFront : (old new : Option (List ℕ)) → List ℕ → Type 0
+WentFront old new bytes = IfSome old (λ before. IfSome new (λ now. (out rest : List ℕ) × (now ≡ before ++ out) × (bytes ≡ out ++ rest)))
+
+-- what a run tells of a fault of the load
+abbrev pub run_fault : TableFault → RunFault
+run_fault load.Read = TableRead
+run_fault load.Memory = Memory
+run_fault other = BadTable

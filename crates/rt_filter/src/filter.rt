@@ -1,10 +1,8 @@
 //! A whole run: a table and queries in, answers out.
 
 ghost use Rattle.std.specs.Prelude.{◌≡◌, ◌+◌, ◌-◌, ◌++◌, ◌<◌, ◌≤◌, ◌^◌, ◌⊎◌, ℕ, List, [], Some, None, IfSome, IfOk, IfErr, OnOk, OnErr, MatchResult, length, if◌then◌else◌, true};
-ghost use Rattle.rt_filter.specs.Answers.{entries_of};
-ghost use Rattle.rt_filter.specs.Endings.{Ends, IsStatusOf, is_before_output, is_before_queries, is_read, is_write};
-ghost use Rattle.rt_filter.specs.Lines.{lines};
-ghost use Rattle.rt_filter.specs.Replies.{any_fault, output};
+ghost use Rattle.rt_filter.specs.Endings.{Ends, IsStatusOf, Stops, WentFront, is_before_output, is_before_queries, is_read, is_write};
+ghost use Rattle.rt_filter.specs.Runs.{run_of};
 
 use crate::reply::answer_lines;
 use crate::settings::Settings;
@@ -111,6 +109,15 @@ fn replies<R: Read + Drop, S: Source>(
     turns: u64,
 ) -> Result<(Vec<u8>, bool), RunFault>
     requires { S.failed source.old < 2 ^ 64 - 1 }
+    ensures whole { IfOk result (λ replies. (table queries : List ℕ) → R.remaining reader ≡ Some table → S.coming source.old ≡ Some queries
+        → run_of settings.now table queries ≡ record { written = replies.0.items; fault = None; status = if replies.1 then 1 else 0 }) }
+    ensures read { OnOk result (IfSome (S.coming source.old) (λ queries. S.coming source.new ≡ Some [])) }
+    ensures stops { IfErr result (λ fault. (table : List ℕ) → R.remaining reader ≡ Some table → Stops settings.now table fault) }
+    ensures unpushed { IfErr result (λ fault. is_before_output (Some fault) ≡ true) }
+    ensures unread { IfErr result (λ fault. is_before_queries (Some fault) ≡ true → source.new ≡ source.old) }
+    ensures went { OnOk result (S.failed source.new ≡ S.failed source.old) }
+    ensures pulls { IfErr result (λ fault. (S.failed source.new ≡ S.failed source.old) ⊎ ((S.failed source.new ≡ S.failed source.old + 1) × (fault ≡ RunFault.Read))) }
+    ensures turns { IfErr result (λ fault. fault ≡ RunFault.Read → S.failed source.new ≡ S.failed source.old → IfSome (S.coming source.old) (λ queries. turns ≤ length queries)) }
 {
     let table = read_table(alloc, reader, settings.header(), settings.max_entries())?;
     let mut queries = Vec::new(alloc);
@@ -120,13 +127,20 @@ fn replies<R: Read + Drop, S: Source>(
     Ok((out, bad))
 }
 
-// Pulls until the source has no more.
+// Pulls until the source has no more, and puts what it gave at the end of `queries`.
 fn pull_all<S: Source>(source: &mut S, turns: u64, queries: &mut Vec<u8>) -> Result<(), RunFault>
     requires { S.failed source.old < 2 ^ 64 - 1 }
+    ensures all { OnOk result (IfSome (S.coming source.old) (λ all. (S.coming source.new ≡ Some []) × (queries.new.items ≡ queries.old.items ++ all))) }
+    ensures fault { IfErr result (λ fault. (fault ≡ RunFault.Read) ⊎ (fault ≡ RunFault.Memory)) }
+    ensures went { OnOk result (S.failed source.new ≡ S.failed source.old) }
+    ensures pulls { IfErr result (λ fault. (S.failed source.new ≡ S.failed source.old) ⊎ ((S.failed source.new ≡ S.failed source.old + 1) × (fault ≡ RunFault.Read))) }
+    ensures turns { IfErr result (λ fault. fault ≡ RunFault.Read → S.failed source.new ≡ S.failed source.old → IfSome (S.coming source.old) (λ all. turns ≤ length all)) }
 {
     let mut room = [0u8; PULL];
     for _turn in 0..turns {
-        let n = source.pull(&mut room).map_err(|_| RunFault::Read)?;
+        let Ok(n) = source.pull(&mut room) else {
+            return Err(RunFault::Read);
+        };
         if n == 0 {
             return Ok(());
         }
@@ -138,6 +152,10 @@ fn pull_all<S: Source>(source: &mut S, turns: u64, queries: &mut Vec<u8>) -> Res
 // Pushes until all is taken, and then flushes, unless there is nothing to push.
 fn push_all<K: Sink>(sink: &mut K, out: &[u8]) -> Result<(), WriteFault>
     requires { K.failed sink.old < 2 ^ 64 - 1 }
+    ensures written { OnOk result (IfSome (K.written sink.old) (λ before. K.written sink.new ≡ Some (before ++ out.now))) }
+    ensures cut { OnErr result (WentFront (K.written sink.old) (K.written sink.new) out.now) }
+    ensures went { OnOk result (K.failed sink.new ≡ K.failed sink.old) }
+    ensures fails { OnErr result (K.failed sink.new ≡ K.failed sink.old + 1) }
 {
     if out.is_empty() {
         return Ok(());
@@ -154,6 +172,10 @@ fn push_all<K: Sink>(sink: &mut K, out: &[u8]) -> Result<(), WriteFault>
 }
 
 impl From<TableFault> for RunFault {
+    ghost use Rattle.rt_filter.specs.Endings.{run_fault};
+
+    ghost from_gives = { λ fault result. result ≡ run_fault fault };
+
     fn from(fault: TableFault) -> RunFault {
         match fault {
             TableFault::Read => RunFault::TableRead,
@@ -164,6 +186,10 @@ impl From<TableFault> for RunFault {
 }
 
 impl From<AllocError> for RunFault {
+    ghost use Rattle.rt_filter.specs.declared.filter.RunFault.TheVariants as run_fault;
+
+    ghost from_gives = { λ _ result. result ≡ run_fault.Memory };
+
     fn from(_: AllocError) -> RunFault {
         RunFault::Memory
     }
