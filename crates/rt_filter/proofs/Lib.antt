@@ -5,5 +5,6 @@ mod NumberLemmas
 pub mod Permutations
 pub mod RangeLemmas
 mod Rows
+pub mod RunLemmas
 pub mod SortingLemmas
 pub mod WordLemmas
