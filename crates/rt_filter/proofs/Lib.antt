@@ -1,10 +1,13 @@
-pub mod AnswerLemmas
-pub mod DeviceLemmas
-pub mod LineLemmas
+mod AnswerLemmas
+mod DeviceLemmas
+mod LineLemmas
 mod NumberLemmas
-pub mod Permutations
-pub mod RangeLemmas
+mod Permutations
+mod RangeLemmas
+mod Records
 mod Rows
-pub mod RunLemmas
-pub mod SortingLemmas
-pub mod WordLemmas
+mod RunLemmas
+mod SortingLemmas
+mod TableLemmas
+mod TableReads
+mod WordLemmas

@@ -1,5 +1,5 @@
 -- Numbers as text: one digit at a time, up to a greatest number, and one range within another.
-use Rattle.std.proofs.Common.{◌≡◌, ◌+◌, ◌*◌, ◌-◌, ◌<◌, ◌≤◌, ℕ, ℤ, pos, negsuc, ◌^◌, ◌≤ℤ◌, ◌<ℤ◌, min, Bool, true, false, ◌&&◌, Option, Some, None, option_map, List, [], ◌∷◌, take, length, get_or, arith, rules, tests, ◌∙◌, ap, sym, refl}
+use Rattle.std.proofs.Common.{◌≡◌, ◌+◌, ◌*◌, ◌-◌, ◌<◌, ℕ, ℤ, pos, negsuc, ◌^◌, ◌≤ℤ◌, ◌<ℤ◌, min, Bool, true, false, ◌&&◌, Option, Some, None, List, take, length, get_or, arith, ◌∙◌, ap, sym, refl}
 use Rattle.std.specs.Prelude.{Result, Ok, Err, int_le, if◌then◌else◌}
 use Rattle.std.specs.Char.{digit_value, is_ascii_digit}
 use Rattle.std.specs.List.{list_all}
@@ -90,3 +90,18 @@ in_range-above low high n a = if_false _ _ _ (above low high n a)
   where
     above : (low high n : ℤ) → high <ℤ n → (int_le low n && int_le n high) ≡ false
     above low high n a = grind (arith, ints)
+
+-- a number that was found lies in its range
+pub in_range-within : (low high : ℤ) (o : Option ℤ) (n : ℤ) → Ok n ≡ in_range low high o → (low ≤ℤ n) × (n ≤ℤ high)
+in_range-within low high None n e = absurd cc
+in_range-within low high (Some m) n e = by (int_le low m && int_le m high) refl
+  where
+    inside : (low high n : ℤ) → (int_le low n && int_le n high) ≡ true → (low ≤ℤ n) × (n ≤ℤ high)
+    inside low high n h = (grind (arith, ints), grind (arith, ints))
+
+    by : (b : Bool) → (int_le low m && int_le m high) ≡ b → (low ≤ℤ n) × (n ≤ℤ high)
+    by true p =
+        let x : ◌≡◌ {A = Result ℤ NumberFault} (Ok n) (Ok m) = e ∙ if_true _ _ _ p in
+        let same : n ≡ m = cc in
+        rw same (inside low high m p)
+    by false p = let x : ◌≡◌ {A = Result ℤ NumberFault} (Ok n) (Err fault.OutOfRange) = e ∙ if_false _ _ _ p in absurd cc

@@ -1,5 +1,5 @@
 -- The table that a text of CSV gives, or what is wrong with it.
-use Rattle.std.specs.Prelude.{◌≡◌, ℕ, ◌+◌, ◌-◌, ◌^◌, ℤ, pos, ◌-ℤ◌, int_lt, nat_le, Bool, if◌then◌else◌, List, [], ◌∷◌, ◌++◌, length, drop, map, Result, Ok, Err, ⊤}
+use Rattle.std.specs.Prelude.{◌≡◌, ℕ, ◌+◌, ◌-◌, ◌^◌, ℤ, pos, ◌-ℤ◌, int_lt, nat_le, Bool, true, false, if◌then◌else◌, List, [], ◌∷◌, ◌++◌, length, drop, map, Result, Ok, Err}
 use Rattle.std.specs.List.{list_any}
 use Rattle.std.specs.Ordering.{int_eq}
 use Rattle.std.specs.List.Sorted.{IsPermutation}
@@ -10,7 +10,6 @@ use Rattle.rt_filter.specs.Numbers.{number_in}
 use Rattle.rt_filter.specs.Steps.{◌>>=◌, map_fault}
 use Rattle.rt_filter.specs.declared.number.NumberFault.{NumberFault}
 use Rattle.rt_filter.specs.declared.number.NumberFault.TheVariants as bad
-use Rattle.rt_filter.specs.declared.table.Axis.{Axis}
 use Rattle.rt_filter.specs.declared.table.Axis.TheVariants as axis
 use Rattle.rt_filter.specs.declared.table.TableFault.{TableFault}
 use Rattle.rt_filter.specs.declared.table.TableFault.TheVariants as fault
@@ -53,7 +52,7 @@ entry_of_fields number fields = Err (fault.FieldCount number (length fields))
 -- the entry, where no entry so far has its id
 abbrev pub new_entry : (number : ℕ) → List Entry → Entry → Result Entry TableFault
 new_entry number so_far entry =
-    if list_any (λ other. int_eq other.id entry.id) so_far then Err (fault.Repeated number) else Ok entry
+    if list_any (λ other. int_eq entry.id other.id) so_far then Err (fault.Repeated number) else Ok entry
 
 -- one record, judged after the entries so far
 abbrev pub judged : (max number : ℕ) → List Entry → List (List ℕ) → Result Entry TableFault
@@ -77,13 +76,12 @@ table_of bytes header max =
 abbrev pub Holds : List (ℤ × Rect) → List Entry → Type 0
 Holds held entries = IsPermutation (map (λ e. (e.id, e.bounds)) entries) held
 
--- a fault that a load of the table may answer: of the reader or of memory at any time, and else the table's own
-abbrev pub MayRefuse : TableFault → Result (List Entry) TableFault → Type 0
-MayRefuse fault.Read table = ⊤
-MayRefuse fault.Memory table = ⊤
-MayRefuse (fault.TooMany number) table = table ≡ Err (fault.TooMany number)
-MayRefuse (fault.FieldCount number found) table = table ≡ Err (fault.FieldCount number found)
-MayRefuse (fault.NotNumber number field) table = table ≡ Err (fault.NotNumber number field)
-MayRefuse (fault.OutOfRange number field) table = table ≡ Err (fault.OutOfRange number field)
-MayRefuse (fault.MinAboveMax number axis) table = table ≡ Err (fault.MinAboveMax number axis)
-MayRefuse (fault.Repeated number) table = table ≡ Err (fault.Repeated number)
+-- whether a fault tells of the table's text; the other two tell of its reader and of memory, and may come at any time
+abbrev pub tells_text : TableFault → Bool
+tells_text fault.Read = false
+tells_text fault.Memory = false
+tells_text f = true
+
+-- a fault that a load may answer where this is the table: one that tells of the text is the table's own
+abbrev pub MayRefuse : {A : Type 0} → TableFault → Result A TableFault → Type 0
+MayRefuse f table = tells_text f ≡ true → table ≡ Err f
