@@ -3,7 +3,6 @@ mod DeviceLemmas
 mod LineLemmas
 mod NumberLemmas
 mod Permutations
-mod RangeLemmas
 mod Records
 mod Rows
 mod RunLemmas

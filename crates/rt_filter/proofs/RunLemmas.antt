@@ -38,12 +38,12 @@ module _ (held : List (ℤ × Rect)) (entries : List Entry) (h : Holds held entr
 pub stops_refused : (choices : Choices) (table : List ℕ) (f : TableFault) → MayRefuse f (table_of table choices.header choices.max_entries) → Stops choices table (run_fault f)
 stops_refused choices table load.Read h = tt
 stops_refused choices table load.Memory h = tt
-stops_refused choices table (load.TooMany n) h = λ queries. ap (λ t. run_over t queries) h
-stops_refused choices table (load.FieldCount n k) h = λ queries. ap (λ t. run_over t queries) h
-stops_refused choices table (load.NotNumber n k) h = λ queries. ap (λ t. run_over t queries) h
-stops_refused choices table (load.OutOfRange n k) h = λ queries. ap (λ t. run_over t queries) h
-stops_refused choices table (load.MinAboveMax n k) h = λ queries. ap (λ t. run_over t queries) h
-stops_refused choices table (load.Repeated n) h = λ queries. ap (λ t. run_over t queries) h
+stops_refused choices table (load.TooMany n) h = λ queries. ap (λ t. run_over t queries) (h refl)
+stops_refused choices table (load.FieldCount n k) h = λ queries. ap (λ t. run_over t queries) (h refl)
+stops_refused choices table (load.NotNumber n k) h = λ queries. ap (λ t. run_over t queries) (h refl)
+stops_refused choices table (load.OutOfRange n k) h = λ queries. ap (λ t. run_over t queries) (h refl)
+stops_refused choices table (load.MinAboveMax n k) h = λ queries. ap (λ t. run_over t queries) (h refl)
+stops_refused choices table (load.Repeated n) h = λ queries. ap (λ t. run_over t queries) (h refl)
 
 -- ---- the table was loaded
 sound : (t : Result (List Entry) TableFault) (held : List (ℤ × Rect)) (queries : List ℕ) → IsOkAnd t (Holds held) → (run_over t queries).fault ≡ None

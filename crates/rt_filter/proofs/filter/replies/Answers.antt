@@ -1,8 +1,13 @@
-use Rattle.std.proofs.Common.{rules, ◌≡◌, ◌+◌, ◌-◌, ◌++◌, ◌<◌, ◌≤◌, ◌^◌, ◌⊎◌, ℕ, List, [], Some, None, IfSome, IfOk, IfErr, OnOk, OnErr, MatchResult, length, if◌then◌else◌, true, ◌*◌, ◌/◌, ◌%◌, Bool, false, nat_eq, nat_lt, ◌∷◌, slice_index_or, slice_set, bit_and, bit_or, Fits, w8, w32, w64, Bor, MutBor}
-use Rattle.rt_filter.specs.Endings.{Ends, IsStatusOf, Stops, WentFront, is_before_output, is_before_queries, is_read, is_write}
-use Rattle.rt_filter.specs.Runs.{run_of}
+use Rattle.std.proofs.Common.{◌≡◌, ◌∙◌, refl, ap, rules}
+use Rattle.std.specs.Prelude.{◌++◌, [], List, ℕ}
+use Rattle.rt_filter.proofs.RunLemmas.{run_whole}
 use Rattle.rt_filter.proofs.filter.replies.Goals as goal
 
--- src/filter.rt:104:1
 pub returns-clause-whole : goal.returns-clause-whole
-returns-clause-whole g c = ?
+returns-clause-whole g c table queries is_table is_queries =
+    let held = rw (c.header.ensures, c.max_entries.ensures.value) at (c.in_ok-table.ensures.table table is_table) in
+    let pulled = rw is_queries at c.in_ok-pull_all.ensures.all in
+    let no_queries : c.new-queries.result.items ≡ [] = c.new-queries.ensures.items in
+    let no_out : c.new-out.result.items ≡ [] = c.new-out.ensures.items in
+    run_whole c.args.settings.now table queries c.deref.result.now c.answer_lines.new.out.items c.in_ok-bad.bad c.in_ok-table.table.entries
+    held (c.deref.ensures.value ∙ pulled.1 ∙ ap (λ (none : List ℕ). none ++ queries) no_queries) (c.in_ok-bad.ensures.out ∙ rw no_out refl) c.in_ok-bad.ensures.bad
