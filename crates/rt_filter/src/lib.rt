@@ -16,6 +16,8 @@ mod settings;
 mod sink;
 mod source;
 mod table;
+#[cfg(test)]
+mod tests;
 mod words;
 
 pub use filter::{Outcome, RunFault, run};
