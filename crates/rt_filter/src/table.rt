@@ -207,3 +207,6 @@ fn entry_of_sides(
         }),
     }
 }
+
+#[cfg(test)]
+mod tests;
