@@ -6,6 +6,7 @@ mod Permutations
 mod Records
 mod Rows
 mod RunLemmas
+mod RunRows
 mod SortingLemmas
 mod TableLemmas
 mod TableReads
