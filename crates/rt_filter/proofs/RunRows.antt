@@ -1,6 +1,7 @@
 -- Worked rows of whole runs: the definitions compute what is written, the fault and the status.
 use Rattle.std.proofs.Common.{◌≡◌, false, true, List, [], ◌∷◌, ◌++◌, ℕ, refl}
 use Rattle.std.specs.Prelude.{Some, None, codes}
+use Rattle.std.specs.Fmt.{digits}
 use Rattle.csv.proofs.OnLiterals.{csv_on_literals}
 use Rattle.rt_filter.specs.Runs.{Choices, Run, run_of}
 use Rattle.rt_filter.specs.Tables.{entries_from}
@@ -20,29 +21,29 @@ abbrev with_header : Choices
 with_header = record usual { header = true }
 
 row_touching : run_of usual boxes (line (codes "find window 15 20 9 10")) ≡ record { written = line (codes "2 0") ++ line (codes "3 0") ++ line (codes "ok 1 2"); fault = None; status = 0 }
-unfolding csv_on_literals entries_from
+unfolding csv_on_literals digits entries_from
 row_touching = refl
 
 row_by_id : run_of usual boxes (codes "find window 0 9 0 9") ≡ record { written = line (codes "1 0") ++ line (codes "2 0") ++ line (codes "ok 1 2"); fault = None; status = 0 }
-unfolding csv_on_literals entries_from
+unfolding csv_on_literals digits entries_from
 row_by_id = refl
 
 row_numbers : run_of usual [] (line [] ++ line (codes "# c") ++ line (codes "find window 1 0 0 0") ++ line (codes "find window 0 0 0 0")) ≡ record { written = line (codes "error 3 Q2 unknown verb") ++ line (codes "ok 4 0"); fault = None; status = 1 }
-unfolding csv_on_literals entries_from
+unfolding csv_on_literals digits entries_from
 row_numbers = refl
 
 row_no_queries : run_of usual boxes [] ≡ record { written = []; fault = None; status = 0 }
-unfolding csv_on_literals entries_from
+unfolding csv_on_literals digits entries_from
 row_no_queries = refl
 
 row_repeated : run_of usual (boxes ++ line (codes "2,0,0,0,0")) (codes "find window 0 0 0 0") ≡ record { written = []; fault = Some BadTable; status = 3 }
-unfolding csv_on_literals entries_from
+unfolding csv_on_literals digits entries_from
 row_repeated = refl
 
 row_header : run_of with_header (line (codes "id,minX,maxX,minY,maxY") ++ line (codes "7,0,0,0,0")) (codes "find window 0 0 0 0") ≡ record { written = line (codes "7 0") ++ line (codes "ok 1 1"); fault = None; status = 0 }
-unfolding csv_on_literals entries_from
+unfolding csv_on_literals digits entries_from
 row_header = refl
 
 row_header_alone : run_of with_header [] (codes "find window 0 0 0 0") ≡ record { written = line (codes "ok 1 0"); fault = None; status = 0 }
-unfolding csv_on_literals entries_from
+unfolding csv_on_literals digits entries_from
 row_header_alone = refl
