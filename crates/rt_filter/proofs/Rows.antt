@@ -90,3 +90,7 @@ row_too_many = refl
 row_header : table_of (line (codes "id") ++ line (codes "1,2")) true 1 ≡ Err (fault.FieldCount 2 2)
 unfolding csv_on_literals entries_from
 row_header = refl
+
+row_quoted : table_of (line (codes "id,minX,maxX,minY,maxY") ++ 34 ∷ 49 ∷ 34 ∷ line (codes ",0,10,0,10")) true 1 ≡ Ok (record { id = pos 1; bounds = rect_of (pos 0) (pos 10) (pos 0) (pos 10) } ∷ [])
+unfolding csv_on_literals entries_from
+row_quoted = refl

@@ -40,7 +40,7 @@ read-start rem reader rows held header max bytes source state empty known = reco
   whole = rw state (table_after-start bytes header max);
 }
 
-module _ {R : Type 0} (rem : R → Option (List ℕ)) (rows after : Reader R) (held : List (ℤ × Rect)) (header : Bool) (max number : ℕ) (table : Result (List Entry) TableFault) (fields : List (List ℕ)) where
+module _ {R : Type 0} {rem : R → Option (List ℕ)} {rows : Reader R} {held : List (ℤ × Rect)} {header : Bool} {max number : ℕ} {table : Result (List Entry) TableFault} (after : Reader R) (fields : List (List ℕ)) where
   -- at the end the map holds the table
   pub read-end : ReadUpTo rem rows held header max number table → rows.config ≡ default_config → ReadRecord rem rows after false fields → IsOkAnd table (Holds held)
   read-end at config read =

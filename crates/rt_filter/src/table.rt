@@ -1,8 +1,12 @@
 //! The table: its records, how they are judged, and what is wrong with one.
+//!
+//! Records are those of `csv` with its usual settings, of any number of fields: commas, fields in double
+//! quotes with quotes doubled inside, ends by LF, CR or both, empty lines and a byte order mark passed over.
+//! A record is five numbers: an id, the least and the greatest x, the least and the greatest y.
 
-ghost use Rattle.std.specs.Prelude.{◌≡◌, ◌≤ℤ◌, ◌+◌, ◌<◌, ◌≤◌, ◌++◌, ◌∷◌, [], IsOkAnd, IfOk, IfErr, OnOk, List, ℕ, Some, Ok, length, slice_index_or, false};
+ghost use Rattle.std.specs.Prelude.{◌≡◌, ◌≤ℤ◌, ◌+◌, ◌<◌, ◌≤◌, ◌++◌, ◌∷◌, [], IsOkAnd, IfOk, IfErr, OnErr, OnOk, List, ℕ, Some, Ok, length, slice_index_or, true, false};
 ghost use Rattle.std.specs.BTreeMap.{btree_map_len};
-ghost use Rattle.csv.specs.Reading.{default_config, Ready, ReadRecord, reader_config, reader_trim};
+ghost use Rattle.csv.specs.Reading.{default_config, has_failed, is_flexible, Ready, ReadRecord, reader_config, reader_trim};
 ghost use Rattle.csv.specs.Records.{fields_of};
 ghost use Rattle.csv.specs.declared.reader.Trim.TheVariants as trim;
 ghost use Rattle.rt_filter.specs.Numbers.{number_in};
@@ -50,7 +54,9 @@ pub(crate) type Table = BTreeMap<i64, Bounds>;
 // `id`, `minX`, `maxX`, `minY` and `maxY`.
 const FIELDS: usize = 5;
 
-/// The table that a reader's bytes give, in the first fault's place.
+/// The table that a reader's bytes give: at most `max` boxes, each under an id of its own. With `header` the
+/// first record is counted and not judged. Where a record is at fault, the first such ends the load; `Read`
+/// and `Memory` stand in the place of whatever would follow where they come.
 pub(crate) fn read_table<R: Read + Drop>(
     alloc: Global,
     reader: R,
@@ -80,15 +86,18 @@ pub(crate) fn read_table<R: Read + Drop>(
     unreachable!()
 }
 
-// The next record, where there is one. It isn't called again after an error.
+// The next record, where there is one. After an error, which is of the reader or of memory, there is none.
 fn next_row<R: Read>(rows: &mut Reader<R>, row: &mut ByteRecord) -> Result<bool, TableFault>
     requires trim { reader_trim rows.old ≡ trim.None }
     requires ready { Ready rows.old }
     requires config { reader_config rows.old ≡ default_config }
+    requires flexible { is_flexible rows.old ≡ true }
     ensures reads { IfOk result (λ found. ReadRecord R.remaining rows.old rows.new found (fields_of row.new)) }
     ensures trim { OnOk result (reader_trim rows.new ≡ trim.None) }
     ensures ready { OnOk result (Ready rows.new) }
     ensures config { OnOk result (reader_config rows.new ≡ default_config) }
+    ensures flexible { OnOk result (is_flexible rows.new ≡ true) }
+    ensures failed { OnErr result (has_failed rows.new ≡ true) }
     ensures fault { IfErr result (λ f. tells_text f ≡ false) }
 {
     match rows.read_byte_record(row) {

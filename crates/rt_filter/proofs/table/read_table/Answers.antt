@@ -9,6 +9,7 @@ loop-number-init g c = record {
   trim = search rules;
   ready = search rules;
   config = search rules;
+  flexible = search rules;
   count = omega arith;
   most = search rules;
   table = λ bytes h. read-start g.R.Read.remaining c.args.reader c.from_reader-rows.result c.new-table.result.entries c.args.header c.args.max bytes
@@ -19,8 +20,7 @@ pub returns-then-not-branch-clause-table : goal.returns-then-not-branch-clause-t
 returns-then-not-branch-clause-table g c bytes h =
     let inv = c.loop-number.invariant in
     let read = rw c.if-not-branch.true at c.in_ok-next_row.ensures.reads in
-    read-end g.R.Read.remaining c.loop-number.rows c.next_row.new.rows c.loop-number.table.entries c.args.header c.args.max c.loop-number.number _ (fields_of c.next_row.new.row)
-    (inv.table bytes h) inv.config read
+    read-end c.next_row.new.rows (fields_of c.next_row.new.row) (inv.table bytes h) inv.config read
 
 pub loop-number-preserved-then-number-eq1 : goal.loop-number-preserved-then-number-eq1
 loop-number-preserved-then-number-eq1 g c =
@@ -30,10 +30,10 @@ loop-number-preserved-then-number-eq1 g c =
       trim = c.in_ok-next_row.ensures.trim;
       ready = c.in_ok-next_row.ensures.ready;
       config = c.in_ok-next_row.ensures.config;
+      flexible = c.in_ok-next_row.ensures.flexible;
       count = omega arith;
       most = inv.most;
-      table = λ bytes h. read-header g.R.Read.remaining c.loop-number.rows c.next_row.new.rows c.loop-number.table.entries c.args.header c.args.max c.loop-number.number _ (fields_of c.next_row.new.row)
-          (inv.table bytes h) inv.config read c.if-header.true c.if-number-eq1.true;
+      table = λ bytes h. read-header c.next_row.new.rows (fields_of c.next_row.new.row) (inv.table bytes h) inv.config read c.if-header.true c.if-number-eq1.true;
     }
 
 pub returns-in_err-add_record-clause-fault : goal.returns-in_err-add_record-clause-fault
@@ -42,7 +42,7 @@ returns-in_err-add_record-clause-fault g c =
     let read = rw c.if-not-branch.false at c.in_ok-next_row.ensures.reads in
     let judged = is_judged c.args.header c.loop-number.number c.else-header.either in
     let p = err_from_is_err_and c.from_residual-in_err-add_record.result c.from_residual-in_err-add_record.ensures.1 in
-    rw (p.1, p.2) (λ bytes h. read-refused g.R.Read.remaining c.loop-number.rows c.next_row.new.rows c.loop-number.table.entries c.args.header c.args.max c.loop-number.number _ (fields_of c.next_row.new.row)
+    rw (p.1, p.2) (λ bytes h. read-refused c.next_row.new.rows (fields_of c.next_row.new.row)
     c.in_err-add_record.field-0.0 (inv.table bytes h) inv.config read judged c.in_err-add_record.ensures.fault)
 
 pub loop-number-preserved : goal.loop-number-preserved
@@ -55,8 +55,9 @@ loop-number-preserved g c =
       trim = c.in_ok-next_row.ensures.trim;
       ready = c.in_ok-next_row.ensures.ready;
       config = c.in_ok-next_row.ensures.config;
+      flexible = c.in_ok-next_row.ensures.flexible;
       count = omega (arith, len.0);
       most = len.1;
-      table = λ bytes h. read-entry g.R.Read.remaining c.loop-number.rows c.next_row.new.rows c.loop-number.table.entries c.args.header c.args.max c.loop-number.number _ (fields_of c.next_row.new.row)
+      table = λ bytes h. read-entry c.next_row.new.rows (fields_of c.next_row.new.row)
           c.add_record.new.table.entries (inv.table bytes h) inv.config read c.loop-number.auto.number judged c.in_ok-add_record.ensures.added;
     }

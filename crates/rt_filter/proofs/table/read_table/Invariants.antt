@@ -1,4 +1,4 @@
-use Rattle.std.proofs.Common.{◌≡◌, ◌+◌, ◌≤◌, ℕ, List, Some, length}
+use Rattle.std.proofs.Common.{◌≡◌, ◌+◌, ◌≤◌, ℕ, List, Some, length, true}
 use Rattle.csv.specs.Reading.{Ready, default_config}
 use Rattle.csv.specs.declared.reader.Trim.TheVariants as trim
 use Rattle.rt_filter.specs.Tables.{table_of}
@@ -11,6 +11,7 @@ invariant-loop-number g l = record {
   trim : l.rows.trim ≡ trim.None;
   ready : Ready l.rows;
   config : l.rows.config ≡ default_config;
+  flexible : l.rows.flexible ≡ true;
   count : l.number ≤ length l.table.entries + 2;
   most : length l.table.entries ≤ l.fn.max;
   table : (bytes : List ℕ) → g.R.Read.remaining l.fn.reader ≡ Some bytes
