@@ -1,5 +1,5 @@
 -- Answers in order.
-use Rattle.std.proofs.Common.{◌≡◌, ◌≢◌, ◌∙◌, ℤ, ℕ, ◌+◌, ◌<◌, Ordering, Bool, true, false, List, [], ◌∷◌, map, filter, length, get_or, refl, sym, ap, Option, arith, rules}
+use Rattle.std.proofs.Common.{◌≡◌, ◌∙◌, ℤ, ℕ, ◌+◌, Ordering, Bool, true, false, List, [], ◌∷◌, map, filter, get_or, refl, sym, ap, Option, arith}
 use Rattle.std.specs.List.Sorted.{IsPermutation, IsSortedByKey}
 use Rattle.std.specs.Ordering.{int_cmp, is_lt, nat_cmp, ordering_then}
 use Rattle.std.specs.Prelude.{if◌then◌else◌}

@@ -1,7 +1,7 @@
 -- The lines of query bytes, one after the other.
-use Rattle.std.proofs.Common.{◌≡◌, ◌≢◌, ◌∙◌, ◌+◌, ◌<◌, ◌≤◌, ℕ, zero, suc, Bool, true, false, not, ◌||◌, List, [], ◌∷◌, ◌++◌, length, take, drop, get_or, refl, sym, ap, subst, arith, rules, Option, Some, None, append_assoc}
+use Rattle.std.proofs.Common.{◌≡◌, ◌≢◌, ◌∙◌, ◌+◌, ◌<◌, ◌≤◌, ℕ, Bool, true, false, ◌||◌, List, [], ◌∷◌, ◌++◌, length, take, drop, refl, sym, ap, arith, Some, None, append_assoc}
 use Rattle.rt_filter.proofs.WordLemmas.{later_parts, parts_are}
-use Rattle.std.specs.List.{enumerate_from, list_any, onto_first, position_or_len, slice_split}
+use Rattle.std.specs.List.{enumerate_from, position_or_len, slice_split}
 use Rattle.std.proofs.Math.Bool.{or-false, or_assoc}
 use Rattle.std.proofs.lemmas.List.{append-nil, drop_all, length-drop, take_all}
 use Rattle.std.proofs.lemmas.List.Splits.{slice_split_first}

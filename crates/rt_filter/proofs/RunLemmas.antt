@@ -1,15 +1,14 @@
 -- A run over a table that was loaded, and over one that was refused.
-use Rattle.std.proofs.Common.{◌≡◌, ◌∙◌, ℕ, Bool, List, [], ◌∷◌, ◌++◌, length, Option, Some, None, refl, sym, ap, ap₂}
+use Rattle.std.proofs.Common.{◌≡◌, ◌∙◌, ℕ, Bool, List, [], ◌∷◌, ◌++◌, length, None, refl, sym, ap, ap₂}
 use Rattle.std.specs.Prelude.{Result, Ok, Err, IsOkAnd, if◌then◌else◌, true, flat_map, ℤ}
 use Rattle.rt_geo.specs.Boxes.{Rect}
 use Rattle.rt_geo.specs.declared.bounds.Entry.{Entry}
-use Rattle.rt_filter.specs.Answers.{accepts, answers, entries_of, score}
+use Rattle.rt_filter.specs.Answers.{accepts, entries_of, score}
 use Rattle.rt_filter.specs.Endings.{Stops, run_fault}
 use Rattle.rt_filter.specs.Lines.{lines}
 use Rattle.rt_filter.specs.Replies.{answer_line, any_fault, judged_line, ok_line, output, query_reply, reply}
 use Rattle.rt_filter.specs.Runs.{Choices, Run, run_of, run_over}
 use Rattle.rt_filter.specs.Tables.{Holds, MayRefuse, table_of}
-use Rattle.rt_filter.specs.declared.filter.RunFault.{RunFault}
 use Rattle.rt_filter.specs.declared.filter.RunFault.TheVariants as run
 use Rattle.rt_filter.specs.declared.query.Parsed.{Parsed}
 use Rattle.rt_filter.specs.declared.query.Parsed.TheVariants as parsed

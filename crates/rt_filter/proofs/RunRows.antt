@@ -3,7 +3,7 @@ use Rattle.std.proofs.Common.{◌≡◌, false, true, List, [], ◌∷◌, ◌++
 use Rattle.std.specs.Prelude.{Some, None, codes}
 use Rattle.std.specs.Fmt.{digits}
 use Rattle.csv.proofs.OnLiterals.{csv_on_literals}
-use Rattle.rt_filter.specs.Runs.{Choices, Run, run_of}
+use Rattle.rt_filter.specs.Runs.{Choices, run_of}
 use Rattle.rt_filter.specs.Tables.{entries_from}
 use Rattle.rt_filter.specs.declared.filter.RunFault.TheVariants.{BadTable}
 

@@ -1,5 +1,5 @@
 -- Lists that are put in order by a total order: a rearrangement has the same order, and a list in order is its own.
-use Rattle.std.proofs.Common.{◌≡◌, Bool, true, false, cond, List, [], ◌∷◌, ℕ, zero, suc, ◌<◌, ◌+◌, length, get_or, refl, sym, ◌∙◌, ap, rules, arith}
+use Rattle.std.proofs.Common.{◌≡◌, Bool, true, false, List, [], ◌∷◌, ℕ, suc, ◌<◌, ◌+◌, length, get_or, refl, sym, ◌∙◌, ap, arith}
 use native.Mathlib.Numerals.{unary_clauses}
 use Rattle.std.specs.List.{AllByRecursion}
 use Rattle.std.specs.List.Sorted.{IsPermutation}

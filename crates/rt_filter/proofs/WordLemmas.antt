@@ -1,8 +1,8 @@
 -- The words of a line, one after the other. A blank is any byte that passes the test p.
-use Rattle.std.proofs.Common.{◌≡◌, ◌≢◌, ◌∙◌, ◌+◌, ◌<◌, ◌≤◌, ℕ, zero, suc, Bool, true, false, not, cond, List, [], ◌∷◌, length, take, drop, filter, refl, sym, ap, arith, rules, Option, Some, None, nat_lt, one-add}
+use Rattle.std.proofs.Common.{◌≡◌, ◌≢◌, ◌∙◌, ℕ, Bool, true, false, not, List, [], ◌∷◌, length, take, drop, filter, refl, sym, ap, arith, Option, Some, None, nat_lt, one-add}
 use Rattle.std.proofs.lemmas.List.Sums.{prefix_len-le-length}
 use borrow.Author.Tests.{ltb-false}
-use Rattle.std.specs.List.{onto_first, position, position_or_len, prefix_len, slice_split}
+use Rattle.std.specs.List.{position, position_or_len, slice_split}
 use Rattle.rt_filter.specs.Lines.{is_empty}
 
 -- the parts that aren't empty

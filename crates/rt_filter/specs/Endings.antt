@@ -1,5 +1,5 @@
 -- How a run may end, by the fault that it reports.
-use Rattle.std.specs.Prelude.{◌≡◌, ℕ, ◌+◌, ◌⊎◌, List, [], ◌++◌, Bool, true, false, if◌then◌else◌, Option, Some, None, IfSome, ⊤}
+use Rattle.std.specs.Prelude.{◌≡◌, ℕ, ◌⊎◌, List, [], ◌++◌, Bool, true, false, Option, Some, None, IfSome, ⊤}
 use Rattle.rt_filter.specs.Runs.{Choices, Run, run_of}
 use Rattle.rt_filter.specs.declared.table.TableFault.{TableFault}
 use Rattle.rt_filter.specs.declared.table.TableFault.TheVariants as load

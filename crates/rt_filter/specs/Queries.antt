@@ -1,5 +1,5 @@
 -- What a query line asks.
-use Rattle.std.specs.Prelude.{◌≡◌, ℕ, ◌-◌, ◌^◌, ◌==◌, ℤ, pos, ◌-ℤ◌, int_lt, Bool, false, ◌||◌, not, if◌then◌else◌, List, [], ◌∷◌, filter, Option, None, Result, Ok, Err, codes}
+use Rattle.std.specs.Prelude.{◌≡◌, ℕ, ◌-◌, ◌^◌, ◌==◌, ℤ, pos, ◌-ℤ◌, int_lt, Bool, false, ◌||◌, not, if◌then◌else◌, List, [], ◌∷◌, filter, None, Result, Ok, Err, codes}
 use Rattle.std.specs.List.{slice_split}
 use Rattle.std.specs.Str.{bytes_eq}
 use Rattle.std.specs.Str.Lines.{strip_carriage_return}

@@ -1,6 +1,6 @@
-use Rattle.std.proofs.Common.{rules, ◌≡◌, ◌∙◌, ap}
+use Rattle.std.proofs.Common.{rules, ◌∙◌, ap}
 use Rattle.std.proofs.lemmas.List.Sorted.{answers_always}
-use Rattle.rt_filter.specs.Answers.{accepts, answer_le, answers, entries_of, score}
+use Rattle.rt_filter.specs.Answers.{accepts, answer_le, score}
 use Rattle.rt_filter.specs.Sorting.{first_of, sorted}
 use Rattle.rt_filter.proofs.AnswerLemmas.{answers_sorted, scored_held}
 use Rattle.rt_filter.proofs.answer.answers.Goals as goal

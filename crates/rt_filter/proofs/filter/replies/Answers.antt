@@ -1,4 +1,4 @@
-use Rattle.std.proofs.Common.{◌≡◌, ◌∙◌, refl, ap, rules}
+use Rattle.std.proofs.Common.{◌≡◌, ◌∙◌, refl, ap}
 use Rattle.std.specs.Prelude.{◌++◌, [], List, ℕ}
 use Rattle.rt_filter.proofs.RunLemmas.{run_whole}
 use Rattle.rt_filter.proofs.filter.replies.Goals as goal

@@ -1,4 +1,4 @@
-use Rattle.std.proofs.Common.{◌≡◌, ◌+◌, ◌-◌, length, take, drop, rules, arith}
+use Rattle.std.proofs.Common.{◌+◌, ◌-◌, length, take, drop, arith}
 use Rattle.std.proofs.lemmas.Grind.{common_steps}
 use Rattle.rt_filter.specs.Answers.{entries_of}
 use Rattle.rt_filter.proofs.LineLemmas.{replied_last, replied_more}

@@ -1,6 +1,6 @@
-use Rattle.std.proofs.Common.{◌≡◌, ◌≢◌, ◌∙◌, ◌-◌, length, take, drop, List, ℕ, arith, rules}
+use Rattle.std.proofs.Common.{◌-◌, length, take, drop, arith}
 use Rattle.std.proofs.lemmas.Grind.{common_steps}
-use Rattle.rt_filter.specs.Queries.{is_blank, words}
+use Rattle.rt_filter.specs.Queries.{is_blank}
 use Rattle.rt_filter.proofs.WordLemmas.{words_next, words_none}
 use Rattle.rt_filter.proofs.words.first_word.Goals as goal
 
