@@ -2,7 +2,7 @@
 
 ghost use Rattle.std.specs.Prelude.{◌≡◌};
 ghost use Rattle.std.specs.Option.{SomeIff};
-ghost use Rattle.rt_geo.specs.Boxes.{IsRect, overlaps, ranges_meet, rect_of};
+ghost use Rattle.rt_geo.specs.Boxes.{IsLeastAround, IsRect, hull, inside, overlaps, range_lies_in, ranges_meet, rect_of};
 
 use std::marker::Model;
 
@@ -103,4 +103,36 @@ fn meet_on_y(a: Bounds, b: Bounds) -> bool
     ensures { result ≡ ranges_meet a.min_y a.max_y b.min_y b.max_y }
 {
     a.min_y <= b.max_y && b.min_y <= a.max_y
+}
+
+/// Whether the box `a` lies in `b`. Sides may be equal.
+pub fn inside(a: Bounds, b: Bounds) -> bool
+    ensures { result ≡ inside a b }
+{
+    lies_in_on_x(a, b) && lies_in_on_y(a, b)
+}
+
+fn lies_in_on_x(a: Bounds, b: Bounds) -> bool
+    ensures { result ≡ range_lies_in a.min_x a.max_x b.min_x b.max_x }
+{
+    b.min_x <= a.min_x && a.max_x <= b.max_x
+}
+
+fn lies_in_on_y(a: Bounds, b: Bounds) -> bool
+    ensures { result ≡ range_lies_in a.min_y a.max_y b.min_y b.max_y }
+{
+    b.min_y <= a.min_y && a.max_y <= b.max_y
+}
+
+/// The least box in which both boxes lie.
+pub fn hull(a: Bounds, b: Bounds) -> Bounds
+    ensures value { result ≡ hull a b }
+    ensures least { IsLeastAround a b result }
+{
+    Bounds {
+        min_x: a.min_x.min(b.min_x),
+        max_x: a.max_x.max(b.max_x),
+        min_y: a.min_y.min(b.min_y),
+        max_y: a.max_y.max(b.max_y),
+    }
 }

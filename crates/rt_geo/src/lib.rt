@@ -1,9 +1,8 @@
 //! Boxes, and how they lie: the geometry that the other crates speak of.
-//!
-//! A box is closed, has two dimensions and 32-bit coordinates. Contracts see a [`Bounds`] as four whole
-//! numbers, a `Rect` of `specs/Boxes.antt`, which is also where `overlaps` is defined.
 #![tactic(auto)]
 
 mod bounds;
+mod distance;
 
-pub use bounds::{Bounds, Entry, overlaps};
+pub use bounds::{Bounds, Entry, hull, inside, overlaps};
+pub use distance::{Point, far2, near2};

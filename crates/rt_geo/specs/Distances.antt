@@ -1,0 +1,29 @@
+-- How far a point is from a box, as the square of a distance.
+use Rattle.std.specs.Prelude.{ℕ, ◌+◌, ◌*◌, max, ℤ, pos, negsuc, ◌-ℤ◌, unsigned_abs}
+use Rattle.rt_geo.specs.Boxes.{Rect}
+use Rattle.rt_geo.specs.declared.distance.Point.{Point}
+
+-- the number where it is above 0, else 0
+abbrev pub above_zero : ℤ → ℕ
+above_zero (pos n) = n
+above_zero (negsuc n) = 0
+
+-- how far a number lies outside a range: the greatest of `low - value`, 0 and `value - high`
+abbrev pub gap : (value low high : ℤ) → ℕ
+gap value low high = max (above_zero (low -ℤ value)) (above_zero (value -ℤ high))
+
+-- how far a number is from the end of a range that is farther from it
+abbrev pub reach : (value low high : ℤ) → ℕ
+reach value low high = max (unsigned_abs (value -ℤ low)) (unsigned_abs (value -ℤ high))
+
+-- the square
+abbrev pub squared : ℕ → ℕ
+squared n = n * n
+
+-- the square of the distance from a point to the nearest point of a box
+abbrev pub near2 : Point → Rect → ℕ
+near2 p b = squared (gap p.x b.min_x b.max_x) + squared (gap p.y b.min_y b.max_y)
+
+-- the square of the distance from a point to the farthest point of a box
+abbrev pub far2 : Point → Rect → ℕ
+far2 p b = squared (reach p.x b.min_x b.max_x) + squared (reach p.y b.min_y b.max_y)
