@@ -2,7 +2,7 @@
 
 ghost use Rattle.std.specs.Prelude.{◌≡◌};
 ghost use Rattle.std.specs.Option.{SomeIff};
-ghost use Rattle.rt_geo.specs.Boxes.{IsLeastAround, IsRect, hull, inside, overlaps, range_lies_in, ranges_meet, rect_of};
+ghost use Rattle.rt_geo.specs.Boxes.{IsLeastAround, IsRect, area, hull, inside, overlaps, range_lies_in, ranges_meet, rect_of};
 
 use std::marker::Model;
 
@@ -135,4 +135,13 @@ pub fn hull(a: Bounds, b: Bounds) -> Bounds
         min_y: a.min_y.min(b.min_y),
         max_y: a.max_y.max(b.max_y),
     }
+}
+
+/// The area of a box.
+pub(crate) fn area(bounds: Bounds) -> u128
+    ensures { result ≡ area bounds }
+{
+    let width = bounds.max_x.abs_diff(bounds.min_x) as u128;
+    let height = bounds.max_y.abs_diff(bounds.min_y) as u128;
+    width * height
 }

@@ -2,7 +2,19 @@
 #![tactic(auto)]
 
 mod bounds;
+mod counted;
 mod distance;
+mod geometry;
+mod order;
+mod ranks;
+mod region;
+mod shapes;
 
 pub use bounds::{Bounds, Entry, hull, inside, overlaps};
+pub use counted::Counted;
 pub use distance::{Point, far2, near2};
+pub use geometry::{Geometry, Guided, Info, Rank, Shape, Verdict, Within};
+pub use order::Order;
+pub use ranks::{ById, Near, Smallest};
+pub use region::Region;
+pub use shapes::{All, Circle, Covers, Inside, Window};

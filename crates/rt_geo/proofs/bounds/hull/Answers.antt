@@ -1,6 +1,6 @@
 use Rattle.std.proofs.Common.{rules, subst, sym, FitsSigned, w32}
 use Rattle.std.proofs.lemmas.Int.{to_z-of_z}
-use Rattle.rt_geo.proofs.BoxLemmas.{hull-least, stored_rect}
+use Rattle.rt_geo.specs.Lemmas.Boxes.{hull-least, stored_rect}
 use Rattle.rt_geo.specs.Boxes.{IsLeastAround}
 use Rattle.rt_geo.proofs.bounds.hull.Goals as goal
 
