@@ -17,13 +17,13 @@ abbrev pub reach : (value low high : ℤ) → ℕ
 reach value low high = max (unsigned_abs (value -ℤ low)) (unsigned_abs (value -ℤ high))
 
 -- the square
-abbrev pub squared : ℕ → ℕ
-squared n = n * n
+abbrev pub square : ℕ → ℕ
+square n = n * n
 
 -- the square of the distance from a point to the nearest point of a box
 abbrev pub near2 : Point → Rect → ℕ
-near2 p b = squared (gap p.x b.min_x b.max_x) + squared (gap p.y b.min_y b.max_y)
+near2 p b = square (gap p.x b.min_x b.max_x) + square (gap p.y b.min_y b.max_y)
 
 -- the square of the distance from a point to the farthest point of a box
 abbrev pub far2 : Point → Rect → ℕ
-far2 p b = squared (reach p.x b.min_x b.max_x) + squared (reach p.y b.min_y b.max_y)
+far2 p b = square (reach p.x b.min_x b.max_x) + square (reach p.y b.min_y b.max_y)

@@ -1,4 +1,4 @@
--- What a query function is: which boxes it accepts, their scores, and the laws that let a search skip a whole subtree.
+-- What a query function means, and the laws by which a search may skip a whole subtree.
 use Rattle.std.specs.Prelude.{◌≡◌, ◌↔◌, ◌<◌, ◌≤◌, ℕ, Bool, true, false}
 use Rattle.rt_geo.specs.Boxes.{Rect, IsRect, inside}
 use Rattle.rt_geo.specs.declared.bounds.Entry.{Entry}
@@ -7,72 +7,89 @@ use Rattle.rt_geo.specs.declared.geometry.Verdict.{Verdict}
 use Rattle.rt_geo.specs.declared.geometry.Within.{Within}
 use Rattle.rt_geo.specs.declared.geometry.Within.TheVariants.{Not, Fully}
 
--- what a query function is shown of an entry, or of the entries under a node
-pub record Shown : Type 0 where
+-- ---- what a query function looks at
+
+-- all that it may look at of an entry, or of the entries under a node
+pub record Extent : Type 0 where
   pub bounds : Rect
 
-abbrev pub shown_of_entry : Entry → Shown
-shown_of_entry entry = record { bounds = entry.bounds }
+-- the extent of an entry: one box
+abbrev pub extent_of_entry : Entry → Extent
+extent_of_entry entry = record { bounds = entry.bounds }
 
-abbrev pub shown_of : Info → Shown
-shown_of info = record { bounds = info.bounds }
+-- the extent that an info shows
+abbrev pub extent_of : Info → Extent
+extent_of info = record { bounds = info.bounds }
 
--- `b` is a box inside what is shown
-pub record IsBoxInside (b shown : Shown) : Type 0 where
+-- the extent `b` is one box, inside the other extent
+pub record IsBoxInside (b extent : Extent) : Type 0 where
   pub box : IsRect b.bounds
-  pub inside : inside b.bounds shown.bounds ≡ true
+  pub inside : inside b.bounds extent.bounds ≡ true
 
--- each box inside what is shown is accepted
-abbrev pub AllAccepted : (Shown → Bool) → Shown → Type 0
-AllAccepted accepts shown = (b : Shown) → IsBoxInside b shown → accepts b ≡ true
+-- each box inside the extent is accepted
+abbrev pub AllAccepted : (Extent → Bool) → Extent → Type 0
+AllAccepted accepts extent = (b : Extent) → IsBoxInside b extent → accepts b ≡ true
 
--- no box inside what is shown is accepted
-abbrev pub NoneAccepted : (Shown → Bool) → Shown → Type 0
-NoneAccepted accepts shown = (b : Shown) → IsBoxInside b shown → accepts b ≡ false
+-- no box inside the extent is accepted
+abbrev pub NoneAccepted : (Extent → Bool) → Extent → Type 0
+NoneAccepted accepts extent = (b : Extent) → IsBoxInside b extent → accepts b ≡ false
+
+-- ---- what it may be asked
+
+-- an info that shows an entry or a node: its bounds are a box, as those of each `Bounds` are
+pub record IsWellFormed (info : Info) : Type 0 where
+  pub box : IsRect info.bounds
 
 -- the caller's condition: the parent was FULLY only where each box inside the bounds is accepted
-abbrev pub IsHonest : (Shown → Bool) → Info → Type 0
-IsHonest accepts info = info.parent_within ≡ Fully → AllAccepted accepts (shown_of info)
+abbrev pub IsHonest : (Extent → Bool) → Info → Type 0
+IsHonest accepts info = info.parent_within ≡ Fully → AllAccepted accepts (extent_of info)
 
--- an info that a search may ask about: its bounds are a box, and the caller keeps its condition
-pub record IsAsked (accepts : Shown → Bool) (info : Info) : Type 0 where
-  pub box : IsRect info.bounds
+-- an info that a caller may ask about
+pub record IsQuestion (accepts : Extent → Bool) (info : Info) : Type 0 where
+  pub well_formed : IsWellFormed info
   pub honest : IsHonest accepts info
 
--- the laws of a shape, which accepts these boxes and answers these states
-pub record IsFaithful (accepts : Shown → Bool) (state : Info → Within) : Type 0 where
-  -- an entry's state is NOT exactly where its box isn't accepted
-  pub leaf : (i : Info) → IsAsked accepts i → i.level ≡ 0 → (state i ≡ Not) ↔ (accepts (shown_of i) ≡ false)
-  -- a node's state is NOT only where no box inside is accepted
-  pub pruning : (i : Info) → IsAsked accepts i → 0 < i.level → state i ≡ Not → NoneAccepted accepts (shown_of i)
-  -- a node's state is FULLY only where each box inside is accepted
-  pub fullness : (i : Info) → IsAsked accepts i → 0 < i.level → state i ≡ Fully → AllAccepted accepts (shown_of i)
+-- ---- the laws
 
--- the laws of a rank, which gives boxes these scores and answers these estimates
-pub record IsAdmissible (score : Shown → ℕ) (estimate : Info → ℕ) : Type 0 where
-  -- an entry's estimate is its score
-  pub exact : (i : Info) → IsRect i.bounds → i.level ≡ 0 → estimate i ≡ score (shown_of i)
-  -- a node's estimate is at most the score of each box inside
-  pub admissibility : (i : Info) → IsRect i.bounds → 0 < i.level → (b : Shown) → IsBoxInside b (shown_of i) → estimate i ≤ score b
+-- the laws of a shape: what it accepts, and the states that it answers
+pub record IsFaithful (accepts : Extent → Bool) (state : Info → Within) : Type 0 where
+  -- an entry is NOT exactly where it isn't accepted
+  pub leaf : (i : Info) → IsQuestion accepts i → i.level ≡ 0
+      → (state i ≡ Not) ↔ (accepts (extent_of i) ≡ false)
+  -- a node is NOT only where no box inside is accepted
+  pub pruning : (i : Info) → IsQuestion accepts i → 0 < i.level
+      → state i ≡ Not → NoneAccepted accepts (extent_of i)
+  -- a node is FULLY only where each box inside is accepted
+  pub fullness : (i : Info) → IsQuestion accepts i → 0 < i.level
+      → state i ≡ Fully → AllAccepted accepts (extent_of i)
 
--- the laws of a geometry, which accepts these boxes, gives them these scores and answers these verdicts
-pub record IsLawful (accepts : Shown → Bool) (score : Shown → ℕ) (verdict : Info → Verdict) : Type 0 where
-  -- an entry's state is NOT exactly where its box isn't accepted
-  pub leaf : (i : Info) → IsAsked accepts i → i.level ≡ 0 → ((verdict i).within ≡ Not) ↔ (accepts (shown_of i) ≡ false)
-  -- and otherwise it has the exact score
-  pub exact : (i : Info) → IsAsked accepts i → i.level ≡ 0 → accepts (shown_of i) ≡ true → (verdict i).score ≡ score (shown_of i)
-  -- a node's state is NOT only where no box inside is accepted
-  pub pruning : (i : Info) → IsAsked accepts i → 0 < i.level → (verdict i).within ≡ Not → NoneAccepted accepts (shown_of i)
-  -- a node's state is FULLY only where each box inside is accepted
-  pub fullness : (i : Info) → IsAsked accepts i → 0 < i.level → (verdict i).within ≡ Fully → AllAccepted accepts (shown_of i)
-  -- a node's score is at most that of each accepted box inside
-  pub admissibility : (i : Info) → IsAsked accepts i → 0 < i.level → (b : Shown) → IsBoxInside b (shown_of i) → accepts b ≡ true → (verdict i).score ≤ score b
+-- the laws of a rank: the scores of boxes, and the scores that it answers
+pub record IsAdmissible (score : Extent → ℕ) (estimate : Info → ℕ) : Type 0 where
+  -- an entry has the score of its box
+  pub exact : (i : Info) → IsWellFormed i → i.level ≡ 0
+      → estimate i ≡ score (extent_of i)
+  -- a node has at most the score of each box inside
+  pub admissibility : (i : Info) → IsWellFormed i → 0 < i.level
+      → (b : Extent) → IsBoxInside b (extent_of i) → estimate i ≤ score b
 
--- a state and a score, joined
-abbrev pub guided : (Info → Within) → (Info → ℕ) → Info → Verdict
-guided state estimate info = record { within = state info; score = estimate info }
+-- the laws of a geometry: what it accepts, the scores of boxes, and the verdicts that it answers
+pub record IsLawful (accepts : Extent → Bool) (score : Extent → ℕ) (verdict : Info → Verdict) : Type 0 where
+  -- an entry is NOT exactly where it isn't accepted
+  pub leaf : (i : Info) → IsQuestion accepts i → i.level ≡ 0
+      → ((verdict i).within ≡ Not) ↔ (accepts (extent_of i) ≡ false)
+  -- an entry that is accepted has the score of its box
+  pub exact : (i : Info) → IsQuestion accepts i → i.level ≡ 0
+      → accepts (extent_of i) ≡ true → (verdict i).score ≡ score (extent_of i)
+  -- a node is NOT only where no box inside is accepted
+  pub pruning : (i : Info) → IsQuestion accepts i → 0 < i.level
+      → (verdict i).within ≡ Not → NoneAccepted accepts (extent_of i)
+  -- a node is FULLY only where each box inside is accepted
+  pub fullness : (i : Info) → IsQuestion accepts i → 0 < i.level
+      → (verdict i).within ≡ Fully → AllAccepted accepts (extent_of i)
+  -- a node has at most the score of each accepted box inside
+  pub admissibility : (i : Info) → IsQuestion accepts i → 0 < i.level
+      → (b : Extent) → IsBoxInside b (extent_of i) → accepts b ≡ true → (verdict i).score ≤ score b
 
--- a borrowed geometry, and how many times it was asked
-pub record Asked (G : Type 0) : Type 0 where
-  pub geometry : G
-  pub asked : ℕ
+-- the verdict that joins a state and a score
+abbrev pub guided_verdict : (Info → Within) → (Info → ℕ) → Info → Verdict
+guided_verdict state estimate info = record { within = state info; score = estimate info }

@@ -1,5 +1,7 @@
 pub mod Boxes
+pub mod Counted
 pub mod Distances
+pub mod Examples
 pub mod Laws
 pub mod Lemmas
 pub mod Orders

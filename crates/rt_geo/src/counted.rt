@@ -10,18 +10,26 @@ use std::marker::Model;
 ///
 /// It can't be cloned, and no call hands the geometry out, so that the number tells all the checks
 /// that were made through it.
-#[derive(Drop)]
 pub struct Counted<'a, G: Geometry> {
     geometry: &'a G,
     asked: u64,
 }
 
 impl<'a, G: Geometry> Model for Counted<'a, G> {
-    ghost use Rattle.rt_geo.specs.Laws.{Asked};
+    ghost use Rattle.rt_geo.specs.Counted.{Tally};
 
-    ghost Value = { Asked G };
+    ghost Value = { Tally G };
 
     ghost view = { λ c. record { geometry = c.geometry.now; asked = c.asked } };
+}
+
+impl<'a, G: Geometry> Drop for Counted<'a, G> {
+    fn drop(self) {
+        let Counted {
+            geometry: _,
+            asked: _,
+        } = self;
+    }
 }
 
 impl<'a, G: Geometry> Counted<'a, G> {

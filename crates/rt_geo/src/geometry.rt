@@ -6,7 +6,7 @@
 //! bounds is accepted, and a node's score is at most the score of each accepted box inside.
 
 ghost use Rattle.std.specs.Prelude.{◌≡◌, ℕ, Bool};
-ghost use Rattle.rt_geo.specs.Laws.{IsAdmissible, IsFaithful, IsHonest, IsLawful, Shown, guided};
+ghost use Rattle.rt_geo.specs.Laws.{Extent, IsAdmissible, IsFaithful, IsHonest, IsLawful};
 ghost use Rattle.rt_geo.specs.declared.geometry.Info.{Info};
 ghost use Rattle.rt_geo.specs.declared.geometry.Verdict.{Verdict};
 ghost use Rattle.rt_geo.specs.declared.geometry.Within.{Within};
@@ -51,7 +51,7 @@ pub struct Verdict {
 /// Which boxes a query accepts.
 pub trait Shape {
     /// Whether a box is accepted: the meaning of the shape.
-    ghost accepts: { Self → Shown → Bool };
+    ghost accepts: { Self → Extent → Bool };
 
     /// What `within` answers.
     ghost state: { Self → Info → Within };
@@ -68,7 +68,7 @@ pub trait Shape {
 /// The order of a query's answers: the lowest score first.
 pub trait Rank {
     /// The score of a box: the meaning of the rank.
-    ghost score: { Self → Shown → ℕ };
+    ghost score: { Self → Extent → ℕ };
 
     /// What the call `score` answers.
     ghost estimate: { Self → Info → ℕ };
@@ -84,10 +84,10 @@ pub trait Rank {
 /// A query function: which boxes a query accepts, and the order of its answers.
 pub trait Geometry {
     /// Whether a box is accepted.
-    ghost accepts: { Self → Shown → Bool };
+    ghost accepts: { Self → Extent → Bool };
 
     /// The score of a box that is accepted.
-    ghost score: { Self → Shown → ℕ };
+    ghost score: { Self → Extent → ℕ };
 
     /// What `check` answers.
     ghost verdict: { Self → Info → Verdict };
@@ -99,30 +99,4 @@ pub trait Geometry {
 
     /// The leaf, pruning, fullness and admissibility laws.
     ghost lawful: { (g : Self) → IsLawful (accepts g) (score g) (verdict g) };
-}
-
-/// The geometry that accepts what its shape accepts, in the order of its rank.
-#[derive(Drop, Debug)]
-pub struct Guided<S: Shape, R: Rank> {
-    pub shape: S,
-    pub rank: R,
-}
-
-impl<S: Shape, R: Rank> Geometry for Guided<S, R> {
-    ghost accepts = { λ g. S.accepts g.shape };
-
-    ghost score = { λ g. R.score g.rank };
-
-    ghost verdict = { λ g. guided (S.state g.shape) (R.estimate g.rank) };
-
-    fn check(&self, info: &Info) -> Verdict {
-        Verdict {
-            within: self.shape.within(info),
-            score: self.rank.score(info),
-        }
-    }
-
-    ghost use Rattle.rt_geo.specs.Lemmas.Guided.{IsLawful-guided};
-
-    ghost lawful = { λ g. IsLawful-guided (S.accepts g.shape) (S.state g.shape) (R.score g.rank) (R.estimate g.rank) (S.faithful g.shape) (R.admissible g.rank) };
 }

@@ -59,7 +59,11 @@ impl Rank for Smallest {
 
     fn score(&self, info: &Info) -> u128 {
         // The boxes inside a node may be as small as a point.
-        if info.level == 0 { area(info.bounds) } else { 0 }
+        if info.level == 0 {
+            area(info.bounds)
+        } else {
+            0
+        }
     }
 
     ghost use Rattle.rt_geo.specs.Lemmas.Ranks.{smallest-admissible};

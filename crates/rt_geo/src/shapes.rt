@@ -4,7 +4,7 @@
 
 ghost use Rattle.std.specs.Prelude.{◌≡◌, not};
 ghost use Rattle.rt_geo.specs.Boxes.{inside, overlaps};
-ghost use Rattle.rt_geo.specs.Shapes.{tested};
+ghost use Rattle.rt_geo.specs.Shapes.{state_by};
 
 use crate::bounds::{self, Bounds, overlaps};
 use crate::distance::{Point, far2, near2};
@@ -134,7 +134,7 @@ impl Shape for Circle {
 
 /// How many of the boxes inside the bounds overlap the window, as far as the two tests tell.
 fn state_in_window(bounds: Bounds, window: Bounds) -> Within
-    ensures { result ≡ tested (not (overlaps bounds window)) (inside bounds window) }
+    ensures { result ≡ state_by (not (overlaps bounds window)) (inside bounds window) }
 {
     if !overlaps(bounds, window) {
         Within::Not

@@ -23,11 +23,11 @@ second_holds : (p q : Bool) → (p && q) ≡ true → q ≡ true
 second_holds p q e = grind arith
 
 -- a box that lies in another does so on each axis
-pub on_x : (a b : Rect) → inside a b ≡ true → range_lies_in a.min_x a.max_x b.min_x b.max_x ≡ true
-on_x a b h = first_holds _ _ h
+pub inside-on_x : (a b : Rect) → inside a b ≡ true → range_lies_in a.min_x a.max_x b.min_x b.max_x ≡ true
+inside-on_x a b h = first_holds _ _ h
 
-pub on_y : (a b : Rect) → inside a b ≡ true → range_lies_in a.min_y a.max_y b.min_y b.max_y ≡ true
-on_y a b h = second_holds _ _ h
+pub inside-on_y : (a b : Rect) → inside a b ≡ true → range_lies_in a.min_y a.max_y b.min_y b.max_y ≡ true
+inside-on_y a b h = second_holds _ _ h
 
 pub inside-trans : (a b c : Rect) → inside a b ≡ true → inside b c ≡ true → inside a c ≡ true
 inside-trans a b c p q =

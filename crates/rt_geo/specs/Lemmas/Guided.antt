@@ -1,16 +1,16 @@
 -- From the laws of the parts to the laws of the whole.
-use Rattle.std.proofs.Common.{Bool, ℕ}
-use Rattle.rt_geo.specs.Laws.{IsAdmissible, IsFaithful, IsLawful, Shown, guided}
+use Rattle.std.proofs.Common.{ℕ, Bool}
+use Rattle.rt_geo.specs.Laws.{Extent, IsAdmissible, IsFaithful, IsLawful, guided_verdict}
 use Rattle.rt_geo.specs.declared.geometry.Info.{Info}
 use Rattle.rt_geo.specs.declared.geometry.Within.{Within}
 
 -- a shape and a rank that keep their laws make a geometry that keeps its own
-pub IsLawful-guided : (accepts : Shown → Bool) (state : Info → Within) (score : Shown → ℕ) (estimate : Info → ℕ)
-    → IsFaithful accepts state → IsAdmissible score estimate → IsLawful accepts score (guided state estimate)
-IsLawful-guided accepts state score estimate shape rank = record {
+pub guided-lawful : (accepts : Extent → Bool) (state : Info → Within) (score : Extent → ℕ) (estimate : Info → ℕ)
+    → IsFaithful accepts state → IsAdmissible score estimate → IsLawful accepts score (guided_verdict state estimate)
+guided-lawful accepts state score estimate shape rank = record {
   leaf = shape.leaf;
-  exact = λ i asked entry _. rank.exact i asked.box entry;
+  exact = λ i question entry _. rank.exact i question.well_formed entry;
   pruning = shape.pruning;
   fullness = shape.fullness;
-  admissibility = λ i asked node b in_it _. rank.admissibility i asked.box node b in_it;
+  admissibility = λ i question node b h _. rank.admissibility i question.well_formed node b h;
 }

@@ -1,8 +1,8 @@
 -- Each rank keeps its laws.
-use Rattle.std.proofs.Common.{◌≡◌, ◌<◌, ◌≤◌, refl, arith, ℕ, zero-le}
+use Rattle.std.proofs.Common.{◌≡◌, ◌<◌, ◌≤◌, refl, arith, ℕ}
 use Rattle.std.proofs.lemmas.Bool.Decides.{nat_tests}
 use Rattle.rt_geo.specs.Boxes.{area}
-use Rattle.rt_geo.specs.Laws.{IsAdmissible, Shown, shown_of}
+use Rattle.rt_geo.specs.Laws.{IsAdmissible, extent_of}
 use Rattle.rt_geo.specs.Lemmas.Distances.{near2-part}
 use Rattle.rt_geo.specs.Ranks.{by_id_estimate, by_id_score, near_estimate, near_score, smallest_estimate, smallest_score}
 use Rattle.rt_geo.specs.declared.distance.Point.{Point}
@@ -10,17 +10,17 @@ use Rattle.rt_geo.specs.declared.geometry.Info.{Info}
 
 pub by_id-admissible : IsAdmissible by_id_score by_id_estimate
 by_id-admissible = record {
-  exact = λ i box entry. refl;
-  admissibility = λ i box node b h. omega arith;
+  exact = λ i well_formed entry. refl;
+  admissibility = λ i well_formed node b h. omega arith;
 }
 
 pub near-admissible : (p : Point) → IsAdmissible (near_score p) (near_estimate p)
 near-admissible p = record {
-  exact = λ i box entry. refl;
-  admissibility = λ i box node b h. near2-part p b.bounds i.bounds h.inside;
+  exact = λ i well_formed entry. refl;
+  admissibility = λ i well_formed node b h. near2-part p b.bounds i.bounds h.inside;
 }
 
-smallest-exact : (i : Info) → i.level ≡ 0 → smallest_estimate i ≡ smallest_score (shown_of i)
+smallest-exact : (i : Info) → i.level ≡ 0 → smallest_estimate i ≡ smallest_score (extent_of i)
 smallest-exact i entry = grind (arith, nat_tests)
 
 smallest-below : (i : Info) (n : ℕ) → 0 < i.level → smallest_estimate i ≤ n
@@ -28,6 +28,6 @@ smallest-below i n node = grind (arith, nat_tests)
 
 pub smallest-admissible : IsAdmissible smallest_score smallest_estimate
 smallest-admissible = record {
-  exact = λ i box entry. smallest-exact i entry;
-  admissibility = λ i box node b h. smallest-below i (area b.bounds) node;
+  exact = λ i well_formed entry. smallest-exact i entry;
+  admissibility = λ i well_formed node b h. smallest-below i (area b.bounds) node;
 }
