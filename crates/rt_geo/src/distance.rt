@@ -19,18 +19,18 @@ pub struct Point {
 pub fn near2(point: Point, bounds: Bounds) -> u128
     ensures { result ≡ near2 point bounds }
 {
-    let on_x = gap(point.x, bounds.min_x(), bounds.max_x()) as u128;
-    let on_y = gap(point.y, bounds.min_y(), bounds.max_y()) as u128;
-    on_x * on_x + on_y * on_y
+    let gap_x = gap(point.x, bounds.min_x(), bounds.max_x()) as u128;
+    let gap_y = gap(point.y, bounds.min_y(), bounds.max_y()) as u128;
+    gap_x * gap_x + gap_y * gap_y
 }
 
 /// The square of the distance from a point to the farthest point of a box.
 pub fn far2(point: Point, bounds: Bounds) -> u128
     ensures { result ≡ far2 point bounds }
 {
-    let on_x = reach(point.x, bounds.min_x(), bounds.max_x()) as u128;
-    let on_y = reach(point.y, bounds.min_y(), bounds.max_y()) as u128;
-    on_x * on_x + on_y * on_y
+    let reach_x = reach(point.x, bounds.min_x(), bounds.max_x()) as u128;
+    let reach_y = reach(point.y, bounds.min_y(), bounds.max_y()) as u128;
+    reach_x * reach_x + reach_y * reach_y
 }
 
 /// How far a number lies outside a range.

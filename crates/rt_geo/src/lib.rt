@@ -1,4 +1,21 @@
-//! Boxes, and how they lie: the geometry that the other crates speak of.
+//! Boxes, and what a query asks of them: which boxes it accepts, in which order, and what lets a search
+//! skip a whole subtree.
+//!
+//! A query function is a [`Geometry`]. Its meaning is the set of boxes that it accepts and the score of
+//! each; its laws say how far what it answers about a node holds for every box inside. A search rests on
+//! these laws alone, so that it is right for each geometry: for one made of the shapes and ranks below,
+//! and for one of a user's own.
+//!
+//! - Boxes: [`Bounds`], [`Entry`], [`overlaps`], [`inside`], [`hull`].
+//! - Distances: [`Point`], [`near2`], [`far2`].
+//! - Query functions: [`Shape`], [`Rank`], [`Geometry`], asked with an [`Info`], answering a [`Within`],
+//!   a score or a [`Verdict`]; [`Guided`] joins a shape and a rank; [`Counted`] counts the checks.
+//! - Shapes: [`All`], [`Window`], [`Inside`], [`Covers`], [`Circle`], and the enum [`Region`] of these.
+//! - Ranks: [`ById`], [`Near`], [`Smallest`], and the enum [`Order`] of these.
+//!
+//! The definitions that the contracts cite stand in `specs/`: `Boxes`, `Distances`, `Laws`, `Shapes`,
+//! `Ranks`, `Regions`, `Orders`, `Counted`. They are in whole numbers without bounds. What stands below
+//! `specs/Lemmas` is proved and has not to be believed.
 #![tactic(auto)]
 
 mod bounds;
