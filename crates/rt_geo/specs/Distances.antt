@@ -1,6 +1,6 @@
 -- How far a point is from a box, as the square of a distance.
-use Rattle.std.specs.Prelude.{ℕ, ◌+◌, ◌*◌, max, ℤ, pos, negsuc, ◌-ℤ◌, unsigned_abs}
-use Rattle.rt_geo.specs.Boxes.{Rect}
+use Rattle.std.specs.Prelude.{◌≡◌, ◌≤◌, true, ℕ, ◌+◌, ◌*◌, max, ℤ, pos, negsuc, ◌-ℤ◌, unsigned_abs}
+use Rattle.rt_geo.specs.Boxes.{Rect, inside, rect_of}
 use Rattle.rt_geo.specs.declared.distance.Point.{Point}
 
 -- the number where it is above 0, else 0
@@ -27,3 +27,21 @@ near2 p b = square (gap p.x b.min_x b.max_x) + square (gap p.y b.min_y b.max_y)
 -- the square of the distance from a point to the farthest point of a box
 abbrev pub far2 : Point → Rect → ℕ
 far2 p b = square (reach p.x b.min_x b.max_x) + square (reach p.y b.min_y b.max_y)
+
+-- the square of the distance between two points
+abbrev pub distance2 : Point → Point → ℕ
+distance2 p q = square (unsigned_abs (p.x -ℤ q.x)) + square (unsigned_abs (p.y -ℤ q.y))
+
+-- a point of the box
+pub record IsPointOf (b : Rect) (q : Point) : Type 0 where
+  pub inside : inside (rect_of q.x q.x q.y q.y) b ≡ true
+
+-- `n` is the least of the squares of the distances to the points of the box
+pub record IsLeastDistance (p : Point) (b : Rect) (n : ℕ) : Type 0 where
+  pub reached : (q : Point) × (IsPointOf b q × (distance2 p q ≡ n))
+  pub least : (q : Point) → IsPointOf b q → n ≤ distance2 p q
+
+-- `n` is the greatest of them
+pub record IsGreatestDistance (p : Point) (b : Rect) (n : ℕ) : Type 0 where
+  pub reached : (q : Point) × (IsPointOf b q × (distance2 p q ≡ n))
+  pub greatest : (q : Point) → IsPointOf b q → distance2 p q ≤ n

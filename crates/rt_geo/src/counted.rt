@@ -41,7 +41,7 @@ impl<'a, G: Geometry> Counted<'a, G> {
         Counted { geometry, asked: 0 }
     }
 
-    /// What the geometry answers, counted.
+    /// What the geometry answers. The number of checks rises by one, and has to be below [`u64::MAX`].
     pub fn check(&mut self, info: &Info) -> Verdict
         requires honest { IsHonest (G.accepts self.old.geometry) info.now }
         requires room { self.old.asked < 2 ^ 64 - 1 }

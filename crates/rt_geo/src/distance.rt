@@ -4,11 +4,11 @@
 //! 2 * 4294967295 * 4294967295 = 36893488130239234050, is above 64 bits.
 
 ghost use Rattle.std.specs.Prelude.{◌≡◌, ◌<◌, ◌^◌, ◌≤ℤ◌};
-ghost use Rattle.rt_geo.specs.Distances.{far2, gap, near2, reach};
+ghost use Rattle.rt_geo.specs.Distances.{IsGreatestDistance, IsLeastDistance, far2, gap, near2, reach};
 
 use crate::bounds::Bounds;
 
-/// A point with 32-bit coordinates.
+/// A point of the plane, in the coordinates of [`Bounds`].
 #[derive(Clone, Copy, Debug, PartialEq, Eq, Default)]
 pub struct Point {
     pub x: i32,
@@ -17,7 +17,8 @@ pub struct Point {
 
 /// The square of the distance from a point to the nearest point of a box; 0 where the box holds it.
 pub fn near2(point: Point, bounds: Bounds) -> u128
-    ensures { result ≡ near2 point bounds }
+    ensures value { result ≡ near2 point bounds }
+    ensures nearest { IsLeastDistance point bounds result }
 {
     let gap_x = gap(point.x, bounds.min_x(), bounds.max_x()) as u128;
     let gap_y = gap(point.y, bounds.min_y(), bounds.max_y()) as u128;
@@ -26,7 +27,8 @@ pub fn near2(point: Point, bounds: Bounds) -> u128
 
 /// The square of the distance from a point to the farthest point of a box.
 pub fn far2(point: Point, bounds: Bounds) -> u128
-    ensures { result ≡ far2 point bounds }
+    ensures value { result ≡ far2 point bounds }
+    ensures farthest { IsGreatestDistance point bounds result }
 {
     let reach_x = reach(point.x, bounds.min_x(), bounds.max_x()) as u128;
     let reach_y = reach(point.y, bounds.min_y(), bounds.max_y()) as u128;

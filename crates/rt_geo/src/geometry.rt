@@ -18,9 +18,9 @@ use crate::bounds::Bounds;
 pub enum Within {
     /// None: the entry, or all that lies under the node, is dropped.
     Not,
-    /// Any number: an entry is an answer, a node's children are asked about.
+    /// Perhaps some and not all: an entry is an answer, a node's children are asked about.
     Partly,
-    /// All.
+    /// All: an entry is an answer, and so is all that lies under the node.
     Fully,
 }
 
@@ -43,12 +43,15 @@ pub struct Info {
 /// What a query function answers.
 #[derive(Clone, Copy, Debug, PartialEq, Eq)]
 pub struct Verdict {
+    /// How many of the boxes inside the bounds are accepted.
     pub within: Within,
     /// The lowest score is taken out of the tree first. It means nothing beside [`Within::Not`].
     pub score: u128,
 }
 
 /// Which boxes a query accepts.
+///
+/// `docs/write-your-own-geometry.md` shows how a type of one's own becomes a shape.
 pub trait Shape {
     /// Whether a box is accepted: the meaning of the shape.
     ghost accepts: { Self → Extent → Bool };
@@ -56,7 +59,8 @@ pub trait Shape {
     /// What `within` answers.
     ghost state: { Self → Info → Within };
 
-    /// How many of the boxes inside the bounds are accepted.
+    /// How many of the boxes inside the bounds are accepted. Where the parent was
+    /// [`Within::Fully`], it may answer so without a test.
     fn within(&self, info: &Info) -> Within
         requires { IsHonest (accepts self.now) info.now }
         ensures { result ≡ state self.now info.now };
@@ -82,6 +86,9 @@ pub trait Rank {
 }
 
 /// A query function: which boxes a query accepts, and the order of its answers.
+///
+/// [`Guided`](crate::Guided) makes one of a [`Shape`] and a [`Rank`];
+/// `docs/write-your-own-geometry.md` shows how to write one whole.
 pub trait Geometry {
     /// Whether a box is accepted.
     ghost accepts: { Self → Extent → Bool };

@@ -9,7 +9,9 @@ use crate::geometry::{Geometry, Info, Rank, Shape, Verdict};
 /// It keeps the laws of a geometry wherever its parts keep theirs.
 #[derive(Debug, Drop)]
 pub struct Guided<S: Shape, R: Rank> {
+    /// Which boxes are accepted.
     pub shape: S,
+    /// Their scores.
     pub rank: R,
 }
 

@@ -29,7 +29,9 @@ pub struct Covers(pub Bounds);
 /// Accepts the boxes that share a point with a disc, its edge included.
 #[derive(Clone, Copy, Debug, PartialEq, Eq)]
 pub struct Circle {
+    /// The middle of the disc.
     pub centre: Point,
+    /// How far the disc reaches from there.
     pub radius: u32,
 }
 

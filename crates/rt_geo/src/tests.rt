@@ -4,6 +4,9 @@
 mod left_of;
 mod uneven;
 
+ghost use Rattle.std.specs.Prelude.{◌≡◌};
+ghost use Rattle.rt_geo.specs.declared.geometry.Within.TheVariants.{Partly};
+
 use crate::{
     All, Bounds, ById, Circle, Counted, Covers, Geometry, Guided, Info, Inside, Near, Order, Point,
     Rank, Region, Shape, Smallest, Verdict, Window, Within, far2, hull, inside, near2, overlaps,
@@ -16,37 +19,29 @@ fn boxed(rt: &impl Abort, min_x: i32, max_x: i32, min_y: i32, max_y: i32) -> Bou
     Bounds::new(min_x, max_x, min_y, max_y).expect(rt, "the minimums are at most the maximums")
 }
 
-/// What a shape answers where the parent was PARTLY.
+/// A question about an entry (level 0) or a node whose parent was PARTLY.
+fn question(bounds: Bounds, level: u8) -> Info
+    ensures { result.parent_within ≡ Partly }
+{
+    Info {
+        bounds,
+        level,
+        top: 3,
+        parent_within: Within::Partly,
+        parent_score: 0,
+    }
+}
+
 fn state_of<S: Shape>(shape: &S, bounds: Bounds, level: u8) -> Within {
-    shape.within(&Info {
-        bounds,
-        level,
-        top: 3,
-        parent_within: Within::Partly,
-        parent_score: 0,
-    })
+    shape.within(&question(bounds, level))
 }
 
-/// What a rank answers where the parent was PARTLY.
 fn score_of<R: Rank>(rank: &R, bounds: Bounds, level: u8) -> u128 {
-    rank.score(&Info {
-        bounds,
-        level,
-        top: 3,
-        parent_within: Within::Partly,
-        parent_score: 0,
-    })
+    rank.score(&question(bounds, level))
 }
 
-/// What a geometry answers where the parent was PARTLY.
 fn verdict_of<G: Geometry>(geometry: &G, bounds: Bounds, level: u8) -> Verdict {
-    geometry.check(&Info {
-        bounds,
-        level,
-        top: 3,
-        parent_within: Within::Partly,
-        parent_score: 0,
-    })
+    geometry.check(&question(bounds, level))
 }
 
 #[test]
@@ -196,13 +191,7 @@ fn a_counted_geometry_tells_its_checks(rt: HostRuntime) {
 
     let mut counted = Counted::new(&guided);
     assert_eq!(rt; counted.asked(), 0);
-    let verdict = counted.check(&Info {
-        bounds: square,
-        level: 0,
-        top: 1,
-        parent_within: Within::Partly,
-        parent_score: 0,
-    });
+    let verdict = counted.check(&question(square, 0));
     assert_eq!(rt; verdict, want);
     assert_eq!(rt; counted.asked(), 1);
 }

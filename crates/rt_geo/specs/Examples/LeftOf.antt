@@ -22,8 +22,8 @@ left_state x i =
 leaf : (x : ℤ) (i : Info) → i.level ≡ 0 → (left_state x i ≡ Not) ↔ (left_accepts x (extent_of i) ≡ false)
 leaf x i entry = (λ e. grind (arith, nat_tests), λ e. grind (arith, nat_tests))
 
-pruning : (x : ℤ) (i : Info) → left_state x i ≡ Not → 0 < i.level → NoneAccepted (left_accepts x) (extent_of i)
-pruning x i e node b h =
+pruning : (x : ℤ) (i : Info) → 0 < i.level → left_state x i ≡ Not → NoneAccepted (left_accepts x) (extent_of i)
+pruning x i node e b h =
     let on_x = inside-on_x b.bounds i.bounds h.inside in
     grind (arith, ints, nat_tests)
 
@@ -34,7 +34,7 @@ fullness x i e b h =
 
 pub left-faithful : (x : ℤ) → IsFaithful (left_accepts x) (left_state x)
 left-faithful x = record {
-  leaf = λ i question entry. leaf x i entry;
-  pruning = λ i question node e. pruning x i e node;
-  fullness = λ i question node e. fullness x i e;
+  leaf = λ i question. leaf x i;
+  pruning = λ i question. pruning x i;
+  fullness = λ i question node. fullness x i;
 }

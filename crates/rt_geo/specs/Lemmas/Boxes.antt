@@ -7,13 +7,16 @@ use Rattle.rt_geo.specs.Boxes.{Rect, IsRect, IsLeastAround, hull, inside, overla
 pub inside-same : (a : Rect) → inside a a ≡ true
 inside-same a = grind (arith, ints)
 
+-- a part of a part of a range is a part of it
 range_lies_in-trans : (a b c d e f : ℤ) → range_lies_in a b c d ≡ true → range_lies_in c d e f ≡ true → range_lies_in a b e f ≡ true
 range_lies_in-trans a b c d e f p q = grind (arith, ints)
 
+-- what meets a part of a range meets the range
 ranges_meet-part : (a b c d e f : ℤ) → range_lies_in a b c d ≡ true → ranges_meet a b e f ≡ true → ranges_meet c d e f ≡ true
 ranges_meet-part a b c d e f p q = grind (arith, ints)
 
-both : (p q : Bool) → p ≡ true → q ≡ true → (p && q) ≡ true
+-- two tests, one for each axis
+pub both : (p q : Bool) → p ≡ true → q ≡ true → (p && q) ≡ true
 both p q e f = grind arith
 
 first_holds : (p q : Bool) → (p && q) ≡ true → p ≡ true
@@ -29,6 +32,7 @@ inside-on_x a b h = first_holds _ _ h
 pub inside-on_y : (a b : Rect) → inside a b ≡ true → range_lies_in a.min_y a.max_y b.min_y b.max_y ≡ true
 inside-on_y a b h = second_holds _ _ h
 
+-- a part of a part of a box is a part of it
 pub inside-trans : (a b c : Rect) → inside a b ≡ true → inside b c ≡ true → inside a c ≡ true
 inside-trans a b c p q =
     both _ _ (range_lies_in-trans a.min_x a.max_x b.min_x b.max_x c.min_x c.max_x (first_holds _ _ p) (first_holds _ _ q))
@@ -44,6 +48,8 @@ overlaps-part a b c p q =
 pub inside-overlaps : (a b : Rect) → IsRect a → inside a b ≡ true → overlaps a b ≡ true
 inside-overlaps a b v p = grind (arith, ints)
 
+-- ---- the hull
+
 pub IsRect-hull : (a b : Rect) → IsRect a → IsRect b → IsRect (hull a b)
 IsRect-hull a b v w = record { on_x = grind (arith, ints); on_y = grind (arith, ints) }
 
@@ -53,6 +59,7 @@ inside-hull_left a b = grind (arith, ints)
 pub inside-hull_right : (a b : Rect) → inside b (hull a b) ≡ true
 inside-hull_right a b = grind (arith, ints)
 
+-- what holds both boxes holds their hull
 pub hull-inside : (a b c : Rect) → inside a c ≡ true → inside b c ≡ true → inside (hull a b) c ≡ true
 hull-inside a b c p q = grind (arith, ints)
 
@@ -62,6 +69,8 @@ hull-least a b = record {
   second = inside-hull_right a b;
   least = hull-inside a b;
 }
+
+-- ---- stored numbers
 
 -- what is stored in 32 bits is the number
 stored : (z y : ℤ) → FitsSigned w32 z → z ≡ y → to_z w32 (of_z w32 z) ≡ y

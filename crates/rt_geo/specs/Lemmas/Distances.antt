@@ -15,7 +15,7 @@ gap-part v a b c d p = grind (arith, ints)
 gap-reach : (v a b c d : ℤ) → a ≤ℤ b → range_lies_in a b c d ≡ true → gap v a b ≤ reach v c d
 gap-reach v a b c d w p = grind (arith, ints)
 
-sum_of_squares : (a b c d : ℕ) → a ≤ c → b ≤ d → square a + square b ≤ square c + square d
+pub sum_of_squares : (a b c d : ℕ) → a ≤ c → b ≤ d → square a + square b ≤ square c + square d
 sum_of_squares a b c d p q =
     let r : square a ≤ square c = mul-le a a c c p p in
     let s : square b ≤ square d = mul-le b b d d q q in
