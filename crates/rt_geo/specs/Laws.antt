@@ -7,9 +7,9 @@ use Rattle.rt_geo.specs.declared.geometry.Verdict.{Verdict}
 use Rattle.rt_geo.specs.declared.geometry.Within.{Within}
 use Rattle.rt_geo.specs.declared.geometry.Within.TheVariants.{Not, Fully}
 
--- ---- what a query function looks at
+-- ---- what a query function is shown
 
--- all that it may look at of an entry, or of the entries under a node
+-- all that it is shown of an entry, or of the entries under a node
 pub record Extent : Type 0 where
   pub bounds : Rect
 
@@ -74,18 +74,11 @@ pub record IsAdmissible (score : Extent → ℕ) (estimate : Info → ℕ) : Typ
 
 -- the laws of a geometry: what it accepts, the scores of boxes, and the verdicts that it answers
 pub record IsLawful (accepts : Extent → Bool) (score : Extent → ℕ) (verdict : Info → Verdict) : Type 0 where
-  -- an entry is NOT exactly where it isn't accepted
-  pub leaf : (i : Info) → IsQuestion accepts i → i.level ≡ 0
-      → ((verdict i).within ≡ Not) ↔ (accepts (extent_of i) ≡ false)
+  -- its states keep the leaf law, the pruning law and the fullness law
+  pub faithful : IsFaithful accepts (λ i. (verdict i).within)
   -- an entry that is accepted has the score of its box
   pub exact : (i : Info) → IsQuestion accepts i → i.level ≡ 0
       → accepts (extent_of i) ≡ true → (verdict i).score ≡ score (extent_of i)
-  -- a node is NOT only where no box inside is accepted
-  pub pruning : (i : Info) → IsQuestion accepts i → 0 < i.level
-      → (verdict i).within ≡ Not → NoneAccepted accepts (extent_of i)
-  -- a node is FULLY only where each box inside is accepted
-  pub fullness : (i : Info) → IsQuestion accepts i → 0 < i.level
-      → (verdict i).within ≡ Fully → AllAccepted accepts (extent_of i)
   -- a node has at most the score of each accepted box inside
   pub admissibility : (i : Info) → IsQuestion accepts i → 0 < i.level
       → (b : Extent) → IsBoxInside b (extent_of i) → accepts b ≡ true → (verdict i).score ≤ score b

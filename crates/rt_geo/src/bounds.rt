@@ -7,6 +7,8 @@ ghost use Rattle.rt_geo.specs.Boxes.{IsLeastAround, IsRect, area, hull, inside, 
 use std::marker::Model;
 
 /// A closed box: a minimum and a maximum on each axis, each minimum at most its maximum.
+///
+/// The sides are those of SQLite's `rtree_i32` tables, in the same order.
 #[derive(Clone, Copy, Debug, PartialEq, Eq)]
 pub struct Bounds {
     min_x: i32,
@@ -128,6 +130,7 @@ fn lies_in_on_y(a: Bounds, b: Bounds) -> bool
 pub fn hull(a: Bounds, b: Bounds) -> Bounds
     ensures value { result ≡ hull a b }
     ensures least { IsLeastAround a b result }
+    ensures valid { IsRect result }
 {
     Bounds {
         min_x: a.min_x.min(b.min_x),

@@ -1,9 +1,11 @@
 //! Query functions: what they are asked, what they answer, and the laws that they keep.
 //!
-//! A search over a tree of boxes asks a [`Geometry`] about each entry and node that it meets. What it
-//! may conclude from an answer stands in the geometry's laws, which `specs/Laws.antt` states: an entry
-//! is dropped exactly where its box isn't accepted, a node is dropped only where no box inside its
-//! bounds is accepted, and a node's score is at most the score of each accepted box inside.
+//! A search over a tree of boxes asks a [`Geometry`] about each entry and node that it meets. What is
+//! asked, and the three states of an answer, are those of a custom query of SQLite's R*Tree module.
+//!
+//! What a search may conclude from an answer stands in the geometry's laws, which `specs/Laws.antt`
+//! states: an entry is dropped exactly where its box isn't accepted, a node is dropped only where no box
+//! inside its bounds is accepted, and a node's score is at most that of each accepted box inside.
 
 ghost use Rattle.std.specs.Prelude.{◌≡◌, ℕ, Bool};
 ghost use Rattle.rt_geo.specs.Laws.{Extent, IsAdmissible, IsFaithful, IsHonest, IsLawful};

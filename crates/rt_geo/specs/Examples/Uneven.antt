@@ -2,7 +2,7 @@
 use Rattle.std.specs.Prelude.{◌≡◌, ◌≤◌, ℕ, min, Bool, true, ◌==◌, if◌then◌else◌}
 use Rattle.std.proofs.Common.{refl, arith}
 use Rattle.std.proofs.lemmas.Bool.Decides.{nat_tests}
-use Rattle.rt_geo.specs.Laws.{IsLawful, Extent}
+use Rattle.rt_geo.specs.Laws.{IsFaithful, IsLawful, Extent}
 use Rattle.rt_geo.specs.declared.geometry.Info.{Info}
 use Rattle.rt_geo.specs.declared.geometry.Verdict.{Verdict}
 use Rattle.rt_geo.specs.declared.geometry.Within.TheVariants.{Fully}
@@ -25,11 +25,16 @@ exact i entry = grind (arith, nat_tests)
 at_most : (i : Info) → (uneven_verdict i).score ≤ 10
 at_most i = grind (arith, nat_tests)
 
-pub uneven-lawful : IsLawful uneven_accepts uneven_score uneven_verdict
-uneven-lawful = record {
+faithful : IsFaithful uneven_accepts (λ i. (uneven_verdict i).within)
+faithful = record {
   leaf = λ i question entry. (λ e. cc, λ e. cc);
-  exact = λ i question entry accepted. exact i entry;
   pruning = λ i question node e. cc;
   fullness = λ i question node e b h. refl;
+}
+
+pub uneven-lawful : IsLawful uneven_accepts uneven_score uneven_verdict
+uneven-lawful = record {
+  faithful = faithful;
+  exact = λ i question entry accepted. exact i entry;
   admissibility = λ i question node b h accepted. at_most i;
 }

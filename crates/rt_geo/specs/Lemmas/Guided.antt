@@ -8,9 +8,7 @@ use Rattle.rt_geo.specs.declared.geometry.Within.{Within}
 pub guided-lawful : (accepts : Extent → Bool) (state : Info → Within) (score : Extent → ℕ) (estimate : Info → ℕ)
     → IsFaithful accepts state → IsAdmissible score estimate → IsLawful accepts score (guided_verdict state estimate)
 guided-lawful accepts state score estimate shape rank = record {
-  leaf = shape.leaf;
+  faithful = shape;
   exact = λ i question entry _. rank.exact i question.well_formed entry;
-  pruning = shape.pruning;
-  fullness = shape.fullness;
   admissibility = λ i question node b h _. rank.admissibility i question.well_formed node b h;
 }

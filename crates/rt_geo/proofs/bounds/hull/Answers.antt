@@ -1,7 +1,7 @@
 use Rattle.std.proofs.Common.{rules, subst, sym, FitsSigned, w32}
 use Rattle.std.proofs.lemmas.Int.{to_z-of_z}
-use Rattle.rt_geo.specs.Lemmas.Boxes.{hull-least, stored_rect}
-use Rattle.rt_geo.specs.Boxes.{IsLeastAround}
+use Rattle.rt_geo.specs.Lemmas.Boxes.{IsRect-hull, hull-least, stored_rect}
+use Rattle.rt_geo.specs.Boxes.{IsLeastAround, IsRect}
 use Rattle.rt_geo.proofs.bounds.hull.Goals as goal
 
 pub returns-clause-value : goal.returns-clause-value
@@ -20,3 +20,9 @@ returns-clause-value c =
 pub returns-clause-least : goal.returns-clause-least
 returns-clause-least c =
     subst (λ whole. IsLeastAround c.args.a c.args.b whole) (sym (returns-clause-value c)) (hull-least c.args.a c.args.b)
+
+pub returns-clause-valid : goal.returns-clause-valid
+returns-clause-valid c =
+    let a_valid : IsRect c.args.a = subst IsRect c.a.view_is c.a.invariant in
+    let b_valid : IsRect c.args.b = subst IsRect c.b.view_is c.b.invariant in
+    subst IsRect (sym (returns-clause-value c)) (IsRect-hull c.args.a c.args.b a_valid b_valid)
