@@ -87,48 +87,50 @@ fn distances_reach_from_corner_to_corner(rt: HostRuntime) {
 }
 
 #[test]
-fn shapes_answer_their_states(rt: HostRuntime) {
+fn circles_answer_their_states(rt: HostRuntime) {
     let origin = Point::default();
     let low = Point {
         x: i32::MIN,
         y: i32::MIN,
     };
+    let left = boxed(&rt, -5, -1, -5, -1);
+    let small = boxed(&rt, 0, 1, 0, 1);
+    let corner = boxed(&rt, i32::MAX, i32::MAX, i32::MAX, i32::MAX);
+    for (centre, radius, bounds, level, want) in [
+        (origin, 2, left, 0, Within::Partly),
+        (origin, 2, small, 1, Within::Fully),
+        (origin, 1, left, 0, Within::Not),
+        (low, u32::MAX, corner, 0, Within::Not),
+    ] {
+        let circle = Circle { centre, radius };
+        assert_eq!(rt;
+            state_of(&circle, bounds, level),
+            want,
+            "radius {radius}, level {level}"
+        );
+    }
+}
+
+#[test]
+fn windows_answer_their_states(rt: HostRuntime) {
     let square = boxed(&rt, 0, 10, 0, 10);
     let left = boxed(&rt, -5, -1, -5, -1);
     let wide = boxed(&rt, -5, 30, -5, 15);
-    let corner = boxed(&rt, i32::MAX, i32::MAX, i32::MAX, i32::MAX);
 
-    let circle = Circle {
-        centre: origin,
-        radius: 2,
-    };
-    assert_eq!(rt; state_of(&circle, left, 0), Within::Partly);
-    assert_eq!(rt; state_of(&circle, boxed(&rt, 0, 1, 0, 1), 1), Within::Fully);
-    let circle = Circle {
-        centre: origin,
-        radius: 1,
-    };
-    assert_eq!(rt; state_of(&circle, left, 0), Within::Not);
-    let circle = Circle {
-        centre: low,
-        radius: u32::MAX,
-    };
-    assert_eq!(rt; state_of(&circle, corner, 0), Within::Not);
+    let inside = Inside(boxed(&rt, 0, 15, 0, 15));
+    assert_eq!(rt; state_of(&inside, wide, 2), Within::Partly);
+    assert_eq!(rt; state_of(&inside, wide, 0), Within::Not);
+    assert_eq!(rt; state_of(&inside, square, 0), Within::Fully);
 
-    let shape = Inside(boxed(&rt, 0, 15, 0, 15));
-    assert_eq!(rt; state_of(&shape, wide, 2), Within::Partly);
-    assert_eq!(rt; state_of(&shape, wide, 0), Within::Not);
-    assert_eq!(rt; state_of(&shape, square, 0), Within::Fully);
+    let covers = Covers(boxed(&rt, 5, 5, 5, 5));
+    assert_eq!(rt; state_of(&covers, square, 1), Within::Partly);
+    assert_eq!(rt; state_of(&covers, left, 0), Within::Not);
 
-    let shape = Covers(boxed(&rt, 5, 5, 5, 5));
-    assert_eq!(rt; state_of(&shape, square, 1), Within::Partly);
-    assert_eq!(rt; state_of(&shape, left, 0), Within::Not);
-
-    let shape = Window(boxed(&rt, 10, 20, 10, 20));
-    assert_eq!(rt; state_of(&shape, square, 0), Within::Partly);
-    assert_eq!(rt; state_of(&shape, left, 1), Within::Not);
+    let window = Window(boxed(&rt, 10, 20, 10, 20));
+    assert_eq!(rt; state_of(&window, square, 0), Within::Partly);
+    assert_eq!(rt; state_of(&window, left, 1), Within::Not);
     assert_eq!(rt;
-        state_of(&shape, boxed(&rt, 12, 12, 12, 12), 1),
+        state_of(&window, boxed(&rt, 12, 12, 12, 12), 1),
         Within::Fully
     );
 
