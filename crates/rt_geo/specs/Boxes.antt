@@ -1,5 +1,6 @@
 -- Boxes of whole numbers, and how two of them lie.
-use Rattle.std.specs.Prelude.{ℤ, ◌≤ℤ◌, int_le, Bool, ◌&&◌}
+use Rattle.std.specs.Prelude.{◌≡◌, ℕ, ◌*◌, ℤ, ◌-ℤ◌, ◌≤ℤ◌, int_le, unsigned_abs, Bool, true, ◌&&◌}
+use Rattle.std.specs.Int.{int_min, int_max}
 
 -- a box: a minimum and a maximum on each axis
 pub record Rect : Type 0 where
@@ -26,3 +27,31 @@ ranges_meet low high other_low other_high = int_le low other_high && int_le othe
 abbrev pub overlaps : Rect → Rect → Bool
 overlaps a b =
     ranges_meet a.min_x a.max_x b.min_x b.max_x && ranges_meet a.min_y a.max_y b.min_y b.max_y
+
+-- the first range lies in the other, equal ends included
+abbrev pub range_lies_in : (low high other_low other_high : ℤ) → Bool
+range_lies_in low high other_low other_high = int_le other_low low && int_le high other_high
+
+-- `a` lies in `b`, equal sides included: its ranges lie in those of `b` on both axes
+abbrev pub inside : Rect → Rect → Bool
+inside a b =
+    range_lies_in a.min_x a.max_x b.min_x b.max_x && range_lies_in a.min_y a.max_y b.min_y b.max_y
+
+-- the box from the lesser minimum to the greater maximum on each axis
+abbrev pub hull : Rect → Rect → Rect
+hull a b = record {
+  min_x = int_min a.min_x b.min_x;
+  max_x = int_max a.max_x b.max_x;
+  min_y = int_min a.min_y b.min_y;
+  max_y = int_max a.max_y b.max_y;
+}
+
+-- `whole` is the least box in which both `a` and `b` lie
+pub record IsLeastAround (a b whole : Rect) : Type 0 where
+  pub first : inside a whole ≡ true
+  pub second : inside b whole ≡ true
+  pub least : (c : Rect) → inside a c ≡ true → inside b c ≡ true → inside whole c ≡ true
+
+-- the area: the width times the height
+abbrev pub area : Rect → ℕ
+area b = unsigned_abs (b.max_x -ℤ b.min_x) * unsigned_abs (b.max_y -ℤ b.min_y)

@@ -1,1 +1,10 @@
 pub mod Boxes
+pub mod Counted
+pub mod Distances
+pub mod Examples
+pub mod Laws
+pub mod Lemmas
+pub mod Orders
+pub mod Ranks
+pub mod Regions
+pub mod Shapes

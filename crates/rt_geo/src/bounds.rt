@@ -2,11 +2,13 @@
 
 ghost use Rattle.std.specs.Prelude.{◌≡◌};
 ghost use Rattle.std.specs.Option.{SomeIff};
-ghost use Rattle.rt_geo.specs.Boxes.{IsRect, overlaps, ranges_meet, rect_of};
+ghost use Rattle.rt_geo.specs.Boxes.{IsLeastAround, IsRect, area, hull, inside, overlaps, range_lies_in, ranges_meet, rect_of};
 
 use std::marker::Model;
 
 /// A closed box: a minimum and a maximum on each axis, each minimum at most its maximum.
+///
+/// The sides are those of SQLite's `rtree_i32` tables, in the same order.
 #[derive(Clone, Copy, Debug, PartialEq, Eq)]
 pub struct Bounds {
     min_x: i32,
@@ -103,4 +105,46 @@ fn meet_on_y(a: Bounds, b: Bounds) -> bool
     ensures { result ≡ ranges_meet a.min_y a.max_y b.min_y b.max_y }
 {
     a.min_y <= b.max_y && b.min_y <= a.max_y
+}
+
+/// Whether the box `a` lies in `b`. Sides may be equal.
+pub fn inside(a: Bounds, b: Bounds) -> bool
+    ensures { result ≡ inside a b }
+{
+    lies_in_on_x(a, b) && lies_in_on_y(a, b)
+}
+
+fn lies_in_on_x(a: Bounds, b: Bounds) -> bool
+    ensures { result ≡ range_lies_in a.min_x a.max_x b.min_x b.max_x }
+{
+    b.min_x <= a.min_x && a.max_x <= b.max_x
+}
+
+fn lies_in_on_y(a: Bounds, b: Bounds) -> bool
+    ensures { result ≡ range_lies_in a.min_y a.max_y b.min_y b.max_y }
+{
+    b.min_y <= a.min_y && a.max_y <= b.max_y
+}
+
+/// The least box in which both boxes lie.
+pub fn hull(a: Bounds, b: Bounds) -> Bounds
+    ensures value { result ≡ hull a b }
+    ensures least { IsLeastAround a b result }
+    ensures valid { IsRect result }
+{
+    Bounds {
+        min_x: a.min_x.min(b.min_x),
+        max_x: a.max_x.max(b.max_x),
+        min_y: a.min_y.min(b.min_y),
+        max_y: a.max_y.max(b.max_y),
+    }
+}
+
+/// The area of a box.
+pub(crate) fn area(bounds: Bounds) -> u128
+    ensures { result ≡ area bounds }
+{
+    let width = bounds.max_x.abs_diff(bounds.min_x) as u128;
+    let height = bounds.max_y.abs_diff(bounds.min_y) as u128;
+    width * height
 }

@@ -1,9 +1,42 @@
-//! Boxes, and how they lie: the geometry that the other crates speak of.
+//! Boxes, and what a query asks of them: which boxes it accepts, in which order, and what lets a search
+//! skip a whole subtree.
 //!
-//! A box is closed, has two dimensions and 32-bit coordinates. Contracts see a [`Bounds`] as four whole
-//! numbers, a `Rect` of `specs/Boxes.antt`, which is also where `overlaps` is defined.
+//! A query function is a [`Geometry`]. Its meaning is the set of boxes that it accepts and the score of
+//! each; its laws say how far what it answers about a node holds for every box inside. A search rests on
+//! these laws alone, so that it is right for each geometry: for one made of the shapes and ranks below,
+//! and for one of a user's own.
+//!
+//! - Boxes: [`Bounds`], [`Entry`], [`overlaps`], [`inside`], [`hull`].
+//! - Distances: [`Point`], [`near2`], [`far2`].
+//! - Query functions: [`Shape`], [`Rank`], [`Geometry`], asked with an [`Info`], answering a [`Within`],
+//!   a score or a [`Verdict`]; [`Guided`] joins a shape and a rank; [`Counted`] counts the checks.
+//! - Shapes: [`All`], [`Window`], [`Inside`], [`Covers`], [`Circle`], and the enum [`Region`] of these.
+//! - Ranks: [`ById`], [`Near`], [`Smallest`], and the enum [`Order`] of these.
+//!
+//! The definitions that the contracts cite stand in `specs/`: `Boxes`, `Distances`, `Laws`, `Shapes`,
+//! `Ranks`, `Regions`, `Orders`, `Counted`. They are in whole numbers without bounds. What stands below
+//! `specs/Lemmas` is proved and has not to be believed.
 #![tactic(auto)]
 
 mod bounds;
+mod counted;
+mod distance;
+mod geometry;
+mod guided;
+mod order;
+mod ranks;
+mod region;
+mod shapes;
 
-pub use bounds::{Bounds, Entry, overlaps};
+pub use bounds::{Bounds, Entry, hull, inside, overlaps};
+pub use counted::Counted;
+pub use distance::{Point, far2, near2};
+pub use geometry::{Geometry, Info, Rank, Shape, Verdict, Within};
+pub use guided::Guided;
+pub use order::Order;
+pub use ranks::{ById, Near, Smallest};
+pub use region::Region;
+pub use shapes::{All, Circle, Covers, Inside, Window};
+
+#[cfg(test)]
+mod tests;

@@ -1,0 +1,47 @@
+-- How far a point is from a box, as the square of a distance.
+use Rattle.std.specs.Prelude.{◌≡◌, ◌≤◌, true, ℕ, ◌+◌, ◌*◌, max, ℤ, pos, negsuc, ◌-ℤ◌, unsigned_abs}
+use Rattle.rt_geo.specs.Boxes.{Rect, inside, rect_of}
+use Rattle.rt_geo.specs.declared.distance.Point.{Point}
+
+-- the number where it is above 0, else 0
+abbrev pub above_zero : ℤ → ℕ
+above_zero (pos n) = n
+above_zero (negsuc n) = 0
+
+-- how far a number lies outside a range: the greatest of `low - value`, 0 and `value - high`
+abbrev pub gap : (value low high : ℤ) → ℕ
+gap value low high = max (above_zero (low -ℤ value)) (above_zero (value -ℤ high))
+
+-- how far a number is from the end of a range that is farther from it
+abbrev pub reach : (value low high : ℤ) → ℕ
+reach value low high = max (unsigned_abs (value -ℤ low)) (unsigned_abs (value -ℤ high))
+
+-- the square
+abbrev pub square : ℕ → ℕ
+square n = n * n
+
+-- the square of the distance from a point to the nearest point of a box
+abbrev pub near2 : Point → Rect → ℕ
+near2 p b = square (gap p.x b.min_x b.max_x) + square (gap p.y b.min_y b.max_y)
+
+-- the square of the distance from a point to the farthest point of a box
+abbrev pub far2 : Point → Rect → ℕ
+far2 p b = square (reach p.x b.min_x b.max_x) + square (reach p.y b.min_y b.max_y)
+
+-- the square of the distance between two points
+abbrev pub distance2 : Point → Point → ℕ
+distance2 p q = square (unsigned_abs (p.x -ℤ q.x)) + square (unsigned_abs (p.y -ℤ q.y))
+
+-- a point of the box
+pub record IsPointOf (b : Rect) (q : Point) : Type 0 where
+  pub inside : inside (rect_of q.x q.x q.y q.y) b ≡ true
+
+-- `n` is the least of the squares of the distances to the points of the box
+pub record IsLeastDistance (p : Point) (b : Rect) (n : ℕ) : Type 0 where
+  pub reached : (q : Point) × (IsPointOf b q × (distance2 p q ≡ n))
+  pub least : (q : Point) → IsPointOf b q → n ≤ distance2 p q
+
+-- `n` is the greatest of them
+pub record IsGreatestDistance (p : Point) (b : Rect) (n : ℕ) : Type 0 where
+  pub reached : (q : Point) × (IsPointOf b q × (distance2 p q ≡ n))
+  pub greatest : (q : Point) → IsPointOf b q → distance2 p q ≤ n

@@ -1,0 +1,88 @@
+-- What a query function means, and the laws by which a search may skip a whole subtree.
+use Rattle.std.specs.Prelude.{◌≡◌, ◌↔◌, ◌<◌, ◌≤◌, ℕ, Bool, true, false}
+use Rattle.rt_geo.specs.Boxes.{Rect, IsRect, inside}
+use Rattle.rt_geo.specs.declared.bounds.Entry.{Entry}
+use Rattle.rt_geo.specs.declared.geometry.Info.{Info}
+use Rattle.rt_geo.specs.declared.geometry.Verdict.{Verdict}
+use Rattle.rt_geo.specs.declared.geometry.Within.{Within}
+use Rattle.rt_geo.specs.declared.geometry.Within.TheVariants.{Not, Fully}
+
+-- ---- what a query function is shown
+
+-- all that it is shown of an entry, or of the entries under a node
+pub record Extent : Type 0 where
+  pub bounds : Rect
+
+-- the extent of an entry: one box
+abbrev pub extent_of_entry : Entry → Extent
+extent_of_entry entry = record { bounds = entry.bounds }
+
+-- the extent that an info shows
+abbrev pub extent_of : Info → Extent
+extent_of info = record { bounds = info.bounds }
+
+-- the extent `b` is one box, inside the other extent
+pub record IsBoxInside (b extent : Extent) : Type 0 where
+  pub box : IsRect b.bounds
+  pub inside : inside b.bounds extent.bounds ≡ true
+
+-- each box inside the extent is accepted
+abbrev pub AllAccepted : (Extent → Bool) → Extent → Type 0
+AllAccepted accepts extent = (b : Extent) → IsBoxInside b extent → accepts b ≡ true
+
+-- no box inside the extent is accepted
+abbrev pub NoneAccepted : (Extent → Bool) → Extent → Type 0
+NoneAccepted accepts extent = (b : Extent) → IsBoxInside b extent → accepts b ≡ false
+
+-- ---- what it may be asked
+
+-- an info that shows an entry or a node: its bounds are a box, as those of each `Bounds` are
+pub record IsWellFormed (info : Info) : Type 0 where
+  pub box : IsRect info.bounds
+
+-- the caller's condition: the parent was FULLY only where each box inside the bounds is accepted
+abbrev pub IsHonest : (Extent → Bool) → Info → Type 0
+IsHonest accepts info = info.parent_within ≡ Fully → AllAccepted accepts (extent_of info)
+
+-- an info that a caller may ask about
+pub record IsQuestion (accepts : Extent → Bool) (info : Info) : Type 0 where
+  pub well_formed : IsWellFormed info
+  pub honest : IsHonest accepts info
+
+-- ---- the laws
+
+-- the laws of a shape: what it accepts, and the states that it answers
+pub record IsFaithful (accepts : Extent → Bool) (state : Info → Within) : Type 0 where
+  -- an entry is NOT exactly where it isn't accepted
+  pub leaf : (i : Info) → IsQuestion accepts i → i.level ≡ 0
+      → (state i ≡ Not) ↔ (accepts (extent_of i) ≡ false)
+  -- a node is NOT only where no box inside is accepted
+  pub pruning : (i : Info) → IsQuestion accepts i → 0 < i.level
+      → state i ≡ Not → NoneAccepted accepts (extent_of i)
+  -- a node is FULLY only where each box inside is accepted
+  pub fullness : (i : Info) → IsQuestion accepts i → 0 < i.level
+      → state i ≡ Fully → AllAccepted accepts (extent_of i)
+
+-- the laws of a rank: the scores of boxes, and the scores that it answers
+pub record IsAdmissible (score : Extent → ℕ) (estimate : Info → ℕ) : Type 0 where
+  -- an entry has the score of its box
+  pub exact : (i : Info) → IsWellFormed i → i.level ≡ 0
+      → estimate i ≡ score (extent_of i)
+  -- a node has at most the score of each box inside
+  pub admissibility : (i : Info) → IsWellFormed i → 0 < i.level
+      → (b : Extent) → IsBoxInside b (extent_of i) → estimate i ≤ score b
+
+-- the laws of a geometry: what it accepts, the scores of boxes, and the verdicts that it answers
+pub record IsLawful (accepts : Extent → Bool) (score : Extent → ℕ) (verdict : Info → Verdict) : Type 0 where
+  -- its states keep the leaf law, the pruning law and the fullness law
+  pub faithful : IsFaithful accepts (λ i. (verdict i).within)
+  -- an entry that is accepted has the score of its box
+  pub exact : (i : Info) → IsQuestion accepts i → i.level ≡ 0
+      → accepts (extent_of i) ≡ true → (verdict i).score ≡ score (extent_of i)
+  -- a node has at most the score of each accepted box inside
+  pub admissibility : (i : Info) → IsQuestion accepts i → 0 < i.level
+      → (b : Extent) → IsBoxInside b (extent_of i) → accepts b ≡ true → (verdict i).score ≤ score b
+
+-- the verdict that joins a state and a score
+abbrev pub guided_verdict : (Info → Within) → (Info → ℕ) → Info → Verdict
+guided_verdict state estimate info = record { within = state info; score = estimate info }

@@ -1,0 +1,10 @@
+-- What follows from the definitions, proved: nothing here has to be believed. It stands in specs/, as implementations cite it.
+pub mod Boxes
+pub mod Distances
+pub mod Guided
+pub mod Laws
+pub mod Nearest
+pub mod Orders
+pub mod Ranks
+pub mod Regions
+pub mod Shapes

@@ -1,0 +1,62 @@
+//! A geometry that counts its checks.
+
+ghost use Rattle.std.specs.Prelude.{◌≡◌, ◌+◌, ◌-◌, ◌^◌, ◌<◌};
+ghost use Rattle.rt_geo.specs.Laws.{IsHonest};
+
+use crate::geometry::{Geometry, Info, Verdict};
+use std::marker::Model;
+
+/// A borrowed geometry with the number of its checks: the only way in which a search asks a geometry.
+///
+/// It can't be cloned, and no call hands the geometry out, so that the number tells all the checks
+/// that were made through it.
+pub struct Counted<'a, G: Geometry> {
+    geometry: &'a G,
+    asked: u64,
+}
+
+impl<'a, G: Geometry> Model for Counted<'a, G> {
+    ghost use Rattle.rt_geo.specs.Counted.{Tally};
+
+    ghost Value = { Tally G };
+
+    ghost view = { λ c. record { geometry = c.geometry.now; asked = c.asked } };
+}
+
+impl<'a, G: Geometry> Drop for Counted<'a, G> {
+    fn drop(self) {
+        let Counted {
+            geometry: _,
+            asked: _,
+        } = self;
+    }
+}
+
+impl<'a, G: Geometry> Counted<'a, G> {
+    /// The geometry, not asked yet.
+    pub fn new(geometry: &'a G) -> Counted<'a, G>
+        ensures geometry { result.geometry ≡ geometry.now }
+        ensures asked { result.asked ≡ 0 }
+    {
+        Counted { geometry, asked: 0 }
+    }
+
+    /// What the geometry answers. The number of checks rises by one, and has to be below [`u64::MAX`].
+    pub fn check(&mut self, info: &Info) -> Verdict
+        requires honest { IsHonest (G.accepts self.old.geometry) info.now }
+        requires room { self.old.asked < 2 ^ 64 - 1 }
+        ensures verdict { result ≡ G.verdict self.old.geometry info.now }
+        ensures geometry { self.new.geometry ≡ self.old.geometry }
+        ensures asked { self.new.asked ≡ self.old.asked + 1 }
+    {
+        self.asked += 1;
+        self.geometry.check(info)
+    }
+
+    /// How many checks were made.
+    pub fn asked(&self) -> u64
+        ensures { result ≡ self.now.asked }
+    {
+        self.asked
+    }
+}

@@ -1,0 +1,111 @@
+//! Query functions: what they are asked, what they answer, and the laws that they keep.
+//!
+//! A search over a tree of boxes asks a [`Geometry`] about each entry and node that it meets. What is
+//! asked, and the three states of an answer, are those of a custom query of SQLite's R*Tree module.
+//!
+//! What a search may conclude from an answer stands in the geometry's laws, which `specs/Laws.antt`
+//! states: an entry is dropped exactly where its box isn't accepted, a node is dropped only where no box
+//! inside its bounds is accepted, and a node's score is at most that of each accepted box inside.
+
+ghost use Rattle.std.specs.Prelude.{◌≡◌, ℕ, Bool};
+ghost use Rattle.rt_geo.specs.Laws.{Extent, IsAdmissible, IsFaithful, IsHonest, IsLawful};
+ghost use Rattle.rt_geo.specs.declared.geometry.Info.{Info};
+ghost use Rattle.rt_geo.specs.declared.geometry.Verdict.{Verdict};
+ghost use Rattle.rt_geo.specs.declared.geometry.Within.{Within};
+
+use crate::bounds::Bounds;
+
+/// How many of the boxes inside some bounds are accepted.
+#[derive(Clone, Copy, Debug, PartialEq, Eq)]
+pub enum Within {
+    /// None: the entry, or all that lies under the node, is dropped.
+    Not,
+    /// Perhaps some and not all: an entry is an answer, a node's children are asked about.
+    Partly,
+    /// All: an entry is an answer, and so is all that lies under the node.
+    Fully,
+}
+
+/// What a query function is asked about: an entry, or a node of the tree.
+#[derive(Clone, Copy, Debug, PartialEq, Eq)]
+pub struct Info {
+    /// The entry's box, or a box in which all the entries under the node lie.
+    pub bounds: Bounds,
+    /// 0 for an entry; levels rise towards the root.
+    pub level: u8,
+    /// The level of the root.
+    pub top: u8,
+    /// What was answered for the parent. It may be [`Within::Fully`] only where every box inside
+    /// `bounds` is accepted.
+    pub parent_within: Within,
+    /// The score that was answered for the parent.
+    pub parent_score: u128,
+}
+
+/// What a query function answers.
+#[derive(Clone, Copy, Debug, PartialEq, Eq)]
+pub struct Verdict {
+    /// How many of the boxes inside the bounds are accepted.
+    pub within: Within,
+    /// The lowest score is taken out of the tree first. It means nothing beside [`Within::Not`].
+    pub score: u128,
+}
+
+/// Which boxes a query accepts.
+///
+/// `docs/write-your-own-geometry.md` shows how a type of one's own becomes a shape.
+pub trait Shape {
+    /// Whether a box is accepted: the meaning of the shape.
+    ghost accepts: { Self → Extent → Bool };
+
+    /// What `within` answers.
+    ghost state: { Self → Info → Within };
+
+    /// How many of the boxes inside the bounds are accepted. Where the parent was
+    /// [`Within::Fully`], it may answer so without a test.
+    fn within(&self, info: &Info) -> Within
+        requires { IsHonest (accepts self.now) info.now }
+        ensures { result ≡ state self.now info.now };
+
+    /// The leaf, pruning and fullness laws.
+    ghost faithful: { (s : Self) → IsFaithful (accepts s) (state s) };
+}
+
+/// The order of a query's answers: the lowest score first.
+pub trait Rank {
+    /// The score of a box: the meaning of the rank.
+    ghost score: { Self → Extent → ℕ };
+
+    /// What the call `score` answers.
+    ghost estimate: { Self → Info → ℕ };
+
+    /// The score of an entry; for a node a number that is at most the score of each box inside.
+    fn score(&self, info: &Info) -> u128
+        ensures { result ≡ estimate self.now info.now };
+
+    /// An entry's score is exact, a node's is admissible.
+    ghost admissible: { (r : Self) → IsAdmissible (score r) (estimate r) };
+}
+
+/// A query function: which boxes a query accepts, and the order of its answers.
+///
+/// [`Guided`](crate::Guided) makes one of a [`Shape`] and a [`Rank`];
+/// `docs/write-your-own-geometry.md` shows how to write one whole.
+pub trait Geometry {
+    /// Whether a box is accepted.
+    ghost accepts: { Self → Extent → Bool };
+
+    /// The score of a box that is accepted.
+    ghost score: { Self → Extent → ℕ };
+
+    /// What `check` answers.
+    ghost verdict: { Self → Info → Verdict };
+
+    /// The state and the score of an entry or of a node.
+    fn check(&self, info: &Info) -> Verdict
+        requires { IsHonest (accepts self.now) info.now }
+        ensures { result ≡ verdict self.now info.now };
+
+    /// The leaf, pruning, fullness and admissibility laws.
+    ghost lawful: { (g : Self) → IsLawful (accepts g) (score g) (verdict g) };
+}

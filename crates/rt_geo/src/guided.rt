@@ -1,0 +1,36 @@
+//! A geometry from two parts.
+
+ghost use Rattle.rt_geo.specs.Laws.{guided_verdict};
+
+use crate::geometry::{Geometry, Info, Rank, Shape, Verdict};
+
+/// The geometry that accepts what its shape accepts, and scores as its rank scores.
+///
+/// It keeps the laws of a geometry wherever its parts keep theirs.
+#[derive(Debug, Drop)]
+pub struct Guided<S: Shape, R: Rank> {
+    /// Which boxes are accepted.
+    pub shape: S,
+    /// Their scores.
+    pub rank: R,
+}
+
+impl<S: Shape, R: Rank> Geometry for Guided<S, R> {
+    ghost accepts = { λ g. S.accepts g.shape };
+
+    ghost score = { λ g. R.score g.rank };
+
+    ghost verdict = { λ g. guided_verdict (S.state g.shape) (R.estimate g.rank) };
+
+    fn check(&self, info: &Info) -> Verdict {
+        Verdict {
+            within: self.shape.within(info),
+            score: self.rank.score(info),
+        }
+    }
+
+    ghost use Rattle.rt_geo.specs.Lemmas.Guided.{guided-lawful};
+
+    ghost lawful = { λ g. guided-lawful (S.accepts g.shape) (S.state g.shape) (R.score g.rank) (R.estimate g.rank)
+        (S.faithful g.shape) (R.admissible g.rank) };
+}

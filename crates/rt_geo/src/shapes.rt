@@ -1,0 +1,148 @@
+//! The shapes that a query knows: which boxes it accepts.
+//!
+//! `specs/Shapes.antt` has the table of their states. No state looks at the parent's.
+
+ghost use Rattle.std.specs.Prelude.{◌≡◌, not};
+ghost use Rattle.rt_geo.specs.Boxes.{inside, overlaps};
+ghost use Rattle.rt_geo.specs.Shapes.{state_by};
+
+use crate::bounds::{self, Bounds, overlaps};
+use crate::distance::{Point, far2, near2};
+use crate::geometry::{Info, Shape, Within};
+
+/// Accepts every box.
+#[derive(Clone, Copy, Debug, PartialEq, Eq)]
+pub struct All;
+
+/// Accepts the boxes that overlap a window. Boxes that touch it do.
+#[derive(Clone, Copy, Debug, PartialEq, Eq)]
+pub struct Window(pub Bounds);
+
+/// Accepts the boxes that lie in a window. Sides may be equal.
+#[derive(Clone, Copy, Debug, PartialEq, Eq)]
+pub struct Inside(pub Bounds);
+
+/// Accepts the boxes in which a window lies. Sides may be equal.
+#[derive(Clone, Copy, Debug, PartialEq, Eq)]
+pub struct Covers(pub Bounds);
+
+/// Accepts the boxes that share a point with a disc, its edge included.
+#[derive(Clone, Copy, Debug, PartialEq, Eq)]
+pub struct Circle {
+    /// The middle of the disc.
+    pub centre: Point,
+    /// How far the disc reaches from there.
+    pub radius: u32,
+}
+
+impl Shape for All {
+    ghost use Rattle.rt_geo.specs.Shapes.{all_accepts, all_state};
+
+    ghost accepts = { λ _. all_accepts };
+
+    ghost state = { λ _. all_state };
+
+    fn within(&self, _info: &Info) -> Within {
+        Within::Fully
+    }
+
+    ghost use Rattle.rt_geo.specs.Lemmas.Shapes.{all-faithful};
+
+    ghost faithful = { λ _. all-faithful };
+}
+
+impl Shape for Window {
+    ghost use Rattle.rt_geo.specs.Shapes.{window_accepts, window_state};
+
+    ghost accepts = { λ s. window_accepts s.0 };
+
+    ghost state = { λ s. window_state s.0 };
+
+    fn within(&self, info: &Info) -> Within {
+        state_in_window(info.bounds, self.0)
+    }
+
+    ghost use Rattle.rt_geo.specs.Lemmas.Shapes.{window-faithful};
+
+    ghost faithful = { λ s. window-faithful s.0 };
+}
+
+impl Shape for Inside {
+    ghost use Rattle.rt_geo.specs.Shapes.{inside_accepts, inside_state};
+
+    ghost accepts = { λ s. inside_accepts s.0 };
+
+    ghost state = { λ s. inside_state s.0 };
+
+    fn within(&self, info: &Info) -> Within {
+        if info.level > 0 {
+            // A node that only overlaps the window may hold boxes that lie in it.
+            state_in_window(info.bounds, self.0)
+        } else if bounds::inside(info.bounds, self.0) {
+            Within::Fully
+        } else {
+            Within::Not
+        }
+    }
+
+    ghost use Rattle.rt_geo.specs.Lemmas.Shapes.{inside-faithful};
+
+    ghost faithful = { λ s. inside-faithful s.0 };
+}
+
+impl Shape for Covers {
+    ghost use Rattle.rt_geo.specs.Shapes.{covers_accepts, covers_state};
+
+    ghost accepts = { λ s. covers_accepts s.0 };
+
+    ghost state = { λ s. covers_state s.0 };
+
+    fn within(&self, info: &Info) -> Within {
+        // A node that covers the window may hold boxes that don't.
+        if bounds::inside(self.0, info.bounds) {
+            Within::Partly
+        } else {
+            Within::Not
+        }
+    }
+
+    ghost use Rattle.rt_geo.specs.Lemmas.Shapes.{covers-faithful};
+
+    ghost faithful = { λ s. covers-faithful s.0 };
+}
+
+impl Shape for Circle {
+    ghost use Rattle.rt_geo.specs.Shapes.{circle_accepts, circle_state};
+
+    ghost accepts = { λ s. circle_accepts s.centre s.radius };
+
+    ghost state = { λ s. circle_state s.centre s.radius };
+
+    fn within(&self, info: &Info) -> Within {
+        let radius = self.radius as u128;
+        if near2(self.centre, info.bounds) > radius * radius {
+            Within::Not
+        } else if far2(self.centre, info.bounds) <= radius * radius {
+            Within::Fully
+        } else {
+            Within::Partly
+        }
+    }
+
+    ghost use Rattle.rt_geo.specs.Lemmas.Shapes.{circle-faithful};
+
+    ghost faithful = { λ s. circle-faithful s.centre s.radius };
+}
+
+/// How many of the boxes inside the bounds overlap the window, as far as the two tests tell.
+fn state_in_window(bounds: Bounds, window: Bounds) -> Within
+    ensures { result ≡ state_by (not (overlaps bounds window)) (inside bounds window) }
+{
+    if !overlaps(bounds, window) {
+        Within::Not
+    } else if bounds::inside(bounds, window) {
+        Within::Fully
+    } else {
+        Within::Partly
+    }
+}

@@ -1,0 +1,227 @@
+//! What no clause says: that the definitions give the answers that were worked out by hand, and that
+//! each type can be used through its bound.
+
+mod left_of;
+mod uneven;
+
+ghost use Rattle.std.specs.Prelude.{◌≡◌};
+ghost use Rattle.rt_geo.specs.declared.geometry.Within.TheVariants.{Partly};
+
+use crate::{
+    All, Bounds, ById, Circle, Counted, Covers, Geometry, Guided, Info, Inside, Near, Order, Point,
+    Rank, Region, Shape, Smallest, Verdict, Window, Within, far2, hull, inside, near2, overlaps,
+};
+use left_of::LeftOf;
+use std::process::Abort;
+use uneven::Uneven;
+
+fn boxed(rt: &impl Abort, min_x: i32, max_x: i32, min_y: i32, max_y: i32) -> Bounds {
+    Bounds::new(min_x, max_x, min_y, max_y).expect(rt, "the minimums are at most the maximums")
+}
+
+/// A question about an entry (level 0) or a node whose parent was PARTLY.
+fn question(bounds: Bounds, level: u8) -> Info
+    ensures { result.parent_within ≡ Partly }
+{
+    Info {
+        bounds,
+        level,
+        top: 3,
+        parent_within: Within::Partly,
+        parent_score: 0,
+    }
+}
+
+fn state_of<S: Shape>(shape: &S, bounds: Bounds, level: u8) -> Within {
+    shape.within(&question(bounds, level))
+}
+
+fn score_of<R: Rank>(rank: &R, bounds: Bounds, level: u8) -> u128 {
+    rank.score(&question(bounds, level))
+}
+
+fn verdict_of<G: Geometry>(geometry: &G, bounds: Bounds, level: u8) -> Verdict {
+    geometry.check(&question(bounds, level))
+}
+
+#[test]
+fn bounds_tell_their_sides(rt: HostRuntime) {
+    let bounds = boxed(&rt, -5, 30, -6, 10);
+    assert_eq!(rt; bounds.min_x(), -5);
+    assert_eq!(rt; bounds.max_x(), 30);
+    assert_eq!(rt; bounds.min_y(), -6);
+    assert_eq!(rt; bounds.max_y(), 10);
+    assert!(rt; Bounds::new(1, 0, 0, 0).is_none());
+    assert!(rt; Bounds::new(0, 0, 1, 0).is_none());
+    assert!(rt; Bounds::new(i32::MIN, i32::MIN, i32::MAX, i32::MAX).is_some());
+}
+
+#[test]
+fn boxes_overlap_and_lie_inside(rt: HostRuntime) {
+    let unit = boxed(&rt, 0, 10, 0, 10);
+    let touching = boxed(&rt, 10, 20, 10, 20);
+    let apart = boxed(&rt, 11, 20, 0, 10);
+    let inner = boxed(&rt, 0, 5, 5, 10);
+    assert!(rt; overlaps(unit, touching));
+    assert!(rt; !overlaps(unit, apart));
+    assert!(rt; inside(inner, unit));
+    assert!(rt; inside(unit, unit));
+    assert!(rt; !inside(unit, inner));
+    assert_eq!(rt; hull(inner, apart), boxed(&rt, 0, 20, 0, 10));
+}
+
+#[test]
+fn distances_reach_from_corner_to_corner(rt: HostRuntime) {
+    let low = Point {
+        x: i32::MIN,
+        y: i32::MIN,
+    };
+    let corner = boxed(&rt, i32::MAX, i32::MAX, i32::MAX, i32::MAX);
+    let plane = boxed(&rt, i32::MIN, i32::MAX, i32::MIN, i32::MAX);
+    assert_eq!(rt; near2(low, corner), 36893488130239234050);
+    assert_eq!(rt; far2(low, corner), 36893488130239234050);
+    assert_eq!(rt; near2(low, plane), 0);
+    assert_eq!(rt; far2(low, plane), 36893488130239234050);
+    assert_eq!(rt; near2(Point { x: 10, y: -5 }, boxed(&rt, 0, 10, 0, 10)), 25);
+    assert_eq!(rt; far2(Point { x: 10, y: -5 }, boxed(&rt, 0, 10, 0, 10)), 325);
+}
+
+#[test]
+fn circles_answer_their_states(rt: HostRuntime) {
+    let origin = Point::default();
+    let low = Point {
+        x: i32::MIN,
+        y: i32::MIN,
+    };
+    let left = boxed(&rt, -5, -1, -5, -1);
+    let small = boxed(&rt, 0, 1, 0, 1);
+    let corner = boxed(&rt, i32::MAX, i32::MAX, i32::MAX, i32::MAX);
+    for (centre, radius, bounds, level, want) in [
+        (origin, 2, left, 0, Within::Partly),
+        (origin, 2, small, 1, Within::Fully),
+        (origin, 1, left, 0, Within::Not),
+        (low, u32::MAX, corner, 0, Within::Not),
+    ] {
+        let circle = Circle { centre, radius };
+        assert_eq!(rt;
+            state_of(&circle, bounds, level),
+            want,
+            "radius {radius}, level {level}"
+        );
+    }
+}
+
+#[test]
+fn windows_answer_their_states(rt: HostRuntime) {
+    let square = boxed(&rt, 0, 10, 0, 10);
+    let left = boxed(&rt, -5, -1, -5, -1);
+    let wide = boxed(&rt, -5, 30, -5, 15);
+
+    let inside = Inside(boxed(&rt, 0, 15, 0, 15));
+    assert_eq!(rt; state_of(&inside, wide, 2), Within::Partly);
+    assert_eq!(rt; state_of(&inside, wide, 0), Within::Not);
+    assert_eq!(rt; state_of(&inside, square, 0), Within::Fully);
+
+    let covers = Covers(boxed(&rt, 5, 5, 5, 5));
+    assert_eq!(rt; state_of(&covers, square, 1), Within::Partly);
+    assert_eq!(rt; state_of(&covers, left, 0), Within::Not);
+
+    let window = Window(boxed(&rt, 10, 20, 10, 20));
+    assert_eq!(rt; state_of(&window, square, 0), Within::Partly);
+    assert_eq!(rt; state_of(&window, left, 1), Within::Not);
+    assert_eq!(rt;
+        state_of(&window, boxed(&rt, 12, 12, 12, 12), 1),
+        Within::Fully
+    );
+
+    assert_eq!(rt; state_of(&All, left, 3), Within::Fully);
+}
+
+#[test]
+fn ranks_answer_their_scores(rt: HostRuntime) {
+    let square = boxed(&rt, 0, 10, 0, 10);
+    let node = boxed(&rt, -5, 30, -5, 10);
+    let near = Near(Point { x: 12, y: 12 });
+    assert_eq!(rt; score_of(&near, node, 2), 4);
+    assert_eq!(rt; score_of(&near, square, 0), 8);
+    assert_eq!(rt; score_of(&Smallest, square, 0), 100);
+    assert_eq!(rt; score_of(&Smallest, square, 1), 0);
+    assert_eq!(rt; score_of(&ById, square, 0), 0);
+}
+
+#[test]
+fn regions_and_orders_answer_as_their_parts(rt: HostRuntime) {
+    let square = boxed(&rt, 0, 10, 0, 10);
+    let point = boxed(&rt, 5, 5, 5, 5);
+    let origin = Point::default();
+    for (region, want) in [
+        (Region::All(All), Within::Fully),
+        (Region::Window(Window(point)), Within::Partly),
+        (Region::Inside(Inside(point)), Within::Not),
+        (Region::Covers(Covers(point)), Within::Partly),
+        (
+            Region::Circle(Circle {
+                centre: origin,
+                radius: 15,
+            }),
+            Within::Fully,
+        ),
+    ] {
+        assert_eq!(rt; state_of(&region, square, 0), want);
+    }
+    for (order, want) in [
+        (Order::ById(ById), 0),
+        (Order::Near(Near(Point { x: 12, y: 12 })), 8),
+        (Order::Smallest(Smallest), 100),
+    ] {
+        assert_eq!(rt; score_of(&order, square, 0), want);
+    }
+}
+
+#[test]
+fn a_counted_geometry_tells_its_checks(rt: HostRuntime) {
+    let square = boxed(&rt, 0, 10, 0, 10);
+    let guided = Guided {
+        shape: Region::Window(Window(boxed(&rt, 10, 20, 10, 20))),
+        rank: Order::Smallest(Smallest),
+    };
+    let want = Verdict {
+        within: Within::Partly,
+        score: 100,
+    };
+    assert_eq!(rt; verdict_of(&guided, square, 0), want);
+
+    let mut counted = Counted::new(&guided);
+    assert_eq!(rt; counted.asked(), 0);
+    let verdict = counted.check(&question(square, 0));
+    assert_eq!(rt; verdict, want);
+    assert_eq!(rt; counted.asked(), 1);
+}
+
+#[test]
+fn an_uneven_geometry_scores_by_level(rt: HostRuntime) {
+    let square = boxed(&rt, 0, 10, 0, 10);
+    for (level, want) in [(0, 10), (1, 1), (2, 2), (10, 10), (11, 10)] {
+        let verdict = verdict_of(&Uneven, square, level);
+        assert_eq!(rt; verdict.within, Within::Fully);
+        assert_eq!(rt; verdict.score, want, "at level {level}");
+    }
+}
+
+#[test]
+fn a_shape_of_the_tests_own_is_guided(rt: HostRuntime) {
+    let square = boxed(&rt, 0, 10, 0, 10);
+    for (x, level, within) in [
+        (10, 0, Within::Fully),
+        (9, 0, Within::Not),
+        (9, 1, Within::Partly),
+        (-1, 1, Within::Not),
+    ] {
+        let guided = Guided {
+            shape: LeftOf { x },
+            rank: Near(Point { x: 12, y: 12 }),
+        };
+        let want = Verdict { within, score: 8 };
+        assert_eq!(rt; verdict_of(&guided, square, level), want, "the line at {x}");
+    }
+}
