@@ -15,8 +15,10 @@ build/rtfilter: $(SOURCES)
 example: build/rtfilter
 	@build/rtfilter examples/boxes.csv examples/queries.txt
 
-# Every proof from nothing, the edits that must be refused, the tests and the program's stored run.
+# That the pages show proved code; then every proof from nothing, the edits that must be refused, the tests
+# and the program's stored run.
 test:
+	@python3 docs/check_code.py
 	@rt ci
 
 install: build/rtfilter
