@@ -15,14 +15,14 @@ build/rtfilter: $(SOURCES)
 example: build/rtfilter
 	@build/rtfilter examples/boxes.csv examples/queries.txt
 
-# That the pages show proved code; then every proof from nothing, the edits that must be refused, the tests
-# and the program's stored run.
+# Every proof from nothing, the edits that must be refused, the tests, the program's runs, and that the pages
+# show proved code.
 test:
-	@python3 docs/check_code.py
-	@rt ci
+	@tests/run
 
 install: build/rtfilter
 	install -D build/rtfilter $(DESTDIR)$(PREFIX)/bin/rtfilter
+	install -D -m 644 docs/rtfilter.1 $(DESTDIR)$(PREFIX)/share/man/man1/rtfilter.1
 
 clean:
 	rm -rf build crates/*/out

@@ -4,8 +4,9 @@ use Rattle.std.specs.Prelude.{Some, None, codes}
 use Rattle.std.specs.Fmt.{digits}
 use Rattle.csv.proofs.OnLiterals.{csv_on_literals}
 use Rattle.rt_filter.specs.Runs.{Choices, run_of}
-use Rattle.rt_filter.specs.Tables.{entries_from}
-use Rattle.rt_filter.specs.declared.filter.RunFault.TheVariants.{BadTable}
+use Rattle.rt_text.specs.Tables.{entries_from}
+use Rattle.rt_filter.specs.declared.filter.RunFault.TheVariants.{Table}
+use Rattle.rt_text.specs.declared.tables.TableFault.TheVariants as fault
 
 abbrev line : List ℕ → List ℕ
 line text = text ++ 10 ∷ []
@@ -36,7 +37,7 @@ row_no_queries : run_of usual boxes [] ≡ record { written = []; fault = None; 
 unfolding csv_on_literals digits entries_from
 row_no_queries = refl
 
-row_repeated : run_of usual (boxes ++ line (codes "2,0,0,0,0")) (codes "find window 0 0 0 0") ≡ record { written = []; fault = Some BadTable; status = 3 }
+row_repeated : run_of usual (boxes ++ line (codes "2,0,0,0,0")) (codes "find window 0 0 0 0") ≡ record { written = []; fault = Some (Table (fault.Repeated 4)); status = 3 }
 unfolding csv_on_literals digits entries_from
 row_repeated = refl
 

@@ -31,7 +31,3 @@ scored entries accepts score = map (λ e. (e.id, score e.bounds)) (filter (λ e.
 -- the answers to a query: the accepted entries with their scores, by score and then id, cut at the limit
 abbrev pub answers : List Entry → (accepts : Rect → Bool) → (score : Rect → ℕ) → (limit : Option ℕ) → List Answer
 answers entries accepts score limit = first_of limit (sorted answer_le (scored entries accepts score))
-
--- the entries that a map from ids to boxes holds
-abbrev pub entries_of : List (ℤ × Rect) → List Entry
-entries_of held = map (λ e. record { id = e.0; bounds = e.1 }) held

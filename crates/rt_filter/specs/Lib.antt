@@ -1,11 +1,9 @@
 pub mod Answers
 pub mod Devices
 pub mod Endings
+pub mod Invocations
 pub mod Lines
-pub mod Numbers
 pub mod Queries
 pub mod Replies
 pub mod Runs
 pub mod Sorting
-pub mod Steps
-pub mod Tables

@@ -5,10 +5,10 @@ use Rattle.std.specs.Str.{bytes_eq}
 use Rattle.std.specs.Str.Lines.{strip_carriage_return}
 use Rattle.rt_geo.specs.Boxes.{rect_of}
 use Rattle.rt_filter.specs.Lines.{is_empty}
-use Rattle.rt_filter.specs.Numbers.{number_in}
-use Rattle.rt_filter.specs.Steps.{◌>>=◌, map_fault}
-use Rattle.rt_filter.specs.declared.number.NumberFault.{NumberFault}
-use Rattle.rt_filter.specs.declared.number.NumberFault.TheVariants as bad
+use Rattle.rt_text.specs.Numbers.{number_in}
+use Rattle.rt_text.specs.Steps.{◌>>=◌, map_fault}
+use Rattle.rt_text.specs.declared.numbers.NumberFault.{NumberFault}
+use Rattle.rt_text.specs.declared.numbers.NumberFault.TheVariants as bad
 use Rattle.rt_filter.specs.declared.query.Order.TheVariants.{ById}
 use Rattle.rt_filter.specs.declared.query.Parsed.{Parsed}
 use Rattle.rt_filter.specs.declared.query.Parsed.TheVariants as parsed

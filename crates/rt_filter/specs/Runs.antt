@@ -3,10 +3,10 @@ use Rattle.std.specs.Prelude.{ℕ, ◌≤◌, Bool, true, if◌then◌else◌, L
 use Rattle.rt_geo.specs.declared.bounds.Entry.{Entry}
 use Rattle.rt_filter.specs.Lines.{lines}
 use Rattle.rt_filter.specs.Replies.{any_fault, output}
-use Rattle.rt_filter.specs.Tables.{table_of}
+use Rattle.rt_text.specs.Tables.{table_of}
 use Rattle.rt_filter.specs.declared.filter.RunFault.{RunFault}
-use Rattle.rt_filter.specs.declared.filter.RunFault.TheVariants.{BadTable}
-use Rattle.rt_filter.specs.declared.table.TableFault.{TableFault}
+use Rattle.rt_filter.specs.declared.filter.RunFault.TheVariants.{Table}
+use Rattle.rt_text.specs.declared.tables.TableFault.{TableFault}
 
 -- the settings of a run: whether the table's first record is a header, how many children a node may have, how many entries a table may have
 pub record Choices : Type 0 where
@@ -29,7 +29,7 @@ pub record Run : Type 0 where
 
 -- a run over a table that was loaded, or over the fault that it has: 3 for a faulty table, 1 where some line is faulty, else 0
 abbrev pub run_over : Result (List Entry) TableFault → List ℕ → Run
-run_over (Err fault) queries = record { written = []; fault = Some BadTable; status = 3 }
+run_over (Err fault) queries = record { written = []; fault = Some (Table fault); status = 3 }
 run_over (Ok entries) queries =
     let asked = lines queries true in
     record { written = output entries asked; fault = None; status = if any_fault asked then 1 else 0 }

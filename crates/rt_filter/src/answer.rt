@@ -1,11 +1,11 @@
 //! The answers to a query, by a scan of the table.
 
-ghost use Rattle.std.specs.Prelude.{◌≡◌, IfOk, filter, map};
+ghost use Rattle.std.specs.Prelude.{◌≡◌, IfOk};
 ghost use Rattle.rt_filter.specs.Sorting.{first_of};
-ghost use Rattle.rt_filter.specs.Answers.{accepts, answers, entries_of, score};
+ghost use Rattle.rt_filter.specs.Answers.{accepts, answers, score, scored};
 
 use crate::query::{Order, Region};
-use crate::table::Table;
+use rt_tree::Table;
 use std::alloc::{AllocError, Global};
 
 /// The ids and scores of the boxes that the region accepts, by score and then id, the first so many where
@@ -17,7 +17,7 @@ pub(crate) fn answers(
     order: &Order,
     limit: Option<u64>,
 ) -> Result<Vec<(i64, u128)>, AllocError>
-    ensures { IfOk result (λ found. found.items ≡ answers (entries_of table.now.entries) (accepts region.now) (score order.now) limit) }
+    ensures { IfOk result (λ found. found.items ≡ answers table.now (accepts region.now) (score order.now) limit) }
 {
     let mut found = accepted(alloc, table, region, order)?;
     found.sort_unstable_by_key(|answer| (answer.1, answer.0));
@@ -34,18 +34,19 @@ fn cut(found: &mut Vec<(i64, u128)>, limit: Option<u64>)
     }
 }
 
-// The ids and scores of the boxes that the region accepts.
+// The ids and scores of the boxes that the region accepts, in the order of the table.
 fn accepted(
     alloc: Global,
     table: &Table,
     region: &Region,
     order: &Order,
 ) -> Result<Vec<(i64, u128)>, AllocError>
-    ensures { IfOk result (λ found. found.items ≡ map (λ e. (e.0, score order.now e.1)) (filter (λ e. accepts region.now e.1) table.now.entries)) }
+    ensures { IfOk result (λ found. found.items ≡ scored table.now (accepts region.now) (score order.now)) }
 {
     table
+        .entries()
         .iter()
-        .filter(|(_, bounds)| region.accepts(**bounds))
-        .map(|(id, bounds)| (*id, order.score(*bounds)))
+        .filter(|entry| region.accepts(entry.bounds))
+        .map(|entry| (entry.id, order.score(entry.bounds)))
         .collect(alloc)
 }

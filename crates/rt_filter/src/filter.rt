@@ -1,14 +1,14 @@
 //! A whole run: a table and queries in, answers out.
 
 ghost use Rattle.std.specs.Prelude.{◌≡◌, ◌+◌, ◌-◌, ◌++◌, ◌<◌, ◌≤◌, ◌^◌, ◌⊎◌, ℕ, List, [], Some, None, IfSome, IfOk, IfErr, OnOk, OnErr, MatchResult, length, if◌then◌else◌, true};
-ghost use Rattle.rt_filter.specs.Endings.{Ends, IsStatusOf, Stops, WentFront, is_before_output, is_before_queries, is_read, is_write};
+ghost use Rattle.rt_filter.specs.Endings.{Ends, IsStatusOf, Stops, WentFront, is_before_output, is_before_queries, is_read, is_told, is_write, run_fault_line};
 ghost use Rattle.rt_filter.specs.Runs.{run_of};
 
 use crate::reply::answer_lines;
 use crate::settings::Settings;
 use crate::sink::{Sink, WriteFault};
 use crate::source::Source;
-use crate::table::{TableFault, read_table};
+use rt_text::{Line, TableFault, fault_line, read_table};
 use std::alloc::{AllocError, Global};
 use std::io::Read;
 
@@ -18,10 +18,8 @@ const PULL: usize = 4097;
 /// Why a run ended before all was read and written.
 #[derive(Clone, Copy, Debug, PartialEq, Eq)]
 pub enum RunFault {
-    /// The table is faulty.
-    BadTable,
-    /// The table couldn't be read.
-    TableRead,
+    /// The table is faulty, or couldn't be read.
+    Table(TableFault),
     /// A pull of the queries failed, or the turns were used up.
     Read,
     /// A push or a flush of the output failed.
@@ -89,10 +87,11 @@ pub fn run<R: Read + Drop, S: Source, K: Sink>(
 
 impl RunFault {
     fn status(self) -> u8
+        requires { is_told self ≡ true }
         ensures { IsStatusOf (Some self) result }
     {
         match self {
-            RunFault::BadTable | RunFault::TableRead => 3,
+            RunFault::Table(_) => 3,
             RunFault::Read => 4,
             RunFault::Write => 5,
             RunFault::Memory => 6,
@@ -113,7 +112,7 @@ fn replies<R: Read + Drop, S: Source>(
         → run_of settings.now table queries ≡ record { written = replies.0.items; fault = None; status = if replies.1 then 1 else 0 }) }
     ensures read { OnOk result (IfSome (S.coming source.old) (λ queries. S.coming source.new ≡ Some [])) }
     ensures stops { IfErr result (λ fault. (table : List ℕ) → R.remaining reader ≡ Some table → Stops settings.now table fault) }
-    ensures unpushed { IfErr result (λ fault. is_before_output (Some fault) ≡ true) }
+    ensures unpushed { IfErr result (λ fault. (is_told fault ≡ true) × (is_before_output (Some fault) ≡ true)) }
     ensures unread { IfErr result (λ fault. is_before_queries (Some fault) ≡ true → source.new ≡ source.old) }
     ensures went { OnOk result (S.failed source.new ≡ S.failed source.old) }
     ensures pulls { IfErr result (λ fault. (S.failed source.new ≡ S.failed source.old) ⊎ ((S.failed source.new ≡ S.failed source.old + 1) × (fault ≡ RunFault.Read))) }
@@ -178,9 +177,8 @@ impl From<TableFault> for RunFault {
 
     fn from(fault: TableFault) -> RunFault {
         match fault {
-            TableFault::Read => RunFault::TableRead,
             TableFault::Memory => RunFault::Memory,
-            _ => RunFault::BadTable,
+            fault => RunFault::Table(fault),
         }
     }
 }
@@ -192,5 +190,17 @@ impl From<AllocError> for RunFault {
 
     fn from(_: AllocError) -> RunFault {
         RunFault::Memory
+    }
+}
+
+/// The line that tells a fault, its line feed included.
+pub fn run_fault_line(fault: &RunFault) -> Line
+    ensures { result ≡ run_fault_line fault.now }
+{
+    match fault {
+        RunFault::Table(fault) => fault_line(fault),
+        RunFault::Read => Line::new(b"rtfilter: cannot read queries\n"),
+        RunFault::Write => Line::new(b"rtfilter: cannot write answers\n"),
+        RunFault::Memory => Line::new(b"rtfilter: out of memory\n"),
     }
 }

@@ -7,20 +7,22 @@
 
 mod answer;
 mod filter;
+mod invocation;
 mod line;
-mod number;
+mod name;
 mod parse;
 mod query;
 mod reply;
 mod settings;
 mod sink;
 mod source;
-mod table;
 #[cfg(test)]
 mod tests;
 mod words;
 
-pub use filter::{Outcome, RunFault, run};
+pub use filter::{Outcome, RunFault, run, run_fault_line};
+pub use invocation::{ArgFault, Invocation, settings_of};
+pub use name::Name;
 pub use settings::Settings;
 pub use sink::{Sink, SliceSink, WriteFault, WriteSink};
 pub use source::{ReadFault, ReadSource, SliceSource, Source};

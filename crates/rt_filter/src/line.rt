@@ -1,59 +1,17 @@
 //! The lines of the output.
 
-ghost use Rattle.std.specs.Prelude.{◌≡◌, ◌+◌, ◌++◌, ◌≤◌, [], length};
+ghost use Rattle.std.specs.Prelude.{◌≡◌, ◌≤◌, length};
 ghost use Rattle.rt_filter.specs.Replies.{answer_line, error_line, fault_text, ok_line};
 
 use crate::query::QueryFault;
-use arrayvec::ArrayVec;
 use itoa::Buffer;
-use std::marker::Model;
-
-/// A line of at most 128 bytes, its line feed included.
-#[derive(Debug, Drop)]
-pub(crate) struct Line {
-    bytes: ArrayVec<u8, 128>,
-}
-
-impl Model for Line {
-    ghost use Rattle.std.specs.Prelude.{List, ℕ};
-
-    ghost Value = { List ℕ };
-
-    ghost view = { λ line. line.bytes.items };
-}
-
-impl Line {
-    fn new() -> Line
-        ensures { result ≡ [] }
-    {
-        Line {
-            bytes: ArrayVec::new(),
-        }
-    }
-
-    fn put(&mut self, text: &[u8])
-        requires { length self.old + length text.now ≤ 128 }
-        ensures { self.new ≡ self.old ++ text.now }
-    {
-        for byte in text {
-            self.bytes.push(*byte);
-        }
-    }
-
-    /// The bytes of the line.
-    pub(crate) fn bytes(&self) -> &[u8]
-        ensures { result.now ≡ self.now }
-    {
-        self.bytes.as_slice()
-    }
-}
+use rt_text::Line;
 
 /// The line of an answer: its id and its score.
 pub(crate) fn answer_line(id: i64, score: u128) -> Line
     ensures { result ≡ answer_line (id, score) }
 {
-    let mut line = Line::new();
-    line.put(Buffer::new().format(id).as_bytes());
+    let mut line = Line::new(Buffer::new().format(id).as_bytes());
     line.put(b" ");
     line.put(Buffer::new().format(score).as_bytes());
     line.put(b"\n");
@@ -64,8 +22,7 @@ pub(crate) fn answer_line(id: i64, score: u128) -> Line
 pub(crate) fn ok_line(number: u128, count: u64) -> Line
     ensures { result ≡ ok_line number count }
 {
-    let mut line = Line::new();
-    line.put(b"ok ");
+    let mut line = Line::new(b"ok ");
     line.put(Buffer::new().format(number).as_bytes());
     line.put(b" ");
     line.put(Buffer::new().format(count).as_bytes());
@@ -77,8 +34,7 @@ pub(crate) fn ok_line(number: u128, count: u64) -> Line
 pub(crate) fn error_line(number: u128, fault: QueryFault) -> Line
     ensures { result ≡ error_line number fault }
 {
-    let mut line = Line::new();
-    line.put(b"error ");
+    let mut line = Line::new(b"error ");
     line.put(Buffer::new().format(number).as_bytes());
     line.put(b" ");
     line.put(fault_text(fault));

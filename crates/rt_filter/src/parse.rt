@@ -4,10 +4,10 @@ ghost use Rattle.std.specs.Prelude.{◌≡◌, ◌≤ℤ◌, ◌∷◌, IfOk};
 ghost use Rattle.std.specs.Str.Lines.{strip_carriage_return};
 ghost use Rattle.rt_filter.specs.Queries.{Takes, coordinate, find, is_comment, number_word, query, query_of, region, window};
 
-use crate::number::{NumberFault, number};
 use crate::query::{Order, Parsed, Query, QueryFault, Region};
 use crate::words::Words;
 use rt_geo::Bounds;
+use rt_text::{NumberFault, number};
 
 /// What a line asks, without its line feed. One carriage return at its end is dropped.
 pub(crate) fn parse(line: &[u8]) -> Parsed

@@ -1,7 +1,6 @@
 //! The replies to query lines.
 
 ghost use Rattle.std.specs.Prelude.{◌≡◌, ◌+◌, ◌++◌, ◌<◌, ◌^◌, OnOk, IfOk, length, true};
-ghost use Rattle.rt_filter.specs.Answers.{entries_of};
 ghost use Rattle.rt_filter.specs.Lines.{lines};
 ghost use Rattle.rt_filter.specs.Replies.{any_fault, is_fault, judged_line, output, query_reply, reply};
 
@@ -9,8 +8,8 @@ use crate::answer::answers;
 use crate::line::{answer_line, error_line, ok_line};
 use crate::parse::parse;
 use crate::query::{Parsed, Query, QueryFault};
-use crate::table::Table;
 use memchr::memchr;
+use rt_tree::Table;
 use std::alloc::{AllocError, Global};
 
 /// The most bytes of a query line, a carriage return included and the line feed not.
@@ -23,7 +22,7 @@ pub(crate) fn answer_lines(
     queries: &[u8],
     out: &mut Vec<u8>,
 ) -> Result<bool, AllocError>
-    ensures out { OnOk result (out.new.items ≡ out.old.items ++ output (entries_of table.now.entries) (lines queries.now true)) }
+    ensures out { OnOk result (out.new.items ≡ out.old.items ++ output table.now (lines queries.now true)) }
     ensures bad { IfOk result (λ bad. bad ≡ any_fault (lines queries.now true)) }
 {
     let mut rest = queries;
@@ -48,7 +47,7 @@ fn reply(
     line: &[u8],
     out: &mut Vec<u8>,
 ) -> Result<bool, AllocError>
-    ensures out { OnOk result (out.new.items ≡ out.old.items ++ reply (entries_of table.now.entries) number (judged_line line.now)) }
+    ensures out { OnOk result (out.new.items ≡ out.old.items ++ reply table.now number (judged_line line.now)) }
     ensures bad { IfOk result (λ bad. bad ≡ is_fault (judged_line line.now)) }
 {
     match judged(line) {
@@ -81,7 +80,7 @@ fn answer(
     query: Query,
     out: &mut Vec<u8>,
 ) -> Result<(), AllocError>
-    ensures { OnOk result (out.new.items ≡ out.old.items ++ query_reply (entries_of table.now.entries) number query) }
+    ensures { OnOk result (out.new.items ≡ out.old.items ++ query_reply table.now number query) }
 {
     let Query::Find {
         region,

@@ -2,7 +2,9 @@
 
 use crate::{
     Outcome, ReadSource, RunFault, Settings, Sink, SliceSink, SliceSource, Source, WriteSink, run,
+    run_fault_line,
 };
+use rt_text::{Axis, TableFault};
 use std::process::Abort;
 use std::test::Fail;
 
@@ -180,32 +182,169 @@ fn refuses_long_lines(rt: HostRuntime) -> Result<(), Fail> {
     Ok(())
 }
 
+const REPEATED: &[u8] =
+    b"1,0,10,0,10\n2,5,15,5,15\n3,20,30,0,10\n4,-5,-1,-5,-1\n5,12,12,12,12\n1,0,0,0,0\n";
+
+const FAULTY_TABLES: [(&[u8], TableFault); 8] = [
+    (REPEATED, TableFault::Repeated { number: 6 }),
+    (
+        WITH_HEADER,
+        TableFault::NotNumber {
+            number: 1,
+            field: 1,
+        },
+    ),
+    (
+        b"1,5,4,0,0",
+        TableFault::MinAboveMax {
+            number: 1,
+            axis: Axis::X,
+        },
+    ),
+    (
+        b"1,0,0,5,4",
+        TableFault::MinAboveMax {
+            number: 1,
+            axis: Axis::Y,
+        },
+    ),
+    (
+        b"1,0,1,0",
+        TableFault::FieldCount {
+            number: 1,
+            found: 4,
+        },
+    ),
+    (
+        b"1,0,2147483648,0,0",
+        TableFault::OutOfRange {
+            number: 1,
+            field: 3,
+        },
+    ),
+    (
+        b"1,a,0,0,0",
+        TableFault::NotNumber {
+            number: 1,
+            field: 2,
+        },
+    ),
+    (
+        b"7,0,0,0,0\n1,2",
+        TableFault::FieldCount {
+            number: 2,
+            found: 2,
+        },
+    ),
+];
+
 #[test]
 fn refuses_faulty_tables(rt: HostRuntime) -> Result<(), Fail> {
-    let repeated: &[u8] = b"1,0,10,0,10\n2,5,15,5,15\n1,0,0,0,0\n";
-    PLAIN.expect(&rt, repeated, FIND, b"", 3, Some(RunFault::BadTable))?;
-    PLAIN.expect(&rt, WITH_HEADER, FIND, b"", 3, Some(RunFault::BadTable))?;
-    let tables: [&[u8]; 5] = [
-        b"1,5,4,0,0",
-        b"1,0,0,5,4",
-        b"1,0,1,0",
-        b"1,0,2147483648,0,0",
-        b"1,a,0,0,0",
-    ];
-    for table in tables {
-        PLAIN.expect(&rt, table, FIND, b"", 3, Some(RunFault::BadTable))?;
+    for (table, fault) in FAULTY_TABLES {
+        PLAIN.expect(&rt, table, FIND, b"", 3, Some(RunFault::Table(fault)))?;
     }
-    let four = Given {
-        max_entries: 4,
+    let one = Given {
+        max_entries: 1,
         ..PLAIN
     };
-    four.expect(&rt, BOXES, FIND, b"", 3, Some(RunFault::BadTable))?;
-    let five = Given {
-        max_entries: 5,
+    let too_many = RunFault::Table(TableFault::TooMany { number: 2 });
+    one.expect(&rt, b"7,0,0,0,0\n1,2", FIND, b"", 3, Some(too_many))?;
+    for (header, table, number) in [(false, BOXES, 5), (true, WITH_HEADER, 6)] {
+        let four = Given {
+            header,
+            max_entries: 4,
+            ..PLAIN
+        };
+        let fault = RunFault::Table(TableFault::TooMany { number });
+        four.expect(&rt, table, FIND, b"", 3, Some(fault))?;
+        Given {
+            max_entries: 5,
+            ..four
+        }
+        .expect(&rt, table, FIND, FOUND, 0, None)?;
+    }
+    Ok(())
+}
+
+#[test]
+fn reads_quoted_tables(rt: HostRuntime) -> Result<(), Fail> {
+    let quoted: &[u8] = b"id,minX,maxX,minY,maxY\r\n\"1\",0,10,0,10\r\n";
+    let header = Given {
         header: true,
         ..PLAIN
     };
-    five.expect(&rt, WITH_HEADER, FIND, FOUND, 0, None)
+    header.expect(&rt, quoted, FIND, b"1 0\nok 1 1\n", 0, None)?;
+    let no_number = RunFault::Table(TableFault::NotNumber {
+        number: 1,
+        field: 1,
+    });
+    PLAIN.expect(&rt, quoted, FIND, b"", 3, Some(no_number))?;
+    // A byte order mark, carriage returns alone, empty lines, and no end of the last record.
+    let marked: &[u8] = b"\xef\xbb\xbf1,0,10,0,10\r\r\n\r2,\"5\",15,\"5\",15";
+    PLAIN.expect(&rt, marked, FIND, FOUND, 0, None)
+}
+
+const FAULT_LINES: [(RunFault, &[u8]); 10] = [
+    (
+        RunFault::Table(TableFault::TooMany { number: 4294967295 }),
+        b"rtfilter: table record 4294967295: too many entries\n",
+    ),
+    (
+        RunFault::Table(TableFault::FieldCount {
+            number: 1,
+            found: 18446744073709551615,
+        }),
+        b"rtfilter: table record 1: wrong number of fields (18446744073709551615)\n",
+    ),
+    (
+        RunFault::Table(TableFault::NotNumber {
+            number: 2,
+            field: 1,
+        }),
+        b"rtfilter: table record 2: field 1 is not a number\n",
+    ),
+    (
+        RunFault::Table(TableFault::OutOfRange {
+            number: 3,
+            field: 5,
+        }),
+        b"rtfilter: table record 3: field 5 is out of range\n",
+    ),
+    (
+        RunFault::Table(TableFault::MinAboveMax {
+            number: 4,
+            axis: Axis::X,
+        }),
+        b"rtfilter: table record 4: minimum above maximum in x\n",
+    ),
+    (
+        RunFault::Table(TableFault::MinAboveMax {
+            number: 4,
+            axis: Axis::Y,
+        }),
+        b"rtfilter: table record 4: minimum above maximum in y\n",
+    ),
+    (
+        RunFault::Table(TableFault::Repeated { number: 5 }),
+        b"rtfilter: table record 5: repeated id\n",
+    ),
+    (
+        RunFault::Table(TableFault::Read),
+        b"rtfilter: cannot read table\n",
+    ),
+    (RunFault::Read, b"rtfilter: cannot read queries\n"),
+    (RunFault::Write, b"rtfilter: cannot write answers\n"),
+];
+
+#[test]
+fn tells_faults_in_lines(rt: HostRuntime) {
+    for (fault, text) in FAULT_LINES {
+        assert_eq!(rt; run_fault_line(&fault).bytes(), text);
+    }
+    assert_eq!(rt;
+        run_fault_line(&RunFault::Memory).bytes(),
+        b"rtfilter: out of memory\n".as_slice()
+    );
 }
 
 #[test]

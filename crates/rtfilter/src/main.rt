@@ -1,4 +1,4 @@
-//! Finds boxes of a table: `rtfilter TABLE [QUERIES]`.
+//! Finds boxes of a table: `rtfilter [-H|--header] [--fanout M] [--max-entries N] TABLE [QUERIES]`.
 //!
 //! The words are read, TABLE is opened, QUERIES is opened (standard input where there is none), and then
 //! `rt_filter::run` does the rest, with standard output as its sink.
@@ -6,18 +6,30 @@
 
 ghost use Rattle.std.specs.Prelude.{◌<◌};
 
-use rt_filter::{Outcome, ReadSource, RunFault, Settings, Sink, Source, WriteSink, run};
+use rt_filter::{
+    ArgFault, Invocation, Name, Outcome, ReadSource, RunFault, Settings, Sink, Source, WriteSink,
+    run, run_fault_line, settings_of,
+};
+use rt_text::Line;
 use std::env;
 use std::fs::File;
-use std::io::{self, BufWriter, Read, Write};
+use std::io::{self, BufWriter, ErrorKind, Read, Write};
 use std::process::ExitCode;
 use std::rt::{Env, Files};
+
+/// What help prints.
+const USAGE: &[u8] =
+    b"usage: rtfilter [-H|--header] [--fanout M] [--max-entries N] TABLE [QUERIES]\n";
 
 /// How the program ends.
 #[derive(Clone, Copy, Debug, PartialEq, Eq)]
 enum Ending {
     /// The run was made, and ended so.
     Ran(Outcome),
+    /// Help was asked for, and printed.
+    Helped,
+    /// Help was asked for, and couldn't be printed.
+    NotHelped,
     /// The words are none that the program takes.
     BadCommandLine,
     /// TABLE couldn't be opened.
@@ -33,77 +45,110 @@ impl Ending {
     fn status(self) -> u8 {
         match self {
             Ending::Ran(outcome) => outcome.status,
+            Ending::Helped => 0,
             Ending::BadCommandLine => 2,
             Ending::NoTable => 3,
             Ending::NoQueries => 4,
+            Ending::NotHelped => 5,
             Ending::NoMemory => 6,
         }
     }
 
     /// The line on standard error, if there is one.
-    fn text(self) -> Option<&'static str> {
+    fn line(self) -> Option<Line> {
         match self {
-            Ending::Ran(outcome) => outcome.fault.map(fault_text),
-            Ending::BadCommandLine => Some("rtfilter: bad command line"),
-            Ending::NoTable => Some("rtfilter: cannot open table"),
-            Ending::NoQueries => Some("rtfilter: cannot open queries"),
-            Ending::NoMemory => Some(fault_text(RunFault::Memory)),
+            Ending::Ran(outcome) => outcome.fault.map(|fault| run_fault_line(&fault)),
+            Ending::Helped => None,
+            Ending::BadCommandLine => Some(Line::new(b"rtfilter: bad command line\n")),
+            Ending::NoTable => Some(Line::new(b"rtfilter: cannot open table\n")),
+            Ending::NoQueries => Some(Line::new(b"rtfilter: cannot open queries\n")),
+            Ending::NotHelped => Some(run_fault_line(&RunFault::Write)),
+            Ending::NoMemory => Some(run_fault_line(&RunFault::Memory)),
         }
     }
 }
 
-fn fault_text(fault: RunFault) -> &'static str {
-    match fault {
-        RunFault::BadTable => "rtfilter: bad table",
-        RunFault::TableRead => "rtfilter: cannot read table",
-        RunFault::Read => "rtfilter: cannot read queries",
-        RunFault::Write => "rtfilter: cannot write answers",
-        RunFault::Memory => "rtfilter: out of memory",
+impl From<ArgFault> for Ending {
+    fn from(fault: ArgFault) -> Ending {
+        match fault {
+            ArgFault::Help => Ending::Helped,
+            ArgFault::Usage => Ending::BadCommandLine,
+            ArgFault::Memory => Ending::NoMemory,
+        }
+    }
+}
+
+impl From<io::Error> for Ending {
+    fn from(error: io::Error) -> Ending {
+        match error.kind() {
+            ErrorKind::OutOfMemory => Ending::NoMemory,
+            _ => Ending::BadCommandLine,
+        }
     }
 }
 
 fn main(rt: HostRuntime) -> ExitCode {
-    let ending = filter(&rt);
-    if let Some(text) = ending.text() {
+    let ending = match invocation(&rt) {
+        Ok(invocation) => filter(&rt, &invocation),
+        Err(Ending::Helped) => help(&rt),
+        Err(ending) => ending,
+    };
+    if let Some(line) = ending.line() {
         // Nothing is left to tell where standard error fails too.
-        let _ = eprintln!(rt; "{text}");
+        let _ = rt.stderr().write_all(line.bytes());
     }
     ExitCode::from(ending.status())
 }
 
-// Reads the words, opens the files and runs.
-fn filter<R: Env + Files + Input + Print + AllocGlobal>(rt: &R) -> Ending {
-    let Ok(words) = words(rt) else {
-        return Ending::BadCommandLine;
-    };
-    let (table, queries) = match words.as_slice() {
-        [_program, table] => (table, None),
-        [_program, table, queries] => (table, Some(queries)),
-        _ => return Ending::BadCommandLine,
-    };
-    let Ok(table) = File::open(rt, table.as_str()) else {
+// What the words of the command line ask for.
+fn invocation<R: Env + AllocGlobal>(rt: &R) -> Result<Invocation, Ending> {
+    let mut words = Vec::new(rt.alloc());
+    for word in env::args(rt)? {
+        let Ok(name) = Name::new(rt.alloc(), word.as_str()) else {
+            return Err(Ending::NoMemory);
+        };
+        if words.push(name).is_err() {
+            return Err(Ending::NoMemory);
+        }
+    }
+    Ok(settings_of(rt.alloc(), words.as_slice())?)
+}
+
+fn help(rt: &impl Print) -> Ending {
+    match rt.write_all(USAGE) {
+        Ok(()) => Ending::Helped,
+        Err(_) => Ending::NotHelped,
+    }
+}
+
+// Opens the files and runs.
+fn filter<R: Files + Input + Print + AllocGlobal>(rt: &R, invocation: &Invocation) -> Ending {
+    let Ok(table) = File::open(rt, invocation.table.text()) else {
         return Ending::NoTable;
     };
-    match queries {
-        None => answer(rt, table, &mut ReadSource::new(rt.reader())),
-        Some(queries) => match File::open(rt, queries.as_str()) {
-            Ok(queries) => answer(rt, table, &mut ReadSource::new(queries)),
+    match &invocation.queries {
+        None => answer(
+            rt,
+            &invocation.settings,
+            table,
+            &mut ReadSource::new(rt.reader()),
+        ),
+        Some(queries) => match File::open(rt, queries.text()) {
+            Ok(queries) => answer(
+                rt,
+                &invocation.settings,
+                table,
+                &mut ReadSource::new(queries),
+            ),
             Err(_) => Ending::NoQueries,
         },
     }
 }
 
-fn words<R: Env + AllocGlobal>(rt: &R) -> io::Result<Vec<String>> {
-    let mut words = Vec::new(rt.alloc());
-    for word in env::args(rt)? {
-        words.push(word)?;
-    }
-    Ok(words)
-}
-
 // Runs with standard output as the sink, buffered, so that a line is not a system call.
 fn answer<R: Print + AllocGlobal, T: Read + Drop, S: Source>(
     rt: &R,
+    settings: &Settings,
     table: T,
     queries: &mut S,
 ) -> Ending
@@ -113,6 +158,5 @@ fn answer<R: Print + AllocGlobal, T: Read + Drop, S: Source>(
         return Ending::NoMemory;
     };
     let mut sink = WriteSink::new(out);
-    let settings = Settings::new(false, 16, Settings::MOST_ENTRIES).unwrap();
-    Ending::Ran(run(rt.alloc(), &settings, table, queries, &mut sink, u64::MAX))
+    Ending::Ran(run(rt.alloc(), settings, table, queries, &mut sink, u64::MAX))
 }

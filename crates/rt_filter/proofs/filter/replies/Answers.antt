@@ -9,5 +9,5 @@ returns-clause-whole g c table queries is_table is_queries =
     let pulled = rw is_queries at c.in_ok-pull_all.ensures.all in
     let no_queries : c.new-queries.result.items ≡ [] = c.new-queries.ensures.items in
     let no_out : c.new-out.result.items ≡ [] = c.new-out.ensures.items in
-    run_whole c.args.settings.now table queries c.deref.result.now c.answer_lines.new.out.items c.in_ok-bad.bad c.in_ok-table.table.entries
+    run_whole c.args.settings.now table queries c.deref.result.now c.answer_lines.new.out.items c.in_ok-bad.bad c.in_ok-table.table
     held (c.deref.ensures.value ∙ pulled.1 ∙ ap (λ (none : List ℕ). none ++ queries) no_queries) (c.in_ok-bad.ensures.out ∙ rw no_out refl) c.in_ok-bad.ensures.bad

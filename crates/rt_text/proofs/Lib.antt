@@ -1,0 +1,5 @@
+mod NumberLemmas
+mod Records
+mod Rows
+mod TableLemmas
+mod TableReads

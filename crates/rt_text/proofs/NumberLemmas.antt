@@ -1,0 +1,107 @@
+-- Numbers as text: one digit at a time, up to a greatest number, and one range within another.
+use Rattle.std.proofs.Common.{◌≡◌, ◌+◌, ◌*◌, ◌-◌, ◌<◌, ℕ, ℤ, pos, negsuc, ◌^◌, ◌≤ℤ◌, ◌<ℤ◌, min, Bool, true, false, ◌&&◌, Option, Some, None, List, take, length, get_or, arith, ◌∙◌, ap, sym, refl}
+use Rattle.std.specs.Prelude.{Result, Ok, Err, int_le, if◌then◌else◌}
+use Rattle.std.specs.Char.{digit_value, is_ascii_digit}
+use Rattle.std.specs.List.{list_all}
+use Rattle.std.specs.Str.Parse.{digits_value}
+use Rattle.std.proofs.lemmas.Bool.Decides.{nat_tests}
+use Rattle.std.proofs.lemmas.Int.{ints}
+use Rattle.std.proofs.lemmas.Int.Digits.{digits_value_more}
+use Rattle.std.proofs.lemmas.List.Folds.{list_all_more}
+use Rattle.rt_text.specs.Numbers.{in_range}
+use Rattle.rt_text.specs.declared.numbers.NumberFault.{NumberFault}
+use Rattle.rt_text.specs.declared.numbers.NumberFault.TheVariants as fault
+
+-- ---- one more digit
+
+pub all_digits-more : (xs : List ℕ) (i : ℕ) → i < length xs → list_all is_ascii_digit (take i xs) ≡ true → is_ascii_digit (get_or xs i 0) ≡ true
+    → list_all is_ascii_digit (take (i + 1) xs) ≡ true
+all_digits-more xs i h before here = list_all_more is_ascii_digit xs i 0 h ∙ rw (before, here) refl
+
+-- a cap at each step is a cap at the end
+capped_step : (n d most : ℕ) → min (min (min n most * 10) most + d) most ≡ min (n * 10 + d) most
+capped_step n d most = omega arith
+
+digit_value-ascii : (c : ℕ) → is_ascii_digit c ≡ true → digit_value c ≡ c - 48
+digit_value-ascii c h = grind (arith, nat_tests)
+
+pub capped_value-more : (most : ℕ) (xs : List ℕ) (i : ℕ) → i < length xs → is_ascii_digit (get_or xs i 0) ≡ true
+    → min (min (min (digits_value 10 (take i xs)) most * 10) most + (get_or xs i 0 - 48)) most ≡ min (digits_value 10 (take (i + 1) xs)) most
+capped_value-more most xs i h d =
+    capped_step (digits_value 10 (take i xs)) (get_or xs i 0 - 48) most
+    ∙ ap (λ v. min (digits_value 10 (take i xs) * 10 + v) most) (sym (digit_value-ascii (get_or xs i 0) d))
+    ∙ ap (λ v. min v most) (sym (digits_value_more 10 xs i h))
+
+-- ---- a range within another
+
+-- the ends of the range of `i128`
+abbrev pub least_i128 : ℤ
+least_i128 = negsuc (2 ^ 127 - 1)
+
+abbrev pub most_i128 : ℤ
+most_i128 = pos (2 ^ 127 - 1)
+
+wider : (least most low high n : ℤ) → least ≤ℤ low → high ≤ℤ most → (int_le low n && int_le n high) ≡ true → (int_le least n && int_le n most) ≡ true
+wider least most low high n a b h = grind (arith, ints)
+
+if_true : {A : Type 0} (b : Bool) (x y : A) → b ≡ true → (if b then x else y) ≡ x
+if_true b x y e = rw e refl
+
+if_false : {A : Type 0} (b : Bool) (x y : A) → b ≡ false → (if b then x else y) ≡ y
+if_false b x y e = rw e refl
+
+-- what is no number of the wide range is none of the narrow one, for the same reason
+pub in_range-narrower_err : (least most low high : ℤ) (o : Option ℤ) (f : NumberFault) → least ≤ℤ low → high ≤ℤ most
+    → Err f ≡ in_range least most o → Err f ≡ in_range low high o
+in_range-narrower_err least most low high None f a b e = e
+in_range-narrower_err least most low high (Some n) f a b e = by (int_le least n && int_le n most) (int_le low n && int_le n high) refl refl
+  where
+    by : (w v : Bool) → (int_le least n && int_le n most) ≡ w → (int_le low n && int_le n high) ≡ v → Err f ≡ in_range low high (Some n)
+    by true v p q = let x : Err f ≡ Ok n = e ∙ if_true _ _ _ p in absurd cc
+    by false true p q = let x : false ≡ true = sym p ∙ wider least most low high n a b q in absurd cc
+    by false false p q = e ∙ if_false _ _ _ p ∙ sym (if_false _ _ _ q)
+
+-- a number of the wide range is judged by the narrow one alone
+pub in_range-narrower_ok : (least most low high : ℤ) (o : Option ℤ) (n : ℤ)
+    → Ok n ≡ in_range least most o → in_range low high (Some n) ≡ in_range low high o
+in_range-narrower_ok least most low high None n e = absurd cc
+in_range-narrower_ok least most low high (Some m) n e = by (int_le least m && int_le m most) refl
+  where
+    by : (w : Bool) → (int_le least m && int_le m most) ≡ w → in_range low high (Some n) ≡ in_range low high (Some m)
+    by true p = let x : ◌≡◌ {A = Result ℤ NumberFault} (Ok n) (Ok m) = e ∙ if_true _ _ _ p in let y : n ≡ m = cc in rw y refl
+    by false p = let x : ◌≡◌ {A = Result ℤ NumberFault} (Ok n) (Err fault.OutOfRange) = e ∙ if_false _ _ _ p in absurd cc
+
+-- ---- the tests of a range
+
+pub in_range-inside : (low high n : ℤ) → low ≤ℤ n → n ≤ℤ high → in_range low high (Some n) ≡ Ok n
+in_range-inside low high n a b = if_true _ _ _ (within low high n a b)
+  where
+    within : (low high n : ℤ) → low ≤ℤ n → n ≤ℤ high → (int_le low n && int_le n high) ≡ true
+    within low high n a b = grind (arith, ints)
+
+pub in_range-below : (low high n : ℤ) → n <ℤ low → in_range low high (Some n) ≡ Err fault.OutOfRange
+in_range-below low high n a = if_false _ _ _ (below low high n a)
+  where
+    below : (low high n : ℤ) → n <ℤ low → (int_le low n && int_le n high) ≡ false
+    below low high n a = grind (arith, ints)
+
+pub in_range-above : (low high n : ℤ) → high <ℤ n → in_range low high (Some n) ≡ Err fault.OutOfRange
+in_range-above low high n a = if_false _ _ _ (above low high n a)
+  where
+    above : (low high n : ℤ) → high <ℤ n → (int_le low n && int_le n high) ≡ false
+    above low high n a = grind (arith, ints)
+
+-- a number that was found lies in its range
+pub in_range-within : (low high : ℤ) (o : Option ℤ) (n : ℤ) → Ok n ≡ in_range low high o → (low ≤ℤ n) × (n ≤ℤ high)
+in_range-within low high None n e = absurd cc
+in_range-within low high (Some m) n e = by (int_le low m && int_le m high) refl
+  where
+    inside : (low high n : ℤ) → (int_le low n && int_le n high) ≡ true → (low ≤ℤ n) × (n ≤ℤ high)
+    inside low high n h = (grind (arith, ints), grind (arith, ints))
+
+    by : (b : Bool) → (int_le low m && int_le m high) ≡ b → (low ≤ℤ n) × (n ≤ℤ high)
+    by true p =
+        let x : ◌≡◌ {A = Result ℤ NumberFault} (Ok n) (Ok m) = e ∙ if_true _ _ _ p in
+        let same : n ≡ m = cc in
+        rw same (inside low high m p)
+    by false p = let x : ◌≡◌ {A = Result ℤ NumberFault} (Ok n) (Err fault.OutOfRange) = e ∙ if_false _ _ _ p in absurd cc

@@ -1,0 +1,19 @@
+use Rattle.std.proofs.Common.{◌≡◌, ◌+◌, ◌≤◌, ℕ, List, Some, length, true}
+use Rattle.csv.specs.Reading.{Ready, default_config}
+use Rattle.csv.specs.declared.reader.Trim.TheVariants as trim
+use Rattle.rt_text.specs.Tables.{table_of}
+use Rattle.rt_text.proofs.TableReads.{ReadUpTo}
+use Rattle.rt_text.proofs.tables.read_table.Given as goal
+
+-- each record before this one gave an entry, but the first where it is a header
+abbrev pub invariant-loop-number : goal.invariant-loop-number
+invariant-loop-number g l = record {
+  trim : l.rows.trim ≡ trim.None;
+  ready : Ready l.rows;
+  config : l.rows.config ≡ default_config;
+  flexible : l.rows.flexible ≡ true;
+  count : l.number ≤ length l.table + 2;
+  most : length l.table ≤ l.fn.max;
+  table : (bytes : List ℕ) → g.R.Read.remaining l.fn.reader ≡ Some bytes
+      → ReadUpTo g.R.Read.remaining l.rows l.table l.fn.header l.fn.max l.number (table_of bytes l.fn.header l.fn.max);
+}

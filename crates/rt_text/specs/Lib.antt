@@ -1,0 +1,4 @@
+pub mod FaultLines
+pub mod Numbers
+pub mod Steps
+pub mod Tables

@@ -1,0 +1,127 @@
+//! Numbers as text.
+
+ghost use Rattle.std.specs.Prelude.{◌≡◌, ◌≤ℤ◌, IfOk, pos, min, option_map, ok_or};
+ghost use Rattle.rt_text.specs.Numbers.{digits_number, in_range, negative, number_in};
+
+/// Why a text is no number of a range.
+#[derive(Clone, Copy, Debug, PartialEq, Eq)]
+pub enum NumberFault {
+    /// It isn't an optional sign and one or more ASCII digits.
+    NotNumber,
+    /// Its number lies outside the range.
+    OutOfRange,
+}
+
+/// The number that a text gives, where it lies in a range: an optional `+` or `-`, then one or more
+/// ASCII digits, as many as there are.
+pub fn number(text: &[u8], low: i128, high: i128) -> Result<i128, NumberFault>
+    ensures value { result ≡ number_in low high text.now }
+    ensures within { IfOk result (λ n. (low ≤ℤ n) × (n ≤ℤ high)) }
+{
+    let number = signed(text)?;
+    if low <= number && number <= high {
+        Ok(number)
+    } else {
+        Err(NumberFault::OutOfRange)
+    }
+}
+
+// The number that a text gives, where an `i128` has room for it.
+fn signed(text: &[u8]) -> Result<i128, NumberFault>
+    ensures { result ≡ number_in i128.MIN i128.MAX text.now }
+{
+    match text {
+        [b'-', digits @ ..] => below_zero(digits),
+        [b'+', digits @ ..] => above_zero(digits),
+        digits => above_zero(digits),
+    }
+}
+
+// The number that digits write after a `-`, where an `i128` has room for it.
+fn below_zero(digits: &[u8]) -> Result<i128, NumberFault>
+    ensures { result ≡ in_range i128.MIN i128.MAX (option_map negative (digits_number digits.now)) }
+{
+    0i128
+        .checked_sub_unsigned(magnitude(digits)?)
+        .ok_or(NumberFault::OutOfRange)
+}
+
+// The number that digits write after a `+` or no sign, where an `i128` has room for it.
+fn above_zero(digits: &[u8]) -> Result<i128, NumberFault>
+    ensures { result ≡ in_range i128.MIN i128.MAX (option_map pos (digits_number digits.now)) }
+{
+    0i128
+        .checked_add_unsigned(magnitude(digits)?)
+        .ok_or(NumberFault::OutOfRange)
+}
+
+// The number that digits write, or the greatest `u128` where it is above that.
+fn magnitude(digits: &[u8]) -> Result<u128, NumberFault>
+    ensures { result ≡ ok_or (option_map (λ n. min n u128.MAX) (digits_number digits.now)) NumberFault.NotNumber }
+{
+    if digits.is_empty() {
+        return Err(NumberFault::NotNumber);
+    }
+    let mut magnitude: u128 = 0;
+    for digit in digits {
+        if !digit.is_ascii_digit() {
+            return Err(NumberFault::NotNumber);
+        }
+        magnitude = magnitude
+            .saturating_mul(10)
+            .saturating_add(u128::from(*digit - b'0'));
+    }
+    Ok(magnitude)
+}
+
+#[cfg(test)]
+mod tests {
+    use super::{NumberFault, number};
+
+    #[test]
+    fn numbers_of_texts(rt: HostRuntime) {
+        let cases: [(&[u8], Result<i128, NumberFault>); 12] = [
+            (b"+007", Ok(7)),
+            (b"-0", Ok(0)),
+            (b"10", Ok(10)),
+            (b"", Err(NumberFault::NotNumber)),
+            (b"-", Err(NumberFault::NotNumber)),
+            (b"+-1", Err(NumberFault::NotNumber)),
+            (b"1 ", Err(NumberFault::NotNumber)),
+            (b"0x1", Err(NumberFault::NotNumber)),
+            (b"1e0", Err(NumberFault::NotNumber)),
+            (b"11", Err(NumberFault::OutOfRange)),
+            (b"-1", Err(NumberFault::OutOfRange)),
+            (&[b'9'; 60], Err(NumberFault::OutOfRange)),
+        ];
+        for (text, wanted) in cases {
+            assert_eq!(rt; number(text, 0, 10), wanted);
+        }
+    }
+
+    #[test]
+    fn ends_of_the_widest_range(rt: HostRuntime) {
+        let cases: [(&[u8], Result<i128, NumberFault>); 4] = [
+            (b"170141183460469231731687303715884105727", Ok(i128::MAX)),
+            (b"-170141183460469231731687303715884105728", Ok(i128::MIN)),
+            (
+                b"170141183460469231731687303715884105728",
+                Err(NumberFault::OutOfRange),
+            ),
+            (
+                b"-170141183460469231731687303715884105729",
+                Err(NumberFault::OutOfRange),
+            ),
+        ];
+        for (text, wanted) in cases {
+            assert_eq!(rt; number(text, i128::MIN, i128::MAX), wanted);
+        }
+    }
+
+    #[test]
+    fn zeros_before_a_number(rt: HostRuntime) {
+        let mut text = [b'0'; 5001];
+        text[5000] = b'7';
+        assert_eq!(rt; number(&text, 0, 10), Ok(7));
+    }
+}

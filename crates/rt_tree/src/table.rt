@@ -1,0 +1,111 @@
+//! Entries with distinct ids.
+
+ghost use Rattle.std.specs.Prelude.{◌≡◌, ◌==◌, ◌<◌, ◌≤◌, ◌++◌, ◌∷◌, ◌↔◌, [], length, slice_get, Ok, Err, Some, OnOk, OnErr, true, false};
+ghost use Rattle.rt_tree.specs.Entries.{AreDistinct, has_id, most_entries};
+
+use rt_geo::Entry;
+use std::alloc::Global;
+use std::collections::BTreeSet;
+use std::marker::Model;
+
+/// Why an entry wasn't added.
+#[derive(Clone, Copy, Debug, PartialEq, Eq)]
+pub enum PushFault {
+    /// An entry with that id is there.
+    Repeated,
+    /// There was no memory for it.
+    Memory,
+}
+
+/// Entries with distinct ids, in the order pushed: at most 16,777,216 of them.
+#[derive(Drop)]
+pub struct Table {
+    entries: Vec<Entry>,
+    // The ids of the entries, so that one is found in O(log n) whatever the ids are.
+    ids: BTreeSet<i64>,
+}
+
+impl Model for Table {
+    ghost use Rattle.std.specs.Prelude.{List};
+    ghost use Rattle.rt_geo.specs.declared.bounds.Entry.{Entry};
+    ghost use Rattle.rt_tree.specs.Entries.{IsTable};
+
+    ghost Value = { List Entry };
+
+    ghost view = { λ t. t.entries.items };
+
+    ghost invariant = { λ t. IsTable t.ids t.entries.items };
+}
+
+impl Table {
+    /// The most entries of a table.
+    pub const MOST_ENTRIES: u32 = 16_777_216;
+
+    /// No entries. It takes no memory.
+    pub fn empty(alloc: Global) -> Table
+        ensures { result ≡ [] }
+    {
+        Table {
+            entries: Vec::new(alloc),
+            ids: BTreeSet::new(alloc),
+        }
+    }
+
+    /// How many entries there are.
+    pub fn len(&self) -> u32
+        ensures value { result ≡ length self.now }
+        ensures few { length self.now ≤ most_entries }
+        ensures distinct { AreDistinct self.now }
+    {
+        self.entries.len() as u32
+    }
+
+    /// Whether there are no entries.
+    pub fn is_empty(&self) -> bool
+        ensures { result ≡ (length self.now == 0) }
+    {
+        self.entries.is_empty()
+    }
+
+    /// The entry at a place, counted from 0 in the order pushed.
+    pub fn get(&self, place: u32) -> Entry
+        requires { place < length self.now }
+        ensures { slice_get self.now place ≡ Some result }
+    {
+        self.entries[place as usize]
+    }
+
+    /// The entries, in the order pushed.
+    pub fn entries(&self) -> &[Entry]
+        ensures { result.now ≡ self.now }
+    {
+        self.entries.as_slice()
+    }
+
+    /// Adds an entry last. `Repeated` exactly where its id is there, and then no memory is taken; `Memory` where
+    /// there was none for it. After either the table is as it was.
+    pub fn push(&mut self, entry: Entry) -> Result<(), PushFault>
+        requires { length self.old < most_entries }
+        ensures ok { OnOk result (self.new ≡ self.old ++ entry ∷ []) }
+        ensures new { OnOk result (has_id self.old entry.id ≡ false) }
+        ensures repeated { (result ≡ Err PushFault.Repeated) ↔ (has_id self.old entry.id ≡ true) }
+        ensures err { OnErr result (self.new ≡ self.old) }
+    {
+        if self.ids.contains(&entry.id) {
+            return Err(PushFault::Repeated);
+        }
+        if self.entries.reserve(1).is_err() {
+            return Err(PushFault::Memory);
+        }
+        match self.ids.insert(entry.id) {
+            Ok(_) => {
+                self.entries.push_reserved(entry);
+                Ok(())
+            }
+            Err(_) => Err(PushFault::Memory),
+        }
+    }
+}
+
+#[cfg(test)]
+mod tests;

@@ -1,0 +1,46 @@
+use super::{PushFault, Table};
+use rt_geo::{Bounds, Entry};
+
+static BOXES: [(i64, [i32; 4]); 5] = [
+    (5, [12, 12, 12, 12]),
+    (1, [0, 10, 0, 10]),
+    (-9223372036854775808, [5, 15, 5, 15]),
+    (3, [20, 30, 0, 10]),
+    (4, [-5, -1, -5, -1]),
+];
+
+fn entry(id: i64, sides: [i32; 4]) -> Option<Entry> {
+    let [min_x, max_x, min_y, max_y] = sides;
+    let bounds = Bounds::new(min_x, max_x, min_y, max_y)?;
+    Some(Entry { id, bounds })
+}
+
+// Pushes a box, where it is one and there is room for another.
+fn push(table: &mut Table, id: i64, sides: [i32; 4]) -> Option<Result<(), PushFault>> {
+    if table.len() >= Table::MOST_ENTRIES {
+        return None;
+    }
+    Some(table.push(entry(id, sides)?))
+}
+
+#[test]
+fn keeps_the_order_and_refuses_an_id_twice(rt: HostRuntime) {
+    let mut table = Table::empty(rt.alloc());
+    assert!(rt; table.is_empty());
+    for (count, (id, sides)) in BOXES.iter().enumerate() {
+        assert_eq!(rt; table.len() as usize, count);
+        assert_eq!(rt; push(&mut table, *id, *sides), Some(Ok(())));
+        assert_eq!(rt;
+            push(&mut table, *id, [0; 4]),
+            Some(Err(PushFault::Repeated))
+        );
+    }
+    assert_eq!(rt; table.len(), 5);
+    assert!(rt; !table.is_empty());
+    for place in 0..table.len() {
+        let (id, sides) = BOXES[place as usize % BOXES.len()];
+        assert_eq!(rt; Some(table.get(place)), entry(id, sides));
+    }
+    assert_eq!(rt; push(&mut table, 5, [0; 4]), Some(Err(PushFault::Repeated)));
+    assert_eq!(rt; table.entries().iter().map(|entry| entry.id).max(), Some(5));
+}

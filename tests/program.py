@@ -1,0 +1,162 @@
+#!/usr/bin/env python3
+"""Runs the built program and compares standard output, standard error and the exit status, byte for byte.
+
+usage: tests/program.py PROGRAM
+
+What no contract says is shown here: the words, the opening of files, the lines on standard error, and the
+exit status. The last line is `N passed, M failed`.
+"""
+
+import os
+import subprocess
+import sys
+import tempfile
+from pathlib import Path
+
+BOXES = b"1,0,10,0,10\n2,5,15,5,15\n3,20,30,0,10\n4,-5,-1,-5,-1\n5,12,12,12,12\n"
+HEADER = b"id,minX,maxX,minY,maxY\n"
+FIND = b"find window 0 10 0 10\n"
+FOUND = b"1 0\n2 0\nok 1 2\n"
+USAGE = b"usage: rtfilter [-H|--header] [--fanout M] [--max-entries N] TABLE [QUERIES]\n"
+
+# The files that each run finds beside it.
+FILES = {
+    "boxes.csv": BOXES,
+    "header.csv": HEADER + BOXES,
+    "quoted.csv": b'id,minX,maxX,minY,maxY\r\n"1",0,10,0,10\r\n',
+    "marked.csv": b"\xef\xbb\xbf" + BOXES,
+    "returns.csv": BOXES.replace(b"\n", b"\r"),
+    "repeated.csv": BOXES + b"1,0,0,0,0\n",
+    "swapped_x.csv": b"1,5,4,0,0\n",
+    "swapped_y.csv": b"1,0,0,5,4\n",
+    "short.csv": b"1,0,1,0\n",
+    "letter.csv": b"1,a,0,0,0\n",
+    "wide.csv": b"1,0,2147483648,0,0\n",
+    "empty.csv": b"",
+    "-H": BOXES,
+    "queries": FIND,
+}
+
+CANNOT_WRITE = b"rtfilter: cannot write answers\n"
+
+
+def table_fault(words, text):
+    """A run that is refused for its table."""
+    return words, FIND, 3, b"", b"rtfilter: table record " + text + b"\n"
+
+
+# Words, standard input, status, standard output, standard error.
+RUNS = [
+    (["boxes.csv"], FIND, 0, FOUND, b""),
+    (["boxes.csv", "queries"], b"", 0, FOUND, b""),
+    (["-H", "header.csv"], FIND, 0, FOUND, b""),
+    (["--header", "quoted.csv"], FIND, 0, b"1 0\nok 1 1\n", b""),
+    (["--fanout", "2", "--max-entries", "5", "boxes.csv"], FIND, 0, FOUND, b""),
+    (["--fanout=64", "--max-entries=16777216", "boxes.csv"], FIND, 0, FOUND, b""),
+    (["--", "-H"], FIND, 0, FOUND, b""),
+    (["marked.csv"], FIND, 0, FOUND, b""),
+    (["returns.csv"], FIND, 0, FOUND, b""),
+    (["empty.csv"], FIND, 0, b"ok 1 0\n", b""),
+    (["-H", "empty.csv"], FIND, 0, b"ok 1 0\n", b""),
+    (["boxes.csv"], b"", 0, b"", b""),
+    (["boxes.csv"], b"# c\n\nfind window 0 10 0 10", 0, b"1 0\n2 0\nok 3 2\n", b""),
+    (["boxes.csv"], b"x\n" + FIND, 1, b"error 1 Q2 unknown verb\n1 0\n2 0\nok 2 2\n", b""),
+    (["--help"], b"", 0, USAGE, b""),
+    (["-h"], b"", 0, USAGE, b""),
+    (["--help", "--fanout", "65"], b"", 0, USAGE, b""),
+    *(
+        (words, b"", 2, b"", b"rtfilter: bad command line\n")
+        for words in (
+            [],
+            ["boxes.csv", "queries", "more"],
+            ["--fanout", "1", "boxes.csv"],
+            ["--fanout", "65", "boxes.csv"],
+            ["--max-entries", "0", "boxes.csv"],
+            ["--max-entries", "16777217", "boxes.csv"],
+            ["--fanout", "x", "boxes.csv"],
+            ["--fanout", "65", "--help"],
+            ["-HH", "boxes.csv"],
+            ["--version"],
+        )
+    ),
+    table_fault(["repeated.csv"], b"6: repeated id"),
+    table_fault(["swapped_x.csv"], b"1: minimum above maximum in x"),
+    table_fault(["swapped_y.csv"], b"1: minimum above maximum in y"),
+    table_fault(["short.csv"], b"1: wrong number of fields (4)"),
+    table_fault(["letter.csv"], b"1: field 2 is not a number"),
+    table_fault(["wide.csv"], b"1: field 3 is out of range"),
+    table_fault(["--max-entries", "4", "boxes.csv"], b"5: too many entries"),
+    table_fault(["-H", "--max-entries", "4", "header.csv"], b"6: too many entries"),
+    table_fault(["header.csv"], b"1: field 1 is not a number"),
+    (["nowhere.csv"], FIND, 3, b"", b"rtfilter: cannot open table\n"),
+    (["nowhere.csv", "nowhere"], FIND, 3, b"", b"rtfilter: cannot open table\n"),
+    (["."], FIND, 3, b"", b"rtfilter: cannot read table\n"),
+    (["boxes.csv", "nowhere"], b"", 4, b"", b"rtfilter: cannot open queries\n"),
+    (["short.csv", "nowhere"], b"", 4, b"", b"rtfilter: cannot open queries\n"),
+    (["boxes.csv", "."], b"", 4, b"", b"rtfilter: cannot read queries\n"),
+]
+
+
+def run(program, words, folder, **streams):
+    """Status, standard output where it is a pipe, and standard error."""
+    done = subprocess.run([program, *words], cwd=folder, stderr=subprocess.PIPE, timeout=60, **streams)
+    return done.returncode, done.stdout, done.stderr
+
+
+def closed_pipe(program, folder):
+    """A run whose standard output is a pipe that nobody reads."""
+    reads, writes = os.pipe()
+    os.close(reads)
+    try:
+        return run(program, ["boxes.csv", "queries"], folder, stdout=writes)
+    finally:
+        os.close(writes)
+
+
+def full_device(program, folder):
+    """A run whose standard output is a device without room."""
+    with open("/dev/full", "wb") as full:
+        return run(program, ["boxes.csv", "queries"], folder, stdout=full)
+
+
+def cut_pipe(program, folder):
+    """A run whose queries come a byte at a time."""
+    process = subprocess.Popen(
+        [program, "boxes.csv"], cwd=folder, bufsize=0,
+        stdin=subprocess.PIPE, stdout=subprocess.PIPE, stderr=subprocess.PIPE,
+    )
+    for at in range(len(FIND)):
+        process.stdin.write(FIND[at:at + 1])
+    out, err = process.communicate(timeout=60)
+    return process.returncode, out, err
+
+
+def outcomes(program, folder):
+    """What each run is, what is expected of it, and what it did."""
+    for words, stdin, *expected in RUNS:
+        yield " ".join(words) or "no words", tuple(expected), run(
+            program, words, folder, input=stdin, stdout=subprocess.PIPE
+        )
+    yield "a closed pipe", (5, None, CANNOT_WRITE), closed_pipe(program, folder)
+    yield "a full device", (5, None, CANNOT_WRITE), full_device(program, folder)
+    yield "queries byte by byte", (0, FOUND, b""), cut_pipe(program, folder)
+
+
+def main():
+    program = str(Path(sys.argv[1]).resolve())
+    passed = failed = 0
+    with tempfile.TemporaryDirectory() as folder:
+        for name, content in FILES.items():
+            Path(folder, name).write_bytes(content)
+        for name, expected, found in outcomes(program, folder):
+            if found == expected:
+                passed += 1
+            else:
+                failed += 1
+                print(f"FAIL {name}\n  expected {expected}\n  found    {found}")
+    print(f"{passed} passed, {failed} failed")
+    return int(failed > 0)
+
+
+if __name__ == "__main__":
+    sys.exit(main())
