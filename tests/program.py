@@ -8,6 +8,7 @@ exit status. The last line is `N passed, M failed`.
 """
 
 import os
+import resource
 import subprocess
 import sys
 import tempfile
@@ -18,6 +19,13 @@ HEADER = b"id,minX,maxX,minY,maxY\n"
 FIND = b"find window 0 10 0 10\n"
 FOUND = b"1 0\n2 0\nok 1 2\n"
 USAGE = b"usage: rtfilter [-H|--header] [--fanout M] [--max-entries N] TABLE [QUERIES]\n"
+
+# A table and queries that are larger than any buffer, and a name of 200 bytes.
+COUNT = 100_000
+MANY_BOXES = b"".join(b"%d,%d,%d,0,0\n" % (n, n, n) for n in range(1, COUNT + 1))
+MANY_LINES = b"# a comment\n" * 400_000 + b"find window 1 %d 0 0\n" % COUNT
+MANY_FOUND = b"".join(b"%d 0\n" % n for n in range(1, COUNT + 1)) + b"ok 400001 %d\n" % COUNT
+LONG_NAME = "boxes" * 40
 
 # The files that each run finds beside it.
 FILES = {
@@ -35,8 +43,12 @@ FILES = {
     "empty.csv": b"",
     "-H": BOXES,
     "queries": FIND,
+    LONG_NAME: MANY_BOXES,
+    "lines": MANY_LINES,
 }
 
+NO_MEMORY = b"rtfilter: out of memory\n"
+CANNOT_READ = b"rtfilter: cannot read queries\n"
 CANNOT_WRITE = b"rtfilter: cannot write answers\n"
 
 
@@ -59,6 +71,8 @@ RUNS = [
     (["empty.csv"], FIND, 0, b"ok 1 0\n", b""),
     (["-H", "empty.csv"], FIND, 0, b"ok 1 0\n", b""),
     (["boxes.csv"], b"", 0, b"", b""),
+    ([LONG_NAME, "lines"], b"", 0, MANY_FOUND, b""),
+    ([LONG_NAME], MANY_LINES, 0, MANY_FOUND, b""),
     (["boxes.csv"], b"# c\n\nfind window 0 10 0 10", 0, b"1 0\n2 0\nok 3 2\n", b""),
     (["boxes.csv"], b"x\n" + FIND, 1, b"error 1 Q2 unknown verb\n1 0\n2 0\nok 2 2\n", b""),
     (["--help"], b"", 0, USAGE, b""),
@@ -77,6 +91,7 @@ RUNS = [
             ["--fanout", "65", "--help"],
             ["-HH", "boxes.csv"],
             ["--version"],
+            [os.fsdecode(b"\xff")],
         )
     ),
     table_fault(["repeated.csv"], b"6: repeated id"),
@@ -93,7 +108,7 @@ RUNS = [
     (["."], FIND, 3, b"", b"rtfilter: cannot read table\n"),
     (["boxes.csv", "nowhere"], b"", 4, b"", b"rtfilter: cannot open queries\n"),
     (["short.csv", "nowhere"], b"", 4, b"", b"rtfilter: cannot open queries\n"),
-    (["boxes.csv", "."], b"", 4, b"", b"rtfilter: cannot read queries\n"),
+    (["boxes.csv", "."], b"", 4, b"", CANNOT_READ),
 ]
 
 
@@ -113,10 +128,31 @@ def closed_pipe(program, folder):
         os.close(writes)
 
 
-def full_device(program, folder):
+def full_device(program, words, folder):
     """A run whose standard output is a device without room."""
     with open("/dev/full", "wb") as full:
-        return run(program, ["boxes.csv", "queries"], folder, stdout=full)
+        return run(program, words, folder, stdout=full)
+
+
+def closed(program, words, folder, stream):
+    """A run with a standard stream closed, `0<&-` or `1>&-`."""
+    return run("/bin/sh", ["-c", f'exec "$0" "$@" {stream}', program, *words], folder, stdout=subprocess.PIPE)
+
+
+def little_memory(program, words, folder, megabytes):
+    """A run that gets so much memory, its code included."""
+    limits = (megabytes * 1_000_000,) * 2
+    return run(
+        program, words, folder, input=FIND, stdout=subprocess.PIPE,
+        preexec_fn=lambda: resource.setrlimit(resource.RLIMIT_AS, limits),
+    )
+
+
+def example(program):
+    """The run of the examples, with the answers that stand beside them."""
+    folder = Path(__file__).parent.parent / "examples"
+    answers = (folder / "answers.txt").read_bytes()
+    return (0, answers, b""), run(program, ["boxes.csv", "queries.txt"], folder, stdout=subprocess.PIPE)
 
 
 def cut_pipe(program, folder):
@@ -137,8 +173,18 @@ def outcomes(program, folder):
         yield " ".join(words) or "no words", tuple(expected), run(
             program, words, folder, input=stdin, stdout=subprocess.PIPE
         )
+    yield "the examples", *example(program)
+    for name, words in (
+        ("no memory for table and queries", [LONG_NAME, "lines"]),
+        ("no memory for a record", ["/dev/zero"]),
+        ("no memory for the queries", ["boxes.csv", "/dev/zero"]),
+    ):
+        yield name, (6, b"", NO_MEMORY), little_memory(program, words, folder, 10)
     yield "a closed pipe", (5, None, CANNOT_WRITE), closed_pipe(program, folder)
-    yield "a full device", (5, None, CANNOT_WRITE), full_device(program, folder)
+    yield "a full device", (5, None, CANNOT_WRITE), full_device(program, ["boxes.csv", "queries"], folder)
+    yield "help to a full device", (5, None, CANNOT_WRITE), full_device(program, ["--help"], folder)
+    yield "closed output", (5, b"", CANNOT_WRITE), closed(program, ["boxes.csv", "queries"], folder, "1>&-")
+    yield "closed input", (4, b"", CANNOT_READ), closed(program, ["boxes.csv"], folder, "0<&-")
     yield "queries byte by byte", (0, FOUND, b""), cut_pipe(program, folder)
 
 
@@ -153,7 +199,7 @@ def main():
                 passed += 1
             else:
                 failed += 1
-                print(f"FAIL {name}\n  expected {expected}\n  found    {found}")
+                print(f"FAIL {name}\n  expected {expected!s:.500}\n  found    {found!s:.500}")
     print(f"{passed} passed, {failed} failed")
     return int(failed > 0)
 

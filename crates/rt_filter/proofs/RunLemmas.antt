@@ -1,5 +1,5 @@
 -- A run over a table that was loaded, and over one that was refused.
-use Rattle.std.proofs.Common.{◌≡◌, ◌∙◌, ℕ, Bool, List, None, sym, ap, ap₂}
+use Rattle.std.proofs.Common.{◌≡◌, ◌∙◌, ℕ, Bool, List, [], ◌++◌, None, sym, ap, ap₂}
 use Rattle.std.specs.Prelude.{Ok, if◌then◌else◌, true}
 use Rattle.rt_geo.specs.declared.bounds.Entry.{Entry}
 use Rattle.rt_text.specs.Tables.{MayRefuse, table_of}
@@ -29,10 +29,13 @@ stops_refused choices table (load.Repeated n) h = refused choices table (load.Re
 pub stops_pulling : (choices : Choices) (table : List ℕ) (entries : List Entry) → table_of table choices.header choices.max_entries ≡ Ok entries → Stops choices table run.Read
 stops_pulling choices table entries h = λ queries. ap (λ t. (run_over t queries).fault) h
 
-pub run_whole : (choices : Choices) (table all queries out : List ℕ) (bad : Bool) (entries : List Entry)
-    → table_of table choices.header choices.max_entries ≡ Ok entries → queries ≡ all
-    → out ≡ output entries (lines queries true) → bad ≡ any_fault (lines queries true)
+-- queries were put after nothing, and so was the output
+pub run_whole : (choices : Choices) (table all queries out : List ℕ) (no_queries no_out : List ℕ) (bad : Bool) (entries : List Entry)
+    → table_of table choices.header choices.max_entries ≡ Ok entries → no_queries ≡ [] → queries ≡ no_queries ++ all
+    → no_out ≡ [] → out ≡ no_out ++ output entries (lines queries true) → bad ≡ any_fault (lines queries true)
     → run_of choices table all ≡ record { written = out; fault = None; status = if bad then 1 else 0 }
-run_whole choices table all queries out bad entries h e o b =
+run_whole choices table all queries out no_queries no_out bad entries h none e empty o b =
     let make : List ℕ → Bool → Run = λ w f. record { written = w; fault = None; status = if f then 1 else 0 } in
-    ap (λ q. run_over (table_of table choices.header choices.max_entries) q) (sym e) ∙ ap (λ t. run_over t queries) h ∙ ap₂ make (sym o) (sym b)
+    let are : all ≡ queries = sym (e ∙ ap (λ zs. zs ++ all) none) in
+    let is : output entries (lines queries true) ≡ out = sym (o ∙ ap (λ zs. zs ++ output entries (lines queries true)) empty) in
+    ap (λ q. run_over (table_of table choices.header choices.max_entries) q) are ∙ ap (λ t. run_over t queries) h ∙ ap₂ make is (sym b)

@@ -11,9 +11,13 @@ use Rattle.rt_text.specs.declared.tables.TableFault.TheVariants as fault
 abbrev line : List ℕ → List ℕ
 line text = text ++ 10 ∷ []
 
--- two boxes that touch at a corner, and one apart
+-- the table of the examples
 abbrev boxes : List ℕ
-boxes = line (codes "2,5,15,5,15") ++ line (codes "1,0,5,0,5") ++ line (codes "3,20,30,0,10")
+boxes = line (codes "1,0,10,0,10") ++ line (codes "2,5,15,5,15") ++ line (codes "3,20,30,0,10") ++ line (codes "4,-5,-1,-5,-1") ++ line (codes "5,12,12,12,12")
+
+-- two boxes that touch, the later one with the lesser id
+abbrev two_boxes : List ℕ
+two_boxes = line (codes "2,5,15,5,15") ++ line (codes "1,0,5,0,5")
 
 abbrev usual : Choices
 usual = record { header = false; fanout = 16; max_entries = 16777216 }
@@ -21,11 +25,15 @@ usual = record { header = false; fanout = 16; max_entries = 16777216 }
 abbrev with_header : Choices
 with_header = record usual { header = true }
 
-row_touching : run_of usual boxes (line (codes "find window 15 20 9 10")) ≡ record { written = line (codes "2 0") ++ line (codes "3 0") ++ line (codes "ok 1 2"); fault = None; status = 0 }
+row_example : run_of usual boxes (line (codes "find window 0 10 0 10")) ≡ record { written = line (codes "1 0") ++ line (codes "2 0") ++ line (codes "ok 1 2"); fault = None; status = 0 }
 unfolding csv_on_literals digits entries_from
-row_touching = refl
+row_example = refl
 
-row_by_id : run_of usual boxes (codes "find window 0 9 0 9") ≡ record { written = line (codes "1 0") ++ line (codes "2 0") ++ line (codes "ok 1 2"); fault = None; status = 0 }
+row_touching_corners : run_of usual boxes (line (codes "find window 10 20 10 20")) ≡ record { written = line (codes "1 0") ++ line (codes "2 0") ++ line (codes "3 0") ++ line (codes "5 0") ++ line (codes "ok 1 4"); fault = None; status = 0 }
+unfolding csv_on_literals digits entries_from
+row_touching_corners = refl
+
+row_by_id : run_of usual two_boxes (codes "find window 0 9 0 9") ≡ record { written = line (codes "1 0") ++ line (codes "2 0") ++ line (codes "ok 1 2"); fault = None; status = 0 }
 unfolding csv_on_literals digits entries_from
 row_by_id = refl
 
@@ -33,11 +41,11 @@ row_numbers : run_of usual [] (line [] ++ line (codes "# c") ++ line (codes "fin
 unfolding csv_on_literals digits entries_from
 row_numbers = refl
 
-row_no_queries : run_of usual boxes [] ≡ record { written = []; fault = None; status = 0 }
+row_no_queries : run_of usual two_boxes [] ≡ record { written = []; fault = None; status = 0 }
 unfolding csv_on_literals digits entries_from
 row_no_queries = refl
 
-row_repeated : run_of usual (boxes ++ line (codes "2,0,0,0,0")) (codes "find window 0 0 0 0") ≡ record { written = []; fault = Some (Table (fault.Repeated 4)); status = 3 }
+row_repeated : run_of usual (boxes ++ line (codes "1,0,0,0,0")) (codes "find window 0 0 0 0") ≡ record { written = []; fault = Some (Table (fault.Repeated 6)); status = 3 }
 unfolding csv_on_literals digits entries_from
 row_repeated = refl
 

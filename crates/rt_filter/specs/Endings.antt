@@ -43,7 +43,7 @@ pub record EndsAtTable (run : Run) (told : Told) (fault : TableFault) : Type 0 w
 pub record EndsEarly (told : Told) : Type 0 where
   pub written : WentOut told []
 
--- a failed pull: the table is sound, and nothing was written
+-- a failed pull, or turns that are used up: the table is sound, and nothing was written
 pub record EndsAtPull (run : Run) (told : Told) : Type 0 where
   pub written : WentOut told []
   pub fault : run.fault ≡ None
@@ -101,7 +101,7 @@ abbrev pub is_told : RunFault → Bool
 is_told (Table load.Memory) = false
 is_told other = true
 
--- why there are no replies: a fault of the table, which its bytes have, or a failure outside. After a failed pull the table is sound
+-- why there are no replies: a fault of the table, which its bytes have, or a failure outside. After a failed pull, or used up turns, the table is sound
 abbrev pub Stops : Choices → (table : List ℕ) → RunFault → Type 0
 Stops choices table (Table fault) = tells_text fault ≡ true → (queries : List ℕ) → run_of choices table queries ≡ record { written = []; fault = Some (Table fault); status = 3 }
 Stops choices table Read = (queries : List ℕ) → (run_of choices table queries).fault ≡ None

@@ -8,6 +8,7 @@ use Rattle.clap.specs.declared.builder.value_parser.ValueParser.TheVariants as v
 use Rattle.clap.specs.declared.error.kind.ErrorKind.{ErrorKind}
 use Rattle.clap.specs.declared.error.kind.ErrorKind.TheVariants as kind
 use Rattle.rt_text.specs.Numbers.{number_text}
+use Rattle.rt_tree.specs.Entries.{most_entries}
 use Rattle.rt_filter.specs.Runs.{Choices}
 use Rattle.rt_filter.specs.declared.invocation.ArgFault.{ArgFault}
 use Rattle.rt_filter.specs.declared.invocation.ArgFault.TheVariants as fault
@@ -23,9 +24,9 @@ header_rule = record (new_rule (codes "header")) { short = Some 72; long = Some 
 abbrev pub fanout_values : ValueParser
 fanout_values = vp.Signed (pos 2) (pos 64)
 
--- the whole numbers from 1 to 16777216
+-- the whole numbers from 1 to the most entries of a table
 abbrev pub entries_values : ValueParser
-entries_values = vp.Signed (pos 1) (pos 16777216)
+entries_values = vp.Signed (pos 1) (pos most_entries)
 
 -- an option that takes a number, and has one where it isn't given
 abbrev pub number_rule : (name : List ℕ) → ValueParser → (default : List ℕ) → Rule
@@ -106,5 +107,5 @@ HasNumber id low high rows =
 -- what is required or has a default is there, and the numbers stand in their ranges
 pub record AreFilled (rows : List Row) : Type 0 where
   pub fanout : HasNumber (codes "fanout") 2 64 rows
-  pub max_entries : HasNumber (codes "max-entries") 1 16777216 rows
+  pub max_entries : HasNumber (codes "max-entries") 1 most_entries rows
   pub table : is_some (first_of (codes "table") rows) ≡ true

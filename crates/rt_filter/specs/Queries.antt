@@ -1,9 +1,9 @@
 -- What a query line asks.
-use Rattle.std.specs.Prelude.{◌≡◌, ℕ, ◌-◌, ◌^◌, ◌==◌, ℤ, pos, ◌-ℤ◌, int_lt, Bool, false, ◌||◌, not, if◌then◌else◌, List, [], ◌∷◌, filter, None, Result, Ok, Err, codes}
+use Rattle.std.specs.Prelude.{◌≡◌, ℕ, ◌==◌, ℤ, int_lt, Bool, false, ◌||◌, not, if◌then◌else◌, List, [], ◌∷◌, filter, None, Result, Ok, Err, codes}
 use Rattle.std.specs.List.{slice_split}
 use Rattle.std.specs.Str.{bytes_eq}
 use Rattle.std.specs.Str.Lines.{strip_carriage_return}
-use Rattle.rt_geo.specs.Boxes.{rect_of}
+use Rattle.rt_geo.specs.Boxes.{greatest_coordinate, least_coordinate, rect_of}
 use Rattle.rt_filter.specs.Lines.{is_empty}
 use Rattle.rt_text.specs.Numbers.{number_in}
 use Rattle.rt_text.specs.Steps.{◌>>=◌, map_fault}
@@ -45,7 +45,7 @@ number_word low high (word ∷ more) = do
 
 -- a coordinate, of 32 bits
 abbrev pub coordinate : List (List ℕ) → Result (Taken ℤ) QueryFault
-coordinate words = number_word (pos 0 -ℤ pos (2 ^ 31)) (pos (2 ^ 31 - 1)) words
+coordinate words = number_word least_coordinate greatest_coordinate words
 
 -- the window of four sides, each minimum at most its maximum
 abbrev pub window_of_sides : (min_x max_x min_y max_y : ℤ) → Result Region QueryFault

@@ -4,6 +4,7 @@ use Rattle.rt_geo.specs.declared.bounds.Entry.{Entry}
 use Rattle.rt_filter.specs.Lines.{lines}
 use Rattle.rt_filter.specs.Replies.{any_fault, output}
 use Rattle.rt_text.specs.Tables.{table_of}
+use Rattle.rt_tree.specs.Entries.{most_entries}
 use Rattle.rt_filter.specs.declared.filter.RunFault.{RunFault}
 use Rattle.rt_filter.specs.declared.filter.RunFault.TheVariants.{Table}
 use Rattle.rt_text.specs.declared.tables.TableFault.{TableFault}
@@ -19,7 +20,7 @@ pub record AreAllowed (choices : Choices) : Type 0 where
   pub least_fanout : 2 ≤ choices.fanout
   pub greatest_fanout : choices.fanout ≤ 64
   pub some_entries : 1 ≤ choices.max_entries
-  pub most_entries : choices.max_entries ≤ 16777216
+  pub most_entries : choices.max_entries ≤ most_entries
 
 -- what a run writes, the fault that it reports, and its status
 pub record Run : Type 0 where

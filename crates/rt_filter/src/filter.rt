@@ -4,27 +4,32 @@ ghost use Rattle.std.specs.Prelude.{◌≡◌, ◌+◌, ◌-◌, ◌++◌, ◌<�
 ghost use Rattle.rt_filter.specs.Endings.{Ends, IsStatusOf, Stops, WentFront, is_before_output, is_before_queries, is_read, is_told, is_write, run_fault_line};
 ghost use Rattle.rt_filter.specs.Runs.{run_of};
 
-use crate::reply::answer_lines;
+use crate::reply::{LONGEST_LINE, answer_lines};
 use crate::settings::Settings;
 use crate::sink::{Sink, WriteFault};
 use crate::source::Source;
 use rt_text::{Line, TableFault, fault_line, read_table};
 use std::alloc::{AllocError, Global};
 use std::io::Read;
+use thiserror::Error;
 
 /// The most bytes of one pull: the longest line and its line feed.
-const PULL: usize = 4097;
+const PULL: usize = LONGEST_LINE + 1;
 
 /// Why a run ended before all was read and written.
-#[derive(Clone, Copy, Debug, PartialEq, Eq)]
+#[derive(Clone, Copy, Debug, Drop, Error, PartialEq, Eq)]
 pub enum RunFault {
     /// The table is faulty, or couldn't be read.
+    #[error("faulty table")]
     Table(TableFault),
     /// A pull of the queries failed, or the turns were used up.
+    #[error("cannot read queries")]
     Read,
     /// A push or a flush of the output failed.
+    #[error("cannot write answers")]
     Write,
     /// No memory was left.
+    #[error("out of memory")]
     Memory,
 }
 
@@ -67,34 +72,34 @@ pub fn run<R: Read + Drop, S: Source, K: Sink>(
     ensures unread { is_before_queries result.fault ≡ true → source.new ≡ source.old }
     ensures unwritten { is_before_output result.fault ≡ true → sink.new ≡ sink.old }
 {
-    let fault = match replies(alloc, settings, reader, source, turns) {
+    match replies(alloc, settings, reader, source, turns) {
         Ok((out, bad)) => match push_all(sink, &out) {
-            Ok(()) => {
-                return Outcome {
-                    status: u8::from(bad),
-                    fault: None,
-                };
-            }
-            Err(WriteFault) => RunFault::Write,
+            Ok(()) => Outcome {
+                status: u8::from(bad),
+                fault: None,
+            },
+            Err(WriteFault) => RunFault::Write.outcome(),
         },
-        Err(fault) => fault,
-    };
-    Outcome {
-        status: fault.status(),
-        fault: Some(fault),
+        Err(fault) => fault.outcome(),
     }
 }
 
 impl RunFault {
-    fn status(self) -> u8
+    // How a run ends that ends early.
+    fn outcome(self) -> Outcome
         requires { is_told self ≡ true }
-        ensures { IsStatusOf (Some self) result }
+        ensures fault { result.fault ≡ Some self }
+        ensures status { IsStatusOf (Some self) result.status }
     {
-        match self {
+        let status = match self {
             RunFault::Table(_) => 3,
             RunFault::Read => 4,
             RunFault::Write => 5,
             RunFault::Memory => 6,
+        };
+        Outcome {
+            status,
+            fault: Some(self),
         }
     }
 }

@@ -2,6 +2,7 @@
 
 ghost use Rattle.std.specs.Prelude.{◌≡◌, ◌≤◌, [], Some, IfOk, IfErr, MatchResult, codes, option_map, true, false};
 ghost use Rattle.clap.specs.Words.{app_of, fault_of, first_of, found_of, matches_of, rows_of, rule_of, takes};
+ghost use Rattle.rt_tree.specs.Entries.{most_entries};
 ghost use Rattle.rt_filter.specs.Invocations.{AreFilled, HasNumber, IsFaultAmong, choices_in, entries_values, fanout_values, filter_app, header_rule, invocation_of, is_given, number_rule, option_number, word_rule};
 
 use crate::name::Name;
@@ -202,10 +203,10 @@ fn fanout(matches: &ArgMatches<'_>) -> u8
 
 // The most entries, likewise.
 fn max_entries(matches: &ArgMatches<'_>) -> u32
-    requires { HasNumber (codes "max-entries") 1 16777216 (rows_of (found_of matches.now)) }
+    requires { HasNumber (codes "max-entries") 1 most_entries (rows_of (found_of matches.now)) }
     ensures value { option_number (first_of (codes "max-entries") (rows_of (found_of matches.now))) ≡ Some result }
     ensures least { 1 ≤ result }
-    ensures most { result ≤ 16777216 }
+    ensures most { result ≤ most_entries }
 {
     matches.get_one::<u32>("max-entries").unwrap()
 }

@@ -4,6 +4,7 @@ ghost use Rattle.std.specs.Prelude.{◌≡◌, ◌≤◌};
 ghost use Rattle.std.specs.Option.{SomeIff};
 ghost use Rattle.rt_filter.specs.Runs.{AreAllowed};
 
+use rt_tree::Table;
 use std::marker::Model;
 
 /// The settings of a run.
@@ -34,7 +35,7 @@ impl Settings {
     pub const GREATEST_FANOUT: u8 = 64;
 
     /// The most entries that a table may have.
-    pub const MOST_ENTRIES: u32 = 16_777_216;
+    pub const MOST_ENTRIES: u32 = Table::MOST_ENTRIES;
 
     /// Settings with these values: whether the table's first record is a header, the most children of a
     /// node (2 to 64) and the most entries of the table (1 to 16,777,216). `None` where one is out of its

@@ -1,6 +1,6 @@
 //! Where query bytes come from.
 
-ghost use Rattle.std.specs.Prelude.{◌≡◌, ◌+◌, ◌-◌, ◌<◌, ◌≤◌, ◌^◌, ℕ, List, Option, Some, IfOk, OnOk, OnErr, length};
+ghost use Rattle.std.specs.Prelude.{◌≡◌, ◌+◌, ◌-◌, ◌<◌, ◌≤◌, ◌^◌, ◌↔◌, ℕ, List, Option, Some, IfOk, IsErr, OnOk, OnErr, length, min, unwrap_or};
 ghost use Rattle.rt_filter.specs.Devices.{Pulls};
 
 use std::io::Read;
@@ -84,18 +84,18 @@ impl<R: Read> Source for ReadSource<R> {
 pub struct SliceSource<'a> {
     bytes: &'a [u8],
     piece: usize,
-    fail_at: Option<u64>,
-    pulls: u64,
+    // The number, from 1, of the pull to come that fails; at 0 none does.
+    fails_in: u64,
     failures: u64,
 }
 
 impl<'a> Model for SliceSource<'a> {
-    ghost use Rattle.std.specs.Prelude.{List, ℕ, ◌<◌};
-    ghost use Rattle.rt_filter.specs.Devices.{Device};
+    ghost use Rattle.std.specs.Prelude.{◌<◌};
+    ghost use Rattle.rt_filter.specs.Devices.{Slice};
 
-    ghost Value = { Device (List ℕ) };
+    ghost Value = { Slice };
 
-    ghost view = { λ s. record { device = s.bytes.now; failures = s.failures } };
+    ghost view = { λ s. record { bytes = s.bytes.now; piece = s.piece; fails_in = s.fails_in; failures = s.failures } };
 
     ghost invariant = { λ s. 0 < s.piece };
 }
@@ -105,32 +105,42 @@ impl<'a> SliceSource<'a> {
     /// 0 or none, no pull does.
     pub fn new(bytes: &'a [u8], piece: usize, fail_at: Option<u64>) -> SliceSource<'a>
         requires { 0 < piece }
-        ensures bytes { result.device ≡ bytes.now }
-        ensures count { result.failures ≡ 0 }
+        ensures { result ≡ record { bytes = bytes.now; piece = piece; fails_in = unwrap_or fail_at 0; failures = 0 } }
     {
         SliceSource {
             bytes,
             piece,
-            fail_at,
-            pulls: 0,
+            fails_in: fail_at.unwrap_or(0),
             failures: 0,
         }
     }
 }
 
 impl Source for SliceSource<'_> {
-    ghost coming = { λ s. Some s.device };
+    ghost coming = { λ s. Some s.bytes };
 
     ghost failed = { λ s. s.failures };
 
-    fn pull(&mut self, room: &mut [u8]) -> Result<usize, ReadFault> {
-        self.pulls = self.pulls.saturating_add(1);
-        if self.fail_at == Some(self.pulls) {
+    // As the trait says, and beside that just which pull fails and how many bytes each other one gives.
+    fn pull(&mut self, room: &mut [u8]) -> Result<usize, ReadFault>
+        requires room { 0 < length room.old }
+        requires count { self.old.failures < 2 ^ 64 - 1 }
+        ensures bound { IfOk result (λ n. n ≤ length room.new) }
+        ensures bytes { Pulls (Some self.old.bytes) (Some self.new.bytes) result room.new }
+        ensures went { OnOk result (self.new.failures ≡ self.old.failures) }
+        ensures fails { OnErr result (self.new.failures ≡ self.old.failures + 1) }
+        ensures which { IsErr result ↔ (self.old.fails_in ≡ 1) }
+        ensures many { IfOk result (λ n. n ≡ min self.old.piece (min (length room.new) (length self.old.bytes))) }
+        ensures later { (self.new.fails_in ≡ self.old.fails_in - 1) × (self.new.piece ≡ self.old.piece) }
+    {
+        let fails = self.fails_in == 1;
+        self.fails_in = self.fails_in.saturating_sub(1);
+        if fails {
             self.failures += 1;
             return Err(ReadFault);
         }
         let all: &[u8] = self.bytes;
-        let n = all.len().min(room.len()).min(self.piece);
+        let n = self.piece.min(room.len().min(all.len()));
         room[..n].copy_from_slice(&all[..n]);
         self.bytes = &all[n..];
         Ok(n)

@@ -88,6 +88,7 @@ fn finds_windows(rt: HostRuntime) -> Result<(), Fail> {
             ..given
         };
         with_header.expect(&rt, WITH_HEADER, FIND, FOUND, 0, None)?;
+        with_header.expect(&rt, WITH_HEADER, touching, corners, 0, None)?;
     }
     PLAIN.expect(
         &rt,
@@ -375,16 +376,36 @@ fn tells_failed_pulls(rt: HostRuntime) -> Result<(), Fail> {
 }
 
 #[test]
+fn pulls_at_most_a_longest_line(rt: HostRuntime) -> Result<(), Fail> {
+    let whole = Given {
+        piece: 8194,
+        turns: 2,
+        ..PLAIN
+    };
+    let mut queries = Vec::from_slice(rt.alloc(), FIND)?;
+    queries.resize(4097, b'\n')?;
+    whole.expect(&rt, BOXES, queries.as_slice(), FOUND, 0, None)?;
+    queries.push(b'\n')?;
+    whole.expect(&rt, BOXES, queries.as_slice(), b"", 4, Some(RunFault::Read))?;
+    Given { turns: 3, ..whole }.expect(&rt, BOXES, queries.as_slice(), FOUND, 0, None)
+}
+
+#[test]
 fn tells_failed_pushes(rt: HostRuntime) -> Result<(), Fail> {
-    let small = Given { room: 5, ..PLAIN };
-    small.expect(
-        &rt,
-        BOXES,
-        FIND,
-        b"\x31\x20\x30\x0a\x32",
-        5,
-        Some(RunFault::Write),
-    )?;
+    let front: &[u8] = b"\x31\x20\x30\x0a\x32";
+    for piece in [1, 2, 4097] {
+        let small = Given {
+            room: 5,
+            piece,
+            ..PLAIN
+        };
+        small.expect(&rt, BOXES, FIND, front, 5, Some(RunFault::Write))?;
+        let with_header = Given {
+            header: true,
+            ..small
+        };
+        with_header.expect(&rt, WITH_HEADER, FIND, front, 5, Some(RunFault::Write))?;
+    }
     for fails in 1..17u64 {
         let given = Given {
             piece: 1,

@@ -1,6 +1,13 @@
 -- Boxes of whole numbers, and how two of them lie.
-use Rattle.std.specs.Prelude.{◌≡◌, ℕ, ◌*◌, ℤ, ◌-ℤ◌, ◌≤ℤ◌, int_le, unsigned_abs, Bool, true, ◌&&◌}
+use Rattle.std.specs.Prelude.{◌≡◌, ℕ, ◌*◌, ◌-◌, ◌^◌, ℤ, pos, ◌-ℤ◌, ◌≤ℤ◌, int_le, unsigned_abs, Bool, true, ◌&&◌}
 use Rattle.std.specs.Int.{int_min, int_max}
+
+-- the least and the greatest coordinate, of 32 bits
+abbrev pub least_coordinate : ℤ
+least_coordinate = pos 0 -ℤ pos (2 ^ 31)
+
+abbrev pub greatest_coordinate : ℤ
+greatest_coordinate = pos (2 ^ 31 - 1)
 
 -- a box: a minimum and a maximum on each axis
 pub record Rect : Type 0 where

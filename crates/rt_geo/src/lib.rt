@@ -2,9 +2,9 @@
 //! skip a whole subtree.
 //!
 //! A query function is a [`Geometry`]. Its meaning is the set of boxes that it accepts and the score of
-//! each; its laws say how far what it answers about a node holds for every box inside. A search rests on
-//! these laws alone, so that it is right for each geometry: for one made of the shapes and ranks below,
-//! and for one of a user's own.
+//! each; its laws say how far what it answers about a node holds for every box inside. They are all that a
+//! search has to rest on to be right for each geometry: for one made of the shapes and ranks below, and for
+//! one of a user's own. There is no search yet.
 //!
 //! - Boxes: [`Bounds`], [`Entry`], [`overlaps`], [`inside`], [`hull`].
 //! - Distances: [`Point`], [`near2`], [`far2`].

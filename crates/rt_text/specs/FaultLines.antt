@@ -10,7 +10,7 @@ record_line number text = codes "rtfilter: table record " ++ decimal number ++ t
 
 -- a line on one record, with a number in it
 abbrev pub numbered_line : (number : ℕ) → (before : List ℕ) → (n : ℕ) → (after : List ℕ) → List ℕ
-numbered_line number before n after = record_line number (before ++ decimal n ++ after)
+numbered_line number before n after = record_line number before ++ decimal n ++ after
 
 -- the text of a fault, and a line feed
 abbrev pub fault_line : TableFault → List ℕ

@@ -1,7 +1,7 @@
 -- The table that a text of CSV gives, or what is wrong with it.
 use Rattle.std.specs.Prelude.{◌≡◌, ℕ, ◌+◌, ◌-◌, ◌^◌, ℤ, pos, ◌-ℤ◌, int_lt, nat_le, Bool, true, false, if◌then◌else◌, List, [], ◌∷◌, ◌++◌, length, drop, Result, Ok, Err}
 use Rattle.csv.specs.Reading.{default_config, records, strip_bom}
-use Rattle.rt_geo.specs.Boxes.{rect_of}
+use Rattle.rt_geo.specs.Boxes.{greatest_coordinate, least_coordinate, rect_of}
 use Rattle.rt_geo.specs.declared.bounds.Entry.{Entry}
 use Rattle.rt_tree.specs.Entries.{has_id}
 use Rattle.rt_text.specs.Numbers.{number_in}
@@ -27,7 +27,7 @@ id_of number text = map_fault (field_fault number 1) (number_in (pos 0 -ℤ pos 
 
 -- a later field: a coordinate, of 32 bits
 abbrev pub coordinate_of : (number field : ℕ) → List ℕ → Result ℤ TableFault
-coordinate_of number field text = map_fault (field_fault number field) (number_in (pos 0 -ℤ pos (2 ^ 31)) (pos (2 ^ 31 - 1)) text)
+coordinate_of number field text = map_fault (field_fault number field) (number_in least_coordinate greatest_coordinate text)
 
 -- the entry of an id and the four sides of its box
 abbrev pub entry_of_sides : (number : ℕ) → (id min_x max_x min_y max_y : ℤ) → Result Entry TableFault

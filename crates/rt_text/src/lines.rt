@@ -40,9 +40,7 @@ impl Line {
         requires { length self.old + length text.now ≤ 128 }
         ensures { self.new ≡ self.old ++ text.now }
     {
-        for byte in text {
-            self.bytes.push(*byte);
-        }
+        self.bytes.try_extend_from_slice(text).unwrap();
     }
 
     /// Its bytes.
@@ -84,8 +82,9 @@ pub fn fault_line(fault: &TableFault) -> Line
 
 // A line on one record.
 fn record_line(number: u32, text: &[u8]) -> Line
-    requires { length text.now ≤ 64 }
-    ensures { result ≡ record_line number text.now }
+    requires { length text.now ≤ 95 }
+    ensures line { result ≡ record_line number text.now }
+    ensures short { length result ≤ 33 + length text.now }
 {
     let mut line = Line::new(b"rtfilter: table record ");
     line.put(Buffer::new().format(number).as_bytes());
@@ -99,9 +98,7 @@ fn numbered_line(number: u32, before: &[u8], n: u64, after: &[u8]) -> Line
     requires after { length after.now ≤ 32 }
     ensures { result ≡ numbered_line number before.now n after.now }
 {
-    let mut line = Line::new(b"rtfilter: table record ");
-    line.put(Buffer::new().format(number).as_bytes());
-    line.put(before);
+    let mut line = record_line(number, before);
     line.put(Buffer::new().format(n).as_bytes());
     line.put(after);
     line

@@ -60,7 +60,7 @@ pub fn read_table<R: Read + Drop>(
     header: bool,
     max: u32,
 ) -> Result<Table, TableFault>
-    requires { max ≤ 16777216 }
+    requires { max ≤ most_entries }
     ensures table { IfOk result (λ table. (bytes : List ℕ) → R.remaining reader ≡ Some bytes → table_of bytes header max ≡ Ok table) }
     ensures fault { IfErr result (λ f. (bytes : List ℕ) → R.remaining reader ≡ Some bytes → MayRefuse f (table_of bytes header max)) }
 {

@@ -4,7 +4,7 @@
 //! `rt_filter::run` does the rest, with standard output as its sink.
 #![tactic(auto)]
 
-ghost use Rattle.std.specs.Prelude.{◌<◌};
+ghost use Rattle.std.specs.Prelude.{◌-◌, ◌<◌, ◌^◌};
 
 use rt_filter::{
     ArgFault, Invocation, Name, Outcome, ReadSource, RunFault, Settings, Sink, Source, WriteSink,
@@ -20,6 +20,9 @@ use std::rt::{Env, Files};
 /// What help prints.
 const USAGE: &[u8] =
     b"usage: rtfilter [-H|--header] [--fanout M] [--max-entries N] TABLE [QUERIES]\n";
+
+/// The most pulls of the queries: as many as can be counted.
+const TURNS: u64 = u64::MAX;
 
 /// How the program ends.
 #[derive(Clone, Copy, Debug, PartialEq, Eq)]
@@ -78,15 +81,6 @@ impl From<ArgFault> for Ending {
     }
 }
 
-impl From<io::Error> for Ending {
-    fn from(error: io::Error) -> Ending {
-        match error.kind() {
-            ErrorKind::OutOfMemory => Ending::NoMemory,
-            _ => Ending::BadCommandLine,
-        }
-    }
-}
-
 fn main(rt: HostRuntime) -> ExitCode {
     let ending = match invocation(&rt) {
         Ok(invocation) => filter(&rt, &invocation),
@@ -103,7 +97,7 @@ fn main(rt: HostRuntime) -> ExitCode {
 // What the words of the command line ask for.
 fn invocation<R: Env + AllocGlobal>(rt: &R) -> Result<Invocation, Ending> {
     let mut words = Vec::new(rt.alloc());
-    for word in env::args(rt)? {
+    for word in env::args(rt).map_err(no_words)? {
         let Ok(name) = Name::new(rt.alloc(), word.as_str()) else {
             return Err(Ending::NoMemory);
         };
@@ -112,6 +106,14 @@ fn invocation<R: Env + AllocGlobal>(rt: &R) -> Result<Invocation, Ending> {
         }
     }
     Ok(settings_of(rt.alloc(), words.as_slice())?)
+}
+
+// Why the words can't be had: no memory for them, or one that isn't UTF-8.
+fn no_words(error: io::Error) -> Ending {
+    match error.kind() {
+        ErrorKind::OutOfMemory => Ending::NoMemory,
+        _ => Ending::BadCommandLine,
+    }
 }
 
 fn help(rt: &impl Print) -> Ending {
@@ -152,11 +154,65 @@ fn answer<R: Print + AllocGlobal, T: Read + Drop, S: Source>(
     table: T,
     queries: &mut S,
 ) -> Ending
-    requires { S.failed queries.old < 18446744073709551615 }
+    requires { S.failed queries.old < 2 ^ 64 - 1 }
 {
     let Ok(out) = BufWriter::new(rt.alloc(), io::writer(rt)) else {
         return Ending::NoMemory;
     };
     let mut sink = WriteSink::new(out);
-    Ending::Ran(run(rt.alloc(), settings, table, queries, &mut sink, u64::MAX))
+    Ending::Ran(run(rt.alloc(), settings, table, queries, &mut sink, TURNS))
+}
+
+#[cfg(test)]
+mod tests {
+    use super::{Ending, Outcome, RunFault};
+
+    // The endings that can't be brought about at will, or not each by itself.
+    const ENDINGS: [(Ending, u8, Option<&[u8]>); 8] = [
+        (Ending::Helped, 0, None),
+        (
+            Ending::BadCommandLine,
+            2,
+            Some(b"rtfilter: bad command line\n"),
+        ),
+        (Ending::NoTable, 3, Some(b"rtfilter: cannot open table\n")),
+        (
+            Ending::NoQueries,
+            4,
+            Some(b"rtfilter: cannot open queries\n"),
+        ),
+        (
+            Ending::NotHelped,
+            5,
+            Some(b"rtfilter: cannot write answers\n"),
+        ),
+        (Ending::NoMemory, 6, Some(b"rtfilter: out of memory\n")),
+        (
+            Ending::Ran(Outcome {
+                status: 1,
+                fault: None,
+            }),
+            1,
+            None,
+        ),
+        (
+            Ending::Ran(Outcome {
+                status: 4,
+                fault: Some(RunFault::Read),
+            }),
+            4,
+            Some(b"rtfilter: cannot read queries\n"),
+        ),
+    ];
+
+    #[test]
+    fn endings(rt: HostRuntime) {
+        for (ending, status, text) in ENDINGS {
+            assert_eq!(rt; ending.status(), status);
+            match ending.line() {
+                Some(line) => assert_eq!(rt; Some(line.bytes()), text),
+                None => assert_eq!(rt; None, text),
+            }
+        }
+    }
 }

@@ -1,5 +1,4 @@
-use Rattle.std.proofs.Common.{◌≡◌, ◌∙◌, refl, ap}
-use Rattle.std.specs.Prelude.{◌++◌, [], List, ℕ}
+use Rattle.std.proofs.Common.{◌∙◌}
 use Rattle.rt_filter.proofs.RunLemmas.{run_whole}
 use Rattle.rt_filter.proofs.filter.replies.Goals as goal
 
@@ -7,7 +6,5 @@ pub returns-clause-whole : goal.returns-clause-whole
 returns-clause-whole g c table queries is_table is_queries =
     let held = rw (c.header.ensures, c.max_entries.ensures.value) at (c.in_ok-table.ensures.table table is_table) in
     let pulled = rw is_queries at c.in_ok-pull_all.ensures.all in
-    let no_queries : c.new-queries.result.items ≡ [] = c.new-queries.ensures.items in
-    let no_out : c.new-out.result.items ≡ [] = c.new-out.ensures.items in
-    run_whole c.args.settings.now table queries c.deref.result.now c.answer_lines.new.out.items c.in_ok-bad.bad c.in_ok-table.table
-    held (c.deref.ensures.value ∙ pulled.1 ∙ ap (λ (none : List ℕ). none ++ queries) no_queries) (c.in_ok-bad.ensures.out ∙ rw no_out refl) c.in_ok-bad.ensures.bad
+    run_whole c.args.settings.now table queries c.deref.result.now c.answer_lines.new.out.items c.new-queries.result.items c.new-out.result.items c.in_ok-bad.bad c.in_ok-table.table
+    held c.new-queries.ensures.items (c.deref.ensures.value ∙ pulled.1) c.new-out.ensures.items c.in_ok-bad.ensures.out c.in_ok-bad.ensures.bad
