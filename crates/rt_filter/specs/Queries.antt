@@ -4,20 +4,20 @@ use Rattle.std.specs.List.{slice_split}
 use Rattle.std.specs.Str.{bytes_eq}
 use Rattle.std.specs.Str.Lines.{strip_carriage_return}
 use Rattle.rt_geo.specs.Boxes.{greatest_coordinate, least_coordinate, rect_of}
+use Rattle.rt_geo.specs.declared.order.Order.TheVariants.{ById}
+use Rattle.rt_geo.specs.declared.region.Region.{Region}
+use Rattle.rt_geo.specs.declared.region.Region.TheVariants.{Window}
 use Rattle.rt_filter.specs.Lines.{is_empty}
 use Rattle.rt_text.specs.Numbers.{number_in}
 use Rattle.rt_text.specs.Steps.{◌>>=◌, map_fault}
 use Rattle.rt_text.specs.declared.numbers.NumberFault.{NumberFault}
 use Rattle.rt_text.specs.declared.numbers.NumberFault.TheVariants as bad
-use Rattle.rt_filter.specs.declared.query.Order.TheVariants.{ById}
 use Rattle.rt_filter.specs.declared.query.Parsed.{Parsed}
 use Rattle.rt_filter.specs.declared.query.Parsed.TheVariants as parsed
 use Rattle.rt_filter.specs.declared.query.Query.{Query}
 use Rattle.rt_filter.specs.declared.query.Query.TheVariants.{Find}
 use Rattle.rt_filter.specs.declared.query.QueryFault.{QueryFault}
 use Rattle.rt_filter.specs.declared.query.QueryFault.TheVariants as fault
-use Rattle.rt_filter.specs.declared.query.Region.{Region}
-use Rattle.rt_filter.specs.declared.query.Region.TheVariants.{Window}
 
 -- a space or a tab
 abbrev pub is_blank : ℕ → Bool
@@ -51,7 +51,7 @@ coordinate words = number_word least_coordinate greatest_coordinate words
 abbrev pub window_of_sides : (min_x max_x min_y max_y : ℤ) → Result Region QueryFault
 window_of_sides min_x max_x min_y max_y =
     if int_lt max_x min_x || int_lt max_y min_y then Err fault.MinAboveMax
-    else Ok (Window (rect_of min_x max_x min_y max_y))
+    else Ok (Window (record { 0 = rect_of min_x max_x min_y max_y }))
 
 -- a window: its minimum and its maximum on each axis
 abbrev pub window : List (List ℕ) → Result (Taken Region) QueryFault
@@ -77,7 +77,7 @@ finished query (word ∷ more) = Err fault.StrayWord
 abbrev pub find : List (List ℕ) → Result Query QueryFault
 find words = do
   found ← region words
-  finished (Find found.0 ById None) found.1
+  finished (Find found.0 (ById (record {})) None) found.1
 
 -- a query by its first word
 abbrev pub query : List (List ℕ) → Result Query QueryFault

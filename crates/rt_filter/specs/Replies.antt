@@ -3,7 +3,9 @@ use Rattle.std.specs.Prelude.{ℕ, nat_lt, Bool, true, false, if◌then◌else�
 use Rattle.std.specs.Fmt.{signed_decimal}
 use Rattle.std.specs.List.{list_any}
 use Rattle.rt_geo.specs.declared.bounds.Entry.{Entry}
-use Rattle.rt_filter.specs.Answers.{Answer, accepts, answers, score}
+use Rattle.rt_geo.specs.Orders.{order_score}
+use Rattle.rt_geo.specs.Regions.{region_accepts}
+use Rattle.rt_filter.specs.Answers.{Answer, answers}
 use Rattle.rt_filter.specs.Queries.{query_of}
 use Rattle.rt_filter.specs.declared.query.Parsed.{Parsed}
 use Rattle.rt_filter.specs.declared.query.Parsed.TheVariants as parsed
@@ -39,7 +41,7 @@ judged_line line = if nat_lt longest_line (length line) then parsed.Fault fault.
 -- the reply to a query: a line for each answer, then their number
 abbrev pub query_reply : List Entry → (line : ℕ) → Query → List ℕ
 query_reply entries line (Find region order limit) =
-    let found = answers entries (accepts region) (score order) limit in
+    let found = answers entries (region_accepts region) (order_score order) limit in
     flat_map answer_line found ++ ok_line line (length found)
 
 -- the reply to what a line asks

@@ -2,9 +2,12 @@
 
 ghost use Rattle.std.specs.Prelude.{◌≡◌, IfOk};
 ghost use Rattle.rt_filter.specs.Sorting.{first_of};
-ghost use Rattle.rt_filter.specs.Answers.{accepts, answers, score, scored};
+ghost use Rattle.rt_geo.specs.Laws.{extent_of_entry};
+ghost use Rattle.rt_geo.specs.Orders.{order_score};
+ghost use Rattle.rt_geo.specs.Regions.{region_accepts};
+ghost use Rattle.rt_filter.specs.Answers.{answers, scored};
 
-use crate::query::{Order, Region};
+use rt_geo::{Entry, Order, Rank, Region, Shape, Within};
 use rt_tree::Table;
 use std::alloc::{AllocError, Global};
 
@@ -17,7 +20,7 @@ pub(crate) fn answers(
     order: &Order,
     limit: Option<u64>,
 ) -> Result<Vec<(i64, u128)>, AllocError>
-    ensures { IfOk result (λ found. found.items ≡ answers table.now (accepts region.now) (score order.now) limit) }
+    ensures { IfOk result (λ found. found.items ≡ answers table.now (region_accepts region.now) (order_score order.now) limit) }
 {
     let mut found = accepted(alloc, table, region, order)?;
     found.sort_unstable_by_key(|answer| (answer.1, answer.0));
@@ -41,12 +44,29 @@ fn accepted(
     region: &Region,
     order: &Order,
 ) -> Result<Vec<(i64, u128)>, AllocError>
-    ensures { IfOk result (λ found. found.items ≡ scored table.now (accepts region.now) (score order.now)) }
+    ensures { IfOk result (λ found. found.items ≡ scored table.now (region_accepts region.now) (order_score order.now)) }
 {
     table
         .entries()
         .iter()
-        .filter(|entry| region.accepts(entry.bounds))
-        .map(|entry| (entry.id, order.score(entry.bounds)))
+        .filter(|entry| accepts(region, entry))
+        .map(|entry| (entry.id, score(order, entry)))
         .collect(alloc)
+}
+
+// Whether a shape accepts the entry's box.
+fn accepts<S: Shape>(shape: &S, entry: &Entry) -> bool
+    ensures { result ≡ S.accepts shape.now (extent_of_entry entry.now) }
+{
+    match shape.within(&entry.info()) {
+        Within::Not => false,
+        Within::Partly | Within::Fully => true,
+    }
+}
+
+// The score that a rank gives the entry's box.
+fn score<R: Rank>(rank: &R, entry: &Entry) -> u128
+    ensures { result ≡ R.score rank.now (extent_of_entry entry.now) }
+{
+    rank.score(&entry.info())
 }

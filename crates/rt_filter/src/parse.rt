@@ -4,9 +4,9 @@ ghost use Rattle.std.specs.Prelude.{◌≡◌, ◌≤ℤ◌, ◌∷◌, IfOk};
 ghost use Rattle.std.specs.Str.Lines.{strip_carriage_return};
 ghost use Rattle.rt_filter.specs.Queries.{Takes, coordinate, find, is_comment, number_word, query, query_of, region, window};
 
-use crate::query::{Order, Parsed, Query, QueryFault, Region};
+use crate::query::{Parsed, Query, QueryFault};
 use crate::words::Words;
-use rt_geo::Bounds;
+use rt_geo::{Bounds, ById, Order, Region, Window};
 use rt_text::{NumberFault, number};
 
 /// What a line asks, without its line feed. One carriage return at its end is dropped.
@@ -58,7 +58,7 @@ fn find(words: &mut Words) -> Result<Query, QueryFault>
     match words.next() {
         None => Ok(Query::Find {
             region,
-            order: Order::ById,
+            order: Order::ById(ById),
             limit: None,
         }),
         Some(_) => Err(QueryFault::StrayWord),
@@ -86,7 +86,7 @@ fn window(words: &mut Words) -> Result<Region, QueryFault>
     let min_y = coordinate(words)?;
     let max_y = coordinate(words)?;
     match Bounds::new(min_x, max_x, min_y, max_y) {
-        Some(bounds) => Ok(Region::Window(bounds)),
+        Some(bounds) => Ok(Region::Window(Window(bounds))),
         None => Err(QueryFault::MinAboveMax),
     }
 }

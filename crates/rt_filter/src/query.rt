@@ -1,26 +1,9 @@
 //! What a query line asks.
 
-ghost use Rattle.std.specs.Prelude.{◌≡◌};
-ghost use Rattle.rt_filter.specs.Answers.{accepts, score};
-
-use rt_geo::{Bounds, overlaps};
-
-/// Which boxes a query accepts.
-#[derive(Clone, Copy, Debug, PartialEq, Eq)]
-pub(crate) enum Region {
-    /// Those that share a point with the window.
-    Window(Bounds),
-}
-
-/// How a query scores boxes: the lowest score comes first.
-#[derive(Clone, Copy, Debug, PartialEq, Eq)]
-pub(crate) enum Order {
-    /// Every score is 0, so that ids alone decide.
-    ById,
-}
+use rt_geo::{Order, Region};
 
 /// A query.
-#[derive(Clone, Copy, Debug, PartialEq, Eq)]
+#[derive(Debug, PartialEq, Eq, Drop)]
 pub(crate) enum Query {
     /// The accepted boxes in order, the first so many where there is a limit.
     Find {
@@ -52,33 +35,10 @@ pub(crate) enum QueryFault {
 }
 
 /// What a query line holds.
-#[derive(Clone, Copy, Debug, PartialEq, Eq)]
+#[derive(Debug, PartialEq, Eq, Drop)]
 pub(crate) enum Parsed {
     /// No words, or a comment.
     Skip,
     Query(Query),
     Fault(QueryFault),
-}
-
-impl Region {
-    /// Whether it accepts a box.
-    pub(crate) fn accepts(&self, bounds: Bounds) -> bool
-        ensures { result ≡ accepts self.now bounds }
-    {
-        match self {
-            Region::Window(window) => overlaps(bounds, *window),
-        }
-    }
-}
-
-impl Order {
-    /// The score of a box.
-    pub(crate) fn score(&self, bounds: Bounds) -> u128
-        ensures { result ≡ score self.now bounds }
-    {
-        let _ = bounds;
-        match self {
-            Order::ById => 0,
-        }
-    }
 }

@@ -3,7 +3,9 @@
 ghost use Rattle.std.specs.Prelude.{◌≡◌};
 ghost use Rattle.std.specs.Option.{SomeIff};
 ghost use Rattle.rt_geo.specs.Boxes.{IsLeastAround, IsRect, area, hull, inside, overlaps, range_lies_in, ranges_meet, rect_of};
+ghost use Rattle.rt_geo.specs.Laws.{IsWellFormed};
 
+use crate::geometry::{Info, Within};
 use std::marker::Model;
 
 /// A closed box: a minimum and a maximum on each axis, each minimum at most its maximum.
@@ -36,6 +38,24 @@ pub struct Entry {
     pub id: i64,
     /// The row's box.
     pub bounds: Bounds,
+}
+
+impl Entry {
+    /// What a query function is asked about the entry by itself, outside of a tree.
+    pub fn info(&self) -> Info
+        ensures asked { result ≡ record { bounds = self.now.bounds; level = 0; top = 0; parent_within = Within.Partly; parent_score = 0 } }
+        ensures well_formed { IsWellFormed result }
+    {
+        // (read, so that its sides are known to be those of a box)
+        let _least = self.bounds.min_x();
+        Info {
+            bounds: self.bounds,
+            level: 0,
+            top: 0,
+            parent_within: Within::Partly,
+            parent_score: 0,
+        }
+    }
 }
 
 impl Bounds {

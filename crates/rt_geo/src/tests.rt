@@ -8,8 +8,9 @@ ghost use Rattle.std.specs.Prelude.{◌≡◌};
 ghost use Rattle.rt_geo.specs.declared.geometry.Within.TheVariants.{Partly};
 
 use crate::{
-    All, Bounds, ById, Circle, Counted, Covers, Geometry, Guided, Info, Inside, Near, Order, Point,
-    Rank, Region, Shape, Smallest, Verdict, Window, Within, far2, hull, inside, near2, overlaps,
+    All, Bounds, ById, Circle, Counted, Covers, Entry, Geometry, Guided, Info, Inside, Near, Order,
+    Point, Rank, Region, Shape, Smallest, Verdict, Window, Within, far2, hull, inside, near2,
+    overlaps,
 };
 use left_of::LeftOf;
 use std::process::Abort;
@@ -54,6 +55,19 @@ fn bounds_tell_their_sides(rt: HostRuntime) {
     assert!(rt; Bounds::new(1, 0, 0, 0).is_none());
     assert!(rt; Bounds::new(0, 0, 1, 0).is_none());
     assert!(rt; Bounds::new(i32::MIN, i32::MIN, i32::MAX, i32::MAX).is_some());
+}
+
+#[test]
+fn an_entry_is_asked_about_by_itself(rt: HostRuntime) {
+    let bounds = boxed(&rt, -5, 30, -6, 10);
+    let asked = Info {
+        bounds,
+        level: 0,
+        top: 0,
+        parent_within: Within::Partly,
+        parent_score: 0,
+    };
+    assert_eq!(rt; Entry { id: 7, bounds }.info(), asked);
 }
 
 #[test]
