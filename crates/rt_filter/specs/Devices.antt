@@ -16,7 +16,7 @@ abbrev pub Pushes : {E : Type 0} → Option (List ℕ) → Option (List ℕ) →
 Pushes old new pushed piece =
     MatchResult pushed (λ n. Appends old new (take n piece)) (λ _. IsUnmoved old new)
 
--- what a device is of, and how many of its calls failed
+-- a device over a reader or a writer of std, and how many of its calls failed
 pub record Device (D : Type 0) : Type 0 where
   pub device : D
   pub failures : ℕ

@@ -27,7 +27,7 @@ is_blank c = c == 32 || c == 9
 abbrev pub words : List ℕ → List (List ℕ)
 words line = filter (λ word. not (is_empty word)) (slice_split is_blank line)
 
--- a word, and the words after it
+-- what was read, and the words that are left after it
 abbrev pub Taken : Type 0 → Type 0
 Taken X = X × List (List ℕ)
 
@@ -84,7 +84,7 @@ abbrev pub query : List (List ℕ) → Result Query QueryFault
 query [] = Err fault.MissingWord
 query (word ∷ more) = if bytes_eq word (codes "find") then find more else Err fault.UnknownVerb
 
--- a word that makes its line a comment
+-- a word that makes its line a comment: it begins with `#`, which is 35
 abbrev pub is_comment : List ℕ → Bool
 is_comment [] = false
 is_comment (c ∷ rest) = c == 35

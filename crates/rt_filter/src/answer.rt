@@ -12,7 +12,7 @@ use rt_tree::Table;
 use std::alloc::{AllocError, Global};
 
 /// The ids and scores of the boxes that the region accepts, by score and then id, the first so many where
-/// there is a limit.
+/// there is a limit. An error means that no memory is left.
 pub(crate) fn answers(
     alloc: Global,
     table: &Table,

@@ -20,7 +20,7 @@ const PULL: usize = LONGEST_LINE + 1;
 #[derive(Clone, Copy, Debug, Drop, Error, PartialEq, Eq)]
 pub enum RunFault {
     /// The table is faulty, or couldn't be read.
-    #[error("faulty table")]
+    #[error("faulty or unreadable table")]
     Table(TableFault),
     /// A pull of the queries failed, or the turns were used up.
     #[error("cannot read queries")]

@@ -15,7 +15,8 @@ use std::alloc::{AllocError, Global};
 /// The most bytes of a query line, a carriage return included and the line feed not.
 pub(crate) const LONGEST_LINE: usize = 4096;
 
-/// Puts the replies to all lines of the queries at the end of `out`, and tells whether some line is faulty.
+/// Puts the replies to all lines of the queries at the end of `out`, and tells whether some line is faulty. An error
+/// means that no memory is left.
 pub(crate) fn answer_lines(
     alloc: Global,
     table: &Table,
@@ -39,7 +40,7 @@ pub(crate) fn answer_lines(
     Ok(bad)
 }
 
-// The same for one line.
+// Puts the reply to one line there, and tells whether it is faulty.
 fn reply(
     alloc: Global,
     table: &Table,
@@ -63,6 +64,7 @@ fn reply(
     }
 }
 
+// What a line asks, unless it is too long.
 fn judged(line: &[u8]) -> Parsed
     ensures { result ≡ judged_line line.now }
 {
@@ -72,7 +74,7 @@ fn judged(line: &[u8]) -> Parsed
     parse(line)
 }
 
-// The same for a query.
+// Puts the reply to a query there.
 fn answer(
     alloc: Global,
     table: &Table,

@@ -42,7 +42,8 @@ pub trait Sink {
         ensures { result ≡ failed self.now };
 }
 
-/// A writer of std as a sink. Each error of its `write` and `flush` is one failure.
+/// A writer of std as a sink. Each error of its `write` and `flush` is one failure, and so is each write that takes no
+/// byte.
 #[derive(Drop)]
 pub struct WriteSink<W: Write> {
     writer: W,
@@ -58,6 +59,7 @@ impl<W: Write> Model for WriteSink<W> {
 }
 
 impl<W: Write> WriteSink<W> {
+    /// The writer, none of its calls failed yet.
     pub fn new(writer: W) -> WriteSink<W>
         ensures writer { result.device ≡ writer }
         ensures count { result.failures ≡ 0 }

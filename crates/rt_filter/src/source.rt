@@ -48,6 +48,7 @@ impl<R: Read> Model for ReadSource<R> {
 }
 
 impl<R: Read> ReadSource<R> {
+    /// The reader, none of its calls failed yet.
     pub fn new(reader: R) -> ReadSource<R>
         ensures reader { result.device ≡ reader }
         ensures count { result.failures ≡ 0 }

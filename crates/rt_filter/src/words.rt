@@ -22,6 +22,7 @@ impl<'a> Model for Words<'a> {
 }
 
 impl<'a> Words<'a> {
+    /// All words of a line.
     pub(crate) fn new(line: &'a [u8]) -> Words<'a>
         ensures { result ≡ words line.now }
     {

@@ -14,7 +14,7 @@ digits_number (c ∷ cs) = if list_all is_ascii_digit (c ∷ cs) then Some (digi
 abbrev pub negative : ℕ → ℤ
 negative n = pos 0 -ℤ pos n
 
--- the number that a text writes: an optional sign and one or more ASCII digits, and nothing else
+-- the number that a text writes: an optional sign (`+` is 43, `-` is 45) and one or more ASCII digits, and nothing else
 abbrev pub number_text : List ℕ → Option ℤ
 number_text [] = None
 number_text (c ∷ cs) =

@@ -9,5 +9,5 @@ Err e >>= next = Err e
 
 -- the same value, or the fault in other words
 abbrev pub map_fault : {A E F : Type 0} → (E → F) → Result A E → Result A F
-map_fault words (Ok a) = Ok a
-map_fault words (Err e) = Err (words e)
+map_fault told_as (Ok a) = Ok a
+map_fault told_as (Err e) = Err (told_as e)

@@ -18,7 +18,7 @@ AreDistinct (e ∷ entries) = (has_id entries e.id ≡ false) × AreDistinct ent
 abbrev pub most_entries : ℕ
 most_entries = 16777216
 
--- a table keeps the ids of its entries beside them
+-- a table: the ids that it keeps are those of its entries, which are distinct and no more than the most
 pub record IsTable (ids : BTreeSet ℤ) (entries : List Entry) : Type 0 where
   pub ids_are : (id : ℤ) → contains int_cmp ids id ≡ has_id entries id
   pub distinct : AreDistinct entries

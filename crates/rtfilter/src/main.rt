@@ -71,21 +71,12 @@ impl Ending {
     }
 }
 
-impl From<ArgFault> for Ending {
-    fn from(fault: ArgFault) -> Ending {
-        match fault {
-            ArgFault::Help => Ending::Helped,
-            ArgFault::Usage => Ending::BadCommandLine,
-            ArgFault::Memory => Ending::NoMemory,
-        }
-    }
-}
-
 fn main(rt: HostRuntime) -> ExitCode {
     let ending = match invocation(&rt) {
         Ok(invocation) => filter(&rt, &invocation),
-        Err(Ending::Helped) => help(&rt),
-        Err(ending) => ending,
+        Err(ArgFault::Help) => help(&rt),
+        Err(ArgFault::Usage) => Ending::BadCommandLine,
+        Err(ArgFault::Memory) => Ending::NoMemory,
     };
     if let Some(line) = ending.line() {
         // Nothing is left to tell where standard error fails too.
@@ -95,24 +86,21 @@ fn main(rt: HostRuntime) -> ExitCode {
 }
 
 // What the words of the command line ask for.
-fn invocation<R: Env + AllocGlobal>(rt: &R) -> Result<Invocation, Ending> {
+fn invocation<R: Env + AllocGlobal>(rt: &R) -> Result<Invocation, ArgFault> {
     let mut words = Vec::new(rt.alloc());
     for word in env::args(rt).map_err(no_words)? {
-        let Ok(name) = Name::new(rt.alloc(), word.as_str()) else {
-            return Err(Ending::NoMemory);
-        };
-        if words.push(name).is_err() {
-            return Err(Ending::NoMemory);
+        if words.push(Name::new(rt.alloc(), word.as_str())?).is_err() {
+            return Err(ArgFault::Memory);
         }
     }
-    Ok(settings_of(rt.alloc(), words.as_slice())?)
+    settings_of(rt.alloc(), words.as_slice())
 }
 
 // Why the words can't be had: no memory for them, or one that isn't UTF-8.
-fn no_words(error: io::Error) -> Ending {
+fn no_words(error: io::Error) -> ArgFault {
     match error.kind() {
-        ErrorKind::OutOfMemory => Ending::NoMemory,
-        _ => Ending::BadCommandLine,
+        ErrorKind::OutOfMemory => ArgFault::Memory,
+        _ => ArgFault::Usage,
     }
 }
 
