@@ -7,7 +7,7 @@ use Rattle.std.proofs.lemmas.List.{append-nil, drop_all, length-drop, take_all}
 use Rattle.std.proofs.lemmas.List.Splits.{slice_split_first}
 use Rattle.std.proofs.lemmas.List.Sums.{position_or_len_is}
 use Rattle.memchr.specs.Find.{IsFirstByte, is_byte}
-use Rattle.rt_geo.specs.declared.bounds.Entry.{Entry}
+use Rattle.rt_geo.specs.declared.entry.Entry.{Entry}
 use Rattle.rt_filter.specs.Lines.{is_line_feed, lines, lines_of_parts}
 use Rattle.rt_filter.specs.Replies.{any_fault, is_fault, judged_line, output, reply}
 

@@ -1,7 +1,7 @@
 -- A run over a table that was loaded, and over one that was refused.
 use Rattle.std.proofs.Common.{◌≡◌, ◌∙◌, ℕ, Bool, List, [], ◌++◌, None, sym, ap, ap₂}
 use Rattle.std.specs.Prelude.{Ok, if◌then◌else◌, true}
-use Rattle.rt_geo.specs.declared.bounds.Entry.{Entry}
+use Rattle.rt_geo.specs.declared.entry.Entry.{Entry}
 use Rattle.rt_text.specs.Tables.{MayRefuse, table_of}
 use Rattle.rt_text.specs.declared.tables.TableFault.{TableFault}
 use Rattle.rt_text.specs.declared.tables.TableFault.TheVariants as load

@@ -1,7 +1,7 @@
 -- What a query answers: filter, score, sort, take.
 use Rattle.std.specs.Prelude.{ℕ, ℤ, int_le, nat_lt, ◌==◌, Bool, if◌then◌else◌, List, Option, filter, map}
 use Rattle.rt_geo.specs.Laws.{Extent, extent_of_entry}
-use Rattle.rt_geo.specs.declared.bounds.Entry.{Entry}
+use Rattle.rt_geo.specs.declared.entry.Entry.{Entry}
 use Rattle.rt_filter.specs.Sorting.{first_of, sorted}
 
 -- an id with its score

@@ -1,6 +1,6 @@
 -- A whole run: what it writes, the fault that it reports, and its status.
 use Rattle.std.specs.Prelude.{ℕ, ◌≤◌, Bool, true, if◌then◌else◌, List, [], Option, Some, None, Result, Ok, Err}
-use Rattle.rt_geo.specs.declared.bounds.Entry.{Entry}
+use Rattle.rt_geo.specs.declared.entry.Entry.{Entry}
 use Rattle.rt_filter.specs.Lines.{lines}
 use Rattle.rt_filter.specs.Replies.{any_fault, output}
 use Rattle.rt_text.specs.Tables.{table_of}

@@ -1,6 +1,7 @@
 pub mod Boxes
 pub mod Counted
 pub mod Distances
+pub mod Entries
 pub mod Examples
 pub mod Laws
 pub mod Lemmas

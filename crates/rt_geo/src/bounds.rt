@@ -3,9 +3,7 @@
 ghost use Rattle.std.specs.Prelude.{◌≡◌};
 ghost use Rattle.std.specs.Option.{SomeIff};
 ghost use Rattle.rt_geo.specs.Boxes.{IsLeastAround, IsRect, area, hull, inside, overlaps, range_lies_in, ranges_meet, rect_of};
-ghost use Rattle.rt_geo.specs.Laws.{IsWellFormed};
 
-use crate::geometry::{Info, Within};
 use std::marker::Model;
 
 /// A closed box: a minimum and a maximum on each axis, each minimum at most its maximum.
@@ -29,33 +27,6 @@ impl Model for Bounds {
     ghost invariant = { λ b. IsRect (rect_of b.min_x b.max_x b.min_y b.max_y) };
 
     ghost inverse = { λ r. record { min_x = r.min_x; max_x = r.max_x; min_y = r.min_y; max_y = r.max_y } };
-}
-
-/// A box with its id: one row of a table.
-#[derive(Clone, Copy, Debug, PartialEq, Eq)]
-pub struct Entry {
-    /// The row's id, which no other row of its table has.
-    pub id: i64,
-    /// The row's box.
-    pub bounds: Bounds,
-}
-
-impl Entry {
-    /// What a query function is asked about the entry by itself, outside of a tree.
-    pub fn info(&self) -> Info
-        ensures asked { result ≡ record { bounds = self.now.bounds; level = 0; top = 0; parent_within = Within.Partly; parent_score = 0 } }
-        ensures well_formed { IsWellFormed result }
-    {
-        // (read, so that its sides are known to be those of a box)
-        let _least = self.bounds.min_x();
-        Info {
-            bounds: self.bounds,
-            level: 0,
-            top: 0,
-            parent_within: Within::Partly,
-            parent_score: 0,
-        }
-    }
 }
 
 impl Bounds {

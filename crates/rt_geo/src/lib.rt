@@ -21,6 +21,7 @@
 mod bounds;
 mod counted;
 mod distance;
+mod entry;
 mod geometry;
 mod guided;
 mod order;
@@ -28,9 +29,10 @@ mod ranks;
 mod region;
 mod shapes;
 
-pub use bounds::{Bounds, Entry, hull, inside, overlaps};
+pub use bounds::{Bounds, hull, inside, overlaps};
 pub use counted::Counted;
 pub use distance::{Point, far2, near2};
+pub use entry::Entry;
 pub use geometry::{Geometry, Info, Rank, Shape, Verdict, Within};
 pub use guided::Guided;
 pub use order::Order;

@@ -3,7 +3,7 @@ use Rattle.std.proofs.Common.{◌≡◌, pos, negsuc, false, true, List, [], ◌
 use Rattle.std.specs.Prelude.{Result, Ok, Err, codes}
 use Rattle.csv.proofs.OnLiterals.{csv_on_literals}
 use Rattle.rt_geo.specs.Boxes.{rect_of}
-use Rattle.rt_geo.specs.declared.bounds.Entry.{Entry}
+use Rattle.rt_geo.specs.declared.entry.Entry.{Entry}
 use Rattle.rt_text.specs.Numbers.{number_in}
 use Rattle.rt_text.specs.Tables.{entries_from, table_of}
 use Rattle.rt_text.specs.declared.numbers.NumberFault.TheVariants as bad

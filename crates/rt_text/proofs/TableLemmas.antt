@@ -3,7 +3,7 @@ use Rattle.std.proofs.Common.{◌≡◌, ◌≢◌, ◌+◌, ◌<◌, ◌≤◌,
 use Rattle.std.specs.Prelude.{Result, Ok, Err, if◌then◌else◌, nat_le, IsSome}
 use Rattle.std.proofs.lemmas.Bool.Decides.{nat_tests}
 use Rattle.csv.specs.Records.{field_at}
-use Rattle.rt_geo.specs.declared.bounds.Entry.{Entry}
+use Rattle.rt_geo.specs.declared.entry.Entry.{Entry}
 use Rattle.rt_text.specs.Steps.{◌>>=◌}
 use Rattle.rt_text.specs.Tables.{MayRefuse, entries_from, entry_of_fields, judged, new_entry, records_of, table_of}
 use Rattle.rt_text.specs.declared.tables.TableFault.{TableFault}

@@ -5,7 +5,7 @@ use Rattle.std.proofs.lemmas.Bool.Decides.{nat_tests}
 use Rattle.csv.specs.Reading.{ReadRecord, default_config, source_of, strip_bom}
 use Rattle.csv.specs.declared.parser.State.TheVariants as st
 use Rattle.csv.specs.declared.reader.Reader.{Reader}
-use Rattle.rt_geo.specs.declared.bounds.Entry.{Entry}
+use Rattle.rt_geo.specs.declared.entry.Entry.{Entry}
 use Rattle.rt_text.specs.Tables.{MayRefuse, judged, table_of}
 use Rattle.rt_text.specs.declared.tables.TableFault.{TableFault}
 use Rattle.rt_text.proofs.Records.{records_after, records_after-end, records_after-found}

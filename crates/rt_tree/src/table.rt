@@ -27,7 +27,7 @@ pub struct Table {
 
 impl Model for Table {
     ghost use Rattle.std.specs.Prelude.{List};
-    ghost use Rattle.rt_geo.specs.declared.bounds.Entry.{Entry};
+    ghost use Rattle.rt_geo.specs.declared.entry.Entry.{Entry};
     ghost use Rattle.rt_tree.specs.Entries.{IsTable};
 
     ghost Value = { List Entry };

@@ -1,0 +1,34 @@
+//! Entries: boxes with their ids.
+
+ghost use Rattle.std.specs.Prelude.{◌≡◌};
+ghost use Rattle.rt_geo.specs.Laws.{IsWellFormed};
+
+use crate::bounds::Bounds;
+use crate::geometry::{Info, Within};
+
+/// A box with its id: one row of a table.
+#[derive(Clone, Copy, Debug, PartialEq, Eq)]
+pub struct Entry {
+    /// The row's id, which no other row of its table has.
+    pub id: i64,
+    /// The row's box.
+    pub bounds: Bounds,
+}
+
+impl Entry {
+    /// What a query function is asked about the entry by itself, outside of a tree.
+    pub fn info(&self) -> Info
+        ensures asked { result ≡ record { bounds = self.now.bounds; level = 0; top = 0; parent_within = Within.Partly; parent_score = 0 } }
+        ensures well_formed { IsWellFormed result }
+    {
+        // (read, so that its sides are known to be those of a box)
+        let _least = self.bounds.min_x();
+        Info {
+            bounds: self.bounds,
+            level: 0,
+            top: 0,
+            parent_within: Within::Partly,
+            parent_score: 0,
+        }
+    }
+}
