@@ -3,6 +3,7 @@ use Rattle.std.proofs.Common.{◌≡◌, ◌∙◌, ◌+◌, ◌<◌, ◌≤◌,
 use Rattle.std.specs.Prelude.{IfSome}
 use Rattle.std.specs.Io.{StartsWith}
 use Rattle.std.specs.Io.KnownBytes.{Appends, Consumes, IsAtEnd, Keeps}
+use Rattle.std.proofs.Math.Seq.{take-append_seam}
 use Rattle.std.proofs.lemmas.List.{length-append, length-take-le, take-append-drop}
 use Rattle.rt_device.specs.Devices.{IsUnmoved}
 use Rattle.rt_filter.specs.Endings.{WentPrefix}
@@ -49,7 +50,7 @@ pushed_all all old mid new (c ∷ rest) p z k = absurd (omega (arith, z))
 
 -- the front of a list is a prefix of it
 prefix : (out rest all : List ℕ) → all ≡ out ++ rest → StartsWith all out
-prefix out rest all e = rw e (take_prefix out rest)
+prefix out rest all e = rw e (take-append_seam out rest)
 
 unmoved : (xs : List ℕ) (new : Option (List ℕ)) (all out rest before : List ℕ) → IsUnmoved (Some xs) new → xs ≡ before ++ out → all ≡ out ++ rest
     → WentPrefix before new all

@@ -1,5 +1,6 @@
 mod AnswerLemmas
 mod DeviceLemmas
+mod LevelLemmas
 mod LineLemmas
 mod RunLemmas
 mod RunRows

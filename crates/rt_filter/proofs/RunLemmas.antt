@@ -15,7 +15,7 @@ use Rattle.rt_filter.specs.Stages.{Stops}
 use Rattle.rt_filter.specs.declared.filter.RunFault.TheVariants as run
 
 -- what is loaded of a table's entries, or of its fault
-abbrev loaded_with : Choices → Result (List Entry) TableFault → Result Loaded TableFault
+abbrev pub loaded_with : Choices → Result (List Entry) TableFault → Result Loaded TableFault
 loaded_with choices table = do
   entries ← table
   Ok (record { entries = entries; fanout = choices.fanout })

@@ -117,10 +117,12 @@ fn put_levels(line: u128, levels: &Levels, out: &mut Vec<u8>) -> Result<(), Allo
     requires { length levels.now < 2 ^ 8 }
     ensures { OnOk result (out.new.items ≡ out.old.items ++ levels_reply line levels.now) }
 {
-    for level in (0..levels.count()).rev() {
+    let count = levels.count();
+    for above in 0..count {
+        let level = count - 1 - above;
         put(&level_line(level, levels.size(level)), out)?;
     }
-    put(&ok_line(line, u64::from(levels.count())), out)
+    put(&ok_line(line, u64::from(count)), out)
 }
 
 // Puts a line there.
