@@ -1,5 +1,6 @@
 -- The table that a text of CSV gives, or what is wrong with it.
-use Rattle.std.specs.Prelude.{◌≡◌, ℕ, ◌+◌, ◌-◌, ◌^◌, ℤ, pos, ◌-ℤ◌, int_lt, nat_le, Bool, true, false, if◌then◌else◌, List, [], ◌∷◌, ◌++◌, length, drop, Result, Ok, Err}
+use Rattle.std.specs.List.{slice_index_or}
+use Rattle.std.specs.Prelude.{◌≡◌, ◌⊎◌, ◌==◌, ℕ, ◌+◌, ◌-◌, ◌^◌, ℤ, pos, ◌-ℤ◌, int_lt, nat_le, Bool, true, false, if◌then◌else◌, List, [], ◌∷◌, ◌++◌, length, drop, Result, Ok, Err}
 use Rattle.csv.specs.Reading.{default_config, records, strip_bom}
 use Rattle.rt_geo.specs.Boxes.{greatest_coordinate, least_coordinate, rect_of}
 use Rattle.rt_geo.specs.declared.entry.Entry.{Entry}
@@ -36,16 +37,29 @@ entry_of_sides number id min_x max_x min_y max_y =
     else if int_lt max_y min_y then Err (fault.MinAboveMax number axis.Y)
     else Ok (record { id = id; bounds = rect_of min_x max_x min_y max_y })
 
--- the entry of a record: its fields from left to right, then its sides
-abbrev pub entry_of_fields : (number : ℕ) → List (List ℕ) → Result Entry TableFault
-entry_of_fields number (id ∷ min_x ∷ max_x ∷ min_y ∷ max_y ∷ []) = do
-  id ← id_of number id
-  min_x ← coordinate_of number 2 min_x
-  max_x ← coordinate_of number 3 max_x
-  min_y ← coordinate_of number 4 min_y
-  max_y ← coordinate_of number 5 max_y
+-- how many fields a record has: an id and the four sides of its box
+abbrev pub fields_wanted : ℕ
+fields_wanted = 5
+
+-- the text of the field at a place, counted from 0
+abbrev pub field_text : List (List ℕ) → (place : ℕ) → List ℕ
+field_text fields place = slice_index_or fields place []
+
+-- the entry of a record's fields, of which there are enough: from left to right, then its sides
+abbrev pub entry_in : (number : ℕ) → List (List ℕ) → Result Entry TableFault
+entry_in number fields = do
+  id ← id_of number (field_text fields 0)
+  min_x ← coordinate_of number 2 (field_text fields 1)
+  max_x ← coordinate_of number 3 (field_text fields 2)
+  min_y ← coordinate_of number 4 (field_text fields 3)
+  max_y ← coordinate_of number 5 (field_text fields 4)
   entry_of_sides number id min_x max_x min_y max_y
-entry_of_fields number fields = Err (fault.FieldCount number (length fields))
+
+-- the entry of a record: the number of its fields, then the fields
+abbrev pub entry_of_fields : (number : ℕ) → List (List ℕ) → Result Entry TableFault
+entry_of_fields number fields =
+    if length fields == fields_wanted then entry_in number fields
+    else Err (fault.FieldCount number (length fields))
 
 -- the entry, where no entry so far has its id
 abbrev pub new_entry : (number : ℕ) → List Entry → Entry → Result Entry TableFault
@@ -74,8 +88,13 @@ table_of bytes header max =
 abbrev pub tells_text : TableFault → Bool
 tells_text fault.Read = false
 tells_text fault.Memory = false
-tells_text f = true
+tells_text other = true
+
+-- a fault that a step of the load may answer, one that reads nothing, where this is what the step gives: its own fault, or
+-- want of memory
+abbrev pub IsRefusal : {A : Type 0} → TableFault → Result A TableFault → Type 0
+IsRefusal cause step = (cause ≡ fault.Memory) ⊎ (step ≡ Err cause)
 
 -- a fault that a load may answer where this is the table: one that tells of the text is the table's own
 abbrev pub MayRefuse : {A : Type 0} → TableFault → Result A TableFault → Type 0
-MayRefuse f table = tells_text f ≡ true → table ≡ Err f
+MayRefuse cause table = tells_text cause ≡ true → table ≡ Err cause

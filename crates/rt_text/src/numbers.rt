@@ -1,7 +1,7 @@
 //! Numbers as text.
 
-ghost use Rattle.std.specs.Prelude.{◌≡◌, ◌≤ℤ◌, IfOk, pos, min, option_map, ok_or};
-ghost use Rattle.rt_text.specs.Numbers.{digits_number, in_range, negative, number_in};
+ghost use Rattle.std.specs.Prelude.{◌≡◌, ◌≤ℤ◌, IfOk, neg_ℤ, pos, min, option_map, ok_or};
+ghost use Rattle.rt_text.specs.Numbers.{digits_number, in_range, number_in};
 
 /// Why a text is no number of a range.
 #[derive(Clone, Copy, Debug, PartialEq, Eq)]
@@ -39,7 +39,7 @@ fn signed(text: &[u8]) -> Result<i128, NumberFault>
 
 // The number that digits write after a `-`, where an `i128` has room for it.
 fn below_zero(digits: &[u8]) -> Result<i128, NumberFault>
-    ensures { result ≡ in_range i128.MIN i128.MAX (option_map negative (digits_number digits.now)) }
+    ensures { result ≡ in_range i128.MIN i128.MAX (option_map (λ n. neg_ℤ (pos n)) (digits_number digits.now)) }
 {
     0i128
         .checked_sub_unsigned(magnitude(digits)?)
