@@ -6,6 +6,8 @@ pub mod Guided
 pub mod Laws
 pub mod Nearest
 pub mod Orders
+pub mod Polygons
+pub mod Products
 pub mod Ranks
 pub mod Regions
 pub mod Shapes

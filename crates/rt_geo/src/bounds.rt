@@ -4,7 +4,9 @@ ghost use Rattle.std.specs.Prelude.{◌≡◌, true};
 ghost use Rattle.std.specs.Option.{SomeIff};
 ghost use Rattle.rt_geo.specs.Boxes.{IsLeastAround, IsRect, rect_of, plane};
 ghost use Rattle.rt_geo.specs.Boxes.{area, hull, inside, overlaps, range_lies_in, ranges_meet};
+ghost use Rattle.rt_geo.specs.Distances.{rect_at};
 
+use crate::distance::Point;
 use std::marker::Model;
 
 /// A closed box: a minimum and a maximum on each axis, each minimum at most its maximum.
@@ -48,6 +50,18 @@ impl Bounds {
             })
         } else {
             None
+        }
+    }
+
+    /// The box of one point.
+    pub(crate) fn of_point(point: Point) -> Bounds
+        ensures { result ≡ rect_at point }
+    {
+        Bounds {
+            min_x: point.x,
+            max_x: point.x,
+            min_y: point.y,
+            max_y: point.y,
         }
     }
 

@@ -2,6 +2,7 @@
 //! each type can be used through its bound.
 
 mod left_of;
+mod polygons;
 mod uneven;
 mod watched;
 
