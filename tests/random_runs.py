@@ -139,7 +139,8 @@ def some_limit(chance):
 
 
 def some_point(chance):
-    return [written(chance, chance.choice(COORDINATE_ENDS) if chance.random() < 0.1 else small(chance)) for _ in range(2)]
+    values = [chance.choice(COORDINATE_ENDS) if chance.random() < 0.1 else small(chance) for _ in range(2)]
+    return [written(chance, value) for value in values]
 
 
 def some_query(chance):

@@ -1,10 +1,15 @@
+#!/usr/bin/env python3
 """The rules of docs/ said once more in another language, plainly: what a run of the program gives.
+
+usage: tests/reading.py [-H|--header] [--fanout M] [--max-entries N] TABLE [QUERIES]
 
 Nothing in here is of the program's code or of its definitions. The table is read as docs/table-format.md says, a query
 as docs/query-language.md does, and answers come from a look at every box. A box is its `min_x, max_x, min_y, max_y`.
 """
 
+import argparse
 import re
+import sys
 from fractions import Fraction
 
 LONGEST_LINE = 4096
@@ -315,3 +320,22 @@ def expected(table, queries, header=False, most=2**24, fanout=16, reply=reply):
         return 3, b"", found
     replies = [reply(found, fanout, at, line) for at, line in enumerate(lines_of(queries), 1)]
     return int(any(bad for _, bad in replies)), b"".join(line + b"\n" for lines, _ in replies for line in lines), b""
+
+
+def main():
+    parser = argparse.ArgumentParser()
+    parser.add_argument("-H", "--header", action="store_true")
+    parser.add_argument("--fanout", type=int, default=16)
+    parser.add_argument("--max-entries", type=int, default=2**24)
+    parser.add_argument("table", type=argparse.FileType("rb"))
+    parser.add_argument("queries", type=argparse.FileType("rb"), nargs="?", default=sys.stdin.buffer)
+    args = parser.parse_args()
+    settings = args.header, args.max_entries, args.fanout
+    status, output, error = expected(args.table.read(), args.queries.read(), *settings)
+    sys.stdout.buffer.write(output)
+    sys.stderr.buffer.write(error)
+    return status
+
+
+if __name__ == "__main__":
+    sys.exit(main())
