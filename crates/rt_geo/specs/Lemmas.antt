@@ -1,4 +1,5 @@
--- What follows from the definitions, proved: nothing here has to be believed. It stands in specs/, as implementations cite it.
+-- What follows from the definitions, proved: nothing here has to be believed. It stands in specs/, as
+-- implementations cite it.
 pub mod Boxes
 pub mod Distances
 pub mod Guided

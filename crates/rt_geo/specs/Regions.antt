@@ -1,7 +1,8 @@
 -- Which boxes a region accepts, and the states that it answers: those of its shape.
 use Rattle.std.specs.Prelude.{Bool}
 use Rattle.rt_geo.specs.Laws.{Extent}
-use Rattle.rt_geo.specs.Shapes.{all_accepts, all_state, circle_accepts, circle_state, covers_accepts, covers_state, inside_accepts, inside_state, window_accepts, window_state}
+use Rattle.rt_geo.specs.Shapes.{all_accepts, circle_accepts, covers_accepts, inside_accepts, window_accepts}
+use Rattle.rt_geo.specs.Shapes.{all_state, circle_state, covers_state, inside_state, window_state}
 use Rattle.rt_geo.specs.declared.geometry.Info.{Info}
 use Rattle.rt_geo.specs.declared.geometry.Within.{Within}
 use Rattle.rt_geo.specs.declared.region.Region.{Region}

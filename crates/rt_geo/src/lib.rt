@@ -13,8 +13,10 @@
 //! - Shapes: [`All`], [`Window`], [`Inside`], [`Covers`], [`Circle`], and the enum [`Region`] of these.
 //! - Ranks: [`ById`], [`Near`], [`Smallest`], and the enum [`Order`] of these.
 //!
-//! The definitions that the contracts cite stand in `specs/`: `Boxes`, `Distances`, `Laws`, `Shapes`,
-//! `Ranks`, `Regions`, `Orders`, `Counted`. They are in whole numbers without bounds. What stands below
+//! The definitions that the contracts cite stand in `specs/`: `Boxes`, `Entries`, `Distances`, `Laws`,
+//! `Shapes`, `Ranks`, `Regions`, `Orders`, `Counted`. They are in whole numbers without bounds; that each
+//! `Bounds` is a box of the plane of 32-bit coordinates is a fact of its own (`HasBox` of an entry,
+//! `IsWellFormed` of an info), which the readers of the sides and [`Entry::info`] tell. What stands below
 //! `specs/Lemmas` is proved and has not to be believed.
 #![tactic(auto)]
 

@@ -3,3 +3,4 @@ mod Records
 mod Rows
 mod TableLemmas
 mod TableReads
+pub mod WordLemmas

@@ -1,1 +1,5 @@
 mod EntryLemmas
+mod LevelLemmas
+mod Rows
+pub mod Permutations
+pub mod SortingLemmas

@@ -1,1 +1,4 @@
 pub mod Entries
+pub mod Indexes
+pub mod Levels
+pub mod Sorting

@@ -1,0 +1,72 @@
+//! The lines that query lines are answered with.
+
+ghost use Rattle.std.specs.Prelude.{◌≡◌, ◌≤◌, length};
+ghost use Rattle.rt_text.specs.ReplyLines.{answer_line, error_line, fault_text, level_line, ok_line};
+
+use crate::line::Line;
+use crate::query::QueryFault;
+use itoa::Buffer;
+
+/// The line of an answer: its id and its score.
+pub fn answer_line(id: i64, score: u128) -> Line
+    ensures { result ≡ answer_line id score }
+{
+    let mut text = Line::new(Buffer::new().format(id).as_bytes());
+    text.put(b" ");
+    text.put(Buffer::new().format(score).as_bytes());
+    text.put(b"\n");
+    text
+}
+
+/// The line that ends a reply: the number of the query line, and a count.
+pub fn ok_line(line: u128, n: u64) -> Line
+    ensures { result ≡ ok_line line n }
+{
+    let mut text = Line::new(b"ok ");
+    text.put(Buffer::new().format(line).as_bytes());
+    text.put(b" ");
+    text.put(Buffer::new().format(n).as_bytes());
+    text.put(b"\n");
+    text
+}
+
+/// The line of a level of the tree: how many entries or nodes stand on it.
+pub fn level_line(level: u8, n: u32) -> Line
+    ensures { result ≡ level_line level n }
+{
+    let mut text = Line::new(Buffer::new().format(level).as_bytes());
+    text.put(b" ");
+    text.put(Buffer::new().format(n).as_bytes());
+    text.put(b"\n");
+    text
+}
+
+/// The line that answers a faulty query line.
+pub fn error_line(line: u128, fault: QueryFault) -> Line
+    ensures { result ≡ error_line line fault }
+{
+    let mut text = Line::new(b"error ");
+    text.put(Buffer::new().format(line).as_bytes());
+    text.put(b" ");
+    text.put(fault_text(fault));
+    text.put(b"\n");
+    text
+}
+
+fn fault_text(fault: QueryFault) -> &'static [u8]
+    ensures text { result.now ≡ fault_text fault }
+    ensures short { length result.now ≤ 40 }
+{
+    match fault {
+        QueryFault::LineTooLong => b"Q1 line too long",
+        QueryFault::UnknownVerb => b"Q2 unknown verb",
+        QueryFault::UnknownRegion => b"Q3 unknown region",
+        QueryFault::MissingWord => b"Q4 missing word",
+        QueryFault::NotNumber => b"Q5 not a number",
+        QueryFault::OutOfRange => b"Q6 out of range",
+        QueryFault::MinAboveMax => b"Q7 minimum above maximum",
+        QueryFault::VertexCount => b"Q8 vertex count",
+        QueryFault::NotConvex => b"Q9 polygon not strictly convex",
+        QueryFault::StrayWord => b"Q10 stray word",
+    }
+}
