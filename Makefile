@@ -19,7 +19,7 @@ define prove
   if (cd crates/$(1) && rt $(2)) < /dev/null > build/$(1).log 2>&1; then \
     echo "$(1): proved in $$SECONDS s"; \
   else \
-    grep -vE '(: proved|modules loaded=[0-9]+ checked=[0-9]+)$$|^so far|^logic /' build/$(1).log | tail -n 30; \
+    grep -vE '(: proved|modules loaded=[0-9]+ checked=[0-9]+)$$|^so far|^logic /' build/$(1).log | tail -n 30 | cut -c 1-300; \
     echo "$(1): NOT PROVED, and no program is built (build/$(1).log has all that rt said)"; \
     exit 1; \
   fi
