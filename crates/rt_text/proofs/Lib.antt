@@ -1,6 +1,7 @@
 mod NumberLemmas
+mod QueryRows
 mod Records
-mod Rows
+pub mod Rows
 mod TableLemmas
 mod TableReads
 pub mod WordLemmas
