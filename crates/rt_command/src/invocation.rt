@@ -227,6 +227,7 @@ mod tests {
     use super::{ArgFault, Invocation, settings_of};
     use crate::name::Name;
     use std::alloc::Global;
+    use std::test::Fail;
 
     fn push(alloc: Global, names: &mut Vec<Name>, word: &str) -> Result<(), ArgFault> {
         match names.push(Name::new(alloc, word)?) {
@@ -335,5 +336,18 @@ mod tests {
                 Err(fault) => assert_eq!(rt; fault, wanted),
             }
         }
+    }
+
+    #[test]
+    fn faults_are_errors_of_std(rt: HostRuntime) -> Result<(), Fail> {
+        let texts = [
+            (ArgFault::Help, "help was asked for"),
+            (ArgFault::Usage, "bad command line"),
+            (ArgFault::Memory, "out of memory"),
+        ];
+        for (fault, text) in texts {
+            assert_eq!(rt; format!(in rt.alloc(); "{fault}")?.as_str(), text);
+        }
+        Ok(())
     }
 }

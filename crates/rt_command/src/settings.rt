@@ -41,10 +41,8 @@ impl Settings {
     /// node (2 to 64) and the most entries of the table (1 to 16,777,216). `None` where one is out of its
     /// range, and nowhere else.
     pub fn new(header: bool, fanout: u8, max_entries: u32) -> Option<Settings>
-        ensures {
-            let given = choices_of header fanout max_entries in
-            SomeIff result (AreAllowed given) given
-        }
+        ensures { let given = choices_of header fanout max_entries in
+            SomeIff result (AreAllowed given) given }
     {
         if fanout < Settings::LEAST_FANOUT || fanout > Settings::GREATEST_FANOUT {
             return None;
@@ -80,5 +78,31 @@ impl Settings {
         ensures allowed { AreAllowed self.now }
     {
         self.max_entries
+    }
+}
+
+#[cfg(test)]
+mod tests {
+    use super::Settings;
+
+    #[test]
+    fn settings_have_ranges(rt: HostRuntime) {
+        for (fanout, max_entries, is_allowed) in [
+            (2, 1, true),
+            (64, 16_777_216, true),
+            (1, 1, false),
+            (65, 1, false),
+            (2, 0, false),
+            (2, 16_777_217, false),
+        ] {
+            let settings = Settings::new(true, fanout, max_entries);
+            assert_eq!(rt; settings.is_some(), is_allowed);
+            if let Some(settings) = settings {
+                assert_eq!(rt;
+                    (settings.header(), settings.fanout(), settings.max_entries()),
+                    (true, fanout, max_entries)
+                );
+            }
+        }
     }
 }

@@ -25,11 +25,11 @@ impl<'a> Model for SliceSink<'a> {
     ghost Value = { Room };
 
     ghost view = { λ s. record {
-        bytes = take s.len s.room.now;
-        left = length s.room.now - s.len;
-        piece = s.piece;
-        fails_in = s.fails_in;
-        failures = s.failures;
+      bytes = take s.len s.room.now;
+      left = length s.room.now - s.len;
+      piece = s.piece;
+      fails_in = s.fails_in;
+      failures = s.failures;
     } };
 
     ghost invariant = { λ s. (s.len ≤ length s.room.now) × (0 < s.piece) };
@@ -42,11 +42,11 @@ impl<'a> SliceSink<'a> {
     pub fn new(room: &'a mut [u8], piece: usize, fail_at: Option<u64>) -> SliceSink<'a>
         requires { 0 < piece }
         ensures { result ≡ record {
-            bytes = [];
-            left = length room.entry.now;
-            piece = piece;
-            fails_in = unwrap_or fail_at 0;
-            failures = 0;
+          bytes = [];
+          left = length room.entry.now;
+          piece = piece;
+          fails_in = unwrap_or fail_at 0;
+          failures = 0;
         } }
     {
         SliceSink {
@@ -70,8 +70,8 @@ impl<'a> SliceSink<'a> {
         requires { self.old.failures < 2 ^ 64 - 1 }
         ensures which { (result ≡ true) ↔ (self.old.fails_in ≡ 1) }
         ensures counted { self.new ≡ record self.old {
-            fails_in = self.old.fails_in - 1;
-            failures = self.old.failures + (if result then 1 else 0);
+          fails_in = self.old.fails_in - 1;
+          failures = self.old.failures + (if result then 1 else 0);
         } }
     {
         let fails = self.fails_in == 1;

@@ -1,4 +1,5 @@
 mod NumberLemmas
+mod PointLemmas
 mod QueryRows
 mod Records
 pub mod Rows

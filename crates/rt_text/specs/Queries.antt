@@ -6,8 +6,11 @@ use Rattle.rt_geo.specs.Boxes.{Rect, greatest_coordinate, least_coordinate, rect
 use Rattle.rt_geo.specs.declared.distance.Point.{Point}
 use Rattle.rt_geo.specs.declared.order.Order.{Order}
 use Rattle.rt_geo.specs.declared.order.Order.TheVariants.{ById, Near, Smallest}
+use Rattle.rt_geo.specs.Polygons.{polygon_of}
+use Rattle.rt_geo.specs.declared.polygon.PolygonFault.{PolygonFault}
+use Rattle.rt_geo.specs.declared.polygon.PolygonFault.TheVariants as shape
 use Rattle.rt_geo.specs.declared.region.Region.{Region}
-use Rattle.rt_geo.specs.declared.region.Region.TheVariants.{All, Circle, Covers, Inside, Window}
+use Rattle.rt_geo.specs.declared.region.Region.TheVariants.{All, Circle, Covers, Inside, Polygon, Window}
 use Rattle.rt_geo.specs.declared.shapes.Circle.{Circle as Disc}
 use Rattle.rt_text.specs.Numbers.{number_in}
 use Rattle.rt_text.specs.Steps.{◌>>=◌, map_fault}
@@ -98,7 +101,40 @@ circle words = do
   radius ← natural_word greatest_radius centre.1
   Ok (record { centre = centre.0; radius = radius.0 }, radius.1)
 
--- a region by its name: `all`, `window`, `inside`, `covers` or `circle`
+-- what a number of vertices that is none is told as
+abbrev pub vertex_count_fault : NumberFault → QueryFault
+vertex_count_fault bad.NotNumber = fault.NotNumber
+vertex_count_fault bad.OutOfRange = fault.VertexCount
+
+-- N, a number of vertices
+abbrev pub vertex_count : List (List ℕ) → Result (Taken ℕ) QueryFault
+vertex_count [] = Err fault.MissingWord
+vertex_count (word ∷ more) = do
+  n ← map_fault vertex_count_fault (number_in (pos 3) (pos 16) word)
+  Ok (unsigned_abs n, more)
+
+-- X1 Y1 .. XN YN, so many points
+abbrev pub points : (count : ℕ) → List (List ℕ) → Result (Taken (List Point)) QueryFault
+points zero words = Ok ([], words)
+points (suc n) words = do
+  first ← point words
+  others ← points n first.1
+  Ok (first.0 ∷ others.0, others.1)
+
+-- what a list of vertices that gives no polygon is told as
+abbrev pub polygon_fault : PolygonFault → QueryFault
+polygon_fault shape.Count = fault.VertexCount
+polygon_fault shape.NotConvex = fault.NotConvex
+
+-- N X1 Y1 .. XN YN
+abbrev pub polygon : List (List ℕ) → Result (Taken (List Point)) QueryFault
+polygon words = do
+  count ← vertex_count words
+  vertices ← points count.0 count.1
+  found ← map_fault polygon_fault (polygon_of vertices.0)
+  Ok (found, vertices.1)
+
+-- a region by its name: `all`, `window`, `inside`, `covers`, `circle` or `polygon`
 abbrev pub region : List (List ℕ) → Result (Taken Region) QueryFault
 region [] = Err fault.MissingWord
 region (name ∷ more) =
@@ -107,6 +143,7 @@ region (name ∷ more) =
     else if bytes_eq name (codes "inside") then taken_as inside_of (sides more)
     else if bytes_eq name (codes "covers") then taken_as covers_of (sides more)
     else if bytes_eq name (codes "circle") then taken_as Circle (circle more)
+    else if bytes_eq name (codes "polygon") then taken_as Polygon (polygon more)
     else Err fault.UnknownRegion
 
 -- ---- orders and limits

@@ -3,16 +3,24 @@
 //! One function for each definition of `specs/Queries.antt`, of the same name: it takes the words that the
 //! definition takes, and answers what it answers.
 
-ghost use Rattle.std.specs.Prelude.{◌≡◌, ◌≤◌, ◌≤ℤ◌, ◌∷◌, IfOk};
+ghost use Rattle.std.specs.Prelude.{◌≡◌, ◌≤◌, ◌≤ℤ◌, ◌∷◌, IfErr, IfOk, Ok, Err};
 ghost use Rattle.std.specs.Str.Lines.{strip_carriage_return};
-ghost use Rattle.rt_text.specs.Queries.{Takes, circle, coordinate, count, find, finished, is_comment, limit, natural_word, nearest, number_word, order, point, query, query_of, region, sides, usual_order};
+ghost use Rattle.rt_text.specs.Queries.{Takes, circle, coordinate, count, find, finished, is_comment, limit, natural_word, nearest, number_word, order, point, points, polygon, query, query_of, region, sides, usual_order, vertex_count};
 
 use crate::numbers::{NumberFault, number};
 use crate::query::{Parsed, Query, QueryFault};
 use crate::words::Words;
+use arrayvec::ArrayVec;
 use rt_geo::{
-    All, Bounds, ById, Circle, Covers, Inside, Near, Order, Point, Region, Smallest, Window,
+    All, Bounds, ById, Circle, Covers, Inside, Near, Order, Point, Polygon, PolygonFault, Region,
+    Smallest, Window,
 };
+
+/// The fewest vertices of a polygon.
+const FEWEST_VERTICES: i128 = 3;
+
+/// The most vertices of a polygon.
+const MOST_VERTICES: usize = 16;
 
 /// What a line asks, without its line feed. One carriage return at its end is dropped. It takes no memory.
 ///
@@ -171,6 +179,8 @@ fn region(words: &mut Words) -> Result<Region, QueryFault>
         Ok(Region::Covers(Covers(sides(words)?)))
     } else if name == b"circle".as_slice() {
         Ok(Region::Circle(circle(words)?))
+    } else if name == b"polygon".as_slice() {
+        Ok(Region::Polygon(polygon(words)?))
     } else {
         Err(QueryFault::UnknownRegion)
     }
@@ -195,6 +205,45 @@ fn circle(words: &mut Words) -> Result<Circle, QueryFault>
     let centre = point(words)?;
     let radius = natural_word(words, u64::from(u32::MAX))? as u32;
     Ok(Circle { centre, radius })
+}
+
+fn polygon(words: &mut Words) -> Result<Polygon, QueryFault>
+    ensures { Takes (polygon words.old) result words.new }
+{
+    let count = vertex_count(words)?;
+    let vertices = points(count, words)?;
+    match Polygon::new(&vertices) {
+        Ok(polygon) => Ok(polygon),
+        Err(PolygonFault::Count) => Err(QueryFault::VertexCount),
+        Err(PolygonFault::NotConvex) => Err(QueryFault::NotConvex),
+    }
+}
+
+fn vertex_count(words: &mut Words) -> Result<usize, QueryFault>
+    ensures takes { Takes (vertex_count words.old) result words.new }
+    ensures most { IfOk result (λ n. n ≤ MOST_VERTICES) }
+{
+    let Some(word) = words.next() else {
+        return Err(QueryFault::MissingWord);
+    };
+    match number(word, FEWEST_VERTICES, MOST_VERTICES as i128) {
+        Ok(value) => Ok(value.unsigned_abs() as usize),
+        Err(NumberFault::NotNumber) => Err(QueryFault::NotNumber),
+        Err(NumberFault::OutOfRange) => Err(QueryFault::VertexCount),
+    }
+}
+
+// So many points, one after the other.
+fn points(count: usize, words: &mut Words) -> Result<ArrayVec<Point, MOST_VERTICES>, QueryFault>
+    requires { count ≤ MOST_VERTICES }
+    ensures ok { IfOk result (λ vertices. points count words.old ≡ Ok (vertices.items, words.new)) }
+    ensures fault { IfErr result (λ cause. points count words.old ≡ Err cause) }
+{
+    let mut vertices = ArrayVec::new();
+    for _vertex in 0..count {
+        vertices.push(point(words)?);
+    }
+    Ok(vertices)
 }
 
 // ---- numbers
@@ -235,3 +284,6 @@ fn number_word(words: &mut Words, low: i128, high: i128) -> Result<i128, QueryFa
         Err(NumberFault::OutOfRange) => Err(QueryFault::OutOfRange),
     }
 }
+
+#[cfg(test)]
+mod tests;

@@ -12,7 +12,9 @@ pub enum Query {
         limit: Option<u64>,
     },
     /// How many boxes the region accepts.
-    Count { region: Region },
+    Count {
+        region: Region,
+    },
     /// How many entries or nodes stand on each level of the tree.
     Levels,
 }

@@ -70,3 +70,52 @@ fn fault_text(fault: QueryFault) -> &'static [u8]
         QueryFault::StrayWord => b"Q10 stray word",
     }
 }
+
+#[cfg(test)]
+mod tests {
+    use super::{answer_line, error_line, level_line, ok_line};
+    use crate::query::QueryFault;
+
+    const FAULT_LINES: [(QueryFault, &[u8]); 10] = [
+        (QueryFault::LineTooLong, b"error 7 Q1 line too long\n"),
+        (QueryFault::UnknownVerb, b"error 7 Q2 unknown verb\n"),
+        (QueryFault::UnknownRegion, b"error 7 Q3 unknown region\n"),
+        (QueryFault::MissingWord, b"error 7 Q4 missing word\n"),
+        (QueryFault::NotNumber, b"error 7 Q5 not a number\n"),
+        (QueryFault::OutOfRange, b"error 7 Q6 out of range\n"),
+        (
+            QueryFault::MinAboveMax,
+            b"error 7 Q7 minimum above maximum\n",
+        ),
+        (QueryFault::VertexCount, b"error 7 Q8 vertex count\n"),
+        (
+            QueryFault::NotConvex,
+            b"error 7 Q9 polygon not strictly convex\n",
+        ),
+        (QueryFault::StrayWord, b"error 7 Q10 stray word\n"),
+    ];
+
+    #[test]
+    fn lines_of_replies(rt: HostRuntime) {
+        let far = 36893488130239234050;
+        assert_eq!(rt;
+            answer_line(-7, far).bytes(),
+            b"-7 36893488130239234050\n".as_slice()
+        );
+        assert_eq!(rt;
+            answer_line(i64::MIN, u128::MAX).bytes(),
+            b"-9223372036854775808 340282366920938463463374607431768211455\n".as_slice()
+        );
+        assert_eq!(rt;
+            ok_line(u128::MAX, u64::MAX).bytes(),
+            b"ok 340282366920938463463374607431768211455 18446744073709551615\n".as_slice()
+        );
+        assert_eq!(rt;
+            level_line(255, u32::MAX).bytes(),
+            b"255 4294967295\n".as_slice()
+        );
+        for (fault, text) in FAULT_LINES {
+            assert_eq!(rt; error_line(7, fault).bytes(), text);
+        }
+    }
+}

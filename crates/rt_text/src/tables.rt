@@ -86,7 +86,10 @@ pub fn read_table<R: Read + Drop>(
 }
 
 // The next record, where there is one. After an error, which is of the reader or of memory, there is none.
-fn next_record<R: Read>(records: &mut Reader<R>, record: &mut ByteRecord) -> Result<bool, TableFault>
+fn next_record<R: Read>(
+    records: &mut Reader<R>,
+    record: &mut ByteRecord,
+) -> Result<bool, TableFault>
     requires trim { reader_trim records.old ≡ trim.None }
     requires ready { Ready records.old }
     requires config { reader_config records.old ≡ default_config }
@@ -107,7 +110,12 @@ fn next_record<R: Read>(records: &mut Reader<R>, record: &mut ByteRecord) -> Res
 }
 
 // Judges one record and adds its entry.
-fn add_record(max: u32, number: u32, record: &ByteRecord, table: &mut Table) -> Result<(), TableFault>
+fn add_record(
+    max: u32,
+    number: u32,
+    record: &ByteRecord,
+    table: &mut Table,
+) -> Result<(), TableFault>
     requires { max ≤ most_entries }
     ensures added { OnOk result (IsOkAnd (judged max number table.old (fields_of record.now))
         (λ entry. table.new ≡ table.old ++ entry ∷ [])) }
