@@ -3,8 +3,9 @@
 SHELL := /bin/bash
 PREFIX ?= /usr/local
 
-# Crates are proved side by side, as far as crates.txt lets them.
+# Crates are proved side by side, as far as crates.txt lets them, and each by so many processes.
 MAKEFLAGS += --jobs=$(shell nproc)
+JOBS ?= 2
 
 CRATES := $(shell sed -n 's/^\([a-z0-9_]*\):.*/\1/p' crates.txt)
 LIBRARIES := $(filter-out rtfilter,$(CRATES))
@@ -27,12 +28,12 @@ endef
 
 # The proved program.
 build/rtfilter: $(foreach it,$(call below,rtfilter),build/$(it).proved) $(call sources,rtfilter)
-	@$(call prove,rtfilter,run -- /dev/null)
+	@$(call prove,rtfilter,run --jobs $(JOBS) -- /dev/null)
 	@cp crates/rtfilter/out/rtfilter build/rtfilter
 
 define library
 build/$(1).proved: $(foreach it,$(call below,$(1)),build/$(it).proved) $(call sources,$(1))
-	@$$(call prove,$(1),lib)
+	@$$(call prove,$(1),lib --jobs $(JOBS))
 	@touch build/$(1).proved
 endef
 $(foreach it,$(LIBRARIES),$(eval $(call library,$(it))))

@@ -313,7 +313,7 @@ def lines_of(queries):
     return lines if lines[-1] else lines[:-1]
 
 
-def expected(table, queries, header=False, most=2**24, fanout=16, reply=reply):
+def expected(table, queries, header=False, most=2**24, fanout=16):
     """Status, standard output and standard error."""
     found = boxes(table, header, most)
     if isinstance(found, bytes):

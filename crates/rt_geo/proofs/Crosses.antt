@@ -3,8 +3,9 @@ use Rattle.std.specs.Prelude.{◌*ℤ◌, int_le, pos, unsigned_abs}
 use Rattle.std.proofs.Common.{◌≡◌, ◌∙◌, refl, arith, ◌^◌, ◌≤◌, ℤ, ◌-ℤ◌, FitsSigned, to_z, of_z, w32, w64}
 use Rattle.std.proofs.lemmas.Int.{ints, to_z-of_z}
 use Rattle.rt_geo.specs.Boxes.{Rect, IsRect}
-use Rattle.rt_geo.specs.Lemmas.Polygons.{leftmost_corner, leftmost-has_corner, rightmost_corner, rightmost-has_each_corner}
-use Rattle.rt_geo.specs.Polygons.{cross, has_corner, has_each_corner}
+use Rattle.rt_geo.specs.Lemmas.HalfPlanes.{leftmost_corner, lies_in_half_plane-rightmost}
+use Rattle.rt_geo.specs.Lemmas.HalfPlanes.{meets_half_plane-leftmost, rightmost_corner}
+use Rattle.rt_geo.specs.Polygons.{cross, lies_in_half_plane, meets_half_plane}
 use Rattle.rt_geo.specs.declared.distance.Point.{Point}
 use Rattle.rt_geo.specs.declared.polygon.Edge.{Edge}
 use mir.Syntax.{w128}
@@ -38,10 +39,10 @@ cross_is m n x y p q e f =
 
 pub at_leftmost : (edge : Edge) (b : Rect) (r : ℤ) (p : Point)
     → FitsSigned w128 r → IsRect b → r ≡ cross edge p → p ≡ leftmost_corner edge b
-    → int_le (pos 0) (to_z w128 (of_z w128 r)) ≡ has_corner b edge
-at_leftmost edge b r p f v e g = rw (to_z-of_z w128 r f, e, g) (leftmost-has_corner edge b v)
+    → int_le (pos 0) (to_z w128 (of_z w128 r)) ≡ meets_half_plane b edge
+at_leftmost edge b r p f v e g = rw (to_z-of_z w128 r f, e, g) (meets_half_plane-leftmost edge b v)
 
 pub at_rightmost : (edge : Edge) (b : Rect) (r : ℤ) (p : Point)
     → FitsSigned w128 r → IsRect b → r ≡ cross edge p → p ≡ rightmost_corner edge b
-    → int_le (pos 0) (to_z w128 (of_z w128 r)) ≡ has_each_corner b edge
-at_rightmost edge b r p f v e g = rw (to_z-of_z w128 r f, e, g) (rightmost-has_each_corner edge b v)
+    → int_le (pos 0) (to_z w128 (of_z w128 r)) ≡ lies_in_half_plane b edge
+at_rightmost edge b r p f v e g = rw (to_z-of_z w128 r f, e, g) (lies_in_half_plane-rightmost edge b v)

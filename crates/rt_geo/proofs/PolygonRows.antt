@@ -1,8 +1,8 @@
 -- Polygons that were worked out by hand: the definitions give their answers by computing.
-use Rattle.std.proofs.Common.{◌≡◌, refl, ℕ, ℤ, pos, Bool, true, false, List, [], ◌∷◌, map, reverse}
+use Rattle.std.proofs.Common.{◌≡◌, refl, ℕ, pos, Bool, true, false, List, [], ◌∷◌, map, reverse}
 use Rattle.std.specs.Prelude.{Ok, Err}
 use Rattle.rt_geo.specs.Boxes.{Rect, greatest_coordinate, least_coordinate, rect_of}
-use Rattle.rt_geo.specs.Polygons.{bounding_box, is_strictly_convex, point_at, polygon_meets, polygon_of, polygon_state}
+use Rattle.rt_geo.specs.Polygons.{bounding_box, point_at, polygon_meets, polygon_of, polygon_state}
 use Rattle.rt_geo.specs.declared.distance.Point.{Point}
 use Rattle.rt_geo.specs.declared.geometry.Within.TheVariants.{Not, Partly, Fully}
 use Rattle.rt_geo.specs.declared.polygon.PolygonFault.TheVariants.{Count, NotConvex}

@@ -3,6 +3,7 @@
 pub mod Boxes
 pub mod Distances
 pub mod Guided
+pub mod HalfPlanes
 pub mod Laws
 pub mod Nearest
 pub mod Orders

@@ -1,5 +1,4 @@
--- Convex polygons: which boxes one accepts, and what a box shares with one that it isn't accepted by.
--- (separating axis theorem: Gottschalk, Lin and Manocha 1996)
+-- Convex polygons: which lists of vertices are one, which boxes one accepts, and what a box shares with one.
 use Rattle.std.specs.List.{count_by, fold, list_all, list_any}
 use Rattle.std.specs.Prelude.{◌≡◌, ◌<◌, ℕ, ◌+◌, ◌==◌, nat_le, Bool, true, not, ◌&&◌, if◌then◌else◌}
 use Rattle.std.specs.Prelude.{ℤ, pos, ◌-ℤ◌, ◌*ℤ◌, int_le, int_lt}
@@ -17,19 +16,6 @@ use Rattle.rt_geo.specs.declared.polygon.PolygonFault.TheVariants.{Count, NotCon
 
 -- ---- edges
 
--- how far a point lies to the left of an edge, times the edge's length; to the right it is below 0
-abbrev pub cross : Edge → Point → ℤ
-cross edge p =
-    (edge.to.x -ℤ edge.from.x) *ℤ (p.y -ℤ edge.from.y) -ℤ (edge.to.y -ℤ edge.from.y) *ℤ (p.x -ℤ edge.from.x)
-
--- strictly to the left of the edge
-abbrev pub is_left : Edge → Point → Bool
-is_left edge p = int_lt (pos 0) (cross edge p)
-
--- not strictly to the right of the edge: to the left of it, or in line with it
-abbrev pub is_not_right : Edge → Point → Bool
-is_not_right edge p = int_le (pos 0) (cross edge p)
-
 -- the edges of a path, from its first point on through the others in turn
 abbrev pub path_from : Point → List Point → List Edge
 path_from from [] = []
@@ -40,25 +26,39 @@ abbrev pub edges : List Point → List Edge
 edges [] = []
 edges (first ∷ others) = path_from first (others ++ first ∷ [])
 
+-- how far a point lies to the left of an edge, times the edge's length; to the right it is below 0
+abbrev pub cross : Edge → Point → ℤ
+cross edge p =
+    (edge.to.x -ℤ edge.from.x) *ℤ (p.y -ℤ edge.from.y) -ℤ (edge.to.y -ℤ edge.from.y) *ℤ (p.x -ℤ edge.from.x)
+
+-- strictly to the left of the edge
+abbrev pub is_left : Edge → Point → Bool
+is_left edge p = int_lt (pos 0) (cross edge p)
+
+-- in the half-plane of the edge: to the left of it, or in line with it
+abbrev pub is_in_half_plane : Edge → Point → Bool
+is_in_half_plane edge p = int_le (pos 0) (cross edge p)
+
 -- ---- lists of vertices
 
 -- 3 to 16 vertices
 abbrev pub has_polygon_count : List Point → Bool
 has_polygon_count vertices = nat_le 3 (length vertices) && nat_le (length vertices) 16
 
--- strictly convex and counterclockwise: strictly to the left of each edge lie all the vertices but its two ends
+-- strictly convex, counterclockwise: to the left of each edge lie, strictly, all the vertices but its two ends
 abbrev pub is_strictly_convex : List Point → Bool
-is_strictly_convex vertices = list_all (λ edge. count_by (is_left edge) vertices + 2 == length vertices) (edges vertices)
+is_strictly_convex vertices =
+    list_all (λ edge. count_by (is_left edge) vertices + 2 == length vertices) (edges vertices)
 
--- the polygon of a list of vertices, counterclockwise, or why there is none: the list itself where it is strictly
--- convex, otherwise its reverse where that is
+-- the polygon of a list of vertices, counterclockwise: the list where it is strictly convex, otherwise its reverse
+-- where that is. Why there is none, otherwise
 abbrev pub polygon_of : List Point → Result (List Point) PolygonFault
 polygon_of vertices =
     if not (has_polygon_count vertices) then Err Count
     else (if is_strictly_convex vertices then Ok vertices
     else (if is_strictly_convex (reverse vertices) then Ok (reverse vertices) else Err NotConvex))
 
--- the least box around all vertices; there is always one
+-- the least box around all vertices, of which there is at least one
 abbrev pub bounding_box : List Point → Rect
 bounding_box [] = rect_of (pos 0) (pos 0) (pos 0) (pos 0)
 bounding_box (first ∷ others) = fold (λ box vertex. hull box (rect_at vertex)) (rect_at first) others
@@ -73,23 +73,25 @@ abbrev pub corners : Rect → List Point
 corners b =
     point_at b.min_x b.min_y ∷ point_at b.max_x b.min_y ∷ point_at b.min_x b.max_y ∷ point_at b.max_x b.max_y ∷ []
 
--- some corner of the box isn't strictly to the right of the edge: the edge doesn't part the box from the polygon
-abbrev pub has_corner : Rect → Edge → Bool
-has_corner b edge = list_any (is_not_right edge) (corners b)
+-- the box has a point in the half-plane of the edge: some corner
+abbrev pub meets_half_plane : Rect → Edge → Bool
+meets_half_plane b edge = list_any (is_in_half_plane edge) (corners b)
 
--- no corner of the box is strictly to the right of the edge
-abbrev pub has_each_corner : Rect → Edge → Bool
-has_each_corner b edge = list_all (is_not_right edge) (corners b)
+-- the box lies in the half-plane of the edge: each corner does
+abbrev pub lies_in_half_plane : Rect → Edge → Bool
+lies_in_half_plane b edge = list_all (is_in_half_plane edge) (corners b)
 
--- no axis parts the box and the polygon strictly: neither x nor y nor one across an edge
+-- the box meets the polygon: it overlaps the bounding box, and meets the half-plane of each edge. Two convex sets are
+-- apart exactly where an axis parts them; the axes to look at are x, y and those across the edges (separating axis
+-- theorem: Gottschalk, Lin and Manocha 1996)
 abbrev pub polygon_meets : List Point → Rect → Bool
-polygon_meets vertices b = overlaps b (bounding_box vertices) && list_all (has_corner b) (edges vertices)
+polygon_meets vertices b = overlaps b (bounding_box vertices) && list_all (meets_half_plane b) (edges vertices)
 
--- the box lies in the bounding box, and each corner of it in the polygon
+-- the box lies in the polygon: in the bounding box, and in the half-plane of each edge
 abbrev pub polygon_holds : List Point → Rect → Bool
-polygon_holds vertices b = inside b (bounding_box vertices) && list_all (has_each_corner b) (edges vertices)
+polygon_holds vertices b = inside b (bounding_box vertices) && list_all (lies_in_half_plane b) (edges vertices)
 
--- polygon: the boxes that no axis parts from it
+-- polygon: the boxes that meet it
 abbrev pub polygon_accepts : List Point → Extent → Bool
 polygon_accepts vertices b = polygon_meets vertices b.bounds
 
@@ -98,7 +100,7 @@ polygon_state vertices i = state_by (not (polygon_meets vertices i.bounds)) (pol
 
 -- ---- points in fractions
 
--- the point (x / d, y / d) of the plane stands at (x, y) where each coordinate is taken times d
+-- where all is taken `d` times as large, the point (x / d, y / d) stands at (x, y), and a point p at `scaled d p`
 abbrev pub scaled : ℕ → Point → Point
 scaled d p = point_at (pos d *ℤ p.x) (pos d *ℤ p.y)
 
@@ -108,14 +110,14 @@ scaled_edge d edge = record { from = scaled d edge.from; to = scaled d edge.to }
 abbrev pub scaled_box : ℕ → Rect → Rect
 scaled_box d b = rect_of (pos d *ℤ b.min_x) (pos d *ℤ b.max_x) (pos d *ℤ b.min_y) (pos d *ℤ b.max_y)
 
--- the point (p.x / d, p.y / d) lies in the box and in the polygon: in its bounding box, and strictly to the right of
--- no edge
+-- the point (p.x / d, p.y / d) lies in the box and in the polygon: in its bounding box, and in the half-plane of
+-- each edge
 pub record IsCommonPoint (vertices : List Point) (b : Rect) (p : Point) (d : ℕ) : Type 0 where
   pub fraction : 0 < d
   pub in_box : inside (rect_at p) (scaled_box d b) ≡ true
   pub in_bounding_box : inside (rect_at p) (scaled_box d (bounding_box vertices)) ≡ true
-  pub right_of_none : list_all (λ edge. is_not_right (scaled_edge d edge) p) (edges vertices) ≡ true
+  pub in_half_planes : list_all (λ edge. is_in_half_plane (scaled_edge d edge) p) (edges vertices) ≡ true
 
--- box and polygon share no point, not even one in fractions
+-- the box and the polygon share no point, not even one in fractions
 abbrev pub SharesNoPoint : List Point → Rect → Type 0
 SharesNoPoint vertices b = (p : Point) (d : ℕ) → ¬ IsCommonPoint vertices b p d

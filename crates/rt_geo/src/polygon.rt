@@ -1,15 +1,15 @@
 //! Convex polygons.
 //!
-//! A box is accepted where no axis parts it from the polygon (`specs/Polygons.antt`). Of the four corners of
-//! the box one is enough for each edge: the one farthest to the left of the edge tells whether the edge parts
-//! the two, the one farthest to the right whether the whole box lies to the left.
+//! A box is accepted where no axis parts it from the polygon (`specs/Polygons.antt`), which is a test of the
+//! four corners of the box for each edge. One corner is enough: the one farthest to the left of the edge tells
+//! whether the box meets the half-plane of the edge, the opposite one whether it lies in it.
 
-ghost use Rattle.std.specs.Prelude.{◌≡◌, ◌<◌, ◌≤◌, ◌^◌, ◌+◌, ◌-◌, ◌&&◌, ◌∷◌, not, true, length, slice_index_or, unsigned_abs};
-ghost use Rattle.std.specs.Prelude.{◌-ℤ◌, ◌*ℤ◌};
+ghost use Rattle.std.specs.Prelude.{◌≡◌, ◌<◌, ◌≤◌, ◌^◌, ◌-◌, true, not, ◌&&◌};
+ghost use Rattle.std.specs.Prelude.{◌-ℤ◌, ◌*ℤ◌, unsigned_abs, ◌∷◌, length, slice_index_or};
 ghost use Rattle.std.specs.List.{count_by, list_all};
 ghost use Rattle.rt_geo.specs.Boxes.{IsRect};
-ghost use Rattle.rt_geo.specs.Lemmas.Polygons.{corner, leftmost_corner, rightmost_corner};
-ghost use Rattle.rt_geo.specs.Polygons.{bounding_box, cross, edges, has_corner, has_each_corner, is_left};
+ghost use Rattle.rt_geo.specs.Lemmas.HalfPlanes.{corner, leftmost_corner, rightmost_corner};
+ghost use Rattle.rt_geo.specs.Polygons.{bounding_box, cross, edges, is_left, lies_in_half_plane, meets_half_plane};
 ghost use Rattle.rt_geo.specs.Polygons.{has_polygon_count, is_strictly_convex, polygon_of};
 ghost use Rattle.rt_geo.specs.Shapes.{state_by};
 
@@ -125,17 +125,17 @@ struct Edge {
 /// What the edges tell of a box that overlaps the bounding box, and perhaps lies inside it.
 fn state_by_edges(vertices: &[Point], bounds: Bounds, lies_inside: bool) -> Within
     requires { 1 ≤ length vertices.now }
-    ensures { result ≡ state_by (not (list_all (has_corner bounds) (edges vertices.now)))
-        (lies_inside && list_all (has_each_corner bounds) (edges vertices.now)) }
+    ensures { result ≡ state_by (not (list_all (meets_half_plane bounds) (edges vertices.now)))
+        (lies_inside && list_all (lies_in_half_plane bounds) (edges vertices.now)) }
 {
     let mut holds = lies_inside;
     let mut from = last_vertex(vertices);
     for to in vertices {
         let edge = Edge { from, to: *to };
-        if !has_corner(edge, bounds) {
+        if !meets_half_plane(edge, bounds) {
             return Within::Not;
         }
-        holds = holds && has_each_corner(edge, bounds);
+        holds = holds && lies_in_half_plane(edge, bounds);
         from = *to;
     }
     if holds { Within::Fully } else { Within::Partly }
@@ -149,16 +149,16 @@ fn last_vertex(vertices: &[Point]) -> Point
     vertices[vertices.len() - 1]
 }
 
-/// Whether some corner of the box isn't strictly to the right of the edge.
-fn has_corner(edge: Edge, bounds: Bounds) -> bool
-    ensures { result ≡ has_corner bounds edge }
+/// Whether the box meets the half-plane to the left of the edge.
+fn meets_half_plane(edge: Edge, bounds: Bounds) -> bool
+    ensures { result ≡ meets_half_plane bounds edge }
 {
     cross(edge, leftmost_corner(edge, bounds)) >= 0
 }
 
-/// Whether no corner of the box is strictly to the right of the edge.
-fn has_each_corner(edge: Edge, bounds: Bounds) -> bool
-    ensures { result ≡ has_each_corner bounds edge }
+/// Whether the box lies in the half-plane to the left of the edge.
+fn lies_in_half_plane(edge: Edge, bounds: Bounds) -> bool
+    ensures { result ≡ lies_in_half_plane bounds edge }
 {
     cross(edge, rightmost_corner(edge, bounds)) >= 0
 }

@@ -1,8 +1,8 @@
 -- Products of whole numbers: the laws of a ring, and how products grow.
 use borrow.Author.Differences.{up, down, sum_is_lem, neg_is, product_is}
 use Rattle.std.specs.Prelude.{◌*ℤ◌, neg_ℤ, unsigned_abs, int_lt, if◌then◌else◌}
-use Rattle.std.proofs.Common.{◌≡◌, ◌∙◌, ap, sym, refl, arith, ℕ, suc, ◌*◌, ◌+◌, Bool, true, false}
-use Rattle.std.proofs.Common.{ℤ, pos, negsuc, ◌≤ℤ◌, ◌<ℤ◌, ◌+ℤ◌, ◌-ℤ◌}
+use Rattle.std.proofs.Common.{◌≡◌, ◌∙◌, ap, sym, arith, ℕ, suc, ◌*◌, true, false}
+use Rattle.std.proofs.Common.{ℤ, pos, negsuc, ◌≤ℤ◌, ◌+ℤ◌, ◌-ℤ◌}
 use Rattle.std.proofs.Math.IntN.{*ℤ_comm}
 use Rattle.std.proofs.lemmas.Int.{ints, by_lt_z}
 

@@ -1,6 +1,6 @@
 use Rattle.std.proofs.Common.{rules}
 use Rattle.rt_geo.proofs.Crosses.{at_rightmost}
-use Rattle.rt_geo.proofs.polygon.has_each_corner.Goals as goal
+use Rattle.rt_geo.proofs.polygon.lies_in_half_plane.Goals as goal
 
 pub returns : goal.returns
 returns c =
