@@ -1,7 +1,7 @@
 #!/usr/bin/env python3
 """Compares the built program with a plain reading of the same rules in another language, on random runs.
 
-usage: tests/random_runs.py PROGRAM [--first SEED] [--seeds N] [--language no-polygons|whole]
+usage: tests/random_runs.py PROGRAM [--first SEED] [--seeds N]
 
 `reading.expected` says what a run gives. Each seed is a test of `RUNS` runs, whose tables are mostly sound and whose
 query lines are at fault as often as not. One more test is that the runs meet each form of the language and each fault
@@ -265,16 +265,6 @@ def some_queries(chance):
 # ---- the runs
 
 
-class NoPolygons(reading.Words):
-    """The words of a line while polygons aren't served: `polygon` is no region."""
-
-    def polygon(self):
-        raise reading.Fault("Q3")
-
-
-LANGUAGES = {"no-polygons": NoPolygons, "whole": reading.Words}
-
-
 def differs(program, folder, chance, met):
     """Makes a run, and tells it where it isn't as expected. The kinds of lines of the output are counted."""
     table, queries = some_table(chance), some_queries(chance)
@@ -307,10 +297,9 @@ WHOLE = {"skipped", "find", "nearest", "count", "levels", "near", "smallest", "f
 WHOLE |= {name.decode() for name in REGIONS}
 
 
-def lacks(met, language):
+def lacks(met):
     """What the runs met too seldom."""
-    wanted = WHOLE if language == "whole" else WHOLE - {"polygon", "Q8", "Q9"}
-    seldom = [f"{kind} ({met[kind]})" for kind in sorted(wanted) if met[kind] < 10]
+    seldom = [f"{kind} ({met[kind]})" for kind in sorted(WHOLE) if met[kind] < 10]
     return seldom + [f"errors ({met['error']}) beside {met['ok']} answered lines"] * (met["error"] < met["ok"])
 
 
@@ -319,11 +308,9 @@ def main():
     parser.add_argument("program")
     parser.add_argument("--first", type=int, default=1)
     parser.add_argument("--seeds", type=int, default=20)
-    parser.add_argument("--language", choices=LANGUAGES, default="whole")
     args = parser.parse_args()
     program = str(Path(args.program).resolve())
     met, failed = collections.Counter(), 0
-    reading.Words = LANGUAGES[args.language]
     with tempfile.TemporaryDirectory() as folder:
         for seed in range(args.first, args.first + args.seeds):
             chance = random.Random(seed)
@@ -332,7 +319,7 @@ def main():
             if wrong:
                 failed += 1
                 print(f"FAIL seed {seed}: {wrong}")
-    seldom = lacks(met, args.language)
+    seldom = lacks(met)
     if seldom:
         failed += 1
         print(f"FAIL met too seldom: {', '.join(seldom)}")
