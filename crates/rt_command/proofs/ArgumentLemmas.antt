@@ -3,6 +3,7 @@ use Rattle.std.proofs.Common.{◌≡◌, ◌∙◌, ◌<◌, ◌≤◌, ap, zero
 use Rattle.std.specs.Borrow.{Bor}
 use Rattle.std.specs.List.{list_all, list_any, slice_index_or}
 use Rattle.std.specs.Str.{bytes_eq}
+use Rattle.std.proofs.lemmas.Bool.{and_parts, not-true, or_parts}
 use Rattle.std.proofs.lemmas.Bool.Decides.{nat_tests}
 use Rattle.std.proofs.lemmas.List.{get_or-map, length-map}
 use Rattle.std.proofs.lemmas.List.Folds.{list_any_at}
@@ -23,14 +24,6 @@ use Rattle.rt_command.proofs.OptionLemmas.{default_reads}
 use Rattle.rt_command.specs.Invocations.{HasNumber, number_rule, word_rule}
 
 -- ---- tests
-
-both : (a b : Bool) → (a && b) ≡ true → (a ≡ true) × (b ≡ true)
-both true b e = (refl, e)
-both false b e = cc
-
-off : (b : Bool) → not b ≡ true → b ≡ false
-off true e = cc
-off false e = refl
 
 empty : {X : Type 0} (xs : List X) → is_empty xs ≡ true → xs ≡ []
 empty [] e = refl
@@ -54,24 +47,24 @@ record LeavesOut (a : Arg) : Type 0 where
 
 leaves_out : (a : Arg) → is_simple_arg a ≡ true → LeavesOut a
 leaves_out a h =
-    let overrides = both _ _ h in
-    let ifs = both _ _ overrides.1 in
-    let groups = both _ _ ifs.1 in
-    let delimiter = both _ _ groups.1 in
+    let overrides = and_parts _ _ h in
+    let ifs = and_parts _ _ overrides.1 in
+    let groups = and_parts _ _ ifs.1 in
+    let delimiter = and_parts _ _ groups.1 in
     record { overrides = empty _ overrides.0; default_ifs = empty _ ifs.0; groups = empty _ groups.0; delimiter = none _ delimiter.0 }
 
 -- an argument that is simple and free excludes nothing
 plain_arg : (a : Arg) → is_simple_arg a ≡ true → is_free_arg a ≡ true → IsPlainArg a
 plain_arg a simple free =
     let out = leaves_out a simple in
-    let exclusive = both _ _ free in
-    let conflicts = both _ _ exclusive.1 in
-    (off _ exclusive.0, empty _ conflicts.0, out.overrides, out.groups)
+    let exclusive = and_parts _ _ free in
+    let conflicts = and_parts _ _ exclusive.1 in
+    (not-true _ exclusive.0, empty _ conflicts.0, out.overrides, out.groups)
 
 plain_args : (xs : List Arg) → list_all (λ r. r.is_simple && r.is_free) (map rule_of xs) ≡ true → (k : ℕ) (d : Arg) → k < length xs → IsPlainArg (slice_index_or xs k d)
 plain_args [] h k d lt = absurd (omega arith)
-plain_args (x ∷ xs) h zero d lt = let here = both _ _ (both _ _ h).0 in plain_arg x here.0 here.1
-plain_args (x ∷ xs) h (suc k) d lt = plain_args xs (both _ _ h).1 k d (omega arith)
+plain_args (x ∷ xs) h zero d lt = let here = and_parts _ _ (and_parts _ _ h).0 in plain_arg x here.0 here.1
+plain_args (x ∷ xs) h (suc k) d lt = plain_args xs (and_parts _ _ h).1 k d (omega arith)
 
 -- a name that no rule at another place has
 abbrev has_name : List ℕ → Rule → Bool
@@ -82,10 +75,6 @@ is_elsewhere [] k name = false
 is_elsewhere (r ∷ rs) zero name = list_any (has_name name) rs
 is_elsewhere (r ∷ rs) (suc k) name = has_name name r || is_elsewhere rs k name
 
-or_off : (a b : Bool) → (a || b) ≡ false → (a ≡ false) × (b ≡ false)
-or_off true b e = cc
-or_off false b e = (refl, e)
-
 only_place : (rs : List Rule) (k : ℕ) (name : List ℕ) → is_elsewhere rs k name ≡ false → (j : ℕ) (d : Rule) → j < length rs → has_name name (slice_index_or rs j d) ≡ true → j ≡ k
 only_place [] k name apart j d lt hit = absurd (omega arith)
 only_place (r ∷ rs) zero name apart zero d lt hit = refl
@@ -93,9 +82,9 @@ only_place (r ∷ rs) zero name apart (suc j) d lt hit =
     let bad : false ≡ true = sym apart ∙ list_any_at (has_name name) rs j d (omega arith) hit in
     absurd cc
 only_place (r ∷ rs) (suc k) name apart zero d lt hit =
-    let bad : false ≡ true = sym (or_off _ _ apart).0 ∙ hit in
+    let bad : false ≡ true = sym (or_parts _ _ apart).0 ∙ hit in
     absurd cc
-only_place (r ∷ rs) (suc k) name apart (suc j) d lt hit = ap suc (only_place rs k name (or_off _ _ apart).1 j d (omega arith) hit)
+only_place (r ∷ rs) (suc k) name apart (suc j) d lt hit = ap suc (only_place rs k name (or_parts _ _ apart).1 j d (omega arith) hit)
 
 -- a rule at a place among others, under a name of its own that isn't one of those that clap adds
 pub record IsRuleAt (rules : List Rule) (k : ℕ) (r : Rule) : Type 0 where
@@ -152,14 +141,14 @@ pub plain_parse : (c : Command) (app : App) (m : ArgMatches) → app_of c ≡ ap
     → list_all (λ r. r.is_simple && r.is_free) app.top.rules ≡ true → IsParsedFrom c m → IsPlainParse c app.top.rules m
 plain_parse c app m same plain negates simple parsed =
     let are : map rule_of (args_of c) ≡ app.top.rules = ap (λ (a : App). a.top.rules) same in
-    let fields = both _ _ (ap (λ (a : App). a.top.is_plain) same ∙ plain) in
-    let external = both _ _ fields.1 in
-    let globals = both _ _ external.1 in
+    let fields = and_parts _ _ (ap (λ (a : App). a.top.is_plain) same ∙ plain) in
+    let external = and_parts _ _ fields.1 in
+    let globals = and_parts _ _ external.1 in
     record {
       parsed = parsed;
       are = are;
       plain = (plain_args (args_of c) (ap (list_all (λ r. r.is_simple && r.is_free)) are ∙ simple), empty _ fields.0);
-      globals = off _ globals.0;
+      globals = not-true _ globals.0;
       negates = ap (λ (a : App). a.top.subcommand_negates_reqs) same ∙ negates;
     }
 

@@ -18,7 +18,11 @@ use Rattle.rt_command.specs.declared.invocation.Invocation.{Invocation}
 
 -- `-H`, of which 72 is the letter, or `--header`
 abbrev pub header_rule : Rule
-header_rule = record (new_rule (codes "header")) { short = Some 72; long = Some (codes "header"); action = Some SetTrue }
+header_rule = record (new_rule (codes "header")) {
+  short = Some 72;
+  long = Some (codes "header");
+  action = Some SetTrue;
+}
 
 -- the whole numbers that a fanout may be
 abbrev pub fanout_values : ValueParser

@@ -3,6 +3,7 @@ use Rattle.std.proofs.Common.{◌≡◌, ◌≢◌, ◌∙◌, ◌+◌, ◌<◌,
 use Rattle.rt_text.proofs.WordLemmas.{later_parts, parts_are}
 use Rattle.std.specs.List.{enumerate_from, position_or_len, slice_split}
 use Rattle.std.proofs.Math.Bool.{or-false, or_assoc}
+use Rattle.std.proofs.lemmas.Bool.{false_from_ne_true}
 use Rattle.std.proofs.lemmas.List.{append-nil, drop_all, length-drop, take_all}
 use Rattle.std.proofs.lemmas.List.Splits.{slice_split_first}
 use Rattle.std.proofs.lemmas.List.Sums.{position_or_len_is}
@@ -10,16 +11,12 @@ use Rattle.memchr.specs.Find.{IsFirstByte, is_byte}
 use Rattle.rt_filter.specs.Lines.{is_line_feed, line_feed, lines_of_parts, numbered_lines}
 use Rattle.rt_filter.specs.Replies.{Loaded, any_fault, is_fault, judged_line, output, reply}
 
-fails : (b : Bool) → (b ≡ true → ⊥) → b ≡ false
-fails true never = absurd (never refl)
-fails false never = refl
-
 -- the place that a search for a line feed finds
 found_at : (xs : List ℕ) (n : ℕ) → IsFirstByte (is_byte line_feed) xs (Some n) → position_or_len is_line_feed xs ≡ n
-found_at xs n h = position_or_len_is is_line_feed xs n 0 (omega (arith, h.0.high)) (λ k below. fails _ (h.0.before k (omega arith) below)) (λ _. h.1)
+found_at xs n h = position_or_len_is is_line_feed xs n 0 (omega (arith, h.0.high)) (λ k below. false_from_ne_true _ (h.0.before k (omega arith) below)) (λ _. h.1)
 
 found_none : (xs : List ℕ) → IsFirstByte (is_byte line_feed) xs None → position_or_len is_line_feed xs ≡ length xs
-found_none xs h = position_or_len_is is_line_feed xs (length xs) 0 (omega arith) (λ k below. fails _ (h k (omega arith) below)) (λ beyond. absurd (omega (arith, beyond)))
+found_none xs h = position_or_len_is is_line_feed xs (length xs) 0 (omega arith) (λ k below. false_from_ne_true _ (h k (omega arith) below)) (λ beyond. absurd (omega (arith, beyond)))
 
 -- no list of parts is empty
 some_part : (p : ℕ → Bool) (xs : List ℕ) → (part : List ℕ) × (more : List (List ℕ)) × (slice_split p xs ≡ part ∷ more)

@@ -10,7 +10,8 @@ line_feed = 10
 abbrev pub is_line_feed : ℕ → Bool
 is_line_feed c = c == line_feed
 
--- of the parts between line feeds each but the last is a line; the last is one where no more bytes come and it isn't empty
+-- of the parts between line feeds each but the last is a line; the last is one where no more bytes come and it isn't
+-- empty
 abbrev pub lines_of_parts : (ended : Bool) → List (List ℕ) → List (List ℕ)
 lines_of_parts ended [] = []
 lines_of_parts ended (part ∷ []) = if ended && not (is_empty part) then part ∷ [] else []

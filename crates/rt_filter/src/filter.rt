@@ -60,7 +60,7 @@ pub fn run<R: Read + Drop, S: Source, K: Sink>(
     requires sink_count { K.failed sink.old < 2 ^ 64 - 1 }
 
     // The headline. Where the three devices tell their bytes, the run ends as `run_of` of the bytes: what
-    // is written, the fault and the status. After a failed push or flush, what went out is a front of that.
+    // is written, the fault and the status. After a failed push or flush, what went out is a prefix of that.
     ensures ending { (table queries before : List ℕ)
         → R.remaining reader ≡ Some table → S.coming source.old ≡ Some queries → K.written sink.old ≡ Some before
         → let told = told_of table queries before (S.coming source.new) (K.written sink.new) in
@@ -123,7 +123,8 @@ fn replies<R: Read + Drop, S: Source>(
         → R.remaining reader ≡ Some table → S.coming source.old ≡ Some queries
         → run_of settings.now table queries ≡ whole_run replies.0.items replies.1) }
     ensures read { OnOk result (IfSome (S.coming source.old) (λ queries. S.coming source.new ≡ Some [])) }
-    ensures stops { IfErr result (λ fault. (table : List ℕ) → R.remaining reader ≡ Some table → Stops settings.now table fault) }
+    ensures stops { IfErr result (λ fault. (table : List ℕ)
+        → R.remaining reader ≡ Some table → Stops settings.now table fault) }
     ensures unpushed { IfErr result (λ fault. (is_told fault ≡ true) × (is_before_output (Some fault) ≡ true)) }
     ensures unread { IfErr result (λ fault. is_before_queries (Some fault) ≡ true → source.new ≡ source.old) }
     ensures went { OnOk result (S.failed source.new ≡ S.failed source.old) }
@@ -169,7 +170,8 @@ fn pull_all<S: Source>(source: &mut S, turns: u64, queries: &mut Vec<u8>) -> Res
 // Pushes until all is taken, and then flushes, unless there is nothing to push.
 fn push_all<K: Sink>(sink: &mut K, out: &[u8]) -> Result<(), WriteFault>
     requires { K.failed sink.old < 2 ^ 64 - 1 }
-    ensures written { OnOk result (IfSome (K.written sink.old) (λ before. K.written sink.new ≡ Some (before ++ out.now))) }
+    ensures written { OnOk result (IfSome (K.written sink.old) (λ before.
+        K.written sink.new ≡ Some (before ++ out.now))) }
     ensures cut { OnErr result (WasCut (K.written sink.old) (K.written sink.new) out.now) }
     ensures went { OnOk result (K.failed sink.new ≡ K.failed sink.old) }
     ensures fails { OnErr result (K.failed sink.new ≡ K.failed sink.old + 1) }

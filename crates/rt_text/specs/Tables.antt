@@ -13,7 +13,8 @@ use Rattle.rt_text.specs.declared.tables.Axis.TheVariants as axis
 use Rattle.rt_text.specs.declared.tables.TableFault.{TableFault}
 use Rattle.rt_text.specs.declared.tables.TableFault.TheVariants as fault
 
--- the records of a text, each the list of its fields, by the usual rules of csv (RFC 4180, and csv-core where that is silent); a byte order mark before the first is dropped
+-- the records of a text, each the list of its fields, by the usual rules of csv (RFC 4180, and csv-core where that is
+-- silent); a byte order mark before the first is dropped
 abbrev pub records_of : List ℕ → List (List (List ℕ))
 records_of bytes = records default_config (strip_bom bytes)
 
@@ -28,7 +29,8 @@ id_of number text = map_fault (field_fault number 1) (number_in (pos 0 -ℤ pos 
 
 -- a later field: a coordinate, of 32 bits
 abbrev pub coordinate_of : (number field : ℕ) → List ℕ → Result ℤ TableFault
-coordinate_of number field text = map_fault (field_fault number field) (number_in least_coordinate greatest_coordinate text)
+coordinate_of number field text =
+    map_fault (field_fault number field) (number_in least_coordinate greatest_coordinate text)
 
 -- the entry of an id and the four sides of its box
 abbrev pub entry_of_sides : (number : ℕ) → (id min_x max_x min_y max_y : ℤ) → Result Entry TableFault
@@ -79,7 +81,8 @@ entries_from max number so_far (fields ∷ more) = do
   entry ← judged max number so_far fields
   entries_from max (number + 1) (so_far ++ entry ∷ []) more
 
--- the table that a text gives, in the order of its records, or the first fault; a header is the first record, counted and not judged
+-- the table that a text gives, in the order of its records, or the first fault; a header is the first record, counted and
+-- not judged
 abbrev pub table_of : List ℕ → (header : Bool) → (max : ℕ) → Result (List Entry) TableFault
 table_of bytes header max =
     if header then entries_from max 2 [] (drop 1 (records_of bytes)) else entries_from max 1 [] (records_of bytes)
@@ -90,8 +93,8 @@ tells_text fault.Read = false
 tells_text fault.Memory = false
 tells_text other = true
 
--- a fault that a step of the load may answer, one that reads nothing, where this is what the step gives: its own fault, or
--- want of memory
+-- a fault that a step of the load may answer, one that reads nothing, where this is what the step gives: its own
+-- fault, or want of memory
 abbrev pub IsRefusal : {A : Type 0} → TableFault → Result A TableFault → Type 0
 IsRefusal cause step = (cause ≡ fault.Memory) ⊎ (step ≡ Err cause)
 
