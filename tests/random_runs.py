@@ -37,9 +37,11 @@ def small(chance):
 
 
 def pair(chance):
-    """A least and a greatest number: small ones, now and then one at the end of its range."""
-    ends = [chance.choice(COORDINATE_ENDS) if chance.random() < 0.05 else small(chance) for _ in range(2)]
-    return sorted(ends)
+    """A least and a greatest number: small ones, near each other or not, now and then at the ends of their range."""
+    if chance.random() < 0.3:
+        least = small(chance)
+        return [least, least + chance.choice([0, 0, 1, 3])]
+    return sorted(chance.choice(COORDINATE_ENDS) if chance.random() < 0.05 else small(chance) for _ in range(2))
 
 
 def written(chance, value):
@@ -58,6 +60,8 @@ def some_number(chance):
 # ---- tables
 
 ENDS = [b"\n", b"\r\n", b"\r", b"\n\n"]
+# Some are a power of a fanout, or one more.
+SIZES = [0, 1, 2, 3, 4, 9, 10, 16, 17, 50, 64, 65, 150]
 QUOTED = [b'""', b'"1"2', b'1"2', b'"1\n"', b'"1,2"', b'"a""b"', b'"']
 
 
@@ -74,7 +78,7 @@ def some_record(chance, is_sound):
 def some_table(chance):
     is_sound = chance.random() < 0.8
     end = chance.choice([*ENDS, None])
-    rows = [some_record(chance, is_sound) for _ in range(chance.choice([0, 1, 2, 3, 10, 50, 150]))]
+    rows = [some_record(chance, is_sound) for _ in range(chance.choice(SIZES))]
     if rows and not is_sound and chance.random() < 0.3:
         rows.append(chance.choice([chance.choice(rows), b" ", b'""']))
     text = b"".join(row + (end or chance.choice(ENDS)) for row in rows)
