@@ -1,4 +1,6 @@
 pub mod Entries
 pub mod Indexes
 pub mod Levels
+pub mod Packed
+pub mod Packing
 pub mod Sorting

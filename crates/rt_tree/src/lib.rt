@@ -9,6 +9,8 @@
 
 mod levels;
 mod table;
+mod tree;
 
 pub use levels::Levels;
 pub use table::{PushFault, Table};
+pub use tree::{Node, NodeNo, Tree};
