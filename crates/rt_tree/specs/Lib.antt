@@ -3,4 +3,5 @@ pub mod Indexes
 pub mod Levels
 pub mod Packed
 pub mod Packing
+pub mod SortKeys
 pub mod Sorting

@@ -8,6 +8,7 @@
 #![tactic(auto)]
 
 mod levels;
+mod packing;
 mod table;
 mod tree;
 

@@ -3,8 +3,7 @@
 ghost use Rattle.std.specs.Prelude.{◌≡◌, ◌+◌, ◌-◌, ◌<◌, ◌≤◌, ◌↔◌, length, IfSome, IsSome, Some, slice_get};
 ghost use Rattle.rt_tree.specs.Packed.{IsSound, node_at};
 
-use rt_geo::{Bounds, Entry};
-use std::marker::Model;
+use rt_geo::Bounds;
 
 /// A node: what is known of the entries under it, and where its children are.
 #[derive(Clone, Copy, Debug, PartialEq, Eq)]
@@ -38,29 +37,10 @@ impl NodeNo {
     }
 }
 
-/// A packed tree over the entries of a table.
 #[derive(Drop)]
 pub struct Tree {
-    fanout: u8,
-    entries: Vec<Entry>,
     nodes: Vec<Node>,
 }
 
-impl Model for Tree {
-    ghost use Rattle.rt_tree.specs.Packed.{Packed, IsSound};
-
-    ghost Value = { Packed };
-
-    ghost view = { λ t. record { fanout = t.fanout; entries = t.entries.items; nodes = t.nodes.items } };
-
-    ghost invariant = { λ t. IsSound (record { fanout = t.fanout; entries = t.entries.items; nodes = t.nodes.items }) };
-}
-
-impl Tree {
-    /// How many entries it has.
-    pub fn len(&self) -> u32
-        ensures { result ≡ length self.now.entries }
-    {
-        self.entries.len() as u32
-    }
-}
+#[cfg(test)]
+mod tests;
