@@ -6,5 +6,7 @@ mod OrderLemmas
 mod Rows
 mod SortKeyLemmas
 mod SquareLemmas
+mod Soundness
+mod TileLemmas
 pub mod Permutations
 pub mod SortingLemmas
