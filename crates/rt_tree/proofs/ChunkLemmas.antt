@@ -6,7 +6,7 @@ use Rattle.std.specs.List.{All, AllByRecursion, flat_map}
 use Rattle.std.proofs.lemmas.List.Elements.{All-drop, All-take}
 use Rattle.std.specs.Simd.{first_chunks}
 use native.Mathlib.Nat.{add-mul}
-use Rattle.std.proofs.Math.Nat.{eq-or-lt_of_le, lt_of_not-le, mul-le-mul_right}
+use Rattle.std.proofs.Math.Nat.{zero-div, zero-mod, eq-or-lt_of_le, lt_of_not-le, mul-le-mul_right}
 use Rattle.std.proofs.lemmas.Grind.{div_ceil_times}
 use Rattle.std.proofs.lemmas.List.{append-nil, drop-append-le, drop-map, drop_all, length-append, length-drop, length-map, length-take, nil_from_length, take-append-drop, take-append-le, take-map, take_all}
 use Rattle.rt_tree.specs.Packing.{chunks, joined}
@@ -46,15 +46,13 @@ div_ceil-step len n some there =
     let rest = div_ceil_times (len - n) n some in
     one_more (div_ceil len n) (div_ceil (len - n) n) n len whole.0 whole.1 rest.0 rest.1 there ∙ add-one (div_ceil (len - n) n)
 
-pub div_ceil-zero : (n : ℕ) → 0 < n → div_ceil 0 n ≡ 0
-div_ceil-zero n some =
-    let none = div_ceil_times 0 n some in
-    ceil_unique (div_ceil 0 n) 0 n 0 none.0 none.1 (omega arith) (omega (arith, some))
+pub div_ceil-zero : (n : ℕ) → div_ceil 0 n ≡ 0
+div_ceil-zero n = rw (zero-div n, zero-mod n) refl
 
 -- ---- one chunk after the other
 
-pub chunks-nil : {X : Type 0} (n : ℕ) → 0 < n → chunks {X = X} n [] ≡ []
-chunks-nil n some = ap (λ k. first_chunks n k []) (div_ceil-zero n some)
+pub chunks-nil : {X : Type 0} (n : ℕ) → chunks {X = X} n [] ≡ []
+chunks-nil n = ap (λ k. first_chunks n k []) (div_ceil-zero n)
 
 pub chunks-step : {X : Type 0} (n : ℕ) (xs : List X) → 0 < n → 0 < length xs → chunks n xs ≡ take n xs ∷ chunks n (drop n xs)
 chunks-step n xs some more =
@@ -110,7 +108,7 @@ chunks-All P n xs = first_chunks-All P n (div_ceil (length xs) n) xs
 
 -- behind full chunks others begin anew
 pub chunks-append : {X : Type 0} (n k : ℕ) (xs ys : List X) → 0 < n → length xs ≡ k * n → chunks n (xs ++ ys) ≡ chunks n xs ++ chunks n ys
-chunks-append n zero [] ys some full = ap (λ l. l ++ chunks n ys) (sym (chunks-nil n some))
+chunks-append n zero [] ys some full = ap (λ l. l ++ chunks n ys) (sym (chunks-nil n))
 chunks-append n zero (x ∷ xs) ys some full = absurd (omega (arith, full))
 chunks-append n (suc k) xs ys some full =
     let long = length-append xs ys in
@@ -135,13 +133,13 @@ module _ {X : Type 0} (h : List X → List X) (keeps : (s : List X) → length (
   none = nil_from_length (h []) (keeps [])
 
   first_chunks_of : (k : ℕ) (xs : List X) → flat_map (λ s. chunks n (h s)) (first_chunks (side * n) k xs) ≡ chunks n (flat_map h (first_chunks (side * n) k xs))
-  first_chunks_of zero xs = sym (chunks-nil n some)
+  first_chunks_of zero xs = sym (chunks-nil n)
   first_chunks_of (suc k) xs = elim (le_or_lt (side * n) (length xs)) [
       | inl wide ↦
         let full : length (h (take (side * n) xs)) ≡ side * n = omega (arith, keeps (take (side * n) xs), length-take (side * n) xs) in
         ap (λ l. chunks n (h (take (side * n) xs)) ++ l) (first_chunks_of k (drop (side * n) xs))
         ∙ sym (chunks-append n side (h (take (side * n) xs)) (flat_map h (first_chunks (side * n) k (drop (side * n) xs))) some full)
-      | inr narrow ↦ rw (drop_all (side * n) xs (omega arith)) (rw (flat_map-empty (λ s. chunks n (h s)) (side * n) k (ap (chunks n) none ∙ chunks-nil n some), flat_map-empty h (side * n) k none)
+      | inr narrow ↦ rw (drop_all (side * n) xs (omega arith)) (rw (flat_map-empty (λ s. chunks n (h s)) (side * n) k (ap (chunks n) none ∙ chunks-nil n), flat_map-empty h (side * n) k none)
         (append-nil (chunks n (h (take (side * n) xs))) ∙ ap (chunks n) (sym (append-nil (h (take (side * n) xs))))))
     ]
 

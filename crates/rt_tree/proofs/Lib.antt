@@ -3,6 +3,8 @@ mod EntryLemmas
 mod LevelLemmas
 mod LoopLemmas
 mod OrderLemmas
+mod PackCounts
+mod PackSound
 mod Rows
 mod SortKeyLemmas
 mod SquareLemmas

@@ -35,7 +35,7 @@ set_behind : {X : Type 0} (front : List X) (y x : X) (back : List X) → set (fr
 set_behind [] y x back = refl
 set_behind (z ∷ front) y x back = ap (λ l. z ∷ l) (set_behind front y x back)
 
-get_or_behind : {X : Type 0} (front : List X) (y d : X) (back : List X) → get_or (front ++ y ∷ back) (length front) d ≡ y
+pub get_or_behind : {X : Type 0} (front : List X) (y d : X) (back : List X) → get_or (front ++ y ∷ back) (length front) d ≡ y
 get_or_behind [] y d back = refl
 get_or_behind (z ∷ front) y d back = get_or_behind front y d back
 

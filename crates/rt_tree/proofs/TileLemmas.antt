@@ -9,7 +9,7 @@ use Rattle.std.proofs.lemmas.List.Sorted.{IsPermutation-append, IsPermutation-ma
 use Rattle.rt_geo.specs.Boxes.{Rect}
 use Rattle.rt_tree.specs.Packing.{by_middle, ceil_sqrt, chunks, groups, joined, tiles, twice_middle_x, twice_middle_y}
 use Rattle.rt_tree.specs.Sorting.{sorted}
-use Rattle.rt_tree.proofs.ChunkLemmas.{chunks_of-chunks, joined-chunks, length-chunks, map-chunks}
+use Rattle.rt_tree.proofs.ChunkLemmas.{chunks-nil, chunks_of-chunks, joined-chunks, length-chunks, map-chunks}
 use Rattle.rt_tree.proofs.LevelLemmas.{div_ceil-positive}
 use Rattle.rt_tree.proofs.OrderLemmas.{map-flat_map}
 use Rattle.rt_tree.proofs.SortingLemmas.{IsPermutation-sorted}
@@ -76,3 +76,14 @@ module _ {X : Type 0} (box : X → Rect) (items : List X) where
       let wide : 0 < slice_size fanout = positive_product (ceil_sqrt (div_ceil (length items) fanout)) fanout (ceil_sqrt-positive (div_ceil (length items) fanout) (div_ceil-positive (length items) fanout several there)) (omega arith) in
       let moved = IsPermutation-map (λ (p : ℕ × X). p.1) _ _ (tiled-IsPermutation (slice_size fanout) wide) in
       subst (λ l. IsPermutation l (joined (groups box fanout items))) (numbered_items 0 items) (subst (IsPermutation (map (λ (p : ℕ × X). p.1) (enumerate_from 0 items))) (sym (joined-groups fanout (omega arith))) moved)
+
+-- no items have no groups
+pub groups-nil : {X : Type 0} (box : X → Rect) (fanout : ℕ) → groups box fanout [] ≡ []
+groups-nil {X} box fanout =
+    ap (λ slices. map (map (λ (p : ℕ × X). p.1)) (flat_map (λ slice. chunks fanout (sorted (by_middle box twice_middle_y) slice)) slices))
+    (chunks-nil (ceil_sqrt (div_ceil 0 fanout) * fanout))
+
+-- the groups have the items, each once, however many there are
+pub groups-moved : {X : Type 0} (box : X → Rect) (fanout : ℕ) (items : List X) → 2 ≤ fanout → IsPermutation items (joined (groups box fanout items))
+groups-moved box fanout [] several = subst (λ gs. IsPermutation [] (joined gs)) (sym (groups-nil box fanout)) (IsPermutation-refl [])
+groups-moved box fanout (x ∷ items) several = groups-IsPermutation box (x ∷ items) fanout several (omega arith)
