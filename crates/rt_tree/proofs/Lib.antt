@@ -4,6 +4,7 @@ mod LevelLemmas
 mod LoopLemmas
 mod OrderLemmas
 mod PackCounts
+mod PackLemmas
 mod PackSound
 mod Rows
 mod SortKeyLemmas

@@ -7,11 +7,12 @@ use Rattle.std.proofs.lemmas.Bool.Decides.{nat_tests}
 use Rattle.std.proofs.lemmas.List.Sorted.{length_permutation, sum_by-IsPermutation}
 use Rattle.std.proofs.lemmas.List.Sums.{sum_by-append, sum_by-cons}
 use Rattle.rt_geo.specs.Boxes.{Rect}
+use Rattle.rt_geo.specs.declared.entry.Entry.{Entry}
 use Rattle.rt_tree.specs.Packing.{chunks, groups, joined, node_over, nodes_from, nodes_over}
 use Rattle.rt_tree.specs.declared.tree.Node.{Node}
-use Rattle.rt_tree.proofs.ChunkLemmas.{le_or_lt, length-chunks}
+use Rattle.rt_tree.proofs.ChunkLemmas.{joined-chunks, le_or_lt, length-chunks}
 use Rattle.rt_tree.proofs.LevelLemmas.{div_ceil-halves, div_ceil-positive}
-use Rattle.rt_tree.proofs.Soundness.{length-nodes_over}
+use Rattle.rt_tree.proofs.Soundness.{length-nodes_over, sum_by-ones}
 use Rattle.rt_tree.proofs.TileLemmas.{groups-IsPermutation, groups-chunks}
 
 -- ---- one level
@@ -29,6 +30,14 @@ weight-nodes_over box weight level first [] = refl
 weight-nodes_over box weight level first (g ∷ gs) =
     let rest = nodes_over box weight level (first + length g) gs in
     omega (arith, sum_by-cons (λ (n : Node). n.size) (node_over box weight level first g) rest, weight-nodes_over box weight level (first + length g) gs, sum_by-append weight g (joined gs))
+
+-- a loop that makes one level after another: it has made so many nodes, and then those of this level
+pub record IsCounted (level : ℕ) (nodes made : List Node) : Type 0 where
+  pub from_one : 1 ≤ level
+  pub few_levels : level ≤ 24
+  pub few : length made ≤ 2 ^ (24 - level)
+  pub few_nodes : length nodes + 2 * length made ≤ 16777216 + level
+  pub weight : sum_by (λ n. n.size) made ≤ 16777216
 
 -- ---- one level after another
 
@@ -78,14 +87,6 @@ module _ (fanout : ℕ) (several : 2 ≤ fanout) where
       ∙ ap (λ l. joined (cut made) ++ l) (nodes_from-fuel (length made - 1) (length (above level first made)) (level + 1) (first + length made) (above level first made) (fewer level first (length made - 1) made h (omega arith)) (omega arith))
 
   -- ---- a loop that makes one level after another
-
-  -- it has made so many nodes, and then those of this level
-  pub record IsCounted (level : ℕ) (nodes made : List Node) : Type 0 where
-    pub from_one : 1 ≤ level
-    pub few_levels : level ≤ 24
-    pub few : length made ≤ 2 ^ (24 - level)
-    pub few_nodes : length nodes + 2 * length made ≤ 16777216 + level
-    pub weight : sum_by (λ n. n.size) made ≤ 16777216
 
   not_last : (level made : ℕ) → level ≤ 24 → made ≤ 2 ^ (24 - level) → 1 < made → level < 24
   not_last level made low few some = elim (eq-or-lt_of_le low) [ inl e ↦ absurd (omega (arith, some, last e)) | inr l ↦ l ]
@@ -145,3 +146,36 @@ module _ (fanout : ℕ) (several : 2 ≤ fanout) where
 
   pub course_done : (level : ℕ) (nodes made whole : List Node) → length made ≤ 1 → nodes ++ nodes_from (length made) fanout level (length nodes) made ≡ whole → nodes ++ made ≡ whole
   course_done level nodes made whole last course = ap (λ l. nodes ++ l) (sym (nodes_from-last (length made) level (length nodes) made last)) ∙ course
+
+  -- ---- the same of what the loop holds
+
+  pub above_is : (level first : ℕ) (made ordered new : List Node) → ordered ≡ joined (cut made)
+      → new ≡ nodes_over (λ n. n.bounds) (λ n. n.size) (level + 1) first (chunks fanout ordered) → new ≡ above level first made
+  above_is level first made ordered new ordered_is new_is =
+      new_is ∙ ap (nodes_over (λ n. n.bounds) (λ n. n.size) (level + 1) first) (ap (chunks fanout) ordered_is ∙ sym (groups-chunks (λ (n : Node). n.bounds) made fanout (omega arith)))
+
+  pub ordered_length : (made ordered : List Node) → 0 < length made → ordered ≡ joined (cut made) → length ordered ≡ length made
+  ordered_length made ordered some is = ap length is ∙ length_permutation made (joined (cut made)) (groups-IsPermutation (λ (n : Node). n.bounds) made fanout several some)
+
+  pub ordered_weight : (made ordered : List Node) → 0 < length made → ordered ≡ joined (cut made) → sum_by (λ n. n.size) ordered ≡ sum_by (λ n. n.size) made
+  ordered_weight made ordered some is =
+      ap (sum_by (λ n. n.size)) is ∙ sum_by-IsPermutation (λ (n : Node). n.size) made (joined (cut made)) (groups-IsPermutation (λ (n : Node). n.bounds) made fanout several some)
+
+  pub level_counted : (level : ℕ) (nodes made ordered new after : List Node) → IsCounted level nodes made → 1 < length made → ordered ≡ joined (cut made)
+      → new ≡ nodes_over (λ n. n.bounds) (λ n. n.size) (level + 1) (length nodes) (chunks fanout ordered) → after ≡ nodes ++ ordered → IsCounted (level + 1) after new
+  level_counted level nodes made ordered new after c some ordered_is new_is after_is =
+      rw (after_is, ordered_is, above_is level (length nodes) made ordered new ordered_is new_is) (counted_more level nodes made c some)
+
+  pub level_smaller : (level first : ℕ) (made ordered new : List Node) → 1 < length made → ordered ≡ joined (cut made)
+      → new ≡ nodes_over (λ n. n.bounds) (λ n. n.size) (level + 1) first (chunks fanout ordered) → length new < length made
+  level_smaller level first made ordered new some ordered_is new_is =
+      omega (arith, ap length (above_is level first made ordered new ordered_is new_is), fewer level first (length made - 1) made some (omega arith))
+
+  -- the nodes over entries
+  pub entries_counted : (entries : List Entry) (made : List Node) → length entries ≤ 16777216 → made ≡ nodes_over (λ e. e.bounds) (λ _. 1) 1 0 (chunks fanout entries) → IsCounted 1 [] made
+  entries_counted entries made few is =
+      let box = λ (e : Entry). e.bounds in
+      let count : length made ≡ div_ceil (length entries) fanout = ap length is ∙ length-nodes_over box (λ _. 1) 1 0 (chunks fanout entries) ∙ length-chunks fanout entries in
+      let weight : sum_by (λ n. n.size) made ≡ length entries =
+          ap (sum_by (λ n. n.size)) is ∙ weight-nodes_over box (λ _. 1) 1 0 (chunks fanout entries) ∙ sum_by-ones (joined (chunks fanout entries)) ∙ ap length (joined-chunks fanout entries (omega arith)) in
+      counted_first made (length entries) count few weight

@@ -3,11 +3,11 @@ use Rattle.std.proofs.Common.{◌≡◌, ◌<◌, ◌≤◌, ◌+◌, ◌-◌, �
 use Rattle.std.specs.Int.{div_ceil}
 use Rattle.std.specs.List.{AllByRecursion, flat_map, sum_by}
 use Rattle.std.proofs.lemmas.Grind.{flat_map-append}
-use Rattle.std.proofs.lemmas.List.{append-nil, nil_from_length}
+use Rattle.std.proofs.lemmas.List.{append-nil, get_or_default, nil_from_length}
 use Rattle.std.proofs.lemmas.List.Elements.{All-from_recursion, recursion_from_All}
 use Rattle.std.proofs.lemmas.List.Sorted.{All-permutation, IsPermutation-append_comm, IsPermutation-append_left, IsPermutation-append_right, IsPermutation-map, IsPermutation-refl, IsPermutation-sym, IsPermutation-trans, length_permutation}
 use Rattle.rt_geo.specs.declared.entry.Entry.{Entry}
-use Rattle.rt_tree.specs.Packed.{Packed, IsSound, IsSubtree, entries_under, height, no_node, root_of}
+use Rattle.rt_tree.specs.Packed.{Packed, IsSound, IsSubtree, entries_under, height, no_node, node_at, root_of}
 use Rattle.rt_tree.specs.Packing.{chunks, groups, joined, nodes_from, nodes_over, pack_of}
 use Rattle.rt_tree.specs.Entries.{IsTable, ids_of}
 use Rattle.rt_tree.specs.Sorting.{sorted}
@@ -97,7 +97,7 @@ module _ (fanout : ℕ) (several : 2 ≤ fanout) (es : List Entry) where
     pub few_levels : (root_of (tree fanout es ns)).level ≤ 24
     pub few_nodes : length ns < 2 ^ 32
 
-  finished : (h : ℕ) (numbered : List Node) (r : Node) → IsBuilt h numbered (r ∷ []) → IsCounted fanout several (suc h) numbered (r ∷ []) → IsFinished (numbered ++ r ∷ [])
+  finished : (h : ℕ) (numbered : List Node) (r : Node) → IsBuilt h numbered (r ∷ []) → IsCounted (suc h) numbered (r ∷ []) → IsFinished (numbered ++ r ∷ [])
   finished h numbered r b c =
       let ns = numbered ++ r ∷ [] in
       let old = tree fanout es numbered in
@@ -146,13 +146,13 @@ module _ (fanout : ℕ) (several : 2 ≤ fanout) (es : List Entry) where
       subst (λ k. 0 < length (nodes_over (λ n. n.bounds) (λ n. n.size) k (length numbered) (cut fanout several made))) (add-one (suc h))
       (omega (arith, length-above fanout several (suc h) (length numbered) made some, div_ceil-positive (length made) fanout several some))
 
-  counted_above : (h : ℕ) (numbered made : List Node) → 1 < length made → IsCounted fanout several (suc h) numbered made
-      → IsCounted fanout several (suc (suc h)) (numbered ++ joined (cut fanout several made)) (new_nodes h numbered made)
+  counted_above : (h : ℕ) (numbered made : List Node) → 1 < length made → IsCounted (suc h) numbered made
+      → IsCounted (suc (suc h)) (numbered ++ joined (cut fanout several made)) (new_nodes h numbered made)
   counted_above h numbered made some c =
-      subst (λ k. IsCounted fanout several k (numbered ++ joined (cut fanout several made)) (nodes_over (λ n. n.bounds) (λ n. n.size) k (length numbered) (cut fanout several made))) (add-one (suc h))
+      subst (λ k. IsCounted k (numbered ++ joined (cut fanout several made)) (nodes_over (λ n. n.bounds) (λ n. n.size) k (length numbered) (cut fanout several made))) (add-one (suc h))
       (counted_more fanout several (suc h) numbered made c some)
 
-  pub sound_from : (fuel h : ℕ) (numbered made : List Node) → length made ≤ fuel → 0 < length made → IsBuilt h numbered made → IsCounted fanout several (suc h) numbered made
+  pub sound_from : (fuel h : ℕ) (numbered made : List Node) → length made ≤ fuel → 0 < length made → IsBuilt h numbered made → IsCounted (suc h) numbered made
       → IsFinished (numbered ++ nodes_from fuel fanout (suc h) (length numbered) made)
   sound_from fuel h numbered [] few there b c = absurd (omega (arith, there))
   sound_from fuel h numbered (r ∷ []) few there b c = subst (λ l. IsFinished (numbered ++ l)) (sym (nodes_from-last fanout several fuel (suc h) (length numbered) (r ∷ []) (omega arith))) (finished h numbered r b c)
@@ -185,7 +185,7 @@ sound_empty t none nothing table =
     let short : length t.nodes ≡ 0 = ap length none in
     record {
       table = table;
-      empty = λ _. nothing;
+      some = (λ h. absurd (omega (arith, h, short)), λ h. absurd (omega (arith, h, ap length nothing)));
       root = λ h. absurd (omega (arith, h, short));
       every = λ h. absurd (omega (arith, h, short));
       nodes = λ k d h. absurd (omega (arith, h, short));
@@ -193,10 +193,10 @@ sound_empty t none nothing table =
       few_nodes = omega arith;
     }
 
-sound_finished : (fanout : ℕ) (several : 2 ≤ fanout) (es : List Entry) (ns : List Node) → IsTable es → IsFinished fanout several es ns → IsSound (tree fanout es ns)
-sound_finished fanout several es ns table f = record {
+sound_finished : (fanout : ℕ) (several : 2 ≤ fanout) (es : List Entry) (ns : List Node) → 0 < length es → IsTable es → IsFinished fanout several es ns → IsSound (tree fanout es ns)
+sound_finished fanout several es ns there table f = record {
   table = table;
-  empty = λ h. absurd (omega (arith, h, f.some));
+  some = (λ _. there, λ _. f.some);
   root = λ _. f.root;
   every = λ _. f.every;
   nodes = All-from_recursion (λ n. IsSubtree (tree fanout es ns) (n.level - 1) n) ns f.nodes;
@@ -218,7 +218,7 @@ module _ (fanout : ℕ) (several : 2 ≤ fanout) (in_order : List Entry) where
   moved : IsPermutation in_order es
   moved = groups-moved (λ (e : Entry). e.bounds) fanout in_order several
 
-  made-first : 0 < length in_order → IsTable es → IsCounted fanout several 1 [] made
+  made-first : 0 < length in_order → IsTable es → IsCounted 1 [] made
   made-first there table =
       let long = length_permutation in_order es moved in
       let count : length made ≡ div_ceil (length in_order) fanout = length-nodes_over (λ (e : Entry). e.bounds) (λ _. 1) 1 0 gs ∙ length-groups (λ (e : Entry). e.bounds) fanout in_order several there in
@@ -237,7 +237,7 @@ module _ (fanout : ℕ) (several : 2 ≤ fanout) (in_order : List Entry) where
   packed-some : 0 < length in_order → IsTable es → IsSound (tree fanout es (nodes_from (length made) fanout 1 0 made))
   packed-some there table =
       let some : 0 < length made = omega (arith, length-nodes_over (λ (e : Entry). e.bounds) (λ _. 1) 1 0 gs, length-groups (λ (e : Entry). e.bounds) fanout in_order several there, div_ceil-positive (length in_order) fanout several there) in
-      sound_finished fanout several es (nodes_from (length made) fanout 1 0 made) table
+      sound_finished fanout several es (nodes_from (length made) fanout 1 0 made) (omega (arith, there, length_permutation in_order es moved)) table
       (sound_from fanout several es (length made) 0 [] made (omega arith) some (made-IsBuilt table) (made-first there table))
 
 -- without entries there are no nodes
@@ -257,3 +257,17 @@ pack_of-IsSound fanout entries several table =
       | inl none ↦ sound_empty (pack_of fanout entries) (packed-none fanout several in_order (nil_from_length in_order (omega arith))) (nil_from_length (pack_of fanout entries).entries (omega arith)) held
       | inr some ↦ packed-some fanout several in_order some held
     ]
+
+-- ---- the children of a node
+
+inner-range : (t : Packed) (below : ℕ) (n : Node) → IsSubtree t below n → 0 < below → n.first + n.count ≤ length t.nodes
+inner-range t zero n s h = absurd (omega (arith, h))
+inner-range t (suc below) n s h = s.range
+
+-- a child of a node above level 1 is a node of the tree
+pub child_inside : (t : Packed) (number index : ℕ) (n : Node) → IsSound t → number < length t.nodes → n ≡ get_or t.nodes number n
+    → 2 ≤ (node_at t number).level → index < (node_at t number).count → n.first + index < length t.nodes
+child_inside t number index n s there is level count =
+    let same : n ≡ node_at t number = is ∙ get_or_default t.nodes number n no_node there in
+    let first : n.first ≡ (node_at t number).first = ap (λ m. m.first) same in
+    omega (arith, first, count, inner-range t ((node_at t number).level - 1) (node_at t number) (s.nodes number no_node there) (omega (arith, level)))

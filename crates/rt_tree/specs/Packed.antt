@@ -1,5 +1,5 @@
 -- A packed tree: its entries in the order of their places, and its nodes in the order of their numbers.
-use Rattle.std.specs.Prelude.{◌≡◌, ◌+◌, ◌-◌, ◌<◌, ◌≤◌, ◌^◌, ℕ, zero, suc, true, List, [], ◌∷◌, length, map, take, drop, get_or, pos}
+use Rattle.std.specs.Prelude.{◌↔◌, ◌≡◌, ◌+◌, ◌-◌, ◌<◌, ◌≤◌, ◌^◌, ℕ, zero, suc, true, List, [], ◌∷◌, length, map, take, drop, get_or, pos}
 use Rattle.std.specs.List.{All, AllByRecursion, flat_map, fold, sum_by}
 use Rattle.std.specs.List.Sorted.{IsPermutation}
 use Rattle.rt_geo.specs.Boxes.{Rect, IsRect, hull, inside, rect_of}
@@ -88,7 +88,7 @@ IsSubtree t (suc below) n = IsInnerNode t below (IsSubtree t below) n
 -- its level asks for
 pub record IsSound (t : Packed) : Type 0 where
   pub table : IsTable t.entries
-  pub empty : length t.nodes ≡ 0 → t.entries ≡ []
+  pub some : (0 < length t.nodes) ↔ (0 < length t.entries)
   pub root : 0 < length t.nodes → IsSubtree t (height t) (root_of t)
   pub every : 0 < length t.nodes → IsPermutation (entries_under t (height t) (root_of t)) t.entries
   pub nodes : All (λ n. IsSubtree t (n.level - 1) n) t.nodes

@@ -71,9 +71,13 @@ nodes_from (suc fuel) fanout level first made =
     if nat_le (length made) 1 then made else
     joined cut ++ nodes_from fuel fanout (level + 1) (first + length made) (nodes_over (λ n. n.bounds) (λ n. n.size) (level + 1) first cut)
 
+-- the nodes of all levels, over those of level 1
+abbrev pub all_nodes : (fanout : ℕ) → List Node → List Node
+all_nodes fanout made = nodes_from (length made) fanout 1 0 made
+
 -- the tree over entries: those with equal middles go by id
 abbrev pub pack_of : (fanout : ℕ) → List Entry → Packed
 pack_of fanout entries =
     let cut = groups (λ e. e.bounds) fanout (sorted (on (λ e. e.id) int_cmp) entries) in
     let made = nodes_over (λ e. e.bounds) (λ _. 1) 1 0 cut in
-    record { fanout = fanout; entries = joined cut; nodes = nodes_from (length made) fanout 1 0 made }
+    record { fanout = fanout; entries = joined cut; nodes = all_nodes fanout made }
