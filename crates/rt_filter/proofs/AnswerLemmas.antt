@@ -10,11 +10,11 @@ use Rattle.rt_tree.specs.Sorting.{sorted}
 use Rattle.rt_tree.proofs.SortingLemmas.{sorted-unique_by_all}
 use Rattle.rt_filter.specs.Answers.{Answer, answer_cmp}
 
-answer_cmp_total : IsTotalOrder answer_cmp
+pub answer_cmp_total : IsTotalOrder answer_cmp
 answer_cmp_total = then_total (on_total (λ (a : Answer). a.1) nat_cmp_total) (on_total (λ (a : Answer). a.0) int_cmp_total)
 
 -- answers that tie are the same
-tied : (a b : Answer) → answer_cmp a b ≡ Equal → a ≡ b
+pub tied : (a b : Answer) → answer_cmp a b ≡ Equal → a ≡ b
 tied a b e = grind (arith, ints, nat_tests)
 
 -- the order by which the code sorts: by the pair of score and id

@@ -4,3 +4,4 @@ mod LevelLemmas
 mod LineLemmas
 mod RunLemmas
 mod RunRows
+mod TreeLemmas

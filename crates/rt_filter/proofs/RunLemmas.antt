@@ -1,6 +1,7 @@
 -- A run over a table that was loaded, and over one that was refused.
 use Rattle.std.proofs.Common.{◌≡◌, ◌∙◌, ℕ, Bool, List, [], ◌++◌, None, sym, ap, ap₂}
 use Rattle.std.specs.Prelude.{Ok, Result, true}
+use Rattle.std.specs.List.Sorted.{IsPermutation}
 use Rattle.rt_command.specs.Choices.{Choices}
 use Rattle.rt_geo.specs.declared.entry.Entry.{Entry}
 use Rattle.rt_text.specs.Steps.{◌>>=◌}
@@ -12,6 +13,7 @@ use Rattle.rt_filter.specs.Lines.{numbered_lines}
 use Rattle.rt_filter.specs.Replies.{Loaded, any_fault, output}
 use Rattle.rt_filter.specs.Runs.{loaded_of, run_of, run_over, whole_run}
 use Rattle.rt_filter.specs.Stages.{Stops}
+use Rattle.rt_filter.proofs.TreeLemmas.{output-IsPermutation}
 use Rattle.rt_filter.specs.declared.filter.RunFault.TheVariants as run
 
 -- what is loaded of a table's entries, or of its fault
@@ -41,18 +43,15 @@ pub stops_pulling : (choices : Choices) (table : List ℕ) (entries : List Entry
     → table_of table choices.header choices.max_entries ≡ Ok entries → Stops choices table run.Read
 stops_pulling choices table entries h = λ queries. ap (λ t. (run_over (loaded_with choices t) queries).fault) h
 
--- queries were put after nothing, and so was the output
-pub run_whole : (choices : Choices) (table all queries out : List ℕ) (no_queries no_out : List ℕ) (bad : Bool) (loaded : Loaded)
-    → loaded_of choices table ≡ Ok loaded → no_queries ≡ [] → queries ≡ no_queries ++ all
-    → no_out ≡ [] → out ≡ no_out ++ output loaded (numbered_lines queries true) → bad ≡ any_fault (numbered_lines queries true)
-    → run_of choices table all ≡ whole_run out bad
-run_whole choices table all queries out no_queries no_out bad loaded h none e empty o b =
+-- queries were put after nothing, and so was the output; a tree held the entries
+pub run_whole : (choices : Choices) (table all queries out : List ℕ) (no_queries no_out : List ℕ) (bad : Bool) (entries held : List Entry)
+    → table_of table choices.header choices.max_entries ≡ Ok entries → IsPermutation entries held → no_queries ≡ [] → queries ≡ no_queries ++ all
+    → no_out ≡ [] → out ≡ no_out ++ output (record { entries = held; fanout = choices.fanout }) (numbered_lines queries true)
+    → bad ≡ any_fault (numbered_lines queries true) → run_of choices table all ≡ whole_run out bad
+run_whole choices table all queries out no_queries no_out bad entries held h moved none e empty o b =
+    let lines = numbered_lines queries true in
     let are : all ≡ queries = sym (e ∙ ap (λ zs. zs ++ all) none) in
-    let is : output loaded (numbered_lines queries true) ≡ out = sym (o ∙ ap (λ zs. zs ++ output loaded (numbered_lines queries true)) empty) in
-    ap (λ q. run_over (loaded_of choices table) q) are ∙ ap (λ t. run_over t queries) h ∙ ap₂ whole_run is (sym b)
-
--- a table that was read is loaded
-pub loads : (choices : Choices) (table : List ℕ) (entries : List Entry) (loaded : Loaded)
-    → table_of table choices.header choices.max_entries ≡ Ok entries → loaded ≡ record { entries = entries; fanout = choices.fanout }
-    → loaded_of choices table ≡ Ok loaded
-loads choices table entries loaded h e = ap (loaded_with choices) h ∙ ap Ok (sym e)
+    let same = output-IsPermutation choices.fanout entries held moved lines in
+    let is : output (record { entries = entries; fanout = choices.fanout }) lines ≡ out =
+    same ∙ sym (o ∙ ap (λ zs. zs ++ output (record { entries = held; fanout = choices.fanout }) lines) empty) in
+    ap (λ q. run_over (loaded_of choices table) q) are ∙ ap (λ t. run_over (loaded_with choices t) queries) h ∙ ap₂ whole_run is (sym b)

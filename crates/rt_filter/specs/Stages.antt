@@ -3,10 +3,16 @@ use Rattle.std.specs.Prelude.{◌≡◌, ℕ, List, Bool, true, false, Option, N
 use Rattle.rt_command.specs.Choices.{Choices}
 use Rattle.rt_text.specs.Tables.{tells_text}
 use Rattle.rt_text.specs.declared.tables.TableFault.TheVariants as load
+use Rattle.rt_tree.specs.Packed.{Packed}
 use Rattle.rt_filter.specs.Endings.{WentPrefix}
+use Rattle.rt_filter.specs.Replies.{Loaded}
 use Rattle.rt_filter.specs.Runs.{faulty_run, run_of}
 use Rattle.rt_filter.specs.declared.filter.RunFault.{RunFault}
 use Rattle.rt_filter.specs.declared.filter.RunFault.TheVariants.{Table, Read}
+
+-- what queries are asked of, where the table's entries stand in a tree
+abbrev pub loaded_tree : Packed → Loaded
+loaded_tree tree = record { entries = tree.entries; fanout = tree.fanout }
 
 -- a fault that a run may report
 abbrev pub is_told : RunFault → Bool

@@ -6,11 +6,11 @@ ghost use Rattle.rt_filter.specs.Faults.{run_fault_line};
 ghost use Rattle.rt_filter.specs.Runs.{run_of, whole_run};
 ghost use Rattle.rt_filter.specs.Stages.{Stops, WasCut, is_told};
 
-use crate::loaded::LoadedTable;
 use crate::reply::{LONGEST_LINE, put_output};
 use rt_command::Settings;
 use rt_device::{Sink, Source, WriteFault};
 use rt_text::{Line, TableFault, fault_line, read_table};
+use rt_tree::Tree;
 use std::alloc::{AllocError, Global};
 use std::io::Read;
 use thiserror::Error;
@@ -134,11 +134,11 @@ fn replies<R: Read + Drop, S: Source>(
         → IfSome (S.coming source.old) (λ queries. turns ≤ length queries)) }
 {
     let table = read_table(alloc, reader, settings.header(), settings.max_entries())?;
-    let loaded = LoadedTable::new(table, settings.fanout());
+    let tree = Tree::pack(alloc, table, settings.fanout())?;
     let mut queries = Vec::new(alloc);
     pull_all(source, turns, &mut queries)?;
     let mut out = Vec::new(alloc);
-    let bad = put_output(alloc, &loaded, &queries, &mut out)?;
+    let bad = put_output(alloc, &tree, &queries, &mut out)?;
     Ok((out, bad))
 }
 

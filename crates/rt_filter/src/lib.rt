@@ -8,7 +8,6 @@
 
 mod answer;
 mod filter;
-mod loaded;
 mod reply;
 #[cfg(test)]
 mod tests;
