@@ -1,11 +1,14 @@
 -- Lists in the order of another list, or by another comparison.
-use Rattle.std.proofs.Common.{◌≡◌, ℕ, Ordering, List, [], ◌∷◌, ◌++◌, map, cond, true, false, refl, sym, ◌∙◌, ap, arith, length, IsPermutation, IsSorted}
+use Rattle.std.proofs.Common.{◌≡◌, ℕ, Ordering, List, [], ◌∷◌, ◌++◌, map, cond, true, false, refl, sym, ◌∙◌, ap, subst, append_assoc, arith, length, IsPermutation, IsSorted}
 use Rattle.std.specs.List.{AllByRecursion, flat_map}
 use Rattle.std.specs.Ordering.{is_gt, nat_cmp}
 use Rattle.std.proofs.lemmas.Cmp.{nat_cmp_total}
 use Rattle.std.proofs.lemmas.List.{map-append}
+use Rattle.std.proofs.lemmas.List.Elements.{All-from_recursion, recursion_from_All}
+use Rattle.std.proofs.lemmas.List.Sorted.{All-permutation, IsPermutation-append_comm, IsPermutation-append_left, IsPermutation-append_right, IsPermutation-refl, IsPermutation-trans}
 use Rattle.std.proofs.lemmas.Map.Lookups.{exact_unsigned}
 use Rattle.rt_tree.specs.Sorting.{put, sorted}
+use Rattle.rt_tree.proofs.Permutations.{along_permutation}
 use Rattle.rt_tree.proofs.SortingLemmas.{sorted-unique_by_all}
 
 -- what a sort of numbers gives
@@ -64,3 +67,17 @@ all_append P (x ∷ xs) ys a b = (a.0, all_append P xs ys a.1 b)
 pub all_flat_map : {X Y : Type 0} (P : Y → Type 0) {Q : X → Type 0} (f : X → List Y) → ((x : X) → Q x → AllByRecursion P (f x)) → (xs : List X) → AllByRecursion Q xs → AllByRecursion P (flat_map f xs)
 all_flat_map P f holds [] a = tt
 all_flat_map P f holds (x ∷ xs) a = all_append P (f x) (flat_map f xs) (holds x a.0) (all_flat_map P f holds xs a.1)
+
+pub all_moved : {X : Type 0} (P : X → Type 0) (xs ys : List X) → IsPermutation xs ys → AllByRecursion P xs → AllByRecursion P ys
+all_moved P xs ys h a = recursion_from_All P ys (All-permutation P xs ys h (All-from_recursion P xs a))
+
+exchanged : {Y : Type 0} (a b c : List Y) → IsPermutation (a ++ (b ++ c)) (b ++ (a ++ c))
+exchanged a b c =
+    subst (λ l. IsPermutation l (b ++ (a ++ c))) (append_assoc a b c)
+    (subst (IsPermutation ((a ++ b) ++ c)) (append_assoc b a c) (IsPermutation-append_left c (a ++ b) (b ++ a) (IsPermutation-append_comm a b)))
+
+-- what stands under elements is moved with them
+pub flat_map-IsPermutation : {X Y : Type 0} (f : X → List Y) (xs ys : List X) → IsPermutation xs ys → IsPermutation (flat_map f xs) (flat_map f ys)
+flat_map-IsPermutation f =
+    along_permutation (λ xs ys. IsPermutation (flat_map f xs) (flat_map f ys)) (λ xs. IsPermutation-refl (flat_map f xs))
+    (λ x xs ys h. IsPermutation-append_right (f x) (flat_map f xs) (flat_map f ys) h) (λ x y xs. exchanged (f x) (f y) (flat_map f xs)) (λ xs ys zs h k. IsPermutation-trans _ _ _ h k)

@@ -1,5 +1,5 @@
 -- The tree that is packed over a table is sound.
-use Rattle.std.proofs.Common.{◌≡◌, ◌<◌, ◌≤◌, ◌+◌, ◌-◌, ◌*◌, ◌^◌, ℕ, zero, suc, List, [], ◌∷◌, ◌++◌, length, map, get_or, refl, sym, ◌∙◌, ap, subst, arith, add-one, append_assoc, inl, inr, length-append, All, IsPermutation}
+use Rattle.std.proofs.Common.{◌≡◌, ◌<◌, ◌≤◌, ◌+◌, ◌-◌, ◌*◌, ◌^◌, ℕ, zero, suc, List, [], ◌∷◌, ◌++◌, length, map, filter, ◌==◌, drop, get_or, refl, sym, ◌∙◌, ap, subst, arith, add-one, append_assoc, inl, inr, length-append, All, IsPermutation}
 use Rattle.std.specs.Int.{div_ceil}
 use Rattle.std.specs.List.{AllByRecursion, flat_map, sum_by}
 use Rattle.std.proofs.lemmas.Grind.{flat_map-append}
@@ -7,7 +7,7 @@ use Rattle.std.proofs.lemmas.List.{append-nil, get_or_default, nil_from_length}
 use Rattle.std.proofs.lemmas.List.Elements.{All-from_recursion, recursion_from_All}
 use Rattle.std.proofs.lemmas.List.Sorted.{All-permutation, IsPermutation-append_comm, IsPermutation-append_left, IsPermutation-append_right, IsPermutation-map, IsPermutation-refl, IsPermutation-sym, IsPermutation-trans, length_permutation}
 use Rattle.rt_geo.specs.declared.entry.Entry.{Entry}
-use Rattle.rt_tree.specs.Packed.{Packed, IsSound, IsSubtree, entries_under, height, no_node, node_at, root_of}
+use Rattle.rt_tree.specs.Packed.{Packed, IsSound, IsSubtree, all_child_entries, all_child_nodes, child_entries, entries_under, height, level_by_level, no_node, node_at, root_of}
 use Rattle.rt_tree.specs.Packing.{chunks, groups, joined, nodes_from, nodes_over, pack_of}
 use Rattle.rt_tree.specs.Entries.{IsTable, ids_of}
 use Rattle.rt_tree.specs.Sorting.{sorted}
@@ -17,28 +17,17 @@ use Rattle.std.proofs.lemmas.Map.Keys.{IsDistinct-IsPermutation}
 use Rattle.rt_tree.proofs.EntryLemmas.{int_eq-sym}
 use Rattle.rt_tree.proofs.SortingLemmas.{IsPermutation-sorted}
 use Rattle.rt_tree.specs.declared.tree.Node.{Node}
+use Rattle.rt_tree.proofs.Children.{AreOnce, all_child_entries-is, all_child_nodes-is, nodes_once, once_first, once_more}
 use Rattle.rt_tree.proofs.ChunkLemmas.{chunks-size, le_or_lt}
-use Rattle.rt_tree.proofs.OrderLemmas.{all_append}
+use Rattle.rt_tree.proofs.OrderLemmas.{all_append, all_moved, flat_map-IsPermutation}
 use Rattle.rt_tree.proofs.PackCounts.{IsCounted, counted_first, counted_more, cut, fewer, length-above, length-groups, weight-nodes_over, nodes_from-last, nodes_from-more}
 use Rattle.rt_tree.proofs.LoopLemmas.{get_or_behind}
 use Rattle.rt_tree.proofs.LevelLemmas.{div_ceil-positive}
+use Rattle.rt_tree.proofs.LevelOrder.{last_node-top, nodes_from-levels, nodes_over-AreOn, sizes_from, sizes_from_first}
+use Rattle.rt_tree.specs.Levels.{level_sizes}
 use Rattle.rt_tree.proofs.Permutations.{along_permutation}
-use Rattle.rt_tree.proofs.Soundness.{IsGroup, all_map, all_under_more, leaves_sound, leaves_under, length-nodes_over, over_sound, over_under, subtree_more, sum_by-ones, tree}
+use Rattle.rt_tree.proofs.Soundness.{IsGroup, all_map, all_under_more, inner-range, leaves_sound, leaves_under, length-nodes_over, over_sound, over_under, subtree_more, sum_by-ones, tree}
 use Rattle.rt_tree.proofs.TileLemmas.{groups-IsPermutation, groups-chunks, groups-moved, groups-nil}
-
-exchanged : {Y : Type 0} (a b c : List Y) → IsPermutation (a ++ (b ++ c)) (b ++ (a ++ c))
-exchanged a b c =
-    subst (λ l. IsPermutation l (b ++ (a ++ c))) (append_assoc a b c)
-    (subst (IsPermutation ((a ++ b) ++ c)) (append_assoc b a c) (IsPermutation-append_left c (a ++ b) (b ++ a) (IsPermutation-append_comm a b)))
-
--- what stands under elements is moved with them
-flat_map-IsPermutation : {X Y : Type 0} (f : X → List Y) (xs ys : List X) → IsPermutation xs ys → IsPermutation (flat_map f xs) (flat_map f ys)
-flat_map-IsPermutation f =
-    along_permutation (λ xs ys. IsPermutation (flat_map f xs) (flat_map f ys)) (λ xs. IsPermutation-refl (flat_map f xs))
-    (λ x xs ys h. IsPermutation-append_right (f x) (flat_map f xs) (flat_map f ys) h) (λ x y xs. exchanged (f x) (f y) (flat_map f xs)) (λ xs ys zs h k. IsPermutation-trans _ _ _ h k)
-
-all_moved : {X : Type 0} (P : X → Type 0) (xs ys : List X) → IsPermutation xs ys → AllByRecursion P xs → AllByRecursion P ys
-all_moved P xs ys h a = recursion_from_All P ys (All-permutation P xs ys h (All-from_recursion P xs a))
 
 all_front : {X : Type 0} (P : X → Type 0) (xs ys : List X) → AllByRecursion P (xs ++ ys) → AllByRecursion P xs × AllByRecursion P ys
 all_front P [] ys a = (tt, a)
@@ -66,6 +55,7 @@ module _ (fanout : ℕ) (several : 2 ≤ fanout) (es : List Entry) where
     pub nodes : AllByRecursion (IsSubtree (tree fanout es numbered) h) made
     pub every : IsPermutation (flat_map (entries_under (tree fanout es numbered) h) made) es
     pub lower : AllByRecursion (λ n. IsSubtree (tree fanout es numbered) (n.level - 1) n) numbered
+    pub once : AreOnce fanout es numbered made
 
   -- one more level keeps that
   climb : (h : ℕ) (numbered made : List Node) → 0 < length made → IsBuilt h numbered made
@@ -86,6 +76,9 @@ module _ (fanout : ℕ) (several : 2 ≤ fanout) (es : List Entry) where
         lower = all_append (λ n. IsSubtree new (n.level - 1) n) numbered ordered
           (all_map (λ n. IsSubtree old (n.level - 1) n) (λ n. IsSubtree new (n.level - 1) n) (λ n s. subtree_more fanout es numbered ordered (n.level - 1) n s) numbered b.lower)
           (all_map (IsSubtree new h) (λ n. IsSubtree new (n.level - 1) n) (at_its_level new h) ordered later);
+        once = once_more fanout es h numbered made gs moved
+          (all_append (λ n. IsSubtree old (n.level - 1) n) numbered ordered b.lower (all_map (IsSubtree old h) (λ n. IsSubtree old (n.level - 1) n) (at_its_level old h) ordered here))
+          b.once (nodes_over-AreOn (λ (n : Node). n.bounds) (λ n. n.size) (suc (suc h)) (length numbered) gs);
       }
 
   -- what holds of the finished tree
@@ -94,6 +87,8 @@ module _ (fanout : ℕ) (several : 2 ≤ fanout) (es : List Entry) where
     pub root : IsSubtree (tree fanout es ns) (height (tree fanout es ns)) (root_of (tree fanout es ns))
     pub every : IsPermutation (entries_under (tree fanout es ns) (height (tree fanout es ns)) (root_of (tree fanout es ns))) es
     pub nodes : AllByRecursion (λ n. IsSubtree (tree fanout es ns) (n.level - 1) n) ns
+    pub nodes_once : IsPermutation (root_of (tree fanout es ns) ∷ all_child_nodes (tree fanout es ns)) ns
+    pub entries_once : IsPermutation (all_child_entries (tree fanout es ns)) es
     pub few_levels : (root_of (tree fanout es ns)).level ≤ 24
     pub few_nodes : length ns < 2 ^ 32
 
@@ -116,6 +111,9 @@ module _ (fanout : ℕ) (several : 2 ≤ fanout) (es : List Entry) where
         nodes = all_append (λ n. IsSubtree new (n.level - 1) n) numbered (r ∷ [])
           (all_map (λ n. IsSubtree old (n.level - 1) n) (λ n. IsSubtree new (n.level - 1) n) (λ n s. subtree_more fanout es numbered (r ∷ []) (n.level - 1) n s) numbered b.lower)
           (at_its_level new h r sub, tt);
+        nodes_once = subst (λ n. IsPermutation (n ∷ all_child_nodes new) ns) (sym is_root) (subst (λ l. IsPermutation (r ∷ l) ns) (all_child_nodes-is new) (nodes_once fanout es numbered r
+          (all_append (λ n. IsSubtree old (n.level - 1) n) numbered (r ∷ []) b.lower (at_its_level old h r b.nodes.0, tt)) b.once));
+        entries_once = subst (λ l. IsPermutation l es) (all_child_entries-is new) b.once.entries;
         few_levels = subst (λ n. n.level ≤ 24) (sym is_root) (omega (arith, level, c.few_levels));
         few_nodes = omega (arith, long, c.few_nodes, c.few_levels);
       }
@@ -189,17 +187,30 @@ sound_empty t none nothing table =
       root = λ h. absurd (omega (arith, h, short));
       every = λ h. absurd (omega (arith, h, short));
       nodes = λ k d h. absurd (omega (arith, h, short));
+      nodes_once = λ h. absurd (omega (arith, h, short));
+      entries_once =
+        let bare : all_child_entries t ≡ [] = ap (λ ns. flat_map (child_entries t) (filter (λ (n : Node). n.level == 1) ns)) none in
+        subst (λ l. IsPermutation l t.entries) (sym bare) (subst (IsPermutation []) (sym nothing) (IsPermutation-refl []));
+      levels = rw (none, nothing) refl;
+      top = rw (none, nothing) refl;
       few_levels = subst (λ ns. (get_or ns (length ns - 1) no_node).level ≤ 24) (sym none) (omega arith);
       few_nodes = omega arith;
     }
 
-sound_finished : (fanout : ℕ) (several : 2 ≤ fanout) (es : List Entry) (ns : List Node) → 0 < length es → IsTable es → IsFinished fanout several es ns → IsSound (tree fanout es ns)
-sound_finished fanout several es ns there table f = record {
+sound_finished : (fanout : ℕ) (several : 2 ≤ fanout) (es : List Entry) (ns : List Node) (count : ℕ) → 0 < length es → count ≡ div_ceil (length es) fanout
+    → map (λ n. n.level) ns ≡ level_by_level 1 (sizes_from fanout count) → IsTable es → IsFinished fanout several es ns → IsSound (tree fanout es ns)
+sound_finished fanout several es ns count there is in_levels table f =
+  let levels : map (λ n. n.level) ns ≡ level_by_level 1 (drop 1 (level_sizes (length es) fanout)) = in_levels ∙ ap (level_by_level 1) (sym (sizes_from_first fanout several (length es) count there is)) in
+  record {
   table = table;
   some = (λ _. there, λ _. f.some);
   root = λ _. f.root;
   every = λ _. f.every;
   nodes = All-from_recursion (λ n. IsSubtree (tree fanout es ns) (n.level - 1) n) ns f.nodes;
+  nodes_once = λ _. f.nodes_once;
+  entries_once = f.entries_once;
+  levels = levels;
+  top = last_node-top fanout several (length es) count there is ns levels;
   few_levels = f.few_levels;
   few_nodes = f.few_nodes;
 }
@@ -232,12 +243,18 @@ module _ (fanout : ℕ) (several : 2 ≤ fanout) (in_order : List Entry) where
         nodes = leaves_sound fanout es [] gs [] refl (chunk_groups fanout HasBox gs (omega arith) (groups-chunks (λ (e : Entry). e.bounds) in_order fanout (omega arith)) boxes);
         every = subst (λ l. IsPermutation l es) (sym (leaves_under fanout es [] gs [] refl)) (IsPermutation-refl es);
         lower = tt;
+        once = once_first fanout es made (nodes_over-AreOn (λ (e : Entry). e.bounds) (λ _. 1) 1 0 gs) (leaves_under fanout es [] gs [] refl);
       }
 
   packed-some : 0 < length in_order → IsTable es → IsSound (tree fanout es (nodes_from (length made) fanout 1 0 made))
   packed-some there table =
-      let some : 0 < length made = omega (arith, length-nodes_over (λ (e : Entry). e.bounds) (λ _. 1) 1 0 gs, length-groups (λ (e : Entry). e.bounds) fanout in_order several there, div_ceil-positive (length in_order) fanout several there) in
-      sound_finished fanout several es (nodes_from (length made) fanout 1 0 made) (omega (arith, there, length_permutation in_order es moved)) table
+      let long = length_permutation in_order es moved in
+      let count : length made ≡ div_ceil (length es) fanout =
+          length-nodes_over (λ (e : Entry). e.bounds) (λ _. 1) 1 0 gs ∙ length-groups (λ (e : Entry). e.bounds) fanout in_order several there ∙ ap (λ n. div_ceil n fanout) (sym long) in
+      let some : 0 < length made = omega (arith, count, long, div_ceil-positive (length es) fanout several (omega (arith, long))) in
+      let on = nodes_over-AreOn (λ (e : Entry). e.bounds) (λ _. 1) 1 0 gs in
+      sound_finished fanout several es (nodes_from (length made) fanout 1 0 made) (length made) (omega (arith, there, long)) count
+      (nodes_from-levels fanout several (length made) 1 0 made (omega arith) some on) table
       (sound_from fanout several es (length made) 0 [] made (omega arith) some (made-IsBuilt table) (made-first there table))
 
 -- without entries there are no nodes
@@ -259,10 +276,6 @@ pack_of-IsSound fanout entries several table =
     ]
 
 -- ---- the children of a node
-
-inner-range : (t : Packed) (below : ℕ) (n : Node) → IsSubtree t below n → 0 < below → n.first + n.count ≤ length t.nodes
-inner-range t zero n s h = absurd (omega (arith, h))
-inner-range t (suc below) n s h = s.range
 
 -- a child of a node above level 1 is a node of the tree
 pub child_inside : (t : Packed) (number index : ℕ) (n : Node) → IsSound t → number < length t.nodes → n ≡ get_or t.nodes number n

@@ -24,7 +24,7 @@ part_more xs more first count h =
     ap (take count) (drop-append-le first xs more (omega (arith, h))) ∙ take-append-le count (drop first xs) more (omega (arith, h, length-drop first xs))
 
 -- a group that stands behind others
-group_at : {X : Type 0} (front group rest : List X) → take (length group) (drop (length front) (front ++ (group ++ rest))) ≡ group
+pub group_at : {X : Type 0} (front group rest : List X) → take (length group) (drop (length front) (front ++ (group ++ rest))) ≡ group
 group_at front group rest =
     ap (take (length group)) (drop-append_seam front (group ++ rest)) ∙ take-append-le (length group) group rest (omega arith) ∙ take_all (length group) group (omega arith)
 
@@ -82,6 +82,11 @@ sum_by-ones (x ∷ xs) = sum_by-cons (λ _. 1) x xs ∙ ap (λ n. 1 + n) (sum_by
 abbrev pub IsGroup : {X : Type 0} → (fanout : ℕ) → (X → Type 0) → List X → Type 0
 IsGroup fanout P g = ((0 < length g) × (length g ≤ fanout)) × AllByRecursion P g
 
+-- the children of a node above level 1 are nodes of the tree
+pub inner-range : (t : Packed) (below : ℕ) (n : Node) → IsSubtree t below n → 0 < below → n.first + n.count ≤ length t.nodes
+inner-range t zero n s h = absurd (omega (arith, h))
+inner-range t (suc below) n s h = s.range
+
 module _ (fanout : ℕ) (es : List Entry) where
   -- the tree with these nodes
   abbrev pub tree : List Node → Packed
@@ -89,7 +94,7 @@ module _ (fanout : ℕ) (es : List Entry) where
 
   -- ---- more nodes behind change nothing below a node
 
-  children_more : (ns more : List Node) (n : Node) → n.first + n.count ≤ length ns → child_nodes (tree (ns ++ more)) n ≡ child_nodes (tree ns) n
+  pub children_more : (ns more : List Node) (n : Node) → n.first + n.count ≤ length ns → child_nodes (tree (ns ++ more)) n ≡ child_nodes (tree ns) n
   children_more ns more n h = part_more ns more n.first n.count h
 
   pub subtree_more : (ns more : List Node) (h : ℕ) (n : Node) → IsSubtree (tree ns) h n → IsSubtree (tree (ns ++ more)) h n

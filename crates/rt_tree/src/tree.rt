@@ -3,7 +3,7 @@
 ghost use Rattle.std.specs.Prelude.{◌≡◌, ◌==◌, ◌+◌, ◌-◌, ◌<◌, ◌≤◌, ◌↔◌, IfOk, IfSome, IsSome, Some, length, slice_get};
 ghost use Rattle.rt_tree.specs.Entries.{most_entries};
 ghost use Rattle.rt_tree.specs.Levels.{level_sizes};
-ghost use Rattle.rt_tree.specs.Packed.{IsSound, node_at};
+ghost use Rattle.rt_tree.specs.Packed.{IsSound, node_at, root_of};
 ghost use Rattle.rt_tree.specs.Packing.{all_nodes, chunks, nodes_over, pack_of};
 
 use crate::levels::Levels;
@@ -110,7 +110,9 @@ impl Tree {
 
     /// The level of the root; 0 where there is none.
     pub fn top(&self) -> u8
-        ensures { result + 1 ≡ length (level_sizes (length self.now.entries) self.now.fanout) }
+        ensures root { result ≡ (root_of self.now).level }
+        ensures levels { result + 1 ≡ length (level_sizes (length self.now.entries) self.now.fanout) }
+        ensures few { result ≤ 24 }
     {
         self.levels.count() - 1
     }
