@@ -1,5 +1,6 @@
 -- A packed tree: its entries in the order of their places, and its nodes in the order of their numbers.
-use Rattle.std.specs.Prelude.{◌↔◌, ◌≡◌, ◌+◌, ◌-◌, ◌<◌, ◌≤◌, ◌^◌, ℕ, zero, suc, true, List, [], ◌∷◌, ◌++◌, ◌==◌, nat_lt, filter, replicate, length, map, take, drop, get_or, pos}
+use Rattle.std.specs.Prelude.{◌↔◌, ◌≡◌, ◌+◌, ◌-◌, ◌<◌, ◌≤◌, ◌^◌, ◌==◌, nat_lt, ℕ, zero, suc, true, pos}
+use Rattle.std.specs.Prelude.{List, [], ◌∷◌, ◌++◌, drop, filter, get_or, length, map, replicate, take}
 use Rattle.std.specs.List.{All, AllByRecursion, flat_map, fold, sum_by}
 use Rattle.std.specs.List.Sorted.{IsPermutation}
 use Rattle.rt_geo.specs.Boxes.{Rect, IsRect, hull, inside, rect_of}

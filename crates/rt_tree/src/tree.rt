@@ -4,7 +4,7 @@ ghost use Rattle.std.specs.Prelude.{◌≡◌, ◌==◌, ◌+◌, ◌-◌, ◌<�
 ghost use Rattle.rt_tree.specs.Entries.{most_entries};
 ghost use Rattle.rt_tree.specs.Levels.{level_sizes};
 ghost use Rattle.rt_tree.specs.Packed.{IsSound, node_at, root_of};
-ghost use Rattle.rt_tree.specs.Packing.{all_nodes, chunks, nodes_over, pack_of};
+ghost use Rattle.rt_tree.specs.Packing.{all_nodes, chunks, leaf_nodes, pack_of};
 
 use crate::levels::Levels;
 use crate::packing::{arranged, nodes_over};
@@ -47,9 +47,9 @@ impl NodeNo {
 
 /// A packed tree over the entries of a table.
 ///
-/// It is packed sort-tile-recursively (Leutenegger, Lopez and Edgington, 1997): the entries are sorted by the middles of
-/// their boxes on the x axis and cut into slices, each slice is sorted by y and cut into nodes, and so are these nodes,
-/// until a level has one.
+/// It is packed sort-tile-recursively (Leutenegger, Lopez and Edgington, 1997): the entries are sorted by the middles
+/// of their boxes on the x axis and cut into slices, each slice is sorted by y and cut into nodes, and so are these
+/// nodes, until a level has one.
 #[derive(Drop)]
 pub struct Tree {
     fanout: u8,
@@ -195,7 +195,7 @@ impl Tree {
 fn all_nodes(alloc: Global, entries: &[Entry], fanout: u8) -> Result<Vec<Node>, AllocError>
     requires several { 2 ≤ fanout }
     requires few { length entries.now ≤ most_entries }
-    ensures { IfOk result (λ v. v.items ≡ all_nodes fanout (nodes_over (λ e. e.bounds) (λ _. 1) 1 0 (chunks fanout entries.now))) }
+    ensures { IfOk result (λ v. v.items ≡ all_nodes fanout (leaf_nodes (chunks fanout entries.now))) }
 {
     let mut made = nodes_over(alloc, entries, fanout, 1, 0)?;
     let mut nodes = Vec::new(alloc);

@@ -61,7 +61,11 @@ fn strewn(alloc: Global, count: u32) -> Option<Table> {
         let right = x + state % 16;
         let top = y + state % 32;
         let id = (place as i64 * 7919).wrapping_rem(1_000_003);
-        push(&mut table, id, [x as i32, right as i32, y as i32 - 500, top as i32 - 500])?;
+        push(
+            &mut table,
+            id,
+            [x as i32, right as i32, y as i32 - 500, top as i32 - 500],
+        )?;
     }
     Some(table)
 }
@@ -103,7 +107,10 @@ fn over_children(tree: &Tree, node: &Node) -> Option<(Bounds, u32)> {
 
 // How many nodes are on a level.
 fn count_of(tree: &Tree, level: u8) -> usize {
-    tree.nodes().iter().filter(|node| node.level == level).count()
+    tree.nodes()
+        .iter()
+        .filter(|node| node.level == level)
+        .count()
 }
 
 #[test]
@@ -138,7 +145,13 @@ fn packs_the_five_boxes_node_by_node(rt: HostRuntime) {
 
 #[test]
 fn equal_boxes_stand_by_id(rt: HostRuntime) {
-    let boxes = [(5, [0; 4]), (4, [0; 4]), (3, [0; 4]), (2, [0; 4]), (1, [0; 4])];
+    let boxes = [
+        (5, [0; 4]),
+        (4, [0; 4]),
+        (3, [0; 4]),
+        (2, [0; 4]),
+        (1, [0; 4]),
+    ];
     let table = table(rt.alloc(), &boxes).expect(&rt, "the boxes are a table");
     let tree = Tree::pack(rt.alloc(), table, 2).expect(&rt, "there is memory");
     for (entry, id) in tree.entries().iter().zip(&[1, 2, 3, 4, 5]) {
@@ -178,7 +191,10 @@ fn each_node_is_true_of_its_children(rt: HostRuntime) {
         let full = fanout as u32 * fanout as u32;
         for count in [1, fanout as u32, fanout as u32 + 1, full, full + 1] {
             let table = strewn(rt.alloc(), count).expect(&rt, "the boxes are a table");
-            let tree = Tree::pack(rt.alloc(), table, fanout.clamp(2, 64)).expect(&rt, "there is memory");
+            let tree = Tree::pack(rt.alloc(), table, fanout.clamp(2, 64)).expect(
+                &rt,
+                "there is memory",
+            );
             assert_eq!(rt; tree.len(), count);
             for node in tree.nodes() {
                 assert!(rt; over_children(&tree, node) == Some((node.bounds, node.size)));

@@ -9,4 +9,6 @@ invariant_of-self-in-Ok c =
     let fits : FitsSigned w64 c.args.entry.id = search rules in
     let room : length c.self.inside.entries.items < most_entries = rw c.self.view_is c.requires in
     rw (c.push_reserved.ensures.items, c.reserve.ensures.items)
-    (pushed c.self.inside.ids c.insert.new.self c.self.inside.entries.items c.args.entry c.self.invariant c.min_x-least.ensures.valid (sym c.contains.ensures ∙ c.if-contains.false) (simp (to_z-of_z, fits) at c.in-Ok.ensures.updates) room)
+    (pushed c.self.inside.ids c.insert.new.self c.self.inside.entries.items c.args.entry c.self.invariant
+    c.min_x-least.ensures.valid (sym c.contains.ensures ∙ c.if-contains.false) (simp
+    (to_z-of_z, fits) at c.in-Ok.ensures.updates) room)
