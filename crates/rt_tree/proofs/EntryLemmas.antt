@@ -1,5 +1,6 @@
 -- A table with one more entry.
-use Rattle.std.proofs.Common.{◌≡◌, ◌∙◌, ◌<◌, ℤ, Bool, true, false, ◌||◌, cond, List, [], ◌∷◌, ◌++◌, length, refl, sym, ap, subst, arith, length-append}
+use Rattle.std.proofs.Common.{◌≡◌, ◌∙◌, ◌<◌, ℤ, Bool, true, false, ◌||◌, cond, List, [], ◌∷◌, ◌++◌, length, refl, sym}
+use Rattle.std.proofs.Common.{ap, subst, arith, length-append}
 use Rattle.std.specs.BTreeSet.{BTreeSet, Updates, contains}
 use Rattle.std.specs.List.{IsDistinct, list_any}
 use Rattle.std.specs.Ordering.{int_cmp, int_eq, is_eq}
@@ -18,8 +19,10 @@ use Rattle.rt_tree.specs.Indexes.{IsIndexed}
 tie : (a b : ℤ) → is_eq (int_cmp a b) ≡ int_eq b a
 tie a b = grind (arith, ints)
 
-has_id-push : (entries : List Entry) (entry : Entry) (id : ℤ) → has_id (entries ++ entry ∷ []) id ≡ (has_id entries id || int_eq id entry.id)
-has_id-push entries entry id = list_any-append (λ (e : Entry). int_eq id e.id) entries (entry ∷ []) ∙ ap (λ b. has_id entries id || b) (or-false (int_eq id entry.id))
+has_id-push : (entries : List Entry) (entry : Entry) (id : ℤ)
+    → has_id (entries ++ entry ∷ []) id ≡ (has_id entries id || int_eq id entry.id)
+has_id-push entries entry id = list_any-append (λ (e : Entry). int_eq id e.id) entries (entry ∷ [])
+    ∙ ap (λ b. has_id entries id || b) (or-false (int_eq id entry.id))
 
 either : (a b c : Bool) → a ≡ b → cond b true c ≡ (c || a)
 either a true true e = refl
@@ -44,7 +47,8 @@ pub pushed : (ids new : BTreeSet ℤ) (entries : List Entry) (entry : Entry) →
     → Updates int_cmp ids new entry.id true → length entries < most_entries → IsIndexed new (entries ++ entry ∷ [])
 pushed ids new entries entry kept box absent u room = record {
   table = IsTable-push entries entry kept.table (sym (kept.ids_are entry.id) ∙ absent) box room;
-  ids_are = λ id. u.0 id ∙ either (int_eq id entry.id) (is_eq (int_cmp entry.id id)) (contains int_cmp ids id) (sym (tie entry.id id)) ∙ ap (λ b. b || int_eq id entry.id) (kept.ids_are id) ∙ sym (has_id-push entries entry id);
+  ids_are = λ id. u.0 id ∙ either (int_eq id entry.id) (is_eq (int_cmp entry.id id)) (contains int_cmp ids id) (sym
+      (tie entry.id id)) ∙ ap (λ b. b || int_eq id entry.id) (kept.ids_are id) ∙ sym (has_id-push entries entry id);
 }
 
 pub int_eq-sym : (a b : ℤ) → int_eq a b ≡ int_eq b a

@@ -1,5 +1,7 @@
 -- The sizes of levels.
-use Rattle.std.proofs.Common.{◌≡◌, ◌∙◌, ◌<◌, ◌≤◌, ◌+◌, ◌*◌, ◌/◌, ◌^◌, ◌-◌, ℕ, zero, suc, Bool, true, false, cond, nat_le, if◌then◌else◌, List, [], ◌∷◌, ◌++◌, refl, sym, ap, arith, append_assoc, subst, inl, inr}
+use Rattle.std.proofs.Common.{◌≡◌, ◌∙◌, ◌<◌, ◌≤◌, ◌+◌, ◌*◌, ◌/◌, ◌^◌, ◌-◌, ℕ, zero, suc, Bool, true, false, cond}
+use Rattle.std.proofs.Common.{nat_le, if◌then◌else◌, List, [], ◌∷◌, ◌++◌, refl, sym, ap, arith, append_assoc, subst}
+use Rattle.std.proofs.Common.{inl, inr}
 use Rattle.std.specs.Int.{div_ceil}
 use Rattle.std.proofs.Math.Nat.{div-add-mod, eq-or-lt_of_le, mul-le-mul_left, pow-succ'}
 use Rattle.std.proofs.lemmas.Bool.Decides.{nat_tests}
@@ -30,17 +32,20 @@ sizes_above-fuel (suc fuel) (suc more) fanout size two some f g =
     let above = div_ceil size fanout in
     let halves = div_ceil-halves size fanout two in
     let positive = div_ceil-positive size fanout two some in
-    ap (λ rest. above ∷ rest) (further (nat_le above 1) _ _ (λ e. sizes_above-fuel fuel more fanout above two positive (less_fuel above size fuel halves f e) (less_fuel above size more halves g e)))
+    ap (λ rest. above ∷ rest) (further (nat_le above 1) _ _ (λ e. sizes_above-fuel fuel more fanout above two
+    positive (less_fuel above size fuel halves f e) (less_fuel above size more halves g e)))
 
 -- one level after another: the level above one of so many items, and those above that
 pub sizes_above-step : (fanout size : ℕ) → 2 ≤ fanout → 0 < size
-    → let above = div_ceil size fanout in sizes_above size fanout size ≡ above ∷ (if nat_le above 1 then [] else sizes_above above fanout above)
+    → let above = div_ceil size fanout in sizes_above size fanout size ≡ above ∷
+    (if nat_le above 1 then [] else sizes_above above fanout above)
 sizes_above-step fanout zero two some = absurd (omega arith)
 sizes_above-step fanout (suc size) two some =
     let above = div_ceil (suc size) fanout in
     let halves = div_ceil-halves (suc size) fanout two in
     let positive = div_ceil-positive (suc size) fanout two some in
-    ap (λ rest. above ∷ rest) (further (nat_le above 1) _ _ (λ e. sizes_above-fuel size above fanout above two positive (less_fuel above (suc size) size halves (omega arith) e) (omega arith)))
+    ap (λ rest. above ∷ rest) (further (nat_le above 1) _ _ (λ e. sizes_above-fuel size above fanout above two
+    positive (less_fuel above (suc size) size halves (omega arith) e) (omega arith)))
 
 -- ---- a loop that has told the levels up to one of so many
 
@@ -52,18 +57,25 @@ course_more levels fanout size whole two some more e =
     let above = div_ceil size fanout in
     let positive = div_ceil-positive size fanout two some in
     let several : nat_le above 1 ≡ false = grind (arith, nat_tests) in
-    append_assoc levels (above ∷ []) _ ∙ ap (λ l. levels ++ l) (sym (sizes_above-step fanout size two some ∙ rw several refl)) ∙ e
+    append_assoc levels (above ∷ []) _ ∙ ap (λ l. levels ++ l) (sym (sizes_above-step fanout size two some
+    ∙ rw several refl)) ∙ e
 
 -- a level that isn't the last one leaves room for another
-pub room_more : (count size above : ℕ) → size ≤ 2 ^ (25 - count) → count ≤ 24 → 2 * above ≤ size + 1 → above ≤ 2 ^ (25 - (count + 1))
+pub room_more : (count size above : ℕ) → size ≤ 2 ^ (25 - count) → count ≤ 24 → 2 * above ≤ size + 1
+    → above ≤ 2 ^ (25 - (count + 1))
 room_more count size above room few halves =
     let next : 25 - count ≡ suc (25 - (count + 1)) = omega arith in
     let twice : 2 ^ (25 - count) ≡ 2 * 2 ^ (25 - (count + 1)) = ap (λ n. 2 ^ n) next ∙ pow-succ' 2 (25 - (count + 1)) in
     omega arith
 
 -- one that has more than one node isn't the last one that there is room for
-pub few_more : (count above : ℕ) → above ≤ 2 ^ (25 - (count + 1)) → count ≤ 24 → 0 < above → (above ≡ 1 → ⊥) → count + 1 ≤ 24
-few_more count above room few some more = elim (eq-or-lt_of_le few) [ inl e ↦ absurd (more (omega (arith, last e))) | inr l ↦ omega arith ]
+pub few_more : (count above : ℕ) → above ≤ 2 ^ (25 - (count + 1)) → count ≤ 24 → 0 < above → (above ≡ 1 → ⊥)
+    → count + 1 ≤ 24
+few_more count above room few some more = elim (eq-or-lt_of_le few) [
+  | inl e ↦ absurd (more (omega
+      (arith, last e)))
+  | inr l ↦ omega arith
+]
   where
     last : count ≡ 24 → above ≤ 1
     last e = subst (λ n. above ≤ 2 ^ (25 - (n + 1))) e room

@@ -1,6 +1,8 @@
+mod Children
 mod ChunkLemmas
 mod EntryLemmas
 mod LevelLemmas
+mod LevelOrder
 mod LoopLemmas
 mod OrderLemmas
 mod PackCounts

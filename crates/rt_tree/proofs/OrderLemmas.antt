@@ -1,11 +1,16 @@
 -- Lists in the order of another list, or by another comparison.
-use Rattle.std.proofs.Common.{◌≡◌, ℕ, Ordering, List, [], ◌∷◌, ◌++◌, map, cond, true, false, refl, sym, ◌∙◌, ap, arith, length, IsPermutation, IsSorted}
+use Rattle.std.proofs.Common.{◌≡◌, ℕ, Ordering, List, [], ◌∷◌, ◌++◌, map, cond, true, false, refl, sym, ◌∙◌, ap}
+use Rattle.std.proofs.Common.{subst, append_assoc, arith, length, IsPermutation, IsSorted}
 use Rattle.std.specs.List.{AllByRecursion, flat_map}
 use Rattle.std.specs.Ordering.{is_gt, nat_cmp}
 use Rattle.std.proofs.lemmas.Cmp.{nat_cmp_total}
 use Rattle.std.proofs.lemmas.List.{map-append}
+use Rattle.std.proofs.lemmas.List.Elements.{All-from_recursion, recursion_from_All}
+use Rattle.std.proofs.lemmas.List.Sorted.{All-permutation, IsPermutation-append_comm, IsPermutation-append_left}
+use Rattle.std.proofs.lemmas.List.Sorted.{IsPermutation-append_right, IsPermutation-refl, IsPermutation-trans}
 use Rattle.std.proofs.lemmas.Map.Lookups.{exact_unsigned}
 use Rattle.rt_tree.specs.Sorting.{put, sorted}
+use Rattle.rt_tree.proofs.Permutations.{along_permutation}
 use Rattle.rt_tree.proofs.SortingLemmas.{sorted-unique_by_all}
 
 -- what a sort of numbers gives
@@ -17,7 +22,8 @@ module _ {X Y : Type 0} (cmp : Y → Y → Ordering) (f : X → Y) where
   put-map : (x : X) (xs : List X) → put cmp (f x) (map f xs) ≡ map f (put (λ a b. cmp (f a) (f b)) x xs)
   put-map x [] = refl
   put-map x (y ∷ ys) =
-      elim (is_gt (cmp (f x) (f y))) as (λ b. cond b (f y ∷ put cmp (f x) (map f ys)) (f x ∷ f y ∷ map f ys) ≡ map f (cond b (y ∷ put (λ a b. cmp (f a) (f b)) x ys) (x ∷ y ∷ ys))) [
+      elim (is_gt (cmp (f x) (f y))) as (λ b. cond b (f y ∷ put cmp (f x) (map f ys)) (f x ∷ f y ∷ map f ys) ≡ map f
+      (cond b (y ∷ put (λ a b. cmp (f a) (f b)) x ys) (x ∷ y ∷ ys))) [
         | true ↦ ap (λ l. f y ∷ l) (put-map x ys)
         | false ↦ refl
       ]
@@ -27,17 +33,19 @@ module _ {X Y : Type 0} (cmp : Y → Y → Ordering) (f : X → Y) where
   sorted-map (x ∷ xs) = ap (put cmp (f x)) (sorted-map xs) ∙ put-map x (sorted (λ a b. cmp (f a) (f b)) xs)
 
 -- ---- by another comparison that says the same of these elements
-module _ {X : Type 0} (cmp other : X → X → Ordering) (P : X → Type 0) (same : (x y : X) → P x → P y → cmp x y ≡ other x y) where
+module _ {X : Type 0} (cmp other : X → X → Ordering) (P : X → Type 0) (same : (x y : X) → P x → P y
+    → cmp x y ≡ other x y) where
   put-same : (x : X) (ys : List X) → P x → AllByRecursion P ys → put cmp x ys ≡ put other x ys
   put-same x [] p a = refl
   put-same x (y ∷ ys) p a = rw (same x y p a.0, put-same x ys p a.1) refl
 
   all-put : (x : X) (ys : List X) → P x → AllByRecursion P ys → AllByRecursion P (put other x ys)
   all-put x [] p a = (p, tt)
-  all-put x (y ∷ ys) p a = elim (is_gt (other x y)) as (λ b. AllByRecursion P (cond b (y ∷ put other x ys) (x ∷ y ∷ ys))) [
-    | true ↦ (a.0, all-put x ys p a.1)
-    | false ↦ (p, a)
-  ]
+  all-put x (y ∷ ys) p a = elim (is_gt (other x y)) as (λ b. AllByRecursion P (cond b (y ∷ put other x ys)
+      (x ∷ y ∷ ys))) [
+        | true ↦ (a.0, all-put x ys p a.1)
+        | false ↦ (p, a)
+      ]
 
   all-sorted : (xs : List X) → AllByRecursion P xs → AllByRecursion P (sorted other xs)
   all-sorted [] a = tt
@@ -49,18 +57,41 @@ module _ {X : Type 0} (cmp other : X → X → Ordering) (P : X → Type 0) (sam
 
 -- ---- lists of lists
 
-pub flat_map-same : {X Y : Type 0} (f g : X → List Y) (P : X → Type 0) → ((x : X) → P x → f x ≡ g x) → (xs : List X) → AllByRecursion P xs → flat_map f xs ≡ flat_map g xs
+pub flat_map-same : {X Y : Type 0} (f g : X → List Y) (P : X → Type 0) → ((x : X) → P x → f x ≡ g x)
+    → (xs : List X) → AllByRecursion P xs → flat_map f xs ≡ flat_map g xs
 flat_map-same f g P same [] a = refl
 flat_map-same f g P same (x ∷ xs) a = rw (same x a.0, flat_map-same f g P same xs a.1) refl
 
-pub map-flat_map : {X Y Z : Type 0} (f : Y → Z) (g : X → List Y) (xs : List X) → flat_map (λ x. map f (g x)) xs ≡ map f (flat_map g xs)
+pub map-flat_map : {X Y Z : Type 0} (f : Y → Z) (g : X → List Y) (xs : List X)
+    → flat_map (λ x. map f (g x)) xs ≡ map f (flat_map g xs)
 map-flat_map f g [] = refl
 map-flat_map f g (x ∷ xs) = ap (λ l. map f (g x) ++ l) (map-flat_map f g xs) ∙ sym (map-append f (g x) (flat_map g xs))
 
-pub all_append : {X : Type 0} (P : X → Type 0) (xs ys : List X) → AllByRecursion P xs → AllByRecursion P ys → AllByRecursion P (xs ++ ys)
+pub all_append : {X : Type 0} (P : X → Type 0) (xs ys : List X) → AllByRecursion P xs → AllByRecursion P ys
+    → AllByRecursion P (xs ++ ys)
 all_append P [] ys a b = b
 all_append P (x ∷ xs) ys a b = (a.0, all_append P xs ys a.1 b)
 
-pub all_flat_map : {X Y : Type 0} (P : Y → Type 0) {Q : X → Type 0} (f : X → List Y) → ((x : X) → Q x → AllByRecursion P (f x)) → (xs : List X) → AllByRecursion Q xs → AllByRecursion P (flat_map f xs)
+pub all_flat_map : {X Y : Type 0} (P : Y → Type 0) {Q : X → Type 0} (f : X → List Y) → ((x : X) → Q x
+    → AllByRecursion P (f x)) → (xs : List X) → AllByRecursion Q xs → AllByRecursion P (flat_map f xs)
 all_flat_map P f holds [] a = tt
 all_flat_map P f holds (x ∷ xs) a = all_append P (f x) (flat_map f xs) (holds x a.0) (all_flat_map P f holds xs a.1)
+
+pub all_moved : {X : Type 0} (P : X → Type 0) (xs ys : List X) → IsPermutation xs ys → AllByRecursion P xs
+    → AllByRecursion P ys
+all_moved P xs ys h a = recursion_from_All P ys (All-permutation P xs ys h (All-from_recursion P xs a))
+
+exchanged : {Y : Type 0} (a b c : List Y) → IsPermutation (a ++ (b ++ c)) (b ++ (a ++ c))
+exchanged a b c =
+    subst (λ l. IsPermutation l (b ++ (a ++ c))) (append_assoc a b c)
+    (subst (IsPermutation ((a ++ b) ++ c)) (append_assoc b a c) (IsPermutation-append_left c (a ++ b) (b ++ a)
+    (IsPermutation-append_comm a b)))
+
+-- what stands under elements is moved with them
+pub flat_map-IsPermutation : {X Y : Type 0} (f : X → List Y) (xs ys : List X) → IsPermutation xs ys
+    → IsPermutation (flat_map f xs) (flat_map f ys)
+flat_map-IsPermutation f =
+    along_permutation (λ xs ys. IsPermutation (flat_map f xs) (flat_map f ys)) (λ xs. IsPermutation-refl
+    (flat_map f xs))
+    (λ x xs ys h. IsPermutation-append_right (f x) (flat_map f xs) (flat_map f ys) h) (λ x y xs. exchanged (f x)
+    (f y) (flat_map f xs)) (λ xs ys zs h k. IsPermutation-trans _ _ _ h k)

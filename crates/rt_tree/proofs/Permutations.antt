@@ -4,7 +4,8 @@ use Rattle.std.specs.List.{swap}
 use Rattle.std.specs.List.Sorted.{IsPermutation}
 use Rattle.std.proofs.lemmas.List.Sorted.{IsPermutation-keeps}
 
--- A relation holds along each permutation if it is reflexive and transitive, and goes under a head and over an exchange of two heads.
+-- A relation holds along each permutation if it is reflexive and transitive, and goes under a head and over an
+-- exchange of two heads.
 module _ {X : Type 0} (R : List X → List X → Type 0) (same : (xs : List X) → R xs xs)
     (skip : (x : X) (xs ys : List X) → R xs ys → R (x ∷ xs) (x ∷ ys))
     (turn : (x y : X) (xs : List X) → R (x ∷ y ∷ xs) (y ∷ x ∷ xs))
@@ -13,9 +14,11 @@ module _ {X : Type 0} (R : List X → List X → Type 0) (same : (xs : List X) �
   to_head [] j x d h = absurd (omega arith)
   to_head (y ∷ l) zero x d h = turn x y l
   to_head (y ∷ l) (suc j) x d h =
-      chain _ _ _ (turn x y l) (chain _ _ _ (skip y _ _ (to_head l j x d (omega arith))) (turn y (get_or l j d) (set l j x)))
+      chain _ _ _ (turn x y l) (chain _ _ _ (skip y _ _ (to_head l j x d (omega arith))) (turn y (get_or l j d)
+      (set l j x)))
 
-  exchanged : (l : List X) (i j : ℕ) (d : X) → i < length l → j < length l → R l (set (set l i (get_or l j d)) j (get_or l i d))
+  exchanged : (l : List X) (i j : ℕ) (d : X) → i < length l → j < length l
+      → R l (set (set l i (get_or l j d)) j (get_or l i d))
   exchanged [] i j d p q = absurd (omega arith)
   exchanged (x ∷ l) zero zero d p q = same (x ∷ l)
   exchanged (x ∷ l) zero (suc j) d p q = to_head l j x d (omega arith)

@@ -43,7 +43,14 @@ abbrev entry : ℕ → Rect → Entry
 entry id bounds = record { id = pos id; bounds = bounds }
 
 abbrev node : Rect → (level first count size : ℕ) → Node
-node bounds level first count size = record { bounds = bounds; level = level; first = first; count = count; size = size }
+node bounds level first count size = record {
+  bounds = bounds;
+  level = level;
+  first = first;
+  count = count;
+  size =
+      size;
+}
 
 abbrev box1 : Entry
 box1 = entry 1 (rect_of (pos 0) (pos 10) (pos 0) (pos 10))
@@ -80,11 +87,13 @@ point id = entry id (rect_of (pos 0) (pos 0) (pos 0) (pos 0))
 abbrev over_points : (level first count size : ℕ) → Node
 over_points = node (rect_of (pos 0) (pos 0) (pos 0) (pos 0))
 
-five_points : (pack_of 2 (point 5 ∷ point 4 ∷ point 3 ∷ point 2 ∷ point 1 ∷ [])).entries ≡ point 1 ∷ point 2 ∷ point 3 ∷ point 4 ∷ point 5 ∷ []
+five_points : (pack_of 2 (point 5 ∷ point 4 ∷ point 3 ∷ point 2 ∷ point 1 ∷ [])).entries ≡ point 1 ∷ point 2 ∷ point
+    3 ∷ point 4 ∷ point 5 ∷ []
 five_points = refl
 
 nodes_over_five_points : (pack_of 2 (point 5 ∷ point 4 ∷ point 3 ∷ point 2 ∷ point 1 ∷ [])).nodes
-    ≡ over_points 1 0 2 2 ∷ over_points 1 2 2 2 ∷ over_points 1 4 1 1 ∷ over_points 2 0 2 4 ∷ over_points 2 2 1 1 ∷ over_points 3 3 2 5 ∷ []
+    ≡ over_points 1 0 2 2 ∷ over_points 1 2 2 2 ∷ over_points 1 4 1 1 ∷ over_points 2 0 2 4 ∷ over_points 2 2 1 1 ∷
+    over_points 3 3 2 5 ∷ []
 nodes_over_five_points = refl
 
 -- ---- a single entry has a node above it, and no entries have none

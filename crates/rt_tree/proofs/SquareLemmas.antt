@@ -1,5 +1,6 @@
 -- The square root, rounded up.
-use Rattle.std.proofs.Common.{◌≡◌, ◌<◌, ◌≤◌, ◌+◌, ◌*◌, ℕ, zero, suc, Bool, true, false, cond, nat_le, refl, ap, arith, inl, inr, ◌-◌}
+use Rattle.std.proofs.Common.{◌≡◌, ◌<◌, ◌≤◌, ◌+◌, ◌*◌, ℕ, zero, suc, Bool, true, false, cond, nat_le, refl, ap, arith}
+use Rattle.std.proofs.Common.{inl, inr, ◌-◌}
 use Rattle.std.proofs.Math.Nat.{eq-or-lt_of_le, mul-le-mul}
 use Rattle.std.proofs.lemmas.Bool.Decides.{nat_tests}
 use Rattle.rt_tree.specs.Packing.{ceil_sqrt}
@@ -18,20 +19,32 @@ above n root s low test h = elim (eq-or-lt_of_le low) [ inl e ↦ absurd (not_sa
     not_same : root ≡ s → ⊥
     not_same e = let same = ap (λ r. r * r) e in grind (arith, nat_tests)
 
-ceil_sqrt-step : (n root : ℕ) → IsCeilSqrt n root → (test : Bool) → nat_le (suc n) (root * root) ≡ test → IsCeilSqrt (suc n) (cond test root (suc root))
-ceil_sqrt-step n root r true e = record { enough = grind (arith, nat_tests); least = λ s h. r.least s (omega (arith, h)) }
-ceil_sqrt-step n root r false e = record { enough = one_more n root r.enough; least = λ s h. above n root s (r.least s (omega (arith, h))) e h }
+ceil_sqrt-step : (n root : ℕ) → IsCeilSqrt n root → (test : Bool) → nat_le (suc n) (root * root) ≡ test
+    → IsCeilSqrt (suc n) (cond test root (suc root))
+ceil_sqrt-step n root r true e = record {
+  enough = grind (arith, nat_tests);
+  least = λ s h. r.least s (omega
+      (arith, h));
+}
+ceil_sqrt-step n root r false e = record {
+  enough = one_more n root r.enough;
+  least = λ s h. above n root s
+      (r.least s (omega (arith, h))) e h;
+}
 
 pub ceil_sqrt-IsCeilSqrt : (n : ℕ) → IsCeilSqrt n (ceil_sqrt n)
 ceil_sqrt-IsCeilSqrt zero = record { enough = omega arith; least = λ s h. omega arith }
-ceil_sqrt-IsCeilSqrt (suc n) = ceil_sqrt-step n (ceil_sqrt n) (ceil_sqrt-IsCeilSqrt n) (nat_le (suc n) (ceil_sqrt n * ceil_sqrt n)) refl
+ceil_sqrt-IsCeilSqrt (suc n) = ceil_sqrt-step n (ceil_sqrt n) (ceil_sqrt-IsCeilSqrt n) (nat_le (suc n)
+    (ceil_sqrt n * ceil_sqrt n)) refl
 
 -- it is one more than the square root, rounded down, of the number below
-pub ceil_sqrt-from_isqrt : (n root : ℕ) → 0 < n → root * root ≤ n - 1 → n - 1 < (root + 1) * (root + 1) → ceil_sqrt n ≡ root + 1
+pub ceil_sqrt-from_isqrt : (n root : ℕ) → 0 < n → root * root ≤ n - 1 → n - 1 < (root + 1) * (root + 1)
+    → ceil_sqrt n ≡ root + 1
 ceil_sqrt-from_isqrt n root some low high =
     let c = ceil_sqrt-IsCeilSqrt n in
     let most : ceil_sqrt n ≤ root + 1 = c.least (root + 1) (omega (arith, high)) in
-    let not_fewer : ceil_sqrt n ≤ root → ⊥ = λ h. let squares = mul-le-mul h h in omega (arith, squares, c.enough, low) in
+    let not_fewer : ceil_sqrt n ≤ root → ⊥ = λ h. let squares = mul-le-mul h h in omega
+    (arith, squares, c.enough, low) in
     omega arith
 
 pub ceil_sqrt-positive : (n : ℕ) → 0 < n → 0 < ceil_sqrt n

@@ -1,11 +1,13 @@
 -- Tiles are chunks of the items in one order.
-use Rattle.std.proofs.Common.{◌≡◌, ◌<◌, ◌≤◌, ◌+◌, ◌*◌, ℕ, Ordering, List, [], ◌∷◌, ◌++◌, length, map, refl, sym, ◌∙◌, ap, subst, arith, IsPermutation}
+use Rattle.std.proofs.Common.{◌≡◌, ◌<◌, ◌≤◌, ◌+◌, ◌*◌, ℕ, Ordering, List, [], ◌∷◌, ◌++◌, length, map, refl, sym, ◌∙◌}
+use Rattle.std.proofs.Common.{ap, subst, arith, IsPermutation}
 use Rattle.std.specs.Int.{div_ceil}
 use Rattle.std.specs.List.{enumerate_from, flat_map}
 use Rattle.std.proofs.lemmas.List.Folds.{flat_map-map}
 use Rattle.std.proofs.lemmas.List.{nil_from_length}
 use Rattle.std.proofs.lemmas.List.FromFn.{length-enumerate_from}
-use Rattle.std.proofs.lemmas.List.Sorted.{IsPermutation-append, IsPermutation-map, IsPermutation-refl, IsPermutation-trans, length_permutation}
+use Rattle.std.proofs.lemmas.List.Sorted.{IsPermutation-append, IsPermutation-map, IsPermutation-refl}
+use Rattle.std.proofs.lemmas.List.Sorted.{IsPermutation-trans, length_permutation}
 use Rattle.rt_geo.specs.Boxes.{Rect}
 use Rattle.rt_tree.specs.Packing.{by_middle, ceil_sqrt, chunks, groups, joined, tiles, twice_middle_x, twice_middle_y}
 use Rattle.rt_tree.specs.Sorting.{sorted}
@@ -19,9 +21,11 @@ sorted-length : {Y : Type 0} (cmp : Y → Y → Ordering) (ys : List Y) → leng
 sorted-length cmp ys = length_permutation ys (sorted cmp ys) (IsPermutation-sorted cmp ys)
 
 -- sorting each of some lists moves elements
-sorted_each : {Y : Type 0} (cmp : Y → Y → Ordering) (yss : List (List Y)) → IsPermutation (joined yss) (flat_map (sorted cmp) yss)
+sorted_each : {Y : Type 0} (cmp : Y → Y → Ordering) (yss : List (List Y))
+    → IsPermutation (joined yss) (flat_map (sorted cmp) yss)
 sorted_each cmp [] = IsPermutation-refl []
-sorted_each cmp (ys ∷ yss) = IsPermutation-append ys (sorted cmp ys) (joined yss) (flat_map (sorted cmp) yss) (IsPermutation-sorted cmp ys) (sorted_each cmp yss)
+sorted_each cmp (ys ∷ yss) = IsPermutation-append ys (sorted cmp ys) (joined yss) (flat_map (sorted cmp) yss)
+    (IsPermutation-sorted cmp ys) (sorted_each cmp yss)
 
 -- items with their places, without the places
 numbered_items : {Y : Type 0} (n : ℕ) (ys : List Y) → map (λ p. p.1) (enumerate_from n ys) ≡ ys
@@ -47,10 +51,12 @@ module _ {X : Type 0} (box : X → Rect) (items : List X) where
   -- the tiles are chunks of the items in their order
   tiles-chunks : (fanout : ℕ) → 0 < fanout → tiles box fanout items ≡ chunks fanout (tiled_of (slice_size fanout))
   tiles-chunks fanout some =
-      chunks_of-chunks (sorted (by_middle box twice_middle_y)) (sorted-length (by_middle box twice_middle_y)) (ceil_sqrt (div_ceil (length items) fanout)) fanout some by_x_of
+      chunks_of-chunks (sorted (by_middle box twice_middle_y)) (sorted-length (by_middle box twice_middle_y))
+      (ceil_sqrt (div_ceil (length items) fanout)) fanout some by_x_of
 
   -- the items in the order of their groups
-  pub joined-groups : (fanout : ℕ) → 0 < fanout → joined (groups box fanout items) ≡ map (λ p. p.1) (tiled_of (slice_size fanout))
+  pub joined-groups : (fanout : ℕ) → 0 < fanout → joined (groups box fanout items) ≡ map (λ p. p.1) (tiled_of
+      (slice_size fanout))
   joined-groups fanout some =
       flat_map-map (λ xs. xs) (map (λ p. p.1)) (tiles box fanout items)
       ∙ map-flat_map (λ p. p.1) (λ ps. ps) (tiles box fanout items)
@@ -58,9 +64,11 @@ module _ {X : Type 0} (box : X → Rect) (items : List X) where
       ∙ ap (map (λ p. p.1)) (joined-chunks fanout (tiled_of (slice_size fanout)) some)
 
   -- the groups are chunks of the items in that order
-  pub groups-chunks : (fanout : ℕ) → 0 < fanout → groups box fanout items ≡ chunks fanout (joined (groups box fanout items))
+  pub groups-chunks : (fanout : ℕ) → 0 < fanout → groups box fanout items ≡ chunks fanout (joined
+      (groups box fanout items))
   groups-chunks fanout some =
-      ap (map (map (λ p. p.1))) (tiles-chunks fanout some) ∙ sym (map-chunks (λ p. p.1) fanout (tiled_of (slice_size fanout))) ∙ ap (chunks fanout) (sym (joined-groups fanout some))
+      ap (map (map (λ p. p.1))) (tiles-chunks fanout some) ∙ sym (map-chunks (λ p. p.1) fanout (tiled_of
+      (slice_size fanout))) ∙ ap (chunks fanout) (sym (joined-groups fanout some))
 
   by_x-IsPermutation : IsPermutation (enumerate_from 0 items) by_x_of
   by_x-IsPermutation = IsPermutation-sorted (by_middle box twice_middle_x) (enumerate_from 0 items)
@@ -68,22 +76,30 @@ module _ {X : Type 0} (box : X → Rect) (items : List X) where
   tiled-IsPermutation : (size : ℕ) → 0 < size → IsPermutation (enumerate_from 0 items) (tiled_of size)
   tiled-IsPermutation size some =
       IsPermutation-trans _ _ _ by_x-IsPermutation
-      (subst (λ l. IsPermutation l (tiled_of size)) (joined-chunks size by_x_of some) (sorted_each (by_middle box twice_middle_y) (chunks size by_x_of)))
+      (subst (λ l. IsPermutation l (tiled_of size)) (joined-chunks size by_x_of some) (sorted_each
+      (by_middle box twice_middle_y) (chunks size by_x_of)))
 
   -- the groups have the items, each once
-  pub groups-IsPermutation : (fanout : ℕ) → 2 ≤ fanout → 0 < length items → IsPermutation items (joined (groups box fanout items))
+  pub groups-IsPermutation : (fanout : ℕ) → 2 ≤ fanout → 0 < length items
+      → IsPermutation items (joined (groups box fanout items))
   groups-IsPermutation fanout several there =
-      let wide : 0 < slice_size fanout = positive_product (ceil_sqrt (div_ceil (length items) fanout)) fanout (ceil_sqrt-positive (div_ceil (length items) fanout) (div_ceil-positive (length items) fanout several there)) (omega arith) in
+      let wide : 0 < slice_size fanout = positive_product (ceil_sqrt (div_ceil (length items) fanout)) fanout
+      (ceil_sqrt-positive (div_ceil (length items) fanout) (div_ceil-positive
+      (length items) fanout several there)) (omega arith) in
       let moved = IsPermutation-map (λ (p : ℕ × X). p.1) _ _ (tiled-IsPermutation (slice_size fanout) wide) in
-      subst (λ l. IsPermutation l (joined (groups box fanout items))) (numbered_items 0 items) (subst (IsPermutation (map (λ (p : ℕ × X). p.1) (enumerate_from 0 items))) (sym (joined-groups fanout (omega arith))) moved)
+      subst (λ l. IsPermutation l (joined (groups box fanout items))) (numbered_items 0 items) (subst (IsPermutation
+      (map (λ (p : ℕ × X). p.1) (enumerate_from 0 items))) (sym (joined-groups fanout (omega arith))) moved)
 
 -- no items have no groups
 pub groups-nil : {X : Type 0} (box : X → Rect) (fanout : ℕ) → groups box fanout [] ≡ []
 groups-nil {X} box fanout =
-    ap (λ slices. map (map (λ (p : ℕ × X). p.1)) (flat_map (λ slice. chunks fanout (sorted (by_middle box twice_middle_y) slice)) slices))
+    ap (λ slices. map (map (λ (p : ℕ × X). p.1)) (flat_map (λ slice. chunks fanout (sorted
+    (by_middle box twice_middle_y) slice)) slices))
     (chunks-nil (ceil_sqrt (div_ceil 0 fanout) * fanout))
 
 -- the groups have the items, each once, however many there are
-pub groups-moved : {X : Type 0} (box : X → Rect) (fanout : ℕ) (items : List X) → 2 ≤ fanout → IsPermutation items (joined (groups box fanout items))
-groups-moved box fanout [] several = subst (λ gs. IsPermutation [] (joined gs)) (sym (groups-nil box fanout)) (IsPermutation-refl [])
+pub groups-moved : {X : Type 0} (box : X → Rect) (fanout : ℕ) (items : List X) → 2 ≤ fanout
+    → IsPermutation items (joined (groups box fanout items))
+groups-moved box fanout [] several = subst (λ gs. IsPermutation [] (joined gs)) (sym (groups-nil box fanout))
+    (IsPermutation-refl [])
 groups-moved box fanout (x ∷ items) several = groups-IsPermutation box (x ∷ items) fanout several (omega arith)

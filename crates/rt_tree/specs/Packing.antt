@@ -54,7 +54,8 @@ joined = flat_map (λ xs. xs)
 -- the node over a group of items, of which the first has this number
 abbrev pub node_over : {X : Type 0} → (box : X → Rect) → (size : X → ℕ) → (level first : ℕ) → List X → Node
 node_over box size level first group =
-    record { bounds = hull_of (map box group); level = level; first = first; count = length group; size = sum_by size group }
+    let whole = hull_of (map box group) in
+    record { bounds = whole; level = level; first = first; count = length group; size = sum_by size group }
 
 -- a node over each group, the items being numbered on from group to group
 abbrev pub nodes_over : {X : Type 0} → (box : X → Rect) → (size : X → ℕ) → (level first : ℕ) → List (List X) → List Node
@@ -62,14 +63,19 @@ nodes_over box size level first [] = []
 nodes_over box size level first (group ∷ more) =
     node_over box size level first group ∷ nodes_over box size level (first + length group) more
 
+-- the nodes of level 1, over groups of entries
+abbrev pub leaf_nodes : List (List Entry) → List Node
+leaf_nodes = nodes_over (λ e. e.bounds) (λ _. 1) 1 0
+
 -- the nodes of this level, in the order in which the level above is cut, and then those of all levels above, up to one
 -- that has a single node. `first` is the number of the first of them; the fuel is no less than the number of levels
 abbrev pub nodes_from : (fuel fanout level first : ℕ) → List Node → List Node
 nodes_from zero fanout level first made = made
 nodes_from (suc fuel) fanout level first made =
     let cut = groups (λ n. n.bounds) fanout made in
-    if nat_le (length made) 1 then made else
-    joined cut ++ nodes_from fuel fanout (level + 1) (first + length made) (nodes_over (λ n. n.bounds) (λ n. n.size) (level + 1) first cut)
+    let above = nodes_over (λ n. n.bounds) (λ n. n.size) (level + 1) first cut in
+    if nat_le (length made) 1 then made
+    else joined cut ++ nodes_from fuel fanout (level + 1) (first + length made) above
 
 -- the nodes of all levels, over those of level 1
 abbrev pub all_nodes : (fanout : ℕ) → List Node → List Node
@@ -79,5 +85,4 @@ all_nodes fanout made = nodes_from (length made) fanout 1 0 made
 abbrev pub pack_of : (fanout : ℕ) → List Entry → Packed
 pack_of fanout entries =
     let cut = groups (λ e. e.bounds) fanout (sorted (on (λ e. e.id) int_cmp) entries) in
-    let made = nodes_over (λ e. e.bounds) (λ _. 1) 1 0 cut in
-    record { fanout = fanout; entries = joined cut; nodes = all_nodes fanout made }
+    record { fanout = fanout; entries = joined cut; nodes = all_nodes fanout (leaf_nodes cut) }

@@ -9,8 +9,9 @@ ghost use Rattle.std.specs.List.{All, enumerate_from, filter_map, flat_map, sum_
 ghost use Rattle.std.specs.Ordering.{nat_cmp};
 ghost use Rattle.rt_geo.specs.Boxes.{Rect};
 ghost use Rattle.rt_tree.specs.Entries.{most_entries};
-ghost use Rattle.rt_tree.specs.Packing.{ceil_sqrt, chunks, groups, joined, node_over, nodes_over, twice_middle_x, twice_middle_y};
-ghost use Rattle.rt_tree.specs.SortKeys.{IsRanked, IsRankedAt, key_of, place_of, rank, rekeyed, sort_key};
+ghost use Rattle.rt_tree.specs.Packing.{ceil_sqrt, chunks, groups, joined, node_over, nodes_over};
+ghost use Rattle.rt_tree.specs.Packing.{twice_middle_x, twice_middle_y};
+ghost use Rattle.rt_tree.specs.SortKeys.{IsRanked, IsRankedAt, by_y, key_of, place_of, rank, rekeyed, sort_key};
 ghost use Rattle.rt_tree.specs.Sorting.{sorted};
 
 use crate::tree::Node;
@@ -42,6 +43,7 @@ pub(crate) trait Item: Copy + Drop {
 
 impl Item for Entry {
     ghost rect = { λ e. e.bounds };
+
     ghost weight = { λ _. 1 };
 
     fn bounds(&self) -> Bounds {
@@ -55,6 +57,7 @@ impl Item for Entry {
 
 impl Item for Node {
     ghost rect = { λ n. n.bounds };
+
     ghost weight = { λ n. n.size };
 
     fn bounds(&self) -> Bounds {
@@ -110,7 +113,11 @@ fn place_of(key: u64) -> usize
 }
 
 /// The items in the order of their tiles.
-pub(crate) fn arranged<T: Item>(alloc: Global, items: &[T], fanout: u8) -> Result<Vec<T>, AllocError>
+pub(crate) fn arranged<T: Item>(
+    alloc: Global,
+    items: &[T],
+    fanout: u8,
+) -> Result<Vec<T>, AllocError>
     requires few { length items.now ≤ most_entries }
     requires several { 2 ≤ fanout }
     ensures { IfOk result (λ v. v.items ≡ joined (groups T.rect fanout items.now)) }
@@ -152,7 +159,7 @@ fn sort_slices<T: Item>(keys: &mut [u64], items: &[T], size: usize)
     requires some { 0 < size }
     requires few { length items.now ≤ most_entries }
     requires places { All (λ key. place_of key < length items.now) keys.old }
-    ensures keys { keys.new ≡ flat_map (λ slice. sorted nat_cmp (map (rekeyed T.rect twice_middle_y items.now) slice)) (chunks size keys.old) }
+    ensures keys { keys.new ≡ flat_map (by_y T.rect items.now) (chunks size keys.old) }
     ensures ranked { All (IsRankedAt T.rect twice_middle_y items.now) keys.old }
 {
     let mut start = 0;
@@ -167,7 +174,7 @@ fn sort_slices<T: Item>(keys: &mut [u64], items: &[T], size: usize)
 fn sort_by_y<T: Item>(keys: &mut [u64], items: &[T])
     requires few { length items.now ≤ most_entries }
     requires places { All (λ key. place_of key < length items.now) keys.old }
-    ensures keys { keys.new ≡ sorted nat_cmp (map (rekeyed T.rect twice_middle_y items.now) keys.old) }
+    ensures keys { keys.new ≡ by_y T.rect items.now keys.old }
     ensures ranked { All (IsRankedAt T.rect twice_middle_y items.now) keys.old }
 {
     for key in keys.iter_mut() {

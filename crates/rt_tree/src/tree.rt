@@ -4,8 +4,8 @@ ghost use Rattle.std.specs.Prelude.{◌≡◌, ◌==◌, ◌+◌, ◌-◌, ◌<�
 ghost use Rattle.std.specs.List.Sorted.{IsPermutation};
 ghost use Rattle.rt_tree.specs.Entries.{most_entries};
 ghost use Rattle.rt_tree.specs.Levels.{level_sizes};
-ghost use Rattle.rt_tree.specs.Packed.{IsSound, node_at};
-ghost use Rattle.rt_tree.specs.Packing.{all_nodes, chunks, nodes_over, pack_of};
+ghost use Rattle.rt_tree.specs.Packed.{IsSound, node_at, root_of};
+ghost use Rattle.rt_tree.specs.Packing.{all_nodes, chunks, leaf_nodes, pack_of};
 
 use crate::levels::Levels;
 use crate::packing::{arranged, nodes_over};
@@ -48,9 +48,9 @@ impl NodeNo {
 
 /// A packed tree over the entries of a table.
 ///
-/// It is packed sort-tile-recursively (Leutenegger, Lopez and Edgington, 1997): the entries are sorted by the middles of
-/// their boxes on the x axis and cut into slices, each slice is sorted by y and cut into nodes, and so are these nodes,
-/// until a level has one.
+/// It is packed sort-tile-recursively (Leutenegger, Lopez and Edgington, 1997): the entries are sorted by the middles
+/// of their boxes on the x axis and cut into slices, each slice is sorted by y and cut into nodes, and so are these
+/// nodes, until a level has one.
 #[derive(Drop)]
 pub struct Tree {
     fanout: u8,
@@ -112,8 +112,9 @@ impl Tree {
 
     /// The level of the root; 0 where there is none.
     pub fn top(&self) -> u8
-        ensures value { result + 1 ≡ length (level_sizes (length self.now.entries) self.now.fanout) }
-        ensures highest { result ≤ 24 }
+        ensures root { result ≡ (root_of self.now).level }
+        ensures levels { result + 1 ≡ length (level_sizes (length self.now.entries) self.now.fanout) }
+        ensures few { result ≤ 24 }
     {
         self.levels.count() - 1
     }
@@ -196,7 +197,7 @@ impl Tree {
 fn all_nodes(alloc: Global, entries: &[Entry], fanout: u8) -> Result<Vec<Node>, AllocError>
     requires several { 2 ≤ fanout }
     requires few { length entries.now ≤ most_entries }
-    ensures { IfOk result (λ v. v.items ≡ all_nodes fanout (nodes_over (λ e. e.bounds) (λ _. 1) 1 0 (chunks fanout entries.now))) }
+    ensures { IfOk result (λ v. v.items ≡ all_nodes fanout (leaf_nodes (chunks fanout entries.now))) }
 {
     let mut made = nodes_over(alloc, entries, fanout, 1, 0)?;
     let mut nodes = Vec::new(alloc);

@@ -17,12 +17,15 @@ loop-key-preserved g c =
     let here = c.loop-key.invariant.keys in
     record {
       keys = mapped_more key old c.loop-key.keys i c.key_by_y.result there here c.key_by_y.ensures.value;
-      ranked = λ k d h. below_more (λ k. (d : ℕ) → IsRankedKey (get_or old k d)) i (λ k h d. c.loop-key.invariant.ranked k d h)
-        (λ d. subst IsRankedKey (unchanged_at key old c.loop-key.keys i d there here) c.key_by_y.ensures.ranked) k h d;
+      ranked = λ k d h. below_more (λ k. (d : ℕ) → IsRankedKey (get_or old k d)) i
+          (λ k h d. c.loop-key.invariant.ranked k d h)
+          (λ d. subst IsRankedKey (unchanged_at key old c.loop-key.keys i d there here) c.key_by_y.ensures.ranked) k h d;
     }
 
 pub returns-clause-keys : goal.returns-clause-keys
 returns-clause-keys g c =
     let key = rekeyed g.T.Item.rect twice_middle_y c.args.items.now in
-    numbers_sorted c.loop-key.keys c.sort_unstable.new.self c.sort_unstable.ensures.permutation c.sort_unstable.ensures.sorted
-    ∙ ap (sorted nat_cmp) (c.loop-key.invariant.keys ∙ mapped_all key c.args.keys.now c.loop-key.key-index c.loop-key-test.false)
+    numbers_sorted c.loop-key.keys c.sort_unstable.new.self c.sort_unstable.ensures.permutation
+    c.sort_unstable.ensures.sorted
+    ∙ ap (sorted nat_cmp) (c.loop-key.invariant.keys ∙ mapped_all key c.args.keys.now c.loop-key.key-index
+    c.loop-key-test.false)

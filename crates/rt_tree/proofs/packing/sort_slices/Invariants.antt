@@ -10,8 +10,10 @@ abbrev pub invariant-loop-start : goal.invariant-loop-start
 invariant-loop-start g l = record {
   inside : l.start ≤ length l.keys;
   later : drop l.start l.keys ≡ drop l.start l.initial.keys;
-  keys : take l.start l.keys ++ flat_map (λ slice. sorted nat_cmp (map (rekeyed g.T.Item.rect twice_middle_y l.items) slice)) (chunks l.size (drop l.start l.initial.keys))
-      ≡ flat_map (λ slice. sorted nat_cmp (map (rekeyed g.T.Item.rect twice_middle_y l.items) slice)) (chunks l.size l.initial.keys);
+  keys : take l.start l.keys ++ flat_map (λ slice. sorted nat_cmp (map
+      (rekeyed g.T.Item.rect twice_middle_y l.items) slice)) (chunks l.size (drop l.start l.initial.keys))
+      ≡ flat_map (λ slice. sorted nat_cmp (map (rekeyed g.T.Item.rect twice_middle_y l.items) slice))
+      (chunks l.size l.initial.keys);
   ranked : (k : ℕ) (d : ℕ) → k < l.start → IsRankedAt g.T.Item.rect twice_middle_y l.items (get_or l.initial.keys k d);
 }
 

@@ -11,8 +11,10 @@ loop-size-preserved c =
     let above = div_ceil size fanout in
     let more : above ≡ 1 → ⊥ = λ e. c.if-size-eq1.false (c.div_ceil-size.ensures ∙ e) in
     let some = div_ceil-positive size fanout c.requires.several before.some in
-    let longer : length (c.loop-size.levels ++ above ∷ []) ≡ length c.loop-size.levels + 1 = omega (arith, length-append c.loop-size.levels (above ∷ [])) in
-    let room = room_more (length c.loop-size.levels) size above before.room before.few (div_ceil-halves size fanout c.requires.several) in
+    let longer : length (c.loop-size.levels ++ above ∷ []) ≡ length c.loop-size.levels + 1 = omega
+    (arith, length-append c.loop-size.levels (above ∷ [])) in
+    let room = room_more (length c.loop-size.levels) size above before.room before.few
+    (div_ceil-halves size fanout c.requires.several) in
     rw (c.push.ensures, c.div_ceil-size.ensures) (record {
       course = course_more c.loop-size.levels fanout size _ c.requires.several before.some more before.course;
       some = some;
