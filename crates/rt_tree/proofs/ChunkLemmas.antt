@@ -37,7 +37,7 @@ one_more d e n len low high low' high' there =
     elim (le_or_lt n len) [
       | inl h ↦ ceil_unique d (e + 1) n len low high (omega (arith, h)) (omega (arith, h))
       | inr h ↦ let none : e ≡ 0 = ceil_unique e 0 n 0 (omega arith) (omega (arith, h)) (omega arith) (omega (arith, h)) in
-      let nothing = ap (λ k. k * n) none in ceil_unique d (e + 1) n len low high (omega (arith, h)) (omega (arith, h))
+          let nothing = ap (λ k. k * n) none in ceil_unique d (e + 1) n len low high (omega (arith, h)) (omega (arith, h))
     ]
 
 pub div_ceil-step : (len n : ℕ) → 0 < n → 0 < len → div_ceil len n ≡ suc (div_ceil (len - n) n)
@@ -114,7 +114,7 @@ chunks-append n (suc k) xs ys some full =
     let long = length-append xs ys in
     chunks-step n (xs ++ ys) some (omega (arith, full))
     ∙ rw (take-append-le n xs ys (omega (arith, full)), drop-append-le n xs ys (omega (arith, full)))
-      (ap (λ l. take n xs ∷ l) (chunks-append n k (drop n xs) ys some (omega (arith, full, length-drop n xs))))
+    (ap (λ l. take n xs ∷ l) (chunks-append n k (drop n xs) ys some (omega (arith, full, length-drop n xs))))
     ∙ ap (λ l. l ++ chunks n ys) (sym (chunks-step n xs some (omega (arith, full))))
 
 flat_map-empty : {X Y : Type 0} (f : List X → List Y) (n k : ℕ) → f [] ≡ [] → flat_map f (first_chunks n k []) ≡ []
@@ -135,13 +135,13 @@ module _ {X : Type 0} (h : List X → List X) (keeps : (s : List X) → length (
   first_chunks_of : (k : ℕ) (xs : List X) → flat_map (λ s. chunks n (h s)) (first_chunks (side * n) k xs) ≡ chunks n (flat_map h (first_chunks (side * n) k xs))
   first_chunks_of zero xs = sym (chunks-nil n)
   first_chunks_of (suc k) xs = elim (le_or_lt (side * n) (length xs)) [
-      | inl wide ↦
+    | inl wide ↦
         let full : length (h (take (side * n) xs)) ≡ side * n = omega (arith, keeps (take (side * n) xs), length-take (side * n) xs) in
         ap (λ l. chunks n (h (take (side * n) xs)) ++ l) (first_chunks_of k (drop (side * n) xs))
         ∙ sym (chunks-append n side (h (take (side * n) xs)) (flat_map h (first_chunks (side * n) k (drop (side * n) xs))) some full)
-      | inr narrow ↦ rw (drop_all (side * n) xs (omega arith)) (rw (flat_map-empty (λ s. chunks n (h s)) (side * n) k (ap (chunks n) none ∙ chunks-nil n), flat_map-empty h (side * n) k none)
+    | inr narrow ↦ rw (drop_all (side * n) xs (omega arith)) (rw (flat_map-empty (λ s. chunks n (h s)) (side * n) k (ap (chunks n) none ∙ chunks-nil n), flat_map-empty h (side * n) k none)
         (append-nil (chunks n (h (take (side * n) xs))) ∙ ap (chunks n) (sym (append-nil (h (take (side * n) xs))))))
-    ]
+  ]
 
   pub chunks_of-chunks : (xs : List X) → flat_map (λ s. chunks n (h s)) (chunks (side * n) xs) ≡ chunks n (flat_map h (chunks (side * n) xs))
   chunks_of-chunks xs = first_chunks_of (div_ceil (length xs) (side * n)) xs

@@ -25,9 +25,9 @@ keys_more key items i k x keys there e k_is is =
     let long : 0 + length (take i items) ≡ i = omega (arith, length-take i items) in
     let more : take (i + 1) items ≡ take i items ++ x ∷ [] = take_more items i x there ∙ ap (λ y. take i items ++ y ∷ []) (sym e) in
     sym (ap (λ l. map key (enumerate_from 0 l)) more ∙ ap (map key) (enumerate_from-push 0 (take i items) x)
-      ∙ map-append key (enumerate_from 0 (take i items)) ((0 + length (take i items), x) ∷ [])
-      ∙ ap (λ n. map key (enumerate_from 0 (take i items)) ++ key (n, x) ∷ []) long
-      ∙ ap (λ m. map key (enumerate_from 0 (take i items)) ++ m ∷ []) (sym k_is) ∙ ap (λ l. l ++ k ∷ []) (sym is))
+    ∙ map-append key (enumerate_from 0 (take i items)) ((0 + length (take i items), x) ∷ [])
+    ∙ ap (λ n. map key (enumerate_from 0 (take i items)) ++ key (n, x) ∷ []) long
+    ∙ ap (λ m. map key (enumerate_from 0 (take i items)) ++ m ∷ []) (sym k_is) ∙ ap (λ l. l ++ k ∷ []) (sym is))
 
 -- ---- each element is changed in its place
 
@@ -76,15 +76,15 @@ told_more h keys i x told there e is =
 -- what an end past the list takes and leaves
 take_min : {X : Type 0} (size : ℕ) (xs : List X) → take size xs ≡ take (min size (length xs)) xs
 take_min size xs = elim (le_or_lt size (length xs)) [
-    | inl h ↦ ap (λ n. take n xs) (omega arith)
-    | inr h ↦ take_all size xs (omega arith) ∙ sym (take_all (min size (length xs)) xs (omega arith))
-  ]
+  | inl h ↦ ap (λ n. take n xs) (omega arith)
+  | inr h ↦ take_all size xs (omega arith) ∙ sym (take_all (min size (length xs)) xs (omega arith))
+]
 
 drop_min : {X : Type 0} (size : ℕ) (xs : List X) → drop size xs ≡ drop (min size (length xs)) xs
 drop_min size xs = elim (le_or_lt size (length xs)) [
-    | inl h ↦ ap (λ n. drop n xs) (omega arith)
-    | inr h ↦ drop_all size xs (omega arith) ∙ sym (drop_all (min size (length xs)) xs (omega arith))
-  ]
+  | inl h ↦ ap (λ n. drop n xs) (omega arith)
+  | inr h ↦ drop_all size xs (omega arith) ∙ sym (drop_all (min size (length xs)) xs (omega arith))
+]
 
 -- the chunk that begins at a place, and those behind it
 pub chunks-at : {X : Type 0} (size start n : ℕ) (xs : List X) → 0 < size → start < length xs → n ≡ min size (length xs - start)
@@ -106,7 +106,7 @@ slices_more F size start n k old keys slice whole some there same at k_is later 
     let rest = flat_map F (chunks size (drop (start + n) old)) in
     let chunk : slice ≡ F (take n (drop start old)) = is ∙ ap (λ m. F (take m (drop start keys))) k_is ∙ ap (λ l. F (take n l)) later in
     let step : flat_map F (chunks size (drop start old)) ≡ slice ++ rest =
-        ap (flat_map F) (chunks-at size start n old some (omega (arith, same)) (at ∙ ap (λ l. min size (l - start)) same)) ∙ ap (λ l. l ++ rest) (sym chunk) in
+    ap (flat_map F) (chunks-at size start n old some (omega (arith, same)) (at ∙ ap (λ l. min size (l - start)) same)) ∙ ap (λ l. l ++ rest) (sym chunk) in
     ap (λ l. l ++ rest) (take-put_mid start k keys slice (start + n) (omega (arith, long, k_is)) (omega arith))
     ∙ append_assoc (take start keys) slice rest ∙ ap (λ l. take start keys ++ l) (sym step) ∙ course
 
@@ -125,13 +125,13 @@ inside_more start n k keys slice there k_is long =
 pub all_more : (P : ℕ → Type 0) (start n k : ℕ) (old keys : List ℕ) → k ≡ n → start + n ≤ length keys → drop start keys ≡ drop start old
     → ((i d : ℕ) → i < start → P (get_or old i d)) → All P (take k (drop start keys)) → (i d : ℕ) → i < start + n → P (get_or old i d)
 all_more P start n k old keys k_is inside later before here i d h = elim (le_or_lt start i) [
-    | inl l ↦
+  | inl l ↦
       let at : start + (i - start) ≡ i = omega (arith, l) in
       let same : get_or (take k (drop start keys)) (i - start) d ≡ get_or old i d =
-          get_or-take k (drop start keys) (i - start) d (omega (arith, h, l, k_is)) ∙ ap (λ xs. get_or xs (i - start) d) later ∙ get_or-drop start old (i - start) d ∙ ap (λ j. get_or old j d) at in
+      get_or-take k (drop start keys) (i - start) d (omega (arith, h, l, k_is)) ∙ ap (λ xs. get_or xs (i - start) d) later ∙ get_or-drop start old (i - start) d ∙ ap (λ j. get_or old j d) at in
       subst P same (here (i - start) d (omega (arith, h, l, k_is, inside, length-take k (drop start keys), length-drop start keys)))
-    | inr l ↦ before i d l
-  ]
+  | inr l ↦ before i d l
+]
 
 -- ---- one more child under a node
 
@@ -176,7 +176,7 @@ nodes_more box weight level first size start n k items nodes whole node some the
     let next : first + start + length group ≡ first + (start + n) = omega (arith, long) in
     append_assoc nodes (node ∷ []) (nodes_over box weight level (first + (start + n)) rest)
     ∙ ap (λ l. nodes ++ l) (ap (λ m. node ∷ nodes_over box weight level m rest) (sym next) ∙ ap (λ m. m ∷ nodes_over box weight level (first + start + length group) rest) this
-      ∙ ap (nodes_over box weight level (first + start)) (sym (chunks-at size start n items some there at)))
+    ∙ ap (nodes_over box weight level (first + start)) (sym (chunks-at size start n items some there at)))
     ∙ course
 
 -- the front of a list that is as long as what is taken

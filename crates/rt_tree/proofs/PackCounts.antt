@@ -73,8 +73,8 @@ module _ (fanout : ℕ) (several : 2 ≤ fanout) where
   nodes_from-fuel (suc fuel) (suc other) level first made f g = elim (le_or_lt (length made) 1) [
     | inl h ↦ nodes_from-last (suc fuel) level first made h ∙ sym (nodes_from-last (suc other) level first made h)
     | inr h ↦ nodes_from-more fuel level first made h
-      ∙ ap (λ l. joined (cut made) ++ l) (nodes_from-fuel fuel other (level + 1) (first + length made) (above level first made) (fewer level first fuel made h f) (fewer level first other made h g))
-      ∙ sym (nodes_from-more other level first made h)
+        ∙ ap (λ l. joined (cut made) ++ l) (nodes_from-fuel fuel other (level + 1) (first + length made) (above level first made) (fewer level first fuel made h f) (fewer level first other made h g))
+        ∙ sym (nodes_from-more other level first made h)
   ]
 
   pub nodes_from-step : (level first : ℕ) (made : List Node) → 1 < length made
@@ -135,13 +135,13 @@ module _ (fanout : ℕ) (several : 2 ≤ fanout) where
   course_more level nodes made ordered new whole some ordered_is new_is course =
       let moved = groups-IsPermutation (λ (n : Node). n.bounds) made fanout several (omega arith) in
       let same : new ≡ above level (length nodes) made =
-          new_is ∙ ap (nodes_over (λ n. n.bounds) (λ n. n.size) (level + 1) (length nodes)) (ap (chunks fanout) ordered_is ∙ sym (groups-chunks (λ (n : Node). n.bounds) made fanout (omega arith))) in
+      new_is ∙ ap (nodes_over (λ n. n.bounds) (λ n. n.size) (level + 1) (length nodes)) (ap (chunks fanout) ordered_is ∙ sym (groups-chunks (λ (n : Node). n.bounds) made fanout (omega arith))) in
       let long : length (nodes ++ ordered) ≡ length nodes + length made = omega (arith, length-append nodes ordered, ap length ordered_is, length_permutation made (joined (cut made)) moved) in
       append_assoc nodes ordered (nodes_from (length new) fanout (level + 1) (length (nodes ++ ordered)) new)
       ∙ ap (λ l. nodes ++ l) (ap (λ l. l ++ nodes_from (length new) fanout (level + 1) (length (nodes ++ ordered)) new) ordered_is
-        ∙ ap (λ n. joined (cut made) ++ nodes_from (length new) fanout (level + 1) n new) long
-        ∙ ap (λ l. joined (cut made) ++ nodes_from (length l) fanout (level + 1) (length nodes + length made) l) same
-        ∙ sym (nodes_from-step level (length nodes) made some))
+      ∙ ap (λ n. joined (cut made) ++ nodes_from (length new) fanout (level + 1) n new) long
+      ∙ ap (λ l. joined (cut made) ++ nodes_from (length l) fanout (level + 1) (length nodes + length made) l) same
+      ∙ sym (nodes_from-step level (length nodes) made some))
       ∙ course
 
   pub course_done : (level : ℕ) (nodes made whole : List Node) → length made ≤ 1 → nodes ++ nodes_from (length made) fanout level (length nodes) made ≡ whole → nodes ++ made ≡ whole
@@ -177,5 +177,5 @@ module _ (fanout : ℕ) (several : 2 ≤ fanout) where
       let box = λ (e : Entry). e.bounds in
       let count : length made ≡ div_ceil (length entries) fanout = ap length is ∙ length-nodes_over box (λ _. 1) 1 0 (chunks fanout entries) ∙ length-chunks fanout entries in
       let weight : sum_by (λ n. n.size) made ≡ length entries =
-          ap (sum_by (λ n. n.size)) is ∙ weight-nodes_over box (λ _. 1) 1 0 (chunks fanout entries) ∙ sum_by-ones (joined (chunks fanout entries)) ∙ ap length (joined-chunks fanout entries (omega arith)) in
+      ap (sum_by (λ n. n.size)) is ∙ weight-nodes_over box (λ _. 1) 1 0 (chunks fanout entries) ∙ sum_by-ones (joined (chunks fanout entries)) ∙ ap length (joined-chunks fanout entries (omega arith)) in
       counted_first made (length entries) count few weight

@@ -45,7 +45,7 @@ packed_is fanout table in_order entries nodes several in_order_is entries_is nod
     let box = λ (e : Entry). e.bounds in
     let whole : entries ≡ joined (groups box fanout (sorted by_id table)) = entries_is ∙ ap (λ l. joined (groups box fanout l)) in_order_is in
     let over : nodes ≡ all_nodes fanout (nodes_over box (λ _. 1) 1 0 (groups box fanout (sorted by_id table))) =
-        nodes_is ∙ ap (λ gs. all_nodes fanout (nodes_over box (λ _. 1) 1 0 gs)) (ap (chunks fanout) whole ∙ sym (groups-chunks box (sorted by_id table) fanout (omega arith))) in
+    nodes_is ∙ ap (λ gs. all_nodes fanout (nodes_over box (λ _. 1) 1 0 gs)) (ap (chunks fanout) whole ∙ sym (groups-chunks box (sorted by_id table) fanout (omega arith))) in
     rw (whole, over) refl
 
 pub length-packed : (fanout : ℕ) (table : List Entry) → 2 ≤ fanout → length (pack_of fanout table).entries ≡ length table

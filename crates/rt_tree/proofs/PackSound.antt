@@ -84,8 +84,8 @@ module _ (fanout : ℕ) (several : 2 ≤ fanout) (es : List Entry) where
         nodes = over_sound fanout es ns h gs numbered refl (chunk_groups fanout (IsSubtree new h) gs (omega arith) (groups-chunks (λ (n : Node). n.bounds) made fanout (omega arith)) later);
         every = subst (λ l. IsPermutation l es) (sym same) (IsPermutation-trans _ _ _ (IsPermutation-sym _ _ (flat_map-IsPermutation (entries_under old h) made ordered moved)) b.every);
         lower = all_append (λ n. IsSubtree new (n.level - 1) n) numbered ordered
-          (all_map (λ n. IsSubtree old (n.level - 1) n) (λ n. IsSubtree new (n.level - 1) n) (λ n s. subtree_more fanout es numbered ordered (n.level - 1) n s) numbered b.lower)
-          (all_map (IsSubtree new h) (λ n. IsSubtree new (n.level - 1) n) (at_its_level new h) ordered later);
+            (all_map (λ n. IsSubtree old (n.level - 1) n) (λ n. IsSubtree new (n.level - 1) n) (λ n s. subtree_more fanout es numbered ordered (n.level - 1) n s) numbered b.lower)
+            (all_map (IsSubtree new h) (λ n. IsSubtree new (n.level - 1) n) (at_its_level new h) ordered later);
       }
 
   -- what holds of the finished tree
@@ -108,14 +108,14 @@ module _ (fanout : ℕ) (several : 2 ≤ fanout) (es : List Entry) where
       let level : r.level ≡ suc h = level_of old h r b.nodes.0 in
       let same : flat_map (entries_under old h) (r ∷ []) ≡ entries_under new h r = sym (all_under_more fanout es numbered (r ∷ []) h (r ∷ []) b.nodes) ∙ append-nil (entries_under new h r) in
       let whole : IsPermutation (entries_under new (r.level - 1) r) es =
-          subst (λ k. IsPermutation (entries_under new k r) es) (omega (arith, level)) (subst (λ l. IsPermutation l es) same b.every) in
+      subst (λ k. IsPermutation (entries_under new k r) es) (omega (arith, level)) (subst (λ l. IsPermutation l es) same b.every) in
       record {
         some = omega (arith, long);
         root = subst (λ n. IsSubtree new (n.level - 1) n) (sym is_root) (at_its_level new h r sub);
         every = subst (λ n. IsPermutation (entries_under new (n.level - 1) n) es) (sym is_root) whole;
         nodes = all_append (λ n. IsSubtree new (n.level - 1) n) numbered (r ∷ [])
-          (all_map (λ n. IsSubtree old (n.level - 1) n) (λ n. IsSubtree new (n.level - 1) n) (λ n s. subtree_more fanout es numbered (r ∷ []) (n.level - 1) n s) numbered b.lower)
-          (at_its_level new h r sub, tt);
+            (all_map (λ n. IsSubtree old (n.level - 1) n) (λ n. IsSubtree new (n.level - 1) n) (λ n s. subtree_more fanout es numbered (r ∷ []) (n.level - 1) n s) numbered b.lower)
+            (at_its_level new h r sub, tt);
         few_levels = subst (λ n. n.level ≤ 24) (sym is_root) (omega (arith, level, c.few_levels));
         few_nodes = omega (arith, long, c.few_nodes, c.few_levels);
       }
@@ -134,8 +134,8 @@ module _ (fanout : ℕ) (several : 2 ≤ fanout) (es : List Entry) where
       let long : length (numbered ++ ordered) ≡ length numbered + length made = omega (arith, length-append numbered ordered, length_permutation made ordered moved) in
       append_assoc numbered ordered (nodes_from fuel fanout (suc (suc h)) (length (numbered ++ ordered)) (new_nodes h numbered made))
       ∙ ap (λ l. numbered ++ l) (ap (λ n. ordered ++ nodes_from fuel fanout (suc (suc h)) n (new_nodes h numbered made)) long
-        ∙ ap (λ k. ordered ++ nodes_from fuel fanout k (length numbered + length made) (nodes_over (λ n. n.bounds) (λ n. n.size) k (length numbered) (cut fanout several made))) (sym (add-one (suc h)))
-        ∙ sym (nodes_from-more fanout several fuel (suc h) (length numbered) made some))
+      ∙ ap (λ k. ordered ++ nodes_from fuel fanout k (length numbered + length made) (nodes_over (λ n. n.bounds) (λ n. n.size) k (length numbered) (cut fanout several made))) (sym (add-one (suc h)))
+      ∙ sym (nodes_from-more fanout several fuel (suc h) (length numbered) made some))
 
   few_above : (fuel h : ℕ) (numbered made : List Node) → 1 < length made → length made ≤ suc fuel → length (new_nodes h numbered made) ≤ fuel
   few_above fuel h numbered made some few =
@@ -160,8 +160,8 @@ module _ (fanout : ℕ) (several : 2 ≤ fanout) (es : List Entry) where
   sound_from (suc fuel) h numbered (r ∷ s ∷ made) few there b c =
       subst IsFinished (course fuel h numbered (r ∷ s ∷ made) (omega arith))
       (sound_from fuel (suc h) (numbered ++ joined (cut fanout several (r ∷ s ∷ made))) (new_nodes h numbered (r ∷ s ∷ made))
-        (few_above fuel h numbered (r ∷ s ∷ made) (omega arith) few) (some_above h numbered (r ∷ s ∷ made) there)
-        (climb h numbered (r ∷ s ∷ made) there b) (counted_above h numbered (r ∷ s ∷ made) (omega arith) c))
+      (few_above fuel h numbered (r ∷ s ∷ made) (omega arith) few) (some_above h numbered (r ∷ s ∷ made) there)
+      (climb h numbered (r ∷ s ∷ made) there b) (counted_above h numbered (r ∷ s ∷ made) (omega arith) c))
 
 -- ---- the whole tree
 

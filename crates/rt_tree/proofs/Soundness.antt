@@ -138,17 +138,19 @@ module _ (fanout : ℕ) (es : List Entry) where
       let here : take (length g) (drop (length front) es) ≡ g = ap (λ l. take (length g) (drop (length front) l)) is ∙ group_at front g (joined gs) in
       let behind : es ≡ (front ++ g) ++ joined gs = is ∙ sym (append_assoc front g (joined gs)) in
       let total = ap length is in
-      let boxes = all_map HasBox (λ e. IsRect e.bounds) (λ e b. b.box) g a.0.1 in
-      (record {
-        level = refl;
-        some = a.0.0.0;
-        few = a.0.0.1;
-        range = omega (arith, total, length-append front (g ++ joined gs), length-append g (joined gs));
-        valid = hull-IsRect box g a.0.0.0 boxes;
-        exact = ap (λ l. hull_of (map box l)) (sym here);
-        within = subst (AllByRecursion (λ e. IsBoxInside (extent_of_entry e) (record { bounds = whole }))) (sym here) (both_inside g whole boxes (hull-inside box g));
-        size = sum_by-ones g;
-      }, subst (λ n. AllByRecursion (IsLeafNode (tree ns)) (nodes_over box (λ _. 1) 1 n gs)) (length-append front g) (leaves_sound ns gs (front ++ g) behind a.1))
+      let boxes = all_map HasBox (λ e. IsRect e.bounds) (λ e b. b.box) g a.0.1 in (
+        record {
+          level = refl;
+          some = a.0.0.0;
+          few = a.0.0.1;
+          range = omega (arith, total, length-append front (g ++ joined gs), length-append g (joined gs));
+          valid = hull-IsRect box g a.0.0.0 boxes;
+          exact = ap (λ l. hull_of (map box l)) (sym here);
+          within = subst (AllByRecursion (λ e. IsBoxInside (extent_of_entry e) (record { bounds = whole }))) (sym here) (both_inside g whole boxes (hull-inside box g));
+          size = sum_by-ones g;
+        },
+        subst (λ n. AllByRecursion (IsLeafNode (tree ns)) (nodes_over box (λ _. 1) 1 n gs)) (length-append front g) (leaves_sound ns gs (front ++ g) behind a.1),
+      )
     where
       both_inside : (g : List Entry) (whole : Rect) → AllByRecursion (λ e. IsRect e.bounds) g → AllByRecursion (λ e. inside e.bounds whole ≡ true) g
           → AllByRecursion (λ e. IsBoxInside (extent_of_entry e) (record { bounds = whole })) g
@@ -174,18 +176,20 @@ module _ (fanout : ℕ) (es : List Entry) where
       let whole = hull_of (map box g) in
       let here : take (length g) (drop (length front) ns) ≡ g = ap (λ l. take (length g) (drop (length front) l)) is ∙ group_at front g (joined gs) in
       let behind : ns ≡ (front ++ g) ++ joined gs = is ∙ sym (append_assoc front g (joined gs)) in
-      let total = ap length is in
-      (record {
-        level = refl;
-        some = a.0.0.0;
-        few = a.0.0.1;
-        range = omega (arith, total, length-append front (g ++ joined gs), length-append g (joined gs));
-        below = subst (AllByRecursion (IsSubtree (tree ns) h)) (sym here) a.0.1;
-        valid = hull-IsRect box g a.0.0.0 (all_map (IsSubtree (tree ns) h) (λ n. IsRect n.bounds) (subtree_valid (tree ns) h) g a.0.1);
-        exact = ap (λ l. hull_of (map box l)) (sym here);
-        within = subst (AllByRecursion (λ k. inside k.bounds whole ≡ true)) (sym here) (hull-inside box g);
-        size = ap (sum_by (λ k. k.size)) (sym here);
-      }, subst (λ n. AllByRecursion (IsSubtree (tree ns) (suc h)) (nodes_over box (λ k. k.size) (suc (suc h)) n gs)) (length-append front g) (over_sound ns h gs (front ++ g) behind a.1))
+      let total = ap length is in (
+        record {
+          level = refl;
+          some = a.0.0.0;
+          few = a.0.0.1;
+          range = omega (arith, total, length-append front (g ++ joined gs), length-append g (joined gs));
+          below = subst (AllByRecursion (IsSubtree (tree ns) h)) (sym here) a.0.1;
+          valid = hull-IsRect box g a.0.0.0 (all_map (IsSubtree (tree ns) h) (λ n. IsRect n.bounds) (subtree_valid (tree ns) h) g a.0.1);
+          exact = ap (λ l. hull_of (map box l)) (sym here);
+          within = subst (AllByRecursion (λ k. inside k.bounds whole ≡ true)) (sym here) (hull-inside box g);
+          size = ap (sum_by (λ k. k.size)) (sym here);
+        },
+        subst (λ n. AllByRecursion (IsSubtree (tree ns) (suc h)) (nodes_over box (λ k. k.size) (suc (suc h)) n gs)) (length-append front g) (over_sound ns h gs (front ++ g) behind a.1),
+      )
 
   pub over_under : (ns : List Node) (h : ℕ) (gs : List (List Node)) (front : List Node) → ns ≡ front ++ joined gs
       → flat_map (entries_under (tree ns) (suc h)) (nodes_over (λ n. n.bounds) (λ n. n.size) (suc (suc h)) (length front) gs) ≡ flat_map (entries_under (tree ns) h) (joined gs)

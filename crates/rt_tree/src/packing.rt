@@ -42,6 +42,7 @@ pub(crate) trait Item: Copy + Drop {
 
 impl Item for Entry {
     ghost rect = { λ e. e.bounds };
+
     ghost weight = { λ _. 1 };
 
     fn bounds(&self) -> Bounds {
@@ -55,6 +56,7 @@ impl Item for Entry {
 
 impl Item for Node {
     ghost rect = { λ n. n.bounds };
+
     ghost weight = { λ n. n.size };
 
     fn bounds(&self) -> Bounds {
@@ -110,7 +112,11 @@ fn place_of(key: u64) -> usize
 }
 
 /// The items in the order of their tiles.
-pub(crate) fn arranged<T: Item>(alloc: Global, items: &[T], fanout: u8) -> Result<Vec<T>, AllocError>
+pub(crate) fn arranged<T: Item>(
+    alloc: Global,
+    items: &[T],
+    fanout: u8,
+) -> Result<Vec<T>, AllocError>
     requires few { length items.now ≤ most_entries }
     requires several { 2 ≤ fanout }
     ensures { IfOk result (λ v. v.items ≡ joined (groups T.rect fanout items.now)) }

@@ -35,7 +35,12 @@ fn table(alloc: Global, boxes: &[(i64, Sides)]) -> Option<Table> {
         if table.len() >= Table::MOST_ENTRIES {
             return None;
         }
-        table.push(Entry { id: *id, bounds: bounds(*sides)? }).ok()?;
+        table
+            .push(Entry {
+                id: *id,
+                bounds: bounds(*sides)?,
+            })
+            .ok()?;
     }
     Some(table)
 }
@@ -53,6 +58,9 @@ fn packs_the_five_boxes_node_by_node(rt: HostRuntime) {
     for (number, (sides, level, first, count, size)) in NODES.iter().enumerate() {
         let node = tree.nodes()[number];
         assert_eq!(rt; Some(node.bounds), bounds(*sides));
-        assert_eq!(rt; (node.level, node.first, node.count, node.size), (*level, *first, *count, *size));
+        assert_eq!(rt;
+            (node.level, node.first, node.count, node.size),
+            (*level, *first, *count, *size)
+        );
     }
 }

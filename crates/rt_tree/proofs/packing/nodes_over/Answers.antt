@@ -12,5 +12,5 @@ loop-start-preserved g c =
     record {
       inside = omega (arith, c.min.ensures);
       course = rw c.in_ok-push.ensures.items (nodes_more g.T.Item.rect g.T.Item.weight c.args.level c.args.first c.args.fanout start n (start + n - start) c.args.items.now c.loop-start.nodes.items _ c.node_over.result
-        (omega (arith, c.requires.several)) c.loop-start-test.true c.min.ensures (omega arith) c.node_over.ensures c.loop-start.invariant.course);
+          (omega (arith, c.requires.several)) c.loop-start-test.true c.min.ensures (omega arith) c.node_over.ensures c.loop-start.invariant.course);
     }

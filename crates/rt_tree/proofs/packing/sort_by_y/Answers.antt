@@ -18,7 +18,7 @@ loop-key-preserved g c =
     record {
       keys = mapped_more key old c.loop-key.keys i c.key_by_y.result there here c.key_by_y.ensures.value;
       ranked = λ k d h. below_more (λ k. (d : ℕ) → IsRankedKey (get_or old k d)) i (λ k h d. c.loop-key.invariant.ranked k d h)
-        (λ d. subst IsRankedKey (unchanged_at key old c.loop-key.keys i d there here) c.key_by_y.ensures.ranked) k h d;
+          (λ d. subst IsRankedKey (unchanged_at key old c.loop-key.keys i d there here) c.key_by_y.ensures.ranked) k h d;
     }
 
 pub returns-clause-keys : goal.returns-clause-keys

@@ -44,8 +44,8 @@ levels-preserved c =
     let more : 1 < length made = omega (arith, c.levels-test.true, c.len.ensures) in
     let numbered : c.len-in-levels.result ≡ length nodes = omega (arith, c.len-in-levels.ensures) in
     let new : above ≡ nodes_over (λ n. n.bounds) (λ n. n.size) (c.levels.level + 1) (length nodes) (chunks c.args.fanout sorted) =
-        c.in_ok-made-2.ensures ∙ ap (λ l. nodes_over (λ (n : Node). n.bounds) (λ n. n.size) (c.levels.level + 1) c.len-in-levels.result (chunks c.args.fanout l)) c.deref-in-levels.ensures.value
-        ∙ ap (λ n. nodes_over (λ (n : Node). n.bounds) (λ n. n.size) (c.levels.level + 1) n (chunks c.args.fanout sorted)) numbered in
+    c.in_ok-made-2.ensures ∙ ap (λ l. nodes_over (λ (n : Node). n.bounds) (λ n. n.size) (c.levels.level + 1) c.len-in-levels.result (chunks c.args.fanout l)) c.deref-in-levels.ensures.value
+    ∙ ap (λ n. nodes_over (λ (n : Node). n.bounds) (λ n. n.size) (c.levels.level + 1) n (chunks c.args.fanout sorted)) numbered in
     let after : c.extend_from_slice.new.self.items ≡ nodes ++ sorted = c.in_ok-extend_from_slice.ensures.items ∙ ap (λ l. nodes ++ l) c.deref-in-levels-2.ensures.value in
     record {
       counted = level_counted c.args.fanout several c.levels.level nodes made sorted above c.extend_from_slice.new.self.items c.levels.invariant.counted more ordered new after;

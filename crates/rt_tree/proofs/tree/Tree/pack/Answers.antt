@@ -29,9 +29,10 @@ invariant_of-result c =
     let entries = c.in_ok-entries.ensures ∙ ap (λ l. joined (groups (λ (e : Entry). e.bounds) c.args.fanout l)) c.deref.ensures.value in
     let nodes = c.in_ok-nodes.ensures ∙ ap (λ l. all_nodes c.args.fanout (nodes_over (λ (e : Entry). e.bounds) (λ _. 1) 1 0 (chunks c.args.fanout l))) c.deref-2.ensures.value in
     let whole = packed_is c.args.fanout c.args.table c.sort_unstable_by_key.new.self.items c.in_ok-entries.entries.items c.in_ok-nodes.nodes.items c.requires.several in_order entries nodes in
-    let long : length c.in_ok-entries.entries.items ≡ length c.args.table = ap (λ (t : Packed). length t.entries) whole ∙ length-packed c.args.fanout c.args.table c.requires.several in
-    (subst IsSound (sym whole) (pack_of-IsSound c.args.fanout c.args.table c.requires.several c.into_entries-entries.ensures.table),
-     c.new-levels.ensures.sizes ∙ ap (λ n. level_sizes n c.args.fanout) (c.len.ensures.value ∙ sym long))
+    let long : length c.in_ok-entries.entries.items ≡ length c.args.table = ap (λ (t : Packed). length t.entries) whole ∙ length-packed c.args.fanout c.args.table c.requires.several in (
+      subst IsSound (sym whole) (pack_of-IsSound c.args.fanout c.args.table c.requires.several c.into_entries-entries.ensures.table),
+      c.new-levels.ensures.sizes ∙ ap (λ n. level_sizes n c.args.fanout) (c.len.ensures.value ∙ sym long),
+    )
 
 pub all_nodes-requires-clause-few : goal.all_nodes-requires-clause-few
 all_nodes-requires-clause-few c =
