@@ -3,7 +3,8 @@ use Rattle.std.proofs.Common.{◌≡◌, ◌∷◌, [], refl, codes, true, false
 use Rattle.clap.specs.Words.{fault_of, takes}
 use Rattle.clap.specs.declared.error.kind.ErrorKind.TheVariants as kind
 use Rattle.clap.proofs.OnLiterals.{clap_on_literals}
-use Rattle.rt_command.specs.Invocations.{filter_app, invocation_of}
+use Rattle.rt_command.specs.Invocations.{arg_fault_of, filter_app, invocation_of}
+use Rattle.rt_command.specs.declared.invocation.ArgFault.TheVariants as fault
 
 abbrev line : List (List ℕ) → List (List ℕ)
 line words = codes "rtfilter" ∷ words
@@ -61,3 +62,14 @@ row_help_first = refl
 row_help_last : fault_of filter_app (line (codes "--fanout" ∷ codes "65" ∷ codes "--help" ∷ [])) ≡ kind.ValueValidation ∷ []
 unfolding clap_on_literals filter_app
 row_help_last = refl
+
+-- ---- how refusals are told
+
+row_help_told : arg_fault_of kind.DisplayHelp ≡ fault.Help
+row_help_told = refl
+
+row_validation_told : arg_fault_of kind.ValueValidation ≡ fault.Usage
+row_validation_told = refl
+
+row_memory_told : arg_fault_of kind.OutOfMemory ≡ fault.Memory
+row_memory_told = refl

@@ -1,8 +1,8 @@
 -- Convex polygons: which lists of vertices are one, which boxes one accepts, and what a box shares with one.
-use Rattle.std.specs.List.{count_by, fold, list_all, list_any}
-use Rattle.std.specs.Prelude.{◌≡◌, ◌<◌, ℕ, ◌+◌, ◌==◌, nat_le, Bool, true, not, ◌&&◌, if◌then◌else◌}
+use Rattle.std.specs.List.{count_by, fold, list_all, list_any, slice_get}
+use Rattle.std.specs.Prelude.{◌≡◌, ◌≢◌, ◌<◌, ℕ, ◌+◌, ◌==◌, nat_le, Bool, true, not, ◌&&◌, if◌then◌else◌}
 use Rattle.std.specs.Prelude.{ℤ, pos, ◌-ℤ◌, ◌*ℤ◌, int_le, int_lt}
-use Rattle.std.specs.Prelude.{List, [], ◌∷◌, ◌++◌, length, reverse, Result, Ok, Err}
+use Rattle.std.specs.Prelude.{List, [], ◌∷◌, ◌++◌, length, reverse, Some, Result, Ok, Err}
 use Rattle.rt_geo.specs.Boxes.{Rect, hull, inside, overlaps, rect_of}
 use Rattle.rt_geo.specs.Distances.{rect_at}
 use Rattle.rt_geo.specs.Laws.{Extent}
@@ -49,6 +49,18 @@ has_polygon_count vertices = nat_le 3 (length vertices) && nat_le (length vertic
 abbrev pub is_strictly_convex : List Point → Bool
 is_strictly_convex vertices =
     list_all (λ edge. count_by (is_left edge) vertices + 2 == length vertices) (edges vertices)
+
+-- the place of the vertex after the one at a place; after the last comes the first
+abbrev pub next_place : List Point → ℕ → ℕ
+next_place vertices i = if i + 1 == length vertices then 0 else i + 1
+
+-- the same vertex by vertex: for each edge, every other vertex lies strictly to its left
+abbrev pub IsStrictlyConvex : List Point → Type 0
+IsStrictlyConvex vertices =
+    (i j : ℕ) (from to other : Point)
+    → slice_get vertices i ≡ Some from → slice_get vertices (next_place vertices i) ≡ Some to
+    → slice_get vertices j ≡ Some other → j ≢ i → j ≢ next_place vertices i
+    → is_left (record { from = from; to = to }) other ≡ true
 
 -- the polygon of a list of vertices, counterclockwise: the list where it is strictly convex, otherwise its reverse
 -- where that is. Why there is none, otherwise

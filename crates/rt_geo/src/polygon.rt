@@ -4,13 +4,13 @@
 //! four corners of the box for each edge. One corner is enough: the one farthest to the left of the edge tells
 //! whether the box meets the half-plane of the edge, the opposite one whether it lies in it.
 
-ghost use Rattle.std.specs.Prelude.{◌≡◌, ◌<◌, ◌≤◌, ◌^◌, ◌-◌, true, not, ◌&&◌};
+ghost use Rattle.std.specs.Prelude.{◌≡◌, ◌<◌, ◌≤◌, ◌^◌, ◌-◌, true, not, ◌&&◌, IfOk};
 ghost use Rattle.std.specs.Prelude.{◌-ℤ◌, ◌*ℤ◌, unsigned_abs, ◌∷◌, length, slice_index_or};
 ghost use Rattle.std.specs.List.{count_by, list_all};
 ghost use Rattle.rt_geo.specs.Boxes.{IsRect};
 ghost use Rattle.rt_geo.specs.Lemmas.HalfPlanes.{corner, leftmost_corner, rightmost_corner};
 ghost use Rattle.rt_geo.specs.Polygons.{bounding_box, cross, edges, is_left, lies_in_half_plane, meets_half_plane};
-ghost use Rattle.rt_geo.specs.Polygons.{has_polygon_count, is_strictly_convex, polygon_of};
+ghost use Rattle.rt_geo.specs.Polygons.{IsStrictlyConvex, has_polygon_count, is_strictly_convex, polygon_of};
 ghost use Rattle.rt_geo.specs.Shapes.{state_by};
 
 use crate::bounds::{Bounds, hull, inside, overlaps};
@@ -73,7 +73,8 @@ impl Polygon {
     /// [`PolygonFault::Count`] where there are not 3 to 16 of them, [`PolygonFault::NotConvex`] where there
     /// are and they aren't strictly convex either way round, as where three are in line.
     pub fn new(points: &[Point]) -> Result<Polygon, PolygonFault>
-        ensures { result ≡ polygon_of points.now }
+        ensures value { result ≡ polygon_of points.now }
+        ensures convex { IfOk result IsStrictlyConvex }
     {
         if points.len() < FEWEST_VERTICES || points.len() > MOST_VERTICES {
             return Err(PolygonFault::Count);
@@ -264,7 +265,8 @@ fn collected(points: &[Point]) -> ArrayVec<Point, MOST_VERTICES>
 fn of_convex(vertices: ArrayVec<Point, MOST_VERTICES>) -> Polygon
     requires count { has_polygon_count vertices.items ≡ true }
     requires convex { is_strictly_convex vertices.items ≡ true }
-    ensures { result ≡ vertices.items }
+    ensures value { result ≡ vertices.items }
+    ensures convex { IsStrictlyConvex result }
 {
     Polygon {
         bounds: bounding_box(&vertices),

@@ -47,6 +47,9 @@ pushed ids new entries entry kept box absent u room = record {
   ids_are = λ id. u.0 id ∙ either (int_eq id entry.id) (is_eq (int_cmp entry.id id)) (contains int_cmp ids id) (sym (tie entry.id id)) ∙ ap (λ b. b || int_eq id entry.id) (kept.ids_are id) ∙ sym (has_id-push entries entry id);
 }
 
+pub int_eq-sym : (a b : ℤ) → int_eq a b ≡ int_eq b a
+int_eq-sym a b = grind (arith, ints)
+
 -- a table without entries
 pub IsIndexed-empty : (ids : BTreeSet ℤ) → ((id : ℤ) → contains int_cmp ids id ≡ false) → IsIndexed ids []
 unfolding IsDistinct

@@ -8,7 +8,10 @@
 #![tactic(auto)]
 
 mod levels;
+mod packing;
 mod table;
+mod tree;
 
 pub use levels::Levels;
 pub use table::{PushFault, Table};
+pub use tree::{Node, NodeNo, Tree};

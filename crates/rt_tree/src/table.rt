@@ -84,6 +84,16 @@ impl Table {
         self.entries.as_slice()
     }
 
+    // The entries alone.
+    pub(crate) fn into_entries(self) -> Vec<Entry>
+        ensures value { result.items ≡ self }
+        ensures table { IsTable self }
+    {
+        let Table { entries, ids } = self;
+        drop(ids);
+        entries
+    }
+
     /// Adds an entry last. `Repeated` exactly where its id is there, and then no memory is taken; `Memory` where
     /// there was none for it. After either the table is as it was.
     pub fn push(&mut self, entry: Entry) -> Result<(), PushFault>
