@@ -1,18 +1,22 @@
 -- A table with one more entry.
-use Rattle.std.proofs.Common.{◌≡◌, ◌∙◌, ◌<◌, ℤ, Bool, true, false, ◌||◌, cond, List, [], ◌∷◌, ◌++◌, length, refl, sym, ap, arith, length-append}
+use Rattle.std.proofs.Common.{◌≡◌, ◌∙◌, ◌<◌, ℤ, Bool, true, false, ◌||◌, cond, List, [], ◌∷◌, ◌++◌, length, refl, sym, ap, subst, arith, length-append}
 use Rattle.std.specs.BTreeSet.{BTreeSet, Updates, contains}
+use Rattle.std.specs.List.{IsDistinct, list_any}
 use Rattle.std.specs.Ordering.{int_cmp, int_eq, is_eq}
 use Rattle.std.proofs.Math.Bool.{or-false}
+use Rattle.std.proofs.lemmas.Cmp.{int_eq_equiv}
 use Rattle.std.proofs.lemmas.Int.{ints}
+use Rattle.std.proofs.lemmas.List.{map-append}
+use Rattle.std.proofs.lemmas.List.Elements.{All-nil, All-push}
 use Rattle.std.proofs.lemmas.List.Folds.{list_any-append}
+use Rattle.std.proofs.lemmas.Map.Keys.{IsDistinct-push}
+use Rattle.rt_geo.specs.Entries.{HasBox}
 use Rattle.rt_geo.specs.declared.entry.Entry.{Entry}
-use Rattle.rt_tree.specs.Entries.{AreDistinct, IsTable, has_id, most_entries}
+use Rattle.rt_tree.specs.Entries.{IsTable, has_id, ids_of, most_entries}
+use Rattle.rt_tree.specs.Indexes.{IsIndexed}
 
 tie : (a b : ℤ) → is_eq (int_cmp a b) ≡ int_eq b a
 tie a b = grind (arith, ints)
-
-int_eq-sym : (a b : ℤ) → int_eq a b ≡ int_eq b a
-int_eq-sym a b = grind (arith, ints)
 
 has_id-push : (entries : List Entry) (entry : Entry) (id : ℤ) → has_id (entries ++ entry ∷ []) id ≡ (has_id entries id || int_eq id entry.id)
 has_id-push entries entry id = list_any-append (λ (e : Entry). int_eq id e.id) entries (entry ∷ []) ∙ ap (λ b. has_id entries id || b) (or-false (int_eq id entry.id))
@@ -22,23 +26,34 @@ either a true true e = refl
 either a true false e = sym e
 either a false c e = sym (ap (λ x. c || x) e ∙ or-false c)
 
-not_either : (a b : Bool) → (a || b) ≡ false → (a ≡ false) × (b ≡ false)
-not_either true b e = cc
-not_either false b e = (refl, e)
+-- an entry has the id exactly where the id is among theirs
+pub has_id-ids_of : (entries : List Entry) (id : ℤ) → list_any (int_eq id) (ids_of entries) ≡ has_id entries id
+has_id-ids_of [] id = refl
+has_id-ids_of (e ∷ entries) id = ap (λ b. int_eq id e.id || b) (has_id-ids_of entries id)
 
-distinct-push : (entries : List Entry) (entry : Entry) → AreDistinct entries → has_id entries entry.id ≡ false → AreDistinct (entries ++ entry ∷ [])
-distinct-push [] entry d h = (refl, tt)
-distinct-push (e ∷ entries) entry d h =
-    let parts = not_either (int_eq entry.id e.id) (has_id entries entry.id) h in (
-      has_id-push entries entry e.id ∙ rw (d.0, int_eq-sym e.id entry.id, parts.0) refl,
-      distinct-push entries entry d.1 parts.1,
-    )
+IsTable-push : (entries : List Entry) (entry : Entry) → IsTable entries → has_id entries entry.id ≡ false → HasBox entry → length entries < most_entries
+    → IsTable (entries ++ entry ∷ [])
+IsTable-push entries entry t new box room = record {
+  distinct = subst (IsDistinct int_eq) (sym (map-append (λ (e : Entry). e.id) entries (entry ∷ []))) (IsDistinct-push int_eq_equiv (ids_of entries) entry.id t.distinct (has_id-ids_of entries entry.id ∙ new));
+  boxes = All-push HasBox entries entry t.boxes box;
+  few = omega (arith, length-append entries (entry ∷ []), room);
+}
 
 -- the entry stands last, and its id beside the others
-pub pushed : (ids new : BTreeSet ℤ) (entries : List Entry) (entry : Entry) → IsTable ids entries → contains int_cmp ids entry.id ≡ false
-    → Updates int_cmp ids new entry.id true → length entries < most_entries → IsTable new (entries ++ entry ∷ [])
-pushed ids new entries entry t absent u room = record {
-  ids_are = λ id. u.0 id ∙ either (int_eq id entry.id) (is_eq (int_cmp entry.id id)) (contains int_cmp ids id) (sym (tie entry.id id)) ∙ ap (λ b. b || int_eq id entry.id) (t.ids_are id) ∙ sym (has_id-push entries entry id);
-  distinct = distinct-push entries entry t.distinct (sym (t.ids_are entry.id) ∙ absent);
-  few = omega (arith, length-append entries (entry ∷ []), room);
+pub pushed : (ids new : BTreeSet ℤ) (entries : List Entry) (entry : Entry) → IsIndexed ids entries → HasBox entry → contains int_cmp ids entry.id ≡ false
+    → Updates int_cmp ids new entry.id true → length entries < most_entries → IsIndexed new (entries ++ entry ∷ [])
+pushed ids new entries entry kept box absent u room = record {
+  table = IsTable-push entries entry kept.table (sym (kept.ids_are entry.id) ∙ absent) box room;
+  ids_are = λ id. u.0 id ∙ either (int_eq id entry.id) (is_eq (int_cmp entry.id id)) (contains int_cmp ids id) (sym (tie entry.id id)) ∙ ap (λ b. b || int_eq id entry.id) (kept.ids_are id) ∙ sym (has_id-push entries entry id);
+}
+
+pub int_eq-sym : (a b : ℤ) → int_eq a b ≡ int_eq b a
+int_eq-sym a b = grind (arith, ints)
+
+-- a table without entries
+pub IsIndexed-empty : (ids : BTreeSet ℤ) → ((id : ℤ) → contains int_cmp ids id ≡ false) → IsIndexed ids []
+unfolding IsDistinct
+IsIndexed-empty ids none = record {
+  table = record { distinct = tt; boxes = All-nil HasBox; few = omega arith };
+  ids_are = none;
 }

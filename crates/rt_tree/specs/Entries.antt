@@ -1,25 +1,24 @@
 -- Entries with distinct ids.
-use Rattle.std.specs.Prelude.{◌≡◌, ◌≤◌, ℕ, ℤ, Bool, false, List, [], ◌∷◌, length}
-use Rattle.std.specs.BTreeSet.{BTreeSet, contains}
-use Rattle.std.specs.List.{list_any}
-use Rattle.std.specs.Ordering.{int_cmp, int_eq}
+use Rattle.std.specs.Prelude.{◌≤◌, ℕ, ℤ, Bool, List, length, map}
+use Rattle.std.specs.List.{All, IsDistinct, list_any}
+use Rattle.std.specs.Ordering.{int_eq}
+use Rattle.rt_geo.specs.Entries.{HasBox}
 use Rattle.rt_geo.specs.declared.entry.Entry.{Entry}
+
+-- the ids of the entries
+abbrev pub ids_of : List Entry → List ℤ
+ids_of entries = map (λ e. e.id) entries
 
 -- an entry has this id
 abbrev pub has_id : List Entry → ℤ → Bool
 has_id entries id = list_any (λ e. int_eq id e.id) entries
 
--- no two entries have one id
-abbrev pub AreDistinct : List Entry → Type 0
-AreDistinct [] = Unit {0}
-AreDistinct (e ∷ entries) = (has_id entries e.id ≡ false) × AreDistinct entries
-
 -- the most entries of a table
 abbrev pub most_entries : ℕ
 most_entries = 16777216
 
--- a table: the ids that it keeps are those of its entries, which are distinct and no more than the most
-pub record IsTable (ids : BTreeSet ℤ) (entries : List Entry) : Type 0 where
-  pub ids_are : (id : ℤ) → contains int_cmp ids id ≡ has_id entries id
-  pub distinct : AreDistinct entries
+-- the entries of a table: no two have one id, each has its box, and they are no more than the most
+pub record IsTable (entries : List Entry) : Type 0 where
+  pub distinct : IsDistinct int_eq (ids_of entries)
+  pub boxes : All HasBox entries
   pub few : length entries ≤ most_entries

@@ -1,1 +1,7 @@
 pub mod Entries
+pub mod Indexes
+pub mod Levels
+pub mod Packed
+pub mod Packing
+pub mod SortKeys
+pub mod Sorting

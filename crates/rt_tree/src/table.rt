@@ -1,7 +1,8 @@
 //! Entries with distinct ids.
 
 ghost use Rattle.std.specs.Prelude.{◌≡◌, ◌==◌, ◌<◌, ◌≤◌, ◌++◌, ◌∷◌, ◌↔◌, [], length, slice_get, Ok, Err, Some, OnOk, OnErr, true, false};
-ghost use Rattle.rt_tree.specs.Entries.{AreDistinct, has_id, most_entries};
+ghost use Rattle.rt_geo.specs.Entries.{HasBox};
+ghost use Rattle.rt_tree.specs.Entries.{IsTable, has_id, most_entries};
 
 use rt_geo::Entry;
 use std::alloc::Global;
@@ -28,13 +29,13 @@ pub struct Table {
 impl Model for Table {
     ghost use Rattle.std.specs.Prelude.{List};
     ghost use Rattle.rt_geo.specs.declared.entry.Entry.{Entry};
-    ghost use Rattle.rt_tree.specs.Entries.{IsTable};
+    ghost use Rattle.rt_tree.specs.Indexes.{IsIndexed};
 
     ghost Value = { List Entry };
 
     ghost view = { λ t. t.entries.items };
 
-    ghost invariant = { λ t. IsTable t.ids t.entries.items };
+    ghost invariant = { λ t. IsIndexed t.ids t.entries.items };
 }
 
 impl Table {
@@ -54,8 +55,7 @@ impl Table {
     /// How many entries there are.
     pub fn len(&self) -> u32
         ensures value { result ≡ length self.now }
-        ensures few { length self.now ≤ most_entries }
-        ensures distinct { AreDistinct self.now }
+        ensures table { IsTable self.now }
     {
         self.entries.len() as u32
     }
@@ -70,16 +70,28 @@ impl Table {
     /// The entry at a place, counted from 0 in the order pushed.
     pub fn get(&self, place: u32) -> Entry
         requires { place < length self.now }
-        ensures { slice_get self.now place ≡ Some result }
+        ensures value { slice_get self.now place ≡ Some result }
+        ensures has_box { HasBox result }
     {
         self.entries[place as usize]
     }
 
     /// The entries, in the order pushed.
     pub fn entries(&self) -> &[Entry]
-        ensures { result.now ≡ self.now }
+        ensures value { result.now ≡ self.now }
+        ensures table { IsTable self.now }
     {
         self.entries.as_slice()
+    }
+
+    // The entries alone.
+    pub(crate) fn into_entries(self) -> Vec<Entry>
+        ensures value { result.items ≡ self }
+        ensures table { IsTable self }
+    {
+        let Table { entries, ids } = self;
+        drop(ids);
+        entries
     }
 
     /// Adds an entry last. `Repeated` exactly where its id is there, and then no memory is taken; `Memory` where
@@ -91,6 +103,8 @@ impl Table {
         ensures repeated { (result ≡ Err PushFault.Repeated) ↔ (has_id self.old entry.id ≡ true) }
         ensures err { OnErr result (self.new ≡ self.old) }
     {
+        // (read, so that its sides are known to be those of a box)
+        let _least = entry.bounds.min_x();
         if self.ids.contains(&entry.id) {
             return Err(PushFault::Repeated);
         }

@@ -1,0 +1,147 @@
+-- Lists cut into chunks.
+use Rattle.std.proofs.Common.{◌≡◌, ◌<◌, ◌≤◌, ◌+◌, ◌-◌, ◌*◌, ◌/◌, ◌%◌, min, ℕ, zero, suc, List, [], ◌∷◌, ◌++◌, length, map, take, drop, refl, sym, ◌∙◌, ap, subst, arith, add-one, append_assoc, inl, inr, ◌⊎◌, Bool, true, false, nat_le}
+use Rattle.std.proofs.lemmas.Bool.Decides.{nat_tests}
+use Rattle.std.specs.Int.{div_ceil}
+use Rattle.std.specs.List.{All, AllByRecursion, flat_map}
+use Rattle.std.proofs.lemmas.List.Elements.{All-drop, All-take}
+use Rattle.std.specs.Simd.{first_chunks}
+use native.Mathlib.Nat.{add-mul}
+use Rattle.std.proofs.Math.Nat.{zero-div, zero-mod, eq-or-lt_of_le, lt_of_not-le, mul-le-mul_right}
+use Rattle.std.proofs.lemmas.Grind.{div_ceil_times}
+use Rattle.std.proofs.lemmas.List.{append-nil, drop-append-le, drop-map, drop_all, length-append, length-drop, length-map, length-take, nil_from_length, take-append-drop, take-append-le, take-map, take_all}
+use Rattle.rt_tree.specs.Packing.{chunks, joined}
+
+-- ---- how many there are
+
+le_or_lt_by : (a b : ℕ) (test : Bool) → nat_le a b ≡ test → (a ≤ b) ⊎ (b < a)
+le_or_lt_by a b true e = inl (grind (arith, nat_tests))
+le_or_lt_by a b false e = inr (grind (arith, nat_tests))
+
+-- one is at most the other, or above it
+pub le_or_lt : (a b : ℕ) → (a ≤ b) ⊎ (b < a)
+le_or_lt a b = le_or_lt_by a b (nat_le a b) refl
+
+not_above : (d e n len : ℕ) → len ≤ d * n → e * n < len + n → d < e → ⊥
+not_above d e n len low high above = omega (arith, low, high, mul-le-mul_right n above)
+
+-- the one number that rounds a quotient up
+ceil_unique : (d e n len : ℕ) → len ≤ d * n → d * n < len + n → len ≤ e * n → e * n < len + n → d ≡ e
+ceil_unique d e n len low high low' high' =
+    let not_less : d < e → ⊥ = not_above d e n len low high' in
+    let not_more : e < d → ⊥ = not_above e d n len low' high in
+    omega arith
+
+one_more : (d e n len : ℕ) → len ≤ d * n → d * n < len + n → len - n ≤ e * n → e * n < len - n + n → 0 < len → d ≡ e + 1
+one_more d e n len low high low' high' there =
+    let times = add-mul e 1 n in
+    elim (le_or_lt n len) [
+      | inl h ↦ ceil_unique d (e + 1) n len low high (omega (arith, h)) (omega (arith, h))
+      | inr h ↦ let none : e ≡ 0 = ceil_unique e 0 n 0 (omega arith) (omega (arith, h)) (omega arith) (omega (arith, h)) in
+          let nothing = ap (λ k. k * n) none in ceil_unique d (e + 1) n len low high (omega (arith, h)) (omega (arith, h))
+    ]
+
+pub div_ceil-step : (len n : ℕ) → 0 < n → 0 < len → div_ceil len n ≡ suc (div_ceil (len - n) n)
+div_ceil-step len n some there =
+    let whole = div_ceil_times len n some in
+    let rest = div_ceil_times (len - n) n some in
+    one_more (div_ceil len n) (div_ceil (len - n) n) n len whole.0 whole.1 rest.0 rest.1 there ∙ add-one (div_ceil (len - n) n)
+
+pub div_ceil-zero : (n : ℕ) → div_ceil 0 n ≡ 0
+div_ceil-zero n = rw (zero-div n, zero-mod n) refl
+
+-- ---- one chunk after the other
+
+pub chunks-nil : {X : Type 0} (n : ℕ) → chunks {X = X} n [] ≡ []
+chunks-nil n = ap (λ k. first_chunks n k []) (div_ceil-zero n)
+
+pub chunks-step : {X : Type 0} (n : ℕ) (xs : List X) → 0 < n → 0 < length xs → chunks n xs ≡ take n xs ∷ chunks n (drop n xs)
+chunks-step n xs some more =
+    ap (λ k. first_chunks n k xs) (div_ceil-step (length xs) n some more)
+    ∙ ap (λ len. take n xs ∷ first_chunks n (div_ceil len n) (drop n xs)) (sym (length-drop n xs))
+
+-- ---- what the chunks hold
+
+joined-first_chunks : {X : Type 0} (n k : ℕ) (xs : List X) → length xs ≤ k * n → joined (first_chunks n k xs) ≡ xs
+joined-first_chunks n zero [] few = refl
+joined-first_chunks n zero (x ∷ xs) few = absurd (omega (arith, few))
+joined-first_chunks n (suc k) xs few =
+    ap (λ l. take n xs ++ l) (joined-first_chunks n k (drop n xs) (omega (arith, few, length-drop n xs))) ∙ take-append-drop n xs
+
+-- all of the list, in its order
+pub joined-chunks : {X : Type 0} (n : ℕ) (xs : List X) → 0 < n → joined (chunks n xs) ≡ xs
+joined-chunks n xs some = joined-first_chunks n (div_ceil (length xs) n) xs (div_ceil_times (length xs) n some).0
+
+first_chunks-size : {X : Type 0} (n k : ℕ) (xs : List X) → 0 < n → k * n < length xs + n
+    → AllByRecursion (λ chunk. (0 < length chunk) × (length chunk ≤ n)) (first_chunks n k xs)
+first_chunks-size n zero xs some few = tt
+first_chunks-size n (suc k) xs some few =
+    let long = length-take n xs in
+    ((omega (arith, few), omega arith), first_chunks-size n k (drop n xs) some (omega (arith, few, length-drop n xs)))
+
+-- a chunk has an element, and no more than the size
+pub chunks-size : {X : Type 0} (n : ℕ) (xs : List X) → 0 < n → AllByRecursion (λ chunk. (0 < length chunk) × (length chunk ≤ n)) (chunks n xs)
+chunks-size n xs some = first_chunks-size n (div_ceil (length xs) n) xs some (div_ceil_times (length xs) n some).1
+
+length-first_chunks : {X : Type 0} (n k : ℕ) (xs : List X) → length (first_chunks n k xs) ≡ k
+length-first_chunks n zero xs = refl
+length-first_chunks n (suc k) xs = ap (λ l. suc l) (length-first_chunks n k (drop n xs))
+
+pub length-chunks : {X : Type 0} (n : ℕ) (xs : List X) → length (chunks n xs) ≡ div_ceil (length xs) n
+length-chunks n xs = length-first_chunks n (div_ceil (length xs) n) xs
+
+map-first_chunks : {X Y : Type 0} (f : X → Y) (n k : ℕ) (xs : List X) → first_chunks n k (map f xs) ≡ map (map f) (first_chunks n k xs)
+map-first_chunks f n zero xs = refl
+map-first_chunks f n (suc k) xs = rw (take-map f n xs, drop-map f n xs) (ap (λ l. map f (take n xs) ∷ l) (map-first_chunks f n k (drop n xs)))
+
+pub map-chunks : {X Y : Type 0} (f : X → Y) (n : ℕ) (xs : List X) → chunks n (map f xs) ≡ map (map f) (chunks n xs)
+map-chunks f n xs = ap (λ len. first_chunks n (div_ceil len n) (map f xs)) (length-map xs f) ∙ map-first_chunks f n (div_ceil (length xs) n) xs
+
+-- what holds of each element holds of each element of each chunk
+first_chunks-All : {X : Type 0} (P : X → Type 0) (n k : ℕ) (xs : List X) → All P xs → AllByRecursion (All P) (first_chunks n k xs)
+first_chunks-All P n zero xs a = tt
+first_chunks-All P n (suc k) xs a = (All-take P n xs a, first_chunks-All P n k (drop n xs) (All-drop P n xs a))
+
+pub chunks-All : {X : Type 0} (P : X → Type 0) (n : ℕ) (xs : List X) → All P xs → AllByRecursion (All P) (chunks n xs)
+chunks-All P n xs = first_chunks-All P n (div_ceil (length xs) n) xs
+
+-- ---- the chunks of lists that stand behind one another
+
+-- behind full chunks others begin anew
+pub chunks-append : {X : Type 0} (n k : ℕ) (xs ys : List X) → 0 < n → length xs ≡ k * n → chunks n (xs ++ ys) ≡ chunks n xs ++ chunks n ys
+chunks-append n zero [] ys some full = ap (λ l. l ++ chunks n ys) (sym (chunks-nil n))
+chunks-append n zero (x ∷ xs) ys some full = absurd (omega (arith, full))
+chunks-append n (suc k) xs ys some full =
+    let long = length-append xs ys in
+    chunks-step n (xs ++ ys) some (omega (arith, full))
+    ∙ rw (take-append-le n xs ys (omega (arith, full)), drop-append-le n xs ys (omega (arith, full)))
+    (ap (λ l. take n xs ∷ l) (chunks-append n k (drop n xs) ys some (omega (arith, full, length-drop n xs))))
+    ∙ ap (λ l. l ++ chunks n ys) (sym (chunks-step n xs some (omega (arith, full))))
+
+flat_map-empty : {X Y : Type 0} (f : List X → List Y) (n k : ℕ) → f [] ≡ [] → flat_map f (first_chunks n k []) ≡ []
+flat_map-empty {X} f n zero e = refl
+flat_map-empty {X} f n (suc k) e = rw (take_nil n, drop_nil n, e) (flat_map-empty f n k e)
+  where
+    take_nil : (n : ℕ) → ◌≡◌ {A = List X} (take n []) []
+    take_nil n = take_all n [] (omega arith)
+
+    drop_nil : (n : ℕ) → ◌≡◌ {A = List X} (drop n []) []
+    drop_nil n = drop_all n [] (omega arith)
+
+-- chunks of chunks whose size is a multiple are chunks of the whole, the elements of each being put into some order first
+module _ {X : Type 0} (h : List X → List X) (keeps : (s : List X) → length (h s) ≡ length s) (side n : ℕ) (some : 0 < n) where
+  none : h [] ≡ []
+  none = nil_from_length (h []) (keeps [])
+
+  first_chunks_of : (k : ℕ) (xs : List X) → flat_map (λ s. chunks n (h s)) (first_chunks (side * n) k xs) ≡ chunks n (flat_map h (first_chunks (side * n) k xs))
+  first_chunks_of zero xs = sym (chunks-nil n)
+  first_chunks_of (suc k) xs = elim (le_or_lt (side * n) (length xs)) [
+    | inl wide ↦
+        let full : length (h (take (side * n) xs)) ≡ side * n = omega (arith, keeps (take (side * n) xs), length-take (side * n) xs) in
+        ap (λ l. chunks n (h (take (side * n) xs)) ++ l) (first_chunks_of k (drop (side * n) xs))
+        ∙ sym (chunks-append n side (h (take (side * n) xs)) (flat_map h (first_chunks (side * n) k (drop (side * n) xs))) some full)
+    | inr narrow ↦ rw (drop_all (side * n) xs (omega arith)) (rw (flat_map-empty (λ s. chunks n (h s)) (side * n) k (ap (chunks n) none ∙ chunks-nil n), flat_map-empty h (side * n) k none)
+        (append-nil (chunks n (h (take (side * n) xs))) ∙ ap (chunks n) (sym (append-nil (h (take (side * n) xs))))))
+  ]
+
+  pub chunks_of-chunks : (xs : List X) → flat_map (λ s. chunks n (h s)) (chunks (side * n) xs) ≡ chunks n (flat_map h (chunks (side * n) xs))
+  chunks_of-chunks xs = first_chunks_of (div_ceil (length xs) (side * n)) xs

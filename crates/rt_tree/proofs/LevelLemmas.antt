@@ -1,0 +1,69 @@
+-- The sizes of levels.
+use Rattle.std.proofs.Common.{◌≡◌, ◌∙◌, ◌<◌, ◌≤◌, ◌+◌, ◌*◌, ◌/◌, ◌^◌, ◌-◌, ℕ, zero, suc, Bool, true, false, cond, nat_le, if◌then◌else◌, List, [], ◌∷◌, ◌++◌, refl, sym, ap, arith, append_assoc, subst, inl, inr}
+use Rattle.std.specs.Int.{div_ceil}
+use Rattle.std.proofs.Math.Nat.{div-add-mod, eq-or-lt_of_le, mul-le-mul_left, pow-succ'}
+use Rattle.std.proofs.lemmas.Bool.Decides.{nat_tests}
+use Rattle.std.proofs.lemmas.Grind.{div_ceil_times}
+use Rattle.rt_tree.specs.Levels.{sizes_above}
+
+-- a level has about half as many nodes as the one below it, or fewer
+pub div_ceil-halves : (size fanout : ℕ) → 2 ≤ fanout → 2 * div_ceil size fanout ≤ size + 1
+div_ceil-halves size fanout two = omega (arith, div-add-mod size fanout, mul-le-mul_left (size / fanout) two)
+
+pub div_ceil-positive : (size fanout : ℕ) → 2 ≤ fanout → 0 < size → 0 < div_ceil size fanout
+div_ceil-positive size fanout two some = grind (arith, div_ceil_times)
+
+further : (b : Bool) (rest other : List ℕ) → (b ≡ false → rest ≡ other) → cond b [] rest ≡ cond b [] other
+further true rest other h = refl
+further false rest other h = h refl
+
+-- what is above a level with more than one above it needs less fuel
+less_fuel : (above size fuel : ℕ) → 2 * above ≤ size + 1 → size ≤ suc fuel → nat_le above 1 ≡ false → above ≤ fuel
+less_fuel above size fuel h f e = grind (arith, nat_tests)
+
+-- any fuel that is no less than the size is enough
+pub sizes_above-fuel : (fuel more fanout size : ℕ) → 2 ≤ fanout → 0 < size → size ≤ fuel → size ≤ more
+    → sizes_above fuel fanout size ≡ sizes_above more fanout size
+sizes_above-fuel zero more fanout size two some f g = absurd (omega arith)
+sizes_above-fuel (suc fuel) zero fanout size two some f g = absurd (omega arith)
+sizes_above-fuel (suc fuel) (suc more) fanout size two some f g =
+    let above = div_ceil size fanout in
+    let halves = div_ceil-halves size fanout two in
+    let positive = div_ceil-positive size fanout two some in
+    ap (λ rest. above ∷ rest) (further (nat_le above 1) _ _ (λ e. sizes_above-fuel fuel more fanout above two positive (less_fuel above size fuel halves f e) (less_fuel above size more halves g e)))
+
+-- one level after another: the level above one of so many items, and those above that
+pub sizes_above-step : (fanout size : ℕ) → 2 ≤ fanout → 0 < size
+    → let above = div_ceil size fanout in sizes_above size fanout size ≡ above ∷ (if nat_le above 1 then [] else sizes_above above fanout above)
+sizes_above-step fanout zero two some = absurd (omega arith)
+sizes_above-step fanout (suc size) two some =
+    let above = div_ceil (suc size) fanout in
+    let halves = div_ceil-halves (suc size) fanout two in
+    let positive = div_ceil-positive (suc size) fanout two some in
+    ap (λ rest. above ∷ rest) (further (nat_le above 1) _ _ (λ e. sizes_above-fuel size above fanout above two positive (less_fuel above (suc size) size halves (omega arith) e) (omega arith)))
+
+-- ---- a loop that has told the levels up to one of so many
+
+-- it tells one more, which isn't the last one
+pub course_more : (levels : List ℕ) (fanout size : ℕ) (whole : List ℕ) → 2 ≤ fanout → 0 < size
+    → let above = div_ceil size fanout in (above ≡ 1 → ⊥) → levels ++ sizes_above size fanout size ≡ whole
+    → (levels ++ above ∷ []) ++ sizes_above above fanout above ≡ whole
+course_more levels fanout size whole two some more e =
+    let above = div_ceil size fanout in
+    let positive = div_ceil-positive size fanout two some in
+    let several : nat_le above 1 ≡ false = grind (arith, nat_tests) in
+    append_assoc levels (above ∷ []) _ ∙ ap (λ l. levels ++ l) (sym (sizes_above-step fanout size two some ∙ rw several refl)) ∙ e
+
+-- a level that isn't the last one leaves room for another
+pub room_more : (count size above : ℕ) → size ≤ 2 ^ (25 - count) → count ≤ 24 → 2 * above ≤ size + 1 → above ≤ 2 ^ (25 - (count + 1))
+room_more count size above room few halves =
+    let next : 25 - count ≡ suc (25 - (count + 1)) = omega arith in
+    let twice : 2 ^ (25 - count) ≡ 2 * 2 ^ (25 - (count + 1)) = ap (λ n. 2 ^ n) next ∙ pow-succ' 2 (25 - (count + 1)) in
+    omega arith
+
+-- one that has more than one node isn't the last one that there is room for
+pub few_more : (count above : ℕ) → above ≤ 2 ^ (25 - (count + 1)) → count ≤ 24 → 0 < above → (above ≡ 1 → ⊥) → count + 1 ≤ 24
+few_more count above room few some more = elim (eq-or-lt_of_le few) [ inl e ↦ absurd (more (omega (arith, last e))) | inr l ↦ omega arith ]
+  where
+    last : count ≡ 24 → above ≤ 1
+    last e = subst (λ n. above ≤ 2 ^ (25 - (n + 1))) e room

@@ -1,0 +1,66 @@
+-- Lists in the order of another list, or by another comparison.
+use Rattle.std.proofs.Common.{◌≡◌, ℕ, Ordering, List, [], ◌∷◌, ◌++◌, map, cond, true, false, refl, sym, ◌∙◌, ap, arith, length, IsPermutation, IsSorted}
+use Rattle.std.specs.List.{AllByRecursion, flat_map}
+use Rattle.std.specs.Ordering.{is_gt, nat_cmp}
+use Rattle.std.proofs.lemmas.Cmp.{nat_cmp_total}
+use Rattle.std.proofs.lemmas.List.{map-append}
+use Rattle.std.proofs.lemmas.Map.Lookups.{exact_unsigned}
+use Rattle.rt_tree.specs.Sorting.{put, sorted}
+use Rattle.rt_tree.proofs.SortingLemmas.{sorted-unique_by_all}
+
+-- what a sort of numbers gives
+pub numbers_sorted : (xs ys : List ℕ) → IsPermutation xs ys → IsSorted nat_cmp ys → ys ≡ sorted nat_cmp xs
+numbers_sorted = sorted-unique_by_all nat_cmp nat_cmp_total exact_unsigned
+
+-- ---- by what a function gives
+module _ {X Y : Type 0} (cmp : Y → Y → Ordering) (f : X → Y) where
+  put-map : (x : X) (xs : List X) → put cmp (f x) (map f xs) ≡ map f (put (λ a b. cmp (f a) (f b)) x xs)
+  put-map x [] = refl
+  put-map x (y ∷ ys) =
+      elim (is_gt (cmp (f x) (f y))) as (λ b. cond b (f y ∷ put cmp (f x) (map f ys)) (f x ∷ f y ∷ map f ys) ≡ map f (cond b (y ∷ put (λ a b. cmp (f a) (f b)) x ys) (x ∷ y ∷ ys))) [
+        | true ↦ ap (λ l. f y ∷ l) (put-map x ys)
+        | false ↦ refl
+      ]
+
+  pub sorted-map : (xs : List X) → sorted cmp (map f xs) ≡ map f (sorted (λ a b. cmp (f a) (f b)) xs)
+  sorted-map [] = refl
+  sorted-map (x ∷ xs) = ap (put cmp (f x)) (sorted-map xs) ∙ put-map x (sorted (λ a b. cmp (f a) (f b)) xs)
+
+-- ---- by another comparison that says the same of these elements
+module _ {X : Type 0} (cmp other : X → X → Ordering) (P : X → Type 0) (same : (x y : X) → P x → P y → cmp x y ≡ other x y) where
+  put-same : (x : X) (ys : List X) → P x → AllByRecursion P ys → put cmp x ys ≡ put other x ys
+  put-same x [] p a = refl
+  put-same x (y ∷ ys) p a = rw (same x y p a.0, put-same x ys p a.1) refl
+
+  all-put : (x : X) (ys : List X) → P x → AllByRecursion P ys → AllByRecursion P (put other x ys)
+  all-put x [] p a = (p, tt)
+  all-put x (y ∷ ys) p a = elim (is_gt (other x y)) as (λ b. AllByRecursion P (cond b (y ∷ put other x ys) (x ∷ y ∷ ys))) [
+    | true ↦ (a.0, all-put x ys p a.1)
+    | false ↦ (p, a)
+  ]
+
+  all-sorted : (xs : List X) → AllByRecursion P xs → AllByRecursion P (sorted other xs)
+  all-sorted [] a = tt
+  all-sorted (x ∷ xs) a = all-put x (sorted other xs) a.0 (all-sorted xs a.1)
+
+  pub sorted-same : (xs : List X) → AllByRecursion P xs → sorted cmp xs ≡ sorted other xs
+  sorted-same [] a = refl
+  sorted-same (x ∷ xs) a = ap (put cmp x) (sorted-same xs a.1) ∙ put-same x (sorted other xs) a.0 (all-sorted xs a.1)
+
+-- ---- lists of lists
+
+pub flat_map-same : {X Y : Type 0} (f g : X → List Y) (P : X → Type 0) → ((x : X) → P x → f x ≡ g x) → (xs : List X) → AllByRecursion P xs → flat_map f xs ≡ flat_map g xs
+flat_map-same f g P same [] a = refl
+flat_map-same f g P same (x ∷ xs) a = rw (same x a.0, flat_map-same f g P same xs a.1) refl
+
+pub map-flat_map : {X Y Z : Type 0} (f : Y → Z) (g : X → List Y) (xs : List X) → flat_map (λ x. map f (g x)) xs ≡ map f (flat_map g xs)
+map-flat_map f g [] = refl
+map-flat_map f g (x ∷ xs) = ap (λ l. map f (g x) ++ l) (map-flat_map f g xs) ∙ sym (map-append f (g x) (flat_map g xs))
+
+pub all_append : {X : Type 0} (P : X → Type 0) (xs ys : List X) → AllByRecursion P xs → AllByRecursion P ys → AllByRecursion P (xs ++ ys)
+all_append P [] ys a b = b
+all_append P (x ∷ xs) ys a b = (a.0, all_append P xs ys a.1 b)
+
+pub all_flat_map : {X Y : Type 0} (P : Y → Type 0) {Q : X → Type 0} (f : X → List Y) → ((x : X) → Q x → AllByRecursion P (f x)) → (xs : List X) → AllByRecursion Q xs → AllByRecursion P (flat_map f xs)
+all_flat_map P f holds [] a = tt
+all_flat_map P f holds (x ∷ xs) a = all_append P (f x) (flat_map f xs) (holds x a.0) (all_flat_map P f holds xs a.1)

@@ -1,0 +1,273 @@
+-- The tree that is packed over a table is sound.
+use Rattle.std.proofs.Common.{◌≡◌, ◌<◌, ◌≤◌, ◌+◌, ◌-◌, ◌*◌, ◌^◌, ℕ, zero, suc, List, [], ◌∷◌, ◌++◌, length, map, get_or, refl, sym, ◌∙◌, ap, subst, arith, add-one, append_assoc, inl, inr, length-append, All, IsPermutation}
+use Rattle.std.specs.Int.{div_ceil}
+use Rattle.std.specs.List.{AllByRecursion, flat_map, sum_by}
+use Rattle.std.proofs.lemmas.Grind.{flat_map-append}
+use Rattle.std.proofs.lemmas.List.{append-nil, get_or_default, nil_from_length}
+use Rattle.std.proofs.lemmas.List.Elements.{All-from_recursion, recursion_from_All}
+use Rattle.std.proofs.lemmas.List.Sorted.{All-permutation, IsPermutation-append_comm, IsPermutation-append_left, IsPermutation-append_right, IsPermutation-map, IsPermutation-refl, IsPermutation-sym, IsPermutation-trans, length_permutation}
+use Rattle.rt_geo.specs.declared.entry.Entry.{Entry}
+use Rattle.rt_tree.specs.Packed.{Packed, IsSound, IsSubtree, entries_under, height, no_node, node_at, root_of}
+use Rattle.rt_tree.specs.Packing.{chunks, groups, joined, nodes_from, nodes_over, pack_of}
+use Rattle.rt_tree.specs.Entries.{IsTable, ids_of}
+use Rattle.rt_tree.specs.Sorting.{sorted}
+use Rattle.rt_geo.specs.Entries.{HasBox}
+use Rattle.std.specs.Ordering.{int_cmp, int_eq, on}
+use Rattle.std.proofs.lemmas.Map.Keys.{IsDistinct-IsPermutation}
+use Rattle.rt_tree.proofs.EntryLemmas.{int_eq-sym}
+use Rattle.rt_tree.proofs.SortingLemmas.{IsPermutation-sorted}
+use Rattle.rt_tree.specs.declared.tree.Node.{Node}
+use Rattle.rt_tree.proofs.ChunkLemmas.{chunks-size, le_or_lt}
+use Rattle.rt_tree.proofs.OrderLemmas.{all_append}
+use Rattle.rt_tree.proofs.PackCounts.{IsCounted, counted_first, counted_more, cut, fewer, length-above, length-groups, weight-nodes_over, nodes_from-last, nodes_from-more}
+use Rattle.rt_tree.proofs.LoopLemmas.{get_or_behind}
+use Rattle.rt_tree.proofs.LevelLemmas.{div_ceil-positive}
+use Rattle.rt_tree.proofs.Permutations.{along_permutation}
+use Rattle.rt_tree.proofs.Soundness.{IsGroup, all_map, all_under_more, leaves_sound, leaves_under, length-nodes_over, over_sound, over_under, subtree_more, sum_by-ones, tree}
+use Rattle.rt_tree.proofs.TileLemmas.{groups-IsPermutation, groups-chunks, groups-moved, groups-nil}
+
+exchanged : {Y : Type 0} (a b c : List Y) → IsPermutation (a ++ (b ++ c)) (b ++ (a ++ c))
+exchanged a b c =
+    subst (λ l. IsPermutation l (b ++ (a ++ c))) (append_assoc a b c)
+    (subst (IsPermutation ((a ++ b) ++ c)) (append_assoc b a c) (IsPermutation-append_left c (a ++ b) (b ++ a) (IsPermutation-append_comm a b)))
+
+-- what stands under elements is moved with them
+flat_map-IsPermutation : {X Y : Type 0} (f : X → List Y) (xs ys : List X) → IsPermutation xs ys → IsPermutation (flat_map f xs) (flat_map f ys)
+flat_map-IsPermutation f =
+    along_permutation (λ xs ys. IsPermutation (flat_map f xs) (flat_map f ys)) (λ xs. IsPermutation-refl (flat_map f xs))
+    (λ x xs ys h. IsPermutation-append_right (f x) (flat_map f xs) (flat_map f ys) h) (λ x y xs. exchanged (f x) (f y) (flat_map f xs)) (λ xs ys zs h k. IsPermutation-trans _ _ _ h k)
+
+all_moved : {X : Type 0} (P : X → Type 0) (xs ys : List X) → IsPermutation xs ys → AllByRecursion P xs → AllByRecursion P ys
+all_moved P xs ys h a = recursion_from_All P ys (All-permutation P xs ys h (All-from_recursion P xs a))
+
+all_front : {X : Type 0} (P : X → Type 0) (xs ys : List X) → AllByRecursion P (xs ++ ys) → AllByRecursion P xs × AllByRecursion P ys
+all_front P [] ys a = (tt, a)
+all_front P (x ∷ xs) ys a = let k = all_front P xs ys a.1 in ((a.0, k.0), k.1)
+
+-- groups of the right size, of elements of which something holds
+pub all_groups : {X : Type 0} (fanout : ℕ) (P : X → Type 0) (gs : List (List X)) → AllByRecursion (λ g. (0 < length g) × (length g ≤ fanout)) gs → AllByRecursion P (joined gs) → AllByRecursion (IsGroup fanout P) gs
+all_groups fanout P [] a b = tt
+all_groups fanout P (g ∷ gs) a b = let k = all_front P g (joined gs) b in ((a.0, k.0), all_groups fanout P gs a.1 k.1)
+
+-- chunks are such groups
+pub chunk_groups : {X : Type 0} (fanout : ℕ) (P : X → Type 0) (gs : List (List X)) → 0 < fanout → gs ≡ chunks fanout (joined gs) → AllByRecursion P (joined gs) → AllByRecursion (IsGroup fanout P) gs
+chunk_groups fanout P gs some e a = all_groups fanout P gs (subst (AllByRecursion (λ g. (0 < length g) × (length g ≤ fanout))) (sym e) (chunks-size fanout (joined gs) some)) a
+
+level_of : (t : Packed) (h : ℕ) (n : Node) → IsSubtree t h n → n.level ≡ suc h
+level_of t zero n s = s.level
+level_of t (suc h) n s = s.level
+
+at_its_level : (t : Packed) (h : ℕ) (n : Node) → IsSubtree t h n → IsSubtree t (n.level - 1) n
+at_its_level t h n s = subst (λ k. IsSubtree t k n) (let e = level_of t h n s in omega (arith, e)) s
+
+module _ (fanout : ℕ) (several : 2 ≤ fanout) (es : List Entry) where
+  -- the nodes of the lower levels, numbered, and those of this level, as they were made
+  pub record IsBuilt (h : ℕ) (numbered made : List Node) : Type 0 where
+    pub nodes : AllByRecursion (IsSubtree (tree fanout es numbered) h) made
+    pub every : IsPermutation (flat_map (entries_under (tree fanout es numbered) h) made) es
+    pub lower : AllByRecursion (λ n. IsSubtree (tree fanout es numbered) (n.level - 1) n) numbered
+
+  -- one more level keeps that
+  climb : (h : ℕ) (numbered made : List Node) → 0 < length made → IsBuilt h numbered made
+      → IsBuilt (suc h) (numbered ++ joined (cut fanout several made)) (nodes_over (λ n. n.bounds) (λ n. n.size) (suc (suc h)) (length numbered) (cut fanout several made))
+  climb h numbered made there b =
+      let gs = cut fanout several made in
+      let ordered = joined gs in
+      let old = tree fanout es numbered in
+      let ns = numbered ++ ordered in
+      let new = tree fanout es ns in
+      let moved = groups-IsPermutation (λ (n : Node). n.bounds) made fanout several there in
+      let here = all_moved (IsSubtree old h) made ordered moved b.nodes in
+      let later = all_map (IsSubtree old h) (IsSubtree new h) (subtree_more fanout es numbered ordered h) ordered here in
+      let same = over_under fanout es ns h gs numbered refl ∙ all_under_more fanout es numbered ordered h ordered here in
+      record {
+        nodes = over_sound fanout es ns h gs numbered refl (chunk_groups fanout (IsSubtree new h) gs (omega arith) (groups-chunks (λ (n : Node). n.bounds) made fanout (omega arith)) later);
+        every = subst (λ l. IsPermutation l es) (sym same) (IsPermutation-trans _ _ _ (IsPermutation-sym _ _ (flat_map-IsPermutation (entries_under old h) made ordered moved)) b.every);
+        lower = all_append (λ n. IsSubtree new (n.level - 1) n) numbered ordered
+            (all_map (λ n. IsSubtree old (n.level - 1) n) (λ n. IsSubtree new (n.level - 1) n) (λ n s. subtree_more fanout es numbered ordered (n.level - 1) n s) numbered b.lower)
+            (all_map (IsSubtree new h) (λ n. IsSubtree new (n.level - 1) n) (at_its_level new h) ordered later);
+      }
+
+  -- what holds of the finished tree
+  pub record IsFinished (ns : List Node) : Type 0 where
+    pub some : 0 < length ns
+    pub root : IsSubtree (tree fanout es ns) (height (tree fanout es ns)) (root_of (tree fanout es ns))
+    pub every : IsPermutation (entries_under (tree fanout es ns) (height (tree fanout es ns)) (root_of (tree fanout es ns))) es
+    pub nodes : AllByRecursion (λ n. IsSubtree (tree fanout es ns) (n.level - 1) n) ns
+    pub few_levels : (root_of (tree fanout es ns)).level ≤ 24
+    pub few_nodes : length ns < 2 ^ 32
+
+  finished : (h : ℕ) (numbered : List Node) (r : Node) → IsBuilt h numbered (r ∷ []) → IsCounted (suc h) numbered (r ∷ []) → IsFinished (numbered ++ r ∷ [])
+  finished h numbered r b c =
+      let ns = numbered ++ r ∷ [] in
+      let old = tree fanout es numbered in
+      let new = tree fanout es ns in
+      let long = length-append numbered (r ∷ []) in
+      let is_root : root_of new ≡ r = ap (λ n. get_or ns n no_node) (omega arith) ∙ get_or_behind numbered r no_node [] in
+      let sub = subtree_more fanout es numbered (r ∷ []) h r b.nodes.0 in
+      let level : r.level ≡ suc h = level_of old h r b.nodes.0 in
+      let same : flat_map (entries_under old h) (r ∷ []) ≡ entries_under new h r = sym (all_under_more fanout es numbered (r ∷ []) h (r ∷ []) b.nodes) ∙ append-nil (entries_under new h r) in
+      let whole : IsPermutation (entries_under new (r.level - 1) r) es =
+      subst (λ k. IsPermutation (entries_under new k r) es) (omega (arith, level)) (subst (λ l. IsPermutation l es) same b.every) in
+      record {
+        some = omega (arith, long);
+        root = subst (λ n. IsSubtree new (n.level - 1) n) (sym is_root) (at_its_level new h r sub);
+        every = subst (λ n. IsPermutation (entries_under new (n.level - 1) n) es) (sym is_root) whole;
+        nodes = all_append (λ n. IsSubtree new (n.level - 1) n) numbered (r ∷ [])
+            (all_map (λ n. IsSubtree old (n.level - 1) n) (λ n. IsSubtree new (n.level - 1) n) (λ n s. subtree_more fanout es numbered (r ∷ []) (n.level - 1) n s) numbered b.lower)
+            (at_its_level new h r sub, tt);
+        few_levels = subst (λ n. n.level ≤ 24) (sym is_root) (omega (arith, level, c.few_levels));
+        few_nodes = omega (arith, long, c.few_nodes, c.few_levels);
+      }
+
+  -- the nodes over those of a level
+  abbrev new_nodes : (h : ℕ) (numbered made : List Node) → List Node
+  new_nodes h numbered made = nodes_over (λ n. n.bounds) (λ n. n.size) (suc (suc h)) (length numbered) (cut fanout several made)
+
+  -- with one more level numbered, the nodes to come are the same
+  course : (fuel h : ℕ) (numbered made : List Node) → 1 < length made
+      → (numbered ++ joined (cut fanout several made)) ++ nodes_from fuel fanout (suc (suc h)) (length (numbered ++ joined (cut fanout several made))) (new_nodes h numbered made)
+      ≡ numbered ++ nodes_from (suc fuel) fanout (suc h) (length numbered) made
+  course fuel h numbered made some =
+      let ordered = joined (cut fanout several made) in
+      let moved = groups-IsPermutation (λ (n : Node). n.bounds) made fanout several (omega arith) in
+      let long : length (numbered ++ ordered) ≡ length numbered + length made = omega (arith, length-append numbered ordered, length_permutation made ordered moved) in
+      append_assoc numbered ordered (nodes_from fuel fanout (suc (suc h)) (length (numbered ++ ordered)) (new_nodes h numbered made))
+      ∙ ap (λ l. numbered ++ l) (ap (λ n. ordered ++ nodes_from fuel fanout (suc (suc h)) n (new_nodes h numbered made)) long
+      ∙ ap (λ k. ordered ++ nodes_from fuel fanout k (length numbered + length made) (nodes_over (λ n. n.bounds) (λ n. n.size) k (length numbered) (cut fanout several made))) (sym (add-one (suc h)))
+      ∙ sym (nodes_from-more fanout several fuel (suc h) (length numbered) made some))
+
+  few_above : (fuel h : ℕ) (numbered made : List Node) → 1 < length made → length made ≤ suc fuel → length (new_nodes h numbered made) ≤ fuel
+  few_above fuel h numbered made some few =
+      subst (λ k. length (nodes_over (λ n. n.bounds) (λ n. n.size) k (length numbered) (cut fanout several made)) ≤ fuel) (add-one (suc h)) (fewer fanout several (suc h) (length numbered) fuel made some few)
+
+  some_above : (h : ℕ) (numbered made : List Node) → 0 < length made → 0 < length (new_nodes h numbered made)
+  some_above h numbered made some =
+      subst (λ k. 0 < length (nodes_over (λ n. n.bounds) (λ n. n.size) k (length numbered) (cut fanout several made))) (add-one (suc h))
+      (omega (arith, length-above fanout several (suc h) (length numbered) made some, div_ceil-positive (length made) fanout several some))
+
+  counted_above : (h : ℕ) (numbered made : List Node) → 1 < length made → IsCounted (suc h) numbered made
+      → IsCounted (suc (suc h)) (numbered ++ joined (cut fanout several made)) (new_nodes h numbered made)
+  counted_above h numbered made some c =
+      subst (λ k. IsCounted k (numbered ++ joined (cut fanout several made)) (nodes_over (λ n. n.bounds) (λ n. n.size) k (length numbered) (cut fanout several made))) (add-one (suc h))
+      (counted_more fanout several (suc h) numbered made c some)
+
+  pub sound_from : (fuel h : ℕ) (numbered made : List Node) → length made ≤ fuel → 0 < length made → IsBuilt h numbered made → IsCounted (suc h) numbered made
+      → IsFinished (numbered ++ nodes_from fuel fanout (suc h) (length numbered) made)
+  sound_from fuel h numbered [] few there b c = absurd (omega (arith, there))
+  sound_from fuel h numbered (r ∷ []) few there b c = subst (λ l. IsFinished (numbered ++ l)) (sym (nodes_from-last fanout several fuel (suc h) (length numbered) (r ∷ []) (omega arith))) (finished h numbered r b c)
+  sound_from zero h numbered (r ∷ s ∷ made) few there b c = absurd (omega (arith, few))
+  sound_from (suc fuel) h numbered (r ∷ s ∷ made) few there b c =
+      subst IsFinished (course fuel h numbered (r ∷ s ∷ made) (omega arith))
+      (sound_from fuel (suc h) (numbered ++ joined (cut fanout several (r ∷ s ∷ made))) (new_nodes h numbered (r ∷ s ∷ made))
+      (few_above fuel h numbered (r ∷ s ∷ made) (omega arith) few) (some_above h numbered (r ∷ s ∷ made) there)
+      (climb h numbered (r ∷ s ∷ made) there b) (counted_above h numbered (r ∷ s ∷ made) (omega arith) c))
+
+-- ---- the whole tree
+
+-- its entries are the table's, in another order
+pub entries-IsPermutation : (fanout : ℕ) (entries : List Entry) → 2 ≤ fanout → IsPermutation entries (pack_of fanout entries).entries
+entries-IsPermutation fanout entries several =
+    let by_id = on (λ (e : Entry). e.id) int_cmp in
+    IsPermutation-trans _ _ _ (IsPermutation-sorted by_id entries) (groups-moved (λ (e : Entry). e.bounds) fanout (sorted by_id entries) several)
+
+-- what a table's entries have, the same entries have in another order
+pub IsTable-IsPermutation : (xs ys : List Entry) → IsPermutation xs ys → IsTable xs → IsTable ys
+IsTable-IsPermutation xs ys moved t = record {
+  distinct = IsDistinct-IsPermutation int_eq int_eq-sym (ids_of xs) (ids_of ys) (IsPermutation-map (λ (e : Entry). e.id) xs ys moved) t.distinct;
+  boxes = All-permutation HasBox xs ys moved t.boxes;
+  few = omega (arith, t.few, length_permutation xs ys moved);
+}
+
+-- a tree without nodes, and without entries
+sound_empty : (t : Packed) → t.nodes ≡ [] → t.entries ≡ [] → IsTable t.entries → IsSound t
+sound_empty t none nothing table =
+    let short : length t.nodes ≡ 0 = ap length none in
+    record {
+      table = table;
+      some = (λ h. absurd (omega (arith, h, short)), λ h. absurd (omega (arith, h, ap length nothing)));
+      root = λ h. absurd (omega (arith, h, short));
+      every = λ h. absurd (omega (arith, h, short));
+      nodes = λ k d h. absurd (omega (arith, h, short));
+      few_levels = subst (λ ns. (get_or ns (length ns - 1) no_node).level ≤ 24) (sym none) (omega arith);
+      few_nodes = omega arith;
+    }
+
+sound_finished : (fanout : ℕ) (several : 2 ≤ fanout) (es : List Entry) (ns : List Node) → 0 < length es → IsTable es → IsFinished fanout several es ns → IsSound (tree fanout es ns)
+sound_finished fanout several es ns there table f = record {
+  table = table;
+  some = (λ _. there, λ _. f.some);
+  root = λ _. f.root;
+  every = λ _. f.every;
+  nodes = All-from_recursion (λ n. IsSubtree (tree fanout es ns) (n.level - 1) n) ns f.nodes;
+  few_levels = f.few_levels;
+  few_nodes = f.few_nodes;
+}
+
+module _ (fanout : ℕ) (several : 2 ≤ fanout) (in_order : List Entry) where
+  -- the groups of the entries, the entries in their order, and the nodes of level 1
+  abbrev gs : List (List Entry)
+  gs = groups (λ e. e.bounds) fanout in_order
+
+  abbrev es : List Entry
+  es = joined gs
+
+  abbrev made : List Node
+  made = nodes_over (λ e. e.bounds) (λ _. 1) 1 0 gs
+
+  moved : IsPermutation in_order es
+  moved = groups-moved (λ (e : Entry). e.bounds) fanout in_order several
+
+  made-first : 0 < length in_order → IsTable es → IsCounted 1 [] made
+  made-first there table =
+      let long = length_permutation in_order es moved in
+      let count : length made ≡ div_ceil (length in_order) fanout = length-nodes_over (λ (e : Entry). e.bounds) (λ _. 1) 1 0 gs ∙ length-groups (λ (e : Entry). e.bounds) fanout in_order several there in
+      let weight : sum_by (λ n. n.size) made ≡ length in_order = weight-nodes_over (λ (e : Entry). e.bounds) (λ _. 1) 1 0 gs ∙ sum_by-ones es ∙ long in
+      counted_first fanout several made (length in_order) count (omega (arith, long, table.few)) weight
+
+  made-IsBuilt : IsTable es → IsBuilt fanout several es 0 [] made
+  made-IsBuilt table =
+      let boxes = recursion_from_All HasBox es table.boxes in
+      record {
+        nodes = leaves_sound fanout es [] gs [] refl (chunk_groups fanout HasBox gs (omega arith) (groups-chunks (λ (e : Entry). e.bounds) in_order fanout (omega arith)) boxes);
+        every = subst (λ l. IsPermutation l es) (sym (leaves_under fanout es [] gs [] refl)) (IsPermutation-refl es);
+        lower = tt;
+      }
+
+  packed-some : 0 < length in_order → IsTable es → IsSound (tree fanout es (nodes_from (length made) fanout 1 0 made))
+  packed-some there table =
+      let some : 0 < length made = omega (arith, length-nodes_over (λ (e : Entry). e.bounds) (λ _. 1) 1 0 gs, length-groups (λ (e : Entry). e.bounds) fanout in_order several there, div_ceil-positive (length in_order) fanout several there) in
+      sound_finished fanout several es (nodes_from (length made) fanout 1 0 made) (omega (arith, there, length_permutation in_order es moved)) table
+      (sound_from fanout several es (length made) 0 [] made (omega arith) some (made-IsBuilt table) (made-first there table))
+
+-- without entries there are no nodes
+packed-none : (fanout : ℕ) (several : 2 ≤ fanout) (in_order : List Entry) → in_order ≡ [] → nodes_from (length (made fanout several in_order)) fanout 1 0 (made fanout several in_order) ≡ []
+packed-none fanout several in_order none =
+    ap (λ l. nodes_from (length (made fanout several l)) fanout 1 0 (made fanout several l)) none
+    ∙ ap (λ g. let m = nodes_over (λ (e : Entry). e.bounds) (λ _. 1) 1 0 g in nodes_from (length m) fanout 1 0 m) (groups-nil (λ (e : Entry). e.bounds) fanout)
+
+pub pack_of-IsSound : (fanout : ℕ) (entries : List Entry) → 2 ≤ fanout → IsTable entries → IsSound (pack_of fanout entries)
+pack_of-IsSound fanout entries several table =
+    let in_order = sorted (on (λ (e : Entry). e.id) int_cmp) entries in
+    let packed = entries-IsPermutation fanout entries several in
+    let held = IsTable-IsPermutation entries (pack_of fanout entries).entries packed table in
+    let same = length_permutation entries (pack_of fanout entries).entries packed in
+    let sorted_same = length_permutation entries in_order (IsPermutation-sorted (on (λ (e : Entry). e.id) int_cmp) entries) in
+    elim (le_or_lt (length in_order) 0) [
+      | inl none ↦ sound_empty (pack_of fanout entries) (packed-none fanout several in_order (nil_from_length in_order (omega arith))) (nil_from_length (pack_of fanout entries).entries (omega arith)) held
+      | inr some ↦ packed-some fanout several in_order some held
+    ]
+
+-- ---- the children of a node
+
+inner-range : (t : Packed) (below : ℕ) (n : Node) → IsSubtree t below n → 0 < below → n.first + n.count ≤ length t.nodes
+inner-range t zero n s h = absurd (omega (arith, h))
+inner-range t (suc below) n s h = s.range
+
+-- a child of a node above level 1 is a node of the tree
+pub child_inside : (t : Packed) (number index : ℕ) (n : Node) → IsSound t → number < length t.nodes → n ≡ get_or t.nodes number n
+    → 2 ≤ (node_at t number).level → index < (node_at t number).count → n.first + index < length t.nodes
+child_inside t number index n s there is level count =
+    let same : n ≡ node_at t number = is ∙ get_or_default t.nodes number n no_node there in
+    let first : n.first ≡ (node_at t number).first = ap (λ m. m.first) same in
+    omega (arith, first, count, inner-range t ((node_at t number).level - 1) (node_at t number) (s.nodes number no_node there) (omega (arith, level)))

@@ -1,0 +1,42 @@
+-- The square root, rounded up.
+use Rattle.std.proofs.Common.{◌≡◌, ◌<◌, ◌≤◌, ◌+◌, ◌*◌, ℕ, zero, suc, Bool, true, false, cond, nat_le, refl, ap, arith, inl, inr, ◌-◌}
+use Rattle.std.proofs.Math.Nat.{eq-or-lt_of_le, mul-le-mul}
+use Rattle.std.proofs.lemmas.Bool.Decides.{nat_tests}
+use Rattle.rt_tree.specs.Packing.{ceil_sqrt}
+
+-- its square is enough, and it is the least such number
+pub record IsCeilSqrt (n root : ℕ) : Type 0 where
+  pub enough : n ≤ root * root
+  pub least : (s : ℕ) → n ≤ s * s → root ≤ s
+
+one_more : (n root : ℕ) → n ≤ root * root → suc n ≤ suc root * suc root
+one_more n root h = omega (arith, h)
+
+above : (n root s : ℕ) → root ≤ s → nat_le (suc n) (root * root) ≡ false → suc n ≤ s * s → suc root ≤ s
+above n root s low test h = elim (eq-or-lt_of_le low) [ inl e ↦ absurd (not_same e) | inr l ↦ l ]
+  where
+    not_same : root ≡ s → ⊥
+    not_same e = let same = ap (λ r. r * r) e in grind (arith, nat_tests)
+
+ceil_sqrt-step : (n root : ℕ) → IsCeilSqrt n root → (test : Bool) → nat_le (suc n) (root * root) ≡ test → IsCeilSqrt (suc n) (cond test root (suc root))
+ceil_sqrt-step n root r true e = record { enough = grind (arith, nat_tests); least = λ s h. r.least s (omega (arith, h)) }
+ceil_sqrt-step n root r false e = record { enough = one_more n root r.enough; least = λ s h. above n root s (r.least s (omega (arith, h))) e h }
+
+pub ceil_sqrt-IsCeilSqrt : (n : ℕ) → IsCeilSqrt n (ceil_sqrt n)
+ceil_sqrt-IsCeilSqrt zero = record { enough = omega arith; least = λ s h. omega arith }
+ceil_sqrt-IsCeilSqrt (suc n) = ceil_sqrt-step n (ceil_sqrt n) (ceil_sqrt-IsCeilSqrt n) (nat_le (suc n) (ceil_sqrt n * ceil_sqrt n)) refl
+
+-- it is one more than the square root, rounded down, of the number below
+pub ceil_sqrt-from_isqrt : (n root : ℕ) → 0 < n → root * root ≤ n - 1 → n - 1 < (root + 1) * (root + 1) → ceil_sqrt n ≡ root + 1
+ceil_sqrt-from_isqrt n root some low high =
+    let c = ceil_sqrt-IsCeilSqrt n in
+    let most : ceil_sqrt n ≤ root + 1 = c.least (root + 1) (omega (arith, high)) in
+    let not_fewer : ceil_sqrt n ≤ root → ⊥ = λ h. let squares = mul-le-mul h h in omega (arith, squares, c.enough, low) in
+    omega arith
+
+pub ceil_sqrt-positive : (n : ℕ) → 0 < n → 0 < ceil_sqrt n
+ceil_sqrt-positive n some = positive (ceil_sqrt n) (ceil_sqrt-IsCeilSqrt n).enough
+  where
+    positive : (root : ℕ) → n ≤ root * root → 0 < root
+    positive zero h = absurd (omega (arith, h))
+    positive (suc root) h = omega arith

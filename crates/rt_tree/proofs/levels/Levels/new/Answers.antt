@@ -1,0 +1,21 @@
+use Rattle.std.proofs.Common.{◌≡◌, ◌≤◌, ◌^◌, ◌-◌, ◌+◌, ◌++◌, ◌∷◌, [], length, arith, length-append, subst, sym, ◌∙◌}
+use Rattle.std.specs.Int.{div_ceil}
+use Rattle.rt_tree.proofs.LevelLemmas.{course_more, div_ceil-halves, div_ceil-positive, few_more, room_more}
+use Rattle.rt_tree.proofs.levels.Levels.new.Goals as goal
+
+pub loop-size-preserved : goal.loop-size-preserved
+loop-size-preserved c =
+    let before = c.loop-size.invariant in
+    let size = c.loop-size.size in
+    let fanout = c.args.fanout in
+    let above = div_ceil size fanout in
+    let more : above ≡ 1 → ⊥ = λ e. c.if-size-eq1.false (c.div_ceil-size.ensures ∙ e) in
+    let some = div_ceil-positive size fanout c.requires.several before.some in
+    let longer : length (c.loop-size.levels ++ above ∷ []) ≡ length c.loop-size.levels + 1 = omega (arith, length-append c.loop-size.levels (above ∷ [])) in
+    let room = room_more (length c.loop-size.levels) size above before.room before.few (div_ceil-halves size fanout c.requires.several) in
+    rw (c.push.ensures, c.div_ceil-size.ensures) (record {
+      course = course_more c.loop-size.levels fanout size _ c.requires.several before.some more before.course;
+      some = some;
+      room = subst (λ n. above ≤ 2 ^ (25 - n)) (sym longer) room;
+      few = omega (arith, longer, few_more (length c.loop-size.levels) above room before.few some more);
+    })

@@ -1,0 +1,11 @@
+use Rattle.std.proofs.Common.{◌≡◌, ℕ, ◌<◌, map, take, get_or}
+use Rattle.std.specs.List.{enumerate_from}
+use Rattle.rt_tree.specs.Packing.{twice_middle_x}
+use Rattle.rt_tree.specs.SortKeys.{IsRanked, key_of}
+use Rattle.rt_tree.proofs.packing.keys_by_x.Given as goal
+
+abbrev pub invariant-loop-place : goal.invariant-loop-place
+invariant-loop-place g l = record {
+  keys : l.keys.items ≡ map (key_of g.T.Item.rect twice_middle_x) (enumerate_from 0 (take l.place l.items));
+  ranked : (k : ℕ) (d : g.row.T.Denot) → k < l.place → IsRanked (twice_middle_x (g.T.Item.rect (get_or l.items k d)));
+}

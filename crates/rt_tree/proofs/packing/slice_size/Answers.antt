@@ -1,0 +1,11 @@
+use Rattle.std.proofs.Common.{◌<◌, ◌*◌, ◌∙◌, ap, sym}
+use Rattle.rt_tree.proofs.LevelLemmas.{div_ceil-positive}
+use Rattle.rt_tree.proofs.SquareLemmas.{ceil_sqrt-from_isqrt}
+use Rattle.rt_tree.specs.Packing.{ceil_sqrt}
+use Rattle.rt_tree.proofs.packing.slice_size.Goals as goal
+
+pub returns-clause-value : goal.returns-clause-value
+returns-clause-value c =
+    let tiles = c.div_ceil-tiles.result in
+    let some : 0 < tiles = rw c.div_ceil-tiles.ensures (div_ceil-positive c.args.items c.args.fanout c.requires.several c.requires.some) in
+    ap (λ side. side * c.args.fanout) (sym (ceil_sqrt-from_isqrt tiles c.isqrt.result some c.isqrt.ensures.square_le c.isqrt.ensures.next_square_gt) ∙ ap ceil_sqrt c.div_ceil-tiles.ensures)

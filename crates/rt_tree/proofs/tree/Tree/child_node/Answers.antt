@@ -1,0 +1,15 @@
+use Rattle.std.proofs.Common.{◌<◌, ◌+◌, arith, length, rules, ◌^◌}
+use Rattle.rt_tree.proofs.PackSound.{child_inside}
+use Rattle.rt_tree.proofs.tree.Tree.child_node.Goals as goal
+
+pub overflow_add-result : goal.overflow_add-result
+overflow_add-result c =
+    let asked = rw (← c.self.view_is) at c.requires in
+    let sound = c.self.invariant.0 in
+    let inside = child_inside (record { fanout = c.self.inside.fanout; entries = c.self.inside.entries.items; nodes = c.self.inside.nodes.items }) c.args.no.number c.args.index c.index.result.now sound asked.inside c.index.ensures asked.level asked.index in
+    omega (arith, inside, sound.few_nodes)
+
+pub returns-clause-inside : goal.returns-clause-inside
+returns-clause-inside c =
+    let asked = rw (← c.self.view_is) at c.requires in
+    rw (← c.self.view_is) (child_inside (record { fanout = c.self.inside.fanout; entries = c.self.inside.entries.items; nodes = c.self.inside.nodes.items }) c.args.no.number c.args.index c.index.result.now c.self.invariant.0 asked.inside c.index.ensures asked.level asked.index)

@@ -1,0 +1,96 @@
+-- A packed tree: its entries in the order of their places, and its nodes in the order of their numbers.
+use Rattle.std.specs.Prelude.{◌↔◌, ◌≡◌, ◌+◌, ◌-◌, ◌<◌, ◌≤◌, ◌^◌, ℕ, zero, suc, true, List, [], ◌∷◌, length, map, take, drop, get_or, pos}
+use Rattle.std.specs.List.{All, AllByRecursion, flat_map, fold, sum_by}
+use Rattle.std.specs.List.Sorted.{IsPermutation}
+use Rattle.rt_geo.specs.Boxes.{Rect, IsRect, hull, inside, rect_of}
+use Rattle.rt_geo.specs.Laws.{Extent, IsBoxInside, extent_of_entry}
+use Rattle.rt_geo.specs.declared.entry.Entry.{Entry}
+use Rattle.rt_tree.specs.Entries.{IsTable}
+use Rattle.rt_tree.specs.declared.tree.Node.{Node}
+
+-- ---- what a tree holds
+
+-- a tree: at most so many children for each node, the entries by place, and the nodes by number
+pub record Packed : Type 0 where
+  pub fanout : ℕ
+  pub entries : List Entry
+  pub nodes : List Node
+
+-- the entries right under a node of level 1
+abbrev pub child_entries : Packed → Node → List Entry
+child_entries t n = take n.count (drop n.first t.entries)
+
+-- the nodes right under a node of a higher level
+abbrev pub child_nodes : Packed → Node → List Node
+child_nodes t n = take n.count (drop n.first t.nodes)
+
+-- the entries under a node that has so many levels of nodes below it
+abbrev pub entries_under : Packed → (below : ℕ) → Node → List Entry
+entries_under t zero n = child_entries t n
+entries_under t (suc below) n = flat_map (entries_under t below) (child_nodes t n)
+
+-- a node that no tree holds
+abbrev pub no_node : Node
+no_node = record { bounds = rect_of (pos 0) (pos 0) (pos 0) (pos 0); level = 0; first = 0; count = 0; size = 0 }
+
+-- the node with a number
+abbrev pub node_at : Packed → ℕ → Node
+node_at t number = get_or t.nodes number no_node
+
+-- the root: the node with the greatest number
+abbrev pub root_of : Packed → Node
+root_of t = node_at t (length t.nodes - 1)
+
+-- how many levels of nodes are below the root
+abbrev pub height : Packed → ℕ
+height t = (root_of t).level - 1
+
+-- all that a query function is shown of a node
+abbrev pub extent_of_node : Node → Extent
+extent_of_node n = record { bounds = n.bounds }
+
+-- the least box in which boxes lie, of which there is at least one
+abbrev pub hull_of : List Rect → Rect
+hull_of [] = rect_of (pos 0) (pos 0) (pos 0) (pos 0)
+hull_of (b ∷ bs) = fold hull b bs
+
+-- ---- what holds of each
+
+-- a node of level 1: its children are entries
+pub record IsLeafNode (t : Packed) (n : Node) : Type 0 where
+  pub level : n.level ≡ 1
+  pub some : 0 < n.count
+  pub few : n.count ≤ t.fanout
+  pub range : n.first + n.count ≤ length t.entries
+  pub valid : IsRect n.bounds
+  pub exact : n.bounds ≡ hull_of (map (λ e. e.bounds) (child_entries t n))
+  pub within : AllByRecursion (λ e. IsBoxInside (extent_of_entry e) (extent_of_node n)) (child_entries t n)
+  pub size : n.size ≡ n.count
+
+-- a node of a higher level, `Below` holding of its children, which are nodes
+pub record IsInnerNode (t : Packed) (levels : ℕ) (Below : Node → Type 0) (n : Node) : Type 0 where
+  pub level : n.level ≡ suc (suc levels)
+  pub some : 0 < n.count
+  pub few : n.count ≤ t.fanout
+  pub range : n.first + n.count ≤ length t.nodes
+  pub below : AllByRecursion Below (child_nodes t n)
+  pub valid : IsRect n.bounds
+  pub exact : n.bounds ≡ hull_of (map (λ k. k.bounds) (child_nodes t n))
+  pub within : AllByRecursion (λ k. inside k.bounds n.bounds ≡ true) (child_nodes t n)
+  pub size : n.size ≡ sum_by (λ k. k.size) (child_nodes t n)
+
+-- a node that has so many levels of nodes below it
+abbrev pub IsSubtree : Packed → (below : ℕ) → Node → Type 0
+IsSubtree t zero n = IsLeafNode t n
+IsSubtree t (suc below) n = IsInnerNode t below (IsSubtree t below) n
+
+-- a tree that a search may rest on: the entries are a table's, each stands once under the root, and each node is what
+-- its level asks for
+pub record IsSound (t : Packed) : Type 0 where
+  pub table : IsTable t.entries
+  pub some : (0 < length t.nodes) ↔ (0 < length t.entries)
+  pub root : 0 < length t.nodes → IsSubtree t (height t) (root_of t)
+  pub every : 0 < length t.nodes → IsPermutation (entries_under t (height t) (root_of t)) t.entries
+  pub nodes : All (λ n. IsSubtree t (n.level - 1) n) t.nodes
+  pub few_levels : (root_of t).level ≤ 24
+  pub few_nodes : length t.nodes < 2 ^ 32

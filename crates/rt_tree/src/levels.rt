@@ -1,0 +1,87 @@
+//! The sizes of the levels of a packed tree, told without the tree.
+
+ghost use Rattle.std.specs.Prelude.{◌≡◌, ◌<◌, ◌≤◌, ◌++◌, ◌∷◌, [], length, slice_get, Some};
+ghost use Rattle.rt_tree.specs.Entries.{most_entries};
+ghost use Rattle.rt_tree.specs.Levels.{level_sizes};
+
+use std::marker::Model;
+
+// The most levels: so many has a tree over the most entries with two children for each node.
+const MOST_LEVELS: usize = 25;
+
+/// How many entries, and then nodes, there are on each level of a tree: the entries are level 0, the root is on the
+/// last one. Without entries there is level 0 alone, and no root.
+#[derive(Debug, Drop)]
+pub struct Levels {
+    sizes: [u32; MOST_LEVELS],
+    count: usize,
+}
+
+impl Model for Levels {
+    ghost use Rattle.std.specs.Prelude.{List, ℕ, ◌≤◌, take};
+
+    ghost Value = { List ℕ };
+
+    ghost view = { λ l. take l.count l.sizes };
+
+    ghost invariant = { λ l. l.count ≤ 25 };
+}
+
+impl Levels {
+    /// The levels of a tree over so many entries, with at most `fanout` children for each node.
+    pub fn new(len: u32, fanout: u8) -> Levels
+        requires entries { len ≤ most_entries }
+        requires several { 2 ≤ fanout }
+        ensures sizes { result ≡ level_sizes len fanout }
+        ensures few { length result ≤ 25 }
+    {
+        let mut levels = Levels::only(len);
+        if len == 0 {
+            return levels;
+        }
+        let mut size = len;
+        loop {
+            size = size.div_ceil(fanout as u32);
+            levels.push(size);
+            if size == 1 {
+                return levels;
+            }
+        }
+    }
+
+    // One level.
+    fn only(size: u32) -> Levels
+        ensures { result ≡ size ∷ [] }
+    {
+        let mut sizes = [0; MOST_LEVELS];
+        sizes[0] = size;
+        Levels { sizes, count: 1 }
+    }
+
+    // One more level.
+    fn push(&mut self, size: u32)
+        requires { length self.old < 25 }
+        ensures { self.new ≡ self.old ++ size ∷ [] }
+    {
+        self.sizes[self.count] = size;
+        self.count += 1;
+    }
+
+    /// How many levels there are, that of the entries included.
+    pub fn count(&self) -> u8
+        ensures { result ≡ length self.now }
+    {
+        self.count as u8
+    }
+
+    /// How many entries or nodes there are on a level, counted from 0 for the entries.
+    pub fn size(&self, level: u8) -> u32
+        requires { level < length self.now }
+        ensures { slice_get self.now level ≡ Some result }
+    {
+        self.sizes[level as usize]
+    }
+}
+
+#[cfg(test)]
+mod tests;

@@ -1,0 +1,212 @@
+//! A packed tree of boxes.
+
+ghost use Rattle.std.specs.Prelude.{◌≡◌, ◌==◌, ◌+◌, ◌-◌, ◌<◌, ◌≤◌, ◌↔◌, IfOk, IfSome, IsSome, Some, length, slice_get};
+ghost use Rattle.rt_tree.specs.Entries.{most_entries};
+ghost use Rattle.rt_tree.specs.Levels.{level_sizes};
+ghost use Rattle.rt_tree.specs.Packed.{IsSound, node_at};
+ghost use Rattle.rt_tree.specs.Packing.{all_nodes, chunks, nodes_over, pack_of};
+
+use crate::levels::Levels;
+use crate::packing::{arranged, nodes_over};
+use crate::table::Table;
+use rt_geo::{Bounds, Entry};
+use std::alloc::{AllocError, Global};
+use std::marker::Model;
+
+/// A node: what is known of the entries under it, and where its children are.
+#[derive(Clone, Copy, Debug, PartialEq, Eq)]
+pub struct Node {
+    /// The least box in which its children lie.
+    pub bounds: Bounds,
+    /// 1 where its children are entries; levels rise towards the root.
+    pub level: u8,
+    /// The place of its first child, which is an entry where the level is 1, and else the number of its first child, a
+    /// node. The others follow it.
+    pub first: u32,
+    /// How many children it has, at least one.
+    pub count: u8,
+    /// How many entries are under it.
+    pub size: u32,
+}
+
+/// The number of a node of a tree. Numbers begin at 0 on level 1 and go on level by level, so that the root has the
+/// greatest.
+#[derive(Clone, Copy, Debug, PartialEq, Eq, PartialOrd, Ord)]
+pub struct NodeNo {
+    number: u32,
+}
+
+impl NodeNo {
+    /// The number.
+    pub fn number(self) -> u32
+        ensures { result ≡ self.number }
+    {
+        self.number
+    }
+}
+
+/// A packed tree over the entries of a table.
+///
+/// It is packed sort-tile-recursively (Leutenegger, Lopez and Edgington, 1997): the entries are sorted by the middles of
+/// their boxes on the x axis and cut into slices, each slice is sorted by y and cut into nodes, and so are these nodes,
+/// until a level has one.
+#[derive(Drop)]
+pub struct Tree {
+    fanout: u8,
+    entries: Vec<Entry>,
+    nodes: Vec<Node>,
+    levels: Levels,
+}
+
+impl Model for Tree {
+    ghost use Rattle.std.specs.Prelude.{◌≡◌, length};
+    ghost use Rattle.rt_tree.specs.Levels.{level_sizes};
+    ghost use Rattle.rt_tree.specs.Packed.{Packed, IsSound};
+
+    ghost Value = { Packed };
+
+    ghost view = { λ t. record { fanout = t.fanout; entries = t.entries.items; nodes = t.nodes.items } };
+
+    ghost invariant = { λ t. IsSound (record { fanout = t.fanout; entries = t.entries.items; nodes = t.nodes.items })
+        × (t.levels ≡ level_sizes (length t.entries.items) t.fanout) };
+}
+
+impl Tree {
+    /// Packs the entries of a table, with 2 to 64 children for each node. An error means that no memory is left; then
+    /// the table is gone.
+    pub fn pack(alloc: Global, table: Table, fanout: u8) -> Result<Tree, AllocError>
+        requires several { 2 ≤ fanout }
+        requires most { fanout ≤ 64 }
+        ensures { IfOk result (λ t. t ≡ pack_of fanout table) }
+    {
+        let levels = Levels::new(table.len(), fanout);
+        let mut entries = table.into_entries();
+        // (by id, as entries whose boxes have one middle go by id)
+        entries.sort_unstable_by_key(|entry| entry.id);
+        let entries = arranged(alloc, &entries, fanout)?;
+        let nodes = all_nodes(alloc, &entries, fanout)?;
+        Ok(Tree {
+            fanout,
+            entries,
+            nodes,
+            levels,
+        })
+    }
+
+    /// How many entries it has.
+    pub fn len(&self) -> u32
+        ensures value { result ≡ length self.now.entries }
+        ensures sound { IsSound self.now }
+    {
+        self.entries.len() as u32
+    }
+
+    /// Whether it has no entries.
+    pub fn is_empty(&self) -> bool
+        ensures { result ≡ (length self.now.entries == 0) }
+    {
+        self.entries.is_empty()
+    }
+
+    /// The level of the root; 0 where there is none.
+    pub fn top(&self) -> u8
+        ensures { result + 1 ≡ length (level_sizes (length self.now.entries) self.now.fanout) }
+    {
+        self.levels.count() - 1
+    }
+
+    /// How many entries (level 0) or nodes there are on a level, which is at most the top one.
+    pub fn level_len(&self, level: u8) -> u32
+        requires { level < length (level_sizes (length self.now.entries) self.now.fanout) }
+        ensures { slice_get (level_sizes (length self.now.entries) self.now.fanout) level ≡ Some result }
+    {
+        self.levels.size(level)
+    }
+
+    /// How many nodes it has.
+    pub fn node_len(&self) -> u32
+        ensures { result ≡ length self.now.nodes }
+    {
+        self.nodes.len() as u32
+    }
+
+    /// The root. `None` exactly where the tree is empty.
+    pub fn root(&self) -> Option<NodeNo>
+        ensures some { IsSome result ↔ (0 < length self.now.entries) }
+        ensures number { IfSome result (λ no. no.number + 1 ≡ length self.now.nodes) }
+        ensures sound { IsSound self.now }
+    {
+        if self.nodes.is_empty() {
+            None
+        } else {
+            Some(NodeNo {
+                number: self.nodes.len() as u32 - 1,
+            })
+        }
+    }
+
+    /// The node with a number.
+    pub fn node(&self, no: NodeNo) -> Node
+        requires { no.number < length self.now.nodes }
+        ensures { result ≡ node_at self.now no.number }
+    {
+        self.nodes[no.number as usize]
+    }
+
+    /// The number of a child, counted from 0, of a node above level 1.
+    pub fn child_node(&self, no: NodeNo, index: u8) -> NodeNo
+        requires inside { no.number < length self.now.nodes }
+        requires level { 2 ≤ (node_at self.now no.number).level }
+        requires index { index < (node_at self.now no.number).count }
+        ensures value { result.number ≡ (node_at self.now no.number).first + index }
+        ensures inside { result.number < length self.now.nodes }
+    {
+        NodeNo {
+            number: self.nodes[no.number as usize].first + index as u32,
+        }
+    }
+
+    /// The entry at a place.
+    pub fn entry(&self, place: u32) -> Entry
+        requires { place < length self.now.entries }
+        ensures { slice_get self.now.entries place ≡ Some result }
+    {
+        self.entries[place as usize]
+    }
+
+    /// The entries, in the order of their places.
+    pub fn entries(&self) -> &[Entry]
+        ensures { result.now ≡ self.now.entries }
+    {
+        self.entries.as_slice()
+    }
+
+    /// The nodes, in the order of their numbers.
+    pub fn nodes(&self) -> &[Node]
+        ensures { result.now ≡ self.now.nodes }
+    {
+        self.nodes.as_slice()
+    }
+}
+
+// The nodes of all levels over entries that stand in the order of their tiles.
+fn all_nodes(alloc: Global, entries: &[Entry], fanout: u8) -> Result<Vec<Node>, AllocError>
+    requires several { 2 ≤ fanout }
+    requires few { length entries.now ≤ most_entries }
+    ensures { IfOk result (λ v. v.items ≡ all_nodes fanout (nodes_over (λ e. e.bounds) (λ _. 1) 1 0 (chunks fanout entries.now))) }
+{
+    let mut made = nodes_over(alloc, entries, fanout, 1, 0)?;
+    let mut nodes = Vec::new(alloc);
+    let mut level = 1;
+    'levels: while made.len() > 1 {
+        level += 1;
+        let ordered = arranged(alloc, &made, fanout)?;
+        made = nodes_over(alloc, &ordered, fanout, level, nodes.len() as u32)?;
+        nodes.extend_from_slice(&ordered)?;
+    }
+    nodes.extend_from_slice(&made)?;
+    Ok(nodes)
+}
+
+#[cfg(test)]
+mod tests;
