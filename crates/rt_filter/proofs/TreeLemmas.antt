@@ -67,8 +67,8 @@ module _ (fanout : ℕ) (xs ys : List Entry) (moved : IsPermutation xs ys) where
 
   query_same : (line : ℕ) (query : Query) → query_reply first line query ≡ query_reply other line query
   query_same line (Find region order limit) = ap (find_reply line) (answers-IsPermutation xs ys (region_accepts region) (order_score order) limit moved)
-  query_same line (Count region) = ap (ok_line line) (length_permutation _ _ (IsPermutation-accepted (region_accepts region) xs ys moved))
-  query_same line Levels = ap (λ n. levels_reply line (level_sizes n fanout)) (length_permutation xs ys moved)
+  query_same line (Count region) = ap (ok_line line) (sym (length_permutation _ _ (IsPermutation-accepted (region_accepts region) xs ys moved)))
+  query_same line Levels = ap (λ n. levels_reply line (level_sizes n fanout)) (sym (length_permutation xs ys moved))
 
   reply_same : (line : ℕ) (parsed : Parsed) → reply first line parsed ≡ reply other line parsed
   reply_same line parsed.Skip = refl

@@ -1,5 +1,6 @@
 use Rattle.std.proofs.Common.{◌≡◌, ◌∙◌, ◌+◌, ◌<◌, ◌++◌, ap, length, arith, append_assoc}
 use Rattle.std.proofs.lemmas.Result.{on_ok_weaker}
+use Rattle.rt_tree.specs.Levels.{level_sizes}
 use Rattle.rt_text.specs.ReplyLines.{ok_line}
 use Rattle.rt_filter.proofs.LevelLemmas.{downwards, level_lines, lines-all, lines-more}
 use Rattle.rt_filter.proofs.reply.put_levels.Goals as goal
