@@ -7,11 +7,13 @@ What no contract says is shown here: the words, the opening of files, the lines 
 exit status. The last line is `N passed, M failed`.
 """
 
+import contextlib
 import os
 import resource
 import subprocess
 import sys
 import tempfile
+import threading
 from pathlib import Path
 
 BOXES = b"1,0,10,0,10\n2,5,15,5,15\n3,20,30,0,10\n4,-5,-1,-5,-1\n5,12,12,12,12\n"
@@ -20,12 +22,19 @@ FIND = b"find window 0 10 0 10\n"
 FOUND = b"1 0\n2 0\nok 1 2\n"
 USAGE = b"usage: rtfilter [-H|--header] [--fanout M] [--max-entries N] TABLE [QUERIES]\n"
 
-# A table and queries that are larger than any buffer, and a name of 200 bytes.
-COUNT = 100_000
+# More boxes than 2^20, in a file with a name of 200 bytes, and more than 64 MB of queries.
+COUNT = 2**20 + 1000
 MANY_BOXES = b"".join(b"%d,%d,%d,0,0\n" % (n, n, n) for n in range(1, COUNT + 1))
-MANY_LINES = b"# a comment\n" * 400_000 + b"find window 1 %d 0 0\n" % COUNT
-MANY_FOUND = b"".join(b"%d 0\n" % n for n in range(1, COUNT + 1)) + b"ok 400001 %d\n" % COUNT
+MANY_LINES = b"# a comment\n" * 6_000_000 + b"find window 1 %d 0 0\n" % COUNT
+MANY_FOUND = b"".join(b"%d 0\n" % n for n in range(1, COUNT + 1)) + b"ok 6000001 %d\n" % COUNT
 LONG_NAME = "boxes" * 40
+
+# More fields and more words than a small count holds.
+FIELDS = 70_000
+WORDS = 300
+
+# A header that is a query, so that the text is a table and queries too.
+BOTH = FIND + b"1,0,10,0,10\n"
 
 # The files that each run finds beside it.
 FILES = {
@@ -41,9 +50,12 @@ FILES = {
     "letter.csv": b"1,a,0,0,0\n",
     "wide.csv": b"1,0,2147483648,0,0\n",
     "empty.csv": b"",
+    "fields.csv": b"1" + b",1" * (FIELDS - 1) + b"\n",
     "-H": BOXES,
+    "-": BOTH,
     "queries": FIND,
     LONG_NAME: MANY_BOXES,
+    "late.csv": MANY_BOXES + b"1,0,0,0,0\n",
     "lines": MANY_LINES,
 }
 
@@ -73,16 +85,20 @@ RUNS = [
     (["boxes.csv"], b"", 0, b"", b""),
     ([LONG_NAME, "lines"], b"", 0, MANY_FOUND, b""),
     ([LONG_NAME], MANY_LINES, 0, MANY_FOUND, b""),
+    (["-H", "-"], FIND, 0, b"1 0\nok 1 1\n", b""),
+    (["boxes.csv", "-"], b"", 1, FOUND + b"error 2 Q2 unknown verb\n", b""),
     (["boxes.csv"], b"# c\n\nfind window 0 10 0 10", 0, b"1 0\n2 0\nok 3 2\n", b""),
     (["boxes.csv"], b"x\n" + FIND, 1, b"error 1 Q2 unknown verb\n1 0\n2 0\nok 2 2\n", b""),
     (["--help"], b"", 0, USAGE, b""),
     (["-h"], b"", 0, USAGE, b""),
     (["--help", "--fanout", "65"], b"", 0, USAGE, b""),
+    (["--help", *["boxes.csv"] * WORDS], b"", 0, USAGE, b""),
     *(
         (words, b"", 2, b"", b"rtfilter: bad command line\n")
         for words in (
             [],
             ["boxes.csv", "queries", "more"],
+            ["boxes.csv"] * WORDS,
             ["--fanout", "1", "boxes.csv"],
             ["--fanout", "65", "boxes.csv"],
             ["--max-entries", "0", "boxes.csv"],
@@ -100,13 +116,18 @@ RUNS = [
     table_fault(["short.csv"], b"1: wrong number of fields (4)"),
     table_fault(["letter.csv"], b"1: field 2 is not a number"),
     table_fault(["wide.csv"], b"1: field 3 is out of range"),
+    table_fault(["fields.csv"], b"1: wrong number of fields (%d)" % FIELDS),
+    table_fault(["late.csv"], b"%d: repeated id" % (COUNT + 1)),
+    table_fault(["--max-entries", str(2**20 + 1), "late.csv"], b"%d: too many entries" % (2**20 + 2)),
     table_fault(["--max-entries", "4", "boxes.csv"], b"5: too many entries"),
     table_fault(["-H", "--max-entries", "4", "header.csv"], b"6: too many entries"),
     table_fault(["header.csv"], b"1: field 1 is not a number"),
     (["nowhere.csv"], FIND, 3, b"", b"rtfilter: cannot open table\n"),
     (["nowhere.csv", "nowhere"], FIND, 3, b"", b"rtfilter: cannot open table\n"),
+    ([""], FIND, 3, b"", b"rtfilter: cannot open table\n"),
     (["."], FIND, 3, b"", b"rtfilter: cannot read table\n"),
     (["boxes.csv", "nowhere"], b"", 4, b"", b"rtfilter: cannot open queries\n"),
+    (["boxes.csv", ""], FIND, 4, b"", b"rtfilter: cannot open queries\n"),
     (["short.csv", "nowhere"], b"", 4, b"", b"rtfilter: cannot open queries\n"),
     (["boxes.csv", "."], b"", 4, b"", CANNOT_READ),
 ]
@@ -114,7 +135,10 @@ RUNS = [
 
 def run(program, words, folder, **streams):
     """Status, standard output where it is a pipe, and standard error."""
-    done = subprocess.run([program, *words], cwd=folder, stderr=subprocess.PIPE, timeout=60, **streams)
+    try:
+        done = subprocess.run([program, *words], cwd=folder, stderr=subprocess.PIPE, timeout=60, **streams)
+    except subprocess.TimeoutExpired:
+        return "no end within a minute", b"", b""
     return done.returncode, done.stdout, done.stderr
 
 
@@ -134,18 +158,33 @@ def full_device(program, words, folder):
         return run(program, words, folder, stdout=full)
 
 
-def closed(program, words, folder, stream):
-    """A run with a standard stream closed, `0<&-` or `1>&-`."""
-    return run("/bin/sh", ["-c", f'exec "$0" "$@" {stream}', program, *words], folder, stdout=subprocess.PIPE)
+def closed(program, words, folder, stream, **streams):
+    """A run with a standard stream closed, `0<&-`, `1>&-` or `2>&-`."""
+    shell = ["-c", f'exec "$0" "$@" {stream}', program, *words]
+    return run("/bin/sh", shell, folder, stdout=subprocess.PIPE, **streams)
 
 
-def little_memory(program, words, folder, megabytes):
-    """A run that gets so much memory, its code included."""
-    limits = (megabytes * 1_000_000,) * 2
+def little_memory(program, words, folder, room):
+    """A run whose address space has so many bytes, its code included."""
     return run(
         program, words, folder, input=FIND, stdout=subprocess.PIPE,
-        preexec_fn=lambda: resource.setrlimit(resource.RLIMIT_AS, limits),
+        preexec_fn=lambda: resource.setrlimit(resource.RLIMIT_AS, (room, room)),
     )
+
+
+def least_memory(program, folder):
+    """The address space that a small run needs, in bytes, in whole pages."""
+    step, enough = resource.getpagesize(), 1
+    while little_memory(program, ["boxes.csv"], folder, enough * step) != (0, FOUND, b""):
+        enough *= 2
+    short = enough // 2
+    while short + 1 < enough:
+        middle = (short + enough) // 2
+        if little_memory(program, ["boxes.csv"], folder, middle * step) == (0, FOUND, b""):
+            enough = middle
+        else:
+            short = middle
+    return enough * step
 
 
 def example(program):
@@ -155,16 +194,33 @@ def example(program):
     return (0, answers, b""), run(program, ["boxes.csv", "queries.txt"], folder, stdout=subprocess.PIPE)
 
 
-def cut_pipe(program, folder):
-    """A run whose queries come a byte at a time."""
-    process = subprocess.Popen(
-        [program, "boxes.csv"], cwd=folder, bufsize=0,
-        stdin=subprocess.PIPE, stdout=subprocess.PIPE, stderr=subprocess.PIPE,
-    )
-    for at in range(len(FIND)):
-        process.stdin.write(FIND[at:at + 1])
-    out, err = process.communicate(timeout=60)
-    return process.returncode, out, err
+def in_packets(program, folder):
+    """A run whose queries come through a pipe that gives one byte a read, more than 2^16 of them."""
+    queries = b"#\n" * 2**15 + FIND
+    reads, writes = os.pipe2(os.O_DIRECT)
+
+    def send():
+        with contextlib.suppress(BrokenPipeError), open(writes, "wb", buffering=0) as sink:
+            for at in range(len(queries)):
+                sink.write(queries[at:at + 1])
+
+    sender = threading.Thread(target=send)
+    sender.start()
+    with open(reads, "rb") as source:
+        found = run(program, ["boxes.csv"], folder, stdin=source, stdout=subprocess.PIPE)
+    sender.join()
+    return found
+
+
+def in_terminal(program, folder):
+    """A run whose queries come from a terminal, where the end is told once."""
+    ours, theirs = os.openpty()
+    try:
+        os.write(ours, FIND + b"\x04")
+        return run(program, ["boxes.csv"], folder, stdin=theirs, stdout=subprocess.PIPE)
+    finally:
+        os.close(ours)
+        os.close(theirs)
 
 
 def outcomes(program, folder):
@@ -174,18 +230,25 @@ def outcomes(program, folder):
             program, words, folder, input=stdin, stdout=subprocess.PIPE
         )
     yield "the examples", *example(program)
-    for name, words in (
-        ("no memory for table and queries", [LONG_NAME, "lines"]),
-        ("no memory for a record", ["/dev/zero"]),
-        ("no memory for the queries", ["boxes.csv", "/dev/zero"]),
+    least = least_memory(program, folder)
+    for name, words, room in (
+        ("no memory to begin with", ["boxes.csv"], -4 * resource.getpagesize()),
+        ("no memory for table and queries", [LONG_NAME, "lines"], 1_000_000),
+        ("no memory for a record", ["/dev/zero"], 10_000_000),
+        ("no memory for the queries", ["boxes.csv", "/dev/zero"], 10_000_000),
+        *((f"no memory for the table in {room} bytes", [LONG_NAME], room) for room in range(0, 20_000_001, 2_500_000)),
     ):
-        yield name, (6, b"", NO_MEMORY), little_memory(program, words, folder, 10)
+        yield name, (6, b"", NO_MEMORY), little_memory(program, words, folder, least + room)
     yield "a closed pipe", (5, None, CANNOT_WRITE), closed_pipe(program, folder)
     yield "a full device", (5, None, CANNOT_WRITE), full_device(program, ["boxes.csv", "queries"], folder)
     yield "help to a full device", (5, None, CANNOT_WRITE), full_device(program, ["--help"], folder)
     yield "closed output", (5, b"", CANNOT_WRITE), closed(program, ["boxes.csv", "queries"], folder, "1>&-")
     yield "closed input", (4, b"", CANNOT_READ), closed(program, ["boxes.csv"], folder, "0<&-")
-    yield "queries byte by byte", (0, FOUND, b""), cut_pipe(program, folder)
+    for words, status in ((["boxes.csv"], 0), (["nowhere.csv"], 3), (["boxes.csv", "nowhere"], 4), (["-x"], 2)):
+        found = FOUND if status == 0 else b""
+        yield f"closed error, {words}", (status, found, b""), closed(program, words, folder, "2>&-", input=FIND)
+    yield "queries in packets", (0, b"1 0\n2 0\nok 32769 2\n", b""), in_packets(program, folder)
+    yield "queries from a terminal", (0, FOUND, b""), in_terminal(program, folder)
 
 
 def main():

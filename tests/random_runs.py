@@ -1,13 +1,15 @@
 #!/usr/bin/env python3
 """Compares the built program with a plain reading of the same rules in another language, on random runs.
 
-usage: tests/random_runs.py PROGRAM [FIRST_SEED [SEEDS]]
+usage: tests/random_runs.py PROGRAM [--first SEED] [--seeds N]
 
-`expected` says what a run gives, as docs/ does, with nothing in it of the program's code or of its definitions. Each
-seed is a test of `RUNS` runs, whose tables and queries are mostly sound and now and then at fault. The last line is
-`N passed, M failed`.
+`reading.expected` says what a run gives. Each seed is a test of `RUNS` runs, whose tables are mostly sound and whose
+query lines are at fault as often as not. One more test is that the runs meet each form of the language and each fault
+often enough, and faults at least as often as answers. The last line is `N passed, M failed`.
 """
 
+import argparse
+import collections
 import random
 import re
 import subprocess
@@ -15,132 +17,52 @@ import sys
 import tempfile
 from pathlib import Path
 
+sys.dont_write_bytecode = True
+import reading
+from reading import FAULTS, LONGEST_LINE, MARK
+
 RUNS = 40
 MOST_ENTRIES = 16777216
-LONGEST_LINE = 4096
-MARK = b"\xef\xbb\xbf"
+
+# ---- numbers
+
+SMALL = -20, 20
+COORDINATE_ENDS = [-(2**31), -(2**31) + 1, 2**31 - 2, 2**31 - 1]
+EDGES = [n + d for n in (0, 2**31, -(2**31), 2**32, 2**63, -(2**63), 2**64, 2**127, 10**40) for d in (-1, 0, 1)]
+NO_NUMBERS = [b"", b"-", b"+", b"x", b"1 ", b" 1", b"--1", b"+-1", b"1.0", b"1e3", b"0x1", b"\0", b"\xff", MARK + b"1"]
 
 
-# ---- what is expected
-
-
-def records(text):
-    """The records of a CSV text, each the list of its fields, byte by byte."""
-    found, fields, field, state = [], [], b"", "record"
-    for code in text.removeprefix(MARK):
-        byte = bytes([code])
-        if state == "quotes":
-            if byte == b'"':
-                state = "quote"
-            else:
-                field += byte
-        elif state == "quote" and byte == b'"':
-            field, state = field + byte, "quotes"
-        elif byte in b"\r\n":
-            if state != "record":
-                found.append([*fields, field])
-            fields, field, state = [], b"", "record"
-        elif byte == b",":
-            fields, field, state = [*fields, field], b"", "field"
-        elif byte == b'"' and state in ("record", "field"):
-            state = "quotes"
-        else:
-            field, state = field + byte, "text"
-    return found if state == "record" else [*found, [*fields, field]]
-
-
-def number(text, bits):
-    """The number that a text writes, or in what way it is none of so many bits."""
-    if not re.fullmatch(rb"[+-]?[0-9]+", text):
-        return "is not a number"
-    value = int(text)
-    return value if -(2 ** (bits - 1)) <= value < 2 ** (bits - 1) else "is out of range"
-
-
-def fault(fields, ids):
-    """What is wrong with a record after those with these ids, or its five numbers."""
-    if len(fields) != 5:
-        return f"wrong number of fields ({len(fields)})"
-    numbers = [number(text, 64 if at == 0 else 32) for at, text in enumerate(fields)]
-    for at, value in enumerate(numbers):
-        if isinstance(value, str):
-            return f"field {at + 1} {value}"
-    for axis, low, high in (("x", 1, 2), ("y", 3, 4)):
-        if numbers[low] > numbers[high]:
-            return f"minimum above maximum in {axis}"
-    return "repeated id" if numbers[0] in ids else numbers
-
-
-def boxes(text, header, most):
-    """The boxes of a table by id, or the line that tells its first fault."""
-    found = {}
-    for at, fields in enumerate(records(text), 1):
-        if header and at == 1:
-            continue
-        judged = "too many entries" if len(found) >= most else fault(fields, found)
-        if isinstance(judged, str):
-            return f"rtfilter: table record {at}: {judged}\n".encode()
-        found[judged[0]] = judged[1:]
-    return found
-
-
-def window(words):
-    """The sides of the window that the words of a query give, if they do."""
-    if words[:2] != [b"find", b"window"] or len(words) != 6:
-        return None
-    sides = [number(word, 32) for word in words[2:]]
-    if any(isinstance(side, str) for side in sides) or sides[0] > sides[1] or sides[2] > sides[3]:
-        return None
-    return sides
-
-
-def meet(one, other):
-    """Whether two ranges share a number."""
-    return one[0] <= other[1] and other[0] <= one[1]
-
-
-def reply(table, at, line):
-    """The reply to a line, and whether it is faulty."""
-    words = [word for word in re.split(rb"[ \t]+", line.removesuffix(b"\r")) if word]
-    if len(line) <= LONGEST_LINE and (not words or words[0].startswith(b"#")):
-        return b"", False
-    sides = window(words) if len(line) <= LONGEST_LINE else None
-    if sides is None:
-        return b"error %d Q2 unknown verb\n" % at, True
-    ids = sorted(id for id, box in table.items() if meet(box[:2], sides[:2]) and meet(box[2:], sides[2:]))
-    return b"".join(b"%d 0\n" % id for id in ids) + b"ok %d %d\n" % (at, len(ids)), False
-
-
-def expected(table, queries, header, most):
-    """Status, standard output and standard error."""
-    found = boxes(table, header, most)
-    if isinstance(found, bytes):
-        return 3, b"", found
-    lines = queries.split(b"\n")
-    replies = [reply(found, at, line) for at, line in enumerate(lines if lines[-1] else lines[:-1], 1)]
-    return int(any(bad for _, bad in replies)), b"".join(out for out, _ in replies), b""
-
-
-# ---- random tables and queries
-
-ENDS = [b"\n", b"\r\n", b"\r", b"\n\n"]
-EDGES = [n + d for n in (2**31, -(2**31), 2**63, -(2**63), 2**127, 10**40) for d in (-1, 0, 1)]
-NO_NUMBERS = [b"", b"-", b"+", b"x", b"1 ", b" 1", b"--1", b"1.0", b"0x1", b"\0", b"\xff", MARK + b"1"]
-OTHER_WORDS = [[], [b"#"], [b"#find"], [b"find"], [b"Find", b"window"], [b"x"], [b"\0"], [b"find\vwindow"]]
-QUOTED = [b'""', b'"1"2', b'1"2', b'"1\n"', b'"1,2"', b'"a""b"', b'"']
+def small(chance):
+    return chance.randint(*SMALL)
 
 
 def pair(chance):
-    return sorted(chance.randint(-20, 20) for _ in range(2))
+    """A least and a greatest number: small ones, near each other or not, now and then at the ends of their range."""
+    if chance.random() < 0.3:
+        least = small(chance)
+        return [least, least + chance.choice([0, 0, 1, 3])]
+    return sorted(chance.choice(COORDINATE_ENDS) if chance.random() < 0.05 else small(chance) for _ in range(2))
+
+
+def written(chance, value):
+    """A number with signs and zeros as they may be."""
+    sign = b"-" if value < 0 or (value == 0 and chance.random() < 0.1) else chance.choice([b"", b"", b"", b"+"])
+    return sign + b"0" * chance.choice([0, 0, 0, 0, 1, 50]) + b"%d" % abs(value)
 
 
 def some_number(chance):
-    """A small number with signs and zeros as they may be; now and then a great one, or none."""
+    """A small number; now and then a great one, or none."""
     if chance.random() < 0.02:
         return chance.choice(NO_NUMBERS)
-    value = chance.choice(EDGES) if chance.random() < 0.03 else chance.randint(-20, 20)
-    sign = b"-" if value < 0 else chance.choice([b"", b"", b"+"])
-    return sign + b"0" * chance.choice([0, 0, 0, 1, 50]) + b"%d" % abs(value)
+    return written(chance, chance.choice(EDGES) if chance.random() < 0.03 else small(chance))
+
+
+# ---- tables
+
+ENDS = [b"\n", b"\r\n", b"\r", b"\n\n"]
+# Some are a power of a fanout, or one more.
+SIZES = [0, 1, 2, 3, 4, 9, 10, 16, 17, 50, 64, 65, 150]
+QUOTED = [b'""', b'"1"2', b'1"2', b'"1\n"', b'"1,2"', b'"a""b"', b'"']
 
 
 def some_record(chance, is_sound):
@@ -154,63 +76,258 @@ def some_record(chance, is_sound):
 
 
 def some_table(chance):
-    is_sound = chance.random() < 0.5
+    is_sound = chance.random() < 0.8
     end = chance.choice([*ENDS, None])
-    rows = [some_record(chance, is_sound) for _ in range(chance.choice([0, 1, 3, 10, 50]))]
-    if rows and chance.random() < 0.1:
+    rows = [some_record(chance, is_sound) for _ in range(chance.choice(SIZES))]
+    if rows and not is_sound and chance.random() < 0.3:
         rows.append(chance.choice([chance.choice(rows), b" ", b'""']))
     text = b"".join(row + (end or chance.choice(ENDS)) for row in rows)
-    return MARK * chance.choice([0] * 8 + [1, 2]) + (text if chance.random() < 0.7 else text.rstrip(b"\r\n"))
+    return MARK * chance.choice([0] * 20 + [1, 2]) + (text if chance.random() < 0.7 else text.rstrip(b"\r\n"))
+
+
+# ---- query lines
+
+REGIONS = [b"all", b"window", b"inside", b"covers", b"circle", b"polygon"]
+ROUND = [(0, 0), (4, -1), (8, 1), (10, 5), (9, 9), (5, 11), (1, 9), (-1, 4)]
+CORNERS = [(-(2**31), -(2**31)), (2**31 - 1, -(2**31)), (2**31 - 1, 2**31 - 1), (-(2**31), 2**31 - 1)]
+PARABOLA = [(n, n * n) for n in range(-8, 8)]
+
+
+def some_vertices(chance):
+    """Vertices, mostly of a strictly convex polygon, either way round and begun anywhere."""
+    kind = chance.random()
+    if kind < 0.35:
+        vertices = [(small(chance), small(chance)) for _ in range(3)]
+    elif kind < 0.6:
+        at, zoom = (small(chance), small(chance)), chance.choice([1, 1, 2, 3])
+        vertices = [(at[0] + zoom * x, at[1] + zoom * y) for x, y in ROUND]
+    elif kind < 0.7:
+        vertices = list(PARABOLA)
+    elif kind < 0.8:
+        vertices = list(CORNERS)
+    else:
+        (x1, x2), (y1, y2) = pair(chance), pair(chance)
+        vertices = [(x1, y1), (x2, y1), (x2, y2), (x1, y2)]
+    kept = chance.randint(3, len(vertices))
+    vertices = [vertices[at] for at in sorted(chance.sample(range(len(vertices)), kept))]
+    turned = chance.randrange(kept)
+    vertices = vertices[turned:] + vertices[:turned]
+    return vertices[:: chance.choice([1, -1])]
+
+
+def some_radius(chance):
+    kind = chance.random()
+    return chance.choice([2**32 - 1, 2**31, 0]) if kind < 0.1 else chance.randint(0, 30)
+
+
+def some_region(chance):
+    """The words of a region."""
+    name = chance.choice(REGIONS)
+    if name == b"all":
+        return [name]
+    if name == b"circle":
+        numbers = [small(chance), small(chance), some_radius(chance)]
+    elif name == b"polygon":
+        vertices = some_vertices(chance)
+        numbers = [len(vertices), *(side for vertex in vertices for side in vertex)]
+    elif name == b"covers":
+        x, y = small(chance), small(chance)
+        numbers = [x, x + chance.choice([0, 0, 1, 5]), y, y + chance.choice([0, 0, 1, 5])]
+    else:
+        numbers = [*pair(chance), *pair(chance)]
+    return [name, *(written(chance, number) for number in numbers)]
+
+
+def some_limit(chance):
+    return written(chance, chance.choice([0, 1, 1, 2, 3, 5, 20, 2**64 - 1]))
+
+
+def some_point(chance):
+    values = [chance.choice(COORDINATE_ENDS) if chance.random() < 0.1 else small(chance) for _ in range(2)]
+    return [written(chance, value) for value in values]
+
+
+def some_query(chance):
+    """The words of a sound query."""
+    verb = chance.choice([b"find"] * 5 + [b"nearest", b"count", b"count", b"levels"])
+    if verb == b"levels":
+        return [verb]
+    if verb == b"nearest":
+        return [verb, some_limit(chance), *some_point(chance)]
+    words = [verb, *some_region(chance)]
+    if verb == b"find":
+        words += chance.choice([[], [], [b"near", *some_point(chance)], [b"smallest"]])
+        words += chance.choice([[], [b"first", some_limit(chance)]])
+    return words
+
+
+WORDS = [*REGIONS, b"find", b"count", b"nearest", b"levels", b"near", b"smallest", b"first", b"x", b"#", b"3", b"-1"]
+
+
+# ---- near misses: each changes one thing of the words of a sound query
+
+
+def cut(chance, words):
+    del words[chance.randrange(len(words)):]
+
+
+def drop(chance, words):
+    del words[chance.randrange(len(words))]
+
+
+def add(chance, words):
+    words.insert(chance.randint(0, len(words)), chance.choice(WORDS))
+
+
+def add_last(chance, words):
+    words.append(chance.choice(WORDS))
+
+
+def respell(chance, words):
+    at = chance.randrange(len(words))
+    words[at] = words[at].title() if chance.random() < 0.5 else words[at] + b"s"
+
+
+def replace(chance, words):
+    words[chance.randrange(len(words))] = chance.choice(WORDS)
+
+
+def replace_verb(chance, words):
+    words[0] = chance.choice([b"", b"get", b"finds", b"fin", b"find\v", b"cost", MARK + words[0]])
+
+
+def swap(chance, words):
+    at = chance.randrange(len(words))
+    words[at:at + 2] = reversed(words[at:at + 2])
+
+
+def swap_sides(chance, words):
+    if len(words) > 2 and words[1] in (b"window", b"inside", b"covers"):
+        at = chance.choice([2, 4])
+        words[at:at + 2] = reversed(words[at:at + 2])
+
+
+def misstate(chance, words):
+    numbers = [at for at, word in enumerate(words) if reading.number(word) is not None]
+    if numbers:
+        words[chance.choice(numbers)] = chance.choice([b"%d" % chance.choice(EDGES), chance.choice(NO_NUMBERS)])
+
+
+MISSES = [cut, drop, add, add, add_last, respell, replace, replace_verb, swap, swap_sides, *[misstate] * 4]
+
+
+def missed(chance, words):
+    """The words with one thing changed, which is mostly a fault."""
+    words = list(words)
+    chance.choice(MISSES)(chance, words)
+    return words
+
+
+# Polygons that aren't strictly convex: three vertices on a line, one twice, a star, a dent, and wrong numbers of them.
+BAD_POLYGONS = [
+    b"3 0 0 5 5 10 10",
+    b"4 0 0 5 0 10 0 0 10",
+    b"4 0 0 0 0 10 0 0 10",
+    b"4 0 0 10 0 0 10 0 0",
+    b"5 0 3 2 -3 -3 1 3 1 -2 -3",
+    b"4 0 0 10 0 2 2 0 10",
+    b"2 0 0 10 0",
+    b"17 0 0",
+    b"0",
+    b"-3 0 0 5 0 0 5",
+    b"99999999999999999999999999999999999999999",
+]
+OTHER_WORDS = [[], [b"#"], [b"#find"], [b"# find all"], [b"\0"], [b"find\vall"], [b"\xff"], [b"find\0all"]]
+
+
+def some_words(chance):
+    kind = chance.random()
+    if kind < 0.42:
+        return some_query(chance)
+    if kind < 0.9:
+        return missed(chance, some_query(chance))
+    if kind < 0.95:
+        return [chance.choice([b"find", b"count"]), b"polygon", *chance.choice(BAD_POLYGONS).split()]
+    return chance.choice(OTHER_WORDS)
 
 
 def some_line(chance):
-    kind = chance.random()
-    if kind < 0.6:
-        words = [b"find", b"window", *(b"%d" % n for n in pair(chance) + pair(chance))]
-    elif kind < 0.8:
-        words = [b"find", b"window", *(some_number(chance) for _ in range(chance.choice([4, 4, 4, 3, 5])))]
-    else:
-        words = chance.choice(OTHER_WORDS)
-    line = chance.choice([b"", b" ", b"\t"]) + b"".join(word + chance.choice([b" ", b"  ", b"\t"]) for word in words)
-    if chance.random() < 0.05:
+    gaps = chance.choice([[b" "], [b" ", b"  ", b"\t", b" \t "]])
+    line = chance.choice([b"", b"", b"", b" ", b"\t"]) + b"".join(
+        word + chance.choice(gaps) for word in some_words(chance)
+    )
+    line = line if chance.random() < 0.3 else line.rstrip(b" \t")
+    if chance.random() < 0.04:
         line = line.ljust(LONGEST_LINE + chance.choice([-1, 0, 1, 5000]))
-    return line + chance.choice([b""] * 6 + [b"\r", b"\r\r"])
+    return line + chance.choice([b""] * 8 + [b"\r", b"\r\r"])
 
 
 def some_queries(chance):
-    return b"\n".join(some_line(chance) for _ in range(chance.randint(0, 12))) + chance.choice([b"", b"\n"])
+    return b"\n".join(some_line(chance) for _ in range(chance.randint(0, 24))) + chance.choice([b"", b"\n"])
 
 
 # ---- the runs
 
 
-def differs(program, folder, chance):
-    """Makes a run, and tells it where it isn't as expected."""
+def differs(program, folder, chance, met):
+    """Makes a run, and tells it where it isn't as expected. The kinds of lines of the output are counted."""
     table, queries = some_table(chance), some_queries(chance)
-    header, most = chance.random() < 0.3, chance.choice([MOST_ENTRIES] * 4 + [5, 1])
+    header, most = chance.random() < 0.2, chance.choice([MOST_ENTRIES] * 9 + [5, 1])
+    fanout = chance.choice([2, 3, 16, 64])
     Path(folder, "table").write_bytes(table)
-    words = ["--header"] * header + ["--max-entries", str(most), "table"]
+    words = ["--header"] * header + ["--fanout", str(fanout), "--max-entries", str(most), "table"]
     done = subprocess.run([program, *words], cwd=folder, input=queries, capture_output=True, timeout=60)
     found = done.returncode, done.stdout, done.stderr
-    wanted = expected(table, queries, header, most)
+    wanted = reading.expected(table, queries, header, most, fanout)
+    for line, text in enumerate(reading.lines_of(queries) if not wanted[2] else [], 1):
+        met.update(kinds(line, text, wanted[1]))
     if found == wanted:
         return None
     return f"{' '.join(words)}\n  table    {table}\n  queries  {queries}\n  expected {wanted}\n  found    {found}"
 
 
+def kinds(at, line, output):
+    """What a line is a case of: its fault, or its verb, region, order and limit."""
+    told = re.search(rb"^(ok|error) %d ([^ \n]*)" % at, output, re.MULTILINE)
+    if told is None:
+        return ["skipped"]
+    if told[1] == b"error":
+        return ["error", told[2].decode()]
+    words = {word.decode() for word in reading.Words(line).left if word.isalpha()}
+    return ["ok", *words]
+
+
+WHOLE = {"skipped", "find", "nearest", "count", "levels", "near", "smallest", "first", *FAULTS}
+WHOLE |= {name.decode() for name in REGIONS}
+
+
+def lacks(met, seeds):
+    """What the runs of so many seeds met too seldom: less than once in every other seed."""
+    seldom = [f"{kind} ({met[kind]})" for kind in sorted(WHOLE) if met[kind] < seeds // 2]
+    return seldom + [f"errors ({met['error']}) beside {met['ok']} answered lines"] * (met["error"] < met["ok"])
+
+
 def main():
-    program = str(Path(sys.argv[1]).resolve())
-    first = int(sys.argv[2]) if len(sys.argv) > 2 else 1
-    seeds = int(sys.argv[3]) if len(sys.argv) > 3 else 10
-    failed = 0
+    parser = argparse.ArgumentParser()
+    parser.add_argument("program")
+    parser.add_argument("--first", type=int, default=1)
+    parser.add_argument("--seeds", type=int, default=20)
+    args = parser.parse_args()
+    program = str(Path(args.program).resolve())
+    met, failed = collections.Counter(), 0
     with tempfile.TemporaryDirectory() as folder:
-        for seed in range(first, first + seeds):
+        for seed in range(args.first, args.first + args.seeds):
             chance = random.Random(seed)
-            wrong = next(filter(None, (differs(program, folder, chance) for _ in range(RUNS))), None)
+            runs = [differs(program, folder, chance, met) for _ in range(RUNS)]
+            wrong = next(filter(None, runs), None)
             if wrong:
                 failed += 1
                 print(f"FAIL seed {seed}: {wrong}")
-    print(f"{seeds - failed} passed, {failed} failed")
+    seldom = lacks(met, args.seeds)
+    if seldom:
+        failed += 1
+        print(f"FAIL met too seldom: {', '.join(seldom)}")
+    print(f"{args.seeds + 1 - failed} passed, {failed} failed")
     return int(failed > 0)
 
 

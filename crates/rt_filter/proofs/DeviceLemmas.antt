@@ -1,13 +1,13 @@
 -- What pushes and pulls add up to.
 use Rattle.std.proofs.Common.{◌≡◌, ◌∙◌, ◌+◌, ◌<◌, ◌≤◌, ℕ, List, [], ◌∷◌, ◌++◌, length, take, drop, Option, Some, None, refl, sym, ap, arith, append_assoc, append-nil}
 use Rattle.std.specs.Prelude.{IfSome}
+use Rattle.std.specs.Io.{StartsWith}
 use Rattle.std.specs.Io.KnownBytes.{Appends, Consumes, IsAtEnd, Keeps}
+use Rattle.std.proofs.Math.Seq.{take-append_seam}
 use Rattle.std.proofs.lemmas.List.{length-append, length-take-le, take-append-drop}
-use Rattle.rt_filter.specs.Devices.{IsUnmoved}
-use Rattle.rt_filter.specs.Endings.{WentFront}
-
-some_is : (xs ys : List ℕ) → ◌≡◌ {A = Option (List ℕ)} (Some xs) (Some ys) → xs ≡ ys
-some_is xs ys e = cc
+use Rattle.rt_device.specs.Devices.{IsUnmoved}
+use Rattle.rt_filter.specs.Endings.{WentPrefix}
+use Rattle.rt_filter.specs.Stages.{WasCut}
 
 -- a fact at each list that it may be is one at the list that it is
 if_some : (P : List ℕ → Type 0) (o : Option (List ℕ)) → ((xs : List ℕ) → o ≡ Some xs → P xs) → IfSome o P
@@ -48,14 +48,18 @@ pushed_all all old mid new [] p z k = if_some _ old (λ before e.
     kept (before ++ q.0) new (rw q.1 at k) ∙ ap (λ zs. Some (before ++ zs)) (sym (q.2 ∙ append-nil q.0)))
 pushed_all all old mid new (c ∷ rest) p z k = absurd (omega (arith, z))
 
-unmoved : (xs : List ℕ) (new : Option (List ℕ)) (all out rest before : List ℕ) → IsUnmoved (Some xs) new → xs ≡ before ++ out → all ≡ out ++ rest
-    → IfSome new (λ now. (out : List ℕ) × (rest : List ℕ) × (now ≡ before ++ out) × (all ≡ out ++ rest))
-unmoved xs None all out rest before h e f = tt
-unmoved xs (Some ys) all out rest before h e f = (out, rest, h ∙ e, f)
+-- the front of a list is a prefix of it
+prefix : (out rest all : List ℕ) → all ≡ out ++ rest → StartsWith all out
+prefix out rest all e = rw e (take-append_seam out rest)
 
--- a push or a flush failed: a front went out
-pub pushed_front : (all : List ℕ) (old mid new : Option (List ℕ)) (rest : List ℕ) → Pushed all old mid rest → IsUnmoved mid new → WentFront old new all
-pushed_front all old mid new rest p h = if_some _ old (λ before e.
+unmoved : (xs : List ℕ) (new : Option (List ℕ)) (all out rest before : List ℕ) → IsUnmoved (Some xs) new → xs ≡ before ++ out → all ≡ out ++ rest
+    → WentPrefix before new all
+unmoved xs None all out rest before h e f = tt
+unmoved xs (Some ys) all out rest before h e f = (out, h ∙ e, prefix out rest all f)
+
+-- a push or a flush failed: a prefix went out
+pub pushed_prefix : (all : List ℕ) (old mid new : Option (List ℕ)) (rest : List ℕ) → Pushed all old mid rest → IsUnmoved mid new → WasCut old new all
+pushed_prefix all old mid new rest p h = if_some _ old (λ before e.
     let q = p.out before e in
     unmoved (before ++ q.0) new all q.0 rest before (rw q.1 at h) refl q.2)
 
@@ -64,11 +68,9 @@ unmoved_same None = tt
 unmoved_same (Some xs) = refl
 
 -- the same where a push took nothing
-pub pushed_nothing : (all : List ℕ) (old mid new : Option (List ℕ)) (rest : List ℕ) (n : ℕ) → Pushed all old mid rest → Appends mid new (take n rest) → WentFront old new all
+pub pushed_nothing : (all : List ℕ) (old mid new : Option (List ℕ)) (rest : List ℕ) (n : ℕ) → Pushed all old mid rest → Appends mid new (take n rest) → WasCut old new all
 pushed_nothing all old mid new rest n p h =
-    pushed_front all old new new (drop n rest) (pushed_more all old mid new rest (drop n rest) n p h refl) (unmoved_same new)
-
--- ---- pulls
+    pushed_prefix all old new new (drop n rest) (pushed_more all old mid new rest (drop n rest) n p h refl) (unmoved_same new)
 
 -- ---- pulls
 

@@ -1,13 +1,7 @@
 mod AnswerLemmas
-mod ArgumentLemmas
-mod CommandLemmas
-mod CommandRows
 mod DeviceLemmas
+mod LevelLemmas
 mod LineLemmas
-mod OptionLemmas
-mod OptionNumbers
-mod Permutations
 mod RunLemmas
 mod RunRows
-mod SortingLemmas
-mod WordLemmas
+mod TreeLemmas

@@ -1,10 +1,11 @@
 -- How a run may end, by the fault that it reports.
-use Rattle.std.specs.Prelude.{◌≡◌, ℕ, ◌⊎◌, List, [], ◌++◌, Bool, true, false, Option, Some, None, IfSome, ⊤, codes}
-use Rattle.rt_text.specs.FaultLines.{fault_line}
-use Rattle.rt_filter.specs.Runs.{Choices, Run, run_of}
+use Rattle.std.specs.Prelude.{◌≡◌, ℕ, ◌⊎◌, List, [], ◌++◌, Bool, true, false, Option, Some, None, IfSome}
+use Rattle.std.specs.Io.{StartsWith}
+use Rattle.rt_command.specs.Choices.{Choices}
 use Rattle.rt_text.specs.Tables.{tells_text}
 use Rattle.rt_text.specs.declared.tables.TableFault.{TableFault}
 use Rattle.rt_text.specs.declared.tables.TableFault.TheVariants as load
+use Rattle.rt_filter.specs.Runs.{Run, faulty_run, run_of}
 use Rattle.rt_filter.specs.declared.filter.Outcome.{Outcome}
 use Rattle.rt_filter.specs.declared.filter.RunFault.{RunFault}
 use Rattle.rt_filter.specs.declared.filter.RunFault.TheVariants.{Table, Read, Write, Memory}
@@ -22,9 +23,18 @@ pub record Told : Type 0 where
   -- in the sink, now
   pub written : Option (List ℕ)
 
+abbrev pub told_of : (table queries before : List ℕ) → (coming written : Option (List ℕ)) → Told
+told_of table queries before coming written =
+    record { table = table; queries = queries; before = before; coming = coming; written = written }
+
 -- these bytes went out
 abbrev pub WentOut : Told → List ℕ → Type 0
 WentOut told out = told.written ≡ Some (told.before ++ out)
+
+-- where the sink still tells its bytes, those that came out after `before` are a prefix of these
+abbrev pub WentPrefix : (before : List ℕ) → (now : Option (List ℕ)) → List ℕ → Type 0
+WentPrefix before now bytes =
+    IfSome now (λ written. (out : List ℕ) × (written ≡ before ++ out) × StartsWith bytes out)
 
 -- all was read and all was written
 pub record EndsWhole (run : Run) (told : Told) (code : ℕ) : Type 0 where
@@ -34,10 +44,10 @@ pub record EndsWhole (run : Run) (told : Told) (code : ℕ) : Type 0 where
   pub status : code ≡ run.status
 
 -- a fault of the table: no query was read and nothing was written; a fault of its text is the one that the bytes have
-pub record EndsAtTable (run : Run) (told : Told) (fault : TableFault) : Type 0 where
+pub record EndsAtTable (run : Run) (told : Told) (cause : TableFault) : Type 0 where
   pub coming : told.coming ≡ Some told.queries
   pub written : WentOut told []
-  pub own : tells_text fault ≡ true → run ≡ record { written = []; fault = Some (Table fault); status = 3 }
+  pub own : tells_text cause ≡ true → run ≡ faulty_run cause
 
 -- want of memory, before anything was written
 pub record EndsEarly (told : Told) : Type 0 where
@@ -48,16 +58,16 @@ pub record EndsAtPull (run : Run) (told : Told) : Type 0 where
   pub written : WentOut told []
   pub fault : run.fault ≡ None
 
--- a failed push or flush: the table is sound, all was read, and what went out, where the sink still tells it, is a front of the run's output
+-- a failed push or flush: the table is sound, all was read, and what went out is a prefix of the run's output
 pub record EndsAtPush (run : Run) (told : Told) : Type 0 where
   pub coming : told.coming ≡ Some []
-  pub written : IfSome told.written (λ now. (out rest : List ℕ) × (now ≡ told.before ++ out) × (run.written ≡ out ++ rest))
+  pub written : WentPrefix told.before told.written run.written
   pub fault : run.fault ≡ None
 
 -- the row of each fault
 abbrev pub EndsWith : Run → Told → ℕ → Option RunFault → Type 0
 EndsWith run told status None = EndsWhole run told status
-EndsWith run told status (Some (Table fault)) = EndsAtTable run told fault
+EndsWith run told status (Some (Table cause)) = EndsAtTable run told cause
 EndsWith run told status (Some Read) = EndsAtPull run told
 EndsWith run told status (Some Write) = EndsAtPush run told
 EndsWith run told status (Some Memory) = EndsEarly told
@@ -85,7 +95,7 @@ is_read other = false
 
 -- the fault comes before the first query is read
 abbrev pub is_before_queries : Option RunFault → Bool
-is_before_queries (Some (Table fault)) = true
+is_before_queries (Some (Table cause)) = true
 is_before_queries other = false
 
 -- the fault comes before the first byte is written
@@ -93,32 +103,3 @@ abbrev pub is_before_output : Option RunFault → Bool
 is_before_output None = false
 is_before_output (Some Write) = false
 is_before_output other = true
-
--- ---- the parts of a run
-
--- a fault that a run may report
-abbrev pub is_told : RunFault → Bool
-is_told (Table load.Memory) = false
-is_told other = true
-
--- why there are no replies: a fault of the table, which its bytes have, or a failure outside. After a failed pull, or used up turns, the table is sound
-abbrev pub Stops : Choices → (table : List ℕ) → RunFault → Type 0
-Stops choices table (Table fault) = tells_text fault ≡ true → (queries : List ℕ) → run_of choices table queries ≡ record { written = []; fault = Some (Table fault); status = 3 }
-Stops choices table Read = (queries : List ℕ) → (run_of choices table queries).fault ≡ None
-Stops choices table other = ⊤
-
--- a push was cut short: what went out is a front of the bytes
-abbrev pub WentFront : (old new : Option (List ℕ)) → List ℕ → Type 0
-WentFront old new bytes = IfSome old (λ before. IfSome new (λ now. (out rest : List ℕ) × (now ≡ before ++ out) × (bytes ≡ out ++ rest)))
-
--- what a run tells of a fault of the load
-abbrev pub run_fault : TableFault → RunFault
-run_fault load.Memory = Memory
-run_fault other = Table other
-
--- the line that tells a fault
-abbrev pub run_fault_line : RunFault → List ℕ
-run_fault_line (Table fault) = fault_line fault
-run_fault_line Read = codes "rtfilter: cannot read queries\n"
-run_fault_line Write = codes "rtfilter: cannot write answers\n"
-run_fault_line Memory = codes "rtfilter: out of memory\n"

@@ -1,9 +1,10 @@
 pub mod Answers
-pub mod Devices
 pub mod Endings
-pub mod Invocations
+pub mod Faults
 pub mod Lines
-pub mod Queries
 pub mod Replies
 pub mod Runs
-pub mod Sorting
+pub mod Stages
+pub use Rattle.rt_command.specs.Choices
+pub use Rattle.rt_command.specs.Invocations
+pub use Rattle.rt_device.specs.Devices

@@ -1,20 +1,22 @@
 -- The lines of query bytes.
 use Rattle.std.specs.Prelude.{ℕ, ◌==◌, ◌&&◌, Bool, true, false, not, if◌then◌else◌, List, [], ◌∷◌}
 use Rattle.std.specs.List.{enumerate_from, slice_split}
+use Rattle.rt_text.specs.Words.{is_empty}
+
+-- the byte that ends a line
+abbrev pub line_feed : ℕ
+line_feed = 10
 
 abbrev pub is_line_feed : ℕ → Bool
-is_line_feed c = c == 10
+is_line_feed c = c == line_feed
 
-abbrev pub is_empty : List ℕ → Bool
-is_empty [] = true
-is_empty (c ∷ bytes) = false
-
--- of the parts between line feeds each but the last is a line; the last is one where no more bytes come and it isn't empty
+-- of the parts between line feeds each but the last is a line; the last is one where no more bytes come and it isn't
+-- empty
 abbrev pub lines_of_parts : (ended : Bool) → List (List ℕ) → List (List ℕ)
 lines_of_parts ended [] = []
 lines_of_parts ended (part ∷ []) = if ended && not (is_empty part) then part ∷ [] else []
 lines_of_parts ended (part ∷ next ∷ more) = part ∷ lines_of_parts ended (next ∷ more)
 
 -- the lines of these bytes, numbered from 1; `ended` says that no more bytes come, as at the end of the queries
-abbrev pub lines : List ℕ → (ended : Bool) → List (ℕ × List ℕ)
-lines bytes ended = enumerate_from 1 (lines_of_parts ended (slice_split is_line_feed bytes))
+abbrev pub numbered_lines : List ℕ → (ended : Bool) → List (ℕ × List ℕ)
+numbered_lines bytes ended = enumerate_from 1 (lines_of_parts ended (slice_split is_line_feed bytes))

@@ -1,26 +1,13 @@
 -- A whole run: what it writes, the fault that it reports, and its status.
-use Rattle.std.specs.Prelude.{ℕ, ◌≤◌, Bool, true, if◌then◌else◌, List, [], Option, Some, None, Result, Ok, Err}
-use Rattle.rt_geo.specs.declared.entry.Entry.{Entry}
-use Rattle.rt_filter.specs.Lines.{lines}
-use Rattle.rt_filter.specs.Replies.{any_fault, output}
+use Rattle.std.specs.Prelude.{ℕ, Bool, true, if◌then◌else◌, List, [], Option, Some, None, Result, Ok, Err}
+use Rattle.rt_command.specs.Choices.{Choices}
+use Rattle.rt_text.specs.Steps.{◌>>=◌}
 use Rattle.rt_text.specs.Tables.{table_of}
-use Rattle.rt_tree.specs.Entries.{most_entries}
+use Rattle.rt_text.specs.declared.tables.TableFault.{TableFault}
+use Rattle.rt_filter.specs.Lines.{numbered_lines}
+use Rattle.rt_filter.specs.Replies.{Loaded, any_fault, output}
 use Rattle.rt_filter.specs.declared.filter.RunFault.{RunFault}
 use Rattle.rt_filter.specs.declared.filter.RunFault.TheVariants.{Table}
-use Rattle.rt_text.specs.declared.tables.TableFault.{TableFault}
-
--- the settings of a run: whether the table's first record is a header, how many children a node may have, how many entries a table may have
-pub record Choices : Type 0 where
-  pub header : Bool
-  pub fanout : ℕ
-  pub max_entries : ℕ
-
--- the settings are in their ranges
-pub record AreAllowed (choices : Choices) : Type 0 where
-  pub least_fanout : 2 ≤ choices.fanout
-  pub greatest_fanout : choices.fanout ≤ 64
-  pub some_entries : 1 ≤ choices.max_entries
-  pub most_entries : choices.max_entries ≤ most_entries
 
 -- what a run writes, the fault that it reports, and its status
 pub record Run : Type 0 where
@@ -28,13 +15,27 @@ pub record Run : Type 0 where
   pub fault : Option RunFault
   pub status : ℕ
 
--- a run over a table that was loaded, or over the fault that it has: 3 for a faulty table, 1 where some line is faulty, else 0
-abbrev pub run_over : Result (List Entry) TableFault → List ℕ → Run
-run_over (Err fault) queries = record { written = []; fault = Some (Table fault); status = 3 }
-run_over (Ok entries) queries =
-    let asked = lines queries true in
-    record { written = output entries asked; fault = None; status = if any_fault asked then 1 else 0 }
+-- a run over a faulty table
+abbrev pub faulty_run : TableFault → Run
+faulty_run cause = record { written = []; fault = Some (Table cause); status = 3 }
+
+-- a run that reads and writes all: its status is 1 where some line is faulty, else 0
+abbrev pub whole_run : (written : List ℕ) → (bad : Bool) → Run
+whole_run written bad = record { written = written; fault = None; status = if bad then 1 else 0 }
+
+-- a run over what was loaded, or over the fault of the table
+abbrev pub run_over : Result Loaded TableFault → List ℕ → Run
+run_over (Err cause) queries = faulty_run cause
+run_over (Ok loaded) queries =
+    let lines = numbered_lines queries true in
+    whole_run (output loaded lines) (any_fault lines)
+
+-- what the settings load of a table's bytes, or the first fault of the table
+abbrev pub loaded_of : Choices → (table : List ℕ) → Result Loaded TableFault
+loaded_of choices table = do
+  entries ← table_of table choices.header choices.max_entries
+  Ok (record { entries = entries; fanout = choices.fanout })
 
 -- the run of settings over a table's bytes and query bytes
 abbrev pub run_of : Choices → (table queries : List ℕ) → Run
-run_of choices table queries = run_over (table_of table choices.header choices.max_entries) queries
+run_of choices table queries = run_over (loaded_of choices table) queries

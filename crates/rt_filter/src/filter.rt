@@ -1,14 +1,16 @@
 //! A whole run: a table and queries in, answers out.
 
 ghost use Rattle.std.specs.Prelude.{◌≡◌, ◌+◌, ◌-◌, ◌++◌, ◌<◌, ◌≤◌, ◌^◌, ◌⊎◌, ℕ, List, [], Some, None, IfSome, IfOk, IfErr, OnOk, OnErr, MatchResult, length, if◌then◌else◌, true};
-ghost use Rattle.rt_filter.specs.Endings.{Ends, IsStatusOf, Stops, WentFront, is_before_output, is_before_queries, is_read, is_told, is_write, run_fault_line};
-ghost use Rattle.rt_filter.specs.Runs.{run_of};
+ghost use Rattle.rt_filter.specs.Endings.{Ends, IsStatusOf, told_of, is_before_output, is_before_queries, is_read, is_write};
+ghost use Rattle.rt_filter.specs.Faults.{run_fault_line};
+ghost use Rattle.rt_filter.specs.Runs.{run_of, whole_run};
+ghost use Rattle.rt_filter.specs.Stages.{Stops, WasCut, is_told};
 
-use crate::reply::{LONGEST_LINE, answer_lines};
-use crate::settings::Settings;
-use crate::sink::{Sink, WriteFault};
-use crate::source::Source;
+use crate::reply::{LONGEST_LINE, put_output};
+use rt_command::Settings;
+use rt_device::{Sink, Source, WriteFault};
 use rt_text::{Line, TableFault, fault_line, read_table};
+use rt_tree::Tree;
 use std::alloc::{AllocError, Global};
 use std::io::Read;
 use thiserror::Error;
@@ -58,15 +60,19 @@ pub fn run<R: Read + Drop, S: Source, K: Sink>(
     requires sink_count { K.failed sink.old < 2 ^ 64 - 1 }
 
     // The headline. Where the three devices tell their bytes, the run ends as `run_of` of the bytes: what
-    // is written, the fault and the status. After a failed push or flush, what went out is a front of that.
-    ensures ending { (table queries before : List ℕ) → R.remaining reader ≡ Some table → S.coming source.old ≡ Some queries → K.written sink.old ≡ Some before
-        → Ends settings.now (record { table = table; queries = queries; before = before; coming = S.coming source.new; written = K.written sink.new }) result }
+    // is written, the fault and the status. After a failed push or flush, what went out is a prefix of that.
+    ensures ending { (table queries before : List ℕ)
+        → R.remaining reader ≡ Some table → S.coming source.old ≡ Some queries → K.written sink.old ≡ Some before
+        → let told = told_of table queries before (S.coming source.new) (K.written sink.new) in
+        Ends settings.now told result }
     ensures status { IsStatusOf result.fault result.status }
 
     // Each failure of a device is told, and no other. A source may also be given up when the turns are used up.
     ensures pushes { K.failed sink.new ≡ K.failed sink.old + (if is_write result.fault then 1 else 0) }
-    ensures pulls { (S.failed source.new ≡ S.failed source.old) ⊎ ((S.failed source.new ≡ S.failed source.old + 1) × (is_read result.fault ≡ true)) }
-    ensures turns { is_read result.fault ≡ true → S.failed source.new ≡ S.failed source.old → IfSome (S.coming source.old) (λ queries. turns ≤ length queries) }
+    ensures pulls { (S.failed source.new ≡ S.failed source.old)
+        ⊎ ((S.failed source.new ≡ S.failed source.old + 1) × (is_read result.fault ≡ true)) }
+    ensures turns { is_read result.fault ≡ true → S.failed source.new ≡ S.failed source.old
+        → IfSome (S.coming source.old) (λ queries. turns ≤ length queries) }
 
     // What comes later is not touched.
     ensures unread { is_before_queries result.fault ≡ true → source.new ≡ source.old }
@@ -113,32 +119,40 @@ fn replies<R: Read + Drop, S: Source>(
     turns: u64,
 ) -> Result<(Vec<u8>, bool), RunFault>
     requires { S.failed source.old < 2 ^ 64 - 1 }
-    ensures whole { IfOk result (λ replies. (table queries : List ℕ) → R.remaining reader ≡ Some table → S.coming source.old ≡ Some queries
-        → run_of settings.now table queries ≡ record { written = replies.0.items; fault = None; status = if replies.1 then 1 else 0 }) }
+    ensures whole { IfOk result (λ replies. (table queries : List ℕ)
+        → R.remaining reader ≡ Some table → S.coming source.old ≡ Some queries
+        → run_of settings.now table queries ≡ whole_run replies.0.items replies.1) }
     ensures read { OnOk result (IfSome (S.coming source.old) (λ queries. S.coming source.new ≡ Some [])) }
-    ensures stops { IfErr result (λ fault. (table : List ℕ) → R.remaining reader ≡ Some table → Stops settings.now table fault) }
+    ensures stops { IfErr result (λ fault. (table : List ℕ)
+        → R.remaining reader ≡ Some table → Stops settings.now table fault) }
     ensures unpushed { IfErr result (λ fault. (is_told fault ≡ true) × (is_before_output (Some fault) ≡ true)) }
     ensures unread { IfErr result (λ fault. is_before_queries (Some fault) ≡ true → source.new ≡ source.old) }
     ensures went { OnOk result (S.failed source.new ≡ S.failed source.old) }
-    ensures pulls { IfErr result (λ fault. (S.failed source.new ≡ S.failed source.old) ⊎ ((S.failed source.new ≡ S.failed source.old + 1) × (fault ≡ RunFault.Read))) }
-    ensures turns { IfErr result (λ fault. fault ≡ RunFault.Read → S.failed source.new ≡ S.failed source.old → IfSome (S.coming source.old) (λ queries. turns ≤ length queries)) }
+    ensures pulls { IfErr result (λ fault. (S.failed source.new ≡ S.failed source.old)
+        ⊎ ((S.failed source.new ≡ S.failed source.old + 1) × (fault ≡ RunFault.Read))) }
+    ensures turns { IfErr result (λ fault. fault ≡ RunFault.Read → S.failed source.new ≡ S.failed source.old
+        → IfSome (S.coming source.old) (λ queries. turns ≤ length queries)) }
 {
     let table = read_table(alloc, reader, settings.header(), settings.max_entries())?;
+    let tree = Tree::pack(alloc, table, settings.fanout())?;
     let mut queries = Vec::new(alloc);
     pull_all(source, turns, &mut queries)?;
     let mut out = Vec::new(alloc);
-    let bad = answer_lines(alloc, &table, &queries, &mut out)?;
+    let bad = put_output(alloc, &tree, &queries, &mut out)?;
     Ok((out, bad))
 }
 
 // Pulls until the source has no more, and puts what it gave at the end of `queries`.
 fn pull_all<S: Source>(source: &mut S, turns: u64, queries: &mut Vec<u8>) -> Result<(), RunFault>
     requires { S.failed source.old < 2 ^ 64 - 1 }
-    ensures all { OnOk result (IfSome (S.coming source.old) (λ all. (S.coming source.new ≡ Some []) × (queries.new.items ≡ queries.old.items ++ all))) }
+    ensures all { OnOk result (IfSome (S.coming source.old) (λ all.
+        (S.coming source.new ≡ Some []) × (queries.new.items ≡ queries.old.items ++ all))) }
     ensures fault { IfErr result (λ fault. (fault ≡ RunFault.Read) ⊎ (fault ≡ RunFault.Memory)) }
     ensures went { OnOk result (S.failed source.new ≡ S.failed source.old) }
-    ensures pulls { IfErr result (λ fault. (S.failed source.new ≡ S.failed source.old) ⊎ ((S.failed source.new ≡ S.failed source.old + 1) × (fault ≡ RunFault.Read))) }
-    ensures turns { IfErr result (λ fault. fault ≡ RunFault.Read → S.failed source.new ≡ S.failed source.old → IfSome (S.coming source.old) (λ all. turns ≤ length all)) }
+    ensures pulls { IfErr result (λ fault. (S.failed source.new ≡ S.failed source.old)
+        ⊎ ((S.failed source.new ≡ S.failed source.old + 1) × (fault ≡ RunFault.Read))) }
+    ensures turns { IfErr result (λ fault. fault ≡ RunFault.Read → S.failed source.new ≡ S.failed source.old
+        → IfSome (S.coming source.old) (λ all. turns ≤ length all)) }
 {
     let mut room = [0u8; PULL];
     for _turn in 0..turns {
@@ -156,8 +170,9 @@ fn pull_all<S: Source>(source: &mut S, turns: u64, queries: &mut Vec<u8>) -> Res
 // Pushes until all is taken, and then flushes, unless there is nothing to push.
 fn push_all<K: Sink>(sink: &mut K, out: &[u8]) -> Result<(), WriteFault>
     requires { K.failed sink.old < 2 ^ 64 - 1 }
-    ensures written { OnOk result (IfSome (K.written sink.old) (λ before. K.written sink.new ≡ Some (before ++ out.now))) }
-    ensures cut { OnErr result (WentFront (K.written sink.old) (K.written sink.new) out.now) }
+    ensures written { OnOk result (IfSome (K.written sink.old) (λ before.
+        K.written sink.new ≡ Some (before ++ out.now))) }
+    ensures cut { OnErr result (WasCut (K.written sink.old) (K.written sink.new) out.now) }
     ensures went { OnOk result (K.failed sink.new ≡ K.failed sink.old) }
     ensures fails { OnErr result (K.failed sink.new ≡ K.failed sink.old + 1) }
 {
@@ -176,7 +191,7 @@ fn push_all<K: Sink>(sink: &mut K, out: &[u8]) -> Result<(), WriteFault>
 }
 
 impl From<TableFault> for RunFault {
-    ghost use Rattle.rt_filter.specs.Endings.{run_fault};
+    ghost use Rattle.rt_filter.specs.Faults.{run_fault};
 
     ghost from_gives = { λ fault result. result ≡ run_fault fault };
 

@@ -1,10 +1,12 @@
 //! Runs over bytes in memory, compared byte for byte. The expected bytes were worked out by hand.
 
 use crate::{
-    Outcome, ReadSource, RunFault, Settings, Sink, SliceSink, SliceSource, Source, WriteSink, run,
-    run_fault_line,
+    Outcome, ReadFault, ReadSource, RunFault, Settings, Sink, SliceSink, SliceSource, Source,
+    WriteSink, run, run_fault_line,
 };
+use itoa::Buffer;
 use rt_text::{Axis, TableFault};
+use std::alloc::{AllocError, Global};
 use std::process::Abort;
 use std::test::Fail;
 
@@ -21,6 +23,7 @@ const FOUND: &[u8] = b"1 0\n2 0\nok 1 2\n";
 #[derive(Clone, Copy)]
 struct Given {
     header: bool,
+    fanout: u8,
     max_entries: u32,
     piece: usize,
     room: usize,
@@ -31,6 +34,7 @@ struct Given {
 
 const PLAIN: Given = Given {
     header: false,
+    fanout: 16,
     max_entries: 16_777_216,
     piece: 4097,
     room: 256,
@@ -50,7 +54,7 @@ impl Given {
         status: u8,
         fault: Option<RunFault>,
     ) -> Result<(), Fail> {
-        let settings = Settings::new(self.header, 16, self.max_entries).ok_or("settings")?;
+        let settings = Settings::new(self.header, self.fanout, self.max_entries).ok_or("settings")?;
         assert!(rt; self.piece > 0);
         assert!(rt; self.room <= 256);
         let mut source = SliceSource::new(queries, self.piece, self.pull_fails);
@@ -127,58 +131,147 @@ fn serves_empty_tables_and_queries(rt: HostRuntime) -> Result<(), Fail> {
 
 #[test]
 fn numbers_every_line(rt: HostRuntime) -> Result<(), Fail> {
-    let queries: &[u8] = b"\n# c\nfind window 10 0 0 10\r\n\tfind  window 0 10 0 10 \r\nfrob";
-    let written: &[u8] = b"error 3 Q2 unknown verb\n1 0\n2 0\nok 4 2\nerror 5 Q2 unknown verb\n";
+    let queries: &[u8] =
+        b"\n# c\nfind window 10 0 0 10\nfind all first 0\nfind\nfind all x\nnearest 1 99999999999 0\n";
+    let written: &[u8] =
+        b"error 3 Q7 minimum above maximum\nok 4 0\nerror 5 Q4 missing word\nerror 6 Q10 stray word\nerror 7 Q6 out of range\n";
+    let ends: &[u8] = b"find  window 0 10 0 10 \r\nfrob\n\tfind all first 1";
+    let ended: &[u8] = b"1 0\n2 0\nok 1 2\nerror 2 Q2 unknown verb\n1 0\nok 3 1\n";
     for piece in [1, 4097] {
-        Given { piece, ..PLAIN }.expect(&rt, BOXES, queries, written, 1, None)?;
+        let given = Given { piece, ..PLAIN };
+        given.expect(&rt, BOXES, queries, written, 1, None)?;
+        given.expect(&rt, BOXES, ends, ended, 1, None)?;
     }
     Ok(())
 }
 
+/// Queries over the five boxes, at most two children for each node, and their replies.
+const REPLIES: [(&[u8], &[u8]); 19] = [
+    (b"find circle 0 0 2", b"1 0\n4 2\nok 1 2\n"),
+    (b"find circle 0 0 1", b"1 0\nok 1 1\n"),
+    (b"nearest 3 12 12", b"2 0\n5 0\n1 8\nok 1 3\n"),
+    (b"nearest 2 10 -5", b"1 25\n2 100\nok 1 2\n"),
+    (b"find all near 10 -5 first 2", b"1 25\n2 100\nok 1 2\n"),
+    (b"find inside 0 15 0 15", b"1 0\n2 0\n5 0\nok 1 3\n"),
+    (b"find covers 5 5 5 5 smallest first 1", b"1 100\nok 1 1\n"),
+    (b"find covers 5 5 5 5 smallest", b"1 100\n2 100\nok 1 2\n"),
+    (b"find window -5 -5 -5 -5", b"4 0\nok 1 1\n"),
+    (b"find all first 0", b"ok 1 0\n"),
+    (
+        b"find all first 18446744073709551615",
+        b"1 0\n2 0\n3 0\n4 0\n5 0\nok 1 5\n",
+    ),
+    (
+        b"find all smallest",
+        b"5 0\n4 16\n1 100\n2 100\n3 100\nok 1 5\n",
+    ),
+    (
+        b"find polygon 3 0 0 30 0 0 30",
+        b"1 0\n2 0\n3 0\n5 0\nok 1 4\n",
+    ),
+    (
+        b"find polygon 3 0 0 0 30 30 0",
+        b"1 0\n2 0\n3 0\n5 0\nok 1 4\n",
+    ),
+    (
+        b"find polygon 3 -2147483648 -2147483648 2147483647 -2147483648 2147483647 2147483647",
+        b"1 0\n2 0\n3 0\n4 0\n5 0\nok 1 5\n",
+    ),
+    (b"count all", b"ok 1 5\n"),
+    (b"count inside 0 15 0 15", b"ok 1 3\n"),
+    (b"count polygon 3 0 0 30 0 0 30", b"ok 1 4\n"),
+    (b"levels", b"3 1\n2 2\n1 3\n0 5\nok 1 4\n"),
+];
+
 #[test]
-fn refuses_what_is_no_window(rt: HostRuntime) -> Result<(), Fail> {
-    let lines: [&[u8]; 12] = [
-        b"Find window 0 10 0 10",
-        b"find",
-        b"find windows 0 10 0 10",
-        b"find window",
-        b"find window 0 10 0",
-        b"find window 0 10 0 10 0",
-        b"find window 0 10 x 10",
-        b"find window 0 10 0 2147483648",
-        b"find window -2147483649 10 0 10",
-        b"find window 1 0 0 10",
-        b"find window 0 10 1 0",
-        b"find window 0 10 0 10\r\r",
-    ];
-    for line in lines {
-        PLAIN.expect(&rt, BOXES, line, b"error 1 Q2 unknown verb\n", 1, None)?;
+fn replies_to_queries(rt: HostRuntime) -> Result<(), Fail> {
+    let two = Given { fanout: 2, ..PLAIN };
+    for (query, written) in REPLIES {
+        two.expect(&rt, BOXES, query, written, 0, None)?;
     }
-    let widest: &[u8] = b"find window -2147483648 +2147483647 -2147483648 02147483647";
+    PLAIN.expect(&rt, BOXES, b"levels", b"1 1\n0 5\nok 1 2\n", 0, None)?;
     PLAIN.expect(
         &rt,
-        BOXES,
-        widest,
-        b"1 0\n2 0\n3 0\n4 0\n5 0\nok 1 5\n",
+        b"",
+        b"find all\ncount all\nlevels",
+        b"ok 1 0\nok 2 0\n0 0\nok 3 1\n",
+        0,
+        None,
+    )?;
+    let far: &[u8] = b"1,2147483647,2147483647,2147483647,2147483647";
+    PLAIN.expect(
+        &rt,
+        far,
+        b"nearest 1 -2147483648 -2147483648",
+        b"1 36893488130239234050\nok 1 1\n",
+        0,
+        None,
+    )?;
+    // A tie goes by id, whatever the order of the records.
+    PLAIN.expect(
+        &rt,
+        b"7,0,0,0,0\n-7,0,0,0,0\n3,0,0,0,0",
+        b"find all first 2",
+        b"-7 0\n3 0\nok 1 2\n",
+        0,
+        None,
+    )?;
+    // The corner of the bounding box that the triangle leaves out.
+    PLAIN.expect(
+        &rt,
+        b"1,25,30,25,30",
+        b"find polygon 3 0 0 30 0 0 30",
+        b"ok 1 0\n",
         0,
         None,
     )
 }
 
 #[test]
+fn levels_of_a_wide_tree(rt: HostRuntime) -> Result<(), Fail> {
+    let mut table = Vec::new(rt.alloc());
+    for id in 1..66u8 {
+        table.extend_from_slice(Buffer::new().format(id).as_bytes())?;
+        table.extend_from_slice(b",0,0,0,0\n")?;
+    }
+    let widest = Given {
+        fanout: 64,
+        ..PLAIN
+    };
+    widest.expect(&rt, &table, b"levels", b"2 1\n1 2\n0 65\nok 1 3\n", 0, None)
+}
+
+// A line with so many spaces after it, then the same with one more, and then it alone.
+fn padded(alloc: Global, line: &[u8], spaces: u16) -> Result<Vec<u8>, AllocError> {
+    let mut queries = Vec::from_slice(alloc, line)?;
+    for _ in 0..spaces {
+        queries.push(b' ')?;
+    }
+    queries.push(b'\n')?;
+    queries.extend_from_slice(line)?;
+    for _ in 0..=spaces {
+        queries.push(b' ')?;
+    }
+    queries.push(b'\n')?;
+    queries.extend_from_slice(line)?;
+    Ok(queries)
+}
+
+#[test]
 fn refuses_long_lines(rt: HostRuntime) -> Result<(), Fail> {
-    for (spaces, written, status) in [
-        (4075, FOUND, 0),
-        (4076, b"error 1 Q2 unknown verb\n".as_slice(), 1),
-    ] {
-        let mut line = Vec::from_slice(rt.alloc(), b"find window 0 10 0 10")?;
-        for _ in 0..spaces {
-            line.push(b' ')?;
-        }
-        line.push(b'\n')?;
-        for piece in [1, 4095, 4097] {
-            Given { piece, ..PLAIN }.expect(&rt, BOXES, line.as_slice(), written, status, None)?;
-        }
+    let counts = padded(rt.alloc(), b"count all", 4087)?;
+    let finds = padded(rt.alloc(), b"find all first 0", 4080)?;
+    let mut comment = Vec::from_slice(rt.alloc(), b"#")?;
+    for _ in 0..4096 {
+        comment.push(b'a')?;
+    }
+    for piece in [1, 4095, 4097] {
+        let given = Given { piece, ..PLAIN };
+        let counted: &[u8] = b"ok 1 5\nerror 2 Q1 line too long\nok 3 5\n";
+        given.expect(&rt, BOXES, &counts, counted, 1, None)?;
+        let found: &[u8] = b"ok 1 0\nerror 2 Q1 line too long\nok 3 0\n";
+        given.expect(&rt, BOXES, &finds, found, 1, None)?;
+        given.expect(&rt, BOXES, &comment, b"error 1 Q1 line too long\n", 1, None)?;
     }
     Ok(())
 }
@@ -459,23 +552,67 @@ fn runs_over_std(rt: HostRuntime) -> Result<(), Fail> {
     Ok(())
 }
 
-#[test]
-fn settings_have_ranges(rt: HostRuntime) {
-    for (fanout, max_entries, is_allowed) in [
-        (2, 1, true),
-        (64, 16_777_216, true),
-        (1, 1, false),
-        (65, 1, false),
-        (2, 0, false),
-        (2, 16_777_217, false),
-    ] {
-        let settings = Settings::new(true, fanout, max_entries);
-        assert_eq!(rt; settings.is_some(), is_allowed);
-        if let Some(settings) = settings {
-            assert_eq!(rt;
-                (settings.header(), settings.fanout(), settings.max_entries()),
-                (true, fanout, max_entries)
-            );
+/// Gives its bytes in one pull, then tells the end, and counts the pulls after that.
+#[derive(Drop)]
+struct Watched {
+    pulls: u64,
+}
+
+impl Source for Watched {
+    ghost use Rattle.std.specs.Prelude.{None};
+
+    ghost coming = { λ _. None };
+
+    ghost failed = { λ _. 0 };
+
+    fn pull(&mut self, room: &mut [u8]) -> Result<usize, ReadFault> {
+        self.pulls = self.pulls.saturating_add(1);
+        if self.pulls > 1 {
+            return Ok(0);
         }
+        let n = room.len().min(FIND.len());
+        room[..n].copy_from_slice(&FIND[..n]);
+        Ok(n)
     }
+
+    fn failures(&self) -> u64 {
+        0
+    }
+}
+
+#[test]
+fn pulls_no_more_after_the_end(rt: HostRuntime) -> Result<(), Fail> {
+    let settings = Settings::new(false, 16, 5).ok_or("settings")?;
+    let mut source = Watched { pulls: 0 };
+    let mut room = [0u8; 64];
+    let mut sink = SliceSink::new(&mut room, 64, None);
+    let outcome = run(
+        rt.alloc(),
+        &settings,
+        BOXES,
+        &mut source,
+        &mut sink,
+        u64::MAX,
+    );
+    assert_eq!(rt; outcome.fault, None);
+    assert_eq!(rt; sink.written(), FOUND);
+    assert_eq!(rt; source.pulls, 2);
+    Ok(())
+}
+
+#[test]
+fn faults_are_errors_of_std(rt: HostRuntime) -> Result<(), Fail> {
+    let texts = [
+        (
+            RunFault::Table(TableFault::Read),
+            "faulty or unreadable table",
+        ),
+        (RunFault::Read, "cannot read queries"),
+        (RunFault::Write, "cannot write answers"),
+        (RunFault::Memory, "out of memory"),
+    ];
+    for (fault, text) in texts {
+        assert_eq!(rt; format!(in rt.alloc(); "{fault}")?.as_str(), text);
+    }
+    Ok(())
 }

@@ -1,5 +1,6 @@
 -- Boxes of whole numbers, and how two of them lie.
-use Rattle.std.specs.Prelude.{◌≡◌, ℕ, ◌*◌, ◌-◌, ◌^◌, ℤ, pos, ◌-ℤ◌, ◌≤ℤ◌, int_le, unsigned_abs, Bool, true, ◌&&◌}
+use Rattle.std.specs.Prelude.{◌≡◌, Bool, true, ◌&&◌, ℕ, ◌*◌, ◌-◌, ◌^◌}
+use Rattle.std.specs.Prelude.{ℤ, pos, ◌-ℤ◌, ◌≤ℤ◌, int_le, unsigned_abs}
 use Rattle.std.specs.Int.{int_min, int_max}
 
 -- the least and the greatest coordinate, of 32 bits
@@ -25,6 +26,10 @@ rect_of min_x max_x min_y max_y =
 pub record IsRect (b : Rect) : Type 0 where
   pub on_x : b.min_x ≤ℤ b.max_x
   pub on_y : b.min_y ≤ℤ b.max_y
+
+-- the box of all points whose coordinates have 32 bits
+abbrev pub plane : Rect
+plane = rect_of least_coordinate greatest_coordinate least_coordinate greatest_coordinate
 
 -- two ranges share a number, touching included: each low end is at most the other's high end
 abbrev pub ranges_meet : (low high other_low other_high : ℤ) → Bool

@@ -32,9 +32,13 @@ far2 p b = square (reach p.x b.min_x b.max_x) + square (reach p.y b.min_y b.max_
 abbrev pub distance2 : Point → Point → ℕ
 distance2 p q = square (unsigned_abs (p.x -ℤ q.x)) + square (unsigned_abs (p.y -ℤ q.y))
 
+-- the box of one point
+abbrev pub rect_at : Point → Rect
+rect_at p = rect_of p.x p.x p.y p.y
+
 -- a point of the box
 pub record IsPointOf (b : Rect) (q : Point) : Type 0 where
-  pub inside : inside (rect_of q.x q.x q.y q.y) b ≡ true
+  pub inside : inside (rect_at q) b ≡ true
 
 -- `n` is the least of the squares of the distances to the points of the box
 pub record IsLeastDistance (p : Point) (b : Rect) (n : ℕ) : Type 0 where

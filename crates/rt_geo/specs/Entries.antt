@@ -1,7 +1,16 @@
 -- Entries: boxes with their ids.
-use Rattle.rt_geo.specs.Boxes.{IsRect}
+use Rattle.std.specs.Prelude.{◌≡◌, true}
+use Rattle.rt_geo.specs.Boxes.{IsRect, inside, plane}
 use Rattle.rt_geo.specs.declared.entry.Entry.{Entry}
+use Rattle.rt_geo.specs.declared.geometry.Info.{Info}
+use Rattle.rt_geo.specs.declared.geometry.Within.TheVariants.{Partly}
 
--- the entry's bounds are a box: each minimum is at most its maximum
+-- the entry's bounds are a box of the plane, as each `Bounds` is
 pub record HasBox (entry : Entry) : Type 0 where
   pub box : IsRect entry.bounds
+  pub coordinates : inside entry.bounds plane ≡ true
+
+-- what a query function is shown of an entry outside of a tree: no level stands above it, and no parent
+abbrev pub info_of_entry : Entry → Info
+info_of_entry entry =
+    record { bounds = entry.bounds; level = 0; top = 0; parent_within = Partly; parent_score = 0 }

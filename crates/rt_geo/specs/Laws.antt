@@ -1,6 +1,6 @@
 -- What a query function means, and the laws by which a search may skip a whole subtree.
-use Rattle.std.specs.Prelude.{◌≡◌, ◌↔◌, ◌<◌, ◌≤◌, ℕ, Bool, true, false}
-use Rattle.rt_geo.specs.Boxes.{Rect, IsRect, inside}
+use Rattle.std.specs.Prelude.{◌≡◌, ◌↔◌, ◌<◌, ◌≤◌, ◌^◌, ℕ, Bool, true, false}
+use Rattle.rt_geo.specs.Boxes.{Rect, IsRect, inside, plane}
 use Rattle.rt_geo.specs.declared.entry.Entry.{Entry}
 use Rattle.rt_geo.specs.declared.geometry.Info.{Info}
 use Rattle.rt_geo.specs.declared.geometry.Verdict.{Verdict}
@@ -36,9 +36,14 @@ NoneAccepted accepts extent = (b : Extent) → IsBoxInside b extent → accepts 
 
 -- ---- what it may be asked
 
--- an info that shows an entry or a node: its bounds are a box, as those of each `Bounds` are
+-- an info that shows an entry or a node: its bounds are a box of the plane, as each `Bounds` is, and its
+-- numbers have the ranges of their types
 pub record IsWellFormed (info : Info) : Type 0 where
   pub box : IsRect info.bounds
+  pub coordinates : inside info.bounds plane ≡ true
+  pub level : info.level < 2 ^ 8
+  pub top : info.top < 2 ^ 8
+  pub parent_score : info.parent_score < 2 ^ 128
 
 -- the caller's condition: the parent was FULLY only where each box inside the bounds is accepted
 abbrev pub IsHonest : (Extent → Bool) → Info → Type 0

@@ -6,6 +6,7 @@ pub mod Examples
 pub mod Laws
 pub mod Lemmas
 pub mod Orders
+pub mod Polygons
 pub mod Ranks
 pub mod Regions
 pub mod Shapes

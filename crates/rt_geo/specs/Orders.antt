@@ -1,7 +1,8 @@
 -- The scores that an order gives, and the estimates that it answers: those of its rank.
 use Rattle.std.specs.Prelude.{ℕ}
 use Rattle.rt_geo.specs.Laws.{Extent}
-use Rattle.rt_geo.specs.Ranks.{by_id_estimate, by_id_score, near_estimate, near_score, smallest_estimate, smallest_score}
+use Rattle.rt_geo.specs.Ranks.{by_id_estimate, near_estimate, smallest_estimate}
+use Rattle.rt_geo.specs.Ranks.{by_id_score, near_score, smallest_score}
 use Rattle.rt_geo.specs.declared.geometry.Info.{Info}
 use Rattle.rt_geo.specs.declared.order.Order.{Order}
 use Rattle.rt_geo.specs.declared.order.Order.TheVariants.{ById, Near, Smallest}

@@ -1,9 +1,12 @@
 //! Boxes of 32-bit coordinates.
 
-ghost use Rattle.std.specs.Prelude.{◌≡◌};
+ghost use Rattle.std.specs.Prelude.{◌≡◌, true};
 ghost use Rattle.std.specs.Option.{SomeIff};
-ghost use Rattle.rt_geo.specs.Boxes.{IsLeastAround, IsRect, area, hull, inside, overlaps, range_lies_in, ranges_meet, rect_of};
+ghost use Rattle.rt_geo.specs.Boxes.{IsLeastAround, IsRect, rect_of, plane};
+ghost use Rattle.rt_geo.specs.Boxes.{area, hull, inside, overlaps, range_lies_in, ranges_meet};
+ghost use Rattle.rt_geo.specs.Distances.{rect_at};
 
+use crate::distance::Point;
 use std::marker::Model;
 
 /// A closed box: a minimum and a maximum on each axis, each minimum at most its maximum.
@@ -18,13 +21,17 @@ pub struct Bounds {
 }
 
 impl Model for Bounds {
-    ghost use Rattle.rt_geo.specs.Boxes.{IsRect, Rect, rect_of};
+    ghost use Rattle.std.specs.Prelude.{◌≡◌, true};
+    ghost use Rattle.rt_geo.specs.Boxes.{IsRect, Rect, inside, plane, rect_of};
 
     ghost Value = { Rect };
 
     ghost view = { λ b. rect_of b.min_x b.max_x b.min_y b.max_y };
 
-    ghost invariant = { λ b. IsRect (rect_of b.min_x b.max_x b.min_y b.max_y) };
+    ghost invariant = { λ b. record {
+      box : IsRect (rect_of b.min_x b.max_x b.min_y b.max_y);
+      coordinates : inside (rect_of b.min_x b.max_x b.min_y b.max_y) plane ≡ true;
+    } };
 
     ghost inverse = { λ r. record { min_x = r.min_x; max_x = r.max_x; min_y = r.min_y; max_y = r.max_y } };
 }
@@ -46,10 +53,23 @@ impl Bounds {
         }
     }
 
+    /// The box of one point.
+    pub(crate) fn of_point(point: Point) -> Bounds
+        ensures { result ≡ rect_at point }
+    {
+        Bounds {
+            min_x: point.x,
+            max_x: point.x,
+            min_y: point.y,
+            max_y: point.y,
+        }
+    }
+
     /// The least x of its points.
     pub fn min_x(&self) -> i32
         ensures value { result ≡ self.now.min_x }
         ensures valid { IsRect self.now }
+        ensures coordinates { inside self.now plane ≡ true }
     {
         self.min_x
     }
@@ -58,6 +78,7 @@ impl Bounds {
     pub fn max_x(&self) -> i32
         ensures value { result ≡ self.now.max_x }
         ensures valid { IsRect self.now }
+        ensures coordinates { inside self.now plane ≡ true }
     {
         self.max_x
     }
@@ -66,6 +87,7 @@ impl Bounds {
     pub fn min_y(&self) -> i32
         ensures value { result ≡ self.now.min_y }
         ensures valid { IsRect self.now }
+        ensures coordinates { inside self.now plane ≡ true }
     {
         self.min_y
     }
@@ -74,6 +96,7 @@ impl Bounds {
     pub fn max_y(&self) -> i32
         ensures value { result ≡ self.now.max_y }
         ensures valid { IsRect self.now }
+        ensures coordinates { inside self.now plane ≡ true }
     {
         self.max_y
     }
@@ -83,7 +106,8 @@ impl Bounds {
 pub fn overlaps(a: Bounds, b: Bounds) -> bool
     ensures { result ≡ overlaps a b }
 {
-    meet_on_x(a, b) && meet_on_y(a, b)
+    // (`&`, so that the two axes are one branch)
+    meet_on_x(a, b) & meet_on_y(a, b)
 }
 
 fn meet_on_x(a: Bounds, b: Bounds) -> bool
@@ -102,7 +126,8 @@ fn meet_on_y(a: Bounds, b: Bounds) -> bool
 pub fn inside(a: Bounds, b: Bounds) -> bool
     ensures { result ≡ inside a b }
 {
-    lies_in_on_x(a, b) && lies_in_on_y(a, b)
+    // (`&`, so that the two axes are one branch)
+    lies_in_on_x(a, b) & lies_in_on_y(a, b)
 }
 
 fn lies_in_on_x(a: Bounds, b: Bounds) -> bool
@@ -122,6 +147,7 @@ pub fn hull(a: Bounds, b: Bounds) -> Bounds
     ensures value { result ≡ hull a b }
     ensures least { IsLeastAround a b result }
     ensures valid { IsRect result }
+    ensures coordinates { inside result plane ≡ true }
 {
     Bounds {
         min_x: a.min_x.min(b.min_x),

@@ -1,6 +1,7 @@
 //! Entries: boxes with their ids.
 
 ghost use Rattle.std.specs.Prelude.{◌≡◌};
+ghost use Rattle.rt_geo.specs.Entries.{HasBox, info_of_entry};
 ghost use Rattle.rt_geo.specs.Laws.{IsWellFormed};
 
 use crate::bounds::Bounds;
@@ -16,10 +17,11 @@ pub struct Entry {
 }
 
 impl Entry {
-    /// What a query function is asked about the entry by itself, outside of a tree.
+    /// What a query function is shown of the entry by itself, outside of a tree.
     pub fn info(&self) -> Info
-        ensures asked { result ≡ record { bounds = self.now.bounds; level = 0; top = 0; parent_within = Within.Partly; parent_score = 0 } }
+        ensures value { result ≡ info_of_entry self.now }
         ensures well_formed { IsWellFormed result }
+        ensures has_box { HasBox self.now }
     {
         // (read, so that its sides are known to be those of a box)
         let _least = self.bounds.min_x();

@@ -1,6 +1,7 @@
 //! The region of a query: one of the shapes.
 
 use crate::geometry::{Info, Shape, Within};
+use crate::polygon::Polygon;
 use crate::shapes::{All, Circle, Covers, Inside, Window};
 
 /// A shape that is chosen while the program runs.
@@ -11,6 +12,7 @@ pub enum Region {
     Inside(Inside),
     Covers(Covers),
     Circle(Circle),
+    Polygon(Polygon),
 }
 
 impl Shape for Region {
@@ -27,6 +29,7 @@ impl Shape for Region {
             Region::Inside(shape) => shape.within(info),
             Region::Covers(shape) => shape.within(info),
             Region::Circle(shape) => shape.within(info),
+            Region::Polygon(shape) => shape.within(info),
         }
     }
 

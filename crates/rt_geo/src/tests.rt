@@ -2,7 +2,9 @@
 //! each type can be used through its bound.
 
 mod left_of;
+mod polygons;
 mod uneven;
+mod watched;
 
 ghost use Rattle.std.specs.Prelude.{◌≡◌};
 ghost use Rattle.rt_geo.specs.declared.geometry.Within.TheVariants.{Partly};
@@ -13,8 +15,10 @@ use crate::{
     overlaps,
 };
 use left_of::LeftOf;
+use std::cell::Cell;
 use std::process::Abort;
 use uneven::Uneven;
+use watched::Watched;
 
 fn boxed(rt: &impl Abort, min_x: i32, max_x: i32, min_y: i32, max_y: i32) -> Bounds {
     Bounds::new(min_x, max_x, min_y, max_y).expect(rt, "the minimums are at most the maximums")
@@ -58,16 +62,16 @@ fn bounds_tell_their_sides(rt: HostRuntime) {
 }
 
 #[test]
-fn an_entry_is_asked_about_by_itself(rt: HostRuntime) {
+fn an_entry_is_shown_by_itself(rt: HostRuntime) {
     let bounds = boxed(&rt, -5, 30, -6, 10);
-    let asked = Info {
+    let want = Info {
         bounds,
         level: 0,
         top: 0,
         parent_within: Within::Partly,
         parent_score: 0,
     };
-    assert_eq!(rt; Entry { id: 7, bounds }.info(), asked);
+    assert_eq!(rt; Entry { id: 7, bounds }.info(), want);
 }
 
 #[test]
@@ -210,6 +214,25 @@ fn a_counted_geometry_tells_its_checks(rt: HostRuntime) {
     let verdict = counted.check(&question(square, 0));
     assert_eq!(rt; verdict, want);
     assert_eq!(rt; counted.asked(), 1);
+}
+
+#[test]
+fn a_counted_geometry_asks_once_for_each_check(rt: HostRuntime) {
+    let square = boxed(&rt, 0, 10, 0, 10);
+    let watched = Watched {
+        checks: Cell::new(0),
+        last_level: Cell::new(0),
+    };
+    let mut counted = Counted::new(&watched);
+    assert_eq!(rt; watched.checks.get(), 0);
+
+    let _node = counted.check(&question(square, 3));
+    assert_eq!(rt; watched.checks.get(), 1);
+    assert_eq!(rt; watched.last_level.get(), 3);
+
+    let _entry = counted.check(&question(square, 0));
+    assert_eq!(rt; watched.checks.get(), counted.asked());
+    assert_eq!(rt; watched.last_level.get(), 0);
 }
 
 #[test]

@@ -1,5 +1,8 @@
 mod NumberLemmas
+mod PointLemmas
+mod QueryRows
 mod Records
-mod Rows
+pub mod Rows
 mod TableLemmas
 mod TableReads
+pub mod WordLemmas

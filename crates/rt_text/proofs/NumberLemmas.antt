@@ -1,14 +1,15 @@
 -- Numbers as text: one digit at a time, up to a greatest number, and one range within another.
-use Rattle.std.proofs.Common.{◌≡◌, ◌+◌, ◌*◌, ◌-◌, ◌<◌, ℕ, ℤ, pos, negsuc, ◌^◌, ◌≤ℤ◌, ◌<ℤ◌, min, Bool, true, false, ◌&&◌, Option, Some, None, List, take, length, get_or, arith, ◌∙◌, ap, sym, refl}
-use Rattle.std.specs.Prelude.{Result, Ok, Err, int_le, if◌then◌else◌}
+use Rattle.std.proofs.Common.{◌≡◌, ◌+◌, ◌*◌, ◌-◌, ◌<◌, ◌≤◌, ℕ, ℤ, pos, negsuc, ◌^◌, ◌≤ℤ◌, ◌<ℤ◌, min, Bool, true, false, ◌&&◌, Option, Some, None, List, drop, take, length, get_or, arith, ◌∙◌, ap, sym, refl, add-one}
+use Rattle.std.specs.Prelude.{Result, Ok, Err, int_le, if◌then◌else◌, neg_ℤ, option_map}
 use Rattle.std.specs.Char.{digit_value, is_ascii_digit}
 use Rattle.std.specs.List.{list_all}
-use Rattle.std.specs.Str.Parse.{digits_value}
+use Rattle.std.specs.Str.Parse.{digits_value, starts_with_minus}
+use Rattle.std.proofs.Math.Nat.{pow-le-pow_right, pow-suc}
 use Rattle.std.proofs.lemmas.Bool.Decides.{nat_tests}
 use Rattle.std.proofs.lemmas.Int.{ints}
 use Rattle.std.proofs.lemmas.Int.Digits.{digits_value_more}
 use Rattle.std.proofs.lemmas.List.Folds.{list_all_more}
-use Rattle.rt_text.specs.Numbers.{in_range}
+use Rattle.rt_text.specs.Numbers.{digits_number, in_range, is_numeral, number_text}
 use Rattle.rt_text.specs.declared.numbers.NumberFault.{NumberFault}
 use Rattle.rt_text.specs.declared.numbers.NumberFault.TheVariants as fault
 
@@ -31,6 +32,24 @@ capped_value-more most xs i h d =
     capped_step (digits_value 10 (take i xs)) (get_or xs i 0 - 48) most
     ∙ ap (λ v. min (digits_value 10 (take i xs) * 10 + v) most) (sym (digit_value-ascii (get_or xs i 0) d))
     ∙ ap (λ v. min v most) (sym (digits_value_more 10 xs i h))
+
+-- ---- digits that a u64 has room for
+
+pub short_value-more : (xs : List ℕ) (i : ℕ) → i < length xs → is_ascii_digit (get_or xs i 0) ≡ true
+    → digits_value 10 (take i xs) * 10 + (get_or xs i 0 - 48) ≡ digits_value 10 (take (i + 1) xs)
+short_value-more xs i h d =
+    ap (λ v. digits_value 10 (take i xs) * 10 + v) (sym (digit_value-ascii (get_or xs i 0) d)) ∙ sym (digits_value_more 10 xs i h)
+
+-- one digit more
+pub small-more : (i m c : ℕ) → m < 10 ^ i → is_ascii_digit c ≡ true → m * 10 + (c - 48) < 10 ^ (i + 1)
+small-more i m c h d = rw (add-one i, pow-suc 10 i) (omega (arith, nine c d))
+  where
+    nine : (c : ℕ) → is_ascii_digit c ≡ true → c - 48 ≤ 9
+    nine c d = grind (arith, nat_tests)
+
+-- before the last of 19 digits
+pub short_step : (i m : ℕ) → i < 19 → m < 10 ^ i → m < 10 ^ 18
+short_step i m h small = omega (arith, pow-le-pow_right {n = 10} (omega arith) {i = i} {j = 18} (omega arith))
 
 -- ---- a range within another
 
@@ -105,3 +124,14 @@ in_range-within low high (Some m) n e = by (int_le low m && int_le m high) refl
         let same : n ≡ m = cc in
         rw same (inside low high m p)
     by false p = let x : ◌≡◌ {A = Result ℤ NumberFault} (Ok n) (Err fault.OutOfRange) = e ∙ if_false _ _ _ p in absurd cc
+
+-- ---- a minus
+
+negated : (b : Bool) (n : ℕ) → (if b then Some (neg_ℤ (pos n)) else None) ≡ option_map (λ m. neg_ℤ (pos m)) (if b then Some n else None)
+negated true n = refl
+negated false n = refl
+
+-- the number of a text that begins with a minus, by the digits after it
+pub number_text-minus : (text digits : List ℕ) → starts_with_minus text ≡ true → digits ≡ drop 1 text
+    → number_text text ≡ option_map (λ n. neg_ℤ (pos n)) (digits_number digits)
+number_text-minus text digits minus e = rw (minus, e) (negated (is_numeral (drop 1 text)) (digits_value 10 (drop 1 text)))

@@ -1,9 +1,11 @@
 -- Worked rows: on each of these the definitions compute the reply.
 use Rattle.std.proofs.Common.{◌≡◌, pos, negsuc, false, true, List, [], ◌∷◌, ◌++◌, ℕ, refl}
 use Rattle.std.specs.Prelude.{Result, Ok, Err, codes}
+use Rattle.std.specs.Fmt.{digits}
 use Rattle.csv.proofs.OnLiterals.{csv_on_literals}
 use Rattle.rt_geo.specs.Boxes.{rect_of}
 use Rattle.rt_geo.specs.declared.entry.Entry.{Entry}
+use Rattle.rt_text.specs.FaultLines.{fault_line}
 use Rattle.rt_text.specs.Numbers.{number_in}
 use Rattle.rt_text.specs.Tables.{entries_from, table_of}
 use Rattle.rt_text.specs.declared.numbers.NumberFault.TheVariants as bad
@@ -48,12 +50,35 @@ row_nines = refl
 
 -- ---- tables, in each of which a line ends with LF
 
-abbrev line : List ℕ → List ℕ
+abbrev pub line : List ℕ → List ℕ
 line text = text ++ 10 ∷ []
 
 -- a table with no header and room for every entry
-abbrev load : List ℕ → Result (List Entry) TableFault
+abbrev pub load : List ℕ → Result (List Entry) TableFault
 load bytes = table_of bytes false 16777216
+
+-- the five boxes of the examples
+abbrev pub boxes : List ℕ
+boxes =
+    line (codes "1,0,10,0,10") ++ line (codes "2,5,15,5,15") ++ line (codes "3,20,30,0,10")
+    ++ line (codes "4,-5,-1,-5,-1") ++ line (codes "5,12,12,12,12")
+
+abbrev pub boxes_entries : List Entry
+boxes_entries =
+    record { id = pos 1; bounds = rect_of (pos 0) (pos 10) (pos 0) (pos 10) }
+    ∷ record { id = pos 2; bounds = rect_of (pos 5) (pos 15) (pos 5) (pos 15) }
+    ∷ record { id = pos 3; bounds = rect_of (pos 20) (pos 30) (pos 0) (pos 10) }
+    ∷ record { id = pos 4; bounds = rect_of (negsuc 4) (negsuc 0) (negsuc 4) (negsuc 0) }
+    ∷ record { id = pos 5; bounds = rect_of (pos 12) (pos 12) (pos 12) (pos 12) }
+    ∷ []
+
+pub boxes_load : load boxes ≡ Ok boxes_entries
+unfolding csv_on_literals entries_from
+boxes_load = refl
+
+row_repeated_last : load (boxes ++ line (codes "1,0,0,0,0")) ≡ Err (fault.Repeated 6)
+unfolding csv_on_literals entries_from
+row_repeated_last = refl
 
 row_nothing : load [] ≡ Ok []
 unfolding csv_on_literals entries_from
@@ -94,3 +119,13 @@ row_header = refl
 row_quoted : table_of (line (codes "id,minX,maxX,minY,maxY") ++ 34 ∷ 49 ∷ 34 ∷ line (codes ",0,10,0,10")) true 1 ≡ Ok (record { id = pos 1; bounds = rect_of (pos 0) (pos 10) (pos 0) (pos 10) } ∷ [])
 unfolding csv_on_literals entries_from
 row_quoted = refl
+
+-- ---- the line of a fault
+
+row_fault_line : fault_line (fault.FieldCount 7 4) ≡ line (codes "rtfilter: table record 7: wrong number of fields (4)")
+unfolding digits
+row_fault_line = refl
+
+row_axis : fault_line (fault.MinAboveMax 12 axis.Y) ≡ line (codes "rtfilter: table record 12: minimum above maximum in y")
+unfolding digits
+row_axis = refl

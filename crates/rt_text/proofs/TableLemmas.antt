@@ -1,11 +1,11 @@
 -- The table: the fields of a record, and one record after the other.
-use Rattle.std.proofs.Common.{◌≡◌, ◌≢◌, ◌+◌, ◌<◌, ◌≤◌, ℕ, zero, suc, Bool, true, false, ◌&&◌, ◌==◌, List, [], ◌∷◌, ◌++◌, length, drop, get_or, option_map, Option, Some, None, refl, ◌∙◌, arith, rules}
-use Rattle.std.specs.Prelude.{Result, Ok, Err, if◌then◌else◌, nat_le, IsSome}
+use Rattle.std.proofs.Common.{◌≡◌, ◌+◌, ◌<◌, ◌≤◌, ℕ, zero, suc, Bool, true, false, ◌&&◌, ◌==◌, List, [], ◌∷◌, ◌++◌, length, drop, get_or, option_map, Option, Some, None, refl, ◌∙◌, ap, sym, inl, inr, arith, rules}
+use Rattle.std.specs.Prelude.{Result, Ok, Err, if◌then◌else◌, nat_le, IsOkAnd, IsSome}
 use Rattle.std.proofs.lemmas.Bool.Decides.{nat_tests}
 use Rattle.csv.specs.Records.{field_at}
 use Rattle.rt_geo.specs.declared.entry.Entry.{Entry}
 use Rattle.rt_text.specs.Steps.{◌>>=◌}
-use Rattle.rt_text.specs.Tables.{MayRefuse, entries_from, entry_of_fields, judged, new_entry, records_of, table_of}
+use Rattle.rt_text.specs.Tables.{IsRefusal, MayRefuse, entries_from, entry_in, entry_of_fields, fields_wanted, judged, new_entry, records_of, table_of, tells_text}
 use Rattle.rt_text.specs.declared.tables.TableFault.{TableFault}
 use Rattle.rt_text.specs.declared.tables.TableFault.TheVariants as fault
 
@@ -22,29 +22,10 @@ pub IsSome-field : {A : Type 0} (text : A → List ℕ) (o : Option A) (fields :
 IsSome-field text None fields place e h = let x : None ≡ Some (get_or fields place []) = e ∙ field_at-there fields place h in absurd cc
 IsSome-field text (Some a) fields place e h = search rules
 
--- the entry of five texts
-abbrev pub entry_of_texts : (number : ℕ) → (id min_x max_x min_y max_y : List ℕ) → Result Entry TableFault
-entry_of_texts number id min_x max_x min_y max_y = entry_of_fields number (id ∷ min_x ∷ max_x ∷ min_y ∷ max_y ∷ [])
-
--- a record of five fields, and any other
-pub entry_of_fields-five : (number : ℕ) (fields : List (List ℕ)) → length fields ≡ 5
-    → entry_of_fields number fields ≡ entry_of_texts number (get_or fields 0 []) (get_or fields 1 []) (get_or fields 2 []) (get_or fields 3 []) (get_or fields 4 [])
-entry_of_fields-five number [] n = absurd (omega (arith, n))
-entry_of_fields-five number (f ∷ []) n = absurd (omega (arith, n))
-entry_of_fields-five number (f ∷ g ∷ []) n = absurd (omega (arith, n))
-entry_of_fields-five number (f ∷ g ∷ h ∷ []) n = absurd (omega (arith, n))
-entry_of_fields-five number (f ∷ g ∷ h ∷ i ∷ []) n = absurd (omega (arith, n))
-entry_of_fields-five number (f ∷ g ∷ h ∷ i ∷ j ∷ []) n = refl
-entry_of_fields-five number (f ∷ g ∷ h ∷ i ∷ j ∷ k ∷ more) n = absurd (omega (arith, n))
-
-pub entry_of_fields-other : (number : ℕ) (fields : List (List ℕ)) → length fields ≢ 5 → entry_of_fields number fields ≡ Err (fault.FieldCount number (length fields))
-entry_of_fields-other number [] n = refl
-entry_of_fields-other number (f ∷ []) n = refl
-entry_of_fields-other number (f ∷ g ∷ []) n = refl
-entry_of_fields-other number (f ∷ g ∷ h ∷ []) n = refl
-entry_of_fields-other number (f ∷ g ∷ h ∷ i ∷ []) n = refl
-entry_of_fields-other number (f ∷ g ∷ h ∷ i ∷ j ∷ []) n = absurd (n refl)
-entry_of_fields-other number (f ∷ g ∷ h ∷ i ∷ j ∷ k ∷ more) n = refl
+-- a record of enough fields
+pub entry_of_fields-enough : (number : ℕ) (fields : List (List ℕ)) → length fields ≡ fields_wanted
+    → entry_of_fields number fields ≡ entry_in number fields
+entry_of_fields-enough number fields n = rw n refl
 
 -- ---- one record
 
@@ -60,6 +41,21 @@ judged-fields max number so_far fields room = rw room_now refl
   where
     room_now : nat_le max (length so_far) ≡ false
     room_now = grind (arith, nat_tests)
+
+-- what the entry of a record adds, the record adds
+pub added-fields : (max number : ℕ) (so_far more : List Entry) (fields : List (List ℕ)) (entry : Entry) → length so_far < max
+    → Ok entry ≡ entry_of_fields number fields → new_entry number so_far entry ≡ Ok entry → more ≡ so_far ++ entry ∷ []
+    → IsOkAnd (judged max number so_far fields) (λ e. more ≡ so_far ++ e ∷ [])
+added-fields max number so_far more fields entry room read new added =
+    let is : judged max number so_far fields ≡ Ok entry =
+    judged-fields max number so_far fields room ∙ ap (λ r. r >>= new_entry number so_far) (sym read) ∙ new in
+    rw is added
+
+-- what refuses the entry of a record refuses the record
+pub refusal-fields : (max number : ℕ) (so_far : List Entry) (fields : List (List ℕ)) (entry : Entry) (f : TableFault) → length so_far < max
+    → Ok entry ≡ entry_of_fields number fields → IsRefusal f (new_entry number so_far entry) → IsRefusal f (judged max number so_far fields)
+refusal-fields max number so_far fields entry f room read (inl memory) = inl memory
+refusal-fields max number so_far fields entry f room read (inr refused) = inr (judged-fields max number so_far fields room ∙ rw (← read) refused)
 
 -- ---- one record after the other
 
@@ -94,7 +90,12 @@ pub table_after-more : (header : Bool) (max number : ℕ) (so_far : List Entry) 
 unfolding entries_from
 table_after-more header max number so_far entry fields more n judges ok = rw (judges, ok, later_number header number n) refl
 
+-- a fault of memory tells nothing of the text
+own : {A : Type 0} (f : TableFault) (step : Result A TableFault) → IsRefusal f step → tells_text f ≡ true → step ≡ Err f
+own f step (inl memory) tells = let never : false ≡ true = rw memory at tells in absurd cc
+own f step (inr refused) tells = refused
+
 pub table_after-refused : (header : Bool) (max number : ℕ) (so_far : List Entry) (f : TableFault) (fields : List (List ℕ)) (more : List (List (List ℕ)))
-    → (header && (number == 1)) ≡ false → MayRefuse f (judged max number so_far fields) → MayRefuse f (table_after header max number so_far (fields ∷ more))
+    → (header && (number == 1)) ≡ false → IsRefusal f (judged max number so_far fields) → MayRefuse f (table_after header max number so_far (fields ∷ more))
 unfolding entries_from
-table_after-refused header max number so_far f fields more judges refused tells = rw (judges, refused tells) refl
+table_after-refused header max number so_far f fields more judges refused tells = rw (judges, own f (judged max number so_far fields) refused tells) refl

@@ -6,16 +6,16 @@ use Rattle.csv.specs.Reading.{ReadRecord, default_config, source_of, strip_bom}
 use Rattle.csv.specs.declared.parser.State.TheVariants as st
 use Rattle.csv.specs.declared.reader.Reader.{Reader}
 use Rattle.rt_geo.specs.declared.entry.Entry.{Entry}
-use Rattle.rt_text.specs.Tables.{MayRefuse, judged, table_of}
+use Rattle.rt_text.specs.Tables.{IsRefusal, MayRefuse, judged, table_of}
 use Rattle.rt_text.specs.declared.tables.TableFault.{TableFault}
 use Rattle.rt_text.proofs.Records.{records_after, records_after-end, records_after-found}
 use Rattle.rt_text.proofs.TableLemmas.{table_after, table_after-end, table_after-header, table_after-more, table_after-refused, table_after-start}
 
 -- before the record of this number: the table is the entries so far and what the bytes to come add
-pub record ReadUpTo {R : Type 0} (rem : R → Option (List ℕ)) (rows : Reader R) (so_far : List Entry) (header : Bool) (max number : ℕ) (table : Result (List Entry) TableFault) : Type 0 where
+pub record ReadUpTo {R : Type 0} (rem : R → Option (List ℕ)) (records : Reader R) (so_far : List Entry) (header : Bool) (max number : ℕ) (table : Result (List Entry) TableFault) : Type 0 where
   pub rest : List ℕ
-  pub known : source_of rem rows ≡ Some rest
-  pub whole : table ≡ table_after header max number so_far (records_after default_config rows.state rest)
+  pub known : source_of rem records ≡ Some rest
+  pub whole : table ≡ table_after header max number so_far (records_after default_config records.state rest)
 
 -- which records are judged
 pub is_judged : (header : Bool) (number : ℕ) → (header ≡ true × (number ≡ 1 → ⊥)) ⊎ (header ≡ false) → (header && (number == 1)) ≡ false
@@ -25,27 +25,27 @@ is_judged header number (inl both) = rw both.0 (later number both.1)
     later n h = grind (arith, nat_tests)
 is_judged header number (inr absent) = rw absent refl
 
-pub read-start : {R : Type 0} (rem : R → Option (List ℕ)) (reader : R) (rows : Reader R) (so_far : List Entry) (header : Bool) (max : ℕ) (bytes : List ℕ)
-    → source_of rem rows ≡ option_map strip_bom (rem reader) → rows.state ≡ st.StartRecord → so_far ≡ [] → rem reader ≡ Some bytes
-    → ReadUpTo rem rows so_far header max 1 (table_of bytes header max)
-read-start rem reader rows so_far header max bytes source state empty known = record {
+pub read-start : {R : Type 0} (rem : R → Option (List ℕ)) (reader : R) (records : Reader R) (so_far : List Entry) (header : Bool) (max : ℕ) (bytes : List ℕ)
+    → source_of rem records ≡ option_map strip_bom (rem reader) → records.state ≡ st.StartRecord → so_far ≡ [] → rem reader ≡ Some bytes
+    → ReadUpTo rem records so_far header max 1 (table_of bytes header max)
+read-start rem reader records so_far header max bytes source state empty known = record {
   rest = strip_bom bytes;
   known = source ∙ rw known refl;
   whole = rw (state, empty) (table_after-start bytes header max);
 }
 
-module _ {R : Type 0} {rem : R → Option (List ℕ)} {rows : Reader R} {so_far : List Entry} {header : Bool} {max number : ℕ} {table : Result (List Entry) TableFault} (after : Reader R) (fields : List (List ℕ)) where
+module _ {R : Type 0} {rem : R → Option (List ℕ)} {records : Reader R} {so_far : List Entry} {header : Bool} {max number : ℕ} {table : Result (List Entry) TableFault} (after : Reader R) (fields : List (List ℕ)) where
   -- at the end the entries so far are the table
-  pub read-end : ReadUpTo rem rows so_far header max number table → rows.config ≡ default_config → ReadRecord rem rows after false fields → table ≡ Ok so_far
+  pub read-end : ReadUpTo rem records so_far header max number table → records.config ≡ default_config → ReadRecord rem records after false fields → table ≡ Ok so_far
   read-end at config read =
-      let none = records_after-end rem rows after fields default_config at.rest config at.known read in
+      let none = records_after-end rem records after fields default_config at.rest config at.known read in
       at.whole ∙ rw none (table_after-end header max number so_far)
 
   -- a header changes nothing
-  pub read-header : ReadUpTo rem rows so_far header max number table → rows.config ≡ default_config → ReadRecord rem rows after true fields
+  pub read-header : ReadUpTo rem records so_far header max number table → records.config ≡ default_config → ReadRecord rem records after true fields
       → header ≡ true → number ≡ 1 → ReadUpTo rem after so_far header max (number + 1) table
   read-header at config read is_there first =
-      let found = records_after-found rem rows after fields default_config at.rest config at.known read in
+      let found = records_after-found rem records after fields default_config at.rest config at.known read in
       record {
         rest = found.0;
         known = found.1;
@@ -53,11 +53,11 @@ module _ {R : Type 0} {rem : R → Option (List ℕ)} {rows : Reader R} {so_far 
       }
 
   -- a record that gives an entry
-  pub read-entry : (more : List Entry) → ReadUpTo rem rows so_far header max number table → rows.config ≡ default_config → ReadRecord rem rows after true fields
+  pub read-entry : (more : List Entry) → ReadUpTo rem records so_far header max number table → records.config ≡ default_config → ReadRecord rem records after true fields
       → 1 ≤ number → (header && (number == 1)) ≡ false → IsOkAnd (judged max number so_far fields) (λ entry. more ≡ so_far ++ entry ∷ [])
       → ReadUpTo rem after more header max (number + 1) table
   read-entry more at config read positive judges added =
-      let found = records_after-found rem rows after fields default_config at.rest config at.known read in
+      let found = records_after-found rem records after fields default_config at.rest config at.known read in
       let entry = ok_value (judged max number so_far fields) added in
       record {
         rest = found.0;
@@ -70,8 +70,8 @@ module _ {R : Type 0} {rem : R → Option (List ℕ)} {rows : Reader R} {so_far 
       ok_value (Err e) p = absurd p
 
   -- a record that is refused
-  pub read-refused : (f : TableFault) → ReadUpTo rem rows so_far header max number table → rows.config ≡ default_config → ReadRecord rem rows after true fields
-      → (header && (number == 1)) ≡ false → MayRefuse f (judged max number so_far fields) → MayRefuse f table
+  pub read-refused : (f : TableFault) → ReadUpTo rem records so_far header max number table → records.config ≡ default_config → ReadRecord rem records after true fields
+      → (header && (number == 1)) ≡ false → IsRefusal f (judged max number so_far fields) → MayRefuse f table
   read-refused f at config read judges refused tells =
-      let found = records_after-found rem rows after fields default_config at.rest config at.known read in
+      let found = records_after-found rem records after fields default_config at.rest config at.known read in
       at.whole ∙ rw found.2 (table_after-refused header max number so_far f fields _ judges refused tells)

@@ -15,7 +15,8 @@ numbered_line number before n after = record_line number before ++ decimal n ++ 
 -- the text of a fault, and a line feed
 abbrev pub fault_line : TableFault → List ℕ
 fault_line (fault.TooMany number) = record_line number (codes ": too many entries\n")
-fault_line (fault.FieldCount number found) = numbered_line number (codes ": wrong number of fields (") found (codes ")\n")
+fault_line (fault.FieldCount number found) =
+    numbered_line number (codes ": wrong number of fields (") found (codes ")\n")
 fault_line (fault.NotNumber number field) = numbered_line number (codes ": field ") field (codes " is not a number\n")
 fault_line (fault.OutOfRange number field) = numbered_line number (codes ": field ") field (codes " is out of range\n")
 fault_line (fault.MinAboveMax number X) = record_line number (codes ": minimum above maximum in x\n")

@@ -1,4 +1,7 @@
 pub mod FaultLines
 pub mod Numbers
+pub mod Queries
+pub mod ReplyLines
 pub mod Steps
 pub mod Tables
+pub mod Words

@@ -1,26 +1,23 @@
 -- Numbers as text.
-use Rattle.std.specs.Prelude.{ℕ, ℤ, pos, ◌-ℤ◌, int_le, ◌&&◌, ◌==◌, if◌then◌else◌, List, [], ◌∷◌, Option, Some, None, option_map, Result, Ok, Err}
+use Rattle.std.specs.Prelude.{ℕ, ℤ, int_le, ◌&&◌, Bool, false, if◌then◌else◌, List, [], ◌∷◌, Option, Some, None, Result, Ok, Err}
 use Rattle.std.specs.Char.{is_ascii_digit}
 use Rattle.std.specs.List.{list_all}
-use Rattle.std.specs.Str.Parse.{digits_value}
+use Rattle.std.specs.Str.Parse.{digits_value, signed_digits_value, without_leading_sign}
 use Rattle.rt_text.specs.declared.numbers.NumberFault.{NumberFault}
 use Rattle.rt_text.specs.declared.numbers.NumberFault.TheVariants as fault
 
--- the number that one or more ASCII digits write
+-- one or more ASCII digits, and nothing else
+abbrev pub is_numeral : List ℕ → Bool
+is_numeral [] = false
+is_numeral (c ∷ cs) = list_all is_ascii_digit (c ∷ cs)
+
+-- the number that digits write
 abbrev pub digits_number : List ℕ → Option ℕ
-digits_number [] = None
-digits_number (c ∷ cs) = if list_all is_ascii_digit (c ∷ cs) then Some (digits_value 10 (c ∷ cs)) else None
+digits_number digits = if is_numeral digits then Some (digits_value 10 digits) else None
 
-abbrev pub negative : ℕ → ℤ
-negative n = pos 0 -ℤ pos n
-
--- the number that a text writes: an optional sign (`+` is 43, `-` is 45) and one or more ASCII digits, and nothing else
+-- the number that a text writes: an optional `+` or `-`, then one or more ASCII digits, and nothing else
 abbrev pub number_text : List ℕ → Option ℤ
-number_text [] = None
-number_text (c ∷ cs) =
-    if c == 43 then option_map pos (digits_number cs)
-    else if c == 45 then option_map negative (digits_number cs)
-    else option_map pos (digits_number (c ∷ cs))
+number_text text = if is_numeral (without_leading_sign text) then Some (signed_digits_value 10 text) else None
 
 -- a number within a range
 abbrev pub in_range : (low high : ℤ) → Option ℤ → Result ℤ NumberFault

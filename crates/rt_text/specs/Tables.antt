@@ -1,5 +1,6 @@
 -- The table that a text of CSV gives, or what is wrong with it.
-use Rattle.std.specs.Prelude.{◌≡◌, ℕ, ◌+◌, ◌-◌, ◌^◌, ℤ, pos, ◌-ℤ◌, int_lt, nat_le, Bool, true, false, if◌then◌else◌, List, [], ◌∷◌, ◌++◌, length, drop, Result, Ok, Err}
+use Rattle.std.specs.List.{slice_index_or}
+use Rattle.std.specs.Prelude.{◌≡◌, ◌⊎◌, ◌==◌, ℕ, ◌+◌, ◌-◌, ◌^◌, ℤ, pos, ◌-ℤ◌, int_lt, nat_le, Bool, true, false, if◌then◌else◌, List, [], ◌∷◌, ◌++◌, length, drop, Result, Ok, Err}
 use Rattle.csv.specs.Reading.{default_config, records, strip_bom}
 use Rattle.rt_geo.specs.Boxes.{greatest_coordinate, least_coordinate, rect_of}
 use Rattle.rt_geo.specs.declared.entry.Entry.{Entry}
@@ -12,7 +13,8 @@ use Rattle.rt_text.specs.declared.tables.Axis.TheVariants as axis
 use Rattle.rt_text.specs.declared.tables.TableFault.{TableFault}
 use Rattle.rt_text.specs.declared.tables.TableFault.TheVariants as fault
 
--- the records of a text, each the list of its fields, by the usual rules of csv (RFC 4180, and csv-core where that is silent); a byte order mark before the first is dropped
+-- the records of a text, each the list of its fields, by the usual rules of csv (RFC 4180, and csv-core where that is
+-- silent); a byte order mark before the first is dropped
 abbrev pub records_of : List ℕ → List (List (List ℕ))
 records_of bytes = records default_config (strip_bom bytes)
 
@@ -27,7 +29,8 @@ id_of number text = map_fault (field_fault number 1) (number_in (pos 0 -ℤ pos 
 
 -- a later field: a coordinate, of 32 bits
 abbrev pub coordinate_of : (number field : ℕ) → List ℕ → Result ℤ TableFault
-coordinate_of number field text = map_fault (field_fault number field) (number_in least_coordinate greatest_coordinate text)
+coordinate_of number field text =
+    map_fault (field_fault number field) (number_in least_coordinate greatest_coordinate text)
 
 -- the entry of an id and the four sides of its box
 abbrev pub entry_of_sides : (number : ℕ) → (id min_x max_x min_y max_y : ℤ) → Result Entry TableFault
@@ -36,16 +39,29 @@ entry_of_sides number id min_x max_x min_y max_y =
     else if int_lt max_y min_y then Err (fault.MinAboveMax number axis.Y)
     else Ok (record { id = id; bounds = rect_of min_x max_x min_y max_y })
 
--- the entry of a record: its fields from left to right, then its sides
-abbrev pub entry_of_fields : (number : ℕ) → List (List ℕ) → Result Entry TableFault
-entry_of_fields number (id ∷ min_x ∷ max_x ∷ min_y ∷ max_y ∷ []) = do
-  id ← id_of number id
-  min_x ← coordinate_of number 2 min_x
-  max_x ← coordinate_of number 3 max_x
-  min_y ← coordinate_of number 4 min_y
-  max_y ← coordinate_of number 5 max_y
+-- how many fields a record has: an id and the four sides of its box
+abbrev pub fields_wanted : ℕ
+fields_wanted = 5
+
+-- the text of the field at a place, counted from 0
+abbrev pub field_text : List (List ℕ) → (place : ℕ) → List ℕ
+field_text fields place = slice_index_or fields place []
+
+-- the entry of a record's fields, of which there are enough: from left to right, then its sides
+abbrev pub entry_in : (number : ℕ) → List (List ℕ) → Result Entry TableFault
+entry_in number fields = do
+  id ← id_of number (field_text fields 0)
+  min_x ← coordinate_of number 2 (field_text fields 1)
+  max_x ← coordinate_of number 3 (field_text fields 2)
+  min_y ← coordinate_of number 4 (field_text fields 3)
+  max_y ← coordinate_of number 5 (field_text fields 4)
   entry_of_sides number id min_x max_x min_y max_y
-entry_of_fields number fields = Err (fault.FieldCount number (length fields))
+
+-- the entry of a record: the number of its fields, then the fields
+abbrev pub entry_of_fields : (number : ℕ) → List (List ℕ) → Result Entry TableFault
+entry_of_fields number fields =
+    if length fields == fields_wanted then entry_in number fields
+    else Err (fault.FieldCount number (length fields))
 
 -- the entry, where no entry so far has its id
 abbrev pub new_entry : (number : ℕ) → List Entry → Entry → Result Entry TableFault
@@ -65,7 +81,8 @@ entries_from max number so_far (fields ∷ more) = do
   entry ← judged max number so_far fields
   entries_from max (number + 1) (so_far ++ entry ∷ []) more
 
--- the table that a text gives, in the order of its records, or the first fault; a header is the first record, counted and not judged
+-- the table that a text gives, in the order of its records, or the first fault; a header is the first record, counted and
+-- not judged
 abbrev pub table_of : List ℕ → (header : Bool) → (max : ℕ) → Result (List Entry) TableFault
 table_of bytes header max =
     if header then entries_from max 2 [] (drop 1 (records_of bytes)) else entries_from max 1 [] (records_of bytes)
@@ -74,8 +91,13 @@ table_of bytes header max =
 abbrev pub tells_text : TableFault → Bool
 tells_text fault.Read = false
 tells_text fault.Memory = false
-tells_text f = true
+tells_text other = true
+
+-- a fault that a step of the load may answer, one that reads nothing, where this is what the step gives: its own
+-- fault, or want of memory
+abbrev pub IsRefusal : {A : Type 0} → TableFault → Result A TableFault → Type 0
+IsRefusal cause step = (cause ≡ fault.Memory) ⊎ (step ≡ Err cause)
 
 -- a fault that a load may answer where this is the table: one that tells of the text is the table's own
 abbrev pub MayRefuse : {A : Type 0} → TableFault → Result A TableFault → Type 0
-MayRefuse f table = tells_text f ≡ true → table ≡ Err f
+MayRefuse cause table = tells_text cause ≡ true → table ≡ Err cause

@@ -1,14 +1,27 @@
-//! Text in and text out: numbers, the table's CSV, and short lines.
+//! Text in and text out: numbers, the table's CSV, query lines, and the lines that are answered.
 //!
-//! [`number`] reads a number of a range, [`read_table`] a whole table, or tells its first fault, and
-//! [`fault_line`] says a fault of the table in one line. What a table's text means is `table_of` of
-//! `specs/Tables.antt`, which rests on csv's own words for the records of a text.
+//! - [`number`] reads a number of a range (`specs/Numbers.antt`).
+//! - [`read_table`] reads a whole table, or tells its first fault. What a table's text means is `table_of` of
+//!   `specs/Tables.antt`, which rests on csv's own words for the records of a text. [`fault_line`] says a fault
+//!   of the table in one line.
+//! - [`parse`] tells what a query line asks, or its first fault: `query_of` of `specs/Queries.antt`.
+//! - [`answer_line`], [`ok_line`], [`level_line`] and [`error_line`] are the lines that a query line is answered
+//!   with (`specs/ReplyLines.antt`). Each is a [`Line`], a text of at most 128 bytes.
 #![tactic(auto)]
 
-mod lines;
+mod fault_lines;
+mod grammar;
+mod line;
 mod numbers;
+mod query;
+mod reply_lines;
 mod tables;
+mod words;
 
-pub use lines::{Line, fault_line};
+pub use fault_lines::fault_line;
+pub use grammar::parse;
+pub use line::Line;
 pub use numbers::{NumberFault, number};
+pub use query::{Parsed, Query, QueryFault};
+pub use reply_lines::{answer_line, error_line, level_line, ok_line};
 pub use tables::{Axis, TableFault, read_table};

@@ -1,7 +1,10 @@
 //! Numbers as text.
 
-ghost use Rattle.std.specs.Prelude.{◌≡◌, ◌≤ℤ◌, IfOk, pos, min, option_map, ok_or};
-ghost use Rattle.rt_text.specs.Numbers.{digits_number, in_range, negative, number_in};
+ghost use Rattle.std.specs.Prelude.{◌≡◌, ◌≤ℤ◌, ◌≤◌, IfOk, length, neg_ℤ, pos, min, option_map, ok_or};
+ghost use Rattle.rt_text.specs.Numbers.{digits_number, in_range, number_in};
+
+/// As many digits as a `u64` has room for, whichever they are.
+const SHORT: usize = 19;
 
 /// Why a text is no number of a range.
 #[derive(Clone, Copy, Debug, PartialEq, Eq)]
@@ -39,7 +42,7 @@ fn signed(text: &[u8]) -> Result<i128, NumberFault>
 
 // The number that digits write after a `-`, where an `i128` has room for it.
 fn below_zero(digits: &[u8]) -> Result<i128, NumberFault>
-    ensures { result ≡ in_range i128.MIN i128.MAX (option_map negative (digits_number digits.now)) }
+    ensures { result ≡ in_range i128.MIN i128.MAX (option_map (λ n. neg_ℤ (pos n)) (digits_number digits.now)) }
 {
     0i128
         .checked_sub_unsigned(magnitude(digits)?)
@@ -57,6 +60,35 @@ fn above_zero(digits: &[u8]) -> Result<i128, NumberFault>
 
 // The number that digits write, or the greatest `u128` where it is above that.
 fn magnitude(digits: &[u8]) -> Result<u128, NumberFault>
+    ensures { result ≡ ok_or (option_map (λ n. min n u128.MAX) (digits_number digits.now)) NumberFault.NotNumber }
+{
+    if digits.len() <= SHORT {
+        Ok(u128::from(short_magnitude(digits)?))
+    } else {
+        long_magnitude(digits)
+    }
+}
+
+// The number that a few digits write, for which a `u64` has room.
+fn short_magnitude(digits: &[u8]) -> Result<u64, NumberFault>
+    requires { length digits.now ≤ SHORT }
+    ensures { result ≡ ok_or (digits_number digits.now) NumberFault.NotNumber }
+{
+    if digits.is_empty() {
+        return Err(NumberFault::NotNumber);
+    }
+    let mut magnitude: u64 = 0;
+    for digit in digits {
+        if !digit.is_ascii_digit() {
+            return Err(NumberFault::NotNumber);
+        }
+        magnitude = magnitude * 10 + u64::from(*digit - b'0');
+    }
+    Ok(magnitude)
+}
+
+// The number that any digits write, or the greatest `u128` where it is above that.
+fn long_magnitude(digits: &[u8]) -> Result<u128, NumberFault>
     ensures { result ≡ ok_or (option_map (λ n. min n u128.MAX) (digits_number digits.now)) NumberFault.NotNumber }
 {
     if digits.is_empty() {
@@ -115,6 +147,19 @@ mod tests {
         ];
         for (text, wanted) in cases {
             assert_eq!(rt; number(text, i128::MIN, i128::MAX), wanted);
+        }
+    }
+
+    #[test]
+    fn numbers_of_19_and_of_20_digits(rt: HostRuntime) {
+        let cases: [(&[u8], i128); 4] = [
+            (b"9999999999999999999", 9_999_999_999_999_999_999),
+            (b"10000000000000000000", 10_000_000_000_000_000_000),
+            (b"-9223372036854775808", -9_223_372_036_854_775_808),
+            (b"18446744073709551615", 18_446_744_073_709_551_615),
+        ];
+        for (text, wanted) in cases {
+            assert_eq!(rt; number(text, i128::MIN, i128::MAX), Ok(wanted));
         }
     }
 

@@ -4,14 +4,14 @@
 //! quotes with quotes doubled inside, ends by LF, CR or both, empty lines and a byte order mark passed over.
 //! A record is five numbers: an id, the least and the greatest x, the least and the greatest y.
 
-ghost use Rattle.std.specs.Prelude.{◌≡◌, ◌≤ℤ◌, ◌+◌, ◌<◌, ◌≤◌, ◌++◌, ◌∷◌, [], IsOkAnd, IfOk, IfErr, OnErr, OnOk, List, ℕ, Some, Ok, length, slice_index_or, true, false};
+ghost use Rattle.std.specs.Prelude.{◌≡◌, ◌≤ℤ◌, ◌+◌, ◌<◌, ◌≤◌, ◌++◌, ◌∷◌, [], IsOkAnd, IfOk, IfErr, OnErr, OnOk, List, ℕ, Some, Ok, length, ◌⊎◌, true};
 ghost use Rattle.csv.specs.Reading.{default_config, has_failed, is_flexible, Ready, ReadRecord, reader_config, reader_trim};
 ghost use Rattle.csv.specs.Records.{fields_of};
 ghost use Rattle.csv.specs.declared.reader.Trim.TheVariants as trim;
 ghost use Rattle.rt_tree.specs.Entries.{most_entries};
 ghost use Rattle.rt_text.specs.Numbers.{number_in};
 ghost use Rattle.rt_text.specs.Steps.{map_fault};
-ghost use Rattle.rt_text.specs.Tables.{MayRefuse, coordinate_of, entry_of_fields, entry_of_sides, field_fault, id_of, judged, new_entry, table_of, tells_text};
+ghost use Rattle.rt_text.specs.Tables.{IsRefusal, MayRefuse, coordinate_of, entry_of_fields, entry_of_sides, field_fault, field_text, id_of, judged, new_entry, table_of};
 
 use crate::numbers::{self, NumberFault};
 use csv::{ByteRecord, Reader, ReaderBuilder};
@@ -48,7 +48,7 @@ pub enum TableFault {
     Memory,
 }
 
-// `id`, `minX`, `maxX`, `minY` and `maxY`.
+/// The number of fields of a record: `id`, `minX`, `maxX`, `minY` and `maxY`.
 const FIELDS: usize = 5;
 
 /// The table that a reader's bytes give: at most `max` boxes, each under an id of its own. With `header` the
@@ -61,43 +61,48 @@ pub fn read_table<R: Read + Drop>(
     max: u32,
 ) -> Result<Table, TableFault>
     requires { max ≤ most_entries }
-    ensures table { IfOk result (λ table. (bytes : List ℕ) → R.remaining reader ≡ Some bytes → table_of bytes header max ≡ Ok table) }
-    ensures fault { IfErr result (λ f. (bytes : List ℕ) → R.remaining reader ≡ Some bytes → MayRefuse f (table_of bytes header max)) }
+    ensures table { IfOk result (λ table. (bytes : List ℕ)
+        → R.remaining reader ≡ Some bytes → table_of bytes header max ≡ Ok table) }
+    ensures fault { IfErr result (λ cause. (bytes : List ℕ)
+        → R.remaining reader ≡ Some bytes → MayRefuse cause (table_of bytes header max)) }
 {
-    let mut rows = ReaderBuilder::new()
+    let mut records = ReaderBuilder::new()
         .flexible(true)
         .has_headers(false)
         .from_reader(alloc, reader);
-    let mut row = ByteRecord::new(alloc);
+    let mut record = ByteRecord::new(alloc);
     let mut table = Table::empty(alloc);
     // At most a header, `max` entries and one record more are read.
     for number in 1..max + 3 {
-        if !next_row(&mut rows, &mut row)? {
+        if !next_record(&mut records, &mut record)? {
             return Ok(table);
         }
         if header && number == 1 {
             continue;
         }
-        add_record(max, number, &row, &mut table)?;
+        add_record(max, number, &record, &mut table)?;
     }
     unreachable!()
 }
 
 // The next record, where there is one. After an error, which is of the reader or of memory, there is none.
-fn next_row<R: Read>(rows: &mut Reader<R>, row: &mut ByteRecord) -> Result<bool, TableFault>
-    requires trim { reader_trim rows.old ≡ trim.None }
-    requires ready { Ready rows.old }
-    requires config { reader_config rows.old ≡ default_config }
-    requires flexible { is_flexible rows.old ≡ true }
-    ensures reads { IfOk result (λ found. ReadRecord R.remaining rows.old rows.new found (fields_of row.new)) }
-    ensures trim { OnOk result (reader_trim rows.new ≡ trim.None) }
-    ensures ready { OnOk result (Ready rows.new) }
-    ensures config { OnOk result (reader_config rows.new ≡ default_config) }
-    ensures flexible { OnOk result (is_flexible rows.new ≡ true) }
-    ensures failed { OnErr result (has_failed rows.new ≡ true) }
-    ensures fault { IfErr result (λ f. tells_text f ≡ false) }
+fn next_record<R: Read>(
+    records: &mut Reader<R>,
+    record: &mut ByteRecord,
+) -> Result<bool, TableFault>
+    requires trim { reader_trim records.old ≡ trim.None }
+    requires ready { Ready records.old }
+    requires config { reader_config records.old ≡ default_config }
+    requires flexible { is_flexible records.old ≡ true }
+    ensures reads { IfOk result (λ found. ReadRecord R.remaining records.old records.new found (fields_of record.new)) }
+    ensures trim { OnOk result (reader_trim records.new ≡ trim.None) }
+    ensures ready { OnOk result (Ready records.new) }
+    ensures config { OnOk result (reader_config records.new ≡ default_config) }
+    ensures flexible { OnOk result (is_flexible records.new ≡ true) }
+    ensures failed { OnErr result (has_failed records.new ≡ true) }
+    ensures fault { IfErr result (λ cause. (cause ≡ TableFault.Read) ⊎ (cause ≡ TableFault.Memory)) }
 {
-    match rows.read_byte_record(row) {
+    match records.read_byte_record(record) {
         Ok(found) => Ok(found),
         Err(error) if error.is_io_error() => Err(TableFault::Read),
         Err(_) => Err(TableFault::Memory),
@@ -105,24 +110,31 @@ fn next_row<R: Read>(rows: &mut Reader<R>, row: &mut ByteRecord) -> Result<bool,
 }
 
 // Judges one record and adds its entry.
-fn add_record(max: u32, number: u32, row: &ByteRecord, table: &mut Table) -> Result<(), TableFault>
+fn add_record(
+    max: u32,
+    number: u32,
+    record: &ByteRecord,
+    table: &mut Table,
+) -> Result<(), TableFault>
     requires { max ≤ most_entries }
-    ensures added { OnOk result (IsOkAnd (judged max number table.old (fields_of row.now)) (λ entry. table.new ≡ table.old ++ entry ∷ [])) }
+    ensures added { OnOk result (IsOkAnd (judged max number table.old (fields_of record.now))
+        (λ entry. table.new ≡ table.old ++ entry ∷ [])) }
     ensures len { OnOk result ((length table.new ≡ length table.old + 1) × (length table.new ≤ max)) }
-    ensures fault { IfErr result (λ f. MayRefuse f (judged max number table.old (fields_of row.now))) }
+    ensures fault { IfErr result (λ cause. IsRefusal cause (judged max number table.old (fields_of record.now))) }
 {
     if table.len() >= max {
         return Err(TableFault::TooMany { number });
     }
-    let entry = entry_of(number, row)?;
+    let entry = entry_of(number, record)?;
     add_entry(number, entry, table)
 }
 
 // Adds an entry, unless its id is there.
 fn add_entry(number: u32, entry: Entry, table: &mut Table) -> Result<(), TableFault>
     requires { length table.old < most_entries }
-    ensures added { OnOk result ((new_entry number table.old entry ≡ Ok entry) × (table.new ≡ table.old ++ entry ∷ [])) }
-    ensures fault { IfErr result (λ f. MayRefuse f (new_entry number table.old entry)) }
+    ensures entry { OnOk result (new_entry number table.old entry ≡ Ok entry) }
+    ensures added { OnOk result (table.new ≡ table.old ++ entry ∷ []) }
+    ensures fault { IfErr result (λ cause. IsRefusal cause (new_entry number table.old entry)) }
 {
     match table.push(entry) {
         Ok(()) => Ok(()),
@@ -132,30 +144,30 @@ fn add_entry(number: u32, entry: Entry, table: &mut Table) -> Result<(), TableFa
 }
 
 // The entry of a record's fields.
-fn entry_of(number: u32, row: &ByteRecord) -> Result<Entry, TableFault>
-    ensures { result ≡ entry_of_fields number (fields_of row.now) }
+fn entry_of(number: u32, record: &ByteRecord) -> Result<Entry, TableFault>
+    ensures { result ≡ entry_of_fields number (fields_of record.now) }
 {
-    let found = row.len();
+    let found = record.len();
     if found != FIELDS {
         return Err(TableFault::FieldCount {
             number,
             found: found as u64,
         });
     }
-    let id = id_of(number, field(row, 0))?;
-    let min_x = coordinate_of(number, 2, field(row, 1))?;
-    let max_x = coordinate_of(number, 3, field(row, 2))?;
-    let min_y = coordinate_of(number, 4, field(row, 3))?;
-    let max_y = coordinate_of(number, 5, field(row, 4))?;
+    let id = id_of(number, field(record, 0))?;
+    let min_x = coordinate_of(number, 2, field(record, 1))?;
+    let max_x = coordinate_of(number, 3, field(record, 2))?;
+    let min_y = coordinate_of(number, 4, field(record, 3))?;
+    let max_y = coordinate_of(number, 5, field(record, 4))?;
     entry_of_sides(number, id, min_x, max_x, min_y, max_y)
 }
 
 // The field at a place that is there.
-fn field(row: &ByteRecord, place: usize) -> &[u8]
-    requires { place < length (fields_of row.now) }
-    ensures { result.now ≡ slice_index_or (fields_of row.now) place [] }
+fn field(record: &ByteRecord, place: usize) -> &[u8]
+    requires { place < length (fields_of record.now) }
+    ensures { result.now ≡ field_text (fields_of record.now) place }
 {
-    row.get(place).unwrap()
+    record.get(place).unwrap()
 }
 
 // The first field.

@@ -11,7 +11,6 @@ use Rattle.std.proofs.lemmas.List.{map-append}
 use Rattle.std.proofs.lemmas.List.Elements.{All-nil, All-push}
 use Rattle.std.proofs.lemmas.List.Folds.{list_any-append}
 use Rattle.std.proofs.lemmas.Map.Keys.{IsDistinct-push}
-use Rattle.rt_geo.specs.Boxes.{IsRect}
 use Rattle.rt_geo.specs.Entries.{HasBox}
 use Rattle.rt_geo.specs.declared.entry.Entry.{Entry}
 use Rattle.rt_tree.specs.Entries.{IsTable, has_id, ids_of, most_entries}
@@ -35,19 +34,16 @@ pub has_id-ids_of : (entries : List Entry) (id : ℤ) → list_any (int_eq id) (
 has_id-ids_of [] id = refl
 has_id-ids_of (e ∷ entries) id = ap (λ b. int_eq id e.id || b) (has_id-ids_of entries id)
 
-IsTable-push : (entries : List Entry) (entry : Entry) → IsTable entries → has_id entries entry.id ≡ false
-    → IsRect entry.bounds → length entries < most_entries
+IsTable-push : (entries : List Entry) (entry : Entry) → IsTable entries → has_id entries entry.id ≡ false → HasBox entry → length entries < most_entries
     → IsTable (entries ++ entry ∷ [])
 IsTable-push entries entry t new box room = record {
-  distinct = subst (IsDistinct int_eq) (sym (map-append (λ (e : Entry). e.id) entries (entry ∷ [])))
-      (IsDistinct-push int_eq_equiv (ids_of entries) entry.id t.distinct (has_id-ids_of entries entry.id ∙ new));
-  boxes = All-push HasBox entries entry t.boxes (record { box = box });
+  distinct = subst (IsDistinct int_eq) (sym (map-append (λ (e : Entry). e.id) entries (entry ∷ []))) (IsDistinct-push int_eq_equiv (ids_of entries) entry.id t.distinct (has_id-ids_of entries entry.id ∙ new));
+  boxes = All-push HasBox entries entry t.boxes box;
   few = omega (arith, length-append entries (entry ∷ []), room);
 }
 
 -- the entry stands last, and its id beside the others
-pub pushed : (ids new : BTreeSet ℤ) (entries : List Entry) (entry : Entry) → IsIndexed ids entries
-    → IsRect entry.bounds → contains int_cmp ids entry.id ≡ false
+pub pushed : (ids new : BTreeSet ℤ) (entries : List Entry) (entry : Entry) → IsIndexed ids entries → HasBox entry → contains int_cmp ids entry.id ≡ false
     → Updates int_cmp ids new entry.id true → length entries < most_entries → IsIndexed new (entries ++ entry ∷ [])
 pushed ids new entries entry kept box absent u room = record {
   table = IsTable-push entries entry kept.table (sym (kept.ids_are entry.id) ∙ absent) box room;

@@ -69,7 +69,8 @@ impl Levels {
 
     /// How many levels there are, that of the entries included.
     pub fn count(&self) -> u8
-        ensures { result ≡ length self.now }
+        ensures value { result ≡ length self.now }
+        ensures few { result ≤ 25 }
     {
         self.count as u8
     }

@@ -1,6 +1,7 @@
 //! A packed tree of boxes.
 
 ghost use Rattle.std.specs.Prelude.{◌≡◌, ◌==◌, ◌+◌, ◌-◌, ◌<◌, ◌≤◌, ◌↔◌, IfOk, IfSome, IsSome, Some, length, slice_get};
+ghost use Rattle.std.specs.List.Sorted.{IsPermutation};
 ghost use Rattle.rt_tree.specs.Entries.{most_entries};
 ghost use Rattle.rt_tree.specs.Levels.{level_sizes};
 ghost use Rattle.rt_tree.specs.Packed.{IsSound, node_at, root_of};
@@ -77,7 +78,8 @@ impl Tree {
     pub fn pack(alloc: Global, table: Table, fanout: u8) -> Result<Tree, AllocError>
         requires several { 2 ≤ fanout }
         requires most { fanout ≤ 64 }
-        ensures { IfOk result (λ t. t ≡ pack_of fanout table) }
+        ensures value { IfOk result (λ t. t ≡ pack_of fanout table) }
+        ensures moved { IfOk result (λ t. IsPermutation table t.entries) }
     {
         let levels = Levels::new(table.len(), fanout);
         let mut entries = table.into_entries();

@@ -73,7 +73,7 @@ impl Ending {
 
 fn main(rt: HostRuntime) -> ExitCode {
     let ending = match invocation(&rt) {
-        Ok(invocation) => filter(&rt, &invocation),
+        Ok(invocation) => open_and_run(&rt, &invocation),
         Err(ArgFault::Help) => help(&rt),
         Err(ArgFault::Usage) => Ending::BadCommandLine,
         Err(ArgFault::Memory) => Ending::NoMemory,
@@ -112,19 +112,19 @@ fn help(rt: &impl Print) -> Ending {
 }
 
 // Opens the files and runs.
-fn filter<R: Files + Input + Print + AllocGlobal>(rt: &R, invocation: &Invocation) -> Ending {
+fn open_and_run<R: Files + Input + Print + AllocGlobal>(rt: &R, invocation: &Invocation) -> Ending {
     let Ok(table) = File::open(rt, invocation.table.text()) else {
         return Ending::NoTable;
     };
     match &invocation.queries {
-        None => answer(
+        None => run_to_output(
             rt,
             &invocation.settings,
             table,
             &mut ReadSource::new(rt.reader()),
         ),
         Some(queries) => match File::open(rt, queries.text()) {
-            Ok(queries) => answer(
+            Ok(queries) => run_to_output(
                 rt,
                 &invocation.settings,
                 table,
@@ -136,7 +136,7 @@ fn filter<R: Files + Input + Print + AllocGlobal>(rt: &R, invocation: &Invocatio
 }
 
 // Runs with standard output as the sink, buffered, so that a line is not a system call.
-fn answer<R: Print + AllocGlobal, T: Read + Drop, S: Source>(
+fn run_to_output<R: Print + AllocGlobal, T: Read + Drop, S: Source>(
     rt: &R,
     settings: &Settings,
     table: T,

@@ -24,7 +24,8 @@ sum_of_squares a b c d p q =
 -- a point is no nearer to a part of a box than to the box
 pub near2-part : (p : Point) (a b : Rect) → inside a b ≡ true → near2 p b ≤ near2 p a
 near2-part p a b h =
-    sum_of_squares _ _ _ _ (gap-part p.x a.min_x a.max_x b.min_x b.max_x (inside-on_x a b h)) (gap-part p.y a.min_y a.max_y b.min_y b.max_y (inside-on_y a b h))
+    sum_of_squares _ _ _ _ (gap-part p.x a.min_x a.max_x b.min_x b.max_x (inside-on_x a b h))
+    (gap-part p.y a.min_y a.max_y b.min_y b.max_y (inside-on_y a b h))
 
 -- a point is no farther from a part of a box than the box reaches
 pub near2-far2 : (p : Point) (a b : Rect) → IsRect a → inside a b ≡ true → near2 p a ≤ far2 p b

@@ -6,7 +6,8 @@ use Rattle.rt_geo.specs.declared.geometry.Within.{Within}
 
 -- a shape and a rank that keep their laws make a geometry that keeps its own
 pub guided-lawful : (accepts : Extent → Bool) (state : Info → Within) (score : Extent → ℕ) (estimate : Info → ℕ)
-    → IsFaithful accepts state → IsAdmissible score estimate → IsLawful accepts score (guided_verdict state estimate)
+    → IsFaithful accepts state → IsAdmissible score estimate
+    → IsLawful accepts score (guided_verdict state estimate)
 guided-lawful accepts state score estimate shape rank = record {
   faithful = shape;
   exact = λ i question entry _. rank.exact i question.well_formed entry;

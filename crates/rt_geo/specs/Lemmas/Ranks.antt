@@ -4,7 +4,8 @@ use Rattle.std.proofs.lemmas.Bool.Decides.{nat_tests}
 use Rattle.rt_geo.specs.Boxes.{area}
 use Rattle.rt_geo.specs.Laws.{IsAdmissible, extent_of}
 use Rattle.rt_geo.specs.Lemmas.Distances.{near2-part}
-use Rattle.rt_geo.specs.Ranks.{by_id_estimate, by_id_score, near_estimate, near_score, smallest_estimate, smallest_score}
+use Rattle.rt_geo.specs.Ranks.{by_id_estimate, near_estimate, smallest_estimate}
+use Rattle.rt_geo.specs.Ranks.{by_id_score, near_score, smallest_score}
 use Rattle.rt_geo.specs.declared.distance.Point.{Point}
 use Rattle.rt_geo.specs.declared.geometry.Info.{Info}
 

@@ -1,13 +1,15 @@
 -- Each shape keeps its laws.
 use Rattle.std.specs.Prelude.{nat_le, nat_lt}
-use Rattle.std.proofs.Common.{◌≡◌, ◌≢◌, ◌↔◌, ◌<◌, ◌≤◌, refl, arith, ℕ, Bool, true, false, not}
+use Rattle.std.proofs.Common.{◌≡◌, ◌≢◌, ◌↔◌, ◌<◌, ◌≤◌, refl, sym, ◌∙◌, arith, ℕ, Bool, true, false, not}
+use Rattle.std.proofs.lemmas.Bool.{false_from_ne_true, true≢false}
 use Rattle.std.proofs.lemmas.Bool.Decides.{nat_tests}
 use Rattle.rt_geo.specs.Boxes.{Rect, inside, overlaps}
 use Rattle.rt_geo.specs.Distances.{far2, near2, square}
 use Rattle.rt_geo.specs.Laws.{AllAccepted, IsFaithful, NoneAccepted, extent_of}
 use Rattle.rt_geo.specs.Lemmas.Boxes.{inside-overlaps, inside-trans, overlaps-part}
 use Rattle.rt_geo.specs.Lemmas.Distances.{near2-far2, near2-part}
-use Rattle.rt_geo.specs.Shapes.{all_accepts, all_state, circle_accepts, circle_state, covers_accepts, covers_state, inside_accepts, inside_state, state_by, window_accepts, window_state}
+use Rattle.rt_geo.specs.Shapes.{all_accepts, circle_accepts, covers_accepts, inside_accepts, window_accepts}
+use Rattle.rt_geo.specs.Shapes.{all_state, circle_state, covers_state, inside_state, state_by, window_state}
 use Rattle.rt_geo.specs.declared.distance.Point.{Point}
 use Rattle.rt_geo.specs.declared.geometry.Info.{Info}
 use Rattle.rt_geo.specs.declared.geometry.Within.TheVariants.{Not, Fully}
@@ -15,23 +17,22 @@ use Rattle.rt_geo.specs.declared.geometry.Within.TheVariants.{Not, Fully}
 -- ---- tests, and what they tell
 
 -- a state that is NOT exactly where a test fails
-state_by-leaf : (a f : Bool) → (state_by (not a) f ≡ Not) ↔ (a ≡ false)
+pub state_by-leaf : (a f : Bool) → (state_by (not a) f ≡ Not) ↔ (a ≡ false)
 state_by-leaf true true = (λ e. cc, λ e. cc)
 state_by-leaf true false = (λ e. cc, λ e. cc)
 state_by-leaf false f = (λ e. refl, λ e. refl)
 
-state_by-Not : (a f : Bool) → state_by (not a) f ≡ Not → a ≡ false
+pub state_by-Not : (a f : Bool) → state_by (not a) f ≡ Not → a ≡ false
 state_by-Not a f e = (state_by-leaf a f).0 e
 
-state_by-Fully : (n f : Bool) → state_by n f ≡ Fully → f ≡ true
+pub state_by-Fully : (n f : Bool) → state_by n f ≡ Fully → f ≡ true
 state_by-Fully true f e = cc
 state_by-Fully false true e = refl
 state_by-Fully false false e = cc
 
--- what would make a failed test hold fails too
-fails : (p q : Bool) → (p ≡ true → q ≡ true) → q ≡ false → p ≡ false
-fails true q f e = cc (f refl)
-fails false q f e = refl
+-- a test fails where another does that holds wherever the first one holds
+pub contrapositive : (p q : Bool) → (p ≡ true → q ≡ true) → q ≡ false → p ≡ false
+contrapositive p q f e = false_from_ne_true p (λ h. true≢false (sym (f h) ∙ e))
 
 -- ---- all
 
@@ -46,11 +47,13 @@ all-faithful = record {
 
 window-pruning : (w : Rect) (i : Info) → window_state w i ≡ Not → NoneAccepted (window_accepts w) (extent_of i)
 window-pruning w i e b h =
-    fails _ _ (overlaps-part b.bounds i.bounds w h.inside) (state_by-Not (overlaps i.bounds w) (inside i.bounds w) e)
+    contrapositive _ _ (overlaps-part b.bounds i.bounds w h.inside)
+    (state_by-Not (overlaps i.bounds w) (inside i.bounds w) e)
 
 window-fullness : (w : Rect) (i : Info) → window_state w i ≡ Fully → AllAccepted (window_accepts w) (extent_of i)
 window-fullness w i e b h =
-    inside-overlaps b.bounds w h.box (inside-trans b.bounds i.bounds w h.inside (state_by-Fully (not (overlaps i.bounds w)) (inside i.bounds w) e))
+    let lies_in = state_by-Fully (not (overlaps i.bounds w)) (inside i.bounds w) e in
+    inside-overlaps b.bounds w h.box (inside-trans b.bounds i.bounds w h.inside lies_in)
 
 pub window-faithful : (w : Rect) → IsFaithful (window_accepts w) (window_state w)
 window-faithful w = record {
@@ -61,20 +64,24 @@ window-faithful w = record {
 
 -- ---- inside
 
-inside-leaf : (w : Rect) (i : Info) → i.level ≡ 0 → (inside_state w i ≡ Not) ↔ (inside_accepts w (extent_of i) ≡ false)
+inside-leaf : (w : Rect) (i : Info)
+    → i.level ≡ 0 → (inside_state w i ≡ Not) ↔ (inside_accepts w (extent_of i) ≡ false)
 inside-leaf w i entry = rw entry (state_by-leaf (inside i.bounds w) true)
 
 -- above the entries the states are those of the window
 inside_state-above : (w : Rect) (i : Info) → 0 < i.level → inside_state w i ≡ window_state w i
 inside_state-above w i node = grind (arith, nat_tests)
 
-inside-pruning : (w : Rect) (i : Info) → 0 < i.level → inside_state w i ≡ Not → NoneAccepted (inside_accepts w) (extent_of i)
+inside-pruning : (w : Rect) (i : Info)
+    → 0 < i.level → inside_state w i ≡ Not → NoneAccepted (inside_accepts w) (extent_of i)
 inside-pruning w i node e b h =
-    fails _ _ (inside-overlaps b.bounds w h.box) (window-pruning w i (rw inside_state-above at e) b h)
+    contrapositive _ _ (inside-overlaps b.bounds w h.box) (window-pruning w i (rw inside_state-above at e) b h)
 
-inside-fullness : (w : Rect) (i : Info) → 0 < i.level → inside_state w i ≡ Fully → AllAccepted (inside_accepts w) (extent_of i)
+inside-fullness : (w : Rect) (i : Info)
+    → 0 < i.level → inside_state w i ≡ Fully → AllAccepted (inside_accepts w) (extent_of i)
 inside-fullness w i node e b h =
-    inside-trans b.bounds i.bounds w h.inside (state_by-Fully (not (overlaps i.bounds w)) (inside i.bounds w) (rw inside_state-above at e))
+    inside-trans b.bounds i.bounds w h.inside
+    (state_by-Fully (not (overlaps i.bounds w)) (inside i.bounds w) (rw inside_state-above at e))
 
 pub inside-faithful : (w : Rect) → IsFaithful (inside_accepts w) (inside_state w)
 inside-faithful w = record {
@@ -87,7 +94,8 @@ inside-faithful w = record {
 
 covers-pruning : (w : Rect) (i : Info) → covers_state w i ≡ Not → NoneAccepted (covers_accepts w) (extent_of i)
 covers-pruning w i e b h =
-    fails _ _ (λ covered. inside-trans w b.bounds i.bounds covered h.inside) (state_by-Not (inside w i.bounds) false e)
+    contrapositive _ _ (λ covered. inside-trans w b.bounds i.bounds covered h.inside)
+    (state_by-Not (inside w i.bounds) false e)
 
 covers-fullness : (w : Rect) (i : Info) → covers_state w i ≢ Fully
 covers-fullness w i e = cc (state_by-Fully (not (inside w i.bounds)) false e)
@@ -102,22 +110,30 @@ covers-faithful w = record {
 -- ---- circle
 
 -- one number is above another exactly where it isn't at most the other
-above-not_at_most : (m n : ℕ) → nat_lt n m ≡ not (nat_le m n)
-above-not_at_most m n = grind (arith, nat_tests)
+nat_lt-not_at_most : (m n : ℕ) → nat_lt n m ≡ not (nat_le m n)
+nat_lt-not_at_most m n = grind (arith, nat_tests)
 
 at_most-trans : (l m n : ℕ) → l ≤ m → nat_le m n ≡ true → nat_le l n ≡ true
 at_most-trans l m n h e = grind (arith, nat_tests)
 
-circle-leaf : (p : Point) (r : ℕ) (i : Info) → (circle_state p r i ≡ Not) ↔ (circle_accepts p r (extent_of i) ≡ false)
-circle-leaf p r i = rw above-not_at_most (state_by-leaf (nat_le (near2 p i.bounds) (square r)) (nat_le (far2 p i.bounds) (square r)))
+circle-leaf : (p : Point) (r : ℕ) (i : Info)
+    → (circle_state p r i ≡ Not) ↔ (circle_accepts p r (extent_of i) ≡ false)
+circle-leaf p r i =
+    rw nat_lt-not_at_most
+    (state_by-leaf (nat_le (near2 p i.bounds) (square r)) (nat_le (far2 p i.bounds) (square r)))
 
-circle-pruning : (p : Point) (r : ℕ) (i : Info) → circle_state p r i ≡ Not → NoneAccepted (circle_accepts p r) (extent_of i)
+circle-pruning : (p : Point) (r : ℕ) (i : Info)
+    → circle_state p r i ≡ Not → NoneAccepted (circle_accepts p r) (extent_of i)
 circle-pruning p r i e b h =
-    fails _ _ (at_most-trans (near2 p i.bounds) (near2 p b.bounds) (square r) (near2-part p b.bounds i.bounds h.inside)) ((circle-leaf p r i).0 e)
+    let no_nearer = near2-part p b.bounds i.bounds h.inside in
+    contrapositive _ _ (at_most-trans (near2 p i.bounds) (near2 p b.bounds) (square r) no_nearer)
+    ((circle-leaf p r i).0 e)
 
-circle-fullness : (p : Point) (r : ℕ) (i : Info) → circle_state p r i ≡ Fully → AllAccepted (circle_accepts p r) (extent_of i)
+circle-fullness : (p : Point) (r : ℕ) (i : Info)
+    → circle_state p r i ≡ Fully → AllAccepted (circle_accepts p r) (extent_of i)
 circle-fullness p r i e b h =
-    at_most-trans (near2 p b.bounds) (far2 p i.bounds) (square r) (near2-far2 p b.bounds i.bounds h.box h.inside)
+    let no_farther = near2-far2 p b.bounds i.bounds h.box h.inside in
+    at_most-trans (near2 p b.bounds) (far2 p i.bounds) (square r) no_farther
     (state_by-Fully (nat_lt (square r) (near2 p i.bounds)) (nat_le (far2 p i.bounds) (square r)) e)
 
 pub circle-faithful : (p : Point) (r : ℕ) → IsFaithful (circle_accepts p r) (circle_state p r)

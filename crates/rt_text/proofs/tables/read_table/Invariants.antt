@@ -8,12 +8,12 @@ use Rattle.rt_text.proofs.tables.read_table.Given as goal
 -- each record before this one gave an entry, but the first where it is a header
 abbrev pub invariant-loop-number : goal.invariant-loop-number
 invariant-loop-number g l = record {
-  trim : l.rows.trim ≡ trim.None;
-  ready : Ready l.rows;
-  config : l.rows.config ≡ default_config;
-  flexible : l.rows.flexible ≡ true;
+  trim : l.records.trim ≡ trim.None;
+  ready : Ready l.records;
+  config : l.records.config ≡ default_config;
+  flexible : l.records.flexible ≡ true;
   count : l.number ≤ length l.table + 2;
   most : length l.table ≤ l.fn.max;
   table : (bytes : List ℕ) → g.R.Read.remaining l.fn.reader ≡ Some bytes
-      → ReadUpTo g.R.Read.remaining l.rows l.table l.fn.header l.fn.max l.number (table_of bytes l.fn.header l.fn.max);
+      → ReadUpTo g.R.Read.remaining l.records l.table l.fn.header l.fn.max l.number (table_of bytes l.fn.header l.fn.max);
 }

@@ -6,7 +6,7 @@ use Rattle.rt_tree.specs.Levels.{level_sizes}
 use Rattle.rt_tree.specs.Packed.{Packed, IsSound}
 use Rattle.rt_tree.specs.Packing.{all_nodes, chunks, groups, joined, nodes_over}
 use Rattle.rt_tree.proofs.PackLemmas.{length-arranged, length-packed, packed_is, sorted_by_id}
-use Rattle.rt_tree.proofs.PackSound.{pack_of-IsSound}
+use Rattle.rt_tree.proofs.PackSound.{entries-IsPermutation, pack_of-IsSound}
 use Rattle.rt_tree.proofs.tree.Tree.pack.Goals as goal
 
 pub returns : goal.returns
@@ -15,14 +15,14 @@ returns c =
     let moved = subst (λ l. IsPermutation l c.sort_unstable_by_key.new.self.items) table
     c.sort_unstable_by_key.ensures.permutation in
     let up = c.sort_unstable_by_key.ensures.sorted (λ e. e.id) (answers_always _ _ _ (λ f a r g h. search rules)) in
-    let in_order = sorted_by_id c.args.table c.sort_unstable_by_key.new.self.items
-    c.into_entries-entries.ensures.table moved up in
-    let entries = c.in_ok-entries.ensures ∙ ap (λ l. joined (groups (λ
-    (e : Entry). e.bounds) c.args.fanout l)) c.deref.ensures.value in
-    let nodes = c.in_ok-nodes.ensures ∙ ap (λ l. all_nodes c.args.fanout (nodes_over (λ (e : Entry). e.bounds)
-    (λ _. 1) 1 0 (chunks c.args.fanout l))) c.deref-2.ensures.value in
-    packed_is c.args.fanout c.args.table c.sort_unstable_by_key.new.self.items c.in_ok-entries.entries.items
-    c.in_ok-nodes.nodes.items c.requires.several in_order entries nodes
+    let in_order = sorted_by_id c.args.table c.sort_unstable_by_key.new.self.items c.into_entries-entries.ensures.table moved up in
+    let entries = c.in_ok-entries.ensures ∙ ap (λ l. joined (groups (λ (e : Entry). e.bounds) c.args.fanout l)) c.deref.ensures.value in
+    let nodes = c.in_ok-nodes.ensures ∙ ap (λ l. all_nodes c.args.fanout (nodes_over (λ (e : Entry). e.bounds) (λ _. 1) 1 0 (chunks c.args.fanout l))) c.deref-2.ensures.value in
+    let whole = packed_is c.args.fanout c.args.table c.sort_unstable_by_key.new.self.items c.in_ok-entries.entries.items c.in_ok-nodes.nodes.items c.requires.several in_order entries nodes in
+    record {
+      value = whole;
+      moved = subst (λ (t : Packed). IsPermutation c.args.table t.entries) (sym whole) (entries-IsPermutation c.args.fanout c.args.table c.requires.several);
+    }
 
 pub invariant_of-result : goal.invariant_of-result
 invariant_of-result c =

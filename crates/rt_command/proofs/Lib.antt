@@ -1,0 +1,5 @@
+mod ArgumentLemmas
+mod CommandLemmas
+mod CommandRows
+mod OptionLemmas
+mod OptionNumbers

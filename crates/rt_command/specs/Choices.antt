@@ -1,0 +1,27 @@
+-- The settings of a run.
+use Rattle.std.specs.Prelude.{ℕ, ◌≤◌, Bool}
+use Rattle.rt_tree.specs.Entries.{most_entries}
+
+-- whether the table's first record is a header, how many children a node may have, how many entries a table may have
+pub record Choices : Type 0 where
+  pub header : Bool
+  pub fanout : ℕ
+  pub max_entries : ℕ
+
+-- settings with these values
+abbrev pub choices_of : (header : Bool) → (fanout max_entries : ℕ) → Choices
+choices_of header fanout max_entries = record { header = header; fanout = fanout; max_entries = max_entries }
+
+-- the least and the greatest number of children that a node may have
+abbrev pub least_fanout : ℕ
+least_fanout = 2
+
+abbrev pub greatest_fanout : ℕ
+greatest_fanout = 64
+
+-- the settings are in their ranges
+pub record AreAllowed (choices : Choices) : Type 0 where
+  pub least_fanout : least_fanout ≤ choices.fanout
+  pub greatest_fanout : choices.fanout ≤ greatest_fanout
+  pub some_entries : 1 ≤ choices.max_entries
+  pub most_entries : choices.max_entries ≤ most_entries

@@ -1,0 +1,353 @@
+//! What the words of the command line ask for.
+
+ghost use Rattle.std.specs.Prelude.{◌≡◌, ◌≤◌, [], Some, IfOk, IfErr, MatchResult, codes, option_map, true, false};
+ghost use Rattle.clap.specs.Words.{app_of, first_of, found_of, matches_of, rows_of, rule_of, takes};
+ghost use Rattle.rt_tree.specs.Entries.{most_entries};
+ghost use Rattle.rt_command.specs.Choices.{greatest_fanout, least_fanout};
+ghost use Rattle.rt_command.specs.Invocations.{AreFilled, HasNumber, IsFaultAmong, choices_in, entries_values, fanout_values, faults_of, filter_app, header_rule, invocation_of, is_given, number_rule, option_number, word_rule};
+
+use crate::name::Name;
+use crate::settings::Settings;
+use clap::builder::ValueParser;
+use clap::error::ErrorKind;
+use clap::{Arg, ArgAction, ArgMatches, Command};
+use std::alloc::{AllocError, Global};
+use thiserror::Error;
+
+/// The fanout where the words give none.
+const DEFAULT_FANOUT: &str = "16";
+
+/// The most entries where the words don't say.
+const DEFAULT_MAX_ENTRIES: &str = "16777216";
+
+/// What the words ask for.
+#[derive(Debug, Drop)]
+pub struct Invocation {
+    /// The settings of the run.
+    pub settings: Settings,
+    /// The file of the table.
+    pub table: Name,
+    /// The file of the queries; without one they come from standard input.
+    pub queries: Option<Name>,
+}
+
+/// Why the words give no invocation.
+#[derive(Clone, Copy, Debug, Drop, Error, PartialEq, Eq)]
+pub enum ArgFault {
+    /// They ask for help.
+    #[error("help was asked for")]
+    Help,
+    /// They are no command line of this program.
+    #[error("bad command line")]
+    Usage,
+    /// No memory was left.
+    #[error("out of memory")]
+    Memory,
+}
+
+impl From<AllocError> for ArgFault {
+    ghost use Rattle.std.specs.Prelude.{◌≡◌};
+    ghost use Rattle.rt_command.specs.declared.invocation.ArgFault.TheVariants.{Memory};
+
+    ghost from_gives = { λ _ fault. fault ≡ Memory };
+
+    fn from(_error: AllocError) -> ArgFault {
+        ArgFault::Memory
+    }
+}
+
+impl From<clap::Error> for ArgFault {
+    ghost use Rattle.std.specs.Prelude.{◌≡◌};
+    ghost use Rattle.clap.specs.Words.{kind_of};
+    ghost use Rattle.rt_command.specs.Invocations.{arg_fault_of};
+
+    ghost from_gives = { λ error fault. fault ≡ arg_fault_of (kind_of error) };
+
+    fn from(error: clap::Error) -> ArgFault {
+        match error.kind() {
+            ErrorKind::DisplayHelp => ArgFault::Help,
+            ErrorKind::OutOfMemory => ArgFault::Memory,
+            _ => ArgFault::Usage,
+        }
+    }
+}
+
+/// What the words of a command line ask for, the program's name before them:
+/// `rtfilter [-H|--header] [--fanout M] [--max-entries N] TABLE [QUERIES]`.
+///
+/// M is a whole number from 2 to 64, 16 where none is given. N is one from 1 to 16,777,216, which is also
+/// what it is where none is given. The words mean what `clap` takes them to mean, its `-h` and `--help`
+/// included: each refusal of `clap` is [`ArgFault::Usage`], but for help and want of memory.
+pub fn settings_of(alloc: Global, words: &[Name]) -> Result<Invocation, ArgFault>
+    // The values are those that clap's own definition of the command's matches gives for the words.
+    ensures ok { IfOk result (λ invocation. invocation_of words.now ≡ Some invocation) }
+
+    // There are some only where clap's definition allows no fault. Each refusal is want of memory or one
+    // of the kinds that clap allows for the words.
+    ensures faults { MatchResult result (λ _. faults_of words.now ≡ []) (IsFaultAmong (faults_of words.now)) }
+
+    // Where clap takes the words, only memory can be wanting.
+    ensures takes { IfErr result (λ fault. takes filter_app words.now ≡ true → fault ≡ ArgFault.Memory) }
+{
+    let matches = parse(alloc, words)?;
+    Ok(Invocation {
+        settings: settings(&matches),
+        table: Name::new(alloc, matches.get_str("table").unwrap())?,
+        queries: named(alloc, matches.get_str("queries"))?,
+    })
+}
+
+// The matches that clap gives for the words.
+fn parse<'a>(alloc: Global, words: &'a [Name]) -> Result<ArgMatches<'a>, ArgFault>
+    ensures rows { IfOk result (λ m. rows_of (found_of m) ≡ matches_of filter_app words.entry.now) }
+    ensures filled { IfOk result (λ m. AreFilled (rows_of (found_of m))) }
+    ensures faults { MatchResult result (λ _. faults_of words.entry.now ≡ []) (IsFaultAmong (faults_of words.entry.now)) }
+    ensures takes { IfErr result (λ fault. takes filter_app words.entry.now ≡ true → fault ≡ ArgFault.Memory) }
+{
+    let command = filter_command(alloc)?;
+    Ok(command.try_get_matches_from(words)?)
+}
+
+// The command of the program.
+fn filter_command<'a>(alloc: Global) -> Result<Command<'a>, AllocError>
+    ensures { IfOk result (λ command. app_of command ≡ filter_app) }
+{
+    Command::new(alloc, "rtfilter")
+        .arg(header_arg(alloc))?
+        .arg(number_arg(alloc, "fanout", fanout_parser(), DEFAULT_FANOUT))?
+        .arg(number_arg(alloc, "max-entries", entries_parser(), DEFAULT_MAX_ENTRIES))?
+        .arg(word_arg(alloc, "table", true))?
+        .arg(word_arg(alloc, "queries", false))
+}
+
+// `-H` or `--header`.
+fn header_arg<'a>(alloc: Global) -> Arg<'a>
+    ensures rule { rule_of result ≡ header_rule }
+    ensures local { result.global ≡ false }
+{
+    Arg::new(alloc, "header")
+        .short('H')
+        .long("header")
+        .action(ArgAction::SetTrue)
+}
+
+// An option that takes a number, and has one where it isn't given.
+fn number_arg<'a>(
+    alloc: Global,
+    name: &'a str,
+    parser: ValueParser<'a>,
+    default: &'a str,
+) -> Arg<'a>
+    ensures rule { rule_of result ≡ number_rule name.entry.now parser.entry default.entry.now }
+    ensures local { result.global ≡ false }
+{
+    Arg::new(alloc, name)
+        .long(name)
+        .action(ArgAction::Set)
+        .value_parser(parser)
+        .default_value(default)
+}
+
+// The whole numbers that a fanout may be.
+fn fanout_parser<'a>() -> ValueParser<'a>
+    ensures { result ≡ fanout_values }
+{
+    clap::value_parser!(u8).range(
+        i64::from(Settings::LEAST_FANOUT)..=i64::from(Settings::GREATEST_FANOUT),
+    )
+}
+
+// The whole numbers that the most entries may be.
+fn entries_parser<'a>() -> ValueParser<'a>
+    ensures { result ≡ entries_values }
+{
+    clap::value_parser!(u32).range(1..=i64::from(Settings::MOST_ENTRIES))
+}
+
+// A word that is no option.
+fn word_arg<'a>(alloc: Global, name: &'a str, required: bool) -> Arg<'a>
+    ensures rule { rule_of result ≡ word_rule name.entry.now required }
+    ensures local { result.global ≡ false }
+{
+    Arg::new(alloc, name)
+        .required(required)
+        .action(ArgAction::Set)
+}
+
+// The settings that the matches give.
+fn settings(matches: &ArgMatches<'_>) -> Settings
+    requires { AreFilled (rows_of (found_of matches.now)) }
+    ensures { choices_in (rows_of (found_of matches.now)) ≡ Some result }
+{
+    Settings::new(header(matches), fanout(matches), max_entries(matches)).unwrap()
+}
+
+// Whether the flag is given. A flag that isn't has the text `false`.
+fn header(matches: &ArgMatches<'_>) -> bool
+    ensures { result ≡ is_given (first_of (codes "header") (rows_of (found_of matches.now))) }
+{
+    match matches.get_str("header") {
+        Some(text) => text == "true",
+        None => false,
+    }
+}
+
+// The fanout, given or by default: clap has checked that it stands in its range.
+fn fanout(matches: &ArgMatches<'_>) -> u8
+    requires { HasNumber (codes "fanout") least_fanout greatest_fanout (rows_of (found_of matches.now)) }
+    ensures value { option_number (first_of (codes "fanout") (rows_of (found_of matches.now))) ≡ Some result }
+    ensures least { least_fanout ≤ result }
+    ensures most { result ≤ greatest_fanout }
+{
+    matches.get_one::<u8>("fanout").unwrap()
+}
+
+// The most entries, likewise.
+fn max_entries(matches: &ArgMatches<'_>) -> u32
+    requires { HasNumber (codes "max-entries") 1 most_entries (rows_of (found_of matches.now)) }
+    ensures value { option_number (first_of (codes "max-entries") (rows_of (found_of matches.now))) ≡ Some result }
+    ensures least { 1 ≤ result }
+    ensures most { result ≤ most_entries }
+{
+    matches.get_one::<u32>("max-entries").unwrap()
+}
+
+// The name with this text, where there is one.
+fn named(alloc: Global, text: Option<&str>) -> Result<Option<Name>, AllocError>
+    ensures { IfOk result (λ name. name ≡ option_map (λ s. s.now) text.entry) }
+{
+    match text {
+        Some(text) => Ok(Some(Name::new(alloc, text)?)),
+        None => Ok(None),
+    }
+}
+
+#[cfg(test)]
+mod tests {
+    use super::{ArgFault, Invocation, settings_of};
+    use crate::name::Name;
+    use std::alloc::Global;
+    use std::test::Fail;
+
+    fn push(alloc: Global, names: &mut Vec<Name>, word: &str) -> Result<(), ArgFault> {
+        match names.push(Name::new(alloc, word)?) {
+            Ok(()) => Ok(()),
+            Err(_) => Err(ArgFault::Memory),
+        }
+    }
+
+    /// What the words ask for, the program's name before them.
+    fn invocation_of(alloc: Global, words: &[&str]) -> Result<Invocation, ArgFault> {
+        let mut names = Vec::new(alloc);
+        push(alloc, &mut names, "rtfilter")?;
+        for word in words {
+            push(alloc, &mut names, *word)?;
+        }
+        settings_of(alloc, names.as_slice())
+    }
+
+    fn text_of(name: &Option<Name>) -> Option<&str> {
+        match name {
+            Some(name) => Some(name.text()),
+            None => None,
+        }
+    }
+
+    const INVOCATIONS: [(&[&str], (bool, u8, u32), &str, Option<&str>); 7] = [
+        (&["t.csv"], (false, 16, 16777216), "t.csv", None),
+        (
+            &[
+                "-H",
+                "--fanout",
+                "2",
+                "--max-entries",
+                "5",
+                "t.csv",
+                "q.txt",
+            ],
+            (true, 2, 5),
+            "t.csv",
+            Some("q.txt"),
+        ),
+        (
+            &["--header", "--fanout=64", "t.csv", "--max-entries=16777216"],
+            (true, 64, 16777216),
+            "t.csv",
+            None,
+        ),
+        (
+            &["--fanout=+7", "t.csv"],
+            (false, 7, 16777216),
+            "t.csv",
+            None,
+        ),
+        (
+            &["--fanout", "0016", "t.csv"],
+            (false, 16, 16777216),
+            "t.csv",
+            None,
+        ),
+        (&["--", "-x"], (false, 16, 16777216), "-x", None),
+        (&["-", "-"], (false, 16, 16777216), "-", Some("-")),
+    ];
+
+    #[test]
+    fn invocations(rt: HostRuntime) {
+        for (words, numbers, table, queries) in INVOCATIONS {
+            match invocation_of(rt.alloc(), words) {
+                Ok(invocation) => {
+                    let settings = &invocation.settings;
+                    let told = (settings.header(), settings.fanout(), settings.max_entries());
+                    assert_eq!(rt; told, numbers);
+                    assert_eq!(rt; invocation.table.text(), table);
+                    assert_eq!(rt; text_of(&invocation.queries), queries);
+                }
+                Err(fault) => assert_eq!(rt; Some(fault), None),
+            }
+        }
+    }
+
+    #[test]
+    fn refusals(rt: HostRuntime) {
+        let cases: [(&[&str], ArgFault); 19] = [
+            (&[], ArgFault::Usage),
+            (&["--fanout", "65", "t.csv"], ArgFault::Usage),
+            (&["--fanout", "1", "t.csv"], ArgFault::Usage),
+            (&["a", "b", "c"], ArgFault::Usage),
+            (&["--max-entries", "0", "t.csv"], ArgFault::Usage),
+            (&["--max-entries", "16777217", "t.csv"], ArgFault::Usage),
+            (&["-HH", "t.csv"], ArgFault::Usage),
+            (&["--help=1"], ArgFault::Usage),
+            (&["--head", "t.csv"], ArgFault::Usage),
+            (&["-V"], ArgFault::Usage),
+            (&["--version"], ArgFault::Usage),
+            (&["--fanout", "t.csv"], ArgFault::Usage),
+            (&["--fanout", "65", "--help"], ArgFault::Usage),
+            (&["--help"], ArgFault::Help),
+            (&["-h"], ArgFault::Help),
+            (&["-Hh"], ArgFault::Help),
+            (&["t.csv", "--help"], ArgFault::Help),
+            (&["--help", "--fanout", "65"], ArgFault::Help),
+            (&["-h", "a", "b", "c"], ArgFault::Help),
+        ];
+        for (words, wanted) in cases {
+            match invocation_of(rt.alloc(), words) {
+                Ok(_) => assert_eq!(rt; None, Some(wanted)),
+                Err(fault) => assert_eq!(rt; fault, wanted),
+            }
+        }
+    }
+
+    #[test]
+    fn faults_are_errors_of_std(rt: HostRuntime) -> Result<(), Fail> {
+        let texts = [
+            (ArgFault::Help, "help was asked for"),
+            (ArgFault::Usage, "bad command line"),
+            (ArgFault::Memory, "out of memory"),
+        ];
+        for (fault, text) in texts {
+            assert_eq!(rt; format!(in rt.alloc(); "{fault}")?.as_str(), text);
+        }
+        Ok(())
+    }
+}

@@ -1,0 +1,108 @@
+//! What a run is told beside its bytes.
+
+ghost use Rattle.std.specs.Prelude.{◌≡◌, ◌≤◌};
+ghost use Rattle.std.specs.Option.{SomeIff};
+ghost use Rattle.rt_command.specs.Choices.{AreAllowed, choices_of};
+
+use rt_tree::Table;
+use std::marker::Model;
+
+/// The settings of a run.
+#[derive(Clone, Copy, Debug, PartialEq, Eq)]
+pub struct Settings {
+    header: bool,
+    fanout: u8,
+    max_entries: u32,
+}
+
+impl Model for Settings {
+    ghost use Rattle.rt_command.specs.Choices.{AreAllowed, Choices, choices_of};
+
+    ghost Value = { Choices };
+
+    ghost view = { λ s. choices_of s.header s.fanout s.max_entries };
+
+    ghost invariant = { λ s. AreAllowed (choices_of s.header s.fanout s.max_entries) };
+
+    ghost inverse = { λ c. record { header = c.header; fanout = c.fanout; max_entries = c.max_entries } };
+}
+
+impl Settings {
+    /// The least number of children that a node may have.
+    pub const LEAST_FANOUT: u8 = 2;
+
+    /// The greatest number of children that a node may have.
+    pub const GREATEST_FANOUT: u8 = 64;
+
+    /// The most entries that a table may have.
+    pub const MOST_ENTRIES: u32 = Table::MOST_ENTRIES;
+
+    /// Settings with these values: whether the table's first record is a header, the most children of a
+    /// node (2 to 64) and the most entries of the table (1 to 16,777,216). `None` where one is out of its
+    /// range, and nowhere else.
+    pub fn new(header: bool, fanout: u8, max_entries: u32) -> Option<Settings>
+        ensures { let given = choices_of header fanout max_entries in
+            SomeIff result (AreAllowed given) given }
+    {
+        if fanout < Settings::LEAST_FANOUT || fanout > Settings::GREATEST_FANOUT {
+            return None;
+        }
+        if max_entries == 0 || max_entries > Settings::MOST_ENTRIES {
+            return None;
+        }
+        Some(Settings {
+            header,
+            fanout,
+            max_entries,
+        })
+    }
+
+    /// Whether the table's first record is a header.
+    pub fn header(&self) -> bool
+        ensures { result ≡ self.now.header }
+    {
+        self.header
+    }
+
+    /// The most children of a node.
+    pub fn fanout(&self) -> u8
+        ensures value { result ≡ self.now.fanout }
+        ensures allowed { AreAllowed self.now }
+    {
+        self.fanout
+    }
+
+    /// The most entries of the table.
+    pub fn max_entries(&self) -> u32
+        ensures value { result ≡ self.now.max_entries }
+        ensures allowed { AreAllowed self.now }
+    {
+        self.max_entries
+    }
+}
+
+#[cfg(test)]
+mod tests {
+    use super::Settings;
+
+    #[test]
+    fn settings_have_ranges(rt: HostRuntime) {
+        for (fanout, max_entries, is_allowed) in [
+            (2, 1, true),
+            (64, 16_777_216, true),
+            (1, 1, false),
+            (65, 1, false),
+            (2, 0, false),
+            (2, 16_777_217, false),
+        ] {
+            let settings = Settings::new(true, fanout, max_entries);
+            assert_eq!(rt; settings.is_some(), is_allowed);
+            if let Some(settings) = settings {
+                assert_eq!(rt;
+                    (settings.header(), settings.fanout(), settings.max_entries()),
+                    (true, fanout, max_entries)
+                );
+            }
+        }
+    }
+}

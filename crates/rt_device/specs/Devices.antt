@@ -1,0 +1,41 @@
+-- What a pull and a push do to the bytes that a device tells.
+use Rattle.std.specs.Prelude.{◌≡◌, ℕ, List, take, Option, IfSome, Result, MatchResult}
+use Rattle.std.specs.Io.KnownBytes.{Appends, Consumes, IsAtEnd}
+
+-- where the bytes are still told after a failure, they are as before
+abbrev pub IsUnmoved : Option (List ℕ) → Option (List ℕ) → Type 0
+IsUnmoved old new = IfSome new (λ after. IfSome old (λ before. after ≡ before))
+
+-- a pull of n bytes: the next n bytes stand in front of the room, none only where none are to come; a failure consumes
+-- nothing, where they are still told
+abbrev pub Pulls : {E : Type 0} → Option (List ℕ) → Option (List ℕ) → Result ℕ E → List ℕ → Type 0
+Pulls old new pulled room =
+    MatchResult pulled (λ n. Consumes old new (take n room) × (n ≡ 0 → IsAtEnd new)) (λ _. IsUnmoved old new)
+
+-- a push of n bytes: the first n bytes were appended; a failure appends nothing, where they are still told
+abbrev pub Pushes : {E : Type 0} → Option (List ℕ) → Option (List ℕ) → Result ℕ E → List ℕ → Type 0
+Pushes old new pushed piece =
+    MatchResult pushed (λ n. Appends old new (take n piece)) (λ _. IsUnmoved old new)
+
+-- a device over a reader or a writer of std, and how many of its calls failed
+pub record Device (D : Type 0) : Type 0 where
+  pub device : D
+  pub failures : ℕ
+
+-- bytes in memory that are to come, at most so many a pull
+pub record Slice : Type 0 where
+  pub bytes : List ℕ
+  pub piece : ℕ
+  -- the number, from 1, of the pull to come that fails; at 0 none does
+  pub fails_in : ℕ
+  pub failures : ℕ
+
+-- bytes that room in memory has taken, at most so many a push
+pub record Room : Type 0 where
+  pub bytes : List ℕ
+  -- how many more there is room for
+  pub left : ℕ
+  pub piece : ℕ
+  -- the number, from 1, of the push or flush to come that fails; at 0 none does
+  pub fails_in : ℕ
+  pub failures : ℕ

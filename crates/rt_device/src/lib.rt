@@ -1,0 +1,24 @@
+//! Where bytes come from and where they go.
+//!
+//! A [`Source`] gives bytes in pieces, a [`Sink`] takes them in pieces, and each call may fail. Contracts see
+//! the bytes that are to come or that are written, where a device tells them, and how many calls failed
+//! (`specs/Devices.antt`). [`ReadSource`] and [`WriteSink`] are readers and writers of std; [`SliceSource`] and
+//! [`SliceSink`] are memory, and fail where they are told to.
+#![tactic(auto)]
+
+mod read_source;
+mod sink;
+mod slice_sink;
+mod slice_source;
+mod source;
+mod write_sink;
+
+pub use read_source::ReadSource;
+pub use sink::{Sink, WriteFault};
+pub use slice_sink::SliceSink;
+pub use slice_source::SliceSource;
+pub use source::{ReadFault, Source};
+pub use write_sink::WriteSink;
+
+#[cfg(test)]
+mod tests;

@@ -1,0 +1,40 @@
+//! Where answers go.
+
+ghost use Rattle.std.specs.Prelude.{◌≡◌, ◌+◌, ◌-◌, ◌<◌, ◌≤◌, ◌^◌, ℕ, List, Option, IfOk, OnOk, OnErr, length};
+ghost use Rattle.std.specs.Io.KnownBytes.{Keeps};
+ghost use Rattle.rt_device.specs.Devices.{IsUnmoved, Pushes};
+
+/// A push or a flush that failed.
+#[derive(Clone, Copy, Debug, PartialEq, Eq)]
+pub struct WriteFault;
+
+/// A place that takes bytes in pieces, and may fail.
+pub trait Sink {
+    // The bytes written, where they are told.
+    ghost written: { Self → Option (List ℕ) };
+
+    // How many calls failed, each push that took no byte among them.
+    ghost failed: { Self → ℕ };
+
+    /// Takes bytes from the front of the piece, and tells how many: 0 only where it failed.
+    fn push(&mut self, piece: &[u8]) -> Result<usize, WriteFault>
+        requires piece { 0 < length piece.now }
+        requires count { failed self.old < 2 ^ 64 - 1 }
+        ensures bound { IfOk result (λ n. n ≤ length piece.now) }
+        ensures bytes { Pushes (written self.old) (written self.new) result piece.now }
+        ensures went { IfOk result (λ n. 0 < n → failed self.new ≡ failed self.old) }
+        ensures took_none { IfOk result (λ n. n ≡ 0 → failed self.new ≡ failed self.old + 1) }
+        ensures fails { OnErr result (failed self.new ≡ failed self.old + 1) };
+
+    /// Hands on what was taken. It takes no byte itself.
+    fn flush(&mut self) -> Result<(), WriteFault>
+        requires { failed self.old < 2 ^ 64 - 1 }
+        ensures bytes { OnOk result (Keeps (written self.old) (written self.new)) }
+        ensures went { OnOk result (failed self.new ≡ failed self.old) }
+        ensures lost { OnErr result (IsUnmoved (written self.old) (written self.new)) }
+        ensures fails { OnErr result (failed self.new ≡ failed self.old + 1) };
+
+    /// How many calls failed so far.
+    fn failures(&self) -> u64
+        ensures { result ≡ failed self.now };
+}

@@ -1,0 +1,138 @@
+//! Room in memory as a sink.
+
+ghost use Rattle.std.specs.Prelude.{◌≡◌, ◌+◌, ◌-◌, ◌<◌, ◌≤◌, ◌^◌, ◌↔◌, [], Some, IfOk, IsErr, OnOk, OnErr, length, min, unwrap_or, if◌then◌else◌, true};
+ghost use Rattle.std.specs.Io.KnownBytes.{Keeps};
+ghost use Rattle.rt_device.specs.Devices.{IsUnmoved, Pushes};
+
+use crate::sink::{Sink, WriteFault};
+use std::marker::Model;
+
+/// Room in memory as a sink: at most `piece` bytes a push, and one call, counted from 1, that fails.
+#[derive(Drop)]
+pub struct SliceSink<'a> {
+    room: &'a mut [u8],
+    len: usize,
+    piece: usize,
+    // The number, from 1, of the push or flush to come that fails; at 0 none does.
+    fails_in: u64,
+    failures: u64,
+}
+
+impl<'a> Model for SliceSink<'a> {
+    ghost use Rattle.std.specs.Prelude.{◌<◌, ◌≤◌, ◌-◌, length, take};
+    ghost use Rattle.rt_device.specs.Devices.{Room};
+
+    ghost Value = { Room };
+
+    ghost view = { λ s. record {
+      bytes = take s.len s.room.now;
+      left = length s.room.now - s.len;
+      piece = s.piece;
+      fails_in = s.fails_in;
+      failures = s.failures;
+    } };
+
+    ghost invariant = { λ s. (s.len ≤ length s.room.now) × (0 < s.piece) };
+}
+
+impl<'a> SliceSink<'a> {
+    /// This room, filled from its front, at most `piece` bytes a push, which is at least 1. Call number
+    /// `fail_at`, pushes and flushes counted together from 1, fails; at 0 or none, no call does. A push
+    /// takes 0 bytes where the room is used up.
+    pub fn new(room: &'a mut [u8], piece: usize, fail_at: Option<u64>) -> SliceSink<'a>
+        requires { 0 < piece }
+        ensures { result ≡ record {
+          bytes = [];
+          left = length room.entry.now;
+          piece = piece;
+          fails_in = unwrap_or fail_at 0;
+          failures = 0;
+        } }
+    {
+        SliceSink {
+            room,
+            len: 0,
+            piece,
+            fails_in: fail_at.unwrap_or(0),
+            failures: 0,
+        }
+    }
+
+    /// The bytes taken.
+    pub fn written(&self) -> &[u8]
+        ensures { result.now ≡ self.now.bytes }
+    {
+        &self.room[..self.len]
+    }
+
+    // Counts a call, and tells whether it is the one that fails.
+    fn fails(&mut self) -> bool
+        requires { self.old.failures < 2 ^ 64 - 1 }
+        ensures which { (result ≡ true) ↔ (self.old.fails_in ≡ 1) }
+        ensures counted { self.new ≡ record self.old {
+          fails_in = self.old.fails_in - 1;
+          failures = self.old.failures + (if result then 1 else 0);
+        } }
+    {
+        let fails = self.fails_in == 1;
+        self.fails_in = self.fails_in.saturating_sub(1);
+        self.failures += u64::from(fails);
+        fails
+    }
+}
+
+impl Sink for SliceSink<'_> {
+    ghost written = { λ s. Some s.bytes };
+
+    ghost failed = { λ s. s.failures };
+
+    // As the trait says, and beside that just which push fails and how many bytes each other one takes.
+    fn push(&mut self, piece: &[u8]) -> Result<usize, WriteFault>
+        requires piece { 0 < length piece.now }
+        requires count { self.old.failures < 2 ^ 64 - 1 }
+        ensures bound { IfOk result (λ n. n ≤ length piece.now) }
+        ensures bytes { Pushes (Some self.old.bytes) (Some self.new.bytes) result piece.now }
+        ensures went { IfOk result (λ n. 0 < n → self.new.failures ≡ self.old.failures) }
+        ensures took_none { IfOk result (λ n. n ≡ 0 → self.new.failures ≡ self.old.failures + 1) }
+        ensures fails { OnErr result (self.new.failures ≡ self.old.failures + 1) }
+        ensures which { IsErr result ↔ (self.old.fails_in ≡ 1) }
+        ensures many { IfOk result (λ n. n ≡ min self.old.piece (min self.old.left (length piece.now))) }
+        ensures left { IfOk result (λ n. self.new.left ≡ self.old.left - n) }
+        ensures lost { OnErr result (self.new.left ≡ self.old.left) }
+        ensures later { (self.new.fails_in ≡ self.old.fails_in - 1) × (self.new.piece ≡ self.old.piece) }
+    {
+        if self.fails() {
+            return Err(WriteFault);
+        }
+        let at = self.len;
+        let n = self.piece.min((self.room.len() - at).min(piece.len()));
+        if n == 0 {
+            self.failures += 1;
+            return Ok(0);
+        }
+        self.room[at..at + n].copy_from_slice(&piece[..n]);
+        self.len = at + n;
+        Ok(n)
+    }
+
+    // As the trait says, and beside that just which flush fails.
+    fn flush(&mut self) -> Result<(), WriteFault>
+        requires { self.old.failures < 2 ^ 64 - 1 }
+        ensures bytes { OnOk result (Keeps (Some self.old.bytes) (Some self.new.bytes)) }
+        ensures went { OnOk result (self.new.failures ≡ self.old.failures) }
+        ensures lost { OnErr result (IsUnmoved (Some self.old.bytes) (Some self.new.bytes)) }
+        ensures fails { OnErr result (self.new.failures ≡ self.old.failures + 1) }
+        ensures which { IsErr result ↔ (self.old.fails_in ≡ 1) }
+        ensures later { (self.new.fails_in ≡ self.old.fails_in - 1) × (self.new.piece ≡ self.old.piece) }
+        ensures left { self.new.left ≡ self.old.left }
+    {
+        if self.fails() {
+            return Err(WriteFault);
+        }
+        Ok(())
+    }
+
+    fn failures(&self) -> u64 {
+        self.failures
+    }
+}

@@ -1,0 +1,30 @@
+//! Where query bytes come from.
+
+ghost use Rattle.std.specs.Prelude.{◌≡◌, ◌+◌, ◌-◌, ◌<◌, ◌≤◌, ◌^◌, ℕ, List, Option, IfOk, OnOk, OnErr, length};
+ghost use Rattle.rt_device.specs.Devices.{Pulls};
+
+/// A pull that failed.
+#[derive(Clone, Copy, Debug, PartialEq, Eq)]
+pub struct ReadFault;
+
+/// Bytes that come in pieces, from something that may fail.
+pub trait Source {
+    // The bytes to come, where they are told.
+    ghost coming: { Self → Option (List ℕ) };
+
+    // How many pulls failed.
+    ghost failed: { Self → ℕ };
+
+    /// Puts the next bytes in front of the room, and tells how many: 0 only where none are to come.
+    fn pull(&mut self, room: &mut [u8]) -> Result<usize, ReadFault>
+        requires room { 0 < length room.old }
+        requires count { failed self.old < 2 ^ 64 - 1 }
+        ensures bound { IfOk result (λ n. n ≤ length room.new) }
+        ensures bytes { Pulls (coming self.old) (coming self.new) result room.new }
+        ensures went { OnOk result (failed self.new ≡ failed self.old) }
+        ensures fails { OnErr result (failed self.new ≡ failed self.old + 1) };
+
+    /// How many pulls failed so far.
+    fn failures(&self) -> u64
+        ensures { result ≡ failed self.now };
+}

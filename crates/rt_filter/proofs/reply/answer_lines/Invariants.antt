@@ -1,9 +1,0 @@
-use Rattle.std.proofs.Common.{length}
-use Rattle.rt_filter.proofs.LineLemmas.{Replied}
-use Rattle.rt_filter.proofs.reply.answer_lines.Given as goal
-
-abbrev pub invariant-loop-end : goal.invariant-loop-end
-invariant-loop-end l = Replied l.table l.queries l.initial.out.items l.rest l.out.items l.number l.bad
-
-abbrev pub decreases-loop-end : goal.decreases-loop-end
-decreases-loop-end l = length l.rest

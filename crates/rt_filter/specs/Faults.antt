@@ -1,0 +1,19 @@
+-- What a run tells of a fault.
+use Rattle.std.specs.Prelude.{ℕ, List, codes}
+use Rattle.rt_text.specs.FaultLines.{fault_line}
+use Rattle.rt_text.specs.declared.tables.TableFault.{TableFault}
+use Rattle.rt_text.specs.declared.tables.TableFault.TheVariants as load
+use Rattle.rt_filter.specs.declared.filter.RunFault.{RunFault}
+use Rattle.rt_filter.specs.declared.filter.RunFault.TheVariants.{Table, Read, Write, Memory}
+
+-- what a run tells of a fault of the load: want of memory is the run's own
+abbrev pub run_fault : TableFault → RunFault
+run_fault load.Memory = Memory
+run_fault other = Table other
+
+-- the line that tells a fault
+abbrev pub run_fault_line : RunFault → List ℕ
+run_fault_line (Table cause) = fault_line cause
+run_fault_line Read = codes "rtfilter: cannot read queries\n"
+run_fault_line Write = codes "rtfilter: cannot write answers\n"
+run_fault_line Memory = codes "rtfilter: out of memory\n"

@@ -1,0 +1,5 @@
+use Rattle.rt_geo.proofs.Edges.{list_all-edges}
+use Rattle.rt_geo.proofs.polygon.is_strictly_convex.Goals as goal
+
+pub loop-to-init : goal.loop-to-init
+loop-to-init c = list_all-edges _ c.args.vertices.now _ c.requires c.last_vertex-from.ensures

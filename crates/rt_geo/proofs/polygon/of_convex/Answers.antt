@@ -1,0 +1,5 @@
+use Rattle.rt_geo.proofs.Convexity.{strictly_convex}
+use Rattle.rt_geo.proofs.polygon.of_convex.Goals as goal
+
+pub returns-clause-convex : goal.returns-clause-convex
+returns-clause-convex c = strictly_convex c.args.vertices.items c.requires.convex

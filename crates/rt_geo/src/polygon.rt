@@ -1,0 +1,298 @@
+//! Convex polygons.
+//!
+//! A box is accepted where no axis parts it from the polygon (`specs/Polygons.antt`), which is a test of the
+//! four corners of the box for each edge. One corner is enough: the one farthest to the left of the edge tells
+//! whether the box meets the half-plane of the edge, the opposite one whether it lies in it.
+
+ghost use Rattle.std.specs.Prelude.{◌≡◌, ◌<◌, ◌≤◌, ◌^◌, ◌-◌, true, not, ◌&&◌, IfOk};
+ghost use Rattle.std.specs.Prelude.{◌-ℤ◌, ◌*ℤ◌, unsigned_abs, ◌∷◌, length, slice_index_or};
+ghost use Rattle.std.specs.List.{count_by, list_all};
+ghost use Rattle.rt_geo.specs.Boxes.{IsRect};
+ghost use Rattle.rt_geo.specs.Lemmas.HalfPlanes.{corner, leftmost_corner, rightmost_corner};
+ghost use Rattle.rt_geo.specs.Polygons.{bounding_box, cross, edges, is_left, lies_in_half_plane, meets_half_plane};
+ghost use Rattle.rt_geo.specs.Polygons.{IsStrictlyConvex, has_polygon_count, is_strictly_convex, polygon_of};
+ghost use Rattle.rt_geo.specs.Shapes.{state_by};
+
+use crate::bounds::{Bounds, hull, inside, overlaps};
+use crate::distance::Point;
+use crate::geometry::{Info, Shape, Within};
+use arrayvec::ArrayVec;
+use std::marker::Model;
+
+/// The fewest vertices of a polygon.
+const FEWEST_VERTICES: usize = 3;
+
+/// The most vertices of a polygon.
+const MOST_VERTICES: usize = 16;
+
+/// Why a list of vertices is no polygon.
+#[derive(Clone, Copy, Debug, PartialEq, Eq)]
+pub enum PolygonFault {
+    /// There are not 3 to 16 vertices.
+    Count,
+    /// The vertices, in turn, aren't those of a strictly convex polygon, neither counterclockwise nor
+    /// clockwise.
+    NotConvex,
+}
+
+/// Accepts the boxes that a strictly convex polygon of 3 to 16 vertices meets, its edges included.
+///
+/// The boxes are those that no axis parts from it. A box that is dropped shares no point with the polygon, not
+/// even one in fractions: that is a clause of `within`. That each other box shares a point with it, by the
+/// theorem of which the test is an instance, isn't proved.
+#[derive(Debug, PartialEq, Eq, Drop)]
+pub struct Polygon {
+    vertices: ArrayVec<Point, MOST_VERTICES>,
+    bounds: Bounds,
+}
+
+impl Model for Polygon {
+    ghost use Rattle.std.specs.Prelude.{◌≡◌, true, List};
+    ghost use Rattle.rt_geo.specs.Polygons.{bounding_box, has_polygon_count, is_strictly_convex};
+    ghost use Rattle.rt_geo.specs.declared.distance.Point.{Point};
+
+    ghost Value = { List Point };
+
+    ghost view = { λ p. p.vertices.items };
+
+    ghost invariant = { λ p. record {
+      count : has_polygon_count p.vertices.items ≡ true;
+      convex : is_strictly_convex p.vertices.items ≡ true;
+      bounds : p.bounds ≡ bounding_box p.vertices.items;
+    } };
+
+    ghost inverse = { λ vertices. record {
+      vertices = record { items = vertices };
+      bounds = bounding_box vertices;
+    } };
+
+    ghost use Rattle.std.proofs.Common.{ap, sym};
+
+    ghost inverse_ok = { λ p h. ap (λ b. record { vertices = p.vertices; bounds = b }) (sym h.bounds) };
+}
+
+impl Polygon {
+    /// The polygon with these vertices in turn, counterclockwise or clockwise.
+    ///
+    /// [`PolygonFault::Count`] where there are not 3 to 16 of them, [`PolygonFault::NotConvex`] where there
+    /// are and they aren't strictly convex either way round, as where three are in line.
+    pub fn new(points: &[Point]) -> Result<Polygon, PolygonFault>
+        ensures value { result ≡ polygon_of points.now }
+        ensures convex { IfOk result IsStrictlyConvex }
+    {
+        if points.len() < FEWEST_VERTICES || points.len() > MOST_VERTICES {
+            return Err(PolygonFault::Count);
+        }
+        let mut vertices = collected(points);
+        if is_strictly_convex(&vertices) {
+            return Ok(of_convex(vertices));
+        }
+        vertices.reverse();
+        if is_strictly_convex(&vertices) {
+            return Ok(of_convex(vertices));
+        }
+        Err(PolygonFault::NotConvex)
+    }
+}
+
+impl Shape for Polygon {
+    ghost use Rattle.std.specs.Prelude.{◌≡◌};
+    ghost use Rattle.rt_geo.specs.Polygons.{SharesNoPoint, polygon_accepts, polygon_state};
+    ghost use Rattle.rt_geo.specs.declared.geometry.Within.TheVariants.{Not};
+
+    ghost accepts = { polygon_accepts };
+
+    ghost state = { polygon_state };
+
+    fn within(&self, info: &Info) -> Within
+        ensures state { result ≡ polygon_state self.now info.now }
+        ensures apart { result ≡ Not → SharesNoPoint self.now info.now.bounds }
+    {
+        if !overlaps(info.bounds, self.bounds) {
+            return Within::Not;
+        }
+        let lies_inside = inside(info.bounds, self.bounds);
+        state_by_edges(&self.vertices, info.bounds, lies_inside)
+    }
+
+    ghost use Rattle.rt_geo.specs.Lemmas.Polygons.{polygon-faithful};
+
+    ghost faithful = { polygon-faithful };
+}
+
+/// The line from one vertex to the next.
+#[derive(Clone, Copy)]
+struct Edge {
+    from: Point,
+    to: Point,
+}
+
+/// What the edges tell of a box that overlaps the bounding box, and perhaps lies inside it.
+fn state_by_edges(vertices: &[Point], bounds: Bounds, lies_inside: bool) -> Within
+    requires { 1 ≤ length vertices.now }
+    ensures { result ≡ state_by (not (list_all (meets_half_plane bounds) (edges vertices.now)))
+        (lies_inside && list_all (lies_in_half_plane bounds) (edges vertices.now)) }
+{
+    let mut holds = lies_inside;
+    let mut from = last_vertex(vertices);
+    for to in vertices {
+        let edge = Edge { from, to: *to };
+        if !meets_half_plane(edge, bounds) {
+            return Within::Not;
+        }
+        holds = holds && lies_in_half_plane(edge, bounds);
+        from = *to;
+    }
+    if holds { Within::Fully } else { Within::Partly }
+}
+
+/// The vertex from which the edge to the first one comes.
+fn last_vertex(vertices: &[Point]) -> Point
+    requires { 1 ≤ length vertices.now }
+    ensures { result ≡ slice_index_or vertices.now (length vertices.now - 1) result }
+{
+    vertices[vertices.len() - 1]
+}
+
+/// Whether the box meets the half-plane to the left of the edge.
+fn meets_half_plane(edge: Edge, bounds: Bounds) -> bool
+    ensures { result ≡ meets_half_plane bounds edge }
+{
+    cross(edge, leftmost_corner(edge, bounds)) >= 0
+}
+
+/// Whether the box lies in the half-plane to the left of the edge.
+fn lies_in_half_plane(edge: Edge, bounds: Bounds) -> bool
+    ensures { result ≡ lies_in_half_plane bounds edge }
+{
+    cross(edge, rightmost_corner(edge, bounds)) >= 0
+}
+
+/// The corner of the box that lies farthest to the left of the edge.
+fn leftmost_corner(edge: Edge, bounds: Bounds) -> Point
+    ensures value { result ≡ leftmost_corner edge bounds }
+    ensures valid { IsRect bounds }
+{
+    corner(bounds, edge.to.y < edge.from.y, edge.to.x < edge.from.x)
+}
+
+/// The corner of the box that lies farthest to the right of the edge: the opposite one.
+fn rightmost_corner(edge: Edge, bounds: Bounds) -> Point
+    ensures value { result ≡ rightmost_corner edge bounds }
+    ensures valid { IsRect bounds }
+{
+    corner(bounds, edge.to.y >= edge.from.y, edge.to.x >= edge.from.x)
+}
+
+/// The corner of the box at the right or the left, and low or high.
+fn corner(bounds: Bounds, right: bool, low: bool) -> Point
+    ensures value { result ≡ corner right low bounds }
+    ensures valid { IsRect bounds }
+{
+    let x = if right {
+        bounds.max_x()
+    } else {
+        bounds.min_x()
+    };
+    let y = if low { bounds.min_y() } else { bounds.max_y() };
+    Point { x, y }
+}
+
+/// How far a point lies to the left of the edge, times the edge's length: a number of up to 66 bits.
+fn cross(edge: Edge, p: Point) -> i128
+    ensures { result ≡ cross edge p }
+{
+    let along_x = difference(edge.to.x, edge.from.x);
+    let along_y = difference(edge.to.y, edge.from.y);
+    let to_x = difference(p.x, edge.from.x);
+    let to_y = difference(p.y, edge.from.y);
+    product(along_x, to_y) - product(along_y, to_x)
+}
+
+/// The difference of two coordinates, of up to 33 bits.
+fn difference(left: i32, right: i32) -> i64
+    ensures value { result ≡ left -ℤ right }
+    ensures size { unsigned_abs result < 2 ^ 32 }
+{
+    left as i64 - right as i64
+}
+
+/// The product of two differences, of up to 65 bits.
+fn product(left: i64, right: i64) -> i128
+    requires left_size { unsigned_abs left < 2 ^ 32 }
+    requires right_size { unsigned_abs right < 2 ^ 32 }
+    ensures value { result ≡ left *ℤ right }
+    ensures size { unsigned_abs result ≤ 2 ^ 64 }
+{
+    left as i128 * right as i128
+}
+
+/// Whether all the vertices but its two ends lie strictly to the left of each edge.
+fn is_strictly_convex(vertices: &[Point]) -> bool
+    requires { 1 ≤ length vertices.now }
+    ensures { result ≡ is_strictly_convex vertices.now }
+{
+    let mut from = last_vertex(vertices);
+    for to in vertices {
+        let edge = Edge { from, to: *to };
+        if left_of(edge, vertices) + 2 != vertices.len() {
+            return false;
+        }
+        from = *to;
+    }
+    true
+}
+
+/// How many of the points lie strictly to the left of the edge.
+fn left_of(edge: Edge, points: &[Point]) -> usize
+    ensures { result ≡ count_by (is_left edge) points.now }
+{
+    points
+        .iter()
+        .filter(|point| cross(edge, **point) > 0)
+        .count()
+}
+
+/// The points in a vector of their own.
+fn collected(points: &[Point]) -> ArrayVec<Point, MOST_VERTICES>
+    requires { length points.now ≤ 16 }
+    ensures { result.items ≡ points.now }
+{
+    let mut vertices = ArrayVec::new();
+    for point in points {
+        vertices.push(*point);
+    }
+    vertices
+}
+
+/// The polygon with these vertices.
+fn of_convex(vertices: ArrayVec<Point, MOST_VERTICES>) -> Polygon
+    requires count { has_polygon_count vertices.items ≡ true }
+    requires convex { is_strictly_convex vertices.items ≡ true }
+    ensures value { result ≡ vertices.items }
+    ensures convex { IsStrictlyConvex result }
+{
+    Polygon {
+        bounds: bounding_box(&vertices),
+        vertices,
+    }
+}
+
+/// The least box around the points.
+fn bounding_box(points: &[Point]) -> Bounds
+    requires { 1 ≤ length points.now }
+    ensures { result ≡ bounding_box points.now }
+{
+    hull_around(points[0], &points[1..])
+}
+
+/// The least box around the first point and the others.
+fn hull_around(first: Point, others: &[Point]) -> Bounds
+    ensures { result ≡ bounding_box (first ∷ others.now) }
+{
+    let mut whole = Bounds::of_point(first);
+    for point in others {
+        whole = hull(whole, Bounds::of_point(*point));
+    }
+    whole
+}

@@ -1,0 +1,92 @@
+-- Worked rows of query lines: the definitions compute what a line asks, or its first fault.
+use Rattle.std.proofs.Common.{◌≡◌, pos, negsuc, List, ◌++◌, ◌∷◌, [], ℕ, None, Some, codes, refl}
+use Rattle.std.specs.Fmt.{digits}
+use Rattle.rt_geo.specs.Boxes.{rect_of}
+use Rattle.rt_geo.specs.declared.order.Order.TheVariants.{ById, Smallest}
+use Rattle.rt_geo.specs.declared.region.Region.TheVariants.{All, Circle, Window}
+use Rattle.rt_text.specs.Queries.{inside_of, near, query_of}
+use Rattle.rt_text.specs.ReplyLines.{answer_line, error_line, level_line, ok_line}
+use Rattle.rt_text.specs.declared.query.Parsed.TheVariants.{Fault, Query, Skip}
+use Rattle.rt_text.specs.declared.query.Query.TheVariants.{Count, Find, Levels}
+use Rattle.rt_text.specs.declared.query.QueryFault.TheVariants as fault
+
+-- ---- queries
+
+row_window : query_of (codes "find window 0 10 -5 +10") ≡ Query (Find (Window (record { 0 = rect_of (pos 0) (pos 10) (negsuc 4) (pos 10) })) (ById (record {})) None)
+row_window = refl
+
+row_smallest : query_of (codes "find all smallest first 3") ≡ Query (Find (All (record {})) (Smallest (record {})) (Some 3))
+row_smallest = refl
+
+row_circle : query_of (codes "find circle 1 2 3") ≡ Query (Find (Circle (record { centre = record { x = pos 1; y = pos 2 }; radius = 3 })) (near (record { x = pos 1; y = pos 2 })) None)
+row_circle = refl
+
+row_circle_near : query_of (codes "find circle 1 2 3 near 4 5") ≡ Query (Find (Circle (record { centre = record { x = pos 1; y = pos 2 }; radius = 3 })) (near (record { x = pos 4; y = pos 5 })) None)
+row_circle_near = refl
+
+row_nearest : query_of (codes "nearest 2 10 -5") ≡ Query (Find (All (record {})) (near (record { x = pos 10; y = negsuc 4 })) (Some 2))
+row_nearest = refl
+
+row_count : query_of (codes "count inside 0 15 0 15") ≡ Query (Count (inside_of (rect_of (pos 0) (pos 15) (pos 0) (pos 15))))
+row_count = refl
+
+row_levels : query_of (codes "\tlevels  \r") ≡ Query Levels
+row_levels = refl
+
+row_empty : query_of [] ≡ Skip
+row_empty = refl
+
+row_comment : query_of (codes " #find") ≡ Skip
+row_comment = refl
+
+-- ---- faults, from left to right
+
+row_capital : query_of (codes "Find all") ≡ Fault fault.UnknownVerb
+row_capital = refl
+
+row_region : query_of (codes "find alle") ≡ Fault fault.UnknownRegion
+row_region = refl
+
+row_missing : query_of (codes "find window 1") ≡ Fault fault.MissingWord
+row_missing = refl
+
+-- the words before a minimum's test come first
+row_not_number : query_of (codes "find window 0 10 x 1") ≡ Fault fault.NotNumber
+row_not_number = refl
+
+row_out_of_range : query_of (codes "find circle 0 0 -1") ≡ Fault fault.OutOfRange
+row_out_of_range = refl
+
+row_limit : query_of (codes "find all first 18446744073709551616") ≡ Fault fault.OutOfRange
+row_limit = refl
+
+-- the minimum's test comes before the next word
+row_min_above_max : query_of (codes "find window 10 0 0 10 x") ≡ Fault fault.MinAboveMax
+row_min_above_max = refl
+
+row_stray : query_of (codes "find all first 3 near 1 1") ≡ Fault fault.StrayWord
+row_stray = refl
+
+row_count_stray : query_of (codes "count all first 1") ≡ Fault fault.StrayWord
+row_count_stray = refl
+
+row_levels_stray : query_of (codes "levels x") ≡ Fault fault.StrayWord
+row_levels_stray = refl
+
+-- ---- the lines of a reply
+
+row_answer_line : answer_line (negsuc 6) 36893488130239234050 ≡ codes "-7 36893488130239234050\n"
+unfolding digits
+row_answer_line = refl
+
+row_ok_line : ok_line 3 12 ≡ codes "ok 3 12\n"
+unfolding digits
+row_ok_line = refl
+
+row_level_line : level_line 2 65 ≡ codes "2 65\n"
+unfolding digits
+row_level_line = refl
+
+row_error_line : error_line 4 fault.NotConvex ≡ codes "error 4 Q9 polygon not strictly convex\n"
+unfolding digits
+row_error_line = refl

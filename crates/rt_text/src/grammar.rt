@@ -1,0 +1,289 @@
+//! The grammar of query lines.
+//!
+//! One function for each definition of `specs/Queries.antt`, of the same name: it takes the words that the
+//! definition takes, and answers what it answers.
+
+ghost use Rattle.std.specs.Prelude.{◌≡◌, ◌≤◌, ◌≤ℤ◌, ◌∷◌, IfErr, IfOk, Ok, Err};
+ghost use Rattle.std.specs.Str.Lines.{strip_carriage_return};
+ghost use Rattle.rt_text.specs.Queries.{Takes, circle, coordinate, count, find, finished, is_comment, limit, natural_word, nearest, number_word, order, point, points, polygon, query, query_of, region, sides, usual_order, vertex_count};
+
+use crate::numbers::{NumberFault, number};
+use crate::query::{Parsed, Query, QueryFault};
+use crate::words::Words;
+use arrayvec::ArrayVec;
+use rt_geo::{
+    All, Bounds, ById, Circle, Covers, Inside, Near, Order, Point, Polygon, PolygonFault, Region,
+    Smallest, Window,
+};
+
+/// The fewest vertices of a polygon.
+const FEWEST_VERTICES: i128 = 3;
+
+/// The most vertices of a polygon.
+const MOST_VERTICES: usize = 16;
+
+/// What a line asks, without its line feed. One carriage return at its end is dropped. It takes no memory.
+///
+/// It never answers [`QueryFault::LineTooLong`]: how long a line may be is the reader's matter.
+pub fn parse(line: &[u8]) -> Parsed
+    ensures { result ≡ query_of line.now }
+{
+    let mut words = Words::new(without_return(line));
+    let Some(verb) = words.next() else {
+        return Parsed::Skip;
+    };
+    if is_comment(verb) {
+        return Parsed::Skip;
+    }
+    match query(verb, &mut words) {
+        Ok(query) => Parsed::Query(query),
+        Err(fault) => Parsed::Fault(fault),
+    }
+}
+
+fn without_return(line: &[u8]) -> &[u8]
+    ensures { result.now ≡ strip_carriage_return line.now }
+{
+    match line {
+        [rest @ .., b'\r'] => rest,
+        _ => line,
+    }
+}
+
+fn is_comment(word: &[u8]) -> bool
+    ensures { result ≡ is_comment word.now }
+{
+    word.first() == Some(&b'#')
+}
+
+// ---- queries
+
+fn query(verb: &[u8], words: &mut Words) -> Result<Query, QueryFault>
+    ensures { result ≡ query (verb.now ∷ words.old) }
+{
+    if verb == b"find".as_slice() {
+        find(words)
+    } else if verb == b"nearest".as_slice() {
+        nearest(words)
+    } else if verb == b"count".as_slice() {
+        count(words)
+    } else if verb == b"levels".as_slice() {
+        finished(Query::Levels, words)
+    } else {
+        Err(QueryFault::UnknownVerb)
+    }
+}
+
+fn find(words: &mut Words) -> Result<Query, QueryFault>
+    ensures { result ≡ find words.old }
+{
+    let region = region(words)?;
+    let order = order(&region, words)?;
+    let limit = limit(words)?;
+    let query = Query::Find {
+        region,
+        order,
+        limit,
+    };
+    finished(query, words)
+}
+
+fn nearest(words: &mut Words) -> Result<Query, QueryFault>
+    ensures { result ≡ nearest words.old }
+{
+    let limit = natural_word(words, u64::MAX)?;
+    let centre = point(words)?;
+    let query = Query::Find {
+        region: Region::All(All),
+        order: Order::Near(Near(centre)),
+        limit: Some(limit),
+    };
+    finished(query, words)
+}
+
+fn count(words: &mut Words) -> Result<Query, QueryFault>
+    ensures { result ≡ count words.old }
+{
+    let region = region(words)?;
+    finished(Query::Count { region }, words)
+}
+
+fn finished(query: Query, words: &mut Words) -> Result<Query, QueryFault>
+    ensures { result ≡ finished query words.old }
+{
+    match words.next() {
+        None => Ok(query),
+        Some(_) => Err(QueryFault::StrayWord),
+    }
+}
+
+// ---- orders and limits
+
+fn order(found: &Region, words: &mut Words) -> Result<Order, QueryFault>
+    ensures { Takes (order found.now words.old) result words.new }
+{
+    let mut ahead = words.ahead();
+    let Some(word) = ahead.next() else {
+        return Ok(usual_order(found));
+    };
+    if word == b"near".as_slice() {
+        *words = ahead;
+        Ok(Order::Near(Near(point(words)?)))
+    } else if word == b"smallest".as_slice() {
+        *words = ahead;
+        Ok(Order::Smallest(Smallest))
+    } else {
+        Ok(usual_order(found))
+    }
+}
+
+fn usual_order(found: &Region) -> Order
+    ensures { result ≡ usual_order found.now }
+{
+    match found {
+        Region::Circle(disc) => Order::Near(Near(disc.centre)),
+        _ => Order::ById(ById),
+    }
+}
+
+fn limit(words: &mut Words) -> Result<Option<u64>, QueryFault>
+    ensures { Takes (limit words.old) result words.new }
+{
+    let mut ahead = words.ahead();
+    let Some(word) = ahead.next() else {
+        return Ok(None);
+    };
+    if word == b"first".as_slice() {
+        *words = ahead;
+        Ok(Some(natural_word(words, u64::MAX)?))
+    } else {
+        Ok(None)
+    }
+}
+
+// ---- regions
+
+fn region(words: &mut Words) -> Result<Region, QueryFault>
+    ensures { Takes (region words.old) result words.new }
+{
+    let Some(name) = words.next() else {
+        return Err(QueryFault::MissingWord);
+    };
+    if name == b"all".as_slice() {
+        Ok(Region::All(All))
+    } else if name == b"window".as_slice() {
+        Ok(Region::Window(Window(sides(words)?)))
+    } else if name == b"inside".as_slice() {
+        Ok(Region::Inside(Inside(sides(words)?)))
+    } else if name == b"covers".as_slice() {
+        Ok(Region::Covers(Covers(sides(words)?)))
+    } else if name == b"circle".as_slice() {
+        Ok(Region::Circle(circle(words)?))
+    } else if name == b"polygon".as_slice() {
+        Ok(Region::Polygon(polygon(words)?))
+    } else {
+        Err(QueryFault::UnknownRegion)
+    }
+}
+
+fn sides(words: &mut Words) -> Result<Bounds, QueryFault>
+    ensures { Takes (sides words.old) result words.new }
+{
+    let min_x = coordinate(words)?;
+    let max_x = coordinate(words)?;
+    let min_y = coordinate(words)?;
+    let max_y = coordinate(words)?;
+    match Bounds::new(min_x, max_x, min_y, max_y) {
+        Some(bounds) => Ok(bounds),
+        None => Err(QueryFault::MinAboveMax),
+    }
+}
+
+fn circle(words: &mut Words) -> Result<Circle, QueryFault>
+    ensures { Takes (circle words.old) result words.new }
+{
+    let centre = point(words)?;
+    let radius = natural_word(words, u64::from(u32::MAX))? as u32;
+    Ok(Circle { centre, radius })
+}
+
+fn polygon(words: &mut Words) -> Result<Polygon, QueryFault>
+    ensures { Takes (polygon words.old) result words.new }
+{
+    let count = vertex_count(words)?;
+    let vertices = points(count, words)?;
+    match Polygon::new(&vertices) {
+        Ok(polygon) => Ok(polygon),
+        Err(PolygonFault::Count) => Err(QueryFault::VertexCount),
+        Err(PolygonFault::NotConvex) => Err(QueryFault::NotConvex),
+    }
+}
+
+fn vertex_count(words: &mut Words) -> Result<usize, QueryFault>
+    ensures takes { Takes (vertex_count words.old) result words.new }
+    ensures most { IfOk result (λ n. n ≤ MOST_VERTICES) }
+{
+    let Some(word) = words.next() else {
+        return Err(QueryFault::MissingWord);
+    };
+    match number(word, FEWEST_VERTICES, MOST_VERTICES as i128) {
+        Ok(value) => Ok(value.unsigned_abs() as usize),
+        Err(NumberFault::NotNumber) => Err(QueryFault::NotNumber),
+        Err(NumberFault::OutOfRange) => Err(QueryFault::VertexCount),
+    }
+}
+
+// So many points, one after the other.
+fn points(count: usize, words: &mut Words) -> Result<ArrayVec<Point, MOST_VERTICES>, QueryFault>
+    requires { count ≤ MOST_VERTICES }
+    ensures ok { IfOk result (λ vertices. points count words.old ≡ Ok (vertices.items, words.new)) }
+    ensures fault { IfErr result (λ cause. points count words.old ≡ Err cause) }
+{
+    let mut vertices = ArrayVec::new();
+    for _vertex in 0..count {
+        vertices.push(point(words)?);
+    }
+    Ok(vertices)
+}
+
+// ---- numbers
+
+fn point(words: &mut Words) -> Result<Point, QueryFault>
+    ensures { Takes (point words.old) result words.new }
+{
+    let x = coordinate(words)?;
+    let y = coordinate(words)?;
+    Ok(Point { x, y })
+}
+
+fn coordinate(words: &mut Words) -> Result<i32, QueryFault>
+    ensures { Takes (coordinate words.old) result words.new }
+{
+    let value = number_word(words, i128::from(i32::MIN), i128::from(i32::MAX))?;
+    Ok(value as i32)
+}
+
+fn natural_word(words: &mut Words, high: u64) -> Result<u64, QueryFault>
+    ensures takes { Takes (natural_word high words.old) result words.new }
+    ensures within { IfOk result (λ n. n ≤ high) }
+{
+    let value = number_word(words, 0, i128::from(high))?;
+    Ok(value.unsigned_abs() as u64)
+}
+
+fn number_word(words: &mut Words, low: i128, high: i128) -> Result<i128, QueryFault>
+    ensures takes { Takes (number_word low high words.old) result words.new }
+    ensures within { IfOk result (λ n. (low ≤ℤ n) × (n ≤ℤ high)) }
+{
+    let Some(word) = words.next() else {
+        return Err(QueryFault::MissingWord);
+    };
+    match number(word, low, high) {
+        Ok(value) => Ok(value),
+        Err(NumberFault::NotNumber) => Err(QueryFault::NotNumber),
+        Err(NumberFault::OutOfRange) => Err(QueryFault::OutOfRange),
+    }
+}
+
+#[cfg(test)]
+mod tests;

@@ -1,0 +1,56 @@
+//! What a query line asks.
+
+use rt_geo::{Order, Region};
+
+/// A query.
+#[derive(Debug, PartialEq, Eq, Drop)]
+pub enum Query {
+    /// The boxes that the region accepts, in order, the first so many where there is a limit.
+    Find {
+        region: Region,
+        order: Order,
+        limit: Option<u64>,
+    },
+    /// How many boxes the region accepts.
+    Count {
+        region: Region,
+    },
+    /// How many entries or nodes stand on each level of the tree.
+    Levels,
+}
+
+/// What is wrong with a query line: the first fault from left to right.
+#[derive(Clone, Copy, Debug, PartialEq, Eq)]
+pub enum QueryFault {
+    /// The line has more than 4,096 bytes, a carriage return at its end included.
+    LineTooLong,
+    /// The first word is no query.
+    UnknownVerb,
+    /// No region has that name.
+    UnknownRegion,
+    /// The line ends where a word is wanted.
+    MissingWord,
+    /// The word is no number.
+    NotNumber,
+    /// The number is out of its range.
+    OutOfRange,
+    /// A minimum is above its maximum.
+    MinAboveMax,
+    /// The number of vertices is not 3 to 16.
+    VertexCount,
+    /// The vertices are those of no strictly convex polygon, either way round.
+    NotConvex,
+    /// A word stands where none or another is allowed.
+    StrayWord,
+}
+
+/// What a query line holds.
+#[derive(Debug, PartialEq, Eq, Drop)]
+pub enum Parsed {
+    /// No words, or a comment.
+    Skip,
+    /// A query.
+    Query(Query),
+    /// The first fault.
+    Fault(QueryFault),
+}

@@ -1,0 +1,121 @@
+//! The lines that query lines are answered with.
+
+ghost use Rattle.std.specs.Prelude.{◌≡◌, ◌≤◌, length};
+ghost use Rattle.rt_text.specs.ReplyLines.{answer_line, error_line, fault_text, level_line, ok_line};
+
+use crate::line::Line;
+use crate::query::QueryFault;
+use itoa::Buffer;
+
+/// The line of an answer: its id and its score.
+pub fn answer_line(id: i64, score: u128) -> Line
+    ensures { result ≡ answer_line id score }
+{
+    let mut text = Line::new(Buffer::new().format(id).as_bytes());
+    text.put(b" ");
+    text.put(Buffer::new().format(score).as_bytes());
+    text.put(b"\n");
+    text
+}
+
+/// The line that ends a reply: the number of the query line, and a count.
+pub fn ok_line(line: u128, n: u64) -> Line
+    ensures { result ≡ ok_line line n }
+{
+    let mut text = Line::new(b"ok ");
+    text.put(Buffer::new().format(line).as_bytes());
+    text.put(b" ");
+    text.put(Buffer::new().format(n).as_bytes());
+    text.put(b"\n");
+    text
+}
+
+/// The line of a level of the tree: how many entries or nodes stand on it.
+pub fn level_line(level: u8, n: u32) -> Line
+    ensures { result ≡ level_line level n }
+{
+    let mut text = Line::new(Buffer::new().format(level).as_bytes());
+    text.put(b" ");
+    text.put(Buffer::new().format(n).as_bytes());
+    text.put(b"\n");
+    text
+}
+
+/// The line that answers a faulty query line.
+pub fn error_line(line: u128, fault: QueryFault) -> Line
+    ensures { result ≡ error_line line fault }
+{
+    let mut text = Line::new(b"error ");
+    text.put(Buffer::new().format(line).as_bytes());
+    text.put(b" ");
+    text.put(fault_text(fault));
+    text.put(b"\n");
+    text
+}
+
+fn fault_text(fault: QueryFault) -> &'static [u8]
+    ensures text { result.now ≡ fault_text fault }
+    ensures short { length result.now ≤ 40 }
+{
+    match fault {
+        QueryFault::LineTooLong => b"Q1 line too long",
+        QueryFault::UnknownVerb => b"Q2 unknown verb",
+        QueryFault::UnknownRegion => b"Q3 unknown region",
+        QueryFault::MissingWord => b"Q4 missing word",
+        QueryFault::NotNumber => b"Q5 not a number",
+        QueryFault::OutOfRange => b"Q6 out of range",
+        QueryFault::MinAboveMax => b"Q7 minimum above maximum",
+        QueryFault::VertexCount => b"Q8 vertex count",
+        QueryFault::NotConvex => b"Q9 polygon not strictly convex",
+        QueryFault::StrayWord => b"Q10 stray word",
+    }
+}
+
+#[cfg(test)]
+mod tests {
+    use super::{answer_line, error_line, level_line, ok_line};
+    use crate::query::QueryFault;
+
+    const FAULT_LINES: [(QueryFault, &[u8]); 10] = [
+        (QueryFault::LineTooLong, b"error 7 Q1 line too long\n"),
+        (QueryFault::UnknownVerb, b"error 7 Q2 unknown verb\n"),
+        (QueryFault::UnknownRegion, b"error 7 Q3 unknown region\n"),
+        (QueryFault::MissingWord, b"error 7 Q4 missing word\n"),
+        (QueryFault::NotNumber, b"error 7 Q5 not a number\n"),
+        (QueryFault::OutOfRange, b"error 7 Q6 out of range\n"),
+        (
+            QueryFault::MinAboveMax,
+            b"error 7 Q7 minimum above maximum\n",
+        ),
+        (QueryFault::VertexCount, b"error 7 Q8 vertex count\n"),
+        (
+            QueryFault::NotConvex,
+            b"error 7 Q9 polygon not strictly convex\n",
+        ),
+        (QueryFault::StrayWord, b"error 7 Q10 stray word\n"),
+    ];
+
+    #[test]
+    fn lines_of_replies(rt: HostRuntime) {
+        let far = 36893488130239234050;
+        assert_eq!(rt;
+            answer_line(-7, far).bytes(),
+            b"-7 36893488130239234050\n".as_slice()
+        );
+        assert_eq!(rt;
+            answer_line(i64::MIN, u128::MAX).bytes(),
+            b"-9223372036854775808 340282366920938463463374607431768211455\n".as_slice()
+        );
+        assert_eq!(rt;
+            ok_line(u128::MAX, u64::MAX).bytes(),
+            b"ok 340282366920938463463374607431768211455 18446744073709551615\n".as_slice()
+        );
+        assert_eq!(rt;
+            level_line(255, u32::MAX).bytes(),
+            b"255 4294967295\n".as_slice()
+        );
+        for (fault, text) in FAULT_LINES {
+            assert_eq!(rt; error_line(7, fault).bytes(), text);
+        }
+    }
+}

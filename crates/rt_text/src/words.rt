@@ -1,0 +1,111 @@
+//! The words of a line.
+
+ghost use Rattle.std.specs.Prelude.{◌≡◌, ◌≤◌, [], ◌∷◌, length, not, MatchOption};
+ghost use Rattle.std.specs.List.{position, position_or_len};
+ghost use Rattle.rt_text.specs.Words.{is_blank, words};
+
+use std::marker::Model;
+
+/// The words of a line that are still to be read: what stands between runs of spaces and tabs.
+#[derive(Drop)]
+pub(crate) struct Words<'a> {
+    rest: &'a [u8],
+}
+
+impl<'a> Model for Words<'a> {
+    ghost use Rattle.std.specs.Prelude.{List, ℕ};
+    ghost use Rattle.rt_text.specs.Words.{words};
+
+    ghost Value = { List (List ℕ) };
+
+    ghost view = { λ w. words w.rest.now };
+}
+
+impl<'a> Words<'a> {
+    /// All words of a line.
+    pub(crate) fn new(line: &'a [u8]) -> Words<'a>
+        ensures { result ≡ words line.now }
+    {
+        Words { rest: line }
+    }
+
+    /// The same words, to look ahead.
+    pub(crate) fn ahead(&self) -> Words<'a>
+        ensures { result ≡ self.now }
+    {
+        Words { rest: self.rest }
+    }
+}
+
+impl<'a> Iterator for Words<'a> {
+    ghost use Rattle.std.specs.Iterator.{YieldsFirstRef, item_count};
+
+    type Item = &'a [u8];
+
+    ghost next_gives = { YieldsFirstRef (λ words. words) };
+
+    ghost remaining = { item_count (λ words. words) };
+
+    fn next(&mut self) -> Option<&'a [u8]> {
+        match first_word(self.rest) {
+            None => None,
+            Some((word, rest)) => {
+                self.rest = rest;
+                Some(word)
+            }
+        }
+    }
+}
+
+// The first word, and what stands after it.
+fn first_word(line: &[u8]) -> Option<(&[u8], &[u8])>
+    ensures { MatchOption result (words line.now ≡ []) (λ found. words line.now ≡ found.0.now ∷ words found.1.now) }
+{
+    let rest = &line[blanks_len(line)..];
+    if rest.is_empty() {
+        return None;
+    }
+    Some(rest.split_at(word_len(rest)))
+}
+
+// How many blanks stand in front.
+#[tactic(auto, using(crate::proofs::WordLemmas::at_none))]
+fn blanks_len(rest: &[u8]) -> usize
+    ensures value { result ≡ position_or_len (λ byte. not (is_blank byte)) rest.now }
+    ensures bound { result ≤ length rest.now }
+{
+    match first_not_blank(rest) {
+        Some(at) => at,
+        None => rest.len(),
+    }
+}
+
+fn first_not_blank(rest: &[u8]) -> Option<usize>
+    ensures { result ≡ position (λ byte. not (is_blank byte)) rest.now }
+{
+    rest.iter().position(|byte| !is_blank(*byte))
+}
+
+// How many bytes stand before the first blank.
+#[tactic(auto, using(crate::proofs::WordLemmas::at_none))]
+fn word_len(rest: &[u8]) -> usize
+    ensures value { result ≡ position_or_len is_blank rest.now }
+    ensures bound { result ≤ length rest.now }
+{
+    match first_blank(rest) {
+        Some(at) => at,
+        None => rest.len(),
+    }
+}
+
+fn first_blank(rest: &[u8]) -> Option<usize>
+    ensures { result ≡ position is_blank rest.now }
+{
+    rest.iter().position(|byte| is_blank(*byte))
+}
+
+fn is_blank(byte: u8) -> bool
+    ensures { result ≡ is_blank byte }
+{
+    byte == b' ' || byte == b'\t'
+}

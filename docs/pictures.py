@@ -1,0 +1,369 @@
+#!/usr/bin/env python3
+"""Draws the pictures of docs/query-language.md: docs/pictures/*.svg.
+
+usage: docs/pictures.py [--check]
+
+The railroad diagrams are made from the grammar block of the page. Which boxes of a picture a region accepts is worked
+out by `tests/reading.py`. With `--check` nothing is written, and each picture that isn't up to date is a failure; the
+last line is then `N passed, M failed`.
+"""
+
+import re
+import sys
+from dataclasses import dataclass
+from html import escape
+from pathlib import Path
+
+ROOT = Path(__file__).resolve().parent.parent
+PAGE = ROOT / "docs/query-language.md"
+PICTURES = ROOT / "docs/pictures"
+
+sys.dont_write_bytecode = True
+sys.path.insert(0, str(ROOT / "tests"))
+import reading
+
+# Colours that can be told from a white page and from a dark one. All text but labels stands on a filled shape.
+LINE, LABEL, WORD, NUMBER, RULE = "#8b949e", "#768390", "#1f6feb", "#8250df", "#57606a"
+REGION, ACCEPTED, REFUSED = "#1f6feb", "#2da44e", "#8b949e"
+MONO = "ui-monospace, SFMono-Regular, Menlo, Consolas, 'DejaVu Sans Mono', monospace"
+SANS = "system-ui, 'Segoe UI', Helvetica, Arial, 'DejaVu Sans', sans-serif"
+
+
+def svg(width, height, title, parts):
+    """A picture of this size."""
+    return "\n".join([
+        f'<svg xmlns="http://www.w3.org/2000/svg" width="{width:g}" height="{height:g}"'
+        f' viewBox="0 0 {width:g} {height:g}" role="img">',
+        f"<title>{escape(title)}</title>",
+        *parts,
+        "</svg>\n",
+    ])
+
+
+# ---- railroad diagrams: each piece has a width, and a height above and below the track that runs through it
+
+ARC, GAP = 10, 12
+
+
+def track(path):
+    return f'<path d="{path}" fill="none" stroke="{LINE}" stroke-width="2"/>'
+
+
+@dataclass
+class Stop:
+    """A word, a number or the name of a rule."""
+
+    text: str
+    fill: str
+    corner: int
+    up = down = 14
+
+    @property
+    def width(self):
+        return round(8.5 * len(self.text)) + 24
+
+    def draw(self, x, y):
+        shape = f'x="{x:g}" y="{y - 14:g}" width="{self.width}" height="28" rx="{self.corner}" fill="{self.fill}"'
+        place = f'x="{x + self.width / 2:g}" y="{y + 5:g}" text-anchor="middle" font-size="14" fill="#ffffff"'
+        return [f"<rect {shape}/>", f'<text {place} font-family="{MONO}">{escape(self.text)}</text>']
+
+
+@dataclass
+class InTurn:
+    """Pieces one after the other."""
+
+    pieces: list
+
+    def __post_init__(self):
+        self.width = sum(piece.width for piece in self.pieces) + GAP * (len(self.pieces) - 1)
+        self.up = max(piece.up for piece in self.pieces)
+        self.down = max(piece.down for piece in self.pieces)
+
+    def draw(self, x, y):
+        parts = []
+        for at, piece in enumerate(self.pieces):
+            if at:
+                parts.append(track(f"M{x:g} {y:g}h{GAP}"))
+                x += GAP
+            parts += piece.draw(x, y)
+            x += piece.width
+        return parts
+
+
+@dataclass
+class OneOf:
+    """Pieces one below the other, of which one is taken."""
+
+    pieces: list
+
+    def __post_init__(self):
+        self.width = max(piece.width for piece in self.pieces) + 4 * ARC
+        self.up = self.pieces[0].up
+        self.depths, depth = [0], self.pieces[0].down
+        for piece in self.pieces[1:]:
+            self.depths.append(max(depth + GAP + piece.up, 2 * ARC))
+            depth = self.depths[-1] + piece.down
+        self.down = depth
+
+    def draw(self, x, y):
+        parts, inner = [], x + 2 * ARC
+        for depth, piece in zip(self.depths, self.pieces):
+            rest = self.width - 4 * ARC - piece.width
+            left, right = f"h{2 * ARC}", f"h{rest + 2 * ARC:g}"
+            if depth:
+                fall = depth - 2 * ARC
+                left = f"a{ARC} {ARC} 0 0 1 {ARC} {ARC}v{fall:g}a{ARC} {ARC} 0 0 0 {ARC} {ARC}"
+                right = f"h{rest:g}a{ARC} {ARC} 0 0 0 {ARC} -{ARC}v{-fall:g}a{ARC} {ARC} 0 0 1 {ARC} -{ARC}"
+            parts += [track(f"M{x:g} {y:g}{left}"), *piece.draw(inner, y + depth)]
+            parts.append(track(f"M{inner + piece.width:g} {y + depth:g}{right}"))
+        return parts
+
+
+@dataclass
+class MayBe:
+    """A piece that the track can pass by, above it."""
+
+    piece: object
+
+    def __post_init__(self):
+        self.width = self.piece.width + 4 * ARC
+        self.up, self.down = self.piece.up + GAP, self.piece.down
+
+    def draw(self, x, y):
+        rise, inner = self.up - 2 * ARC, self.piece.width
+        over = f"M{x:g} {y:g}a{ARC} {ARC} 0 0 0 {ARC} -{ARC}v{-rise:g}a{ARC} {ARC} 0 0 1 {ARC} -{ARC}h{inner:g}"
+        over += f"a{ARC} {ARC} 0 0 1 {ARC} {ARC}v{rise:g}a{ARC} {ARC} 0 0 0 {ARC} {ARC}"
+        through = [track(f"M{x:g} {y:g}h{2 * ARC}"), track(f"M{x + 2 * ARC + inner:g} {y:g}h{2 * ARC}")]
+        return [track(over), *through, *self.piece.draw(x + 2 * ARC, y)]
+
+
+@dataclass
+class Again:
+    """A piece that is taken once or more, the track leading back below it."""
+
+    piece: object
+
+    def __post_init__(self):
+        self.width = self.piece.width + 2 * ARC
+        self.up, self.down = self.piece.up, self.piece.down + GAP
+
+    def draw(self, x, y):
+        left, right, fall = x + ARC, x + ARC + self.piece.width, self.down - 2 * ARC
+        back = f"M{right:g} {y:g}a{ARC} {ARC} 0 0 1 {ARC} {ARC}v{fall:g}a{ARC} {ARC} 0 0 1 -{ARC} {ARC}"
+        back += f"H{left:g}a{ARC} {ARC} 0 0 1 -{ARC} -{ARC}v{-fall:g}a{ARC} {ARC} 0 0 1 {ARC} -{ARC}"
+        through = [track(f"M{x:g} {y:g}h{ARC}"), track(f"M{right:g} {y:g}h{ARC}")]
+        return [track(back), *through, *self.piece.draw(left, y)]
+
+
+def diagram(name, piece):
+    """The picture of a rule."""
+    x, y = 30, piece.up + 12
+    end = x + GAP + piece.width + GAP
+    look = f'r="6" fill="none" stroke="{LINE}" stroke-width="2"'
+    ends = [f'<circle cx="{at:g}" cy="{y:g}" {look}/>' for at in (x - 6, end + 6)]
+    ways = [track(f"M{x:g} {y:g}h{GAP}"), track(f"M{end - GAP:g} {y:g}h{GAP}")]
+    return svg(end + 30, y + piece.down + 12, f"The grammar of {name}", [*ends, *ways, *piece.draw(x + GAP, y)])
+
+
+# ---- the grammar block
+
+
+def grammar():
+    """The rules of the page's grammar block, in their order: for each name the tokens of its text."""
+    block = re.search(r"```grammar\n(.*?)```", PAGE.read_text(encoding="utf-8"), re.DOTALL)[1]
+    rules, name = {}, None
+    for line in block.splitlines():
+        head = re.match(r"(\w+) +=", line)
+        if head:
+            name = head[1]
+            rules[name] = []
+        rules[name] += re.findall(r'"\w+"|\w+|[][{}|]', line[head.end():] if head else line)
+    return rules
+
+
+def choice(tokens):
+    """The piece that stands in front of the tokens, up to a closing bracket; what was read is taken away."""
+    ways = [sequence(tokens)]
+    while tokens[:1] == ["|"]:
+        tokens.pop(0)
+        ways.append(sequence(tokens))
+    return OneOf(ways) if len(ways) > 1 else ways[0]
+
+
+def sequence(tokens):
+    pieces = []
+    while tokens and tokens[0] not in "|]}":
+        token = tokens.pop(0)
+        if token in "[{":
+            piece = choice(tokens)
+            tokens.pop(0)
+            if token == "{" and pieces and pieces[-1] == piece:
+                pieces[-1] = Again(piece)
+            else:
+                pieces.append(MayBe(piece if token == "[" else Again(piece)))
+        else:
+            pieces.append(stop(token))
+    return InTurn(pieces) if len(pieces) > 1 else pieces[0]
+
+
+def stop(token):
+    if token.startswith('"'):
+        return Stop(token.strip('"'), WORD, 14)
+    return Stop(token, NUMBER, 14) if token[0].isupper() else Stop(token, RULE, 3)
+
+
+# ---- boxes and regions
+
+STEP = 9
+
+
+@dataclass
+class Scene:
+    """A part of the plane, y upwards, and what is drawn in it."""
+
+    left: int
+    right: int
+    bottom: int
+    top: int
+
+    def place(self, x, y):
+        return 12 + STEP * (x - self.left), 12 + STEP * (self.top - y)
+
+    def box(self, box, look):
+        (x1, y1), (x2, y2) = self.place(box[0], box[3]), self.place(box[1], box[2])
+        return f'<rect x="{x1}" y="{y1}" width="{x2 - x1}" height="{y2 - y1}" rx="1" {look}/>'
+
+    def line(self, start, end, look):
+        (x1, y1), (x2, y2) = self.place(*start), self.place(*end)
+        return f'<line x1="{x1:g}" y1="{y1:g}" x2="{x2:g}" y2="{y2:g}" {look}/>'
+
+    def label(self, x, y, text):
+        x, y = self.place(x, y)
+        look = f'text-anchor="middle" font-size="13" font-family="{SANS}" fill="{LABEL}"'
+        return f'<text x="{x:g}" y="{y + 4.5:g}" {look}>{text}</text>'
+
+    def picture(self, title, parts):
+        width, height = STEP * (self.right - self.left) + 24, STEP * (self.top - self.bottom) + 24
+        return svg(width, height, title, parts)
+
+
+AREA = f'fill="{REGION}" fill-opacity="0.13" stroke="{REGION}" stroke-width="2"'
+YES = f'fill="{ACCEPTED}" fill-opacity="0.3" stroke="{ACCEPTED}" stroke-width="2"'
+AXIS = f'stroke="{LINE}"'
+BEYOND = f'stroke="{REGION}" stroke-width="1.5" stroke-dasharray="1 4" stroke-linecap="round"'
+NO = f'fill="none" stroke="{REFUSED}" stroke-width="1.5" stroke-dasharray="4 3"'
+
+# For each region the words that ask for it, and boxes beside it.
+SCENES = {
+    "all": (
+        "all",
+        [(2, 7, 2, 6), (10, 15, 5, 12), (18, 18, 9, 13), (5, 13, 9, 10), (17, 22, 2, 5)],
+    ),
+    "window": (
+        "window 8 16 5 11",
+        [(10, 13, 7, 9), (3, 9, 8, 13), (16, 20, 11, 14), (11, 15, 2, 5), (18, 22, 3, 8), (2, 5, 2, 5)],
+    ),
+    "inside": (
+        "inside 8 16 5 11",
+        [(8, 11, 5, 8), (13, 15, 8, 10), (3, 9, 9, 13), (16, 20, 11, 14), (11, 14, 2, 6), (18, 22, 3, 8)],
+    ),
+    "covers": (
+        "covers 11 13 7 9",
+        [(6, 17, 4, 12), (9, 13, 7, 14), (12, 21, 8, 10), (3, 8, 2, 6), (18, 22, 2, 5)],
+    ),
+    "circle": (
+        "circle 12 8 5",
+        [(10, 13, 6, 9), (2, 8, 8, 11), (17, 21, 6, 9), (15, 19, 12, 14), (16, 21, 1, 4), (2, 5, 1, 4)],
+    ),
+    "polygon": (
+        "polygon 4 4 4 14 2 20 9 9 14",
+        [(8, 11, 6, 9), (2, 6, 8, 12), (16, 22, 6, 8), (18, 22, 12, 14), (17, 22, 1, 4)],
+    ),
+}
+
+
+def outline(name, words, scene):
+    """The drawing of a region."""
+    numbers = [reading.number(word) for word in words.left[1:]]
+    if name in ("window", "inside", "covers"):
+        return [scene.box(numbers, AREA)]
+    if name == "circle":
+        x, y = scene.place(*numbers[:2])
+        at = f'cx="{x}" cy="{y}"'
+        return [f'<circle {at} r="{STEP * numbers[2]}" {AREA}/>', f'<circle {at} r="2.5" fill="{REGION}"/>']
+    if name == "polygon":
+        return polygon(list(zip(numbers[1::2], numbers[2::2])), scene)
+    return []
+
+
+def polygon(vertices, scene):
+    """The drawing of a polygon that goes counterclockwise, with the lines of edges beyond which a box lies."""
+    points = " ".join("{},{}".format(*scene.place(*vertex)) for vertex in vertices)
+    parts = [f'<polygon points="{points}" stroke-linejoin="round" {AREA}/>']
+    for a, c in zip(vertices, [*vertices[1:], *vertices[:1]]):
+        corners = [[(x, y) for x in box[:2] for y in box[2:]] for box in SCENES["polygon"][1]]
+        if any(all(reading.turn(a, c, corner) < 0 for corner in box) for box in corners):
+            x, y = (c[0] - a[0]) / 2, (c[1] - a[1]) / 2
+            parts.append(scene.line((a[0] - x, a[1] - y), (c[0] + x, c[1] + y), BEYOND))
+    return parts
+
+
+def region(name):
+    """The picture of a region with the boxes that it accepts and those that it doesn't."""
+    asked, boxes = SCENES[name]
+    scene = Scene(1, 23, 0, 15)
+    accepts, _ = reading.region(reading.Words(asked.encode()))
+    parts = [scene.box(box, YES if accepts(box) else NO) for box in boxes]
+    parts += outline(name, reading.Words(asked.encode()), scene)
+    return scene.picture(f"Boxes that {name} accepts are drawn solid, the others dashed", parts)
+
+
+def example():
+    """The picture of examples/boxes.csv."""
+    scene = Scene(-7, 32, -7, 17)
+    parts = [
+        scene.line((-6, 0), (31, 0), AXIS),
+        scene.line((0, -6), (0, 16), AXIS),
+        *(scene.label(at, -1.4, at) for at in (10, 20, 30)),
+        scene.label(-1.6, 10, 10),
+    ]
+    table = reading.boxes((ROOT / "examples/boxes.csv").read_bytes(), False, 100)
+    for id, (left, right, bottom, top) in table.items():
+        if left == right:
+            x, y = scene.place(left, top)
+            parts.append(f'<circle cx="{x}" cy="{y}" r="3.5" fill="{ACCEPTED}"/>')
+        else:
+            parts.append(scene.box((left, right, bottom, top), YES))
+        parts.append(scene.label(left + 1.4, top - 1.4, id))
+    return scene.picture("The five boxes of examples/boxes.csv", parts)
+
+
+# ---- all of them
+
+
+def pictures():
+    """Each picture by the name of its file."""
+    yield "boxes.svg", example()
+    for name, tokens in grammar().items():
+        yield f"grammar-{name}.svg", diagram(name, choice(tokens))
+    for name in SCENES:
+        yield f"region-{name}.svg", region(name)
+
+
+def main():
+    made = dict(pictures())
+    if sys.argv[1:] != ["--check"]:
+        PICTURES.mkdir(exist_ok=True)
+        for name, text in made.items():
+            (PICTURES / name).write_text(text, encoding="utf-8")
+        return 0
+    kept = {file.name: file.read_text(encoding="utf-8") for file in PICTURES.glob("*.svg")}
+    stale = [name for name in {**kept, **made} if kept.get(name) != made.get(name)]
+    for name in stale:
+        print(f"FAIL docs/pictures/{name} isn't what docs/pictures.py draws")
+    print(f"{len(made) - len([name for name in stale if name in made])} passed, {len(stale)} failed")
+    return int(bool(stale))
+
+
+if __name__ == "__main__":
+    sys.exit(main())
