@@ -1,6 +1,6 @@
 -- Lists cut into chunks.
-use Rattle.std.proofs.Common.{◌≡◌, ◌<◌, ◌≤◌, ◌+◌, ◌-◌, ◌*◌, ◌/◌, ◌%◌, min, ℕ, zero, suc, List, [], ◌∷◌, ◌++◌, length}
-use Rattle.std.proofs.Common.{map, take, drop, refl, sym, ◌∙◌, ap, subst, arith, add-one, append_assoc, inl, inr, ◌⊎◌}
+use Rattle.std.proofs.Common.{◌≡◌, ◌<◌, ◌≤◌, ◌+◌, ◌-◌, ◌*◌, ℕ, zero, suc, List, [], ◌∷◌, ◌++◌, length}
+use Rattle.std.proofs.Common.{map, take, drop, refl, sym, ◌∙◌, ap, arith, add-one, inl, inr, ◌⊎◌}
 use Rattle.std.proofs.Common.{Bool, true, false, nat_le}
 use Rattle.std.proofs.lemmas.Bool.Decides.{nat_tests}
 use Rattle.std.specs.Int.{div_ceil}
@@ -8,7 +8,7 @@ use Rattle.std.specs.List.{All, AllByRecursion, flat_map}
 use Rattle.std.proofs.lemmas.List.Elements.{All-drop, All-take}
 use Rattle.std.specs.Simd.{first_chunks}
 use native.Mathlib.Nat.{add-mul}
-use Rattle.std.proofs.Math.Nat.{zero-div, zero-mod, eq-or-lt_of_le, lt_of_not-le, mul-le-mul_right}
+use Rattle.std.proofs.Math.Nat.{zero-div, zero-mod, mul-le-mul_right}
 use Rattle.std.proofs.lemmas.Grind.{div_ceil_times}
 use Rattle.std.proofs.lemmas.List.{append-nil, drop-append-le, drop-map, drop_all, length-append, length-drop}
 use Rattle.std.proofs.lemmas.List.{length-map, length-take, nil_from_length, take-append-drop, take-append-le}

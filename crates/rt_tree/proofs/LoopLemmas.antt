@@ -1,9 +1,9 @@
 -- One more step of a loop over a list.
-use Rattle.std.proofs.Common.{◌≡◌, ◌<◌, ◌≤◌, ◌+◌, ◌-◌, ℕ, zero, suc, List, [], ◌∷◌, ◌++◌, length, map, take, drop}
+use Rattle.std.proofs.Common.{◌≡◌, ◌<◌, ◌≤◌, ◌+◌, ◌-◌, ℕ, suc, List, [], ◌∷◌, ◌++◌, length, map, take, drop}
 use Rattle.std.proofs.Common.{set, get_or, min, refl, sym, ◌∙◌, ap, subst, arith, add-one, append_assoc, inl, inr}
 use Rattle.std.proofs.Common.{Option, Some}
 use borrow.Rule.Slice.PartMut.{post_of, put_mid}
-use Rattle.std.specs.List.{All, enumerate_from, filter_map, flat_map, fold, sum_by}
+use Rattle.std.specs.List.{All, enumerate_from, filter_map, flat_map, sum_by}
 use Rattle.std.proofs.lemmas.List.Elements.{filter_map-append}
 use Rattle.std.proofs.lemmas.List.{append-nil, drop-drop, drop_all, get_or-drop, get_or-take, length-append}
 use Rattle.std.proofs.lemmas.List.{length-drop, length-map, length-take, map-append, take-append-le, take_all}

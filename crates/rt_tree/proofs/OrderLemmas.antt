@@ -1,6 +1,6 @@
 -- Lists in the order of another list, or by another comparison.
 use Rattle.std.proofs.Common.{◌≡◌, ℕ, Ordering, List, [], ◌∷◌, ◌++◌, map, cond, true, false, refl, sym, ◌∙◌, ap}
-use Rattle.std.proofs.Common.{subst, append_assoc, arith, length, IsPermutation, IsSorted}
+use Rattle.std.proofs.Common.{subst, append_assoc, IsPermutation, IsSorted}
 use Rattle.std.specs.List.{AllByRecursion, flat_map}
 use Rattle.std.specs.Ordering.{is_gt, nat_cmp}
 use Rattle.std.proofs.lemmas.Cmp.{nat_cmp_total}

@@ -1,6 +1,6 @@
 -- What the packing makes is the packed tree.
-use Rattle.std.proofs.Common.{◌≡◌, ◌<◌, ◌≤◌, ℕ, Bool, true, false, true≢false, Ordering, Equal, List, [], ◌∷◌, length}
-use Rattle.std.proofs.Common.{refl, sym, ◌∙◌, ap, subst, arith, All, IsPermutation, IsSortedByKey}
+use Rattle.std.proofs.Common.{◌≡◌, ◌≤◌, ℕ, false, true≢false, Ordering, Equal, List, [], ◌∷◌, length}
+use Rattle.std.proofs.Common.{refl, sym, ◌∙◌, ap, arith, IsPermutation, IsSortedByKey}
 use Rattle.std.specs.Cmp.{IsTotalOrder}
 use Rattle.std.specs.List.{AllByRecursion, IsDistinct}
 use Rattle.std.specs.Ordering.{int_cmp, int_eq, is_eq, on}
@@ -10,12 +10,11 @@ use Rattle.std.proofs.lemmas.List.Kept.{AllPairs-cons}
 use Rattle.std.proofs.lemmas.List.Sorted.{length_permutation}
 use Rattle.rt_geo.specs.declared.entry.Entry.{Entry}
 use Rattle.rt_tree.specs.Entries.{IsTable, ids_of}
-use Rattle.rt_tree.specs.Levels.{level_sizes}
-use Rattle.rt_tree.specs.Packed.{Packed, IsSound}
+use Rattle.rt_tree.specs.Packed.{Packed}
 use Rattle.rt_tree.specs.Packing.{all_nodes, chunks, groups, joined, nodes_over, pack_of}
 use Rattle.rt_tree.specs.Sorting.{sorted}
 use Rattle.rt_tree.specs.declared.tree.Node.{Node}
-use Rattle.rt_tree.proofs.PackSound.{entries-IsPermutation, pack_of-IsSound}
+use Rattle.rt_tree.proofs.PackSound.{entries-IsPermutation}
 use Rattle.rt_tree.proofs.SortingLemmas.{IsExact, sorted-unique}
 use Rattle.rt_tree.proofs.TileLemmas.{groups-chunks, groups-moved}
 

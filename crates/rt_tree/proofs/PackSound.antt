@@ -1,14 +1,13 @@
 -- The tree that is packed over a table is sound.
-use Rattle.std.proofs.Common.{◌≡◌, ◌<◌, ◌≤◌, ◌+◌, ◌-◌, ◌*◌, ◌^◌, ℕ, zero, suc, List, [], ◌∷◌, ◌++◌, length, map}
+use Rattle.std.proofs.Common.{◌≡◌, ◌<◌, ◌≤◌, ◌+◌, ◌-◌, ◌^◌, ℕ, zero, suc, List, [], ◌∷◌, ◌++◌, length, map}
 use Rattle.std.proofs.Common.{filter, ◌==◌, drop, get_or, refl, sym, ◌∙◌, ap, subst, arith, add-one, append_assoc}
-use Rattle.std.proofs.Common.{inl, inr, length-append, All, IsPermutation}
+use Rattle.std.proofs.Common.{inl, inr, length-append, IsPermutation}
 use Rattle.std.specs.Int.{div_ceil}
 use Rattle.std.specs.List.{AllByRecursion, flat_map, sum_by}
-use Rattle.std.proofs.lemmas.Grind.{flat_map-append}
 use Rattle.std.proofs.lemmas.List.{append-nil, get_or_default, nil_from_length}
 use Rattle.std.proofs.lemmas.List.Elements.{All-from_recursion, recursion_from_All}
-use Rattle.std.proofs.lemmas.List.Sorted.{All-permutation, IsPermutation-append_comm, IsPermutation-append_left}
-use Rattle.std.proofs.lemmas.List.Sorted.{IsPermutation-append_right, IsPermutation-map, IsPermutation-refl}
+use Rattle.std.proofs.lemmas.List.Sorted.{All-permutation}
+use Rattle.std.proofs.lemmas.List.Sorted.{IsPermutation-map, IsPermutation-refl}
 use Rattle.std.proofs.lemmas.List.Sorted.{IsPermutation-sym, IsPermutation-trans, length_permutation}
 use Rattle.rt_geo.specs.declared.entry.Entry.{Entry}
 use Rattle.rt_tree.specs.Packed.{Packed, IsSound, IsSubtree, all_child_entries, all_child_nodes, child_entries}
@@ -32,7 +31,6 @@ use Rattle.rt_tree.proofs.LoopLemmas.{get_or_behind}
 use Rattle.rt_tree.proofs.LevelLemmas.{div_ceil-positive}
 use Rattle.rt_tree.proofs.LevelOrder.{last_node-top, nodes_from-levels, nodes_over-AreOn, sizes_from, sizes_from_first}
 use Rattle.rt_tree.specs.Levels.{level_sizes}
-use Rattle.rt_tree.proofs.Permutations.{along_permutation}
 use Rattle.rt_tree.proofs.Soundness.{IsGroup, all_map, all_under_more, inner-range, leaves_sound, leaves_under}
 use Rattle.rt_tree.proofs.Soundness.{length-nodes_over, over_sound, over_under, subtree_more, sum_by-ones, tree}
 use Rattle.rt_tree.proofs.TileLemmas.{groups-IsPermutation, groups-chunks, groups-moved, groups-nil}

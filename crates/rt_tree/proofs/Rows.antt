@@ -1,11 +1,10 @@
 -- Answers that were worked out by hand: the definitions give them by computing.
-use Rattle.std.proofs.Common.{◌≡◌, refl, ℕ, ℤ, pos, negsuc, zero, suc, List, [], ◌∷◌, Some, None, map}
+use Rattle.std.proofs.Common.{◌≡◌, refl, ℕ, ℤ, pos, negsuc, zero, suc, [], ◌∷◌, Some, None, map}
 use Rattle.std.specs.Ordering.{nat_cmp}
 use Rattle.rt_geo.specs.Boxes.{Rect, rect_of}
 use Rattle.rt_geo.specs.declared.entry.Entry.{Entry}
 use Rattle.rt_tree.specs.declared.tree.Node.{Node}
 use Rattle.rt_tree.specs.Levels.{level_sizes}
-use Rattle.rt_tree.specs.Packed.{Packed}
 use Rattle.rt_tree.specs.Packing.{ceil_sqrt, pack_of}
 use Rattle.rt_tree.specs.Sorting.{limited, sorted}
 

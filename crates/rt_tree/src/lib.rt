@@ -1,10 +1,13 @@
-//! The entries of a table, and later the tree that is packed over them.
+//! The entries of a table, and the tree that is packed over them.
 //!
 //! - A [`Table`] is seen as the list of its entries, in the order pushed. No two have one id.
-//! - [`Levels`] are seen as the sizes of the levels of a tree over so many entries.
+//! - A [`Tree`] is packed over a table by [`Tree::pack`]. It is seen as its fanout and two flat lists: its entries in
+//!   the order of their places, and its [`Node`]s in the order of their numbers, of which a [`NodeNo`] is one.
+//! - [`Levels`] are seen as the sizes of the levels of a tree over so many entries, told without the tree.
 //!
-//! The definitions that the contracts cite stand in `specs/`: `Entries`, `Levels`, and `Sorting` for the crates above.
-//! Their worked rows stand in `proofs/Rows.antt`.
+//! The definitions that the contracts cite stand in `specs/`: `Entries`, `Levels`, `Packing` (which tree is packed),
+//! `Packed` (what it holds, and what a search may rest on), and `Sorting`, for the crates above too. Their worked rows
+//! stand in `proofs/Rows.antt`. What `Indexes` and `SortKeys` define is for this crate's code alone.
 #![tactic(auto)]
 
 mod levels;

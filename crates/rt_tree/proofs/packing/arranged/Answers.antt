@@ -1,8 +1,7 @@
-use Rattle.std.proofs.Common.{◌≡◌, ◌<◌, ◌∙◌, ℕ, List, IfOk, All, ap, arith, length, map, slice_get, subst, sym}
-use Rattle.std.specs.List.{enumerate_from, filter_map}
+use Rattle.std.proofs.Common.{◌≡◌, ◌<◌, ◌∙◌, IfOk, All, ap, arith, length, slice_get, subst, sym}
+use Rattle.std.specs.List.{filter_map}
 use Rattle.std.specs.Ordering.{nat_cmp}
-use Rattle.rt_tree.specs.Packing.{twice_middle_x}
-use Rattle.rt_tree.specs.SortKeys.{key_of, place_of}
+use Rattle.rt_tree.specs.SortKeys.{place_of}
 use Rattle.rt_tree.specs.Sorting.{sorted}
 use Rattle.rt_tree.proofs.LoopLemmas.{front_of}
 use Rattle.rt_tree.proofs.OrderLemmas.{numbers_sorted}

@@ -1,4 +1,4 @@
-use Rattle.std.proofs.Common.{◌∙◌, ap, below_more, get_or, subst, sym}
+use Rattle.std.proofs.Common.{◌∙◌, ap, below_more, get_or, subst}
 use Rattle.std.proofs.lemmas.List.{get_or_default}
 use Rattle.rt_tree.specs.Packing.{twice_middle_x}
 use Rattle.rt_tree.specs.SortKeys.{IsRanked, key_of, rank, sort_key}

@@ -1,6 +1,5 @@
-use Rattle.std.proofs.Common.{◌≡◌, ◌+◌, ◌≤◌, map, take}
+use Rattle.std.proofs.Common.{◌≡◌, ◌+◌, map, take}
 use Rattle.std.specs.List.{sum_by}
-use Rattle.rt_tree.specs.Packing.{node_over}
 use Rattle.rt_tree.specs.Packed.{hull_of}
 use Rattle.rt_tree.proofs.packing.node_over.Given as goal
 

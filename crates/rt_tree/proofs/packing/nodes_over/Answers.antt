@@ -1,4 +1,4 @@
-use Rattle.std.proofs.Common.{◌≡◌, ◌<◌, ◌≤◌, ◌+◌, ◌-◌, ◌∙◌, ap, arith, length, sym}
+use Rattle.std.proofs.Common.{◌+◌, ◌-◌, arith}
 use Rattle.rt_tree.proofs.LoopLemmas.{nodes_more, part-weight}
 use Rattle.rt_tree.proofs.packing.nodes_over.Goals as goal
 

@@ -1,4 +1,4 @@
-use Rattle.std.proofs.Common.{◌∙◌, ℕ, ap, below_more, get_or, sym, subst}
+use Rattle.std.proofs.Common.{◌∙◌, ℕ, ap, below_more, get_or, subst}
 use Rattle.std.specs.Ordering.{nat_cmp}
 use Rattle.rt_tree.specs.Packing.{twice_middle_y}
 use Rattle.rt_tree.specs.SortKeys.{IsRankedAt, rekeyed}

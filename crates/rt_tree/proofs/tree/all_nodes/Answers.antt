@@ -1,7 +1,7 @@
-use Rattle.std.proofs.Common.{◌≡◌, ◌<◌, ◌+◌, ◌++◌, ◌∙◌, [], ap, arith, length, refl, sym, subst}
+use Rattle.std.proofs.Common.{◌≡◌, ◌<◌, ◌+◌, ◌++◌, ◌∙◌, ap, arith, length}
 use Rattle.rt_tree.specs.Packing.{all_nodes, chunks, groups, joined, nodes_over}
 use Rattle.rt_tree.specs.declared.tree.Node.{Node}
-use Rattle.rt_tree.proofs.PackCounts.{course_done, course_more, entries_counted, level_counted, level_smaller}
+use Rattle.rt_tree.proofs.PackCounts.{course_more, entries_counted, level_counted, level_smaller}
 use Rattle.rt_tree.proofs.PackCounts.{ordered_length, ordered_weight}
 use Rattle.rt_tree.proofs.Soundness.{sum_by-ones}
 use Rattle.rt_tree.proofs.tree.all_nodes.Goals as goal

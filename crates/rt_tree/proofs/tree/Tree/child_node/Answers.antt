@@ -1,4 +1,4 @@
-use Rattle.std.proofs.Common.{◌<◌, ◌+◌, arith, length, rules, ◌^◌}
+use Rattle.std.proofs.Common.{arith}
 use Rattle.rt_tree.proofs.PackSound.{child_inside}
 use Rattle.rt_tree.proofs.tree.Tree.child_node.Goals as goal
 

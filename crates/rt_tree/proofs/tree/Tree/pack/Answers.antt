@@ -1,11 +1,10 @@
-use Rattle.std.proofs.Common.{◌≡◌, ◌≤◌, ◌∙◌, ap, arith, length, rules, subst, sym}
-use Rattle.std.specs.Ordering.{int_cmp}
-use Rattle.std.specs.List.Sorted.{IsPermutation, IsSortedByKey}
+use Rattle.std.proofs.Common.{◌≡◌, ◌∙◌, ap, arith, length, rules, subst, sym}
+use Rattle.std.specs.List.Sorted.{IsPermutation}
 use Rattle.std.proofs.lemmas.List.Sorted.{answers_always, length_permutation}
 use Rattle.rt_geo.specs.declared.entry.Entry.{Entry}
 use Rattle.rt_tree.specs.Levels.{level_sizes}
 use Rattle.rt_tree.specs.Packed.{Packed, IsSound}
-use Rattle.rt_tree.specs.Packing.{all_nodes, chunks, groups, joined, nodes_over, pack_of}
+use Rattle.rt_tree.specs.Packing.{all_nodes, chunks, groups, joined, nodes_over}
 use Rattle.rt_tree.proofs.PackLemmas.{length-arranged, length-packed, packed_is, sorted_by_id}
 use Rattle.rt_tree.proofs.PackSound.{entries-IsPermutation, pack_of-IsSound}
 use Rattle.rt_tree.proofs.tree.Tree.pack.Goals as goal

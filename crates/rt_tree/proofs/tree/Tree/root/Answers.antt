@@ -1,4 +1,4 @@
-use Rattle.std.proofs.Common.{◌<◌, arith, length, refl, vec_len}
+use Rattle.std.proofs.Common.{◌<◌, arith, length, refl}
 use Rattle.std.proofs.lemmas.Bool.Decides.{nat_tests}
 use Rattle.rt_tree.proofs.tree.Tree.root.Goals as goal
 
