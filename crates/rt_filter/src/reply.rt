@@ -115,10 +115,8 @@ fn put_answers(line: u128, found: &[(i64, u128)], out: &mut Vec<u8>) -> Result<(
 
 // Puts a line for each level there, from the top down, and then their number.
 fn put_levels(line: u128, tree: &Tree, out: &mut Vec<u8>) -> Result<(), AllocError>
-    ensures {
-        let sizes = level_sizes (length tree.now.entries) tree.now.fanout in
-        OnOk result (out.new.items ≡ out.old.items ++ levels_reply line sizes)
-    }
+    ensures { let sizes = level_sizes (length tree.now.entries) tree.now.fanout in
+        OnOk result (out.new.items ≡ out.old.items ++ levels_reply line sizes) }
 {
     let count = tree.top() + 1;
     for above in 0..count {

@@ -7,14 +7,14 @@ use Rattle.rt_filter.proofs.reply.put_levels.Goals as goal
 
 pub loop-above-preserved : goal.loop-above-preserved
 loop-above-preserved c =
-    let count = c.top.ensures.levels in
+    let count = c.top-count.ensures.levels in
     let below : c.loop-above.above < length (level_sizes (length c.args.tree.now.entries) c.args.tree.now.fanout) = omega (arith, count) in
-    lines-more (level_sizes (length c.args.tree.now.entries) c.args.tree.now.fanout) c.args.out.now.items c.loop-above.out.items c.put.new.out.items c.loop-above.above c.size.result below
-    (rw count at c.size.ensures) c.loop-above.invariant (rw (c.level_line.ensures, count) at c.in_ok-put.ensures)
+    lines-more (level_sizes (length c.args.tree.now.entries) c.args.tree.now.fanout) c.args.out.now.items c.loop-above.out.items c.put.new.out.items c.loop-above.above c.level_len.result below
+    (rw count at c.level_len.ensures) c.loop-above.invariant (rw (c.level_line.ensures, count) at c.in_ok-put.ensures)
 
 pub returns : goal.returns
 returns c =
-    let count = c.top.ensures.levels in
+    let count = c.top-count.ensures.levels in
     let end : c.loop-above.above ≡ length (level_sizes (length c.args.tree.now.entries) c.args.tree.now.fanout) = omega (arith, count) in
     let lines = lines-all (level_sizes (length c.args.tree.now.entries) c.args.tree.now.fanout) c.args.out.now.items c.loop-above.out.items (rw end at c.loop-above.invariant) in
     let ok : c.ok_line.result ≡ ok_line c.args.line (length (level_sizes (length c.args.tree.now.entries) c.args.tree.now.fanout)) =
