@@ -127,13 +127,19 @@ list_all-edge f vertices i d h e =
 no_difference : (z : ℤ) → z -ℤ z ≡ pos 0
 no_difference z = omega (arith, ints)
 
+-- (the second factors are 0)
 is_left-from : (edge : Edge) → is_left edge edge.from ≡ false
 is_left-from edge =
-    rw (no_difference edge.from.x, no_difference edge.from.y, *ℤ-zero (edge.to.x -ℤ edge.from.x), *ℤ-zero (edge.to.y -ℤ edge.from.y)) refl
+    let along_x = edge.to.x -ℤ edge.from.x in
+    let along_y = edge.to.y -ℤ edge.from.y in
+    rw (no_difference edge.from.x, no_difference edge.from.y, *ℤ-zero along_x, *ℤ-zero along_y) refl
 
+-- (the two products are the same)
 is_left-to : (edge : Edge) → is_left edge edge.to ≡ false
 is_left-to edge =
-    rw (*ℤ_comm (edge.to.y -ℤ edge.from.y) (edge.to.x -ℤ edge.from.x), no_difference ((edge.to.x -ℤ edge.from.x) *ℤ (edge.to.y -ℤ edge.from.y))) refl
+    let along_x = edge.to.x -ℤ edge.from.x in
+    let along_y = edge.to.y -ℤ edge.from.y in
+    rw (*ℤ_comm along_y along_x, no_difference (along_x *ℤ along_y)) refl
 
 -- two vertices that follow each other and a third that fail a test
 three_places_fail : (f : Point → Bool) (vertices : List Point) (i j : ℕ) (d : Point)
@@ -162,7 +168,8 @@ strictly_convex vertices h i j from to other e f g not_from not_to =
     let to_is = get_or_from_slice_get vertices (next_place vertices i) to other f in
     let other_is = get_or_from_slice_get vertices j other other g in
     let within = slice_get_within vertices i from e in
-    let test = list_all-edge (λ edge. count_by (is_left edge) vertices + 2 == length vertices) vertices i other within h in
+    let all_but_two = λ (edge : Edge). count_by (is_left edge) vertices + 2 == length vertices in
+    let test = list_all-edge all_but_two vertices i other within h in
     let count : count_by (is_left edge) vertices + 2 ≡ length vertices = eqb-true _ _ (rw (from_is, to_is) at test) in
     true_from_ne_false _ (λ fails.
     let three =

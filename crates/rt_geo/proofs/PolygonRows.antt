@@ -1,8 +1,8 @@
 -- Polygons that were worked out by hand: the definitions give their answers by computing.
-use Rattle.std.proofs.Common.{◌≡◌, refl, ℕ, pos, Bool, true, false, List, [], ◌∷◌, map, reverse}
+use Rattle.std.proofs.Common.{◌≡◌, refl, arith, ℕ, pos, Bool, true, false, List, [], ◌∷◌, map, reverse}
 use Rattle.std.specs.Prelude.{Ok, Err}
 use Rattle.rt_geo.specs.Boxes.{Rect, greatest_coordinate, least_coordinate, rect_of}
-use Rattle.rt_geo.specs.Polygons.{bounding_box, point_at, polygon_meets, polygon_of, polygon_state}
+use Rattle.rt_geo.specs.Polygons.{IsCommonPoint, bounding_box, point_at, polygon_meets, polygon_of, polygon_state}
 use Rattle.rt_geo.specs.declared.distance.Point.{Point}
 use Rattle.rt_geo.specs.declared.geometry.Within.TheVariants.{Not, Partly, Fully}
 use Rattle.rt_geo.specs.declared.polygon.PolygonFault.TheVariants.{Count, NotConvex}
@@ -102,3 +102,14 @@ polygon_state-inside = refl
 -- the bounding box holds this box, and one corner of it is cut off
 polygon_state-cut : polygon_state triangle (info_of (rect_of (pos 0) (pos 10) (pos 0) (pos 21)) 1) ≡ Partly
 polygon_state-cut = refl
+
+-- ---- points in fractions
+
+-- the point (7.5, 22.5) of the slanted edge lies in a box whose corners are whole numbers
+common_point : IsCommonPoint triangle (rect_of (pos 7) (pos 8) (pos 22) (pos 23)) (at 15 45) 2
+common_point = record {
+  fraction = omega arith;
+  in_box = refl;
+  in_bounding_box = refl;
+  in_half_planes = refl;
+}

@@ -106,7 +106,8 @@ impl Bounds {
 pub fn overlaps(a: Bounds, b: Bounds) -> bool
     ensures { result ≡ overlaps a b }
 {
-    meet_on_x(a, b) && meet_on_y(a, b)
+    // (`&`, so that the two axes are one branch)
+    meet_on_x(a, b) & meet_on_y(a, b)
 }
 
 fn meet_on_x(a: Bounds, b: Bounds) -> bool
@@ -125,7 +126,8 @@ fn meet_on_y(a: Bounds, b: Bounds) -> bool
 pub fn inside(a: Bounds, b: Bounds) -> bool
     ensures { result ≡ inside a b }
 {
-    lies_in_on_x(a, b) && lies_in_on_y(a, b)
+    // (`&`, so that the two axes are one branch)
+    lies_in_on_x(a, b) & lies_in_on_y(a, b)
 }
 
 fn lies_in_on_x(a: Bounds, b: Bounds) -> bool

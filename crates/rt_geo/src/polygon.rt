@@ -36,6 +36,10 @@ pub enum PolygonFault {
 }
 
 /// Accepts the boxes that a strictly convex polygon of 3 to 16 vertices meets, its edges included.
+///
+/// The boxes are those that no axis parts from it. A box that is dropped shares no point with the polygon, not
+/// even one in fractions: that is a clause of `within`. That each other box shares a point with it, by the
+/// theorem of which the test is an instance, isn't proved.
 #[derive(Debug, PartialEq, Eq, Drop)]
 pub struct Polygon {
     vertices: ArrayVec<Point, MOST_VERTICES>,

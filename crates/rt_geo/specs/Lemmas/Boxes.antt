@@ -51,10 +51,10 @@ inside-overlaps a b v p = grind (arith, ints)
 pub IsRect-hull : (a b : Rect) → IsRect a → IsRect b → IsRect (hull a b)
 IsRect-hull a b v w = record { on_x = grind (arith, ints); on_y = grind (arith, ints) }
 
-inside-hull_left : (a b : Rect) → inside a (hull a b) ≡ true
+pub inside-hull_left : (a b : Rect) → inside a (hull a b) ≡ true
 inside-hull_left a b = grind (arith, ints)
 
-inside-hull_right : (a b : Rect) → inside b (hull a b) ≡ true
+pub inside-hull_right : (a b : Rect) → inside b (hull a b) ≡ true
 inside-hull_right a b = grind (arith, ints)
 
 -- what holds both boxes holds their hull
