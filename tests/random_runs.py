@@ -44,6 +44,13 @@ def pair(chance):
     return sorted(chance.choice(COORDINATE_ENDS) if chance.random() < 0.05 else small(chance) for _ in range(2))
 
 
+def box(chance):
+    """The sides of a box, now and then with all of them at the ends of their range."""
+    if chance.random() < 0.05:
+        return [*sorted(chance.choices(COORDINATE_ENDS, k=2)), *sorted(chance.choices(COORDINATE_ENDS, k=2))]
+    return [*pair(chance), *pair(chance)]
+
+
 def written(chance, value):
     """A number with signs and zeros as they may be."""
     sign = b"-" if value < 0 or (value == 0 and chance.random() < 0.1) else chance.choice([b"", b"", b"", b"+"])
@@ -67,7 +74,7 @@ QUOTED = [b'""', b'"1"2', b'1"2', b'"1\n"', b'"1,2"', b'"a""b"', b'"']
 
 def some_record(chance, is_sound):
     if is_sound or chance.random() < 0.9:
-        fields = [b"%d" % n for n in (chance.randint(-(10**12), 10**12), *pair(chance), *pair(chance))]
+        fields = [b"%d" % n for n in (chance.randint(-(10**12), 10**12), *box(chance))]
     else:
         fields = [some_number(chance) for _ in range(chance.choice([5, 5, 5, 5, 4, 6, 1]))]
         if chance.random() < 0.1:
@@ -143,7 +150,7 @@ def some_limit(chance):
 
 
 def some_point(chance):
-    values = [chance.choice(COORDINATE_ENDS) if chance.random() < 0.1 else small(chance) for _ in range(2)]
+    values = chance.choices(COORDINATE_ENDS, k=2) if chance.random() < 0.15 else [small(chance), small(chance)]
     return [written(chance, value) for value in values]
 
 
@@ -183,6 +190,11 @@ def add_last(chance, words):
     words.append(chance.choice(WORDS))
 
 
+def add_part(chance, words):
+    parts = [[b"near", *some_point(chance)], [b"smallest"], [b"first", some_limit(chance)]]
+    words += chance.choice(parts)
+
+
 def respell(chance, words):
     at = chance.randrange(len(words))
     words[at] = words[at].title() if chance.random() < 0.5 else words[at] + b"s"
@@ -213,7 +225,8 @@ def misstate(chance, words):
         words[chance.choice(numbers)] = chance.choice([b"%d" % chance.choice(EDGES), chance.choice(NO_NUMBERS)])
 
 
-MISSES = [cut, drop, add, add, add_last, respell, replace, replace_verb, swap, swap_sides, *[misstate] * 4]
+MISSES = [cut, drop, add, add_last, add_part, add_part, respell, replace, replace_verb, swap, swap_sides]
+MISSES += [misstate] * 4
 
 
 def missed(chance, words):

@@ -7,10 +7,10 @@ use Rattle.std.proofs.Math.Seq.{drop-append_seam}
 use Rattle.std.proofs.lemmas.Grind.{flat_map-append}
 use Rattle.std.proofs.lemmas.List.{drop-append-le, length-drop, take-append-le, take_all}
 use Rattle.std.proofs.lemmas.List.Sums.{sum_by-cons}
-use Rattle.rt_geo.specs.Boxes.{Rect, IsRect, hull, inside}
+use Rattle.rt_geo.specs.Boxes.{Rect, IsRect, hull, inside, plane}
 use Rattle.rt_geo.specs.Entries.{HasBox}
 use Rattle.rt_geo.specs.Laws.{IsBoxInside, extent_of_entry}
-use Rattle.rt_geo.specs.Lemmas.Boxes.{IsRect-hull, inside-hull_left, inside-hull_right, inside-same, inside-trans}
+use Rattle.rt_geo.specs.Lemmas.Boxes.{IsRect-hull, hull-inside, inside-hull_left, inside-hull_right, inside-same, inside-trans}
 use Rattle.rt_geo.specs.declared.entry.Entry.{Entry}
 use Rattle.rt_tree.specs.Packed.{Packed, IsLeafNode, IsSubtree, child_nodes}
 use Rattle.rt_tree.specs.Packed.{entries_under, hull_of}
@@ -58,6 +58,12 @@ IsRect-fold : (b : Rect) (bs : List Rect) → IsRect b → AllByRecursion IsRect
 IsRect-fold b [] v a = v
 IsRect-fold b (c ∷ bs) v a = IsRect-fold (hull b c) bs (IsRect-hull b c v a.0) a.1
 
+-- what holds the boxes holds their hull
+fold-inside : (whole b : Rect) (bs : List Rect) → inside b whole ≡ true → AllByRecursion (λ c. inside c whole ≡ true) bs
+    → inside (fold hull b bs) whole ≡ true
+fold-inside whole b [] h a = h
+fold-inside whole b (c ∷ bs) h a = fold-inside whole (hull b c) bs (hull-inside b c whole h a.0) a.1
+
 module _ {X : Type 0} (box : X → Rect) where
   all_mapped : (P : Rect → Type 0) (xs : List X) → AllByRecursion (λ x. P (box x)) xs → AllByRecursion P (map box xs)
   all_mapped P [] a = tt
@@ -72,9 +78,16 @@ module _ {X : Type 0} (box : X → Rect) where
   hull-IsRect [] some a = absurd (omega (arith, some))
   hull-IsRect (x ∷ xs) some a = IsRect-fold (box x) (map box xs) a.0 (all_mapped IsRect xs a.1)
 
-  hull-inside : (xs : List X) → AllByRecursion (λ x. inside (box x) (hull_of (map box xs)) ≡ true) xs
-  hull-inside [] = tt
-  hull-inside (x ∷ xs) =
+  -- it lies in what holds each of the group
+  hull_of-inside : (whole : Rect) (xs : List X) → 0 < length xs → AllByRecursion (λ x. inside (box x) whole ≡ true) xs
+      → inside (hull_of (map box xs)) whole ≡ true
+  hull_of-inside whole [] some a = absurd (omega (arith, some))
+  hull_of-inside whole (x ∷ xs) some a =
+      fold-inside whole (box x) (map box xs) a.0 (all_mapped (λ c. inside c whole ≡ true) xs a.1)
+
+  inside-hull_of : (xs : List X) → AllByRecursion (λ x. inside (box x) (hull_of (map box xs)) ≡ true) xs
+  inside-hull_of [] = tt
+  inside-hull_of (x ∷ xs) =
       let whole = fold hull (box x) (map box xs) in (
         inside-fold (box x) (map box xs),
         all_unmapped (λ c. inside c whole ≡ true) xs (all_inside-fold (box x)
@@ -123,6 +136,7 @@ module _ (fanout : ℕ) (es : List Entry) where
         few = s.few;
         range = s.range;
         valid = s.valid;
+        coordinates = s.coordinates;
         exact =
             s.exact;
         within = s.within;
@@ -138,6 +152,7 @@ module _ (fanout : ℕ) (es : List Entry) where
         below = subst (AllByRecursion (IsSubtree (tree (ns ++ more)) h)) same (all_map (IsSubtree (tree ns) h)
             (IsSubtree (tree (ns ++ more)) h) (λ k. subtree_more ns more h k) (child_nodes (tree ns) n) s.below);
         valid = s.valid;
+        coordinates = s.coordinates;
         exact = s.exact ∙ ap (λ ks. hull_of (map (λ (k : Node). k.bounds) ks)) same;
         within = subst (AllByRecursion (λ k. inside k.bounds n.bounds ≡ true)) same s.within;
         size = s.size ∙ ap (sum_by (λ k. k.size)) same;
@@ -161,6 +176,10 @@ module _ (fanout : ℕ) (es : List Entry) where
   pub all_under_more : (ns more : List Node) (h : ℕ) (ks : List Node) → AllByRecursion (IsSubtree (tree ns) h) ks
       → flat_map (entries_under (tree (ns ++ more)) h) ks ≡ flat_map (entries_under (tree ns) h) ks
   all_under_more ns more h ks a = flat_same ns more h (λ k. under_more ns more h k) ks a
+
+  subtree_coordinates : (t : Packed) (h : ℕ) (n : Node) → IsSubtree t h n → inside n.bounds plane ≡ true
+  subtree_coordinates t zero n s = s.coordinates
+  subtree_coordinates t (suc h) n s = s.coordinates
 
   subtree_valid : (t : Packed) (h : ℕ) (n : Node) → IsSubtree t h n → IsRect n.bounds
   subtree_valid t zero n s = s.valid
@@ -186,9 +205,11 @@ module _ (fanout : ℕ) (es : List Entry) where
           few = a.0.0.1;
           range = omega (arith, total, length-append front (g ++ joined gs), length-append g (joined gs));
           valid = hull-IsRect box g a.0.0.0 boxes;
+          coordinates = hull_of-inside box plane g a.0.0.0
+              (all_map HasBox (λ e. inside e.bounds plane ≡ true) (λ e b. b.coordinates) g a.0.1);
           exact = ap (λ l. hull_of (map box l)) (sym here);
           within = subst (AllByRecursion (λ e. IsBoxInside (extent_of_entry e) (record { bounds = whole })))
-              (sym here) (both_inside g whole boxes (hull-inside box g));
+              (sym here) (both_inside g whole boxes (inside-hull_of box g));
           size = sum_by-ones g;
         },
         subst (λ n. AllByRecursion (IsLeafNode (tree ns)) (nodes_over box (λ _. 1) 1 n gs)) (length-append front g)
@@ -234,8 +255,10 @@ module _ (fanout : ℕ) (es : List Entry) where
           below = subst (AllByRecursion (IsSubtree (tree ns) h)) (sym here) a.0.1;
           valid = hull-IsRect box g a.0.0.0 (all_map (IsSubtree (tree ns) h) (λ n. IsRect n.bounds) (subtree_valid
               (tree ns) h) g a.0.1);
+          coordinates = hull_of-inside box plane g a.0.0.0
+              (all_map (IsSubtree (tree ns) h) (λ n. inside n.bounds plane ≡ true) (subtree_coordinates (tree ns) h) g a.0.1);
           exact = ap (λ l. hull_of (map box l)) (sym here);
-          within = subst (AllByRecursion (λ k. inside k.bounds whole ≡ true)) (sym here) (hull-inside box g);
+          within = subst (AllByRecursion (λ k. inside k.bounds whole ≡ true)) (sym here) (inside-hull_of box g);
           size = ap (sum_by (λ k. k.size)) (sym here);
         },
         subst (λ n. AllByRecursion (IsSubtree (tree ns) (suc h)) (nodes_over box (λ k. k.size) (suc (suc h)) n gs))

@@ -3,7 +3,7 @@ use Rattle.std.specs.Prelude.{◌↔◌, ◌≡◌, ◌+◌, ◌-◌, ◌<◌, �
 use Rattle.std.specs.Prelude.{List, [], ◌∷◌, ◌++◌, drop, filter, get_or, length, map, replicate, take}
 use Rattle.std.specs.List.{All, AllByRecursion, flat_map, fold, sum_by}
 use Rattle.std.specs.List.Sorted.{IsPermutation}
-use Rattle.rt_geo.specs.Boxes.{Rect, IsRect, hull, inside, rect_of}
+use Rattle.rt_geo.specs.Boxes.{Rect, IsRect, hull, inside, plane, rect_of}
 use Rattle.rt_geo.specs.Laws.{Extent, IsBoxInside, extent_of_entry}
 use Rattle.rt_geo.specs.declared.entry.Entry.{Entry}
 use Rattle.rt_tree.specs.Entries.{IsTable}
@@ -73,6 +73,7 @@ pub record IsLeafNode (t : Packed) (n : Node) : Type 0 where
   pub few : n.count ≤ t.fanout
   pub range : n.first + n.count ≤ length t.entries
   pub valid : IsRect n.bounds
+  pub coordinates : inside n.bounds plane ≡ true
   pub exact : n.bounds ≡ hull_of (map (λ e. e.bounds) (child_entries t n))
   pub within : AllByRecursion (λ e. IsBoxInside (extent_of_entry e) (extent_of_node n)) (child_entries t n)
   pub size : n.size ≡ n.count
@@ -85,6 +86,7 @@ pub record IsInnerNode (t : Packed) (levels : ℕ) (Below : Node → Type 0) (n 
   pub range : n.first + n.count ≤ length t.nodes
   pub below : AllByRecursion Below (child_nodes t n)
   pub valid : IsRect n.bounds
+  pub coordinates : inside n.bounds plane ≡ true
   pub exact : n.bounds ≡ hull_of (map (λ k. k.bounds) (child_nodes t n))
   pub within : AllByRecursion (λ k. inside k.bounds n.bounds ≡ true) (child_nodes t n)
   pub size : n.size ≡ sum_by (λ k. k.size) (child_nodes t n)
