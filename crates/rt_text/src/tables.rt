@@ -70,17 +70,17 @@ pub fn read_table<R: Read + Drop>(
         .flexible(true)
         .has_headers(false)
         .from_reader(alloc, reader);
-    let mut record = ByteRecord::new(alloc);
+    let mut fields = ByteRecord::new(alloc);
     let mut table = Table::empty(alloc);
     // At most a header, `max` entries and one record more are read.
     for number in 1..max + 3 {
-        if !next_record(&mut records, &mut record)? {
+        if !next_record(&mut records, &mut fields)? {
             return Ok(table);
         }
         if header && number == 1 {
             continue;
         }
-        add_record(max, number, &record, &mut table)?;
+        add_record(max, number, &fields, &mut table)?;
     }
     unreachable!()
 }
@@ -88,13 +88,13 @@ pub fn read_table<R: Read + Drop>(
 // The next record, where there is one. After an error, which is of the reader or of memory, there is none.
 fn next_record<R: Read>(
     records: &mut Reader<R>,
-    record: &mut ByteRecord,
+    fields: &mut ByteRecord,
 ) -> Result<bool, TableFault>
     requires trim { reader_trim records.old ≡ trim.None }
     requires ready { Ready records.old }
     requires config { reader_config records.old ≡ default_config }
     requires flexible { is_flexible records.old ≡ true }
-    ensures reads { IfOk result (λ found. ReadRecord R.remaining records.old records.new found (fields_of record.new)) }
+    ensures reads { IfOk result (λ found. ReadRecord R.remaining records.old records.new found (fields_of fields.new)) }
     ensures trim { OnOk result (reader_trim records.new ≡ trim.None) }
     ensures ready { OnOk result (Ready records.new) }
     ensures config { OnOk result (reader_config records.new ≡ default_config) }
@@ -102,7 +102,7 @@ fn next_record<R: Read>(
     ensures failed { OnErr result (has_failed records.new ≡ true) }
     ensures fault { IfErr result (λ cause. (cause ≡ TableFault.Read) ⊎ (cause ≡ TableFault.Memory)) }
 {
-    match records.read_byte_record(record) {
+    match records.read_byte_record(fields) {
         Ok(found) => Ok(found),
         Err(error) if error.is_io_error() => Err(TableFault::Read),
         Err(_) => Err(TableFault::Memory),
@@ -113,19 +113,19 @@ fn next_record<R: Read>(
 fn add_record(
     max: u32,
     number: u32,
-    record: &ByteRecord,
+    fields: &ByteRecord,
     table: &mut Table,
 ) -> Result<(), TableFault>
     requires { max ≤ most_entries }
-    ensures added { OnOk result (IsOkAnd (judged max number table.old (fields_of record.now))
+    ensures added { OnOk result (IsOkAnd (judged max number table.old (fields_of fields.now))
         (λ entry. table.new ≡ table.old ++ entry ∷ [])) }
     ensures len { OnOk result ((length table.new ≡ length table.old + 1) × (length table.new ≤ max)) }
-    ensures fault { IfErr result (λ cause. IsRefusal cause (judged max number table.old (fields_of record.now))) }
+    ensures fault { IfErr result (λ cause. IsRefusal cause (judged max number table.old (fields_of fields.now))) }
 {
     if table.len() >= max {
         return Err(TableFault::TooMany { number });
     }
-    let entry = entry_of(number, record)?;
+    let entry = entry_of(number, fields)?;
     add_entry(number, entry, table)
 }
 
@@ -144,30 +144,30 @@ fn add_entry(number: u32, entry: Entry, table: &mut Table) -> Result<(), TableFa
 }
 
 // The entry of a record's fields.
-fn entry_of(number: u32, record: &ByteRecord) -> Result<Entry, TableFault>
-    ensures { result ≡ entry_of_fields number (fields_of record.now) }
+fn entry_of(number: u32, fields: &ByteRecord) -> Result<Entry, TableFault>
+    ensures { result ≡ entry_of_fields number (fields_of fields.now) }
 {
-    let found = record.len();
+    let found = fields.len();
     if found != FIELDS {
         return Err(TableFault::FieldCount {
             number,
             found: found as u64,
         });
     }
-    let id = id_of(number, field(record, 0))?;
-    let min_x = coordinate_of(number, 2, field(record, 1))?;
-    let max_x = coordinate_of(number, 3, field(record, 2))?;
-    let min_y = coordinate_of(number, 4, field(record, 3))?;
-    let max_y = coordinate_of(number, 5, field(record, 4))?;
+    let id = id_of(number, field(fields, 0))?;
+    let min_x = coordinate_of(number, 2, field(fields, 1))?;
+    let max_x = coordinate_of(number, 3, field(fields, 2))?;
+    let min_y = coordinate_of(number, 4, field(fields, 3))?;
+    let max_y = coordinate_of(number, 5, field(fields, 4))?;
     entry_of_sides(number, id, min_x, max_x, min_y, max_y)
 }
 
 // The field at a place that is there.
-fn field(record: &ByteRecord, place: usize) -> &[u8]
-    requires { place < length (fields_of record.now) }
-    ensures { result.now ≡ field_text (fields_of record.now) place }
+fn field(fields: &ByteRecord, place: usize) -> &[u8]
+    requires { place < length (fields_of fields.now) }
+    ensures { result.now ≡ field_text (fields_of fields.now) place }
 {
-    record.get(place).unwrap()
+    fields.get(place).unwrap()
 }
 
 // The first field.

@@ -20,7 +20,7 @@ pub returns-then-not-branch-clause-table : goal.returns-then-not-branch-clause-t
 returns-then-not-branch-clause-table g c bytes h =
     let inv = c.loop-number.invariant in
     let read = rw c.if-not-branch.true at c.in_ok-next_record.ensures.reads in
-    read-end c.next_record.new.records (fields_of c.next_record.new.record) (inv.table bytes h) inv.config read
+    read-end c.next_record.new.records (fields_of c.next_record.new.fields) (inv.table bytes h) inv.config read
 
 pub loop-number-preserved-then-number-eq1 : goal.loop-number-preserved-then-number-eq1
 loop-number-preserved-then-number-eq1 g c =
@@ -33,7 +33,7 @@ loop-number-preserved-then-number-eq1 g c =
       flexible = c.in_ok-next_record.ensures.flexible;
       count = omega arith;
       most = inv.most;
-      table = λ bytes h. read-header c.next_record.new.records (fields_of c.next_record.new.record) (inv.table bytes h) inv.config read c.if-header.true c.if-number-eq1.true;
+      table = λ bytes h. read-header c.next_record.new.records (fields_of c.next_record.new.fields) (inv.table bytes h) inv.config read c.if-header.true c.if-number-eq1.true;
     }
 
 pub returns-in_err-add_record-clause-fault : goal.returns-in_err-add_record-clause-fault
@@ -42,7 +42,7 @@ returns-in_err-add_record-clause-fault g c =
     let read = rw c.if-not-branch.false at c.in_ok-next_record.ensures.reads in
     let judged = is_judged c.args.header c.loop-number.number c.else-header.either in
     let p = err_from_is_err_and c.from_residual-in_err-add_record.result c.from_residual-in_err-add_record.ensures.1 in
-    rw (p.1, p.2) (λ bytes h. read-refused c.next_record.new.records (fields_of c.next_record.new.record)
+    rw (p.1, p.2) (λ bytes h. read-refused c.next_record.new.records (fields_of c.next_record.new.fields)
     c.in_err-add_record.field-0.0 (inv.table bytes h) inv.config read judged c.in_err-add_record.ensures.fault)
 
 pub loop-number-preserved : goal.loop-number-preserved
@@ -57,6 +57,6 @@ loop-number-preserved g c =
       flexible = c.in_ok-next_record.ensures.flexible;
       count = omega (arith, c.in_ok-add_record.ensures.len.0);
       most = c.in_ok-add_record.ensures.len.1;
-      table = λ bytes h. read-entry c.next_record.new.records (fields_of c.next_record.new.record)
+      table = λ bytes h. read-entry c.next_record.new.records (fields_of c.next_record.new.fields)
           c.add_record.new.table (inv.table bytes h) inv.config read c.loop-number.auto.number judged c.in_ok-add_record.ensures.added;
     }
