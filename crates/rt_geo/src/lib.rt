@@ -4,7 +4,7 @@
 //! A query function is a [`Geometry`]. Its meaning is the set of boxes that it accepts and the score of
 //! each; its laws say how far what it answers about a node holds for every box inside. They are all that a
 //! search has to rest on to be right for each geometry: for one made of the shapes and ranks below, and for
-//! one of a user's own. There is no search yet.
+//! one of a user's own.
 //!
 //! - Boxes: [`Bounds`], [`Entry`], [`overlaps`], [`inside`], [`hull`].
 //! - Distances: [`Point`], [`near2`], [`far2`].

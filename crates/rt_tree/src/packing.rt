@@ -99,7 +99,7 @@ fn rank_y(bounds: Bounds) -> u64
 // Keys sort by rank, and then by place.
 fn sort_key(rank: u64, place: u64) -> u64
     requires small { rank < 2 ^ 33 }
-    requires room { place < 16777216 }
+    requires room { place < PLACES }
     ensures { result ≡ sort_key rank place }
 {
     rank * PLACES + place
@@ -142,6 +142,7 @@ fn slice_size(items: usize, fanout: u8) -> usize
     ((tiles - 1).isqrt() + 1) * fanout as usize
 }
 
+// The keys by x of the items, in their order.
 fn keys_by_x<T: Item>(alloc: Global, items: &[T]) -> Result<Vec<u64>, AllocError>
     requires { length items.now ≤ most_entries }
     ensures keys { IfOk result (λ v. v.items ≡ map (key_of T.rect twice_middle_x) (enumerate_from 0 items.now)) }

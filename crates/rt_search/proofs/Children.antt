@@ -1,0 +1,185 @@
+-- The children of a node, one at a time, and what may be asked about them.
+use Rattle.std.proofs.Common.{◌≡◌, ◌<◌, ◌≤◌, ◌+◌, ◌-◌, ◌^◌, ℕ, zero, suc, Bool, true, List, length}
+use Rattle.std.proofs.Common.{take, drop, get_or, refl, sym, ◌∙◌, ap, subst, arith}
+use Rattle.std.specs.List.{All}
+use Rattle.std.proofs.lemmas.List.{get_or-take, get_or-drop, get_or_default, length-take, length-drop, take_all}
+use Rattle.std.proofs.lemmas.List.Elements.{All-from_recursion}
+use Rattle.rt_geo.specs.Boxes.{Rect, IsRect, inside, plane}
+use Rattle.rt_geo.specs.Entries.{HasBox}
+use Rattle.rt_geo.specs.Laws.{Extent, IsHonest, IsQuestion}
+use Rattle.rt_geo.specs.declared.entry.Entry.{Entry}
+use Rattle.rt_geo.specs.declared.geometry.Info.{Info}
+use Rattle.rt_geo.specs.declared.geometry.Verdict.{Verdict}
+use Rattle.rt_tree.specs.Packed.{Packed, IsInnerNode, IsLeafNode, IsSound, IsSubtree, child_entries, child_nodes}
+use Rattle.rt_tree.specs.Packed.{extent_of_node, no_node, node_at}
+use Rattle.rt_tree.specs.declared.tree.Node.{Node}
+use Rattle.rt_search.specs.Joining.{info_of_child}
+use Rattle.rt_search.specs.Remaining.{IsBelow, height_at}
+use Rattle.rt_search.specs.Work.{info_of_node}
+use Rattle.rt_search.proofs.Answering.{IsEntryInside, inside_more}
+
+-- ---- a part of a list
+
+pub part_length : {X : Type 0} (xs : List X) (first count : ℕ) → first + count ≤ length xs
+    → length (take count (drop first xs)) ≡ count
+part_length xs first count h = simp (length-take, length-drop) (omega arith)
+
+pub part_at : {X : Type 0} (xs : List X) (first count i : ℕ) (d : X) → i < count
+    → get_or (take count (drop first xs)) i d ≡ get_or xs (first + i) d
+part_at xs first count i d h = get_or-take count (drop first xs) i d h ∙ get_or-drop first xs i d
+
+-- ---- an entry under a node of level 1
+
+pub record IsLeafAt (t : Packed) (n : Node) (i : ℕ) (e : Entry) : Type 0 where
+  pub place : i < length (child_entries t n)
+  pub is : e ≡ get_or (child_entries t n) i e
+  pub within : IsEntryInside (extent_of_node n) e
+  pub box : HasBox e
+
+pub leaf_at : (t : Packed) (n : Node) (i : ℕ) (e : Entry) → All HasBox t.entries → IsLeafNode t n → i < n.count
+    → get_or t.entries (n.first + i) e ≡ e → IsLeafAt t n i e
+leaf_at t n i e boxes s lt read =
+    let long = part_length t.entries n.first n.count s.range in
+    let range = s.range in
+    let here : i < length (child_entries t n) = omega (arith, long) in
+    let is : get_or (child_entries t n) i e ≡ e = part_at t.entries n.first n.count i e lt ∙ read in
+    let within = All-from_recursion (IsEntryInside (extent_of_node n)) (child_entries t n) s.within i e here in
+    let box = boxes (n.first + i) e (omega (arith, range, lt)) in
+    record {
+      place = here;
+      is = sym is;
+      within = subst (IsEntryInside (extent_of_node n)) is within;
+      box = subst HasBox read box;
+    }
+
+-- ---- a child of a higher node
+
+pub subtree_level : (t : Packed) (h : ℕ) (n : Node) → IsSubtree t h n → n.level ≡ suc h
+subtree_level t zero n s = s.level
+subtree_level t (suc h) n s = s.level
+
+subtree_valid : (t : Packed) (h : ℕ) (n : Node) → IsSubtree t h n → IsRect n.bounds
+subtree_valid t zero n s = s.valid
+subtree_valid t (suc h) n s = s.valid
+
+subtree_coordinates : (t : Packed) (h : ℕ) (n : Node) → IsSubtree t h n → inside n.bounds plane ≡ true
+subtree_coordinates t zero n s = s.coordinates
+subtree_coordinates t (suc h) n s = s.coordinates
+
+one_less : (h : ℕ) → suc h - 1 ≡ h
+one_less h = omega arith
+
+-- a node above level 1
+pub inner_at : (t : Packed) (h : ℕ) (n : Node) → IsSubtree t h n → 2 ≤ n.level → h ≡ suc (h - 1)
+    × IsInnerNode t (h - 1) (IsSubtree t (h - 1)) n
+inner_at t zero n s level = absurd (let e = s.level in omega (arith, e, level))
+inner_at t (suc h) n s level =
+    (ap suc (sym (one_less h)), subst (λ m. IsInnerNode t m (IsSubtree t m) n) (sym (one_less h)) s)
+
+-- a node of level 1
+pub leaf_node : (t : Packed) (h : ℕ) (n : Node) → IsSubtree t h n → n.level ≡ 1 → (h ≡ 0) × IsLeafNode t n
+leaf_node t zero n s e = (refl, s)
+leaf_node t (suc h) n s e = absurd (let l = s.level in omega (arith, l, e))
+
+-- the child whose number is k
+pub record IsChild (t : Packed) (n : Node) (h i k : ℕ) : Type 0 where
+  pub place : i < length (child_nodes t n)
+  pub number : k < length t.nodes
+  pub is : node_at t k ≡ get_or (child_nodes t n) i (node_at t k)
+  pub tree : IsSubtree t (height_at t k) (node_at t k)
+  pub within : inside (node_at t k).bounds n.bounds ≡ true
+  pub height : height_at t k ≡ h
+  pub level : 0 < (node_at t k).level
+  pub lower : (node_at t k).level < n.level
+  pub valid : IsRect (node_at t k).bounds
+
+child_at : (t : Packed) (n : Node) (h i : ℕ) → IsInnerNode t h (IsSubtree t h) n → i < n.count
+    → IsChild t n h i (n.first + i)
+child_at t n h i s lt =
+    let k = node_at t (n.first + i) in
+    let long = part_length t.nodes n.first n.count s.range in
+    let here : i < length (child_nodes t n) = omega (arith, long) in
+    let number : n.first + i < length t.nodes = (let r = s.range in omega (arith, r)) in
+    let is : get_or (child_nodes t n) i k ≡ k = part_at t.nodes n.first n.count i k lt
+    ∙ get_or_default t.nodes (n.first + i) k no_node number in
+    let tree : IsSubtree t h k =
+    subst (IsSubtree t h) is (All-from_recursion (IsSubtree t h) (child_nodes t n) s.below i k here) in
+    let within = All-from_recursion (λ m. inside m.bounds n.bounds ≡ true) (child_nodes t n) s.within i k here in
+    let level = subtree_level t h k tree in
+    let above = s.level in
+    let height : height_at t (n.first + i) ≡ h = omega (arith, level) in
+    record {
+      place = here;
+      number = number;
+      is = sym is;
+      tree = subst (λ m. IsSubtree t m k) (sym height) tree;
+      within = subst (λ m. inside m.bounds n.bounds ≡ true) is within;
+      height = height;
+      level = omega (arith, level);
+      lower = omega (arith, level, above);
+      valid = subtree_valid t h k tree;
+    }
+
+pub child_of : (t : Packed) (number i k : ℕ) → IsSubtree t (height_at t number) (node_at t number)
+    → 2 ≤ (node_at t number).level → i < (node_at t number).count → k ≡ (node_at t number).first + i
+    → IsChild t (node_at t number) (height_at t number - 1) i k
+child_of t number i k s level lt is =
+    let n = node_at t number in
+    let h = height_at t number - 1 in
+    subst (λ m. IsChild t n h i m) (sym is) (child_at t n h i (inner_at t (height_at t number) n s level).1 lt)
+
+-- all children of a node
+pub all_children : (t : Packed) (number : ℕ) → IsSubtree t (height_at t number) (node_at t number)
+    → 2 ≤ (node_at t number).level → (i : ℕ) → (node_at t number).count ≤ i
+    → take i (child_nodes t (node_at t number)) ≡ child_nodes t (node_at t number)
+all_children t number s level i le =
+    let n = node_at t number in
+    let inner = (inner_at t (height_at t number) n s level).1 in
+    let long = part_length t.nodes n.first n.count inner.range in
+    take_all i (child_nodes t n) (omega (arith, long))
+
+pub height_suc : (t : Packed) (number : ℕ) → IsSubtree t (height_at t number) (node_at t number)
+    → 2 ≤ (node_at t number).level → height_at t number ≡ suc (height_at t number - 1)
+height_suc t number s level = (inner_at t (height_at t number) (node_at t number) s level).0
+
+-- ---- what may be asked
+
+pub honest_child : (accepts : Extent → Bool) (score : Extent → ℕ) (bounds : Rect) (info : Info) (v : Verdict)
+    → IsBelow accepts score (record { bounds = bounds }) v → info.parent_within ≡ v.within → inside info.bounds bounds
+    ≡ true → IsHonest accepts info
+honest_child accepts score bounds info v below told within = λ full b h.
+    below.full (sym told ∙ full) b (inside_more info.bounds (record { bounds = bounds }) b within h)
+
+module _ (accepts : Extent → Bool) (score : Extent → ℕ) (t : Packed) (sound : IsSound t) (v : Verdict)
+    (small : v.score < 2 ^ 128) where
+  pub entry_question : (n : Node) (e : Entry) (i : ℕ) → IsBelow accepts score (extent_of_node n) v → IsLeafAt t n i e
+      → IsQuestion accepts (info_of_child t v e)
+  entry_question n e i below at =
+      let top = sound.few_levels in
+      record {
+        well_formed = record {
+          box = at.box.box;
+          coordinates = at.box.coordinates;
+          level = omega arith;
+          top =
+              omega (arith, top);
+          parent_score = small;
+        };
+        honest = honest_child accepts score n.bounds (info_of_child t v e) v below refl at.within.inside;
+      }
+
+  pub node_question : (n : Node) (h i k : ℕ) → n.level ≤ 24 → IsBelow accepts score (extent_of_node n) v
+      → IsChild t n h i k → IsQuestion accepts (info_of_node t v (node_at t k))
+  node_question n h i k low below at =
+      let top = sound.few_levels in
+      let lower = at.lower in
+      record {
+        well_formed = record {
+          box = at.valid;
+          coordinates = subtree_coordinates t (height_at t k) (node_at t k) at.tree;
+          level = omega (arith, lower, low);
+          top = omega (arith, top);
+          parent_score = small;
+        };
+        honest = honest_child accepts score n.bounds (info_of_node t v (node_at t k)) v below refl at.within;
+      }

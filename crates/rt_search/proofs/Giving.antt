@@ -1,0 +1,209 @@
+-- A search gives its answers one after the other, up to its limit.
+use Rattle.std.proofs.Common.{◌≡◌, ◌≢◌, ◌<◌, ◌≤◌, ◌+◌, ◌-◌, ℕ, zero, suc, Bool, true, false, List, [], ◌∷◌, length}
+use Rattle.std.proofs.Common.{take, drop, Option, Some, None, refl, sym, ◌∙◌, ap, subst, arith, add-one}
+use Rattle.std.specs.Prelude.{slice_get}
+use Rattle.std.specs.Option.{option_map}
+use Rattle.std.proofs.lemmas.List.{length-drop}
+use Rattle.rt_geo.specs.Laws.{Extent, extent_of_entry}
+use Rattle.rt_geo.specs.declared.entry.Entry.{Entry}
+use Rattle.rt_geo.specs.declared.geometry.Info.{Info}
+use Rattle.rt_geo.specs.declared.geometry.Verdict.{Verdict}
+use Rattle.rt_tree.specs.Packed.{Packed}
+use Rattle.rt_tree.specs.Sorting.{limited, sorted}
+use Rattle.rt_tree.specs.declared.tree.Node.{Node}
+use Rattle.rt_search.specs.Answers.{Answer, answer_cmp, answers, scored}
+use Rattle.rt_search.specs.Progress.{IsGiving, IsInLimit, IsSearching}
+use Rattle.rt_search.specs.Remaining.{remaining}
+use Rattle.rt_search.specs.Work.{HasWorked, is_reached, its_children, one_node, search_work, work}
+use Rattle.rt_search.specs.declared.item.Item.{Item}
+use Rattle.rt_search.proofs.Answering.{among_accepted, among_refused}
+use Rattle.rt_search.proofs.OrderedLists.{length-put_all, put_all-nil}
+use Rattle.rt_search.proofs.Orders.{answer_order}
+
+-- ---- lists that are given one by one
+
+drop_step : {X : Type 0} (xs : List X) (g : ℕ) (x : X) (rest : List X) → drop g xs ≡ x ∷ rest
+    → (slice_get xs g ≡ Some x) × (drop (suc g) xs ≡ rest)
+drop_step [] zero x rest h = cc
+drop_step [] (suc g) x rest h = cc
+drop_step (y ∷ xs) zero x rest h = (cc, cc)
+drop_step (y ∷ xs) (suc g) x rest h = drop_step xs g x rest h
+
+take_step : {X : Type 0} (k g : ℕ) (xs : List X) (x : X) (rest : List X) → g < k → drop g xs ≡ x ∷ rest
+    → drop g (take k xs) ≡ x ∷ drop (suc g) (take k xs)
+take_step zero g xs x rest lt h = absurd (omega (arith, lt))
+take_step (suc k) zero [] x rest lt h = cc
+take_step (suc k) zero (y ∷ xs) x rest lt h = cc
+take_step (suc k) (suc g) [] x rest lt h = cc
+take_step (suc k) (suc g) (y ∷ xs) x rest lt h = take_step k g xs x rest (omega (arith, lt)) h
+
+drop_nil : {X : Type 0} (g : ℕ) → ◌≡◌ {A = List X} (drop g []) []
+drop_nil zero = refl
+drop_nil (suc g) = refl
+
+take_end : {X : Type 0} (k g : ℕ) (xs : List X) → drop g xs ≡ [] → drop g (take k xs) ≡ []
+take_end zero g xs h = drop_nil g
+take_end (suc k) zero [] h = refl
+take_end (suc k) zero (y ∷ xs) h = cc
+take_end (suc k) (suc g) [] h = refl
+take_end (suc k) (suc g) (y ∷ xs) h = take_end k g xs h
+
+take_all_given : {X : Type 0} (g : ℕ) (xs : List X) → drop g (take g xs) ≡ []
+take_all_given zero xs = refl
+take_all_given (suc g) [] = refl
+take_all_given (suc g) (y ∷ xs) = take_all_given g xs
+
+past_end : {X : Type 0} (xs : List X) (g k : ℕ) → drop g xs ≡ [] → g ≤ k → slice_get xs k ≡ None
+past_end [] g k h le = refl
+past_end (y ∷ xs) zero k h le = cc
+past_end (y ∷ xs) (suc g) zero h le = absurd (omega (arith, le))
+past_end (y ∷ xs) (suc g) (suc k) h le = past_end xs g k h (omega (arith, le))
+
+below_limit : (k g : ℕ) → g ≤ k → Some k ≢ Some g → g < k
+below_limit k g le n =
+    let d : k ≢ g = λ e. n (ap Some e) in
+    omega (arith, le, d)
+
+limited_step : {X : Type 0} (limit : Option ℕ) (g : ℕ) (xs : List X) (x : X) (rest : List X) → IsInLimit limit g
+    → limit ≢ Some g → drop g xs ≡ x ∷ rest → drop g (limited limit xs) ≡ x ∷ drop (suc g) (limited limit xs)
+limited_step None g xs x rest le n h = h ∙ ap (λ l. x ∷ l) (sym (drop_step xs g x rest h).1)
+limited_step (Some k) g xs x rest le n h = take_step k g xs x rest (below_limit k g le n) h
+
+limited_end : {X : Type 0} (limit : Option ℕ) (g : ℕ) (xs : List X) → drop g xs ≡ [] → drop g (limited limit xs) ≡ []
+limited_end None g xs h = h
+limited_end (Some k) g xs h = take_end k g xs h
+
+limited_given : {X : Type 0} (limit : Option ℕ) (g : ℕ) (xs : List X) → limit ≡ Some g → drop g (limited limit xs) ≡ []
+limited_given limit g xs h = rw h (take_all_given g xs)
+
+next_in_limit : (limit : Option ℕ) (g : ℕ) → IsInLimit limit g → limit ≢ Some g → IsInLimit limit (suc g)
+next_in_limit None g le n = tt
+next_in_limit (Some k) g le n = let lt = below_limit k g le n in omega (arith, lt)
+
+one_less : (g : ℕ) → suc g - 1 ≡ g
+one_less g = omega arith
+
+module _ (accepts : Extent → Bool) (score : Extent → ℕ) where
+  pub length-scored : (es : List Entry) → length (scored es accepts score) ≤ length es
+  length-scored [] = omega arith
+  length-scored (e ∷ es) =
+      let rest = length-scored es in
+      let split : (b : Bool) → accepts (extent_of_entry e) ≡ b
+      → length (scored (e ∷ es) accepts score) ≤ length (e ∷ es) = elim [
+        | true ↦ λ h. (let l = ap length (among_accepted accepts score e es h) in omega (arith, l, rest))
+        | false ↦ λ h. (let l = ap length (among_refused accepts score e es h) in omega (arith, l, rest))
+      ] in
+      split (accepts (extent_of_entry e)) refl
+
+module _ (accepts : Extent → Bool) (score : Extent → ℕ) (verdict : Info → Verdict) (t : Packed) where
+  abbrev all : List Answer
+  all = answers t.entries accepts score None
+
+  -- ---- how many answers there are
+
+  length-all : length all ≤ length t.entries
+  length-all =
+      let long = ap length (put_all-nil answer_cmp answer_order (scored t.entries accepts score)) in
+      let same = length-put_all answer_cmp answer_order (scored t.entries accepts score) [] in
+      omega (arith, long, same, length-scored accepts score t.entries)
+
+  -- ---- the work after so many answers
+
+  work_after : (cost : Node → ℕ) (g : ℕ) (a : Answer) (rest : List Answer) → drop g all ≡ a ∷ rest
+      → work (is_reached (Some a.1)) cost verdict t ≡ search_work cost accepts score verdict t (Some (suc g))
+  work_after cost g a rest h =
+      let there : slice_get all (suc g - 1) ≡ Some a = ap (slice_get all) (one_less g) ∙ (drop_step all g a rest h).0 in
+      ap (λ o. work (is_reached (option_map (λ (b : Answer). b.1) o)) cost verdict t) (sym there)
+
+  work_in_all : (cost : Node → ℕ) (limit : Option ℕ) (g : ℕ) → IsInLimit limit g → limit ≢ Some g → drop g all ≡ []
+      → work (is_reached None) cost verdict t ≡ search_work cost accepts score verdict t limit
+  work_in_all cost None g le n h = refl
+  work_in_all cost (Some zero) g le n h = absurd (let lt = below_limit zero g le n in omega (arith, lt))
+  work_in_all cost (Some (suc k)) g le n h =
+      let lt = below_limit (suc k) g le n in
+      let none : slice_get all (suc k - 1) ≡ None =
+      ap (slice_get all) (one_less k) ∙ past_end all g k h (omega (arith, lt)) in
+      ap (λ o. work (is_reached (option_map (λ (b : Answer). b.1) o)) cost verdict t) (sym none)
+
+  -- ---- the steps
+
+  -- an answer is given
+  pub record IsGiven (limit : Option ℕ) (given opened asked capacity : ℕ) (a : Answer) (items : List Item) : Type 0
+    where
+      pub going : IsGiving accepts score verdict t limit (given + 1) opened asked capacity items
+      pub answer : drop given (answers t.entries accepts score limit)
+          ≡ a ∷ drop (given + 1) (answers t.entries accepts score limit)
+      pub worked : HasWorked accepts score verdict t (Some (given + 1)) opened asked
+
+  abbrev IsGivenAs : (limit : Option ℕ) (given next opened asked capacity : ℕ) (a : Answer) (items : List Item) → Type 0
+  IsGivenAs limit given next opened asked capacity a items =
+      IsGiving accepts score verdict t limit next opened asked capacity items
+      × ((drop given (answers t.entries accepts score limit) ≡ a ∷ drop next (answers t.entries accepts score limit))
+      × HasWorked accepts score verdict t (Some next) opened asked)
+
+  pub give : (limit : Option ℕ) (given opened asked capacity opened' asked' capacity' : ℕ) (a : Answer)
+      (items new : List Item)
+      → IsGiving accepts score verdict t limit given opened asked capacity items → limit ≢ Some given
+      → remaining t accepts score items ≡ a ∷ remaining t accepts score new
+      → IsSearching accepts score verdict t opened' asked' capacity' new
+      → opened' ≡ work (is_reached (Some a.1)) one_node verdict t → asked'
+      ≡ work (is_reached (Some a.1)) its_children verdict t
+      → IsGiven limit given opened' asked' capacity' a new
+  give limit given opened asked capacity opened' asked' capacity' a items new going more next state in_nodes in_checks =
+      let there : drop given all ≡ a ∷ remaining t accepts score new = sym going.follows ∙ next in
+      let worked : HasWorked accepts score verdict t (Some (suc given)) opened' asked' = record {
+        in_nodes = in_nodes ∙ work_after one_node given a (remaining t accepts score new) there;
+        in_checks = in_checks ∙ work_after its_children given a (remaining t accepts score new) there;
+      } in
+      let whole : IsGivenAs limit given (suc given) opened' asked' capacity' a new = (
+        record {
+          state = state;
+          follows = sym (drop_step all given a (remaining t accepts score new) there).1;
+          in_limit = next_in_limit limit given going.in_limit more;
+          stopped = λ e. subst (λ l. HasWorked accepts score verdict t l opened' asked') (sym e) worked;
+        },
+        (limited_step limit given all a (remaining t accepts score new) going.in_limit more there, worked),
+      ) in
+      let moved = subst (λ m. IsGivenAs limit given m opened' asked' capacity' a new) (sym (add-one given)) whole in
+      record { going = moved.0; answer = moved.1.0; worked = moved.1.1 }
+
+  -- the numbers stay small
+  pub given_low : (limit : Option ℕ) (given opened asked capacity : ℕ) (a : Answer) (rest : List Answer)
+      (items : List Item) → IsGiving accepts score verdict t limit given opened asked capacity items
+      → remaining t accepts score items ≡ a ∷ rest → given + 1 ≤ 16777216
+  given_low limit given opened asked capacity a rest items going next =
+      let there : drop given all ≡ a ∷ rest = sym going.follows ∙ next in
+      let long = ap length there in
+      let cut = length-drop given all in
+      let few = going.state.tree.table.few in
+      omega (arith, long, cut, few, length-all)
+
+  -- no answer is left
+  pub record IsOver (limit : Option ℕ) (given opened asked capacity : ℕ) (items : List Item) : Type 0 where
+    pub going : IsGiving accepts score verdict t limit given opened asked capacity items
+    pub answer : drop given (answers t.entries accepts score limit) ≡ []
+    pub worked : HasWorked accepts score verdict t limit opened asked
+
+  pub over : (limit : Option ℕ) (given opened asked capacity opened' asked' capacity' : ℕ) (items new : List Item)
+      → IsGiving accepts score verdict t limit given opened asked capacity items → limit ≢ Some given
+      → remaining t accepts score items ≡ [] → remaining t accepts score new ≡ []
+      → IsSearching accepts score verdict t opened' asked' capacity' new
+      → opened' ≡ work (is_reached None) one_node verdict t → asked' ≡ work (is_reached None) its_children verdict t
+      → IsOver limit given opened' asked' capacity' new
+  over limit given opened asked capacity opened' asked' capacity' items new going more none none' state in_nodes
+      in_checks =
+      let there : drop given all ≡ [] = sym going.follows ∙ none in
+      let worked : HasWorked accepts score verdict t limit opened' asked' = record {
+        in_nodes = in_nodes ∙ work_in_all one_node limit given going.in_limit more there;
+        in_checks = in_checks ∙ work_in_all its_children limit given going.in_limit more there;
+      } in
+      record {
+        going = record { state = state; follows = none' ∙ sym there; in_limit = going.in_limit; stopped = λ e. worked };
+        answer = limited_end limit given all there;
+        worked = worked;
+      }
+
+  -- as many were given as are wanted
+  pub at_limit : (limit : Option ℕ) (given : ℕ) → limit ≡ Some given
+      → drop given (answers t.entries accepts score limit) ≡ []
+  at_limit limit given e = limited_given limit given (sorted answer_cmp (scored t.entries accepts score)) e

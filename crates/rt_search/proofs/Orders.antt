@@ -1,0 +1,111 @@
+-- The orders of answers and of items: total, and they tell all apart.
+use Rattle.std.proofs.Common.{◌≡◌, ℕ, ℤ, Bool, true, false, Ordering, Less, Equal, Greater, refl, ◌∙◌, ap}
+use Rattle.std.specs.Cmp.{IsTotalOrder, bool_cmp_total}
+use Rattle.std.specs.Ordering.{bool_cmp, int_cmp, nat_cmp, ordering_reverse, ordering_then}
+use Rattle.std.proofs.lemmas.Cmp.{int_cmp_total, nat_cmp_total, on_total, then_total}
+use Rattle.std.proofs.lemmas.Map.Lookups.{CmpEqualImpliesEq, exact_signed, exact_unsigned}
+use Rattle.rt_search.specs.Answers.{Answer, answer_cmp}
+use Rattle.rt_search.specs.Items.{item_cmp, node_cmp, place_cmp}
+use Rattle.rt_search.specs.Joining.{item_at}
+use Rattle.rt_search.specs.contracts.item.ItemOrd.TheImpl.{ghosts}
+use Rattle.rt_search.specs.declared.item.Item.{Item}
+use Rattle.rt_search.specs.declared.item.Place.{Place}
+use Rattle.rt_search.specs.declared.item.Place.TheVariants.{Node, Entry}
+use Rattle.rt_search.specs.declared.item.WaitingNode.{WaitingNode}
+use Rattle.rt_search.proofs.OrderedLists.{IsOrder, order_of}
+
+then_equal : (o p : Ordering) → ordering_then o p ≡ Equal → (o ≡ Equal) × (p ≡ Equal)
+then_equal Less p h = cc
+then_equal Equal p h = (refl, h)
+then_equal Greater p h = cc
+
+exact_bool : CmpEqualImpliesEq bool_cmp
+exact_bool false false h = refl
+exact_bool false true h = cc
+exact_bool true false h = cc
+exact_bool true true h = refl
+
+-- ---- answers
+
+answer_total : IsTotalOrder answer_cmp
+answer_total = then_total (on_total (λ (a : Answer). a.1) nat_cmp_total) (on_total (λ (a : Answer). a.0) int_cmp_total)
+
+abbrev answer_at : ℤ → ℕ → Answer
+answer_at id score = (id, score)
+
+answer_exact : CmpEqualImpliesEq answer_cmp
+answer_exact a b h =
+    let both = then_equal (nat_cmp a.1 b.1) (int_cmp a.0 b.0) h in
+    ap (λ (id : ℤ). answer_at id a.1) (exact_signed a.0 b.0 both.1) ∙ ap (answer_at b.0) (exact_unsigned a.1 b.1 both.0)
+
+pub answer_order : IsOrder answer_cmp
+answer_order = order_of answer_cmp answer_total answer_exact
+
+-- ---- items
+
+node_total : IsTotalOrder node_cmp
+node_total = then_total (on_total (λ (n : WaitingNode). n.number.number) nat_cmp_total)
+    (on_total (λ (n : WaitingNode). n.is_full) bool_cmp_total)
+
+abbrev node_of : ℕ → Bool → WaitingNode
+node_of number is_full = record { number = record { number = number }; is_full = is_full }
+
+node_exact : CmpEqualImpliesEq node_cmp
+node_exact m n h =
+    let both = then_equal (nat_cmp m.number.number n.number.number) (bool_cmp m.is_full n.is_full) h in
+    ap (λ (k : ℕ). node_of k m.is_full) (exact_unsigned m.number.number n.number.number both.0)
+    ∙ ap (node_of n.number.number) (exact_bool m.is_full n.is_full both.1)
+
+place_antisymm : (p q : Place) → place_cmp p q ≡ ordering_reverse (place_cmp q p)
+place_antisymm (Node m) (Node n) = node_total.antisymm m n
+place_antisymm (Node m) (Entry j) = refl
+place_antisymm (Entry i) (Node n) = refl
+place_antisymm (Entry i) (Entry j) = int_cmp_total.antisymm i j
+
+place_trans : (p q r : Place) → place_cmp p q ≡ Less → place_cmp q r ≡ Less → place_cmp p r ≡ Less
+place_trans (Node m) (Node n) (Node k) = node_total.trans m n k
+place_trans (Node m) (Node n) (Entry k) = λ h l. refl
+place_trans (Node m) (Entry j) (Node k) = λ h l. cc
+place_trans (Node m) (Entry j) (Entry k) = λ h l. refl
+place_trans (Entry i) (Node n) r = λ h l. cc
+place_trans (Entry i) (Entry j) (Node k) = λ h l. cc
+place_trans (Entry i) (Entry j) (Entry k) = int_cmp_total.trans i j k
+
+place_congr : (p q r : Place) → place_cmp p q ≡ Equal → place_cmp p r ≡ place_cmp q r
+place_congr (Node m) (Node n) (Node k) = node_total.congr m n k
+place_congr (Node m) (Node n) (Entry k) = λ h. refl
+place_congr (Node m) (Entry j) r = λ h. cc
+place_congr (Entry i) (Node n) r = λ h. cc
+place_congr (Entry i) (Entry j) (Node k) = λ h. refl
+place_congr (Entry i) (Entry j) (Entry k) = int_cmp_total.congr i j k
+
+place_total : IsTotalOrder place_cmp
+place_total = record { antisymm = place_antisymm; trans = place_trans; congr = place_congr }
+
+place_exact : CmpEqualImpliesEq place_cmp
+place_exact (Node m) (Node n) h = ap Node (node_exact m n h)
+place_exact (Node m) (Entry j) h = cc
+place_exact (Entry i) (Node n) h = cc
+place_exact (Entry i) (Entry j) h = ap Entry (exact_signed i j h)
+
+item_total : IsTotalOrder item_cmp
+item_total = then_total (on_total (λ (x : Item). x.score) nat_cmp_total) (on_total (λ (x : Item). x.place) place_total)
+
+item_exact : CmpEqualImpliesEq item_cmp
+item_exact x y h =
+    let both = then_equal (nat_cmp x.score y.score) (place_cmp x.place y.place) h in
+    ap (λ (s : ℕ). item_at s x.place) (exact_unsigned x.score y.score both.0)
+    ∙ ap (item_at y.score) (place_exact x.place y.place both.1)
+
+pub item_order : IsOrder item_cmp
+item_order = order_of item_cmp item_total item_exact
+
+-- the derived order of items is this one
+derived_at : (s r : ℕ) (p q : Place) → ghosts.cmp (item_at s p) (item_at r q) ≡ item_cmp (item_at s p) (item_at r q)
+derived_at s r (Node m) (Node n) = refl
+derived_at s r (Node m) (Entry j) = refl
+derived_at s r (Entry i) (Node n) = refl
+derived_at s r (Entry i) (Entry j) = refl
+
+pub derived : (x y : Item) → ghosts.cmp x y ≡ item_cmp x y
+derived x y = derived_at x.score y.score x.place y.place

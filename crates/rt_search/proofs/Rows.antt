@@ -1,0 +1,102 @@
+-- Answers that were worked out by hand: the definitions give them by computing.
+use Rattle.std.proofs.Common.{◌≡◌, refl, ℕ, ℤ, pos, negsuc, zero, suc, Option, List, [], ◌∷◌, Some, None, length}
+use Rattle.rt_geo.specs.Boxes.{Rect, rect_of}
+use Rattle.rt_geo.specs.Examples.Uneven.{uneven_accepts, uneven_score, uneven_verdict}
+use Rattle.rt_geo.specs.Laws.{guided_verdict}
+use Rattle.rt_geo.specs.Ranks.{by_id_estimate, by_id_score, near_estimate, near_score}
+use Rattle.rt_geo.specs.Shapes.{all_accepts, all_state, window_accepts, window_state}
+use Rattle.rt_geo.specs.declared.distance.Point.{Point}
+use Rattle.rt_geo.specs.declared.entry.Entry.{Entry}
+use Rattle.rt_tree.specs.Packed.{Packed}
+use Rattle.rt_tree.specs.Packing.{pack_of}
+use Rattle.rt_search.specs.Answers.{accepted, answers}
+use Rattle.rt_search.specs.Work.{asked_by_count, asked_by_search, opened_by_count, opened_by_search}
+
+-- ---- the tree over five boxes, two children for each node
+
+-- negative numbers by their absolute value
+abbrev minus : ℕ → ℤ
+minus zero = pos 0
+minus (suc n) = negsuc n
+
+abbrev entry : ℕ → Rect → Entry
+entry id bounds = record { id = pos id; bounds = bounds }
+
+abbrev five_boxes : List Entry
+five_boxes =
+    entry 1 (rect_of (pos 0) (pos 10) (pos 0) (pos 10))
+    ∷ entry 2 (rect_of (pos 5) (pos 15) (pos 5) (pos 15))
+    ∷ entry 3 (rect_of (pos 20) (pos 30) (pos 0) (pos 10))
+    ∷ entry 4 (rect_of (minus 5) (minus 1) (minus 5) (minus 1))
+    ∷ entry 5 (rect_of (pos 12) (pos 12) (pos 12) (pos 12)) ∷ []
+
+abbrev tree : Packed
+tree = pack_of 2 five_boxes
+
+-- ---- all, near a point
+
+abbrev point : Point
+point = record { x = pos 12; y = pos 12 }
+
+three_nearest : answers tree.entries all_accepts (near_score point) (Some 3)
+    ≡ (pos 2, 0) ∷ (pos 5, 0) ∷ (pos 1, 8) ∷ []
+three_nearest = refl
+
+abbrev opened_near : (limit : Option ℕ) → ℕ
+opened_near = opened_by_search all_accepts (near_score point) (guided_verdict all_state (near_estimate point)) tree
+
+opened_for_three : opened_near (Some 3) ≡ 5
+opened_for_three = refl
+
+asked_for_three : asked_by_search all_accepts (near_score point) (guided_verdict all_state (near_estimate point)) tree
+    (Some 3) ≡ 9
+asked_for_three = refl
+
+opened_for_two : opened_near (Some 2) ≡ 3
+opened_for_two = refl
+
+opened_for_none : opened_near (Some 0) ≡ 0
+opened_for_none = refl
+
+-- ---- all, by id
+
+all_by_id : answers tree.entries all_accepts by_id_score None
+    ≡ (pos 1, 0) ∷ (pos 2, 0) ∷ (pos 3, 0) ∷ (pos 4, 0) ∷ (pos 5, 0) ∷ []
+all_by_id = refl
+
+opened_by_id : opened_by_search all_accepts by_id_score (guided_verdict all_state by_id_estimate) tree None ≡ 6
+opened_by_id = refl
+
+-- ---- a geometry that scores a node above its children
+
+uneven_answers : answers tree.entries uneven_accepts uneven_score (Some 2) ≡ (pos 1, 10) ∷ (pos 2, 10) ∷ []
+uneven_answers = refl
+
+uneven_opened : opened_by_search uneven_accepts uneven_score uneven_verdict tree (Some 1) ≡ 6
+uneven_opened = refl
+
+-- ---- counts
+
+abbrev window : Rect
+window = rect_of (pos 0) (pos 10) (pos 0) (pos 10)
+
+two_in_window : length (accepted tree.entries (window_accepts window)) ≡ 2
+two_in_window = refl
+
+opened_for_window : opened_by_count (guided_verdict (window_state window) by_id_estimate) tree ≡ 5
+opened_for_window = refl
+
+opened_for_all : opened_by_count (guided_verdict all_state by_id_estimate) tree ≡ 1
+opened_for_all = refl
+
+asked_for_all : asked_by_count (guided_verdict all_state by_id_estimate) tree ≡ 2
+asked_for_all = refl
+
+-- ---- an empty tree
+
+nothing_opened : opened_by_search all_accepts by_id_score (guided_verdict all_state by_id_estimate) (pack_of 2 [])
+    None ≡ 0
+nothing_opened = refl
+
+nothing_counted : opened_by_count (guided_verdict all_state by_id_estimate) (pack_of 2 []) ≡ 0
+nothing_counted = refl

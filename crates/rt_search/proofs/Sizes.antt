@@ -1,0 +1,171 @@
+-- How large the numbers of a search and of a count are.
+use Rattle.std.proofs.Common.{◌≡◌, ◌<◌, ◌≤◌, ◌+◌, ◌*◌, ◌^◌, ℕ, zero, suc, Bool, true, false, cond, ◌==◌, List, []}
+use Rattle.std.proofs.Common.{◌∷◌, length, refl, ◌∙◌, ap, arith, length-append}
+use Rattle.std.specs.List.{AllByRecursion, flat_map, sum_by}
+use Rattle.std.proofs.lemmas.Bool.Decides.{nat_tests}
+use Rattle.std.proofs.lemmas.List.Sorted.{length_permutation}
+use Rattle.std.proofs.lemmas.List.Sums.{sum_by-cons}
+use Rattle.std.proofs.lemmas.Nat.{mul-le}
+use Rattle.rt_geo.specs.Laws.{Extent}
+use Rattle.rt_geo.specs.declared.geometry.Info.{Info}
+use Rattle.rt_geo.specs.declared.geometry.Verdict.{Verdict}
+use Rattle.rt_tree.specs.Packed.{Packed, IsSound, IsSubtree, child_nodes, entries_under, height, node_at}
+use Rattle.rt_tree.specs.Packed.{root_of}
+use Rattle.rt_tree.specs.declared.tree.Node.{Node}
+use Rattle.rt_search.specs.Joining.{item_at}
+use Rattle.rt_search.specs.Progress.{held, size_at, work_at, work_left}
+use Rattle.rt_search.specs.Remaining.{AllSound, IsSoundAt, height_at, verdict_on}
+use Rattle.rt_search.specs.Work.{info_of_node, its_children, one_node, root_verdict, work, work_from}
+use Rattle.rt_search.specs.declared.item.Item.{Item}
+use Rattle.rt_search.specs.declared.item.Place.{Place}
+use Rattle.rt_search.specs.declared.item.Place.TheVariants as place
+use Rattle.rt_search.specs.declared.item.WaitingNode.{WaitingNode}
+use Rattle.rt_search.proofs.Children.{part_length}
+
+cond_le : (b : Bool) (m n : ℕ) → m ≤ n → cond b m 0 ≤ n
+cond_le true m n h = h
+cond_le false m n h = omega arith
+
+-- ---- sizes
+
+positive_sum : (ks : List Node) → AllByRecursion (λ k. 0 < k.size) ks → length ks ≤ sum_by (λ k. k.size) ks
+positive_sum [] a = omega arith
+positive_sum (k ∷ ks) a = omega (arith, sum_by-cons (λ (k : Node). k.size) k ks, positive_sum ks a.1, a.0)
+
+all_positive : (t : Packed) (h : ℕ) → ((k : Node) → IsSubtree t h k → (0 < k.size) × (k.count ≤ k.size))
+    → (ks : List Node) → AllByRecursion (IsSubtree t h) ks → AllByRecursion (λ k. 0 < k.size) ks
+all_positive t h f [] a = tt
+all_positive t h f (k ∷ ks) a = ((f k a.0).0, all_positive t h f ks a.1)
+
+-- a node has an entry under it, and no fewer than it has children
+pub size_counts : (t : Packed) (h : ℕ) (n : Node) → IsSubtree t h n → (0 < n.size) × (n.count ≤ n.size)
+size_counts t zero n s = let e = s.size in let p = s.some in (omega (arith, e, p), omega (arith, e, p))
+size_counts t (suc h) n s =
+    let e = s.size in
+    let p = s.some in
+    let long = part_length t.nodes n.first n.count s.range in
+    let sum = positive_sum (child_nodes t n) (all_positive t h (λ k. size_counts t h k) (child_nodes t n) s.below) in
+    (omega (arith, e, p, long, sum), omega (arith, e, p, long, sum))
+
+sizes_under : (t : Packed) (h : ℕ) → ((k : Node) → IsSubtree t h k → k.size ≡ length (entries_under t h k))
+    → (ks : List Node) → AllByRecursion (IsSubtree t h) ks → sum_by (λ k. k.size) ks
+    ≡ length (flat_map (entries_under t h) ks)
+sizes_under t h f [] a = refl
+sizes_under t h f (k ∷ ks) a =
+    omega (
+      arith,
+      sum_by-cons (λ (k : Node). k.size) k ks,
+      f k a.0,
+      sizes_under t h f ks a.1,
+      length-append
+          (entries_under t h k) (flat_map (entries_under t h) ks),
+    )
+
+-- a node's size is the number of entries under it
+pub size_under : (t : Packed) (h : ℕ) (n : Node) → IsSubtree t h n → n.size ≡ length (entries_under t h n)
+size_under t zero n s = let e = s.size in let long = part_length t.entries n.first n.count s.range in
+    omega (arith, e, long)
+size_under t (suc h) n s = s.size ∙ sizes_under t h (λ k. size_under t h k) (child_nodes t n) s.below
+
+-- ---- work
+
+-- a node costs no more than its size
+abbrev IsFair : Packed → (cost : Node → ℕ) → Type 0
+IsFair t cost = (h : ℕ) (n : Node) → IsSubtree t h n → cost n ≤ n.size
+
+pub one_is_fair : (t : Packed) → IsFair t one_node
+one_is_fair t h n s = let p = (size_counts t h n s).0 in omega (arith, p)
+
+pub count_is_fair : (t : Packed) → IsFair t its_children
+count_is_fair t h n s = (size_counts t h n s).1
+
+module _ (opens : Verdict → Bool) (cost : Node → ℕ) (verdict : Info → Verdict) (t : Packed) (fair : IsFair t cost) where
+  each_le : (h : ℕ) → ((k : Node) (v : Verdict) → IsSubtree t h k
+      → work_from opens cost verdict t h v k ≤ (h + 1) * k.size) → (v : Verdict) (ks : List Node)
+      → AllByRecursion (IsSubtree t h) ks
+      → sum_by (λ k. let w = verdict (info_of_node t v k) in cond (opens w) (work_from opens cost verdict t h w k) 0)
+      ks ≤ (h + 1) * sum_by (λ k. k.size) ks
+  each_le h f v [] a = omega arith
+  each_le h f v (k ∷ ks) a =
+      let w = verdict (info_of_node t v k) in
+      let here = cond_le (opens w) (work_from opens cost verdict t h w k) ((h + 1) * k.size) (f k w a.0) in
+      let more = sum_by-cons
+      (λ (k : Node). let w = verdict (info_of_node t v k) in
+      cond (opens w) (work_from opens cost verdict t h w k) 0) k ks in
+      let sizes = ap (λ n. (h + 1) * n) (sum_by-cons (λ (k : Node). k.size) k ks) in
+      omega (arith, here, more, sizes, each_le h f v ks a.1)
+
+  work_from_le : (h : ℕ) (n : Node) (v : Verdict) → IsSubtree t h n
+      → work_from opens cost verdict t h v n ≤ (h + 1) * n.size
+  work_from_le zero n v sub = omega (arith, fair zero n sub)
+  work_from_le (suc h) n v sub =
+      let sizes = ap (λ m. (h + 1) * m) sub.size in
+      omega (arith, fair (suc h) n sub, each_le h (λ k w. work_from_le h k w) v (child_nodes t n) sub.below, sizes)
+
+  pub work_le : IsSound t → work opens cost verdict t ≤ 2 ^ 32
+  work_le sound =
+      let split : (b : Bool) → (length t.nodes == 0) ≡ b → work opens cost verdict t ≤ 2 ^ 32 = elim [
+        | true ↦ λ h. rw h (omega arith)
+        | false ↦ λ h.
+            let some : 0 < length t.nodes = grind (arith, nat_tests) in
+            let root = sound.root some in
+            let all = length_permutation _ _ (sound.every some) in
+            let size = size_under t (height t) (root_of t) root in
+            let few = sound.table.few in
+            let levels = sound.few_levels in
+            let small : (root_of t).size ≤ 16777216 = omega (arith, all, size, few) in
+            let low : height t + 1 ≤ 25 = omega (arith, levels) in
+            let most = mul-le _ _ _ _ low small in
+            let here = work_from_le (height t) (root_of t) root_verdict root in
+            rw h (omega (arith, most, here))
+      ] in
+      split (length t.nodes == 0) refl
+
+  cost_le_work : (h : ℕ) (v : Verdict) (n : Node) → cost n ≤ work_from opens cost verdict t h v n
+  cost_le_work zero v n = omega arith
+  cost_le_work (suc h) v n = omega arith
+
+  pub work_cons : (x : Item) (xs : List Item) → work_left opens cost verdict t (x ∷ xs)
+      ≡ work_at opens cost verdict t x.score x.place + work_left opens cost verdict t xs
+  work_cons x xs = sum_by-cons (λ (y : Item). work_at opens cost verdict t y.score y.place) x xs
+
+  opened_at : (s : ℕ) (n : WaitingNode) → opens (verdict_on s n) ≡ true
+      → work_at opens cost verdict t s (place.Node n)
+      ≡ work_from opens cost verdict t (height_at t n.number.number) (verdict_on s n) (node_at t n.number.number)
+  opened_at s n h = rw h refl
+
+  -- opening a node that waits keeps the work done small
+  pub done_le : IsSound t → (done s : ℕ) (n : WaitingNode) (xs : List Item) → opens (verdict_on s n) ≡ true
+      → done + work_left opens cost verdict t (item_at s (place.Node n) ∷ xs) ≡ work opens cost verdict t
+      → done + cost (node_at t n.number.number) ≤ 2 ^ 32
+  done_le sound done s n xs open' course =
+      let most = work_le sound in
+      let cons = work_cons (item_at s (place.Node n)) xs in
+      let here = opened_at s n open' in
+      let least = cost_le_work (height_at t n.number.number) (verdict_on s n) (node_at t n.number.number) in
+      omega (arith, most, cons, here, least, course)
+
+-- ---- room
+
+module _ (accepts : Extent → Bool) (score : Extent → ℕ) (t : Packed) where
+  pub held_cons : (x : Item) (xs : List Item) → held t (x ∷ xs) ≡ size_at t x.place + held t xs
+  held_cons x xs = sum_by-cons (λ (y : Item). size_at t y.place) x xs
+
+  size_of : (s : ℕ) (p : Place) → IsSoundAt t accepts score s p → 0 < size_at t p
+  size_of s (place.Node n) h = (size_counts t (height_at t n.number.number) (node_at t n.number.number) h.tree).0
+  size_of s (place.Entry i) h = omega arith
+
+  -- each item stands for an entry of its own
+  pub length_le_held : (xs : List Item) → AllSound t accepts score xs → length xs ≤ held t xs
+  length_le_held [] a = omega arith
+  length_le_held (x ∷ xs) a = omega (arith, held_cons x xs, size_of x.score x.place a.0, length_le_held xs a.1)
+
+  -- the children of a node that was taken out have room
+  pub room_for : (capacity s : ℕ) (n : WaitingNode) (xs : List Item)
+      → AllSound t accepts score (item_at s (place.Node n) ∷ xs) → held t (item_at s (place.Node n) ∷ xs) ≤ capacity
+      → length xs + (node_at t n.number.number).count ≤ capacity
+  room_for capacity s n xs sound room =
+      let cons = held_cons (item_at s (place.Node n)) xs in
+      let long = length_le_held xs sound.1 in
+      let count = (size_counts t (height_at t n.number.number) (node_at t n.number.number) sound.0.tree).1 in
+      omega (arith, cons, long, count, room)

@@ -1,0 +1,174 @@
+-- A search begins, and gives its answers one after the other.
+use Rattle.std.proofs.Common.{◌≡◌, ◌<◌, ◌≤◌, ◌+◌, ℕ, zero, suc, Bool, true, false, cond, ◌==◌, List, [], ◌∷◌}
+use Rattle.std.proofs.Common.{length, Option, Some, None, refl, sym, ◌∙◌, subst, arith}
+use Rattle.std.specs.List.{AllByRecursion}
+use Rattle.std.proofs.lemmas.Bool.Decides.{nat_tests}
+use Rattle.std.proofs.lemmas.List.Sorted.{length_permutation}
+use Rattle.std.proofs.lemmas.List.Sums.{sum_by-cons}
+use Rattle.rt_geo.specs.Laws.{Extent}
+use Rattle.rt_geo.specs.declared.geometry.Info.{Info}
+use Rattle.rt_geo.specs.declared.geometry.Verdict.{Verdict}
+use Rattle.rt_tree.specs.Packed.{Packed, IsSound, entries_under, height, root_of}
+use Rattle.rt_tree.specs.declared.tree.Node.{Node}
+use Rattle.rt_search.specs.Answers.{answer_cmp, answers, scored}
+use Rattle.rt_search.specs.Joining.{root_item, root_items}
+use Rattle.rt_search.specs.Progress.{IsGiving, IsInLimit, IsOnCourse, IsSearching, held, size_at, work_at, work_left}
+use Rattle.rt_search.specs.Remaining.{AllSound, remaining}
+use Rattle.rt_search.specs.Work.{HasWorked, is_reached, is_within_bound, its_children, one_node}
+use Rattle.rt_search.specs.Work.{root_verdict, work, work_from}
+use Rattle.rt_search.specs.declared.item.Item.{Item}
+use Rattle.rt_search.proofs.Answering.{among-IsPermutation}
+use Rattle.rt_search.proofs.OrderedLists.{put_all-nil}
+use Rattle.rt_search.proofs.Orders.{answer_order}
+use Rattle.rt_search.proofs.Sizes.{size_under}
+
+within_zero : (bound : Option ℕ) → is_within_bound bound 0 ≡ true
+within_zero None = refl
+within_zero (Some b) = grind (arith, nat_tests)
+
+reached_zero : (bound : Option ℕ) → is_reached bound root_verdict ≡ true
+reached_zero bound = within_zero bound
+
+all_each : {X : Type 0} (P : X → Type 0) → ((x : X) → P x) → (xs : List X) → AllByRecursion P xs
+all_each P f [] = tt
+all_each P f (x ∷ xs) = (f x, all_each P f xs)
+
+-- ---- the root, which waits
+
+some_nodes : (t : Packed) → 0 < length t.nodes → (length t.nodes == 0) ≡ false
+some_nodes t some = grind (arith, nat_tests)
+
+no_nodes : (t : Packed) → length t.nodes ≡ 0 → (length t.nodes == 0) ≡ true
+no_nodes t none = grind (arith, nat_tests)
+
+pub root_work : (opens : Verdict → Bool) (cost : Node → ℕ) (verdict : Info → Verdict) (t : Packed)
+    → opens root_verdict ≡ true → 0 < length t.nodes → work_left opens cost verdict t (root_item t ∷ [])
+    ≡ work opens cost verdict t
+root_work opens cost verdict t open' some =
+    let W = work_from opens cost verdict t (height t) root_verdict (root_of t) in
+    let one = sum_by-cons (λ (x : Item). work_at opens cost verdict t x.score x.place) (root_item t) [] in
+    let all : cond (opens root_verdict) W 0 ≡ W = rw open' refl in
+    let some' = some_nodes t some in
+    let whole : work opens cost verdict t ≡ W = rw some' refl in
+    omega (arith, one, all, whole)
+
+from_none : {m n : ℕ} → m ≡ n → 0 + m ≡ n
+from_none h = omega (arith, h)
+
+nat_eq_true : {n : ℕ} → (n == 0) ≡ true → n ≡ 0
+nat_eq_true h = grind (arith, nat_tests)
+
+pub nat_eq_false : {n : ℕ} → (n == 0) ≡ false → 0 < n
+nat_eq_false h = grind (arith, nat_tests)
+
+none_given : (limit : Option ℕ) → IsInLimit limit 0
+none_given None = tt
+none_given (Some k) = omega arith
+
+module _ (accepts : Extent → Bool) (score : Extent → ℕ) (verdict : Info → Verdict) (t : Packed) (sound : IsSound t)
+  where
+    root_course : (cost : Node → ℕ) → 0 < length t.nodes → IsOnCourse accepts score verdict cost t 0 (root_item t ∷ [])
+    root_course cost some = record {
+      in_all = from_none (root_work (is_reached None) cost verdict t refl some);
+      at_each = all_each (λ a. 0 + work_left (is_reached (Some a.1)) cost verdict t (root_item t ∷ [])
+          ≡ work (is_reached (Some a.1)) cost verdict t)
+          (λ a. from_none (root_work (is_reached (Some a.1)) cost verdict t (reached_zero (Some a.1)) some))
+          (remaining t accepts score (root_item t ∷ []));
+    }
+
+    pub root_sound : 0 < length t.nodes → AllSound t accepts score (root_item t ∷ [])
+    root_sound some =
+        let levels = sound.few_levels in (
+          record {
+            inside = omega (arith, some);
+            tree = sound.root some;
+            low = levels;
+            below =
+                record { full = λ h. cc; least = λ b h a. omega arith };
+          },
+          tt,
+        )
+
+    pub root_room : (capacity : ℕ) → 0 < length t.nodes → length t.entries ≤ capacity
+        → held t (root_item t ∷ []) ≤ capacity
+    root_room capacity some room =
+        let size = size_under t (height t) (root_of t) (sound.root some) in
+        let all = length_permutation _ _ (sound.every some) in
+        let held_is = sum_by-cons (λ (x : Item). size_at t x.place) (root_item t) [] in
+        omega (arith, size, all, held_is, room)
+
+    pub root_state : (capacity : ℕ) → 0 < length t.nodes → length t.entries ≤ capacity
+        → IsSearching accepts score verdict t 0 0 capacity (root_item t ∷ [])
+    root_state capacity some room = record {
+      tree = sound;
+      sound = root_sound some;
+      room = root_room capacity some room;
+      opening = root_course one_node some;
+      asking = root_course its_children some;
+    }
+
+    pub root_answers : 0 < length t.nodes → remaining t accepts score (root_item t ∷ [])
+        ≡ answers t.entries accepts score None
+    root_answers some =
+        sym (among-IsPermutation accepts score (entries_under t (height t) (root_of t)) t.entries [] (sound.every some))
+        ∙ put_all-nil answer_cmp answer_order (scored t.entries accepts score)
+
+    empty_course : (cost : Node → ℕ) → length t.nodes ≡ 0 → IsOnCourse accepts score verdict cost t 0 []
+    empty_course cost none = let none' = no_nodes t none in record { in_all = rw none' refl; at_each = tt }
+
+    pub empty_state : (capacity : ℕ) → length t.nodes ≡ 0 → IsSearching accepts score verdict t 0 0 capacity []
+    empty_state capacity none =
+        record {
+          tree = sound;
+          sound = tt;
+          room = omega arith;
+          opening = empty_course one_node none;
+          asking =
+              empty_course its_children none;
+        }
+
+    nothing : (es : List _) → length es ≡ 0 → answers es accepts score None ≡ []
+    nothing [] h = refl
+    nothing (e ∷ es) h = absurd (omega (arith, h))
+
+    pub empty_answers : length t.nodes ≡ 0 → answers t.entries accepts score None ≡ []
+    empty_answers none = nothing t.entries (
+        let split : (n : ℕ) → length t.entries ≡ n → length t.entries ≡ 0 = elim [
+          | zero ↦ λ h. h
+          | suc m ↦ λ h. absurd (let some = sound.some.1 (omega (arith, h)) in omega (arith, some, none))
+        ] in
+        split (length t.entries) refl)
+
+    pub some_entries : 0 < length t.nodes → 0 < length t.entries
+    some_entries some = sound.some.0 some
+
+    pub start_state : (capacity : ℕ) → length t.entries ≤ capacity
+        → IsSearching accepts score verdict t 0 0 capacity (root_items t)
+    start_state capacity room =
+        let split : (b : Bool) → (length t.nodes == 0) ≡ b
+        → IsSearching accepts score verdict t 0 0 capacity (cond b [] (root_item t ∷ [])) = elim [
+          | true ↦ λ h. empty_state capacity (nat_eq_true h)
+          | false ↦ λ h. root_state capacity (nat_eq_false h) room
+        ] in
+        split (length t.nodes == 0) refl
+
+    pub start_answers : remaining t accepts score (root_items t) ≡ answers t.entries accepts score None
+    start_answers =
+        let split : (b : Bool) → (length t.nodes == 0) ≡ b → remaining t accepts score (cond b [] (root_item t ∷ []))
+        ≡ answers t.entries accepts score None = elim [
+          | true ↦ λ h. sym (empty_answers (nat_eq_true h))
+          | false ↦ λ h. root_answers (nat_eq_false h)
+        ] in
+        split (length t.nodes == 0) refl
+
+    -- a search has begun
+    pub started : (limit : Option ℕ) (capacity : ℕ) (items : List Item) → length t.entries ≤ capacity → items
+        ≡ root_items t → IsGiving accepts score verdict t limit 0 0 0 capacity items
+    started limit capacity items room is =
+        subst (IsGiving accepts score verdict t limit 0 0 0 capacity) (sym is) (record {
+          state = start_state capacity room;
+          follows = start_answers;
+          in_limit = none_given limit;
+          stopped = λ e. subst (λ l. HasWorked accepts score verdict t l 0 0) (sym e)
+              (record { in_nodes = refl; in_checks = refl });
+        })

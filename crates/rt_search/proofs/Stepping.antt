@@ -1,0 +1,394 @@
+-- A search goes on: an entry is taken out, or a node is opened.
+use Rattle.std.proofs.Common.{◌≡◌, ◌≢◌, ◌<◌, ◌≤◌, ◌+◌, ◌^◌, ℕ, ℤ, Bool, true, false, cond}
+use Rattle.std.proofs.Common.{List, [], ◌∷◌, length, Option, Some, None, refl, sym, ◌∙◌, ap, subst, arith}
+use Rattle.std.specs.List.{AllByRecursion}
+use Rattle.std.specs.Ordering.{is_gt, nat_cmp, ordering_then}
+use Rattle.std.proofs.lemmas.Bool.Decides.{nat_tests}
+use Rattle.std.specs.declared.cmp.Ordering.{Ordering}
+use Rattle.std.proofs.lemmas.List.Sums.{sum_by-cons}
+use Rattle.rt_geo.specs.Laws.{Extent, IsLawful}
+use Rattle.rt_geo.specs.declared.geometry.Info.{Info}
+use Rattle.rt_geo.specs.declared.geometry.Verdict.{Verdict}
+use Rattle.rt_geo.specs.declared.geometry.Within.TheVariants.{Partly, Fully}
+use Rattle.rt_tree.specs.Packed.{Packed, entries_under, node_at}
+use Rattle.rt_tree.specs.declared.tree.Node.{Node}
+use Rattle.rt_search.specs.Answers.{Answer, answer_cmp}
+use Rattle.rt_search.specs.Items.{item_cmp, place_cmp}
+use Rattle.rt_search.specs.Joining.{item_at, join_entries, join_nodes}
+use Rattle.rt_search.specs.Progress.{IsNodeStep, IsOnCourse, IsSearching, IsTaken, held, work_at, work_left}
+use Rattle.rt_search.specs.Remaining.{AllSound, answers_at, height_at, put_all, remaining, verdict_on}
+use Rattle.rt_search.specs.Work.{is_kept, is_reached, is_within_bound, its_children, one_node, work, work_from}
+use Rattle.rt_search.specs.declared.item.Item.{Item}
+use Rattle.rt_search.specs.declared.item.Place.{Place}
+use Rattle.rt_search.specs.declared.item.Place.TheVariants as place
+use Rattle.rt_search.specs.declared.item.WaitingNode.{WaitingNode}
+use Rattle.rt_search.proofs.Answering.{among, at_above, before_node, take_entry}
+use Rattle.rt_search.proofs.Children.{leaf_node, subtree_level}
+use Rattle.rt_search.proofs.Joined.{entries_joined, entries_sound, left_out, nodes_joined, nodes_sound, taken}
+use Rattle.rt_search.proofs.OrderedLists.{put_all-all}
+use Rattle.rt_search.proofs.Orders.{answer_order}
+use Rattle.rt_search.proofs.Sizes.{count_is_fair, done_le, held_cons, one_is_fair, room_for}
+use Rattle.rt_search.proofs.Working.{IsJoining, held-join_entries, held-join_nodes, work-join_entries, work-join_nodes}
+
+-- ---- what is opened
+
+kept_within : (b : Bool) → is_kept (cond b Fully Partly) ≡ true
+kept_within true = refl
+kept_within false = refl
+
+-- a node that waits is opened where its score is within the bound
+pub reached_is : (bound : Option ℕ) (s : ℕ) (n : WaitingNode) → is_reached bound (verdict_on s n)
+    ≡ is_within_bound bound s
+reached_is bound s n = (let k = kept_within n.is_full in rw k refl)
+
+closed_by : (bound : Option ℕ) (v : Verdict) → is_kept v.within ≡ false → is_reached bound v ≡ false
+closed_by bound v h = rw h refl
+
+pub joining : (bound : Option ℕ) → IsJoining (is_reached bound) is_kept
+joining bound = record { kept = λ w h. h; closed = closed_by bound }
+
+within_true : (b s : ℕ) → s ≤ b → is_within_bound (Some b) s ≡ true
+within_true b s h = grind (arith, nat_tests)
+
+within_false : (b s : ℕ) → b < s → is_within_bound (Some b) s ≡ false
+within_false b s h = grind (arith, nat_tests)
+
+reached_below : (b s : ℕ) (n : WaitingNode) → s ≤ b → is_reached (Some b) (verdict_on s n) ≡ true
+reached_below b s n h = reached_is (Some b) s n ∙ within_true b s h
+
+reached_above : (b s : ℕ) (n : WaitingNode) → b < s → is_reached (Some b) (verdict_on s n) ≡ false
+reached_above b s n h = reached_is (Some b) s n ∙ within_false b s h
+
+-- ---- lists
+
+all_two : {X : Type 0} (P Q R : X → Type 0) → ((x : X) → P x → Q x → R x) → (xs : List X) → AllByRecursion P xs
+    → AllByRecursion Q xs → AllByRecursion R xs
+all_two P Q R f [] a b = tt
+all_two P Q R f (x ∷ xs) a b = (f x a.0 b.0, all_two P Q R f xs a.1 b.1)
+
+all_units : {X : Type 0} (xs : List X) → AllByRecursion (λ (x : X). Unit {0}) xs
+all_units [] = tt
+all_units (x ∷ xs) = (tt, all_units xs)
+
+score_le : (s r : ℕ) (o : Ordering) → is_gt (ordering_then (nat_cmp s r) o) ≡ false → s ≤ r
+score_le s r o h = grind (arith, nat_tests)
+
+module _ (accepts : Extent → Bool) (score : Extent → ℕ) (verdict : Info → Verdict)
+    (law : IsLawful accepts score verdict) (t : Packed) where
+  all_up : (s r : ℕ) → s ≤ r → (qs : List Answer) → AllByRecursion (λ q. r ≤ q.1) qs → AllByRecursion (λ q. s ≤ q.1) qs
+  all_up s r h [] a = tt
+  all_up s r h (q ∷ qs) a = (omega (arith, h, a.0), all_up s r h qs a.1)
+
+  -- no answer to come is below the least item's score
+  above_least : (x : Item) (xs : List Item) → AllByRecursion (λ y. is_gt (item_cmp x y) ≡ false) xs
+      → AllSound t accepts score xs → AllByRecursion (λ q. x.score ≤ q.1) (remaining t accepts score xs)
+  above_least x [] a b = tt
+  above_least x (y ∷ ys) a b =
+      put_all-all answer_cmp answer_order (λ q. x.score ≤ q.1) (answers_at t accepts score y.score y.place)
+      (remaining t accepts score ys)
+      (all_up x.score y.score (score_le x.score y.score (place_cmp x.place y.place) a.0)
+      (answers_at t accepts score y.score y.place) (at_above accepts score t y.score y.place b.0))
+      (above_least x ys a.1 b.1)
+
+  above_all : (x : Item) (xs : List Item) → AllByRecursion (λ y. is_gt (item_cmp x y) ≡ false) xs
+      → AllSound t accepts score (x ∷ xs) → AllByRecursion (λ q. x.score ≤ q.1) (remaining t accepts score (x ∷ xs))
+  above_all x xs a b =
+      put_all-all answer_cmp answer_order (λ q. x.score ≤ q.1) (answers_at t accepts score x.score x.place)
+      (remaining t accepts score xs)
+      (at_above accepts score t x.score x.place b.0) (above_least x xs a b.1)
+
+  cons_of : (cost : Node → ℕ) (bound : Option ℕ) (x : Item) (xs : List Item)
+      → work_left (is_reached bound) cost verdict t (x ∷ xs)
+      ≡ work_at (is_reached bound) cost verdict t x.score x.place + work_left (is_reached bound) cost verdict t xs
+  cons_of cost bound x xs = sum_by-cons (λ (y : Item). work_at (is_reached bound) cost verdict t y.score y.place) x xs
+
+  none_at : (cost : Node → ℕ) (i : ℤ) (s r : ℕ) (p : Place)
+      → is_gt (item_cmp (item_at s (place.Entry i)) (item_at r p)) ≡ false
+      → work_at (is_reached (Some s)) cost verdict t r p ≡ 0
+  none_at cost i s r (place.Entry j) h = refl
+  none_at cost i s r (place.Node n) h =
+      left_out (is_reached (Some s) (verdict_on r n))
+      (work_from (is_reached (Some s)) cost verdict t (height_at t n.number.number) (verdict_on r n)
+      (node_at t n.number.number)) 0
+      (reached_above s r n (before_node accepts score t i n s r h))
+
+  -- behind an entry that is least, no node is within its score
+  no_work : (cost : Node → ℕ) (i : ℤ) (s : ℕ) (xs : List Item)
+      → AllByRecursion (λ y. is_gt (item_cmp (item_at s (place.Entry i)) y) ≡ false) xs
+      → work_left (is_reached (Some s)) cost verdict t xs ≡ 0
+  no_work cost i s [] a = refl
+  no_work cost i s (y ∷ ys) a =
+      let cons = cons_of cost (Some s) y ys in
+      let h = no_work cost i s ys a.1 in
+      let k = none_at cost i s y.score y.place a.0 in
+      omega (arith, cons, h, k)
+
+  -- ---- an entry is taken out
+
+  entry_course : (cost : Node → ℕ) (i : ℤ) (s : ℕ) (done : ℕ) (xs : List Item)
+      → AllByRecursion (λ y. is_gt (item_cmp (item_at s (place.Entry i)) y) ≡ false) xs → AllSound t accepts score xs
+      → IsOnCourse accepts score verdict cost t done (item_at s (place.Entry i) ∷ xs)
+      → IsOnCourse accepts score verdict cost t done xs × (done ≡ work (is_reached (Some s)) cost verdict t)
+  entry_course cost i s done xs least sound course =
+      let x = item_at s (place.Entry i) in
+      let next : remaining t accepts score (x ∷ xs) ≡ (i, s) ∷ remaining t accepts score xs =
+      take_entry accepts score t i s xs least sound in
+      let each = subst (AllByRecursion
+      (λ p. done + work_left (is_reached (Some p.1)) cost verdict t (x ∷ xs)
+      ≡ work (is_reached (Some p.1)) cost verdict t)) next course.at_each in
+      let head : done + work_left (is_reached (Some s)) cost verdict t (x ∷ xs)
+      ≡ work (is_reached (Some s)) cost verdict t = each.0 in
+      let none = no_work cost i s xs least in
+      let first = cons_of cost (Some s) x xs in (
+        record {
+          in_all = (let h = course.in_all in let k = cons_of cost None x xs in omega (arith, h, k));
+          at_each = all_two (λ p. done + work_left (is_reached (Some p.1)) cost verdict t (x ∷ xs)
+              ≡ work (is_reached (Some p.1)) cost verdict t) (λ p. Unit {0})
+              (λ p. done + work_left (is_reached (Some p.1)) cost verdict t xs
+              ≡ work (is_reached (Some p.1)) cost verdict t)
+              (λ p h _. let k = cons_of cost (Some p.1) x xs in omega (arith, h, k)) (remaining t accepts score xs)
+              each.1 (all_units (remaining t accepts score xs));
+        },
+        omega (arith, head, none, first),
+      )
+
+  pub record IsEntryStep (opened asked capacity : ℕ) (i : ℤ) (s : ℕ) (start : List Answer) (xs : List Item) : Type 0
+    where
+      pub answer : start ≡ (i, s) ∷ remaining t accepts score xs
+      pub state : IsSearching accepts score verdict t opened asked capacity xs
+      pub opened_is : opened ≡ work (is_reached (Some s)) one_node verdict t
+      pub asked_is : asked ≡ work (is_reached (Some s)) its_children verdict t
+
+  entry_step : (opened asked capacity : ℕ) (i : ℤ) (s : ℕ) (xs : List Item)
+      → IsTaken accepts score verdict t opened asked capacity (item_at s (place.Entry i)) xs
+      → IsEntryStep opened asked capacity i s (remaining t accepts score (item_at s (place.Entry i) ∷ xs)) xs
+  entry_step opened asked capacity i s xs k =
+      let sound = k.state.sound.1 in
+      let o = entry_course one_node i s opened xs k.least sound k.state.opening in
+      let a = entry_course its_children i s asked xs k.least sound k.state.asking in
+      record {
+        answer = take_entry accepts score t i s xs k.least sound;
+        state = record {
+          tree = k.state.tree;
+          sound = sound;
+          room =
+              (let r = k.state.room in let h = held_cons accepts score t (item_at s (place.Entry i)) xs in
+              omega (arith, r, h));
+          opening = o.0;
+          asking = a.0;
+        };
+        opened_is = o.1;
+        asked_is = a.1;
+      }
+
+  -- ---- a node is opened: what is told of `new` comes from the children that joined
+
+  node_course : (cost : Node → ℕ) (s : ℕ) (n : WaitingNode) (done : ℕ) (xs new : List Item)
+      → AllByRecursion (λ y. is_gt (item_cmp (item_at s (place.Node n)) y) ≡ false) xs
+      → AllSound t accepts score (item_at s (place.Node n) ∷ xs)
+      → remaining t accepts score new ≡ remaining t accepts score (item_at s (place.Node n) ∷ xs)
+      → ((bound : Option ℕ) → work_left (is_reached bound) cost verdict t new + cost (node_at t n.number.number)
+      ≡ work_left (is_reached bound) cost verdict t xs + work_from (is_reached bound) cost verdict t
+      (height_at t n.number.number) (verdict_on s n) (node_at t n.number.number))
+      → IsOnCourse accepts score verdict cost t done (item_at s (place.Node n) ∷ xs)
+      → IsOnCourse accepts score verdict cost t (done + cost (node_at t n.number.number)) new
+  node_course cost s n done xs new least sound same moves course =
+      let x = item_at s (place.Node n) in
+      let W : Option ℕ → ℕ =
+      λ bound. work_from (is_reached bound) cost verdict t (height_at t n.number.number) (verdict_on s n)
+      (node_at t n.number.number) in
+      record {
+        in_all = (
+            let h = course.in_all in
+            let c = cons_of cost None x xs in
+            let j = moves None in
+            let all : cond (is_reached None (verdict_on s n)) (W None) 0 ≡ W None =
+            taken (is_reached None (verdict_on s n)) (W None) 0 (reached_is None s n) in
+            omega (arith, h, c, j, all));
+        at_each = subst (AllByRecursion
+            (λ p. (done + cost (node_at t n.number.number)) + work_left (is_reached (Some p.1)) cost verdict t new
+            ≡ work (is_reached (Some p.1)) cost verdict t)) (sym same)
+            (all_two (λ p. done + work_left (is_reached (Some p.1)) cost verdict t (x ∷ xs)
+            ≡ work (is_reached (Some p.1)) cost verdict t) (λ p. s ≤ p.1)
+            (λ p. (done + cost (node_at t n.number.number)) + work_left (is_reached (Some p.1)) cost verdict t new
+            ≡ work (is_reached (Some p.1)) cost verdict t)
+            (λ p h le.
+            let c = cons_of cost (Some p.1) x xs in
+            let j = moves (Some p.1) in
+            let all : cond (is_reached (Some p.1) (verdict_on s n)) (W (Some p.1)) 0 ≡ W (Some p.1) =
+            taken (is_reached (Some p.1) (verdict_on s n)) (W (Some p.1)) 0 (reached_below p.1 s n le) in
+            omega (arith, h, c, j, all))
+            (remaining t accepts score (x ∷ xs)) course.at_each (above_all x xs least sound));
+      }
+
+  node_step : (opened asked capacity s : ℕ) (n : WaitingNode) (xs new : List Item)
+      → IsTaken accepts score verdict t opened asked capacity (item_at s (place.Node n)) xs
+      → remaining t accepts score new ≡ remaining t accepts score (item_at s (place.Node n) ∷ xs)
+      → AllSound t accepts score new
+      → held t new ≤ held t xs + (node_at t n.number.number).size
+      → ((cost : Node → ℕ) (bound : Option ℕ)
+      → work_left (is_reached bound) cost verdict t new + cost (node_at t n.number.number)
+      ≡ work_left (is_reached bound) cost verdict t xs + work_from (is_reached bound) cost verdict t
+      (height_at t n.number.number) (verdict_on s n) (node_at t n.number.number))
+      → IsNodeStep accepts score verdict t opened asked capacity s n xs new
+  node_step opened asked capacity s n xs new k same sound size moves = record {
+    state = record {
+      tree = k.state.tree;
+      sound = sound;
+      room = (let r = k.state.room in let h = held_cons accepts score t (item_at s (place.Node n)) xs in
+          omega (arith, r, h, size));
+      opening = node_course one_node s n opened xs new k.least k.state.sound same (moves one_node) k.state.opening;
+      asking = node_course its_children s n asked xs new k.least k.state.sound same (moves its_children) k.state.asking;
+    };
+    same = same;
+  }
+
+  pub leaf_step : (opened asked capacity s : ℕ) (n : WaitingNode) (xs : List Item) → s < 2 ^ 128
+      → (node_at t n.number.number).level ≡ 1
+      → IsTaken accepts score verdict t opened asked capacity (item_at s (place.Node n)) xs
+      → IsNodeStep accepts score verdict t opened asked capacity s n xs
+      (join_entries verdict t (verdict_on s n) (node_at t n.number.number) (node_at t n.number.number).count xs)
+  leaf_step opened asked capacity s n xs small low k =
+      let number = n.number.number in
+      let node = node_at t number in
+      let v = verdict_on s n in
+      let here = k.state.sound.0 in
+      let leaf = leaf_node t (height_at t number) node here.tree low in
+      let flat : height_at t number ≡ 0 = leaf.0 in
+      node_step opened asked capacity s n xs _ k
+      (entries_joined accepts score verdict law t k.state.tree v small node xs leaf.1 here.below
+      ∙ ap (λ h. put_all answer_cmp (among accepts score (entries_under t h node)) (remaining t accepts score xs))
+      (sym flat))
+      (entries_sound accepts score verdict law t k.state.tree v small node node.count xs k.state.sound.1)
+      (let h = held-join_entries verdict t v node node.count xs in let e = leaf.1.size in omega (arith, h, e))
+      (λ cost bound.
+      let e = work-join_entries verdict t v (is_reached bound) cost node node.count xs in
+      let z : work_from (is_reached bound) cost verdict t (height_at t number) v node ≡ cost node =
+      ap (λ h. work_from (is_reached bound) cost verdict t h v node) flat in
+      omega (arith, e, z))
+
+  pub inner_step : (opened asked capacity s : ℕ) (n : WaitingNode) (xs : List Item) → s < 2 ^ 128
+      → 2 ≤ (node_at t n.number.number).level
+      → IsTaken accepts score verdict t opened asked capacity (item_at s (place.Node n)) xs
+      → IsNodeStep accepts score verdict t opened asked capacity s n xs
+      (join_nodes is_kept verdict t (verdict_on s n) (node_at t n.number.number) (node_at t n.number.number).count xs)
+  inner_step opened asked capacity s n xs small high k =
+      let number = n.number.number in
+      let node = node_at t number in
+      let v = verdict_on s n in
+      let here = k.state.sound.0 in
+      node_step opened asked capacity s n xs _ k
+      (nodes_joined accepts score verdict law t k.state.tree v small number here high xs)
+      (nodes_sound accepts score verdict law t k.state.tree v small number here high is_kept (λ w h. h) xs node.count
+      (omega arith) k.state.sound.1)
+      (held-join_nodes verdict t v is_kept number here.tree high xs)
+      (λ cost bound. work-join_nodes verdict t v is_kept number here.tree high (is_reached bound) (joining bound) cost
+      xs)
+
+  -- ---- the same, as a caller has them
+
+  -- the least item was taken out
+  pub taken_out : (opened asked capacity capacity' : ℕ) (items xs : List Item) (x : Item)
+      → IsSearching accepts score verdict t opened asked capacity items → items ≡ x ∷ xs
+      → AllByRecursion (λ y. is_gt (item_cmp x y) ≡ false) xs → capacity' ≡ capacity
+      → IsTaken accepts score verdict t opened asked capacity' x xs
+  taken_out opened asked capacity capacity' items xs x state is least same = record {
+    least = least;
+    state = subst (λ n. IsSearching accepts score verdict t opened asked n (x ∷ xs)) (sym same)
+        (subst (IsSearching accepts score verdict t opened asked capacity) is state);
+  }
+
+  pub node_taken : (opened asked capacity capacity' : ℕ) (n : WaitingNode) (items xs : List Item) (x : Item) → x.place
+      ≡ place.Node n → IsSearching accepts score verdict t opened asked capacity items → items ≡ x ∷ xs
+      → AllByRecursion (λ y. is_gt (item_cmp x y) ≡ false) xs → capacity' ≡ capacity
+      → IsTaken accepts score verdict t opened asked capacity' (item_at x.score (place.Node n)) xs
+  node_taken opened asked capacity capacity' n items xs x at state is least same =
+      subst (λ p. IsTaken accepts score verdict t opened asked capacity' (item_at x.score p) xs) at
+      (taken_out opened asked capacity capacity' items xs x state is least same)
+
+  pub entry_pulled : (opened asked capacity capacity' : ℕ) (i : ℤ) (start : List Answer) (items xs : List Item)
+      (x : Item) → x.place ≡ place.Entry i → IsSearching accepts score verdict t opened asked capacity items
+      → remaining t accepts score items ≡ start → items ≡ x ∷ xs
+      → AllByRecursion (λ y. is_gt (item_cmp x y) ≡ false) xs → capacity' ≡ capacity
+      → IsEntryStep opened asked capacity' i x.score start xs
+  entry_pulled opened asked capacity capacity' i start items xs x at state so_far is least same =
+      let k = subst (λ p. IsTaken accepts score verdict t opened asked capacity' (item_at x.score p) xs) at
+      (taken_out opened asked capacity capacity' items xs x state is least same) in
+      let e = entry_step opened asked capacity' i x.score xs k in
+      record {
+        answer = sym so_far ∙ ap (remaining t accepts score) is
+            ∙ ap (λ p. remaining t accepts score (item_at x.score p ∷ xs)) at ∙ e.answer;
+        state = e.state;
+        opened_is = e.opened_is;
+        asked_is = e.asked_is;
+      }
+
+  pub leaf_opened : (opened asked capacity s : ℕ) (w : WaitingNode) (xs new : List Item) (n : Node) (v : Verdict)
+      → s < 2 ^ 128 → n.level ≡ 1 → n ≡ node_at t w.number.number → v ≡ verdict_on s w → new
+      ≡ join_entries verdict t v n n.count xs
+      → IsTaken accepts score verdict t opened asked capacity (item_at s (place.Node w)) xs
+      → IsNodeStep accepts score verdict t opened asked capacity s w xs new
+  leaf_opened opened asked capacity s w xs new n v small low is told left k =
+      subst (λ ys. IsNodeStep accepts score verdict t opened asked capacity s w xs ys)
+      (sym (left ∙ ap (λ u. join_entries verdict t u n n.count xs) told
+      ∙ ap (λ m. join_entries verdict t (verdict_on s w) m m.count xs) is))
+      (leaf_step opened asked capacity s w xs small (sym (ap (λ (m : Node). m.level) is) ∙ low) k)
+
+  pub inner_opened : (opened asked capacity s : ℕ) (w : WaitingNode) (xs new : List Item) (n : Node) (v : Verdict)
+      → s < 2 ^ 128 → n.level ≢ 1 → n ≡ node_at t w.number.number → v ≡ verdict_on s w
+      → (let m = node_at t w.number.number in new ≡ join_nodes is_kept verdict t v m m.count xs)
+      → IsTaken accepts score verdict t opened asked capacity (item_at s (place.Node w)) xs
+      → IsNodeStep accepts score verdict t opened asked capacity s w xs new
+  inner_opened opened asked capacity s w xs new n v small low is told left k =
+      let level = subtree_level t (height_at t w.number.number) (node_at t w.number.number) k.state.sound.0.tree in
+      let same : n.level ≡ (node_at t w.number.number).level = ap (λ (m : Node). m.level) is in
+      let high : 2 ≤ (node_at t w.number.number).level = omega (arith, level, same, low) in
+      subst (λ ys. IsNodeStep accepts score verdict t opened asked capacity s w xs ys)
+      (sym (left ∙ ap (λ u. let m = node_at t w.number.number in join_nodes is_kept verdict t u m m.count xs) told))
+      (inner_step opened asked capacity s w xs small high k)
+
+  -- the work that waits falls with each node that is opened
+  pub falls : (opened asked asked' capacity capacity' : ℕ) (items new : List Item)
+      → IsSearching accepts score verdict t opened asked capacity items
+      → IsSearching accepts score verdict t (opened + 1) asked' capacity' new
+      → work_left (is_reached None) one_node verdict t new < work_left (is_reached None) one_node verdict t items
+  falls opened asked asked' capacity capacity' items new before after =
+      let b = before.opening.in_all in
+      let a = after.opening.in_all in
+      omega (arith, a, b)
+
+  pub record IsDone (opened asked : ℕ) (start : List Answer) : Type 0 where
+    pub answer : start ≡ []
+    pub opened_is : opened ≡ work (is_reached None) one_node verdict t
+    pub asked_is : asked ≡ work (is_reached None) its_children verdict t
+
+  pub all_done : (opened asked capacity : ℕ) (start : List Answer) (items : List Item)
+      → IsSearching accepts score verdict t opened asked capacity items → remaining t accepts score items ≡ start
+      → items ≡ [] → IsDone opened asked start
+  all_done opened asked capacity start items state so_far none =
+      let o = state.opening.in_all in
+      let a = state.asking.in_all in
+      let wo = ap (work_left (is_reached None) one_node verdict t) none in
+      let wa = ap (work_left (is_reached None) its_children verdict t) none in
+      record {
+        answer = sym so_far ∙ ap (remaining t accepts score) none;
+        opened_is = omega (arith, o, wo);
+        asked_is = omega (arith, a, wa);
+      }
+
+  -- there is room to open a node that was taken out, and the counters stay small
+  pub record CanOpen (opened asked capacity number : ℕ) (xs : List Item) : Type 0 where
+    pub opened_low : opened + 1 ≤ 2 ^ 32
+    pub asked_low : asked + (node_at t number).count ≤ 2 ^ 32
+    pub room : length xs + (node_at t number).count ≤ capacity
+
+  pub can_open : (opened asked capacity s : ℕ) (n : WaitingNode) (xs : List Item)
+      → IsTaken accepts score verdict t opened asked capacity (item_at s (place.Node n)) xs
+      → CanOpen opened asked capacity n.number.number xs
+  can_open opened asked capacity s n xs k = record {
+    opened_low = done_le (is_reached None) one_node verdict t (one_is_fair t) k.state.tree opened s n xs
+        (reached_is None s n) k.state.opening.in_all;
+    asked_low = done_le (is_reached None) its_children verdict t (count_is_fair t) k.state.tree asked s n xs
+        (reached_is None s n) k.state.asking.in_all;
+    room = room_for accepts score t capacity s n xs k.state.sound k.state.room;
+  }

@@ -1,0 +1,81 @@
+use Rattle.std.proofs.Common.{◌≡◌, ◌≢◌, Option, Some, None, rules}
+use Rattle.std.specs.Prelude.{IfNone, MatchOption}
+use Rattle.rt_search.proofs.Giving.{give, given_low, over}
+use Rattle.rt_search.proofs.search.Search.next.Goals as goal
+
+-- what holds in any case holds where there is none
+if_none : {X P : Type 0} (o : Option X) → P → IfNone o P
+if_none None p = p
+if_none (Some x) p = tt
+
+none_given : {X P : Type 0} (Q : X → Type 0) (o : Option X) → o ≡ None → P → MatchOption o P Q
+none_given Q None e p = p
+none_given Q (Some x) e p = cc
+
+pub overflow_add-self : goal.overflow_add-self
+overflow_add-self g c =
+    let geometry = c.self.inside.counted.geometry in
+    let low = given_low (g.G.Geometry.accepts geometry) (g.G.Geometry.score geometry) (g.G.Geometry.verdict geometry)
+    c.self.inside.tree.now c.self.inside.limit c.self.inside.given _ _ _ c.in_ok-answer.answer _ _
+    c.self.invariant.0 c.in_ok-answer.ensures.answer in
+    search (rules, low)
+
+pub invariant_of-self-2 : goal.invariant_of-self-2
+invariant_of-self-2 g c =
+    let geometry = c.self.inside.counted.geometry in
+    let e = c.in_ok-answer.ensures in
+    let more : c.self.inside.limit ≢ Some c.self.inside.given = search rules in
+    let k = give (g.G.Geometry.accepts geometry) (g.G.Geometry.score geometry) (g.G.Geometry.verdict geometry)
+    c.self.inside.tree.now c.self.inside.limit c.self.inside.given _ _ _ _ _ _ c.in_ok-answer.answer _ _
+    c.self.invariant.0 more e.answer e.state e.opened e.asked in
+    rw c.pull.ensures.geometry (k.going, c.self.invariant.1)
+
+pub returns-clause-answer : goal.returns-clause-answer
+returns-clause-answer g c =
+    let geometry = c.self.inside.counted.geometry in
+    let e = c.in_ok-answer.ensures in
+    let more : c.self.inside.limit ≢ Some c.self.inside.given = search rules in
+    let k = give (g.G.Geometry.accepts geometry) (g.G.Geometry.score geometry) (g.G.Geometry.verdict geometry)
+    c.self.inside.tree.now c.self.inside.limit c.self.inside.given _ _ _ _ _ _ c.in_ok-answer.answer _ _
+    c.self.invariant.0 more e.answer e.state e.opened e.asked in
+    rw (c.pull.ensures.geometry, ← c.self.view_is) k.answer
+
+pub returns-clause-worked : goal.returns-clause-worked
+returns-clause-worked g c =
+    let geometry = c.self.inside.counted.geometry in
+    let e = c.in_ok-answer.ensures in
+    let more : c.self.inside.limit ≢ Some c.self.inside.given = search rules in
+    let k = give (g.G.Geometry.accepts geometry) (g.G.Geometry.score geometry) (g.G.Geometry.verdict geometry)
+    c.self.inside.tree.now c.self.inside.limit c.self.inside.given _ _ _ _ _ _ c.in_ok-answer.answer _ _
+    c.self.invariant.0 more e.answer e.state e.opened e.asked in
+    rw (← c.self.view_is) k.worked
+
+pub returns-in_err-answer-clause-answer : goal.returns-in_err-answer-clause-answer
+returns-in_err-answer-clause-answer g c =
+    let geometry = c.self.inside.counted.geometry in
+    let e = c.in_err-answer.ensures in
+    let more : c.self.inside.limit ≢ Some c.self.inside.given = search rules in
+    let k = over (g.G.Geometry.accepts geometry) (g.G.Geometry.score geometry) (g.G.Geometry.verdict geometry)
+    c.self.inside.tree.now c.self.inside.limit c.self.inside.given _ _ _ _ _ _ _ _ c.self.invariant.0 more
+    e.answer e.none e.state e.opened e.asked in
+    none_given _ c.from_residual.result (search rules) (rw (← c.self.view_is) k.answer)
+
+pub returns-in_err-answer-clause-none : goal.returns-in_err-answer-clause-none
+returns-in_err-answer-clause-none g c =
+    let geometry = c.self.inside.counted.geometry in
+    let e = c.in_err-answer.ensures in
+    let more : c.self.inside.limit ≢ Some c.self.inside.given = search rules in
+    let k = over (g.G.Geometry.accepts geometry) (g.G.Geometry.score geometry) (g.G.Geometry.verdict geometry)
+    c.self.inside.tree.now c.self.inside.limit c.self.inside.given _ _ _ _ _ _ _ _ c.self.invariant.0 more
+    e.answer e.none e.state e.opened e.asked in
+    if_none c.from_residual.result (rw c.pull.ensures.geometry k.answer)
+
+pub returns-in_err-answer-clause-worked_in_all : goal.returns-in_err-answer-clause-worked_in_all
+returns-in_err-answer-clause-worked_in_all g c =
+    let geometry = c.self.inside.counted.geometry in
+    let e = c.in_err-answer.ensures in
+    let more : c.self.inside.limit ≢ Some c.self.inside.given = search rules in
+    let k = over (g.G.Geometry.accepts geometry) (g.G.Geometry.score geometry) (g.G.Geometry.verdict geometry)
+    c.self.inside.tree.now c.self.inside.limit c.self.inside.given _ _ _ _ _ _ _ _ c.self.invariant.0 more
+    e.answer e.none e.state e.opened e.asked in
+    if_none c.from_residual.result (rw (← c.self.view_is) k.worked)

@@ -1,0 +1,14 @@
+use Rattle.std.proofs.Common.{◌≤◌, length}
+use Rattle.rt_search.proofs.Starting.{started}
+use Rattle.rt_search.proofs.search.Search.start.Goals as goal
+
+pub invariant_of-result : goal.invariant_of-result
+invariant_of-result g c =
+    let put = c.put_root-top.ensures in
+    let room : length c.args.tree.now.entries ≤ c.put_root-top.new.frontier.capacity =
+    rw (put.capacity, c.clear.ensures.capacity) c.requires.capacity in
+    let geometry = c.args.counted.geometry in
+    let begun = started (g.G.Geometry.accepts geometry) (g.G.Geometry.score geometry) (g.G.Geometry.verdict geometry)
+    c.args.tree.now put.sound c.args.limit c.put_root-top.new.frontier.capacity c.put_root-top.new.frontier.items
+    room put.items in
+    (rw c.requires.asked begun, put.top)

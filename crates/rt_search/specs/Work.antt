@@ -1,0 +1,120 @@
+-- What a search and a count do: the nodes that they open, and the checks that they make.
+use Rattle.std.specs.Prelude.{◌≡◌, ℕ, zero, suc, ◌+◌, ◌-◌, ◌==◌, nat_le, Bool, true, false, ◌&&◌, if◌then◌else◌}
+use Rattle.std.specs.Prelude.{Option, Some, None, List, length, slice_get}
+use Rattle.std.specs.List.{sum_by}
+use Rattle.std.specs.Option.{option_map}
+use Rattle.rt_geo.specs.Boxes.{Rect}
+use Rattle.rt_geo.specs.Laws.{Extent}
+use Rattle.rt_geo.specs.declared.geometry.Info.{Info}
+use Rattle.rt_geo.specs.declared.geometry.Verdict.{Verdict}
+use Rattle.rt_geo.specs.declared.geometry.Within.{Within}
+use Rattle.rt_geo.specs.declared.geometry.Within.TheVariants.{Not, Partly, Fully}
+use Rattle.rt_tree.specs.Packed.{Packed, child_nodes, height, root_of}
+use Rattle.rt_tree.specs.declared.tree.Node.{Node}
+use Rattle.rt_search.specs.Answers.{Answer, answers}
+
+-- ---- what is asked
+
+-- the root isn't asked about: it counts as PARTLY, with the score 0
+abbrev pub root_verdict : Verdict
+root_verdict = record { within = Partly; score = 0 }
+
+-- what is asked about a child of a node that has this verdict
+abbrev pub info_under : (top : ℕ) → (parent : Verdict) → (bounds : Rect) → (level : ℕ) → Info
+info_under top parent bounds level =
+    record { bounds = bounds; level = level; top = top; parent_within = parent.within; parent_score = parent.score }
+
+-- about a node
+abbrev pub info_of_node : Packed → (parent : Verdict) → Node → Info
+info_of_node t parent n = info_under (root_of t).level parent n.bounds n.level
+
+-- ---- the nodes that are opened
+
+-- the sum of a cost over the nodes that are opened, from one with so many levels of nodes below it and this verdict on it:
+-- a child of an opened node is opened where the test says so of the verdict on the child
+abbrev pub work_from : (opens : Verdict → Bool) → (cost : Node → ℕ) → (verdict : Info → Verdict) → Packed
+    → (below : ℕ) → Verdict → Node → ℕ
+work_from opens cost verdict t zero of_node n = cost n
+work_from opens cost verdict t (suc below) of_node n =
+    cost n + sum_by (λ child. let of_child = verdict (info_of_node t of_node child) in
+    if opens of_child then work_from opens cost verdict t below of_child child else 0) (child_nodes t n)
+
+-- the same from the root, which is opened where there is one
+abbrev pub work : (opens : Verdict → Bool) → (cost : Node → ℕ) → (verdict : Info → Verdict) → Packed → ℕ
+work opens cost verdict t =
+    if length t.nodes == 0 then 0 else work_from opens cost verdict t (height t) root_verdict (root_of t)
+
+-- what opening a node costs in nodes
+abbrev pub one_node : Node → ℕ
+one_node n = 1
+
+-- what it costs in checks: each child is asked about
+abbrev pub its_children : Node → ℕ
+its_children n = n.count
+
+-- ---- by a search
+
+-- a state other than NOT
+abbrev pub is_kept : Within → Bool
+is_kept Not = false
+is_kept Partly = true
+is_kept Fully = true
+
+-- the score is at most the bound, if there is one
+abbrev pub is_within_bound : (bound : Option ℕ) → (score : ℕ) → Bool
+is_within_bound None score = true
+is_within_bound (Some bound) score = nat_le score bound
+
+-- a search up to a bound opens what isn't NOT and scores at most the bound
+abbrev pub is_reached : (bound : Option ℕ) → Verdict → Bool
+is_reached bound v = is_kept v.within && is_within_bound bound v.score
+
+-- the score of the last of so many answers: no bound where all are wanted, or fewer are found
+abbrev pub last_score : List Answer → (limit : Option ℕ) → Option ℕ
+last_score found None = None
+last_score found (Some limit) = option_map (λ a. a.1) (slice_get found (limit - 1))
+
+-- the sum of a cost over the nodes that a search opens for so many answers, or for all where there is no limit: what
+-- scores at most as the last of them. For no answer none is opened
+abbrev pub search_work : (cost : Node → ℕ) → (accepts : Extent → Bool) → (score : Extent → ℕ)
+    → (verdict : Info → Verdict) → Packed → (limit : Option ℕ) → ℕ
+search_work cost accepts score verdict t (Some zero) = 0
+search_work cost accepts score verdict t (Some (suc more)) =
+    work (is_reached (last_score (answers t.entries accepts score None) (Some (suc more)))) cost verdict t
+search_work cost accepts score verdict t None = work (is_reached None) cost verdict t
+
+-- how many nodes a search opens for so many answers
+abbrev pub opened_by_search : (accepts : Extent → Bool) → (score : Extent → ℕ) → (verdict : Info → Verdict) → Packed
+    → (limit : Option ℕ) → ℕ
+opened_by_search = search_work one_node
+
+-- how many checks it makes
+abbrev pub asked_by_search : (accepts : Extent → Bool) → (score : Extent → ℕ) → (verdict : Info → Verdict) → Packed
+    → (limit : Option ℕ) → ℕ
+asked_by_search = search_work its_children
+
+-- so many nodes were opened and checks made as a search needs for so many answers
+pub record HasWorked (accepts : Extent → Bool) (score : Extent → ℕ) (verdict : Info → Verdict) (t : Packed)
+    (limit : Option ℕ) (opened asked : ℕ) : Type 0 where
+  pub in_nodes : opened ≡ opened_by_search accepts score verdict t limit
+  pub in_checks : asked ≡ asked_by_search accepts score verdict t limit
+
+-- ---- by a count
+
+-- the state PARTLY
+abbrev pub is_partly : Within → Bool
+is_partly Not = false
+is_partly Partly = true
+is_partly Fully = false
+
+-- a count opens what is PARTLY
+abbrev pub is_divided : Verdict → Bool
+is_divided v = is_partly v.within
+
+-- how many nodes a count opens: the root, and each node that is PARTLY under an opened one
+abbrev pub opened_by_count : (verdict : Info → Verdict) → Packed → ℕ
+opened_by_count = work is_divided one_node
+
+-- how many checks it makes
+abbrev pub asked_by_count : (verdict : Info → Verdict) → Packed → ℕ
+asked_by_count = work is_divided its_children

@@ -1,0 +1,31 @@
+//! What waits in a frontier.
+
+use rt_tree::NodeNo;
+
+/// A node that waits to be opened.
+#[derive(Clone, Copy, Debug, PartialEq, Eq, PartialOrd, Ord)]
+pub struct WaitingNode {
+    /// Its number.
+    pub number: NodeNo,
+    /// Whether all that lies under it is accepted.
+    pub is_full: bool,
+}
+
+/// What an item stands for, nodes before entries.
+#[derive(Clone, Copy, Debug, PartialEq, Eq, PartialOrd, Ord)]
+pub enum Place {
+    /// All answers under a node.
+    Node(WaitingNode),
+    /// An entry that is accepted, by its id.
+    Entry(i64),
+}
+
+/// An item of the frontier. The least is taken out first: that of the lowest score; at equal score nodes before
+/// entries, nodes by number and entries by id.
+#[derive(Clone, Copy, Debug, PartialEq, Eq, PartialOrd, Ord)]
+pub struct Item {
+    /// An entry's score; a node's is at most that of each answer under it.
+    pub score: u128,
+    /// What it stands for.
+    pub place: Place,
+}

@@ -1,0 +1,25 @@
+//! Best-first search over a packed tree, and counting by whole subtrees.
+//!
+//! A [`Search`] gives the answers to a query one at a time, for any geometry that keeps its laws: those of a plain scan
+//! of all entries, by score and then id, cut at a limit. It opens exactly the nodes that the last answer's score makes
+//! necessary. [`count`] tells how many entries are accepted, and adds the size of a node that is accepted whole. Both
+//! work in the room of a [`Frontier`] that was made beforehand, and take no memory.
+//!
+//! The definitions that the contracts cite stand in `specs/`: `Answers`, and `Work` for the nodes that are opened and
+//! the checks that are made. Their worked rows stand in `proofs/Rows.antt`.
+#![tactic(auto)]
+
+mod counting;
+mod counts;
+mod frontier;
+mod item;
+mod opening;
+mod search;
+
+pub use counting::count;
+pub use counts::Count;
+pub use frontier::Frontier;
+pub use search::Search;
+
+#[cfg(test)]
+mod tests;

@@ -1,0 +1,183 @@
+//! Opening a node: each of its children is asked about, and joins the frontier where it may hold answers.
+
+ghost use Rattle.std.specs.Prelude.{◌≡◌, ◌+◌, ◌-◌, ◌<◌, ◌≤◌, ◌^◌, [], length};
+ghost use Rattle.rt_geo.specs.Laws.{IsHonest};
+ghost use Rattle.rt_tree.specs.Packed.{IsLeafNode, IsSound, extent_of_node, node_at, root_of};
+ghost use Rattle.rt_search.specs.Joining.{join_entries, join_entry, join_node, join_nodes, root_items};
+ghost use Rattle.rt_search.specs.Remaining.{IsBelow, IsOpenable, verdict_on};
+ghost use Rattle.rt_search.specs.Work.{info_under, is_kept};
+
+use crate::frontier::Frontier;
+use crate::item::{Item, Place, WaitingNode};
+use rt_geo::{Bounds, Counted, Entry, Geometry, Info, Verdict, Within};
+use rt_tree::{Node, NodeNo, Tree};
+
+/// What the children of an opened node are told.
+#[derive(Clone, Copy)]
+pub(crate) struct Parent {
+    /// The level of the root.
+    pub top: u8,
+    /// The verdict on the node.
+    pub verdict: Verdict,
+}
+
+impl Parent {
+    /// A node that waited with a score.
+    pub fn new(top: u8, score: u128, node: WaitingNode) -> Parent
+        ensures top { result.top ≡ top }
+        ensures verdict { result.verdict ≡ verdict_on score node }
+    {
+        let within = if node.is_full {
+            Within::Fully
+        } else {
+            Within::Partly
+        };
+        Parent {
+            top,
+            verdict: Verdict { within, score },
+        }
+    }
+
+    /// What is asked about a child.
+    pub fn info(&self, bounds: Bounds, level: u8) -> Info
+        ensures { result ≡ info_under self.now.top self.now.verdict bounds level }
+    {
+        Info {
+            bounds,
+            level,
+            top: self.top,
+            parent_within: self.verdict.within,
+            parent_score: self.verdict.score,
+        }
+    }
+}
+
+/// Puts the root into an empty frontier, if there is one, and tells its level.
+pub(crate) fn put_root(tree: &Tree, frontier: &mut Frontier) -> u8
+    requires empty { frontier.old.items ≡ [] }
+    requires capacity { length tree.now.entries ≤ frontier.old.capacity }
+    ensures sound { IsSound tree.now }
+    ensures items { frontier.new.items ≡ root_items tree.now }
+    ensures top { result ≡ (root_of tree.now).level }
+    ensures capacity { frontier.new.capacity ≡ frontier.old.capacity }
+{
+    let Some(number) = tree.root() else {
+        return 0;
+    };
+    frontier.put(Item {
+        score: 0,
+        place: Place::Node(WaitingNode {
+            number,
+            is_full: false,
+        }),
+    });
+    tree.node(number).level
+}
+
+fn ask_entry<G: Geometry>(
+    frontier: &mut Frontier,
+    counted: &mut Counted<'_, G>,
+    entry: Entry,
+    info: &Info,
+)
+    requires honest { IsHonest (G.accepts counted.old.geometry) info.now }
+    requires room { length frontier.old.items < frontier.old.capacity }
+    requires asked { counted.old.asked < 2 ^ 64 - 1 }
+    ensures items { frontier.new.items ≡ join_entry (G.verdict counted.old.geometry info.now) entry frontier.old.items }
+    ensures capacity { frontier.new.capacity ≡ frontier.old.capacity }
+    ensures geometry { counted.new.geometry ≡ counted.old.geometry }
+    ensures asked { counted.new.asked ≡ counted.old.asked + 1 }
+{
+    let verdict = counted.check(info);
+    if verdict.within == Within::Not {
+        return;
+    }
+    frontier.put(Item {
+        score: verdict.score,
+        place: Place::Entry(entry.id),
+    });
+}
+
+fn ask_node<G: Geometry>(
+    frontier: &mut Frontier,
+    counted: &mut Counted<'_, G>,
+    number: NodeNo,
+    info: &Info,
+)
+    requires honest { IsHonest (G.accepts counted.old.geometry) info.now }
+    requires room { length frontier.old.items < frontier.old.capacity }
+    requires asked { counted.old.asked < 2 ^ 64 - 1 }
+    ensures items { frontier.new.items
+        ≡ join_node is_kept (G.verdict counted.old.geometry info.now) number.number frontier.old.items }
+    ensures capacity { frontier.new.capacity ≡ frontier.old.capacity }
+    ensures geometry { counted.new.geometry ≡ counted.old.geometry }
+    ensures asked { counted.new.asked ≡ counted.old.asked + 1 }
+{
+    let verdict = counted.check(info);
+    if verdict.within == Within::Not {
+        return;
+    }
+    let is_full = verdict.within == Within::Fully;
+    frontier.put(Item {
+        score: verdict.score,
+        place: Place::Node(WaitingNode { number, is_full }),
+    });
+}
+
+/// Opens a node of level 1.
+pub(crate) fn open_leaf<G: Geometry>(
+    tree: &Tree,
+    frontier: &mut Frontier,
+    counted: &mut Counted<'_, G>,
+    node: Node,
+    parent: Parent,
+)
+    requires tree { IsSound tree.now }
+    requires top { parent.top ≡ (root_of tree.now).level }
+    requires node { IsLeafNode tree.now node }
+    requires below { let g = counted.old.geometry in
+        IsBelow (G.accepts g) (G.score g) (extent_of_node node) parent.verdict }
+    requires room { length frontier.old.items + node.count ≤ frontier.old.capacity }
+    requires asked { counted.old.asked + node.count ≤ 2 ^ 64 - 1 }
+    ensures items { frontier.new.items
+        ≡ join_entries (G.verdict counted.old.geometry) tree.now parent.verdict node node.count frontier.old.items }
+    ensures capacity { frontier.new.capacity ≡ frontier.old.capacity }
+    ensures geometry { counted.new.geometry ≡ counted.old.geometry }
+    ensures asked { counted.new.asked ≡ counted.old.asked + node.count }
+{
+    for i in 0..node.count {
+        let entry = tree.entry(node.first + i as u32);
+        let info = parent.info(entry.bounds, 0);
+        ask_entry(frontier, counted, entry, &info);
+    }
+}
+
+/// Opens a node of a higher level.
+pub(crate) fn open_inner<G: Geometry>(
+    tree: &Tree,
+    frontier: &mut Frontier,
+    counted: &mut Counted<'_, G>,
+    number: NodeNo,
+    parent: Parent,
+)
+    requires top { parent.top ≡ (root_of tree.now).level }
+    requires node { let g = counted.old.geometry in
+        IsOpenable tree.now (G.accepts g) (G.score g) number.number parent.verdict }
+    requires level { 2 ≤ (node_at tree.now number.number).level }
+    requires room { length frontier.old.items + (node_at tree.now number.number).count ≤ frontier.old.capacity }
+    requires asked { counted.old.asked + (node_at tree.now number.number).count ≤ 2 ^ 64 - 1 }
+    ensures items { let n = node_at tree.now number.number in
+        frontier.new.items ≡ join_nodes is_kept (G.verdict counted.old.geometry) tree.now parent.verdict n n.count
+        frontier.old.items }
+    ensures capacity { frontier.new.capacity ≡ frontier.old.capacity }
+    ensures geometry { counted.new.geometry ≡ counted.old.geometry }
+    ensures asked { counted.new.asked ≡ counted.old.asked + (node_at tree.now number.number).count }
+{
+    let node = tree.node(number);
+    for i in 0..node.count {
+        let child_number = tree.child_node(number, i);
+        let child = tree.node(child_number);
+        let info = parent.info(child.bounds, child.level);
+        ask_node(frontier, counted, child_number, &info);
+    }
+}

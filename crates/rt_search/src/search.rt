@@ -1,0 +1,226 @@
+//! Best-first search.
+
+ghost use Rattle.std.specs.Prelude.{◌≡◌, ◌≢◌, ◌+◌, ◌≤◌, ◌^◌, [], ◌∷◌, None, Some, IfNone, IfSome, MatchOption, length};
+ghost use Rattle.rt_tree.specs.Packed.{node_at, root_of};
+ghost use Rattle.rt_search.specs.declared.item.Place.TheVariants as place;
+ghost use Rattle.rt_search.specs.Answers.{answers};
+ghost use Rattle.rt_search.specs.Joining.{item_at};
+ghost use Rattle.rt_search.specs.Progress.{IsNodeStep, IsSearching, IsTaken};
+ghost use Rattle.rt_search.specs.Remaining.{remaining};
+ghost use Rattle.rt_search.specs.Work.{HasWorked, is_reached, its_children, one_node, work};
+
+use crate::frontier::Frontier;
+use crate::item::{Place, WaitingNode};
+use crate::opening::{Parent, open_inner, open_leaf, put_root};
+use rt_geo::{Counted, Geometry};
+use rt_tree::Tree;
+use std::marker::Model;
+
+// Opens a node that was taken out.
+fn open_node<G: Geometry>(
+    tree: &Tree,
+    frontier: &mut Frontier,
+    counted: &mut Counted<'_, G>,
+    opened: &mut u64,
+    top: u8,
+    score: u128,
+    waiting: WaitingNode,
+)
+    requires top { top ≡ (root_of tree.now).level }
+    requires taken { let g = counted.old.geometry in
+        IsTaken (G.accepts g) (G.score g) (G.verdict g) tree.now opened.old counted.old.asked frontier.old.capacity
+        (item_at score (place.Node waiting)) frontier.old.items }
+    ensures step { let g = counted.old.geometry in
+        IsNodeStep (G.accepts g) (G.score g) (G.verdict g) tree.now opened.old counted.old.asked frontier.old.capacity
+        score waiting frontier.old.items frontier.new.items }
+    ensures opened { opened.new ≡ opened.old + 1 }
+    ensures asked { counted.new.asked ≡ counted.old.asked + (node_at tree.now waiting.number.number).count }
+    ensures capacity { frontier.new.capacity ≡ frontier.old.capacity }
+    ensures geometry { counted.new.geometry ≡ counted.old.geometry }
+{
+    let node = tree.node(waiting.number);
+    let parent = Parent::new(top, score, waiting);
+    *opened += 1;
+    if node.level == 1 {
+        open_leaf(tree, frontier, counted, node, parent);
+        return;
+    }
+    open_inner(tree, frontier, counted, waiting.number, parent);
+}
+
+// Takes items out until an entry comes: the next answer. None comes where no item is left.
+fn pull<G: Geometry>(
+    tree: &Tree,
+    frontier: &mut Frontier,
+    counted: &mut Counted<'_, G>,
+    opened: &mut u64,
+    top: u8,
+) -> Option<(i64, u128)>
+    requires top { top ≡ (root_of tree.now).level }
+    requires state { let g = counted.old.geometry in
+        IsSearching (G.accepts g) (G.score g) (G.verdict g) tree.now opened.old counted.old.asked
+        frontier.old.capacity frontier.old.items }
+    ensures answer { let g = counted.old.geometry in
+        MatchOption result (remaining tree.now (G.accepts g) (G.score g) frontier.old.items ≡ [])
+        (λ a. remaining tree.now (G.accepts g) (G.score g) frontier.old.items
+        ≡ a ∷ remaining tree.now (G.accepts g) (G.score g) frontier.new.items) }
+    ensures none { let g = counted.old.geometry in
+        IfNone result (remaining tree.now (G.accepts g) (G.score g) frontier.new.items ≡ []) }
+    ensures state { let g = counted.old.geometry in
+        IsSearching (G.accepts g) (G.score g) (G.verdict g) tree.now opened.new counted.new.asked
+        frontier.new.capacity frontier.new.items }
+    ensures opened { let g = counted.old.geometry in
+        MatchOption result (opened.new ≡ work (is_reached None) one_node (G.verdict g) tree.now)
+        (λ a. opened.new ≡ work (is_reached (Some a.1)) one_node (G.verdict g) tree.now) }
+    ensures asked { let g = counted.old.geometry in
+        MatchOption result (counted.new.asked ≡ work (is_reached None) its_children (G.verdict g) tree.now)
+        (λ a. counted.new.asked ≡ work (is_reached (Some a.1)) its_children (G.verdict g) tree.now) }
+    ensures capacity { frontier.new.capacity ≡ frontier.old.capacity }
+    ensures geometry { counted.new.geometry ≡ counted.old.geometry }
+{
+    while let Some(item) = frontier.take() {
+        match item.place {
+            Place::Entry(id) => return Some((id, item.score)),
+            Place::Node(waiting) => {
+                open_node(tree, frontier, counted, opened, top, item.score, waiting);
+            }
+        }
+    }
+    None
+}
+
+/// A search that gives the answers to a query one at a time, those of the lowest score first.
+///
+/// It is seen as what is searched, the answers still to come and how many were given, the nodes opened and the checks
+/// made so far, and the capacity of its frontier.
+pub struct Search<'a, G: Geometry> {
+    tree: &'a Tree,
+    frontier: Frontier,
+    counted: Counted<'a, G>,
+    limit: Option<u64>,
+    given: u64,
+    opened: u64,
+    top: u8,
+}
+
+impl<'a, G: Geometry> Model for Search<'a, G> {
+    ghost use Rattle.std.specs.Prelude.{◌≡◌, drop};
+    ghost use Rattle.rt_tree.specs.Packed.{root_of};
+    ghost use Rattle.rt_search.specs.Answers.{answers};
+    ghost use Rattle.rt_search.specs.Progress.{IsGiving};
+    ghost use Rattle.rt_search.specs.Searching.{Searching};
+
+    ghost Value = { Searching G };
+
+    ghost view = { λ s. let g = s.counted.geometry in record {
+      tree = s.tree.now;
+      geometry = g;
+      limit = s.limit;
+      to_come = drop s.given (answers s.tree.now.entries (G.accepts g) (G.score g) s.limit);
+      given = s.given;
+      opened = s.opened;
+      asked = s.counted.asked;
+      capacity = s.frontier.capacity;
+    } };
+
+    ghost invariant = { λ s. let g = s.counted.geometry in
+        IsGiving (G.accepts g) (G.score g) (G.verdict g) s.tree.now s.limit s.given s.opened s.counted.asked
+        s.frontier.capacity s.frontier.items × (s.top ≡ (root_of s.tree.now).level) };
+}
+
+impl<'a, G: Geometry> Search<'a, G> {
+    /// A search for so many answers, or for all where there is no limit. What the frontier held is given up. No node is
+    /// opened yet.
+    pub fn start(
+        tree: &'a Tree,
+        frontier: Frontier,
+        counted: Counted<'a, G>,
+        limit: Option<u64>,
+    ) -> Search<'a, G>
+        requires capacity { length tree.now.entries ≤ frontier.capacity }
+        requires asked { counted.asked ≡ 0 }
+        ensures to_come { let g = counted.entry.geometry in
+            result.to_come ≡ answers tree.now.entries (G.accepts g) (G.score g) limit }
+        ensures limit { result.limit ≡ limit }
+        ensures given { result.given ≡ 0 }
+        ensures opened { result.opened ≡ 0 }
+        ensures asked { result.asked ≡ 0 }
+
+        ensures tree { result.tree ≡ tree.now }
+        ensures geometry { result.geometry ≡ counted.entry.geometry }
+        ensures capacity { result.capacity ≡ frontier.capacity }
+    {
+        let mut frontier = frontier;
+        frontier.clear();
+        let top = put_root(tree, &mut frontier);
+        Search {
+            tree,
+            frontier,
+            counted,
+            limit,
+            given: 0,
+            opened: 0,
+            top,
+        }
+    }
+
+    /// The next answer, as its id and score. `None` where none is left or as many were given as are wanted, and from
+    /// then on.
+    pub fn next(&mut self) -> Option<(i64, u128)>
+        ensures answer { MatchOption result (self.old.to_come ≡ []) (λ a. self.old.to_come ≡ a ∷ self.new.to_come) }
+        ensures none { IfNone result (self.new.to_come ≡ []) }
+        ensures given { MatchOption result (self.new.given ≡ self.old.given)
+            (λ _. self.new.given ≡ self.old.given + 1) }
+
+        // After an answer the work is that of a search for so many answers, after the last that of the whole search.
+        ensures worked { let g = self.old.geometry in
+            IfSome result (λ _. HasWorked (G.accepts g) (G.score g) (G.verdict g) self.old.tree (Some self.new.given)
+            self.new.opened self.new.asked) }
+        ensures worked_in_all { let g = self.old.geometry in
+            IfNone result (HasWorked (G.accepts g) (G.score g) (G.verdict g) self.old.tree self.old.limit
+            self.new.opened self.new.asked) }
+
+        ensures limit { self.new.limit ≡ self.old.limit }
+        ensures tree { self.new.tree ≡ self.old.tree }
+        ensures geometry { self.new.geometry ≡ self.old.geometry }
+        ensures capacity { self.new.capacity ≡ self.old.capacity }
+    {
+        if self.limit == Some(self.given) {
+            return None;
+        }
+        let answer = pull(
+            self.tree,
+            &mut self.frontier,
+            &mut self.counted,
+            &mut self.opened,
+            self.top,
+        )?;
+        self.given += 1;
+        Some(answer)
+    }
+
+    /// How many nodes were opened so far.
+    pub fn opened(&self) -> u64
+        ensures { result ≡ self.now.opened }
+    {
+        self.opened
+    }
+
+    /// The frontier, for the next search, and the geometry with the number of its checks.
+    pub fn finish(self) -> (Frontier, Counted<'a, G>)
+        ensures capacity { result.0.capacity ≡ self.entry.capacity }
+        ensures geometry { result.1.geometry ≡ self.entry.geometry }
+        ensures asked { result.1.asked ≡ self.entry.asked }
+    {
+        let Search {
+            tree: _,
+            frontier,
+            counted,
+            limit: _,
+            given: _,
+            opened: _,
+            top: _,
+        } = self;
+        (frontier, counted)
+    }
+}

@@ -1,0 +1,48 @@
+//! A geometry that keeps what it is shown.
+
+use rt_geo::{Geometry, Info, Verdict};
+use std::cell::Cell;
+
+/// Answers as another geometry, and keeps the greatest x of the first ten boxes that it is shown.
+#[derive(Drop)]
+pub struct Watched<G: Geometry> {
+    geometry: G,
+    shown: Cell<[i32; 10]>,
+    checks: Cell<usize>,
+}
+
+impl<G: Geometry> Watched<G> {
+    pub fn new(geometry: G) -> Watched<G> {
+        Watched {
+            geometry,
+            shown: Cell::new([0; 10]),
+            checks: Cell::new(0),
+        }
+    }
+
+    /// What it was shown, and 0 for each box that it wasn't.
+    pub fn shown(&self) -> [i32; 10] {
+        self.shown.get()
+    }
+}
+
+impl<G: Geometry> Geometry for Watched<G> {
+    ghost accepts = { λ w. G.accepts w.geometry };
+
+    ghost score = { λ w. G.score w.geometry };
+
+    ghost verdict = { λ w. G.verdict w.geometry };
+
+    fn check(&self, info: &Info) -> Verdict {
+        let place = self.checks.get();
+        let mut shown = self.shown.get();
+        if place < shown.len() {
+            shown[place] = info.bounds.max_x();
+            self.shown.set(shown);
+            self.checks.set(place + 1);
+        }
+        self.geometry.check(info)
+    }
+
+    ghost lawful = { λ w. G.lawful w.geometry };
+}
