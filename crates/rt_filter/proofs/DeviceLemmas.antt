@@ -37,7 +37,7 @@ pushed_more all old mid new rest left n p h l = record {
       );
 }
 
-kept : (xs : List ℕ) (new : Option (List ℕ)) → Keeps (Some xs) new → new ≡ Some xs
+pub kept : (xs : List ℕ) (new : Option (List ℕ)) → Keeps (Some xs) new → new ≡ Some xs
 kept xs None h = absurd h
 kept xs (Some ys) h = ap (λ zs. Some zs) h
 
@@ -52,7 +52,7 @@ pushed_all all old mid new (c ∷ rest) p z k = absurd (omega (arith, z))
 prefix : (out rest all : List ℕ) → all ≡ out ++ rest → StartsWith all out
 prefix out rest all e = rw e (take-append_seam out rest)
 
-unmoved : (xs : List ℕ) (new : Option (List ℕ)) (all out rest before : List ℕ) → IsUnmoved (Some xs) new → xs ≡ before ++ out → all ≡ out ++ rest
+pub unmoved : (xs : List ℕ) (new : Option (List ℕ)) (all out rest before : List ℕ) → IsUnmoved (Some xs) new → xs ≡ before ++ out → all ≡ out ++ rest
     → WentPrefix before new all
 unmoved xs None all out rest before h e f = tt
 unmoved xs (Some ys) all out rest before h e f = (out, h ∙ e, prefix out rest all f)
@@ -63,7 +63,7 @@ pushed_prefix all old mid new rest p h = if_some _ old (λ before e.
     let q = p.out before e in
     unmoved (before ++ q.0) new all q.0 rest before (rw q.1 at h) refl q.2)
 
-unmoved_same : (now : Option (List ℕ)) → IsUnmoved now now
+pub unmoved_same : (now : Option (List ℕ)) → IsUnmoved now now
 unmoved_same None = tt
 unmoved_same (Some xs) = refl
 
@@ -81,7 +81,7 @@ pub record Pulled (old now : Option (List ℕ)) (before bytes : List ℕ) (turns
 pub pulled_none : (old : Option (List ℕ)) (before : List ℕ) → Pulled old old before before 0
 pulled_none old before = record { pulled = λ all e. ([], all, e, refl, sym (append-nil before), omega arith) }
 
-consumed : (xs bytes : List ℕ) (new : Option (List ℕ)) → Consumes (Some xs) new bytes → (ys : List ℕ) × (new ≡ Some ys) × (xs ≡ bytes ++ ys)
+pub consumed : (xs bytes : List ℕ) (new : Option (List ℕ)) → Consumes (Some xs) new bytes → (ys : List ℕ) × (new ≡ Some ys) × (xs ≡ bytes ++ ys)
 consumed xs bytes None h = absurd h
 consumed xs bytes (Some ys) h = (ys, refl, h)
 
@@ -101,7 +101,7 @@ pulled_more old mid new before bytes more room turns n p h some fits e = record 
       );
 }
 
-ended : (rest : List ℕ) (new : Option (List ℕ)) → Consumes (Some rest) new [] → IsAtEnd new → (new ≡ Some []) × (rest ≡ [])
+pub ended : (rest : List ℕ) (new : Option (List ℕ)) → Consumes (Some rest) new [] → IsAtEnd new → (new ≡ Some []) × (rest ≡ [])
 ended rest None h e = absurd h
 ended rest (Some ys) h e = (ap (λ zs. Some zs) e, h ∙ e)
 

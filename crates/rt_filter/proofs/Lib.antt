@@ -2,6 +2,7 @@ mod AnswerLemmas
 mod DeviceLemmas
 mod LevelLemmas
 mod LineLemmas
+mod PieceLemmas
 mod RunLemmas
-mod RunRows
 mod TreeLemmas
+mod TurnLemmas

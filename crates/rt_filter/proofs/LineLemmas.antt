@@ -1,87 +1,86 @@
 -- The lines of query bytes, one after the other.
-use Rattle.std.proofs.Common.{◌≡◌, ◌≢◌, ◌∙◌, ◌+◌, ◌<◌, ◌≤◌, ℕ, Bool, true, false, ◌||◌, List, [], ◌∷◌, ◌++◌, length, take, drop, refl, sym, ap, arith, Some, None, append_assoc}
-use Rattle.rt_text.proofs.WordLemmas.{later_parts, parts_are}
-use Rattle.std.specs.List.{enumerate_from, position_or_len, slice_split}
-use Rattle.std.proofs.Math.Bool.{or-false, or_assoc}
+use Rattle.std.proofs.Common.{◌≡◌, ◌∙◌, ◌+◌, ◌<◌, ◌≤◌, ℕ, zero, suc, Bool, true, false, cond, List, [], ◌∷◌, ◌++◌, length, take, drop, refl, sym, ap, arith, add-one, Some, None}
+use Rattle.std.proofs.lemmas.Bool.Decides.{nat_tests}
+use Rattle.std.specs.List.{AllByRecursion, enumerate_from, slice_split}
 use Rattle.std.proofs.lemmas.Bool.{false_from_ne_true}
-use Rattle.std.proofs.lemmas.List.{append-nil, drop_all, length-drop, take_all}
-use Rattle.std.proofs.lemmas.List.Splits.{slice_split_first}
-use Rattle.std.proofs.lemmas.List.Sums.{position_or_len_is}
 use Rattle.memchr.specs.Find.{IsFirstByte, is_byte}
-use Rattle.rt_filter.specs.Lines.{is_line_feed, line_feed, lines_of_parts, numbered_lines}
-use Rattle.rt_filter.specs.Replies.{Loaded, any_fault, is_fault, judged_line, output, reply}
+use Rattle.rt_filter.specs.Lines.{is_line_feed, line_feed, lines_of_parts}
+use Rattle.rt_filter.specs.Stages.{HasNoLineFeed, lines_from}
 
--- the place that a search for a line feed finds
-found_at : (xs : List ℕ) (n : ℕ) → IsFirstByte (is_byte line_feed) xs (Some n) → position_or_len is_line_feed xs ≡ n
-found_at xs n h = position_or_len_is is_line_feed xs n 0 (omega (arith, h.0.high)) (λ k below. false_from_ne_true _ (h.0.before k (omega arith) below)) (λ _. h.1)
+-- ---- where the first line feed stands
 
-found_none : (xs : List ℕ) → IsFirstByte (is_byte line_feed) xs None → position_or_len is_line_feed xs ≡ length xs
-found_none xs h = position_or_len_is is_line_feed xs (length xs) 0 (omega arith) (λ k below. false_from_ne_true _ (h k (omega arith) below)) (λ beyond. absurd (omega (arith, beyond)))
+-- what stands before the one that was found has none, and what stands behind it follows it
+pub record IsCutAt (xs front back : List ℕ) : Type 0 where
+  pub parts : xs ≡ front ++ line_feed ∷ back
+  pub clear : HasNoLineFeed front
+
+-- the place after the first byte
+later : (x : ℕ) (xs : List ℕ) (n : ℕ) → IsFirstByte (is_byte line_feed) (x ∷ xs) (Some (suc n)) → IsFirstByte (is_byte line_feed) xs (Some n)
+later x xs n h = (record { low = omega arith; high = omega (arith, h.0.high); before = λ k low below. h.0.before (suc k) (omega arith) (omega (arith, below)) }, h.1)
+
+is_line_feed_of : (x : ℕ) → is_line_feed x ≡ true → x ≡ line_feed
+is_line_feed_of x e = grind (arith, nat_tests)
+
+cut_at : (xs : List ℕ) (n : ℕ) → IsFirstByte (is_byte line_feed) xs (Some n) → IsCutAt xs (take n xs) (drop (suc n) xs)
+cut_at [] n h = absurd (omega (arith, h.0.high))
+cut_at (x ∷ xs) zero h = record { parts = ap (λ b. b ∷ xs) (is_line_feed_of x h.1); clear = tt }
+cut_at (x ∷ xs) (suc n) h =
+    let r = cut_at xs n (later x xs n h) in
+    record {
+      parts = ap (λ ys. x ∷ ys) r.parts;
+      clear = (false_from_ne_true _ (h.0.before 0 (omega arith) (omega arith)), r.clear);
+    }
+
+pub found : (xs : List ℕ) (n : ℕ) → IsFirstByte (is_byte line_feed) xs (Some n) → IsCutAt xs (take n xs) (drop (n + 1) xs)
+found xs n h = rw (add-one n) (cut_at xs n h)
+
+pub found_none : (xs : List ℕ) → IsFirstByte (is_byte line_feed) xs None → HasNoLineFeed xs
+found_none [] h = tt
+found_none (x ∷ xs) h = (false_from_ne_true _ (h 0 (omega arith) (omega arith)), found_none xs (λ k low below. h (suc k) (omega arith) (omega (arith, below))))
+
+-- ---- bytes without a line feed
+
+pub clear-append : (xs ys : List ℕ) → HasNoLineFeed xs → HasNoLineFeed ys → HasNoLineFeed (xs ++ ys)
+clear-append [] ys h k = k
+clear-append (x ∷ xs) ys h k = (h.0, clear-append xs ys h.1 k)
+
+-- they are one part
+one_part : (xs : List ℕ) → HasNoLineFeed xs → slice_split is_line_feed xs ≡ xs ∷ []
+one_part [] h = refl
+one_part (x ∷ xs) h = rw (h.0, one_part xs h.1) refl
+
+-- before a line feed they are the first
+first_part : (xs ys : List ℕ) → HasNoLineFeed xs → slice_split is_line_feed (xs ++ line_feed ∷ ys) ≡ xs ∷ slice_split is_line_feed ys
+first_part [] ys h = refl
+first_part (x ∷ xs) ys h = rw (h.0, first_part xs ys h.1) refl
 
 -- no list of parts is empty
-some_part : (p : ℕ → Bool) (xs : List ℕ) → (part : List ℕ) × (more : List (List ℕ)) × (slice_split p xs ≡ part ∷ more)
-some_part p [] = ([], [], refl)
-some_part p (x ∷ xs) = by (p x) refl (some_part p xs)
+some_part : (xs : List ℕ) → (part : List ℕ) × (more : List (List ℕ)) × (slice_split is_line_feed xs ≡ part ∷ more)
+some_part [] = ([], [], refl)
+some_part (x ∷ xs) = by (is_line_feed x) refl (some_part xs)
   where
-    by : (b : Bool) → p x ≡ b → (part : List ℕ) × (more : List (List ℕ)) × (slice_split p xs ≡ part ∷ more) → (part : List ℕ) × (more : List (List ℕ)) × (slice_split p (x ∷ xs) ≡ part ∷ more)
-    by true e m = ([], slice_split p xs, rw e refl)
+    by : (b : Bool) → is_line_feed x ≡ b → (part : List ℕ) × (more : List (List ℕ)) × (slice_split is_line_feed xs ≡ part ∷ more)
+        → (part : List ℕ) × (more : List (List ℕ)) × (slice_split is_line_feed (x ∷ xs) ≡ part ∷ more)
+    by true e m = ([], slice_split is_line_feed xs, rw e refl)
     by false e m = (x ∷ m.0, m.1, rw (e, m.2) refl)
 
--- a part before other parts is a line
+-- ---- lines
+
 line_first : (ended : Bool) (part xs : List ℕ) → lines_of_parts ended (part ∷ slice_split is_line_feed xs) ≡ part ∷ lines_of_parts ended (slice_split is_line_feed xs)
-line_first ended part xs = let m = some_part is_line_feed xs in rw m.2 refl
+line_first ended part xs = let m = some_part xs in rw m.2 refl
 
--- the lines of what is left after so many lines
-abbrev pub lines_after : ℕ → List ℕ → List (ℕ × List ℕ)
-lines_after number rest = enumerate_from (number + 1) (lines_of_parts true (slice_split is_line_feed rest))
+-- what stands before a line feed is a line, and those behind it follow
+pub lines_from-found : (number : ℕ) (xs ys : List ℕ) (ended : Bool) → HasNoLineFeed xs
+    → lines_from number (xs ++ line_feed ∷ ys) ended ≡ (number + 1, xs) ∷ lines_from (number + 1) ys ended
+lines_from-found number xs ys ended h =
+    ap (λ parts. enumerate_from (number + 1) (lines_of_parts ended parts)) (first_part xs ys h)
+    ∙ ap (enumerate_from (number + 1)) (line_first ended xs ys)
 
--- a line that ends in a line feed, and those after it
-pub lines_after-found : (number : ℕ) (rest : List ℕ) (n : ℕ) → IsFirstByte (is_byte line_feed) rest (Some n)
-    → lines_after number rest ≡ (number + 1, take n rest) ∷ lines_after (number + 1) (drop (n + 1) rest)
-lines_after-found number rest n h =
-    let at = found_at rest n h in
-    let first = slice_split_first is_line_feed rest 0 (rw at h.0.high) in
-    ap (λ parts. enumerate_from (number + 1) (lines_of_parts true parts)) (rw at at first) ∙ ap (enumerate_from (number + 1)) (line_first true (take n rest) (drop (n + 1) rest))
+-- without a line feed there is none yet
+pub lines_from-none : (number : ℕ) (xs : List ℕ) → HasNoLineFeed xs → lines_from number xs false ≡ []
+lines_from-none number xs h = ap (λ parts. enumerate_from (number + 1) (lines_of_parts false parts)) (one_part xs h)
 
--- what is left without a line feed is a line, where it isn't empty
-pub lines_after-last : (number : ℕ) (c : ℕ) (rest : List ℕ) → IsFirstByte (is_byte line_feed) (c ∷ rest) None → lines_after number (c ∷ rest) ≡ (number + 1, c ∷ rest) ∷ []
-lines_after-last number c rest h =
-    let one : slice_split is_line_feed (c ∷ rest) ≡ (c ∷ rest) ∷ [] =
-    let le : length (c ∷ rest) ≤ length (c ∷ rest) = omega arith in
-    let all = take_all (length (c ∷ rest)) (c ∷ rest) le in
-    let none = drop_all (length (c ∷ rest)) (c ∷ rest) le in
-    parts_are is_line_feed (c ∷ rest) ∙ ap (λ n. take n (c ∷ rest) ∷ later_parts is_line_feed (drop n (c ∷ rest))) (found_none (c ∷ rest) h)
-    ∙ ap (λ part. part ∷ later_parts is_line_feed (drop (length (c ∷ rest)) (c ∷ rest))) all ∙ ap (λ left. (c ∷ rest) ∷ later_parts is_line_feed left) none in
-    ap (λ parts. enumerate_from (number + 1) (lines_of_parts true parts)) one
-
--- what is said of all lines, after some of them: their replies, whether some is faulty, and how many there may be
-pub record Replied (loaded : Loaded) (queries before : List ℕ) (rest out : List ℕ) (number : ℕ) (bad : Bool) : Type 0 where
-  pub replies : before ++ output loaded (numbered_lines queries true) ≡ out ++ output loaded (lines_after number rest)
-  pub faults : any_fault (numbered_lines queries true) ≡ (bad || any_fault (lines_after number rest))
-  pub count : number + length rest ≤ length queries
-
-module _ (loaded : Loaded) (queries before : List ℕ) where
-  -- a line that ends in a line feed was answered
-  pub replied_more : (rest left out now : List ℕ) (number : ℕ) (bad fault : Bool) (n : ℕ)
-      → Replied loaded queries before rest out number bad → IsFirstByte (is_byte line_feed) rest (Some n) → left ≡ drop (n + 1) rest
-      → now ≡ out ++ reply loaded (number + 1) (judged_line (take n rest)) → fault ≡ is_fault (judged_line (take n rest))
-      → Replied loaded queries before left now (number + 1) (bad || fault)
-  replied_more rest left out now number bad fault n r h l o f =
-      let first = lines_after-found number rest n h in
-      let line : List ℕ = take n rest in
-      let high : n < length rest = h.0.high in
-      record {
-        replies = r.replies ∙ ap (λ ls. out ++ output loaded ls) first ∙ rw (o, l) (sym (append_assoc out (reply loaded (number + 1) (judged_line line)) (output loaded (lines_after (number + 1) (drop (n + 1) rest)))));
-        faults = r.faults ∙ ap (λ ls. bad || any_fault ls) first ∙ rw (f, l) (sym (or_assoc bad (is_fault (judged_line line)) (any_fault (lines_after (number + 1) (drop (n + 1) rest)))));
-        count = rw l (omega (arith, length-drop (n + 1) rest, r.count));
-      }
-
-  -- the last line was answered, which ends in none
-  pub replied_last : (rest out now : List ℕ) (number : ℕ) (bad fault : Bool)
-      → Replied loaded queries before rest out number bad → IsFirstByte (is_byte line_feed) rest None → length rest ≢ 0
-      → now ≡ out ++ reply loaded (number + 1) (judged_line rest) → fault ≡ is_fault (judged_line rest)
-      → (now ≡ before ++ output loaded (numbered_lines queries true)) × ((bad || fault) ≡ any_fault (numbered_lines queries true))
-  replied_last [] out now number bad fault r h some o f = absurd (some refl)
-  replied_last (c ∷ rest) out now number bad fault r h some o f =
-      let last = lines_after-last number c rest h in
-      (o ∙ sym (r.replies ∙ ap (λ ls. out ++ output loaded ls) last ∙ ap (λ bytes. out ++ bytes) (append-nil _)), rw f (sym (r.faults ∙ ap (λ ls. bad || any_fault ls) last ∙ ap (λ b. bad || b) (or-false _))))
+-- and one at the end, unless it is empty
+pub lines_from-last : (number : ℕ) (xs : List ℕ) → HasNoLineFeed xs → 0 < length xs → lines_from number xs true ≡ (number + 1, xs) ∷ []
+lines_from-last number [] h some = absurd (omega (arith, some))
+lines_from-last number (x ∷ xs) h some = ap (λ parts. enumerate_from (number + 1) (lines_of_parts true parts)) (one_part (x ∷ xs) h)

@@ -71,9 +71,8 @@ module _ (fanout : ℕ) (xs ys : List Entry) (moved : IsPermutation xs ys) where
   query_same line Levels = ap (λ n. levels_reply line (level_sizes n fanout)) (sym (length_permutation xs ys moved))
 
   reply_same : (line : ℕ) (parsed : Parsed) → reply first line parsed ≡ reply other line parsed
-  reply_same line parsed.Skip = refl
-  reply_same line (parsed.Query query) = query_same line query
-  reply_same line (parsed.Fault cause) = refl
+  unfolding reply
+  reply_same line parsed = refl
 
   pub output-IsPermutation : (lines : List (ℕ × List ℕ)) → output first lines ≡ output other lines
   output-IsPermutation [] = refl

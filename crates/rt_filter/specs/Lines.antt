@@ -1,5 +1,5 @@
 -- The lines of query bytes.
-use Rattle.std.specs.Prelude.{ℕ, ◌==◌, ◌&&◌, Bool, true, false, not, if◌then◌else◌, List, [], ◌∷◌}
+use Rattle.std.specs.Prelude.{ℕ, ◌+◌, ◌==◌, ◌&&◌, Bool, true, false, not, if◌then◌else◌, List, [], ◌∷◌}
 use Rattle.std.specs.List.{enumerate_from, slice_split}
 use Rattle.rt_text.specs.Words.{is_empty}
 
@@ -9,6 +9,14 @@ line_feed = 10
 
 abbrev pub is_line_feed : ℕ → Bool
 is_line_feed c = c == line_feed
+
+-- a line of more bytes is too long
+abbrev pub longest_line : ℕ
+longest_line = 4096
+
+-- one pull gives at most so many bytes: those of a line and its line feed
+abbrev pub most_pulled : ℕ
+most_pulled = longest_line + 1
 
 -- of the parts between line feeds each but the last is a line; the last is one where no more bytes come and it isn't
 -- empty

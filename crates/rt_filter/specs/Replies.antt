@@ -13,15 +13,12 @@ use Rattle.rt_text.specs.declared.query.Query.{Query}
 use Rattle.rt_text.specs.declared.query.Query.TheVariants.{Count, Find, Levels}
 use Rattle.rt_text.specs.declared.query.QueryFault.TheVariants as fault
 use Rattle.rt_filter.specs.Answers.{Answer, accepted, answers}
+use Rattle.rt_filter.specs.Lines.{longest_line}
 
 -- what queries are asked of: the entries of a table, and how many children a node of its tree may have
 pub record Loaded : Type 0 where
   pub entries : List Entry
   pub fanout : ℕ
-
--- a line of more bytes is too long
-abbrev pub longest_line : ℕ
-longest_line = 4096
 
 -- what a line asks, unless it is too long
 abbrev pub judged_line : List ℕ → Parsed
@@ -44,10 +41,8 @@ query_reply loaded line (Count region) = ok_line line (length (accepted loaded.e
 query_reply loaded line Levels = levels_reply line (level_sizes (length loaded.entries) loaded.fanout)
 
 -- the reply to what a line asks
-abbrev pub reply : Loaded → (line : ℕ) → Parsed → List ℕ
-reply loaded line parsed.Skip = []
-reply loaded line (parsed.Query query) = query_reply loaded line query
-reply loaded line (parsed.Fault cause) = error_line line cause
+unfoldable pub reply : Loaded → (line : ℕ) → Parsed → List ℕ
+reply loaded line asked = []
 
 -- the replies to numbered lines, one after the other
 abbrev pub output : Loaded → List (ℕ × List ℕ) → List ℕ

@@ -1,32 +1,101 @@
 -- What the private stages of a run promise one another. No public contract cites it.
-use Rattle.std.specs.Prelude.{◌≡◌, ℕ, List, Bool, true, false, Option, None, IfSome, ⊤}
+use Rattle.std.specs.Prelude.{◌≡◌, ◌+◌, ◌<◌, ℕ, List, [], ◌++◌, length, Bool, true, false, Option, Some, None, IfSome, Result, Ok, Err, MatchOption, MatchResult, ⊤}
+use Rattle.std.specs.List.{AllByRecursion, enumerate_from, slice_split}
+use Rattle.std.specs.List.Sorted.{IsPermutation}
+use Rattle.std.specs.Io.{StartsWith}
 use Rattle.rt_command.specs.Choices.{Choices}
-use Rattle.rt_text.specs.Tables.{tells_text}
+use Rattle.rt_text.specs.Tables.{MayRefuse}
+use Rattle.rt_text.specs.declared.query.Parsed.{Parsed}
+use Rattle.rt_text.specs.declared.query.Parsed.TheVariants as parsed
+use Rattle.rt_text.specs.declared.query.QueryFault.TheVariants as fault
 use Rattle.rt_text.specs.declared.tables.TableFault.TheVariants as load
 use Rattle.rt_tree.specs.Packed.{Packed}
-use Rattle.rt_filter.specs.Endings.{WentPrefix}
-use Rattle.rt_filter.specs.Replies.{Loaded}
-use Rattle.rt_filter.specs.Runs.{faulty_run, run_of}
+use Rattle.rt_filter.specs.Endings.{Consumed, ServesAll, ServesWith, Told, WentPrefix}
+use Rattle.rt_filter.specs.Lines.{is_line_feed, lines_of_parts, longest_line, numbered_lines}
+use Rattle.rt_filter.specs.Replies.{Loaded, any_fault, judged_line, output}
+use Rattle.rt_filter.specs.Runs.{loaded_of}
 use Rattle.rt_filter.specs.declared.filter.RunFault.{RunFault}
-use Rattle.rt_filter.specs.declared.filter.RunFault.TheVariants.{Table, Read}
+use Rattle.rt_filter.specs.declared.filter.RunFault.TheVariants.{Table, Read, Write}
+use Rattle.rt_filter.specs.declared.serving.ServeFault.{ServeFault}
+use Rattle.rt_filter.specs.declared.serving.ServeFault.TheVariants as serve
+
+-- ---- the load
 
 -- what queries are asked of, where the table's entries stand in a tree
 abbrev pub loaded_tree : Packed → Loaded
 loaded_tree tree = record { entries = tree.entries; fanout = tree.fanout }
+
+-- a tree of what is loaded of a table
+pub record HasLoaded (choices : Choices) (table : List ℕ) (tree : Packed) : Type 0 where
+  pub loaded : Loaded
+  pub same : loaded_of choices table ≡ Ok loaded
+  pub moved : IsPermutation loaded.entries tree.entries
+  pub fanout : loaded.fanout ≡ tree.fanout
 
 -- a fault that a run may report
 abbrev pub is_told : RunFault → Bool
 is_told (Table load.Memory) = false
 is_told other = true
 
--- why there are no replies: a fault of the table, which its bytes have, or a failure outside. After a failed pull, or
--- used up turns, the table is sound
+-- why nothing was loaded: a fault of the table's text is the one that it has
 abbrev pub Stops : Choices → (table : List ℕ) → RunFault → Type 0
-Stops choices table (Table cause) =
-    tells_text cause ≡ true → (queries : List ℕ) → run_of choices table queries ≡ faulty_run cause
-Stops choices table Read = (queries : List ℕ) → (run_of choices table queries).fault ≡ None
+Stops choices table (Table cause) = MayRefuse cause (loaded_of choices table)
 Stops choices table other = ⊤
+
+-- what a run tells of a fault of serving
+abbrev pub run_fault_of : Option ServeFault → Option RunFault
+run_fault_of None = None
+run_fault_of (Some serve.Read) = Some Read
+run_fault_of (Some serve.Write) = Some Write
+
+-- ---- pushes
 
 -- a push was cut short: what went out is a prefix of the bytes
 abbrev pub WasCut : (old new : Option (List ℕ)) → List ℕ → Type 0
 WasCut old new bytes = IfSome old (λ before. WentPrefix before new bytes)
+
+-- ---- lines in pieces
+
+-- the lines of these bytes, numbered on from so many
+abbrev pub lines_from : (number : ℕ) → List ℕ → (ended : Bool) → List (ℕ × List ℕ)
+lines_from number bytes ended = enumerate_from (number + 1) (lines_of_parts ended (slice_split is_line_feed bytes))
+
+abbrev pub HasNoLineFeed : List ℕ → Type 0
+HasNoLineFeed = AllByRecursion (λ c. is_line_feed c ≡ false)
+
+-- what a line asks whose beginning was dropped where it is too long
+abbrev pub asked_by : (is_long : Bool) → List ℕ → Parsed
+asked_by true line = parsed.Fault fault.LineTooLong
+asked_by false line = judged_line line
+
+-- of these bytes so many lines were answered, and `bad` tells whether one of them is faulty. What stands after them is the
+-- rest, before which bytes were dropped where it is too long for a line
+pub record IsAnswering (loaded : Loaded) (bytes before : List ℕ) (lines : ℕ) (bad is_long : Bool) (rest out : List ℕ)
+  : Type 0 where
+    pub answered : List (ℕ × List ℕ)
+    pub dropped : List ℕ
+    pub splits : (more : List ℕ) (ended : Bool)
+        → numbered_lines (bytes ++ more) ended ≡ answered ++ lines_from lines (dropped ++ (rest ++ more)) ended
+    pub replies : out ≡ before ++ output loaded answered
+    pub faults : bad ≡ any_fault answered
+    pub long : is_long ≡ true → longest_line < length dropped
+    pub short : is_long ≡ false → dropped ≡ []
+    pub clear : HasNoLineFeed dropped
+
+-- the queries are answered as far as they were pulled: what is held is the beginning of the next line
+pub record IsServing (loaded : Loaded) (told : Told) (lines : ℕ) (bad is_long : Bool) (held : List ℕ) : Type 0 where
+  pub consumed : List ℕ
+  pub rest : List ℕ
+  pub told_so : Consumed told consumed rest
+  pub out : List ℕ
+  pub written : told.written ≡ Some out
+  pub answering : IsAnswering loaded consumed told.before lines bad is_long held out
+  pub clear : HasNoLineFeed held
+
+-- a push or a flush failed on the way: what went out is a prefix of the answers to the lines of these bytes, and begins
+-- with what had gone out
+pub record IsCut (loaded : Loaded) (lines : List (ℕ × List ℕ)) (before out : List ℕ) (now : Option (List ℕ)) (bad : Bool)
+  : Type 0 where
+    pub written : WentPrefix before now (output loaded lines)
+    pub answered : IfSome now (λ written. StartsWith written out)
+    pub faults : bad ≡ true → any_fault lines ≡ true

@@ -1,22 +1,19 @@
 //! A whole run: a table and queries in, answers out.
 
-ghost use Rattle.std.specs.Prelude.{◌≡◌, ◌+◌, ◌-◌, ◌++◌, ◌<◌, ◌≤◌, ◌^◌, ◌⊎◌, ℕ, List, [], Some, None, IfSome, IfOk, IfErr, OnOk, OnErr, MatchResult, length, if◌then◌else◌, true};
-ghost use Rattle.rt_filter.specs.Endings.{Ends, IsStatusOf, told_of, is_before_output, is_before_queries, is_read, is_write};
+ghost use Rattle.std.specs.Prelude.{◌≡◌, ◌+◌, ◌-◌, ◌<◌, ◌≤◌, ◌^◌, ◌⊎◌, ℕ, List, [], Some, None, IfOk, IfErr, OnErr, length, if◌then◌else◌, true};
+ghost use Rattle.rt_filter.specs.Endings.{Ends, HasConsumed, IsStatusOf, told_of, is_of_load, is_read, is_write};
 ghost use Rattle.rt_filter.specs.Faults.{run_fault_line};
-ghost use Rattle.rt_filter.specs.Runs.{run_of, whole_run};
-ghost use Rattle.rt_filter.specs.Stages.{Stops, WasCut, is_told};
+ghost use Rattle.rt_filter.specs.Stages.{HasLoaded, Stops, is_told, run_fault_of};
 
-use crate::reply::{LONGEST_LINE, put_output};
+use crate::serving::{ServeFault, Served, serve};
 use rt_command::Settings;
-use rt_device::{Sink, Source, WriteFault};
+use rt_device::{Sink, Source};
+use rt_search::Frontier;
 use rt_text::{Line, TableFault, fault_line, read_table};
 use rt_tree::Tree;
 use std::alloc::{AllocError, Global};
 use std::io::Read;
 use thiserror::Error;
-
-/// The most bytes of one pull: the longest line and its line feed.
-const PULL: usize = LONGEST_LINE + 1;
 
 /// Why a run ended before all was read and written.
 #[derive(Clone, Copy, Debug, Drop, Error, PartialEq, Eq)]
@@ -44,10 +41,7 @@ pub struct Outcome {
     pub fault: Option<RunFault>,
 }
 
-/// Loads the table, answers every query line, and writes the answers.
-///
-/// At most `turns` pulls are made. The finished output is pushed from its front until all of it is taken,
-/// and flushed once where it isn't empty.
+/// Loads the table, and then answers the query lines as [`serve`] does.
 pub fn run<R: Read + Drop, S: Source, K: Sink>(
     alloc: Global,
     settings: &Settings,
@@ -63,8 +57,7 @@ pub fn run<R: Read + Drop, S: Source, K: Sink>(
     // is written, the fault and the status. After a failed push or flush, what went out is a prefix of that.
     ensures ending { (table queries before : List ℕ)
         → R.remaining reader ≡ Some table → S.coming source.old ≡ Some queries → K.written sink.old ≡ Some before
-        → let told = told_of table queries before (S.coming source.new) (K.written sink.new) in
-        Ends settings.now told result }
+        → Ends settings.now table (told_of queries before (S.coming source.new) (K.written sink.new)) result }
     ensures status { IsStatusOf result.fault result.status }
 
     // Each failure of a device is told, and no other. A source may also be given up when the turns are used up.
@@ -72,21 +65,52 @@ pub fn run<R: Read + Drop, S: Source, K: Sink>(
     ensures pulls { (S.failed source.new ≡ S.failed source.old)
         ⊎ ((S.failed source.new ≡ S.failed source.old + 1) × (is_read result.fault ≡ true)) }
     ensures turns { is_read result.fault ≡ true → S.failed source.new ≡ S.failed source.old
-        → IfSome (S.coming source.old) (λ queries. turns ≤ length queries) }
+        → HasConsumed turns (S.coming source.old) (S.coming source.new) }
 
-    // What comes later is not touched.
-    ensures unread { is_before_queries result.fault ≡ true → source.new ≡ source.old }
-    ensures unwritten { is_before_output result.fault ≡ true → sink.new ≡ sink.old }
+    // A table that can't be had leaves the queries unread, and nothing is written.
+    ensures unread { is_of_load result.fault ≡ true → source.new ≡ source.old }
+    ensures unwritten { is_of_load result.fault ≡ true → sink.new ≡ sink.old }
 {
-    match replies(alloc, settings, reader, source, turns) {
-        Ok((out, bad)) => match push_all(sink, &out) {
-            Ok(()) => Outcome {
-                status: u8::from(bad),
+    match load(alloc, settings, reader) {
+        Ok((tree, frontier)) => serve(&tree, frontier, source, sink, turns).outcome(),
+        Err(fault) => fault.outcome(),
+    }
+}
+
+// The tree of a table, and a frontier with room for every query over it.
+fn load<R: Read + Drop>(
+    alloc: Global,
+    settings: &Settings,
+    reader: R,
+) -> Result<(Tree, Frontier), RunFault>
+    ensures loaded { IfOk result (λ loaded. (table : List ℕ)
+        → R.remaining reader ≡ Some table → HasLoaded settings.now table loaded.0) }
+    ensures room { IfOk result (λ loaded. length loaded.0.entries ≤ loaded.1.capacity) }
+    ensures stops { IfErr result (λ fault. (table : List ℕ)
+        → R.remaining reader ≡ Some table → Stops settings.now table fault) }
+    ensures told { IfErr result (λ fault. (is_told fault ≡ true) × (is_of_load (Some fault) ≡ true)) }
+{
+    let table = read_table(alloc, reader, settings.header(), settings.max_entries())?;
+    let tree = Tree::pack(alloc, table, settings.fanout())?;
+    let frontier = Frontier::new(alloc, tree.len())?;
+    Ok((tree, frontier))
+}
+
+impl Served {
+    // How a run ends whose queries were served so.
+    fn outcome(self) -> Outcome
+        ensures fault { result.fault ≡ run_fault_of self.fault }
+        ensures status { IsStatusOf (run_fault_of self.fault) result.status }
+        ensures bad { self.fault ≡ None → result.status ≡ (if self.bad then 1 else 0) }
+    {
+        match self.fault {
+            None => Outcome {
+                status: u8::from(self.bad),
                 fault: None,
             },
-            Err(WriteFault) => RunFault::Write.outcome(),
-        },
-        Err(fault) => fault.outcome(),
+            Some(ServeFault::Read) => RunFault::Read.outcome(),
+            Some(ServeFault::Write) => RunFault::Write.outcome(),
+        }
     }
 }
 
@@ -108,86 +132,6 @@ impl RunFault {
             fault: Some(self),
         }
     }
-}
-
-// The whole output of the queries, and whether some line is faulty.
-fn replies<R: Read + Drop, S: Source>(
-    alloc: Global,
-    settings: &Settings,
-    reader: R,
-    source: &mut S,
-    turns: u64,
-) -> Result<(Vec<u8>, bool), RunFault>
-    requires { S.failed source.old < 2 ^ 64 - 1 }
-    ensures whole { IfOk result (λ replies. (table queries : List ℕ)
-        → R.remaining reader ≡ Some table → S.coming source.old ≡ Some queries
-        → run_of settings.now table queries ≡ whole_run replies.0.items replies.1) }
-    ensures read { OnOk result (IfSome (S.coming source.old) (λ queries. S.coming source.new ≡ Some [])) }
-    ensures stops { IfErr result (λ fault. (table : List ℕ)
-        → R.remaining reader ≡ Some table → Stops settings.now table fault) }
-    ensures unpushed { IfErr result (λ fault. (is_told fault ≡ true) × (is_before_output (Some fault) ≡ true)) }
-    ensures unread { IfErr result (λ fault. is_before_queries (Some fault) ≡ true → source.new ≡ source.old) }
-    ensures went { OnOk result (S.failed source.new ≡ S.failed source.old) }
-    ensures pulls { IfErr result (λ fault. (S.failed source.new ≡ S.failed source.old)
-        ⊎ ((S.failed source.new ≡ S.failed source.old + 1) × (fault ≡ RunFault.Read))) }
-    ensures turns { IfErr result (λ fault. fault ≡ RunFault.Read → S.failed source.new ≡ S.failed source.old
-        → IfSome (S.coming source.old) (λ queries. turns ≤ length queries)) }
-{
-    let table = read_table(alloc, reader, settings.header(), settings.max_entries())?;
-    let tree = Tree::pack(alloc, table, settings.fanout())?;
-    let mut queries = Vec::new(alloc);
-    pull_all(source, turns, &mut queries)?;
-    let mut out = Vec::new(alloc);
-    let bad = put_output(alloc, &tree, &queries, &mut out)?;
-    Ok((out, bad))
-}
-
-// Pulls until the source has no more, and puts what it gave at the end of `queries`.
-fn pull_all<S: Source>(source: &mut S, turns: u64, queries: &mut Vec<u8>) -> Result<(), RunFault>
-    requires { S.failed source.old < 2 ^ 64 - 1 }
-    ensures all { OnOk result (IfSome (S.coming source.old) (λ all.
-        (S.coming source.new ≡ Some []) × (queries.new.items ≡ queries.old.items ++ all))) }
-    ensures fault { IfErr result (λ fault. (fault ≡ RunFault.Read) ⊎ (fault ≡ RunFault.Memory)) }
-    ensures went { OnOk result (S.failed source.new ≡ S.failed source.old) }
-    ensures pulls { IfErr result (λ fault. (S.failed source.new ≡ S.failed source.old)
-        ⊎ ((S.failed source.new ≡ S.failed source.old + 1) × (fault ≡ RunFault.Read))) }
-    ensures turns { IfErr result (λ fault. fault ≡ RunFault.Read → S.failed source.new ≡ S.failed source.old
-        → IfSome (S.coming source.old) (λ all. turns ≤ length all)) }
-{
-    let mut room = [0u8; PULL];
-    for _turn in 0..turns {
-        let Ok(n) = source.pull(&mut room) else {
-            return Err(RunFault::Read);
-        };
-        if n == 0 {
-            return Ok(());
-        }
-        queries.extend_from_slice(&room[..n])?;
-    }
-    Err(RunFault::Read)
-}
-
-// Pushes until all is taken, and then flushes, unless there is nothing to push.
-fn push_all<K: Sink>(sink: &mut K, out: &[u8]) -> Result<(), WriteFault>
-    requires { K.failed sink.old < 2 ^ 64 - 1 }
-    ensures written { OnOk result (IfSome (K.written sink.old) (λ before.
-        K.written sink.new ≡ Some (before ++ out.now))) }
-    ensures cut { OnErr result (WasCut (K.written sink.old) (K.written sink.new) out.now) }
-    ensures went { OnOk result (K.failed sink.new ≡ K.failed sink.old) }
-    ensures fails { OnErr result (K.failed sink.new ≡ K.failed sink.old + 1) }
-{
-    if out.is_empty() {
-        return Ok(());
-    }
-    let mut rest = out;
-    while !rest.is_empty() {
-        let n = sink.push(rest)?;
-        if n == 0 {
-            return Err(WriteFault);
-        }
-        rest = &rest[n..];
-    }
-    sink.flush()
 }
 
 impl From<TableFault> for RunFault {

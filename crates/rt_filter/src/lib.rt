@@ -6,14 +6,15 @@
 //! the command line by [`settings_of`], of `rt_command`.
 #![tactic(auto)]
 
-mod answer;
 mod filter;
 mod reply;
-#[cfg(test)]
-mod tests;
+mod serving;
+
+
 
 pub use filter::{Outcome, RunFault, run, run_fault_line};
 pub use rt_command::{ArgFault, Invocation, Name, Settings, settings_of};
 pub use rt_device::{
     ReadFault, ReadSource, Sink, SliceSink, SliceSource, Source, WriteFault, WriteSink,
 };
+pub use serving::{ServeFault, Served, serve};

@@ -1,0 +1,20 @@
+use Rattle.std.proofs.Common.{◌≡◌, ◌+◌, ◌-◌, ◌≤◌, length, drop}
+use Rattle.rt_filter.specs.Stages.{loaded_tree}
+use Rattle.rt_filter.proofs.PieceLemmas.{Steps}
+use Rattle.rt_filter.proofs.serving.answer_piece.Given as goal
+
+-- the lines before the rest are answered, and no call has failed
+abbrev pub invariant-loop-end : goal.invariant-loop-end
+invariant-loop-end g l = record {
+  count : g.K.Sink.failed l.sink ≡ g.K.Sink.failed l.initial.sink;
+  capacity : l.frontier.capacity ≡ l.initial.frontier.capacity;
+  held : l.begun.held ≡ l.initial.begun.held;
+  few : l.begun.lines + length l.rest ≤ l.initial.begun.lines + length l.bytes;
+  short : length l.rest ≤ length l.bytes;
+  back : l.rest ≡ drop (length l.bytes - length l.rest) l.bytes;
+  steps : Steps (loaded_tree l.tree) (g.K.Sink.written l.initial.sink) (g.K.Sink.written l.sink)
+      l.initial.begun.lines l.initial.begun.bad l.initial.begun.is_long l.bytes l.begun.lines l.begun.bad l.begun.is_long l.rest;
+}
+
+abbrev pub decreases-loop-end : goal.decreases-loop-end
+decreases-loop-end g l = length l.rest
