@@ -1,8 +1,10 @@
 mod AnswerLemmas
-mod DeviceLemmas
+mod FindLemmas
 mod LevelLemmas
 mod LineLemmas
 mod PieceLemmas
+mod PushLemmas
 mod RunLemmas
+mod RunRows
 mod TreeLemmas
 mod TurnLemmas

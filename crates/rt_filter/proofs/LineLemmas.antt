@@ -1,7 +1,7 @@
 -- The lines of query bytes, one after the other.
-use Rattle.std.proofs.Common.{◌≡◌, ◌∙◌, ◌+◌, ◌<◌, ◌≤◌, ℕ, zero, suc, Bool, true, false, cond, List, [], ◌∷◌, ◌++◌, length, take, drop, refl, sym, ap, arith, add-one, Some, None}
+use Rattle.std.proofs.Common.{◌≡◌, ◌∙◌, ◌+◌, ◌<◌, ℕ, zero, suc, Bool, true, false, List, [], ◌∷◌, ◌++◌, length, take, drop, refl, ap, arith, add-one, Some, None}
 use Rattle.std.proofs.lemmas.Bool.Decides.{nat_tests}
-use Rattle.std.specs.List.{AllByRecursion, enumerate_from, slice_split}
+use Rattle.std.specs.List.{enumerate_from, slice_split}
 use Rattle.std.proofs.lemmas.Bool.{false_from_ne_true}
 use Rattle.memchr.specs.Find.{IsFirstByte, is_byte}
 use Rattle.rt_filter.specs.Lines.{is_line_feed, line_feed, lines_of_parts}

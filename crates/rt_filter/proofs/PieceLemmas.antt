@@ -1,11 +1,10 @@
 -- Lines that come in pieces: what was answered, and what the next line begins with.
 use Rattle.std.proofs.Common.{◌≡◌, ◌∙◌, ◌+◌, ◌-◌, ◌<◌, ◌≤◌, ℕ, Bool, true, false, ◌||◌, ◌⊎◌, List, [], ◌∷◌, ◌++◌, length, take, drop, Option, Some, None, refl, sym, ap, ap₂, arith, append_assoc, append-nil, inl, inr}
-use Rattle.std.specs.Prelude.{Err, IfErr, IfSome, IsErrAnd, Ok, OnErr, Result, nat_lt}
+use Rattle.std.specs.Prelude.{Err, IfErr, IfSome, IsErrAnd, Ok, Result, nat_lt}
 use Rattle.std.specs.List.{copy_within}
 use Rattle.std.proofs.lemmas.List.Edits.{take-paste}
 use Rattle.std.specs.Io.{StartsWith}
 use Rattle.std.specs.Io.KnownBytes.{Keeps}
-use Rattle.std.specs.List.{list_any}
 use Rattle.std.proofs.Math.Bool.{or-false}
 use Rattle.std.proofs.lemmas.Bool.{lt-ltb}
 use Rattle.std.proofs.lemmas.Grind.{flat_map-append}
@@ -19,9 +18,9 @@ use Rattle.rt_device.specs.Devices.{IsUnmoved}
 use Rattle.rt_filter.specs.Endings.{WentPrefix}
 use Rattle.rt_filter.specs.Lines.{line_feed, longest_line, numbered_lines}
 use Rattle.rt_filter.specs.Replies.{Loaded, any_fault, is_fault, judged_line, output, reply}
-use Rattle.rt_filter.specs.Stages.{HasNoLineFeed, IsAnswering, IsCut, WasCut, asked_by, lines_from}
-use Rattle.rt_filter.proofs.DeviceLemmas.{kept, unmoved}
-use Rattle.rt_filter.proofs.LineLemmas.{IsCutAt, clear-append, found, lines_from-found, lines_from-last, lines_from-none}
+use Rattle.rt_filter.specs.Pushes.{WasCut, WasPushed}
+use Rattle.rt_filter.specs.Stages.{HasNoLineFeed, IsAnswering, IsCut, asked_by, lines_from}
+use Rattle.rt_filter.proofs.LineLemmas.{clear-append, found, lines_from-found, lines_from-last, lines_from-none}
 
 -- ---- replies to some lines and then others
 
@@ -104,10 +103,6 @@ module _ (loaded : Loaded) (bytes before : List ℕ) where
 
 -- ---- results
 
-pub on_err : {A E : Type 0} (P : Type 0) → P → (r : Result A E) → OnErr r P
-on_err P h (Ok a) = tt
-on_err P h (Err e) = h
-
 pub if_err : {A E : Type 0} (r : Result A E) (P : E → Type 0) (e : E) → IsErrAnd r (λ y. y ≡ e) → P e → IfErr r P
 if_err (Ok a) P e h p = tt
 if_err (Err y) P e h p = rw h p
@@ -166,13 +161,25 @@ module _ (loaded : Loaded) where
 prefix_more : (loaded : Loaded) (now : List ℕ) (o : Option (List ℕ)) (number : ℕ) (line : List ℕ) (later : List (ℕ × List ℕ))
     → WentPrefix now o (reply loaded number (judged_line line)) → WentPrefix now o (output loaded ((number, line) ∷ later))
 prefix_more loaded now None number line later w = tt
-prefix_more loaded now (Some written) number line later w =
-    (w.0, w.1, rw (flat_map-cons (λ (l : ℕ × List ℕ). reply loaded l.0 (judged_line l.1)) (number, line) later)
-    (starts-more (reply loaded number (judged_line line)) w.0 (output loaded later) w.2))
+prefix_more loaded now (Some written) number line later w = (
+  w.0,
+  w.1,
+  rw (flat_map-cons (λ (l : ℕ × List ℕ). reply loaded l.0 (judged_line l.1)) (number, line) later)
+      (starts-more (reply loaded number (judged_line line)) w.0 (output loaded later) w.2),
+)
 
 prefix_none : (now : List ℕ) (o : Option (List ℕ)) → IsUnmoved (Some now) o → WentPrefix now o []
 prefix_none now None h = tt
 prefix_none now (Some written) h = ([], h ∙ sym (append-nil now), refl)
+
+kept : (xs : List ℕ) (new : Option (List ℕ)) → Keeps (Some xs) new → new ≡ Some xs
+kept xs None h = absurd h
+kept xs (Some ys) h = ap (λ zs. Some zs) h
+
+-- all of the bytes went out, and then nothing more
+whole_prefix : (before bytes : List ℕ) (new : Option (List ℕ)) → IsUnmoved (Some (before ++ bytes)) new → WentPrefix before new bytes
+whole_prefix before bytes None h = tt
+whole_prefix before bytes (Some now) h = (bytes, h, rw append-nil at (starts bytes []))
 
 -- from one place between lines to a later one: what the sink tells grows by the answers
 abbrev pub Steps : Loaded → (old new : Option (List ℕ)) → (lines : ℕ) (bad is_long : Bool) (bytes : List ℕ)
@@ -189,48 +196,51 @@ told : (P : List ℕ → Type 0) (o : Option (List ℕ)) (xs : List ℕ) → o �
 told P o xs e h = rw e at h
 
 module _ (loaded : Loaded) (old mid new : Option (List ℕ)) (lines : ℕ) (bad is_long : Bool) (bytes : List ℕ) (lines' : ℕ) (bad' is_long' : Bool) (rest : List ℕ)
-  (h : Steps loaded old mid lines bad is_long bytes lines' bad' is_long' rest) where
-    -- a line was answered
-    pub steps-more : (left : List ℕ) (n : ℕ) (next : ℕ) (fault is : Bool) → IsFirstByte (is_byte line_feed) rest (Some n) → left ≡ drop (n + 1) rest
-        → IfSome mid (λ now. new ≡ Some (now ++ reply loaded (lines' + 1) (asked_by is_long' (take n rest))))
-        → next ≡ lines' + 1 → fault ≡ (bad' || is_fault (asked_by is_long' (take n rest))) → is ≡ false
-        → Steps loaded old new lines bad is_long bytes next fault is left
-    steps-more left n next fault is at l w e f i all before out o s =
-        let r = h all before out o s in
-        let answer : List ℕ = reply loaded (lines' + 1) (asked_by is_long' (take n rest)) in
-        let more = answering-more loaded all before lines' bad' (is_fault (asked_by is_long' (take n rest))) is_long' rest left r.0 (r.0 ++ answer) n r.3 at l refl refl in
-        (r.0 ++ answer, told (λ now. new ≡ Some (now ++ answer)) mid r.0 r.1 w, starts-more r.0 out answer r.2,
-        rw (e, f, i) more)
+    (h : Steps loaded old mid lines bad is_long bytes lines' bad' is_long' rest) where
+  -- a line was answered
+  pub steps-more : (left : List ℕ) (n : ℕ) (next : ℕ) (fault is : Bool) → IsFirstByte (is_byte line_feed) rest (Some n) → left ≡ drop (n + 1) rest
+      → WasPushed mid new (reply loaded (lines' + 1) (asked_by is_long' (take n rest)))
+      → next ≡ lines' + 1 → fault ≡ (bad' || is_fault (asked_by is_long' (take n rest))) → is ≡ false
+      → Steps loaded old new lines bad is_long bytes next fault is left
+  steps-more left n next fault is at l w e f i all before out o s =
+      let r = h all before out o s in
+      let answer : List ℕ = reply loaded (lines' + 1) (asked_by is_long' (take n rest)) in
+      let more = answering-more loaded all before lines' bad' (is_fault (asked_by is_long' (take n rest))) is_long' rest left r.0 (r.0 ++ answer) n r.3 at l refl refl in (
+        r.0 ++ answer,
+        told (λ now. new ≡ Some (now ++ answer)) mid r.0 r.1 w,
+        starts-more r.0 out answer r.2,
+        rw (e, f, i) more,
+      )
 
-    -- a line couldn't be answered
-    pub steps-cut : (n : ℕ) (fault : Bool) → IsFirstByte (is_byte line_feed) rest (Some n)
-        → WasCut mid new (reply loaded (lines' + 1) (asked_by is_long' (take n rest))) → fault ≡ (bad' || is_fault (asked_by is_long' (take n rest)))
-        → (all before out : List ℕ) → old ≡ Some out → IsAnswering loaded all before lines bad is_long bytes out
-        → IsCut loaded (numbered_lines all false) before out new fault
-    steps-cut n fault at w f all before out o s =
-        let r = h all before out o s in
-        let line : List ℕ = r.3.dropped ++ take n rest in
-        let asked : asked_by is_long' (take n rest) ≡ judged_line line = asked_whole is_long' r.3.dropped (take n rest) r.3.long r.3.short in
-        let later : List (ℕ × List ℕ) = lines_from (lines' + 1) (drop (n + 1) rest ++ []) false in
-        let lines_all = sym (ap (λ zs. numbered_lines zs false) (append-nil all)) ∙ next_line loaded all before lines' bad' is_long' rest r.0 r.3 n at [] false in
-        cut-later loaded all before lines' bad' is_long' rest out r.0 ((lines' + 1, line) ∷ later) (numbered_lines all false) r.3 lines_all r.2 new
-        (prefix_more loaded r.0 new (lines' + 1) line later (rw asked at (told (λ now. WentPrefix now new (reply loaded (lines' + 1) (asked_by is_long' (take n rest)))) mid r.0 r.1 w)))
-        fault (λ is. or_more bad' (is_fault (judged_line line)) (any_fault later) (sym (f ∙ ap (λ x. bad' || is_fault x) asked) ∙ is))
+  -- a line couldn't be answered
+  pub steps-cut : (n : ℕ) (fault : Bool) → IsFirstByte (is_byte line_feed) rest (Some n)
+      → WasCut mid new (reply loaded (lines' + 1) (asked_by is_long' (take n rest))) → fault ≡ (bad' || is_fault (asked_by is_long' (take n rest)))
+      → (all before out : List ℕ) → old ≡ Some out → IsAnswering loaded all before lines bad is_long bytes out
+      → IsCut loaded (numbered_lines all false) before out new fault
+  steps-cut n fault at w f all before out o s =
+      let r = h all before out o s in
+      let line : List ℕ = r.3.dropped ++ take n rest in
+      let asked : asked_by is_long' (take n rest) ≡ judged_line line = asked_whole is_long' r.3.dropped (take n rest) r.3.long r.3.short in
+      let later : List (ℕ × List ℕ) = lines_from (lines' + 1) (drop (n + 1) rest ++ []) false in
+      let lines_all = sym (ap (λ zs. numbered_lines zs false) (append-nil all)) ∙ next_line loaded all before lines' bad' is_long' rest r.0 r.3 n at [] false in
+      cut-later loaded all before lines' bad' is_long' rest out r.0 ((lines' + 1, line) ∷ later) (numbered_lines all false) r.3 lines_all r.2 new
+      (prefix_more loaded r.0 new (lines' + 1) line later (rw asked at (told (λ now. WentPrefix now new (reply loaded (lines' + 1) (asked_by is_long' (take n rest)))) mid r.0 r.1 w)))
+      fault (λ is. or_more bad' (is_fault (judged_line line)) (any_fault later) (sym (f ∙ ap (λ x. bad' || is_fault x) asked) ∙ is))
 
-    -- nothing more went out
-    pub steps-kept : Keeps mid new → Steps loaded old new lines bad is_long bytes lines' bad' is_long' rest
-    steps-kept k all before out o s =
-        let r = h all before out o s in
-        (r.0, kept r.0 new (rw r.1 at k), r.2, r.3)
+  -- nothing more went out
+  pub steps-kept : Keeps mid new → Steps loaded old new lines bad is_long bytes lines' bad' is_long' rest
+  steps-kept k all before out o s =
+      let r = h all before out o s in
+      (r.0, kept r.0 new (rw r.1 at k), r.2, r.3)
 
-    -- the flush after the last line failed
-    pub steps-lost : HasNoLineFeed rest → IsUnmoved mid new
-        → (all before out : List ℕ) → old ≡ Some out → IsAnswering loaded all before lines bad is_long bytes out
-        → IsCut loaded (numbered_lines all false) before out new bad'
-    steps-lost clear k all before out o s =
-        let r = h all before out o s in
-        cut-later loaded all before lines' bad' is_long' rest out r.0 [] (numbered_lines all false) r.3
-        (no_line loaded all before lines' bad' is_long' rest r.0 r.3 clear) r.2 new (prefix_none r.0 new (rw r.1 at k)) bad' (λ is. or_first bad' false is)
+  -- the flush after the last line failed
+  pub steps-lost : HasNoLineFeed rest → IsUnmoved mid new
+      → (all before out : List ℕ) → old ≡ Some out → IsAnswering loaded all before lines bad is_long bytes out
+      → IsCut loaded (numbered_lines all false) before out new bad'
+  steps-lost clear k all before out o s =
+      let r = h all before out o s in
+      cut-later loaded all before lines' bad' is_long' rest out r.0 [] (numbered_lines all false) r.3
+      (no_line loaded all before lines' bad' is_long' rest r.0 r.3 clear) r.2 new (prefix_none r.0 new (rw r.1 at k)) bad' (λ is. or_first bad' false is)
 
 -- ---- what is held
 
@@ -269,46 +279,47 @@ some_dropped is_long dropped held long (inl h) = omega (arith, length-append dro
 some_dropped is_long dropped held long (inr h) = omega (arith, length-append dropped held, h)
 
 module _ (loaded : Loaded) (all before out : List ℕ) (lines : ℕ) (bad is_long : Bool) (held : List ℕ)
-  (s : IsAnswering loaded all before lines bad is_long held out) (last : IsLast is_long held) where
-    abbrev answered : ℕ × List ℕ
-    answered = (lines + 1, s.dropped ++ held)
+    (s : IsAnswering loaded all before lines bad is_long held out) (last : IsLast is_long held) where
+  abbrev answered : ℕ × List ℕ
+  answered = (lines + 1, s.dropped ++ held)
 
-    lines_all : numbered_lines all true ≡ s.answered ++ answered ∷ []
-    lines_all = last_line loaded all before lines bad is_long held out s last.clear (some_dropped is_long s.dropped held s.long last.some)
+  lines_all : numbered_lines all true ≡ s.answered ++ answered ∷ []
+  lines_all = last_line loaded all before lines bad is_long held out s last.clear (some_dropped is_long s.dropped held s.long last.some)
 
-    asked : asked_by is_long held ≡ judged_line (s.dropped ++ held)
-    asked = asked_whole is_long s.dropped held s.long s.short
+  asked : asked_by is_long held ≡ judged_line (s.dropped ++ held)
+  asked = asked_whole is_long s.dropped held s.long s.short
 
-    -- it was answered, and the answers were handed on
-    pub end_answered : (old mid new : Option (List ℕ)) (fault : Bool) → old ≡ Some out
-        → IfSome old (λ now. mid ≡ Some (now ++ reply loaded (lines + 1) (asked_by is_long held))) → fault ≡ (bad || is_fault (asked_by is_long held))
-        → Keeps mid new → (new ≡ Some (before ++ output loaded (numbered_lines all true))) × (fault ≡ any_fault (numbered_lines all true))
-    end_answered old mid new fault e w f k =
-        let gone : mid ≡ Some (out ++ reply loaded (lines + 1) (asked_by is_long held)) = told (λ now. mid ≡ Some (now ++ reply loaded (lines + 1) (asked_by is_long held))) old out e w in
-        let whole : out ++ reply loaded (lines + 1) (asked_by is_long held) ≡ before ++ output loaded (numbered_lines all true) =
-        ap₂ (λ (x : List ℕ) (y : Parsed). x ++ reply loaded (lines + 1) y) s.replies asked
-        ∙ append_assoc before (output loaded s.answered) (reply loaded (lines + 1) (judged_line (s.dropped ++ held)))
-        ∙ ap (λ zs. before ++ (output loaded s.answered ++ zs)) (sym (append-nil _))
-        ∙ ap (λ zs. before ++ zs) (sym (output-append loaded s.answered (answered ∷ []))) ∙ ap (λ ls. before ++ output loaded ls) (sym lines_all) in
-        (kept (out ++ reply loaded (lines + 1) (asked_by is_long held)) new (rw gone at k) ∙ ap (λ zs. Some zs) whole,
-        f ∙ ap₂ (λ (x : Bool) (y : Bool). x || y) s.faults (ap is_fault asked ∙ sym (or-false _)) ∙ sym (any_fault-append s.answered (answered ∷ [])) ∙ ap any_fault (sym lines_all))
+  -- it was answered, and the answers were handed on
+  pub end_answered : (old mid new : Option (List ℕ)) (fault : Bool) → old ≡ Some out
+      → WasPushed old mid (reply loaded (lines + 1) (asked_by is_long held)) → fault ≡ (bad || is_fault (asked_by is_long held))
+      → Keeps mid new → (new ≡ Some (before ++ output loaded (numbered_lines all true))) × (fault ≡ any_fault (numbered_lines all true))
+  end_answered old mid new fault e w f k =
+      let gone : mid ≡ Some (out ++ reply loaded (lines + 1) (asked_by is_long held)) = told (λ now. mid ≡ Some (now ++ reply loaded (lines + 1) (asked_by is_long held))) old out e w in
+      let whole : out ++ reply loaded (lines + 1) (asked_by is_long held) ≡ before ++ output loaded (numbered_lines all true) =
+      ap₂ (λ (x : List ℕ) (y : Parsed). x ++ reply loaded (lines + 1) y) s.replies asked
+      ∙ append_assoc before (output loaded s.answered) (reply loaded (lines + 1) (judged_line (s.dropped ++ held)))
+      ∙ ap (λ zs. before ++ (output loaded s.answered ++ zs)) (sym (append-nil _))
+      ∙ ap (λ zs. before ++ zs) (sym (output-append loaded s.answered (answered ∷ []))) ∙ ap (λ ls. before ++ output loaded ls) (sym lines_all) in (
+        kept (out ++ reply loaded (lines + 1) (asked_by is_long held)) new (rw gone at k) ∙ ap (λ zs. Some zs) whole,
+        f ∙ ap₂ (λ (x : Bool) (y : Bool). x || y) s.faults (ap is_fault asked ∙ sym (or-false _)) ∙ sym (any_fault-append s.answered (answered ∷ [])) ∙ ap any_fault (sym lines_all),
+      )
 
-    -- it couldn't be answered
-    pub end_cut : (old new : Option (List ℕ)) (fault : Bool) → old ≡ Some out → WasCut old new (reply loaded (lines + 1) (asked_by is_long held))
-        → fault ≡ (bad || is_fault (asked_by is_long held)) → IsCut loaded (numbered_lines all true) before out new fault
-    end_cut old new fault e w f =
-        cut-later loaded all before lines bad is_long held out out (answered ∷ []) (numbered_lines all true) s lines_all (rw append-nil at (starts out [])) new
-        (prefix_more loaded out new (lines + 1) (s.dropped ++ held) [] (rw asked at (told (λ now. WentPrefix now new (reply loaded (lines + 1) (asked_by is_long held))) old out e w)))
-        fault (λ is. or_more bad (is_fault (judged_line (s.dropped ++ held))) false (sym (f ∙ ap (λ x. bad || is_fault x) asked) ∙ is))
+  -- it couldn't be answered
+  pub end_cut : (old new : Option (List ℕ)) (fault : Bool) → old ≡ Some out → WasCut old new (reply loaded (lines + 1) (asked_by is_long held))
+      → fault ≡ (bad || is_fault (asked_by is_long held)) → IsCut loaded (numbered_lines all true) before out new fault
+  end_cut old new fault e w f =
+      cut-later loaded all before lines bad is_long held out out (answered ∷ []) (numbered_lines all true) s lines_all (rw append-nil at (starts out [])) new
+      (prefix_more loaded out new (lines + 1) (s.dropped ++ held) [] (rw asked at (told (λ now. WentPrefix now new (reply loaded (lines + 1) (asked_by is_long held))) old out e w)))
+      fault (λ is. or_more bad (is_fault (judged_line (s.dropped ++ held))) false (sym (f ∙ ap (λ x. bad || is_fault x) asked) ∙ is))
 
-    -- it was answered, and the flush failed
-    pub end_lost : (old mid new : Option (List ℕ)) (fault : Bool) → old ≡ Some out
-        → IfSome old (λ now. mid ≡ Some (now ++ reply loaded (lines + 1) (asked_by is_long held))) → IsUnmoved mid new
-        → fault ≡ (bad || is_fault (asked_by is_long held)) → IsCut loaded (numbered_lines all true) before out new fault
-    end_lost old mid new fault e w u f =
-        let answer : List ℕ = reply loaded (lines + 1) (asked_by is_long held) in
-        let gone : mid ≡ Some (out ++ answer) = told (λ now. mid ≡ Some (now ++ answer)) old out e w in
-        end_cut old new fault e (rw e (unmoved (out ++ answer) new answer answer [] out (rw gone at u) refl (sym (append-nil answer)))) f
+  -- it was answered, and the flush failed
+  pub end_lost : (old mid new : Option (List ℕ)) (fault : Bool) → old ≡ Some out
+      → WasPushed old mid (reply loaded (lines + 1) (asked_by is_long held)) → IsUnmoved mid new
+      → fault ≡ (bad || is_fault (asked_by is_long held)) → IsCut loaded (numbered_lines all true) before out new fault
+  end_lost old mid new fault e w u f =
+      let answer : List ℕ = reply loaded (lines + 1) (asked_by is_long held) in
+      let gone : mid ≡ Some (out ++ answer) = told (λ now. mid ≡ Some (now ++ answer)) old out e w in
+      end_cut old new fault e (rw e (whole_prefix out answer new (rw gone at u))) f
 
 -- ---- the last so many of some bytes
 

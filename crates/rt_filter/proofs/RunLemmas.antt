@@ -1,6 +1,6 @@
 -- A run over a table that was loaded, and over one that was refused.
-use Rattle.std.proofs.Common.{◌≡◌, ◌∙◌, ℕ, Bool, true, false, arith, List, [], ◌++◌, Option, None, Some, refl, sym, ap, ap₂, append-nil}
-use Rattle.std.specs.Prelude.{IsOkAnd, Ok, Result, if◌then◌else◌}
+use Rattle.std.proofs.Common.{◌≡◌, ◌∙◌, ℕ, Bool, true, false, arith, List, ◌++◌, Option, None, Some, refl, sym, ap, append-nil}
+use Rattle.std.specs.Prelude.{Ok, Result, if◌then◌else◌}
 use Rattle.std.specs.List.Sorted.{IsPermutation}
 use Rattle.rt_command.specs.Choices.{Choices}
 use Rattle.rt_geo.specs.declared.entry.Entry.{Entry}

@@ -1,5 +1,5 @@
 -- Entries in another order are answered the same: what a tree holds is what the table held.
-use Rattle.std.proofs.Common.{◌≡◌, ◌∙◌, ◌++◌, ℕ, Bool, true, false, cond, List, [], ◌∷◌, length, map, Option, refl, ap, ap₂, sym, get_or}
+use Rattle.std.proofs.Common.{◌≡◌, ◌∙◌, ◌++◌, ℕ, Bool, true, false, cond, List, [], ◌∷◌, map, Option, refl, ap, ap₂, sym, get_or}
 use Rattle.std.proofs.lemmas.List.Concat.{flat_map-cons}
 use Rattle.std.specs.List.Sorted.{IsPermutation}
 use Rattle.std.proofs.lemmas.List.Sorted.{IsPermutation-cons, IsPermutation-map, IsPermutation-middle, IsPermutation-refl, IsPermutation-trans, length_permutation}
@@ -16,7 +16,7 @@ use Rattle.rt_text.specs.declared.query.Parsed.{Parsed}
 use Rattle.rt_text.specs.declared.query.Parsed.TheVariants as parsed
 use Rattle.rt_text.specs.declared.query.Query.{Query}
 use Rattle.rt_text.specs.declared.query.Query.TheVariants.{Count, Find, Levels}
-use Rattle.rt_filter.specs.Answers.{accepted, answer_cmp, answer_of, answers}
+use Rattle.rt_search.specs.Answers.{accepted, answer_cmp, answer_of, answers}
 use Rattle.rt_filter.specs.Replies.{Loaded, find_reply, judged_line, levels_reply, output, query_reply, reply}
 use Rattle.rt_filter.proofs.AnswerLemmas.{answer_cmp_total, tied}
 
@@ -71,8 +71,9 @@ module _ (fanout : ℕ) (xs ys : List Entry) (moved : IsPermutation xs ys) where
   query_same line Levels = ap (λ n. levels_reply line (level_sizes n fanout)) (sym (length_permutation xs ys moved))
 
   reply_same : (line : ℕ) (parsed : Parsed) → reply first line parsed ≡ reply other line parsed
-  unfolding reply
-  reply_same line parsed = refl
+  reply_same line parsed.Skip = refl
+  reply_same line (parsed.Query query) = query_same line query
+  reply_same line (parsed.Fault cause) = refl
 
   pub output-IsPermutation : (lines : List (ℕ × List ℕ)) → output first lines ≡ output other lines
   output-IsPermutation [] = refl

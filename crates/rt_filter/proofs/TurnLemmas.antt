@@ -1,21 +1,19 @@
 -- One pull, and what it leaves.
-use Rattle.std.proofs.Common.{◌≡◌, ◌∙◌, ◌+◌, ◌-◌, ◌<◌, ◌≤◌, ℕ, Bool, true, false, ◌||◌, List, [], ◌∷◌, ◌++◌, length, take, drop, Option, Some, None, refl, sym, ap, arith, append_assoc, append-nil}
-use Rattle.std.specs.Prelude.{IfSome, if◌then◌else◌, nat_lt}
-use Rattle.std.specs.Io.{StartsWith}
+use Rattle.std.proofs.Common.{◌≡◌, ◌∙◌, ◌+◌, ◌-◌, ◌<◌, ◌≤◌, ℕ, Bool, true, false, ◌||◌, List, [], ◌∷◌, ◌++◌, length, take, Option, Some, None, refl, sym, ap, arith, append_assoc, append-nil}
+use Rattle.std.specs.Prelude.{if◌then◌else◌, nat_lt}
 use Rattle.std.specs.Io.KnownBytes.{Consumes, IsAtEnd}
 use Rattle.std.specs.List.{enumerate_from, slice_split}
 use Rattle.std.proofs.Math.Seq.{take-append-add}
 use Rattle.std.proofs.lemmas.Bool.{ltb-true}
-use Rattle.std.proofs.lemmas.List.{append_cancel_right, length-append, length-take-le, take-append-drop, take-append-le, take-take}
+use Rattle.std.proofs.lemmas.List.{append_cancel_right, length-append, length-take-le, take-take}
 use Rattle.std.proofs.lemmas.Slice.{take-put_mid}
 use borrow.Rule.Slice.PartMut.{put_mid}
 use Rattle.rt_device.specs.Devices.{IsUnmoved}
 use Rattle.rt_text.specs.Words.{is_empty}
-use Rattle.rt_filter.specs.Endings.{Consumed, HasConsumed, ServesAll, ServesLines, ServesPrefix, Told, WentAtLeast, WentPrefix, told_of}
+use Rattle.rt_filter.specs.Endings.{Consumed, HasConsumed, ServesAll, ServesLines, ServesPrefix, told_of}
 use Rattle.rt_filter.specs.Lines.{is_line_feed, lines_of_parts, longest_line, most_pulled, numbered_lines}
 use Rattle.rt_filter.specs.Replies.{Loaded, any_fault, output}
 use Rattle.rt_filter.specs.Stages.{HasNoLineFeed, IsAnswering, IsCut, IsServing, lines_from}
-use Rattle.rt_filter.proofs.DeviceLemmas.{consumed, ended}
 use Rattle.rt_filter.proofs.LineLemmas.{clear-append}
 use Rattle.rt_filter.proofs.PieceLemmas.{any_fault-append, no_line, or_first, output-append, starts-more}
 
@@ -102,105 +100,118 @@ cut_more loaded lines later before out (Some now) bad c = record {
   faults = λ h. rw (any_fault-append lines later) (or_first (any_fault lines) (any_fault later) (c.faults h));
 }
 
+-- ---- what a source tells
+
+consumed : (xs bytes : List ℕ) (new : Option (List ℕ)) → Consumes (Some xs) new bytes → (ys : List ℕ) × (new ≡ Some ys) × (xs ≡ bytes ++ ys)
+consumed xs bytes None h = absurd h
+consumed xs bytes (Some ys) h = (ys, refl, h)
+
+ended : (rest : List ℕ) (new : Option (List ℕ)) → Consumes (Some rest) new [] → IsAtEnd new → (new ≡ Some []) × (rest ≡ [])
+ended rest None h e = absurd h
+ended rest (Some ys) h e = (ap (λ zs. Some zs) e, h ∙ e)
+
+pub unmoved_same : (now : Option (List ℕ)) → IsUnmoved now now
+unmoved_same None = tt
+unmoved_same (Some xs) = refl
+
 -- ---- the queries between two pulls
 
 module _ (loaded : Loaded) (queries before : List ℕ) (coming written : Option (List ℕ)) (lines : ℕ) (bad is_long : Bool) (held : List ℕ)
-  (s : IsServing loaded (told_of queries before coming written) lines bad is_long held) where
+    (s : IsServing loaded (told_of queries before coming written) lines bad is_long held) where
+  -- what was answered is what was consumed
+  complete : numbered_lines s.consumed false ≡ s.answering.answered
+  complete = no_line loaded s.consumed before lines bad is_long held s.out s.answering s.clear ∙ append-nil _
 
-    -- what was answered is what was consumed
-    complete : numbered_lines s.consumed false ≡ s.answering.answered
-    complete = no_line loaded s.consumed before lines bad is_long held s.out s.answering s.clear ∙ append-nil _
+  pub out_is : s.out ≡ before ++ output loaded (numbered_lines s.consumed false)
+  out_is = s.answering.replies ∙ ap (λ ls. before ++ output loaded ls) (sym complete)
 
-    pub out_is : s.out ≡ before ++ output loaded (numbered_lines s.consumed false)
-    out_is = s.answering.replies ∙ ap (λ ls. before ++ output loaded ls) (sym complete)
+  -- a failed pull, or turns that are used up
+  pub serving-stopped : (now : Option (List ℕ)) → IsUnmoved coming now → (front rest : List ℕ) → Consumed (told_of queries before now written) front rest
+      → ServesLines loaded (told_of queries before now written) bad front
+  serving-stopped now u front rest c =
+      let left : rest ≡ s.rest = rw (c.0, s.told_so.0) at u in
+      let same : front ≡ s.consumed = append_cancel_right front s.consumed rest (sym c.1 ∙ s.told_so.1 ∙ ap (λ zs. s.consumed ++ zs) (sym left)) in
+      record {
+        written = s.written ∙ ap (λ zs. Some zs) (out_is ∙ ap (λ zs. before ++ output loaded (numbered_lines zs false)) (sym same));
+        faults = s.answering.faults ∙ ap any_fault (sym complete) ∙ ap (λ zs. any_fault (numbered_lines zs false)) (sym same);
+      }
 
-    -- a failed pull, or turns that are used up
-    pub serving-stopped : (now : Option (List ℕ)) → IsUnmoved coming now → (front rest : List ℕ) → Consumed (told_of queries before now written) front rest
-        → ServesLines loaded (told_of queries before now written) bad front
-    serving-stopped now u front rest c =
-        let left : rest ≡ s.rest = rw (c.0, s.told_so.0) at u in
-        let same : front ≡ s.consumed = append_cancel_right front s.consumed rest (sym c.1 ∙ s.told_so.1 ∙ ap (λ zs. s.consumed ++ zs) (sym left)) in
-        record {
-          written = s.written ∙ ap (λ zs. Some zs) (out_is ∙ ap (λ zs. before ++ output loaded (numbered_lines zs false)) (sym same));
-          faults = s.answering.faults ∙ ap any_fault (sym complete) ∙ ap (λ zs. any_fault (numbered_lines zs false)) (sym same);
-        }
+  -- what a pull gave
+  pub taken : (now : Option (List ℕ)) (given : List ℕ) → Consumes coming now given → (rest : List ℕ) × (now ≡ Some rest) × (s.rest ≡ given ++ rest)
+  taken now given h = consumed s.rest given now (rw s.told_so.0 at h)
 
-    -- what a pull gave
-    pub taken : (now : Option (List ℕ)) (given : List ℕ) → Consumes coming now given → (rest : List ℕ) × (now ≡ Some rest) × (s.rest ≡ given ++ rest)
-    taken now given h = consumed s.rest given now (rw s.told_so.0 at h)
+  -- nothing is to come, and all is answered
+  pub serving-ended : (now out : Option (List ℕ)) (fault : Bool) → Consumes coming now [] → IsAtEnd now
+      → ((all before out' : List ℕ) → written ≡ Some out' → IsAnswering loaded all before lines bad is_long held out' → HasNoLineFeed held
+      → (out ≡ Some (before ++ output loaded (numbered_lines all true))) × (fault ≡ any_fault (numbered_lines all true)))
+      → ServesAll loaded (told_of queries before now out) fault
+  serving-ended now out fault h at answered =
+      let e = ended s.rest now (rw s.told_so.0 at h) at in
+      let all : queries ≡ s.consumed = s.told_so.1 ∙ ap (λ zs. s.consumed ++ zs) e.1 ∙ append-nil s.consumed in
+      let r = answered s.consumed before s.out s.written s.answering s.clear in
+      record {
+        coming = e.0;
+        written = r.0 ∙ ap (λ zs. Some (before ++ output loaded (numbered_lines zs true))) (sym all);
+        faults = r.1 ∙ ap (λ zs. any_fault (numbered_lines zs true)) (sym all);
+      }
 
-    -- nothing is to come, and all is answered
-    pub serving-ended : (now out : Option (List ℕ)) (fault : Bool) → Consumes coming now [] → IsAtEnd now
-        → ((all before out' : List ℕ) → written ≡ Some out' → IsAnswering loaded all before lines bad is_long held out' → HasNoLineFeed held
-        → (out ≡ Some (before ++ output loaded (numbered_lines all true))) × (fault ≡ any_fault (numbered_lines all true)))
-        → ServesAll loaded (told_of queries before now out) fault
-    serving-ended now out fault h at answered =
-        let e = ended s.rest now (rw s.told_so.0 at h) at in
-        let all : queries ≡ s.consumed = s.told_so.1 ∙ ap (λ zs. s.consumed ++ zs) e.1 ∙ append-nil s.consumed in
-        let r = answered s.consumed before s.out s.written s.answering s.clear in
-        record {
-          coming = e.0;
-          written = r.0 ∙ ap (λ zs. Some (before ++ output loaded (numbered_lines zs true))) (sym all);
-          faults = r.1 ∙ ap (λ zs. any_fault (numbered_lines zs true)) (sym all);
-        }
+  -- a push or a flush failed
+  cut_prefix : (now out : Option (List ℕ)) (fault : Bool) (given rest : List ℕ) → now ≡ Some rest → s.rest ≡ given ++ rest → length given ≤ most_pulled
+      → IsCut loaded (numbered_lines (s.consumed ++ given) (is_empty rest)) before s.out out fault → ServesPrefix loaded (told_of queries before now out) fault
+  cut_prefix now out fault given rest is parts few cut = record {
+    consumed = s.consumed ++ given;
+    rest = rest;
+    told_so = (is, s.told_so.1 ∙ ap (λ zs. s.consumed ++ zs) parts ∙ sym (append_assoc s.consumed given rest));
+    written = cut.written;
+    faults = cut.faults;
+    earlier = s.consumed;
+    last = given;
+    is_earlier = refl;
+    is_last = few;
+    answered = rw (← out_is) cut.answered;
+  }
 
-    -- a push or a flush failed
-    cut_prefix : (now out : Option (List ℕ)) (fault : Bool) (given rest : List ℕ) → now ≡ Some rest → s.rest ≡ given ++ rest → length given ≤ most_pulled
-        → IsCut loaded (numbered_lines (s.consumed ++ given) (is_empty rest)) before s.out out fault → ServesPrefix loaded (told_of queries before now out) fault
-    cut_prefix now out fault given rest is parts few cut = record {
-      consumed = s.consumed ++ given;
-      rest = rest;
-      told_so = (is, s.told_so.1 ∙ ap (λ zs. s.consumed ++ zs) parts ∙ sym (append_assoc s.consumed given rest));
-      written = cut.written;
-      faults = cut.faults;
-      earlier = s.consumed;
-      last = given;
-      is_earlier = refl;
-      is_last = few;
-      answered = rw (← out_is) cut.answered;
-    }
+  -- at the end
+  pub serving-cut_at_end : (now out : Option (List ℕ)) (fault : Bool) → Consumes coming now [] → IsAtEnd now
+      → ((all before out' : List ℕ) → written ≡ Some out' → IsAnswering loaded all before lines bad is_long held out' → HasNoLineFeed held
+      → IsCut loaded (numbered_lines all true) before out' out fault)
+      → ServesPrefix loaded (told_of queries before now out) fault
+  serving-cut_at_end now out fault h at cut =
+      let e = ended s.rest now (rw s.told_so.0 at h) at in
+      cut_prefix now out fault [] [] e.0 e.1 (omega arith)
+      (rw (append-nil s.consumed) (cut s.consumed before s.out s.written s.answering s.clear))
 
-    -- at the end
-    pub serving-cut_at_end : (now out : Option (List ℕ)) (fault : Bool) → Consumes coming now [] → IsAtEnd now
-        → ((all before out' : List ℕ) → written ≡ Some out' → IsAnswering loaded all before lines bad is_long held out' → HasNoLineFeed held
-        → IsCut loaded (numbered_lines all true) before out' out fault)
-        → ServesPrefix loaded (told_of queries before now out) fault
-    serving-cut_at_end now out fault h at cut =
-        let e = ended s.rest now (rw s.told_so.0 at h) at in
-        cut_prefix now out fault [] [] e.0 e.1 (omega arith)
-        (rw (append-nil s.consumed) (cut s.consumed before s.out s.written s.answering s.clear))
+  -- before it
+  pub serving-cut : (now out : Option (List ℕ)) (fault : Bool) (given bytes : List ℕ) → Consumes coming now given → length given ≤ most_pulled → bytes ≡ held ++ given
+      → ((all before out' : List ℕ) → written ≡ Some out' → IsAnswering loaded all before lines bad is_long bytes out'
+      → IsCut loaded (numbered_lines all false) before out' out fault)
+      → ServesPrefix loaded (told_of queries before now out) fault
+  serving-cut now out fault given bytes h few e cut =
+      let t = taken now given h in
+      let all : List ℕ = s.consumed ++ given in
+      let more = later_lines 1 (slice_split is_line_feed all) (is_empty t.0) in
+      cut_prefix now out fault given t.0 t.1 t.2 few
+      (rw more.1 (cut_more loaded (numbered_lines all false) more.0 before s.out out fault
+      (cut all before s.out s.written (rw e (answering-taken loaded s.consumed before lines bad is_long held s.out given s.answering)))))
 
-    -- before it
-    pub serving-cut : (now out : Option (List ℕ)) (fault : Bool) (given bytes : List ℕ) → Consumes coming now given → length given ≤ most_pulled → bytes ≡ held ++ given
-        → ((all before out' : List ℕ) → written ≡ Some out' → IsAnswering loaded all before lines bad is_long bytes out'
-        → IsCut loaded (numbered_lines all false) before out' out fault)
-        → ServesPrefix loaded (told_of queries before now out) fault
-    serving-cut now out fault given bytes h few e cut =
-        let t = taken now given h in
-        let all : List ℕ = s.consumed ++ given in
-        let more = later_lines 1 (slice_split is_line_feed all) (is_empty t.0) in
-        cut_prefix now out fault given t.0 t.1 t.2 few
-        (rw more.1 (cut_more loaded (numbered_lines all false) more.0 before s.out out fault
-        (cut all before s.out s.written (rw e (answering-taken loaded s.consumed before lines bad is_long held s.out given s.answering)))))
-
-    -- all lines of it are answered
-    pub serving-more : (now out : Option (List ℕ)) (given bytes rest room : List ℕ) (lines' : ℕ) (bad' is_long' now_long : Bool) → Consumes coming now given → bytes ≡ held ++ given
-        → ((all before out' : List ℕ) → written ≡ Some out' → IsAnswering loaded all before lines bad is_long bytes out'
-        → (gone : List ℕ) × (out ≡ Some gone) × IsAnswering loaded all before lines' bad' is_long' rest gone)
-        → HasNoLineFeed rest → now_long ≡ (is_long' || nat_lt longest_line (length rest)) → room ≡ (if now_long then [] else rest)
-        → IsServing loaded (told_of queries before now out) lines' bad' now_long room
-    serving-more now out given bytes rest room lines' bad' is_long' now_long h e answered clear long is =
-        let t = taken now given h in
-        let r = answered (s.consumed ++ given) before s.out s.written (rw e (answering-taken loaded s.consumed before lines bad is_long held s.out given s.answering)) in
-        record {
-          consumed = s.consumed ++ given;
-          rest = t.0;
-          told_so = (t.1, s.told_so.1 ∙ ap (λ zs. s.consumed ++ zs) t.2 ∙ sym (append_assoc s.consumed given t.0));
-          out = r.0;
-          written = r.1;
-          answering = rw is (answering-held loaded (s.consumed ++ given) before lines' bad' is_long' rest r.0 r.2 clear now_long long);
-          clear = rw is (held_clear rest clear now_long);
-        }
+  -- all lines of it are answered
+  pub serving-more : (now out : Option (List ℕ)) (given bytes rest room : List ℕ) (lines' : ℕ) (bad' is_long' now_long : Bool) → Consumes coming now given → bytes ≡ held ++ given
+      → ((all before out' : List ℕ) → written ≡ Some out' → IsAnswering loaded all before lines bad is_long bytes out'
+      → (gone : List ℕ) × (out ≡ Some gone) × IsAnswering loaded all before lines' bad' is_long' rest gone)
+      → HasNoLineFeed rest → now_long ≡ (is_long' || nat_lt longest_line (length rest)) → room ≡ (if now_long then [] else rest)
+      → IsServing loaded (told_of queries before now out) lines' bad' now_long room
+  serving-more now out given bytes rest room lines' bad' is_long' now_long h e answered clear long is =
+      let t = taken now given h in
+      let r = answered (s.consumed ++ given) before s.out s.written (rw e (answering-taken loaded s.consumed before lines bad is_long held s.out given s.answering)) in
+      record {
+        consumed = s.consumed ++ given;
+        rest = t.0;
+        told_so = (t.1, s.told_so.1 ∙ ap (λ zs. s.consumed ++ zs) t.2 ∙ sym (append_assoc s.consumed given t.0));
+        out = r.0;
+        written = r.1;
+        answering = rw is (answering-held loaded (s.consumed ++ given) before lines' bad' is_long' rest r.0 r.2 clear now_long long);
+        clear = rw is (held_clear rest clear now_long);
+      }
 
 -- ---- all turns
 

@@ -1,10 +1,11 @@
-pub mod Answers
 pub mod Endings
 pub mod Faults
 pub mod Lines
+pub mod Pushes
 pub mod Replies
 pub mod Runs
 pub mod Stages
 pub use Rattle.rt_command.specs.Choices
 pub use Rattle.rt_command.specs.Invocations
 pub use Rattle.rt_device.specs.Devices
+pub use Rattle.rt_search.specs.Answers

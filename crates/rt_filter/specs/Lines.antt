@@ -1,5 +1,5 @@
 -- The lines of query bytes.
-use Rattle.std.specs.Prelude.{ℕ, ◌+◌, ◌==◌, ◌&&◌, Bool, true, false, not, if◌then◌else◌, List, [], ◌∷◌}
+use Rattle.std.specs.Prelude.{ℕ, ◌+◌, ◌==◌, ◌&&◌, Bool, not, if◌then◌else◌, List, [], ◌∷◌}
 use Rattle.std.specs.List.{enumerate_from, slice_split}
 use Rattle.rt_text.specs.Words.{is_empty}
 

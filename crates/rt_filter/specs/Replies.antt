@@ -12,7 +12,7 @@ use Rattle.rt_text.specs.declared.query.Parsed.TheVariants as parsed
 use Rattle.rt_text.specs.declared.query.Query.{Query}
 use Rattle.rt_text.specs.declared.query.Query.TheVariants.{Count, Find, Levels}
 use Rattle.rt_text.specs.declared.query.QueryFault.TheVariants as fault
-use Rattle.rt_filter.specs.Answers.{Answer, accepted, answers}
+use Rattle.rt_search.specs.Answers.{Answer, accepted, answers}
 use Rattle.rt_filter.specs.Lines.{longest_line}
 
 -- what queries are asked of: the entries of a table, and how many children a node of its tree may have
@@ -24,9 +24,13 @@ pub record Loaded : Type 0 where
 abbrev pub judged_line : List ℕ → Parsed
 judged_line line = if nat_lt longest_line (length line) then parsed.Fault fault.LineTooLong else query_of line
 
+-- a line for each answer
+abbrev pub answer_lines : List Answer → List ℕ
+answer_lines found = flat_map (λ answer. answer_line answer.0 answer.1) found
+
 -- a line for each answer, then their number
 abbrev pub find_reply : (line : ℕ) → List Answer → List ℕ
-find_reply line found = flat_map (λ answer. answer_line answer.0 answer.1) found ++ ok_line line (length found)
+find_reply line found = answer_lines found ++ ok_line line (length found)
 
 -- a line for each level from the top down to 0, that of the entries, then their number
 abbrev pub levels_reply : (line : ℕ) → (sizes : List ℕ) → List ℕ
@@ -41,8 +45,10 @@ query_reply loaded line (Count region) = ok_line line (length (accepted loaded.e
 query_reply loaded line Levels = levels_reply line (level_sizes (length loaded.entries) loaded.fanout)
 
 -- the reply to what a line asks
-unfoldable pub reply : Loaded → (line : ℕ) → Parsed → List ℕ
-reply loaded line asked = []
+abbrev pub reply : Loaded → (line : ℕ) → Parsed → List ℕ
+reply loaded line parsed.Skip = []
+reply loaded line (parsed.Query query) = query_reply loaded line query
+reply loaded line (parsed.Fault cause) = error_line line cause
 
 -- the replies to numbered lines, one after the other
 abbrev pub output : Loaded → List (ℕ × List ℕ) → List ℕ

@@ -1,5 +1,5 @@
 -- What the private stages of a run promise one another. No public contract cites it.
-use Rattle.std.specs.Prelude.{◌≡◌, ◌+◌, ◌<◌, ℕ, List, [], ◌++◌, length, Bool, true, false, Option, Some, None, IfSome, Result, Ok, Err, MatchOption, MatchResult, ⊤}
+use Rattle.std.specs.Prelude.{◌≡◌, ◌+◌, ◌<◌, ℕ, List, [], ◌++◌, length, Bool, true, false, Option, Some, None, IfSome, Ok, ⊤}
 use Rattle.std.specs.List.{AllByRecursion, enumerate_from, slice_split}
 use Rattle.std.specs.List.Sorted.{IsPermutation}
 use Rattle.std.specs.Io.{StartsWith}
@@ -10,7 +10,7 @@ use Rattle.rt_text.specs.declared.query.Parsed.TheVariants as parsed
 use Rattle.rt_text.specs.declared.query.QueryFault.TheVariants as fault
 use Rattle.rt_text.specs.declared.tables.TableFault.TheVariants as load
 use Rattle.rt_tree.specs.Packed.{Packed}
-use Rattle.rt_filter.specs.Endings.{Consumed, ServesAll, ServesWith, Told, WentPrefix}
+use Rattle.rt_filter.specs.Endings.{Consumed, Told, WentPrefix}
 use Rattle.rt_filter.specs.Lines.{is_line_feed, lines_of_parts, longest_line, numbered_lines}
 use Rattle.rt_filter.specs.Replies.{Loaded, any_fault, judged_line, output}
 use Rattle.rt_filter.specs.Runs.{loaded_of}
@@ -48,12 +48,6 @@ run_fault_of None = None
 run_fault_of (Some serve.Read) = Some Read
 run_fault_of (Some serve.Write) = Some Write
 
--- ---- pushes
-
--- a push was cut short: what went out is a prefix of the bytes
-abbrev pub WasCut : (old new : Option (List ℕ)) → List ℕ → Type 0
-WasCut old new bytes = IfSome old (λ before. WentPrefix before new bytes)
-
 -- ---- lines in pieces
 
 -- the lines of these bytes, numbered on from so many
@@ -71,16 +65,16 @@ asked_by false line = judged_line line
 -- of these bytes so many lines were answered, and `bad` tells whether one of them is faulty. What stands after them is the
 -- rest, before which bytes were dropped where it is too long for a line
 pub record IsAnswering (loaded : Loaded) (bytes before : List ℕ) (lines : ℕ) (bad is_long : Bool) (rest out : List ℕ)
-  : Type 0 where
-    pub answered : List (ℕ × List ℕ)
-    pub dropped : List ℕ
-    pub splits : (more : List ℕ) (ended : Bool)
-        → numbered_lines (bytes ++ more) ended ≡ answered ++ lines_from lines (dropped ++ (rest ++ more)) ended
-    pub replies : out ≡ before ++ output loaded answered
-    pub faults : bad ≡ any_fault answered
-    pub long : is_long ≡ true → longest_line < length dropped
-    pub short : is_long ≡ false → dropped ≡ []
-    pub clear : HasNoLineFeed dropped
+    : Type 0 where
+  pub answered : List (ℕ × List ℕ)
+  pub dropped : List ℕ
+  pub splits : (more : List ℕ) (ended : Bool)
+      → numbered_lines (bytes ++ more) ended ≡ answered ++ lines_from lines (dropped ++ (rest ++ more)) ended
+  pub replies : out ≡ before ++ output loaded answered
+  pub faults : bad ≡ any_fault answered
+  pub long : is_long ≡ true → longest_line < length dropped
+  pub short : is_long ≡ false → dropped ≡ []
+  pub clear : HasNoLineFeed dropped
 
 -- the queries are answered as far as they were pulled: what is held is the beginning of the next line
 pub record IsServing (loaded : Loaded) (told : Told) (lines : ℕ) (bad is_long : Bool) (held : List ℕ) : Type 0 where
@@ -95,7 +89,7 @@ pub record IsServing (loaded : Loaded) (told : Told) (lines : ℕ) (bad is_long 
 -- a push or a flush failed on the way: what went out is a prefix of the answers to the lines of these bytes, and begins
 -- with what had gone out
 pub record IsCut (loaded : Loaded) (lines : List (ℕ × List ℕ)) (before out : List ℕ) (now : Option (List ℕ)) (bad : Bool)
-  : Type 0 where
-    pub written : WentPrefix before now (output loaded lines)
-    pub answered : IfSome now (λ written. StartsWith written out)
-    pub faults : bad ≡ true → any_fault lines ≡ true
+    : Type 0 where
+  pub written : WentPrefix before now (output loaded lines)
+  pub answered : IfSome now (λ written. StartsWith written out)
+  pub faults : bad ≡ true → any_fault lines ≡ true

@@ -7,10 +7,10 @@
 #![tactic(auto)]
 
 mod filter;
+mod finding;
+mod pushing;
 mod reply;
 mod serving;
-
-
 
 pub use filter::{Outcome, RunFault, run, run_fault_line};
 pub use rt_command::{ArgFault, Invocation, Name, Settings, settings_of};

@@ -5,8 +5,9 @@ ghost use Rattle.std.specs.Io.KnownBytes.{Keeps};
 ghost use Rattle.rt_device.specs.Devices.{IsUnmoved};
 ghost use Rattle.rt_filter.specs.Endings.{HasConsumed, Serves, ServesAll, ServesWith, is_pull, is_push, told_of};
 ghost use Rattle.rt_filter.specs.Lines.{longest_line, most_pulled, numbered_lines};
+ghost use Rattle.rt_filter.specs.Pushes.{WasCut, WasPushed};
 ghost use Rattle.rt_filter.specs.Replies.{any_fault, is_fault, output, reply};
-ghost use Rattle.rt_filter.specs.Stages.{HasNoLineFeed, IsAnswering, IsCut, IsServing, WasCut, asked_by, loaded_tree};
+ghost use Rattle.rt_filter.specs.Stages.{HasNoLineFeed, IsAnswering, IsCut, IsServing, asked_by, loaded_tree};
 
 use crate::reply::push_reply;
 use memchr::memchr;
@@ -256,7 +257,7 @@ fn answer<K: Sink>(
     requires count { K.failed sink.old < 2 ^ 64 - 1 }
     requires few { begun.old.lines + 1 < 2 ^ 128 }
     ensures written { let answered = reply (loaded_tree tree.now) (begun.old.lines + 1) (asked_by begun.old.is_long line.now) in
-        OnOk result (IfSome (K.written sink.old) (λ before. K.written sink.new ≡ Some (before ++ answered))) }
+        OnOk result (WasPushed (K.written sink.old) (K.written sink.new) answered) }
     ensures cut { let answered = reply (loaded_tree tree.now) (begun.old.lines + 1) (asked_by begun.old.is_long line.now) in
         OnErr result (WasCut (K.written sink.old) (K.written sink.new) answered) }
     ensures lines { begun.new.lines ≡ begun.old.lines + 1 }

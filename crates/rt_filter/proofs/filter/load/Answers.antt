@@ -1,4 +1,4 @@
-use Rattle.std.proofs.Common.{rules, ◌≡◌, ◌∙◌, ap, sym}
+use Rattle.std.proofs.Common.{◌∙◌, ap, sym}
 use Rattle.rt_tree.specs.Packed.{Packed}
 use Rattle.rt_filter.proofs.RunLemmas.{has_loaded}
 use Rattle.rt_filter.proofs.filter.load.Goals as goal

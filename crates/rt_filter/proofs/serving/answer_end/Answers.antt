@@ -1,8 +1,8 @@
-use Rattle.std.proofs.Common.{rules, ◌≡◌, ◌⊎◌, ◌+◌, ◌<◌, true, length, arith, inl, inr}
-use Rattle.std.proofs.lemmas.Grind.{common_steps}
+use Rattle.std.proofs.Common.{rules, ◌≡◌, ◌⊎◌, ◌<◌, true, length, inl, inr}
 use Rattle.std.proofs.lemmas.Result.{on_err_weaker, on_ok_weaker}
 use Rattle.rt_filter.specs.Stages.{loaded_tree}
-use Rattle.rt_filter.proofs.PieceLemmas.{IsLast, end_answered, end_cut, end_lost, end_nothing, on_err}
+use Rattle.rt_filter.proofs.PushLemmas.{at_error}
+use Rattle.rt_filter.proofs.PieceLemmas.{end_answered, end_cut, end_lost, end_nothing}
 use Rattle.rt_filter.proofs.serving.answer_end.Goals as goal
 use Rattle.rt_filter.proofs.serving.answer_end.Goals.{else-not-begun-via-then-not-begun+else-is_empty, else-not-begun-via-else-not-begun}
 
@@ -17,10 +17,9 @@ returns-in_err-_frontier-clause-cut g c =
       | else-not-begun-via-then-not-begun+else-is_empty w ↦ inr (search rules)
       | else-not-begun-via-else-not-begun w ↦ inl (search rules)
     ] in
-    on_err _
+    at_error c.from_residual.result
     (λ all before out e s clear. end_cut (loaded_tree c.args.tree.now) all before out c.args.begun.now.lines c.args.begun.now.bad c.args.begun.now.is_long c.args.held.now s
     (record { clear = clear; some = some }) (g.K.Sink.written c.args.sink.now) (g.K.Sink.written c.answer.new.sink) c.answer.new.begun.bad e c.in_err-_frontier.ensures.cut c.answer.ensures.bad)
-    c.from_residual.result
 
 pub returns-clause-state : goal.returns-clause-state
 returns-clause-state g c =

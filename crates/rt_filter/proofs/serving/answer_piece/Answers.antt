@@ -1,16 +1,17 @@
-use Rattle.std.proofs.Common.{rules, ◌≡◌, ◌+◌, ◌-◌, ◌≤◌, ◌∙◌, length, drop, take, arith, ap, sym, List, ℕ}
+use Rattle.std.proofs.Common.{rules, ◌≡◌, ◌+◌, ◌-◌, ◌≤◌, ◌∙◌, length, drop, take, arith, ap, List, ℕ}
 use Rattle.std.proofs.lemmas.Grind.{common_steps}
 use Rattle.std.proofs.lemmas.List.{length-drop}
 use Rattle.rt_filter.specs.Stages.{loaded_tree}
 use Rattle.rt_filter.proofs.LineLemmas.{found_none}
-use Rattle.rt_filter.proofs.PieceLemmas.{on_err, rest_back, steps-cut, steps-kept, steps-lost, steps-more}
+use Rattle.rt_filter.proofs.PushLemmas.{at_error}
+use Rattle.rt_filter.proofs.PieceLemmas.{rest_back, steps-cut, steps-kept, steps-lost, steps-more}
 use Rattle.rt_filter.proofs.serving.answer_piece.Goals as goal
 
 pub returns-in_err-frontier-clause-cut : goal.returns-in_err-frontier-clause-cut
-returns-in_err-frontier-clause-cut g c = on_err _
+returns-in_err-frontier-clause-cut g c = at_error c.from_residual.result
     (steps-cut (loaded_tree c.args.tree.now) (g.K.Sink.written c.args.sink.now) (g.K.Sink.written c.loop-end.sink) (g.K.Sink.written c.answer.new.sink)
     c.args.begun.now.lines c.args.begun.now.bad c.args.begun.now.is_long c.args.bytes.now c.loop-end.begun.lines c.loop-end.begun.bad c.loop-end.begun.is_long c.loop-end.rest.now
-    c.loop-end.invariant.steps c.in-Some.end c.answer.new.begun.bad c.in-Some.ensures c.in_err-frontier.ensures.cut c.answer.ensures.bad) c.from_residual.result
+    c.loop-end.invariant.steps c.in-Some.end c.answer.new.begun.bad c.in-Some.ensures c.in_err-frontier.ensures.cut c.answer.ensures.bad)
 
 pub loop-end-preserved : goal.loop-end-preserved
 loop-end-preserved g c =
@@ -32,10 +33,10 @@ loop-end-preserved g c =
     }
 
 pub returns-in_err-flush-clause-cut : goal.returns-in_err-flush-clause-cut
-returns-in_err-flush-clause-cut g c = on_err _
+returns-in_err-flush-clause-cut g c = at_error c.from_residual-in_err-flush.result
     (λ all before out e s. rw c.flush.ensures.bad (steps-lost (loaded_tree c.args.tree.now) (g.K.Sink.written c.args.sink.now) (g.K.Sink.written c.loop-end.sink) (g.K.Sink.written c.flush.new.sink)
     c.args.begun.now.lines c.args.begun.now.bad c.args.begun.now.is_long c.args.bytes.now c.loop-end.begun.lines c.loop-end.begun.bad c.loop-end.begun.is_long c.loop-end.rest.now
-    c.loop-end.invariant.steps (found_none c.loop-end.rest.now c.in_default.ensures) c.in_err-flush.ensures.lost all before out e s)) c.from_residual-in_err-flush.result
+    c.loop-end.invariant.steps (found_none c.loop-end.rest.now c.in_default.ensures) c.in_err-flush.ensures.lost all before out e s))
 
 pub returns-clause-state : goal.returns-clause-state
 returns-clause-state g c all before out e s =

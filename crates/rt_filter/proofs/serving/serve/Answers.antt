@@ -1,7 +1,6 @@
-use Rattle.std.proofs.Common.{rules, ◌+◌, ◌∙◌, take, refl, arith}
+use Rattle.std.proofs.Common.{◌∙◌, take, refl, arith}
 use Rattle.rt_filter.specs.Stages.{loaded_tree}
-use Rattle.rt_filter.proofs.DeviceLemmas.{unmoved_same}
-use Rattle.rt_filter.proofs.TurnLemmas.{consumed_more, consumed_none, serving-stopped, serving_first}
+use Rattle.rt_filter.proofs.TurnLemmas.{consumed_more, consumed_none, serving-stopped, serving_first, unmoved_same}
 use Rattle.rt_filter.proofs.serving.serve.Goals as goal
 
 pub loop-turn-init : goal.loop-turn-init

@@ -1,4 +1,4 @@
-use Rattle.std.proofs.Common.{◌≡◌, ◌+◌, ◌*◌, ◌<◌, ◌≤◌, length, take, List, ℕ, Some}
+use Rattle.std.proofs.Common.{◌≡◌, ◌*◌, ◌<◌, ◌≤◌, length, take, List, ℕ, Some}
 use Rattle.rt_filter.specs.Endings.{HasConsumed, told_of}
 use Rattle.rt_filter.specs.Lines.{most_pulled}
 use Rattle.rt_filter.specs.Stages.{IsServing, loaded_tree}

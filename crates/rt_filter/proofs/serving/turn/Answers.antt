@@ -1,11 +1,8 @@
-use Rattle.std.proofs.Common.{rules, ◌≡◌, ◌+◌, ◌-◌, ◌≤◌, ◌∙◌, ◌++◌, [], ap, ap₂, sym, refl, append-nil, List, ℕ, take, drop, length, arith}
-use Rattle.std.proofs.lemmas.Grind.{common_steps}
+use Rattle.std.proofs.Common.{rules, ◌≡◌, ◌+◌, ◌-◌, ◌≤◌, ◌∙◌, ◌++◌, [], ap, ap₂, refl, append-nil, List, ℕ, take, drop, length, arith}
 use Rattle.std.proofs.lemmas.List.{length-append, length-drop, length-take-le}
-use Rattle.std.specs.Io.KnownBytes.{Consumes, IsAtEnd}
 use borrow.Rule.Slice.PartMut.{put_mid}
-use Rattle.rt_filter.specs.Endings.{told_of}
 use Rattle.rt_filter.specs.Lines.{most_pulled}
-use Rattle.rt_filter.specs.Stages.{IsServing, loaded_tree}
+use Rattle.rt_filter.specs.Stages.{loaded_tree}
 use Rattle.rt_filter.specs.declared.serving.ServeFault.TheVariants as serve
 use Rattle.rt_filter.proofs.PieceLemmas.{if_err}
 use Rattle.rt_filter.proofs.TurnLemmas.{filled_with, serving-cut, serving-cut_at_end, serving-ended, serving-more, serving-stopped}

@@ -1,4 +1,3 @@
-use Rattle.std.proofs.Common.{◌≡◌}
 use Rattle.rt_filter.proofs.PieceLemmas.{held_front}
 use Rattle.rt_filter.proofs.serving.Begun.hold.Goals as goal
 

@@ -1,0 +1,128 @@
+-- What pushes add up to.
+use Rattle.std.proofs.Common.{◌≡◌, ◌∙◌, ℕ, List, [], ◌∷◌, ◌++◌, length, take, drop, Option, Some, None, refl, sym, ap, arith, append_assoc, append-nil}
+use Rattle.std.specs.Prelude.{IfSome, OnErr, Result, Ok, Err}
+use Rattle.std.specs.Io.{StartsWith}
+use Rattle.std.specs.Io.KnownBytes.{Appends}
+use Rattle.std.proofs.Math.Seq.{take-append_seam}
+use Rattle.std.proofs.lemmas.List.{take-append-drop}
+use Rattle.rt_device.specs.Devices.{IsUnmoved}
+use Rattle.rt_filter.specs.Endings.{WentPrefix}
+use Rattle.rt_filter.specs.Pushes.{WasCut, WasPushed}
+
+-- a fact at each list that it may be is one at the list that it is
+pub if_some : (P : List ℕ → Type 0) (o : Option (List ℕ)) → ((xs : List ℕ) → o ≡ Some xs → P xs) → IfSome o P
+if_some P None h = tt
+if_some P (Some xs) h = h xs refl
+
+-- what holds anyway holds where there is an error
+pub at_error : {T E P : Type 0} (r : Result T E) → P → OnErr r P
+at_error (Ok x) h = tt
+at_error (Err e) h = h
+
+-- of all bytes, what isn't left was pushed
+pub record Pushed (all : List ℕ) (old now : Option (List ℕ)) (rest : List ℕ) : Type 0 where
+  pub out : (before : List ℕ) → old ≡ Some before → (out : List ℕ) × (now ≡ Some (before ++ out)) × (all ≡ out ++ rest)
+
+pub pushed_none : (all : List ℕ) (old : Option (List ℕ)) → Pushed all old old all
+pushed_none all old = record { out = λ before e. ([], e ∙ ap (λ xs. Some xs) (sym (append-nil before)), refl) }
+
+-- nothing is left
+pub pushed_whole : (all : List ℕ) (old now : Option (List ℕ)) (rest : List ℕ) → Pushed all old now rest → length rest ≡ 0
+    → WasPushed old now all
+pushed_whole all old now [] p z =
+    if_some _ old (λ before e. let q = p.out before e in q.1 ∙ ap (λ xs. Some (before ++ xs)) (sym (q.2 ∙ append-nil q.0)))
+pushed_whole all old now (c ∷ rest) p z = absurd (omega (arith, z))
+
+-- the next bytes were pushed too
+pub pushed_next : (all next rest : List ℕ) (old mid new : Option (List ℕ)) → Pushed all old mid (next ++ rest) → WasPushed mid new next
+    → Pushed all old new rest
+pushed_next all next rest old mid new p h = record {
+  out = λ before e.
+      let q = p.out before e in
+      let now : new ≡ Some ((before ++ q.0) ++ next) = rw q.1 at h in (
+        q.0 ++ next,
+        now ∙ ap (λ xs. Some xs) (append_assoc before q.0 next),
+        q.2 ∙ sym (append_assoc q.0 next rest),
+      );
+}
+
+-- ---- a push of some of them
+
+appended : (old new : Option (List ℕ)) (bytes : List ℕ) → Appends old new bytes → WasPushed old new bytes
+appended None new bytes h = tt
+appended (Some xs) None bytes h = absurd h
+appended (Some xs) (Some ys) bytes h = ap (λ zs. Some zs) h
+
+pub pushed_more : (all : List ℕ) (old mid new : Option (List ℕ)) (rest left : List ℕ) (n : ℕ) → Pushed all old mid rest
+    → Appends mid new (take n rest) → left ≡ drop n rest → Pushed all old new left
+pushed_more all old mid new rest left n p h l =
+    let parts : Pushed all old mid (take n rest ++ drop n rest) = rw (take-append-drop n rest) p in
+    rw l (pushed_next all (take n rest) (drop n rest) old mid new parts (appended mid new (take n rest) h))
+
+-- ---- what was cut short
+
+-- the front of a list is a prefix of it
+prefix : (out rest all : List ℕ) → all ≡ out ++ rest → StartsWith all out
+prefix out rest all e = rw e (take-append_seam out rest)
+
+-- what stands behind a prefix
+behind : (xs out : List ℕ) → StartsWith xs out → xs ≡ out ++ drop (length out) xs
+behind xs out h = sym (take-append-drop (length out) xs) ∙ ap (λ zs. zs ++ drop (length out) xs) h
+
+-- some bytes are there, and of what follows a prefix
+later : (before out next rest all : List ℕ) (new : Option (List ℕ)) → WentPrefix (before ++ out) new next → all ≡ out ++ (next ++ rest)
+    → WentPrefix before new all
+later before out next rest all None h e = tt
+later before out next rest all (Some ys) h e =
+    let more : List ℕ = drop (length h.0) next in
+    let parts : next ++ rest ≡ h.0 ++ (more ++ rest) =
+    ap (λ zs. zs ++ rest) (behind next h.0 h.2) ∙ append_assoc h.0 more rest in
+    let whole : all ≡ (out ++ h.0) ++ (more ++ rest) =
+    e ∙ ap (λ zs. out ++ zs) parts ∙ sym (append_assoc out h.0 (more ++ rest)) in
+    (out ++ h.0, h.1 ∙ append_assoc before out h.0, prefix (out ++ h.0) (more ++ rest) all whole)
+
+-- of the next bytes a prefix was pushed
+pub pushed_cut : (all next rest : List ℕ) (old mid new : Option (List ℕ)) → Pushed all old mid (next ++ rest) → WasCut mid new next
+    → WasCut old new all
+pushed_cut all next rest old mid new p h = if_some _ old (λ before e.
+    let q = p.out before e in
+    let cut : WentPrefix (before ++ q.0) new next = rw q.1 at h in
+    later before q.0 next rest all new cut q.2)
+
+unmoved : (old new : Option (List ℕ)) (bytes : List ℕ) → IsUnmoved old new → WasCut old new bytes
+unmoved None new bytes h = tt
+unmoved (Some xs) None bytes h = tt
+unmoved (Some xs) (Some ys) bytes h = ([], h ∙ sym (append-nil xs), refl)
+
+-- a push or a flush failed
+pub pushed_prefix : (all : List ℕ) (old mid new : Option (List ℕ)) (rest : List ℕ) → Pushed all old mid rest → IsUnmoved mid new
+    → WasCut old new all
+pushed_prefix all old mid new rest p h =
+    pushed_cut all rest [] old mid new (rw (append-nil rest) p) (unmoved mid new rest h)
+
+unmoved_same : (now : Option (List ℕ)) → IsUnmoved now now
+unmoved_same None = tt
+unmoved_same (Some xs) = refl
+
+-- a push took nothing
+pub pushed_nothing : (all : List ℕ) (old mid new : Option (List ℕ)) (rest : List ℕ) (n : ℕ) → Pushed all old mid rest
+    → Appends mid new (take n rest) → WasCut old new all
+pushed_nothing all old mid new rest n p h =
+    pushed_prefix all old new new (drop n rest) (pushed_more all old mid new rest (drop n rest) n p h refl) (unmoved_same new)
+
+-- ---- two pushes, one after the other
+
+module _ (first last : List ℕ) (old mid new : Option (List ℕ)) where
+  one_left : WasPushed old mid first → Pushed (first ++ last) old mid (last ++ [])
+  one_left h =
+      rw (append-nil last) (pushed_next (first ++ last) first last old old mid (pushed_none (first ++ last) old) h)
+
+  pub pushed_both : WasPushed old mid first → WasPushed mid new last → WasPushed old new (first ++ last)
+  pushed_both h k =
+      pushed_whole (first ++ last) old new [] (pushed_next (first ++ last) last [] old mid new (one_left h) k) refl
+
+  pub cut_in_first : WasCut old new first → WasCut old new (first ++ last)
+  cut_in_first h = pushed_cut (first ++ last) first last old old new (pushed_none (first ++ last) old) h
+
+  pub cut_in_last : WasPushed old mid first → WasCut mid new last → WasCut old new (first ++ last)
+  cut_in_last h k = pushed_cut (first ++ last) last [] old mid new (one_left h) k

@@ -1,0 +1,11 @@
+-- What pushes add up to. No public contract cites it.
+use Rattle.std.specs.Prelude.{◌≡◌, ℕ, List, ◌++◌, Option, Some, IfSome}
+use Rattle.rt_filter.specs.Endings.{WentPrefix}
+
+-- all of these bytes were pushed: where the sink told its bytes, they stand after those
+abbrev pub WasPushed : (old new : Option (List ℕ)) → List ℕ → Type 0
+WasPushed old new bytes = IfSome old (λ before. new ≡ Some (before ++ bytes))
+
+-- a push was cut short: what went out is a prefix of the bytes
+abbrev pub WasCut : (old new : Option (List ℕ)) → List ℕ → Type 0
+WasCut old new bytes = IfSome old (λ before. WentPrefix before new bytes)

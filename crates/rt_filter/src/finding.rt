@@ -1,0 +1,183 @@
+//! The replies to searches and counts.
+//!
+//! The region and the order of a query are told apart once, so that what is asked about each box is known to the
+//! compiler.
+
+ghost use Rattle.std.specs.Prelude.{◌≡◌, ◌+◌, ◌-◌, ◌<◌, ◌≤◌, ◌^◌, IfOk, OnOk, OnErr, length};
+ghost use Rattle.rt_geo.specs.Orders.{order_score};
+ghost use Rattle.rt_geo.specs.Regions.{region_accepts};
+ghost use Rattle.rt_text.specs.ReplyLines.{ok_line};
+ghost use Rattle.rt_search.specs.Answers.{accepted, answers};
+ghost use Rattle.rt_filter.specs.Pushes.{WasCut, WasPushed};
+ghost use Rattle.rt_filter.specs.Replies.{answer_lines, find_reply};
+
+use crate::pushing::push_line;
+use rt_device::{Sink, WriteFault};
+use rt_geo::{ById, Counted, Geometry, Guided, Order, Rank, Region, Shape};
+use rt_search::{Frontier, Search, count};
+use rt_text::{answer_line, ok_line};
+use rt_tree::Tree;
+
+/// Pushes a line for each answer, the first so many where there is a limit, and then their number.
+pub(crate) fn push_find<K: Sink>(
+    tree: &Tree,
+    frontier: Frontier,
+    line: u128,
+    region: Region,
+    order: Order,
+    limit: Option<u64>,
+    sink: &mut K,
+) -> Result<Frontier, WriteFault>
+    requires room { length tree.now.entries ≤ frontier.capacity }
+    requires count { K.failed sink.old < 2 ^ 64 - 1 }
+    ensures written { OnOk result (WasPushed (K.written sink.old) (K.written sink.new)
+        (find_reply line (answers tree.now.entries (region_accepts region) (order_score order) limit))) }
+    ensures cut { OnErr result (WasCut (K.written sink.old) (K.written sink.new)
+        (find_reply line (answers tree.now.entries (region_accepts region) (order_score order) limit))) }
+    ensures capacity { IfOk result (λ frontier'. frontier'.capacity ≡ frontier.capacity) }
+    ensures went { OnOk result (K.failed sink.new ≡ K.failed sink.old) }
+    ensures fails { OnErr result (K.failed sink.new ≡ K.failed sink.old + 1) }
+{
+    match region {
+        Region::All(shape) => push_ordered(tree, frontier, line, shape, order, limit, sink),
+        Region::Window(shape) => push_ordered(tree, frontier, line, shape, order, limit, sink),
+        Region::Inside(shape) => push_ordered(tree, frontier, line, shape, order, limit, sink),
+        Region::Covers(shape) => push_ordered(tree, frontier, line, shape, order, limit, sink),
+        Region::Circle(shape) => push_ordered(tree, frontier, line, shape, order, limit, sink),
+        Region::Polygon(shape) => push_ordered(tree, frontier, line, shape, order, limit, sink),
+    }
+}
+
+// The same for one shape.
+fn push_ordered<S: Shape + Drop, K: Sink>(
+    tree: &Tree,
+    frontier: Frontier,
+    line: u128,
+    shape: S,
+    order: Order,
+    limit: Option<u64>,
+    sink: &mut K,
+) -> Result<Frontier, WriteFault>
+    requires room { length tree.now.entries ≤ frontier.capacity }
+    requires count { K.failed sink.old < 2 ^ 64 - 1 }
+    ensures written { OnOk result (WasPushed (K.written sink.old) (K.written sink.new)
+        (find_reply line (answers tree.now.entries (S.accepts shape) (order_score order) limit))) }
+    ensures cut { OnErr result (WasCut (K.written sink.old) (K.written sink.new)
+        (find_reply line (answers tree.now.entries (S.accepts shape) (order_score order) limit))) }
+    ensures capacity { IfOk result (λ frontier'. frontier'.capacity ≡ frontier.capacity) }
+    ensures went { OnOk result (K.failed sink.new ≡ K.failed sink.old) }
+    ensures fails { OnErr result (K.failed sink.new ≡ K.failed sink.old + 1) }
+{
+    match order {
+        Order::ById(rank) => push_found(tree, frontier, line, shape, rank, limit, sink),
+        Order::Near(rank) => push_found(tree, frontier, line, shape, rank, limit, sink),
+        Order::Smallest(rank) => push_found(tree, frontier, line, shape, rank, limit, sink),
+    }
+}
+
+// The same for one shape and one rank.
+fn push_found<S: Shape + Drop, R: Rank + Drop, K: Sink>(
+    tree: &Tree,
+    frontier: Frontier,
+    line: u128,
+    shape: S,
+    rank: R,
+    limit: Option<u64>,
+    sink: &mut K,
+) -> Result<Frontier, WriteFault>
+    requires room { length tree.now.entries ≤ frontier.capacity }
+    requires count { K.failed sink.old < 2 ^ 64 - 1 }
+    ensures written { OnOk result (WasPushed (K.written sink.old) (K.written sink.new)
+        (find_reply line (answers tree.now.entries (S.accepts shape) (R.score rank) limit))) }
+    ensures cut { OnErr result (WasCut (K.written sink.old) (K.written sink.new)
+        (find_reply line (answers tree.now.entries (S.accepts shape) (R.score rank) limit))) }
+    ensures capacity { IfOk result (λ frontier'. frontier'.capacity ≡ frontier.capacity) }
+    ensures went { OnOk result (K.failed sink.new ≡ K.failed sink.old) }
+    ensures fails { OnErr result (K.failed sink.new ≡ K.failed sink.old + 1) }
+{
+    // (asked, so that it is known that the number of answers fits)
+    let _most = tree.len();
+    let geometry = Guided { shape, rank };
+    let mut search = Search::start(tree, frontier, Counted::new(&geometry), limit);
+    let pushed = push_answers(&mut search, sink);
+    let (frontier, _counted) = search.finish();
+    push_line(&ok_line(line, pushed?), sink)?;
+    Ok(frontier)
+}
+
+// Pushes a line for each answer that is still to come, as it is found, and tells how many there were.
+fn push_answers<G: Geometry, K: Sink>(
+    search: &mut Search<'_, G>,
+    sink: &mut K,
+) -> Result<u64, WriteFault>
+    requires few { length search.old.to_come < 2 ^ 32 }
+    requires count { K.failed sink.old < 2 ^ 64 - 1 }
+    ensures written { OnOk result (WasPushed (K.written sink.old) (K.written sink.new)
+        (answer_lines search.old.to_come)) }
+    ensures cut { OnErr result (WasCut (K.written sink.old) (K.written sink.new)
+        (answer_lines search.old.to_come)) }
+    ensures many { IfOk result (λ found. found ≡ length search.old.to_come) }
+    ensures capacity { search.new.capacity ≡ search.old.capacity }
+    ensures went { OnOk result (K.failed sink.new ≡ K.failed sink.old) }
+    ensures fails { OnErr result (K.failed sink.new ≡ K.failed sink.old + 1) }
+{
+    let mut found: u64 = 0;
+    while let Some((id, score)) = search.next() {
+        push_line(&answer_line(id, score), sink)?;
+        found += 1;
+    }
+    Ok(found)
+}
+
+/// Pushes the number of the boxes that the region accepts.
+pub(crate) fn push_count<K: Sink>(
+    tree: &Tree,
+    frontier: Frontier,
+    line: u128,
+    region: Region,
+    sink: &mut K,
+) -> Result<Frontier, WriteFault>
+    requires room { length tree.now.entries ≤ frontier.capacity }
+    requires count { K.failed sink.old < 2 ^ 64 - 1 }
+    ensures written { OnOk result (WasPushed (K.written sink.old) (K.written sink.new)
+        (ok_line line (length (accepted tree.now.entries (region_accepts region))))) }
+    ensures cut { OnErr result (WasCut (K.written sink.old) (K.written sink.new)
+        (ok_line line (length (accepted tree.now.entries (region_accepts region))))) }
+    ensures capacity { IfOk result (λ frontier'. frontier'.capacity ≡ frontier.capacity) }
+    ensures went { OnOk result (K.failed sink.new ≡ K.failed sink.old) }
+    ensures fails { OnErr result (K.failed sink.new ≡ K.failed sink.old + 1) }
+{
+    match region {
+        Region::All(shape) => push_counted(tree, frontier, line, shape, sink),
+        Region::Window(shape) => push_counted(tree, frontier, line, shape, sink),
+        Region::Inside(shape) => push_counted(tree, frontier, line, shape, sink),
+        Region::Covers(shape) => push_counted(tree, frontier, line, shape, sink),
+        Region::Circle(shape) => push_counted(tree, frontier, line, shape, sink),
+        Region::Polygon(shape) => push_counted(tree, frontier, line, shape, sink),
+    }
+}
+
+// The same for one shape.
+fn push_counted<S: Shape + Drop, K: Sink>(
+    tree: &Tree,
+    frontier: Frontier,
+    line: u128,
+    shape: S,
+    sink: &mut K,
+) -> Result<Frontier, WriteFault>
+    requires room { length tree.now.entries ≤ frontier.capacity }
+    requires count { K.failed sink.old < 2 ^ 64 - 1 }
+    ensures written { OnOk result (WasPushed (K.written sink.old) (K.written sink.new)
+        (ok_line line (length (accepted tree.now.entries (S.accepts shape))))) }
+    ensures cut { OnErr result (WasCut (K.written sink.old) (K.written sink.new)
+        (ok_line line (length (accepted tree.now.entries (S.accepts shape))))) }
+    ensures capacity { IfOk result (λ frontier'. frontier'.capacity ≡ frontier.capacity) }
+    ensures went { OnOk result (K.failed sink.new ≡ K.failed sink.old) }
+    ensures fails { OnErr result (K.failed sink.new ≡ K.failed sink.old + 1) }
+{
+    let geometry = Guided { shape, rank: ById };
+    let mut frontier = frontier;
+    let counted = count(tree, &mut frontier, &mut Counted::new(&geometry));
+    push_line(&ok_line(line, counted.accepted), sink)?;
+    Ok(frontier)
+}
