@@ -5,7 +5,7 @@ use Rattle.rt_filter.proofs.finding.push_found.Goals as goal
 
 pub push_answers-pushed-requires-clause-few : goal.push_answers-pushed-requires-clause-few
 push_answers-pushed-requires-clause-few g c =
-    few_answers c.args.tree.now.entries (g.S.Shape.accepts c.new.result.geometry.shape) (g.R.Rank.score c.new.result.geometry.rank) c.args.limit c.start-search.result.to_come c.len-most.result _
+    few_answers c.args.tree.now.entries (g.S.Shape.accepts c.new.result.geometry.shape) (g.R.Rank.score c.new.result.geometry.rank) _ c.start-search.result.to_come c.len-most.result _
     c.start-search.ensures.to_come c.len-most.ensures.value c.len-most.type_inv
 
 pub returns-in_err-pushed-clause-cut : goal.returns-in_err-pushed-clause-cut

@@ -1,0 +1,199 @@
+//! Replies to single lines, pushed into room in memory. The expected bytes were worked out by hand.
+
+use super::push_reply;
+use rt_device::{Sink, SliceSink, WriteFault};
+use rt_geo::{Bounds, ById, Circle, Entry, Order, Point, Region};
+use rt_search::Frontier;
+use rt_text::{Parsed, Query, parse};
+use rt_tree::{Table, Tree};
+use std::alloc::Global;
+use std::process::Abort;
+
+/// The number of the line that is replied to.
+const LINE: u128 = 7;
+
+/// The most bytes that a sink of these tests has room for.
+const ROOM: usize = 64;
+
+/// The five boxes of the examples.
+static BOXES: [(i64, [i32; 4]); 5] = [
+    (1, [0, 10, 0, 10]),
+    (2, [5, 15, 5, 15]),
+    (3, [20, 30, 0, 10]),
+    (4, [-5, -1, -5, -1]),
+    (5, [12, 12, 12, 12]),
+];
+
+/// Lines with their replies: each region in each order, then the other forms.
+static REPLIES: [(&[u8], &[u8]); 33] = [
+    (b"find all", b"1 0\n2 0\n3 0\n4 0\n5 0\nok 7 5\n"),
+    (
+        b"find all near 12 12",
+        b"2 0\n5 0\n1 8\n3 68\n4 338\nok 7 5\n",
+    ),
+    (
+        b"find all smallest",
+        b"5 0\n4 16\n1 100\n2 100\n3 100\nok 7 5\n",
+    ),
+    (b"find window 0 10 0 10", b"1 0\n2 0\nok 7 2\n"),
+    (b"find window 0 10 0 10 near 12 12", b"2 0\n1 8\nok 7 2\n"),
+    (b"find window 0 10 0 10 smallest", b"1 100\n2 100\nok 7 2\n"),
+    (b"find inside 0 15 0 15", b"1 0\n2 0\n5 0\nok 7 3\n"),
+    (
+        b"find inside 0 15 0 15 near 12 12",
+        b"2 0\n5 0\n1 8\nok 7 3\n",
+    ),
+    (
+        b"find inside 0 15 0 15 smallest",
+        b"5 0\n1 100\n2 100\nok 7 3\n",
+    ),
+    (b"find covers 5 5 5 5", b"1 0\n2 0\nok 7 2\n"),
+    (b"find covers 5 5 5 5 near 12 12", b"2 0\n1 8\nok 7 2\n"),
+    (b"find covers 5 5 5 5 smallest", b"1 100\n2 100\nok 7 2\n"),
+    (b"find circle 0 0 2", b"1 0\n4 2\nok 7 2\n"),
+    (b"find circle 0 0 2 near 12 12", b"1 8\n4 338\nok 7 2\n"),
+    (b"find circle 0 0 2 smallest", b"4 16\n1 100\nok 7 2\n"),
+    (
+        b"find polygon 3 0 0 30 0 0 30",
+        b"1 0\n2 0\n3 0\n5 0\nok 7 4\n",
+    ),
+    (
+        b"find polygon 3 0 0 30 0 0 30 near 12 12",
+        b"2 0\n5 0\n1 8\n3 68\nok 7 4\n",
+    ),
+    (
+        b"find polygon 3 0 0 30 0 0 30 smallest",
+        b"5 0\n1 100\n2 100\n3 100\nok 7 4\n",
+    ),
+    (b"find all first 0", b"ok 7 0\n"),
+    (b"find all first 2", b"1 0\n2 0\nok 7 2\n"),
+    (b"find all smallest first 3", b"5 0\n4 16\n1 100\nok 7 3\n"),
+    (b"nearest 2 12 12", b"2 0\n5 0\nok 7 2\n"),
+    (b"find window 40 50 40 50", b"ok 7 0\n"),
+    (b"count all", b"ok 7 5\n"),
+    (b"count window 0 10 0 10", b"ok 7 2\n"),
+    (b"count inside 0 15 0 15", b"ok 7 3\n"),
+    (b"count covers 12 12 12 12", b"ok 7 2\n"),
+    (b"count circle 0 0 2", b"ok 7 2\n"),
+    (b"count polygon 3 0 0 30 0 0 30", b"ok 7 4\n"),
+    (b"levels", b"3 1\n2 2\n1 3\n0 5\nok 7 4\n"),
+    (b"", b""),
+    (b"# find all", b""),
+    (b"find all first", b"error 7 Q4 missing word\n"),
+];
+
+fn pack(rt: &impl Abort, alloc: Global) -> Tree {
+    let mut table = Table::empty(alloc);
+    for (id, [min_x, max_x, min_y, max_y]) in BOXES {
+        let bounds = Bounds::new(min_x, max_x, min_y, max_y).expect(
+            rt,
+            "the minimums are at most the maximums",
+        );
+        assert!(rt; table.len() < Table::MOST_ENTRIES, "there is room");
+        table
+            .push(Entry { id, bounds })
+            .expect(rt, "the id is new, and there is memory");
+    }
+    Tree::pack(alloc, table, 2).expect(rt, "there is memory")
+}
+
+fn frontier_over(rt: &impl Abort, alloc: Global, tree: &Tree) -> Frontier {
+    Frontier::new(alloc, tree.len()).expect(rt, "there is memory")
+}
+
+#[test]
+fn replies_in_every_form(rt: HostRuntime) {
+    let tree = pack(&rt, rt.alloc());
+    // One frontier serves all replies, one after the other.
+    let mut frontier = frontier_over(&rt, rt.alloc(), &tree);
+    for piece in [1, 3, ROOM] {
+        for (text, reply) in REPLIES {
+            let mut room = [0u8; ROOM];
+            let mut sink = SliceSink::new(&mut room, piece, None);
+            frontier = push_reply(&tree, frontier, LINE, parse(text), &mut sink).expect(
+                &rt,
+                "no push fails",
+            );
+            assert_eq!(rt; sink.written(), reply);
+            assert_eq!(rt; sink.failures(), 0);
+            assert_eq!(rt; frontier.capacity(), tree.len());
+        }
+    }
+}
+
+#[test]
+fn circles_are_told_by_id_too(rt: HostRuntime) {
+    let tree = pack(&rt, rt.alloc());
+    let circle = Circle {
+        centre: Point::default(),
+        radius: 2,
+    };
+    let asked = Parsed::Query(Query::Find {
+        region: Region::Circle(circle),
+        order: Order::ById(ById),
+        limit: None,
+    });
+    let mut room = [0u8; ROOM];
+    let mut sink = SliceSink::new(&mut room, ROOM, None);
+    let frontier = frontier_over(&rt, rt.alloc(), &tree);
+    push_reply(&tree, frontier, LINE, asked, &mut sink).expect(&rt, "no push fails");
+    assert_eq!(rt; sink.written(), b"1 0\n4 0\nok 7 2\n".as_slice());
+}
+
+/// Lines, the most bytes that a push takes, and how many bytes are out before each push and after the last.
+static PUSHES: [(&[u8], usize, &[usize]); 7] = [
+    (b"find window 0 10 0 10", 3, &[0, 3, 4, 7, 8, 11, 14, 15]),
+    (b"find window 0 10 0 10", ROOM, &[0, 4, 8, 15]),
+    (b"count all", 3, &[0, 3, 6, 7]),
+    (b"levels", 3, &[0, 3, 4, 7, 8, 11, 12, 15, 16, 19, 22, 23]),
+    (b"levels", ROOM, &[0, 4, 8, 12, 16, 23]),
+    (b"find all first", 23, &[0, 23, 24]),
+    (b"", ROOM, &[0]),
+];
+
+fn reply_to(rt: &impl Abort, text: &[u8]) -> &'static [u8] {
+    let mut found = None;
+    for (line, reply) in REPLIES {
+        if line == text {
+            found = Some(reply);
+        }
+    }
+    found.expect(rt, "the reply is listed")
+}
+
+#[test]
+fn a_failed_push_ends_the_reply(rt: HostRuntime) {
+    let tree = pack(&rt, rt.alloc());
+    for (text, piece, before) in PUSHES {
+        assert!(rt; piece > 0);
+        let whole = reply_to(&rt, text);
+        let pushes = before.len().saturating_sub(1);
+        for k in 0..before.len() {
+            let mut room = [0u8; ROOM];
+            // The next push would be taken again, and a flush is a call too.
+            let mut sink = SliceSink::new(&mut room, piece, Some(k as u64 + 1));
+            let frontier = frontier_over(&rt, rt.alloc(), &tree);
+            let result = push_reply(&tree, frontier, LINE, parse(text), &mut sink);
+            assert_eq!(rt; result.is_ok(), k == pushes);
+            assert_eq!(rt; sink.written(), &whole[..before[k].min(whole.len())]);
+            assert_eq!(rt; sink.failures(), u64::from(k < pushes));
+        }
+        assert_eq!(rt; before.last(), Some(&whole.len()));
+    }
+}
+
+#[test]
+fn room_that_runs_out_ends_the_reply(rt: HostRuntime) {
+    let tree = pack(&rt, rt.alloc());
+    for (text, reply) in REPLIES {
+        for len in 0..reply.len().min(ROOM) {
+            let mut room = [0u8; ROOM];
+            let mut sink = SliceSink::new(&mut room[..len], 3, None);
+            let frontier = frontier_over(&rt, rt.alloc(), &tree);
+            let result = push_reply(&tree, frontier, LINE, parse(text), &mut sink);
+            assert_eq!(rt; result.err(), Some(WriteFault));
+            assert_eq!(rt; sink.written(), &reply[..len]);
+            assert_eq!(rt; sink.failures(), 1);
+        }
+    }
+}
