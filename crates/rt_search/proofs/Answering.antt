@@ -15,8 +15,7 @@ use Rattle.rt_tree.specs.Packed.{Packed, IsSubtree, child_nodes, entries_under, 
 use Rattle.rt_tree.specs.Sorting.{put}
 use Rattle.rt_tree.specs.declared.tree.Node.{Node}
 use Rattle.rt_search.specs.Answers.{Answer, answer_cmp, scored}
-use Rattle.rt_search.specs.Items.{item_cmp}
-use Rattle.rt_search.specs.Joining.{item_at}
+use Rattle.rt_search.specs.Items.{item_at, item_cmp}
 use Rattle.rt_search.specs.Remaining.{AllSound, IsSoundAt, answers_at, height_at, put_all, remaining}
 use Rattle.rt_search.specs.declared.item.Item.{Item}
 use Rattle.rt_search.specs.declared.item.Place.{Place}

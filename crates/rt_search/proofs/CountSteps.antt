@@ -17,8 +17,8 @@ use Rattle.rt_tree.specs.declared.tree.Node.{Node}
 use Rattle.rt_search.specs.Answers.{accepted, answer_cmp, answer_of, scored}
 use Rattle.rt_search.specs.Counting.{IsCounting, IsDividedAt, found_at_entry, found_at_node, found_in_entries}
 use Rattle.rt_search.specs.Counting.{found_in_nodes}
-use Rattle.rt_search.specs.Items.{item_cmp}
-use Rattle.rt_search.specs.Joining.{info_of_child, item_at, join_node, join_nodes, no_entry, root_item, root_items}
+use Rattle.rt_search.specs.Items.{item_at, item_cmp}
+use Rattle.rt_search.specs.Joining.{info_of_child, join_node, join_nodes, no_entry, root_item, root_items}
 use Rattle.rt_search.specs.Progress.{work_at, work_left}
 use Rattle.rt_search.specs.Remaining.{IsBelow, IsOpenable, height_at, is_fully, remaining}
 use Rattle.rt_search.specs.Remaining.{verdict_on, waiting_node}

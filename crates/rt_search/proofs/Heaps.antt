@@ -1,5 +1,5 @@
--- A heap, seen as its items in order.
-use Rattle.std.proofs.Common.{◌≡◌, false, List, [], ◌∷◌, map, length, sym, ◌∙◌, ap}
+-- What is kept in any order, seen as items in order.
+use Rattle.std.proofs.Common.{◌≡◌, ◌<◌, ◌≤◌, Bool, true, false, List, [], ◌∷◌, map, length, get_or, refl, sym, ◌∙◌, ap}
 use Rattle.std.proofs.Common.{subst, arith, Result, Ok, Err, IsPermutation}
 use Rattle.std.specs.Prelude.{IsOk, OnOk}
 use Rattle.std.specs.List.{AllByRecursion}
@@ -9,54 +9,106 @@ use Rattle.std.proofs.lemmas.List.{length-map}
 use Rattle.std.proofs.lemmas.List.Sorted.{IsPermutation-map}
 use Rattle.rt_tree.specs.Sorting.{put, sorted}
 use Rattle.rt_search.specs.Items.{item_cmp}
-use Rattle.rt_search.specs.contracts.item.ItemOrd.TheImpl.{ghosts}
+use Rattle.rt_search.specs.Kept.{IsEntry, IsFirstScore, IsHead, IsLeast, IsNode, IsRising, entry_item, in_order, node_item}
+use Rattle.rt_search.specs.contracts.item.FoundEntryOrd.TheImpl.{ghosts as entry_ghosts}
+use Rattle.rt_search.specs.contracts.item.ScoredNodeOrd.TheImpl.{ghosts as node_ghosts}
+use Rattle.rt_search.specs.declared.item.FoundEntry.{FoundEntry}
 use Rattle.rt_search.specs.declared.item.Item.{Item}
+use Rattle.rt_search.specs.declared.item.ScoredNode.{ScoredNode}
 use Rattle.rt_search.proofs.OrderedLists.{length-put_all, put_all-IsPermutation, put_all-all, put_all-nil, put_least}
-use Rattle.rt_search.proofs.Orders.{derived, item_order}
+use Rattle.rt_search.proofs.Orders.{entry_derived, item_order, node_derived, score_upto}
 
 pub on_ok : {T E P : Type 0} (r : Result T E) → IsOk r → OnOk r P → P
 on_ok (Ok x) h p = p
 on_ok (Err e) h p = cc
-
-abbrev item_in : Reverse Item → Item
-item_in r = r.0
 
 sorted-IsPermutation : (xs ys : List Item) → IsPermutation xs ys → sorted item_cmp ys ≡ sorted item_cmp xs
 sorted-IsPermutation xs ys h =
     sym (put_all-nil item_cmp item_order ys) ∙ put_all-IsPermutation item_cmp item_order xs ys [] h
     ∙ put_all-nil item_cmp item_order xs
 
-pub length-waiting : (xs : List (Reverse Item)) → length (sorted item_cmp (map (λ r. r.0) xs)) ≡ length xs
-length-waiting xs =
-    ap length (sym (put_all-nil item_cmp item_order (map item_in xs)))
-    ∙ omega (arith, length-put_all item_cmp item_order (map item_in xs) [], length-map xs item_in)
-
-pub pushed : (x : Reverse Item) (old new : List (Reverse Item)) → IsPermutation (x ∷ old) new
-    → sorted item_cmp (map (λ r. r.0) new) ≡ put item_cmp x.0 (sorted item_cmp (map (λ r. r.0) old))
-pushed x old new h = sorted-IsPermutation (map item_in (x ∷ old)) (map item_in new)
-    (IsPermutation-map item_in (x ∷ old) new h)
-
-not_after : (a b : Item) → is_lt (ghosts.cmp b a) ≡ false → is_gt (item_cmp a b) ≡ false
-not_after a b h = sym (item_order.turned a b) ∙ ap is_lt (sym (derived b a)) ∙ h
-
-all_after : (top : Reverse Item) (xs : List (Reverse Item))
-    → AllByRecursion (λ y. is_lt (ghosts.cmp y.0 top.0) ≡ false) xs
-    → AllByRecursion (λ b. is_gt (item_cmp top.0 b) ≡ false) (map item_in xs)
-all_after top [] a = tt
-all_after top (x ∷ xs) a = (not_after top.0 x.0 a.0, all_after top xs a.1)
-
-all_sorted : (P : Item → Type 0) (xs : List Item) → AllByRecursion P xs → AllByRecursion P (sorted item_cmp xs)
-all_sorted P xs a = subst (AllByRecursion P) (put_all-nil item_cmp item_order xs)
+pub sorted-all : (P : Item → Type 0) (xs : List Item) → AllByRecursion P xs → AllByRecursion P (sorted item_cmp xs)
+sorted-all P xs a = subst (AllByRecursion P) (put_all-nil item_cmp item_order xs)
     (put_all-all item_cmp item_order P xs [] a tt)
 
-pub popped_least : (top : Reverse Item) (new : List (Reverse Item))
-    → AllByRecursion (λ y. is_lt (ghosts.cmp y.0 top.0) ≡ false) new
-    → AllByRecursion (λ b. is_gt (item_cmp top.0 b) ≡ false) (sorted item_cmp (map (λ r. r.0) new))
-popped_least top new a = all_sorted (λ b. is_gt (item_cmp top.0 b) ≡ false) (map item_in new) (all_after top new a)
+map-all : {X : Type 0} (item : X → Item) (P : Item → Type 0) (xs : List X) → AllByRecursion (λ x. P (item x)) xs
+    → AllByRecursion P (map item xs)
+map-all item P [] a = tt
+map-all item P (x ∷ xs) a = (a.0, map-all item P xs a.1)
 
-pub popped : (top : Reverse Item) (old new : List (Reverse Item)) → IsPermutation old (top ∷ new)
-    → AllByRecursion (λ y. is_lt (ghosts.cmp y.0 top.0) ≡ false) new → sorted item_cmp (map (λ r. r.0) old)
-    ≡ top.0 ∷ sorted item_cmp (map (λ r. r.0) new)
-popped top old new h a =
-    sym (sorted-IsPermutation (map item_in old) (map item_in (top ∷ new)) (IsPermutation-map item_in old (top ∷ new) h))
-    ∙ put_least item_cmp item_order top.0 (sorted item_cmp (map item_in new)) (popped_least top new a)
+-- ---- scores
+
+pub least_scores : (x : Item) (ys : List Item) → IsLeast x ys → AllByRecursion (λ y. x.score ≤ y.score) ys
+least_scores x [] a = tt
+least_scores x (y ∷ ys) a = (score_upto x y a.0, least_scores x ys a.1)
+
+-- the first's score
+pub head_score : (x : Item) (ys : List Item) → IsHead x ys → IsFirstScore x.score ys
+head_score x [] h = absurd h
+head_score x (y ∷ ys) h = (ap (λ i. i.score) h.0, least_scores x ys h.1)
+
+-- ---- any collection, by the items that its elements are
+
+-- x comes after none of these
+abbrev pub IsLeastOf : {X : Type 0} → (X → Item) → Item → List X → Type 0
+IsLeastOf item x = AllByRecursion (λ y. is_gt (item_cmp x (item y)) ≡ false)
+
+module _ {X : Type 0} (item : X → Item) where
+  pub length-in_order : (xs : List X) → length (in_order item xs) ≡ length xs
+  length-in_order xs =
+      ap length (sym (put_all-nil item_cmp item_order (map item xs)))
+      ∙ omega (arith, length-put_all item_cmp item_order (map item xs) [], length-map xs item)
+
+  pub same_order : (old new : List X) → IsPermutation old new → in_order item new ≡ in_order item old
+  same_order old new h = sorted-IsPermutation (map item old) (map item new) (IsPermutation-map item old new h)
+
+  pub pushed : (x : X) (old new : List X) → IsPermutation (x ∷ old) new → in_order item new
+      ≡ put item_cmp (item x) (in_order item old)
+  pushed x old new h = same_order (x ∷ old) new h
+
+  pub in_order-all : (P : Item → Type 0) (xs : List X) → AllByRecursion (λ x. P (item x)) xs
+      → AllByRecursion P (in_order item xs)
+  in_order-all P xs a = sorted-all P (map item xs) (map-all item P xs a)
+
+  pub popped_least : (top : X) (new : List X) → IsLeastOf item (item top) new → IsLeast (item top) (in_order item new)
+  popped_least top new a = in_order-all (λ y. is_gt (item_cmp (item top) y) ≡ false) new a
+
+  pub popped : (top : X) (old new : List X) → IsPermutation old (top ∷ new) → IsLeastOf item (item top) new
+      → in_order item old ≡ item top ∷ in_order item new
+  popped top old new h a =
+      sym (same_order old (top ∷ new) h)
+      ∙ put_least item_cmp item_order (item top) (in_order item new) (popped_least top new a)
+
+  -- a heap's top is the first in order
+  pub top_is_head : (xs : List X) (top : X) → 0 < length xs → top ≡ get_or xs 0 top → IsLeastOf item (item top) xs
+      → IsHead (item top) (in_order item xs)
+  top_is_head [] top some h a = absurd (omega (arith, some))
+  top_is_head (x ∷ xs) top some h a =
+      let least : IsLeast (item x) (in_order item xs) =
+      popped_least x xs (subst (λ t. IsLeastOf item (item t) xs) h a.1) in
+      subst (IsHead (item top)) (sym (put_least item_cmp item_order (item x) (in_order item xs) least))
+      (ap item h, subst (λ t. IsLeast (item t) (in_order item xs)) (sym h) least)
+
+  pub top_is_first : (xs : List X) (top : X) → 0 < length xs → top ≡ get_or xs 0 top → IsLeastOf item (item top) xs
+      → IsFirstScore (item top).score (in_order item xs)
+  top_is_first xs top some h a = head_score (item top) (in_order item xs) (top_is_head xs top some h a)
+
+-- ---- the two heaps, by the orders that their elements derive
+
+pub nodes_after : (top : Reverse ScoredNode) (ns : List (Reverse ScoredNode))
+    → AllByRecursion (λ y. is_lt (node_ghosts.cmp y.0 top.0) ≡ false) ns → IsLeastOf node_item (node_item top) ns
+nodes_after top [] a = tt
+nodes_after top (n ∷ ns) a = (node_derived n top ∙ a.0, nodes_after top ns a.1)
+
+pub entries_after : (top : Reverse FoundEntry) (es : List (Reverse FoundEntry))
+    → AllByRecursion (λ y. is_lt (entry_ghosts.cmp y.0 top.0) ≡ false) es → IsLeastOf entry_item (entry_item top) es
+entries_after top [] a = tt
+entries_after top (e ∷ es) a = (entry_derived e top ∙ a.0, entries_after top es a.1)
+
+pub all_nodes : (ns : List (Reverse ScoredNode)) → AllByRecursion (λ n. IsNode (node_item n).place) ns
+all_nodes [] = tt
+all_nodes (n ∷ ns) = (tt, all_nodes ns)
+
+pub all_entries : (es : List (Reverse FoundEntry)) → AllByRecursion (λ e. IsEntry (entry_item e).place) es
+all_entries [] = tt
+all_entries (e ∷ es) = (tt, all_entries es)

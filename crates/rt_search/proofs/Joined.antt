@@ -13,8 +13,8 @@ use Rattle.rt_tree.specs.Packed.{extent_of_node, node_at}
 use Rattle.rt_tree.specs.Sorting.{put}
 use Rattle.rt_tree.specs.declared.tree.Node.{Node}
 use Rattle.rt_search.specs.Answers.{answer_cmp}
-use Rattle.rt_search.specs.Items.{item_cmp}
-use Rattle.rt_search.specs.Joining.{info_of_child, item_at, join_entries, join_entry, join_node, join_nodes, no_entry}
+use Rattle.rt_search.specs.Items.{item_at, item_cmp}
+use Rattle.rt_search.specs.Joining.{info_of_child, join_entries, join_entry, join_node, join_nodes, no_entry}
 use Rattle.rt_search.specs.Remaining.{AllSound, IsBelow, IsOpenable, height_at, is_fully, put_all, remaining}
 use Rattle.rt_search.specs.Remaining.{verdict_on, waiting_node}
 use Rattle.rt_search.specs.Work.{info_of_node, is_kept}

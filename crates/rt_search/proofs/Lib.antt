@@ -2,9 +2,11 @@ mod Rows
 pub mod Answering
 pub mod Children
 pub mod CountSteps
+pub mod Falling
 pub mod Giving
 pub mod Heaps
 pub mod Joined
+pub mod Merging
 pub mod Orders
 pub mod OrderedLists
 pub mod Sizes

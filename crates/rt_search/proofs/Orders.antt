@@ -1,16 +1,22 @@
 -- The orders of answers and of items: total, and they tell all apart.
-use Rattle.std.proofs.Common.{◌≡◌, ℕ, ℤ, Bool, true, false, Ordering, Less, Equal, Greater, refl, ◌∙◌, ap}
+use Rattle.std.proofs.Common.{◌≡◌, ◌≤◌, ℕ, ℤ, Bool, true, false, Ordering, Less, Equal, Greater, refl, sym, ◌∙◌, ap}
+use Rattle.std.proofs.Common.{◌<◌, arith}
 use Rattle.std.specs.Cmp.{IsTotalOrder, bool_cmp_total}
-use Rattle.std.specs.Ordering.{bool_cmp, int_cmp, nat_cmp, ordering_reverse, ordering_then}
+use Rattle.std.specs.Ordering.{bool_cmp, int_cmp, is_gt, is_lt, nat_cmp, ordering_reverse, ordering_then}
+use Rattle.std.specs.declared.cmp.Reverse.{Reverse}
+use Rattle.std.proofs.lemmas.Bool.Decides.{nat_tests}
 use Rattle.std.proofs.lemmas.Cmp.{int_cmp_total, nat_cmp_total, on_total, then_total}
 use Rattle.std.proofs.lemmas.Map.Lookups.{CmpEqualImpliesEq, exact_signed, exact_unsigned}
 use Rattle.rt_search.specs.Answers.{Answer, answer_cmp}
-use Rattle.rt_search.specs.Items.{item_cmp, node_cmp, place_cmp}
-use Rattle.rt_search.specs.Joining.{item_at}
-use Rattle.rt_search.specs.contracts.item.ItemOrd.TheImpl.{ghosts}
+use Rattle.rt_search.specs.Items.{item_at, item_cmp, node_cmp, place_cmp}
+use Rattle.rt_search.specs.Kept.{IsEntry, IsNode, entry_item, node_item}
+use Rattle.rt_search.specs.contracts.item.FoundEntryOrd.TheImpl.{ghosts as entry_ghosts}
+use Rattle.rt_search.specs.contracts.item.ScoredNodeOrd.TheImpl.{ghosts as node_ghosts}
+use Rattle.rt_search.specs.declared.item.FoundEntry.{FoundEntry}
 use Rattle.rt_search.specs.declared.item.Item.{Item}
 use Rattle.rt_search.specs.declared.item.Place.{Place}
 use Rattle.rt_search.specs.declared.item.Place.TheVariants.{Node, Entry}
+use Rattle.rt_search.specs.declared.item.ScoredNode.{ScoredNode}
 use Rattle.rt_search.specs.declared.item.WaitingNode.{WaitingNode}
 use Rattle.rt_search.proofs.OrderedLists.{IsOrder, order_of}
 
@@ -100,12 +106,41 @@ item_exact x y h =
 pub item_order : IsOrder item_cmp
 item_order = order_of item_cmp item_total item_exact
 
--- the derived order of items is this one
-derived_at : (s r : ℕ) (p q : Place) → ghosts.cmp (item_at s p) (item_at r q) ≡ item_cmp (item_at s p) (item_at r q)
-derived_at s r (Node m) (Node n) = refl
-derived_at s r (Node m) (Entry j) = refl
-derived_at s r (Entry i) (Node n) = refl
-derived_at s r (Entry i) (Entry j) = refl
+-- what doesn't come after another scores no higher
+score_le : (s r : ℕ) (o : Ordering) → is_gt (ordering_then (nat_cmp s r) o) ≡ false → s ≤ r
+score_le s r o h = grind (arith, nat_tests)
 
-pub derived : (x y : Item) → ghosts.cmp x y ≡ item_cmp x y
-derived x y = derived_at x.score y.score x.place y.place
+pub score_upto : (x y : Item) → is_gt (item_cmp x y) ≡ false → x.score ≤ y.score
+score_upto x y h = score_le x.score y.score (place_cmp x.place y.place) h
+
+-- what scores lower doesn't come after
+lower_cmp : (s r : ℕ) (o : Ordering) → s < r → is_gt (ordering_then (nat_cmp s r) o) ≡ false
+lower_cmp s r o h = grind (arith, nat_tests)
+
+pub lower_before : (x y : Item) → x.score < y.score → is_gt (item_cmp x y) ≡ false
+lower_before x y h = lower_cmp x.score y.score (place_cmp x.place y.place) h
+
+-- a node doesn't come after an entry of no lower score
+node_cmp_entry : (s r : ℕ) → s ≤ r → is_gt (ordering_then (nat_cmp s r) Less) ≡ false
+node_cmp_entry s r h = grind (arith, nat_tests)
+
+pub node_before : (s r : ℕ) (p q : Place) → IsNode p → IsEntry q → s ≤ r
+    → is_gt (item_cmp (item_at s p) (item_at r q)) ≡ false
+node_before s r (Node n) (Entry id) p q h = node_cmp_entry s r h
+node_before s r (Node n) (Node m) p q h = absurd q
+node_before s r (Entry id) q' p q h = absurd p
+
+-- ---- the derived orders are this one
+
+not_after : (x y : Item) → is_gt (item_cmp x y) ≡ is_lt (item_cmp y x)
+not_after x y = sym (item_order.turned x y)
+
+-- a node comes before another in the order that it derives where its item does
+pub node_derived : (m n : Reverse ScoredNode) → is_gt (item_cmp (node_item n) (node_item m))
+    ≡ is_lt (node_ghosts.cmp m.0 n.0)
+node_derived m n = not_after (node_item n) (node_item m)
+
+-- and an entry
+pub entry_derived : (d e : Reverse FoundEntry) → is_gt (item_cmp (entry_item e) (entry_item d))
+    ≡ is_lt (entry_ghosts.cmp d.0 e.0)
+entry_derived d e = not_after (entry_item e) (entry_item d)

@@ -12,7 +12,7 @@ use Rattle.rt_geo.specs.declared.geometry.Verdict.{Verdict}
 use Rattle.rt_tree.specs.Packed.{Packed, IsSound, IsSubtree, child_nodes, entries_under, height, node_at}
 use Rattle.rt_tree.specs.Packed.{root_of}
 use Rattle.rt_tree.specs.declared.tree.Node.{Node}
-use Rattle.rt_search.specs.Joining.{item_at}
+use Rattle.rt_search.specs.Items.{item_at}
 use Rattle.rt_search.specs.Progress.{held, size_at, work_at, work_left}
 use Rattle.rt_search.specs.Remaining.{AllSound, IsSoundAt, height_at, verdict_on}
 use Rattle.rt_search.specs.Work.{info_of_node, its_children, one_node, root_verdict, work, work_from}

@@ -2,7 +2,7 @@
 use Rattle.std.proofs.Common.{◌≡◌, ◌≢◌, ◌<◌, ◌≤◌, ◌+◌, ◌^◌, ℕ, ℤ, Bool, true, false, cond}
 use Rattle.std.proofs.Common.{List, [], ◌∷◌, length, Option, Some, None, refl, sym, ◌∙◌, ap, subst, arith}
 use Rattle.std.specs.List.{AllByRecursion}
-use Rattle.std.specs.Ordering.{is_gt, nat_cmp, ordering_then}
+use Rattle.std.specs.Ordering.{is_gt}
 use Rattle.std.proofs.lemmas.Bool.Decides.{nat_tests}
 use Rattle.std.specs.declared.cmp.Ordering.{Ordering}
 use Rattle.std.proofs.lemmas.List.Sums.{sum_by-cons}
@@ -13,8 +13,8 @@ use Rattle.rt_geo.specs.declared.geometry.Within.TheVariants.{Partly, Fully}
 use Rattle.rt_tree.specs.Packed.{Packed, entries_under, node_at}
 use Rattle.rt_tree.specs.declared.tree.Node.{Node}
 use Rattle.rt_search.specs.Answers.{Answer, answer_cmp}
-use Rattle.rt_search.specs.Items.{item_cmp, place_cmp}
-use Rattle.rt_search.specs.Joining.{item_at, join_entries, join_nodes}
+use Rattle.rt_search.specs.Items.{item_at, item_cmp}
+use Rattle.rt_search.specs.Joining.{join_entries, join_nodes}
 use Rattle.rt_search.specs.Progress.{IsNodeStep, IsOnCourse, IsSearching, IsTaken, held, work_at, work_left}
 use Rattle.rt_search.specs.Remaining.{AllSound, answers_at, height_at, put_all, remaining, verdict_on}
 use Rattle.rt_search.specs.Work.{is_kept, is_reached, is_within_bound, its_children, one_node, work, work_from}
@@ -26,7 +26,7 @@ use Rattle.rt_search.proofs.Answering.{among, at_above, before_node, take_entry}
 use Rattle.rt_search.proofs.Children.{leaf_node, subtree_level}
 use Rattle.rt_search.proofs.Joined.{entries_joined, entries_sound, left_out, nodes_joined, nodes_sound, taken}
 use Rattle.rt_search.proofs.OrderedLists.{put_all-all}
-use Rattle.rt_search.proofs.Orders.{answer_order}
+use Rattle.rt_search.proofs.Orders.{answer_order, score_upto}
 use Rattle.rt_search.proofs.Sizes.{count_is_fair, done_le, held_cons, one_is_fair, room_for}
 use Rattle.rt_search.proofs.Working.{IsJoining, held-join_entries, held-join_nodes, work-join_entries, work-join_nodes}
 
@@ -70,9 +70,6 @@ all_units : {X : Type 0} (xs : List X) → AllByRecursion (λ (x : X). Unit {0})
 all_units [] = tt
 all_units (x ∷ xs) = (tt, all_units xs)
 
-score_le : (s r : ℕ) (o : Ordering) → is_gt (ordering_then (nat_cmp s r) o) ≡ false → s ≤ r
-score_le s r o h = grind (arith, nat_tests)
-
 module _ (accepts : Extent → Bool) (score : Extent → ℕ) (verdict : Info → Verdict)
     (law : IsLawful accepts score verdict) (t : Packed) where
   all_up : (s r : ℕ) → s ≤ r → (qs : List Answer) → AllByRecursion (λ q. r ≤ q.1) qs → AllByRecursion (λ q. s ≤ q.1) qs
@@ -86,7 +83,7 @@ module _ (accepts : Extent → Bool) (score : Extent → ℕ) (verdict : Info �
   above_least x (y ∷ ys) a b =
       put_all-all answer_cmp answer_order (λ q. x.score ≤ q.1) (answers_at t accepts score y.score y.place)
       (remaining t accepts score ys)
-      (all_up x.score y.score (score_le x.score y.score (place_cmp x.place y.place) a.0)
+      (all_up x.score y.score (score_upto x y a.0)
       (answers_at t accepts score y.score y.place) (at_above accepts score t y.score y.place b.0))
       (above_least x ys a.1 b.1)
 

@@ -9,8 +9,8 @@ use Rattle.rt_geo.specs.declared.geometry.Within.{Within}
 use Rattle.rt_tree.specs.Packed.{Packed, IsSubtree, child_entries, child_nodes, node_at}
 use Rattle.rt_tree.specs.Sorting.{put}
 use Rattle.rt_tree.specs.declared.tree.Node.{Node}
-use Rattle.rt_search.specs.Items.{item_cmp}
-use Rattle.rt_search.specs.Joining.{info_of_child, item_at, join_entries, join_nodes, no_entry}
+use Rattle.rt_search.specs.Items.{item_at, item_cmp}
+use Rattle.rt_search.specs.Joining.{info_of_child, join_entries, join_nodes, no_entry}
 use Rattle.rt_search.specs.Progress.{held, size_at, work_at, work_left}
 use Rattle.rt_search.specs.Remaining.{height_at, waiting_node}
 use Rattle.rt_search.specs.Work.{info_of_node, is_kept, work_from}

@@ -9,16 +9,13 @@ use Rattle.rt_geo.specs.declared.geometry.Within.{Within}
 use Rattle.rt_tree.specs.Packed.{Packed, child_entries, node_at, root_of}
 use Rattle.rt_tree.specs.Sorting.{put}
 use Rattle.rt_tree.specs.declared.tree.Node.{Node}
-use Rattle.rt_search.specs.Items.{item_cmp}
+use Rattle.rt_search.specs.Items.{item_at, item_cmp}
 use Rattle.rt_search.specs.Remaining.{waiting_node}
 use Rattle.rt_search.specs.Work.{info_of_node, info_under, is_kept}
 use Rattle.rt_search.specs.declared.item.Item.{Item}
 use Rattle.rt_search.specs.declared.item.Place.{Place}
 use Rattle.rt_search.specs.declared.item.Place.TheVariants as place
 use Rattle.rt_search.specs.declared.item.WaitingNode.{WaitingNode}
-
-abbrev pub item_at : (score : ℕ) → Place → Item
-item_at score where_it_is = record { score = score; place = where_it_is }
 
 -- what is asked about an entry whose parent has this verdict
 abbrev pub info_of_child : Packed → (parent : Verdict) → Entry → Info

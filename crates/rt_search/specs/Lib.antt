@@ -2,6 +2,7 @@ pub mod Answers
 pub mod Counting
 pub mod Items
 pub mod Joining
+pub mod Kept
 pub mod Progress
 pub mod Remaining
 pub mod Searching

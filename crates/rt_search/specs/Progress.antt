@@ -8,8 +8,7 @@ use Rattle.rt_geo.specs.declared.geometry.Verdict.{Verdict}
 use Rattle.rt_tree.specs.Packed.{Packed, IsSound, node_at}
 use Rattle.rt_tree.specs.declared.tree.Node.{Node}
 use Rattle.rt_search.specs.Answers.{answers}
-use Rattle.rt_search.specs.Items.{item_cmp}
-use Rattle.rt_search.specs.Joining.{item_at}
+use Rattle.rt_search.specs.Items.{item_at, item_cmp}
 use Rattle.rt_search.specs.Remaining.{AllSound, height_at, remaining, verdict_on}
 use Rattle.rt_search.specs.Work.{HasWorked, is_reached, its_children, one_node, work, work_from}
 use Rattle.rt_search.specs.declared.item.Item.{Item}

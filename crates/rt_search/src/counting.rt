@@ -6,13 +6,14 @@ ghost use Rattle.rt_tree.specs.Packed.{IsLeafNode, IsSound, extent_of_node, node
 ghost use Rattle.rt_search.specs.declared.item.Place.TheVariants as place;
 ghost use Rattle.rt_search.specs.Answers.{accepted};
 ghost use Rattle.rt_search.specs.Counting.{IsCounting, found_at_entry, found_at_node, found_in_entries, found_in_nodes};
-ghost use Rattle.rt_search.specs.Joining.{item_at, join_node, join_nodes};
+ghost use Rattle.rt_search.specs.Items.{item_at};
+ghost use Rattle.rt_search.specs.Joining.{join_node, join_nodes};
 ghost use Rattle.rt_search.specs.Remaining.{IsBelow, IsOpenable};
 ghost use Rattle.rt_search.specs.Work.{asked_by_count, is_partly, opened_by_count};
 
 use crate::counts::Count;
 use crate::frontier::Frontier;
-use crate::item::{Item, Place, WaitingNode};
+use crate::item::{Place, WaitingNode};
 use crate::opening::{Parent, put_root};
 use rt_geo::{Counted, Geometry, Info, Within};
 use rt_tree::{Node, NodeNo, Tree};
@@ -56,13 +57,8 @@ fn count_child<G: Geometry>(
     match verdict.within {
         Within::Not => 0,
         Within::Partly => {
-            frontier.put(Item {
-                score: verdict.score,
-                place: Place::Node(WaitingNode {
-                    number,
-                    is_full: false,
-                }),
-            });
+            let is_full = false;
+            frontier.put_node(verdict.score, WaitingNode { number, is_full });
             0
         }
         Within::Fully => size as u64,

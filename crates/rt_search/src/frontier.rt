@@ -1,34 +1,41 @@
 //! What waits to be taken out, least first.
 
-ghost use Rattle.std.specs.Prelude.{◌≡◌, ◌==◌, ◌<◌, ◌≤◌, [], ◌∷◌, false, length, IfNone, IfOk, IfSome, MatchOption};
+ghost use Rattle.std.specs.Prelude.{◌≡◌, ◌==◌, ◌<◌, ◌≤◌, [], ◌∷◌, false, length, IfNone, IfOk, IfSome, MatchBool};
+ghost use Rattle.std.specs.Prelude.{MatchOption};
 ghost use Rattle.std.specs.List.{AllByRecursion};
 ghost use Rattle.std.specs.Ordering.{is_gt};
-ghost use Rattle.rt_search.specs.Items.{item_cmp};
+ghost use Rattle.rt_search.specs.declared.item.Place.TheVariants as place;
+ghost use Rattle.rt_search.specs.Items.{item_at, item_cmp};
+ghost use Rattle.rt_search.specs.Kept.{IsAhead};
 ghost use Rattle.rt_tree.specs.Sorting.{put};
 
-use crate::item::Item;
+use crate::found::Found;
+use crate::item::{Item, WaitingNode};
+use crate::nodes::Nodes;
 use std::alloc::{AllocError, Global};
-use std::cmp::Reverse;
-use std::collections::BinaryHeap;
 use std::marker::Model;
 
 /// The room in which searches and counts work, one after the other. It is made once, and never grows.
 ///
-/// It is seen as the items that wait in it, in the order in which they are taken out, and its capacity.
+/// It is seen as the items that wait in it, in the order in which they are taken out, and its capacity. The nodes and
+/// the entries among them are kept apart, each with room for so many.
 #[derive(Drop)]
 pub struct Frontier {
-    heap: BinaryHeap<Reverse<Item>>,
+    nodes: Nodes,
+    found: Found,
     capacity: u32,
 }
 
 impl Model for Frontier {
-    ghost use Rattle.rt_search.specs.Items.{IsKept, Waiting, waiting_of};
+    ghost use Rattle.rt_search.specs.Items.{Waiting, item_cmp};
+    ghost use Rattle.rt_search.specs.Kept.{IsMerged};
+    ghost use Rattle.rt_search.specs.Remaining.{put_all};
 
     ghost Value = { Waiting };
 
-    ghost view = { λ f. record { items = waiting_of f.heap; capacity = f.capacity } };
+    ghost view = { λ f. record { items = put_all item_cmp f.nodes.items f.found.items; capacity = f.capacity } };
 
-    ghost invariant = { λ f. IsKept ⟦<Reverse<Item> as Ord>⟧.cmp f.heap f.capacity };
+    ghost invariant = { λ f. IsMerged f.nodes f.found f.capacity };
 }
 
 impl Frontier {
@@ -38,8 +45,13 @@ impl Frontier {
         ensures items { IfOk result (λ f. f.items ≡ []) }
         ensures capacity { IfOk result (λ f. f.capacity ≡ capacity) }
     {
-        let heap = BinaryHeap::with_capacity(alloc, capacity as usize)?;
-        Ok(Frontier { heap, capacity })
+        let nodes = Nodes::new(alloc, capacity)?;
+        let found = Found::new(alloc, capacity)?;
+        Ok(Frontier {
+            nodes,
+            found,
+            capacity,
+        })
     }
 
     /// How many items it has room for.
@@ -54,30 +66,38 @@ impl Frontier {
         ensures value { result ≡ length self.now.items }
         ensures room { length self.now.items ≤ self.now.capacity }
     {
-        self.heap.len() as u32
+        (self.nodes.len() + self.found.len()) as u32
     }
 
     /// Whether nothing waits in it.
     pub fn is_empty(&self) -> bool
         ensures { result ≡ (length self.now.items == 0) }
     {
-        self.heap.is_empty()
+        self.len() == 0
     }
 
     pub(crate) fn clear(&mut self)
         ensures items { self.new.items ≡ [] }
         ensures capacity { self.new.capacity ≡ self.old.capacity }
     {
-        self.heap.clear();
+        self.nodes.clear();
+        self.found.clear();
     }
 
-    pub(crate) fn put(&mut self, item: Item)
+    pub(crate) fn put_node(&mut self, score: u128, node: WaitingNode)
         requires { length self.old.items < self.old.capacity }
-        ensures items { self.new.items ≡ put item_cmp item self.old.items }
+        ensures items { self.new.items ≡ put item_cmp (item_at score (place.Node node)) self.old.items }
         ensures capacity { self.new.capacity ≡ self.old.capacity }
     {
-        // (there is room, so no memory is taken)
-        let _pushed = self.heap.push(Reverse(item));
+        self.nodes.put(score, node);
+    }
+
+    pub(crate) fn put_entry(&mut self, score: u128, id: i64)
+        requires { length self.old.items < self.old.capacity }
+        ensures items { self.new.items ≡ put item_cmp (item_at score (place.Entry id)) self.old.items }
+        ensures capacity { self.new.capacity ≡ self.old.capacity }
+    {
+        self.found.put(score, id);
     }
 
     pub(crate) fn take(&mut self) -> Option<Item>
@@ -86,7 +106,22 @@ impl Frontier {
         ensures least { IfSome result (λ x. AllByRecursion (λ y. is_gt (item_cmp x y) ≡ false) self.new.items) }
         ensures capacity { self.new.capacity ≡ self.old.capacity }
     {
-        let least = self.heap.pop()?;
-        Some(least.0)
+        if is_node_next(&self.nodes, &self.found) {
+            return self.nodes.take();
+        }
+        self.found.take()
     }
+}
+
+// Whether a node is next: one waits whose score is at most that of each entry found.
+fn is_node_next(nodes: &Nodes, found: &Found) -> bool
+    ensures { MatchBool result (IsAhead nodes.now.items found.now.items) (IsAhead found.now.items nodes.now.items) }
+{
+    let Some(node) = nodes.first_score() else {
+        return false;
+    };
+    let Some(entry) = found.first_score() else {
+        return true;
+    };
+    node <= entry
 }

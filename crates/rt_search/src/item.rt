@@ -12,7 +12,7 @@ pub struct WaitingNode {
 }
 
 /// What an item stands for, nodes before entries.
-#[derive(Clone, Copy, Debug, PartialEq, Eq, PartialOrd, Ord)]
+#[derive(Clone, Copy)]
 pub enum Place {
     /// All answers under a node.
     Node(WaitingNode),
@@ -22,10 +22,28 @@ pub enum Place {
 
 /// An item of the frontier. The least is taken out first: that of the lowest score; at equal score nodes before
 /// entries, nodes by number and entries by id.
-#[derive(Clone, Copy, Debug, PartialEq, Eq, PartialOrd, Ord)]
+#[derive(Clone, Copy)]
 pub struct Item {
     /// An entry's score; a node's is at most that of each answer under it.
     pub score: u128,
     /// What it stands for.
     pub place: Place,
+}
+
+/// A node that waits with its score, in the order of items.
+#[derive(Clone, Copy, PartialEq, Eq, PartialOrd, Ord)]
+pub struct ScoredNode {
+    /// Its score.
+    pub score: u128,
+    /// The node.
+    pub node: WaitingNode,
+}
+
+/// An entry that was found, in the order of items.
+#[derive(Clone, Copy, PartialEq, Eq, PartialOrd, Ord)]
+pub struct FoundEntry {
+    /// Its score.
+    pub score: u128,
+    /// Its id.
+    pub id: i64,
 }

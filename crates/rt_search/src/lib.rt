@@ -11,8 +11,12 @@
 
 mod counting;
 mod counts;
+mod found;
 mod frontier;
+mod gathered;
 mod item;
+mod late;
+mod nodes;
 mod opening;
 mod search;
 

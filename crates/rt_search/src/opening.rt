@@ -8,7 +8,7 @@ ghost use Rattle.rt_search.specs.Remaining.{IsBelow, IsOpenable, verdict_on};
 ghost use Rattle.rt_search.specs.Work.{info_under, is_kept};
 
 use crate::frontier::Frontier;
-use crate::item::{Item, Place, WaitingNode};
+use crate::item::WaitingNode;
 use rt_geo::{Bounds, Counted, Entry, Geometry, Info, Verdict, Within};
 use rt_tree::{Node, NodeNo, Tree};
 
@@ -64,13 +64,8 @@ pub(crate) fn put_root(tree: &Tree, frontier: &mut Frontier) -> u8
     let Some(number) = tree.root() else {
         return 0;
     };
-    frontier.put(Item {
-        score: 0,
-        place: Place::Node(WaitingNode {
-            number,
-            is_full: false,
-        }),
-    });
+    let is_full = false;
+    frontier.put_node(0, WaitingNode { number, is_full });
     tree.node(number).level
 }
 
@@ -92,10 +87,7 @@ fn ask_entry<G: Geometry>(
     if verdict.within == Within::Not {
         return;
     }
-    frontier.put(Item {
-        score: verdict.score,
-        place: Place::Entry(entry.id),
-    });
+    frontier.put_entry(verdict.score, entry.id);
 }
 
 fn ask_node<G: Geometry>(
@@ -118,10 +110,7 @@ fn ask_node<G: Geometry>(
         return;
     }
     let is_full = verdict.within == Within::Fully;
-    frontier.put(Item {
-        score: verdict.score,
-        place: Place::Node(WaitingNode { number, is_full }),
-    });
+    frontier.put_node(verdict.score, WaitingNode { number, is_full });
 }
 
 /// Opens a node of level 1.

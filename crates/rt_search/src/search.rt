@@ -2,9 +2,9 @@
 
 ghost use Rattle.std.specs.Prelude.{◌≡◌, ◌≢◌, ◌+◌, ◌≤◌, ◌^◌, [], ◌∷◌, None, Some, IfNone, IfSome, MatchOption, length};
 ghost use Rattle.rt_tree.specs.Packed.{node_at, root_of};
+ghost use Rattle.rt_search.specs.Items.{item_at};
 ghost use Rattle.rt_search.specs.declared.item.Place.TheVariants as place;
 ghost use Rattle.rt_search.specs.Answers.{answers};
-ghost use Rattle.rt_search.specs.Joining.{item_at};
 ghost use Rattle.rt_search.specs.Progress.{IsNodeStep, IsSearching, IsTaken};
 ghost use Rattle.rt_search.specs.Remaining.{remaining};
 ghost use Rattle.rt_search.specs.Work.{HasWorked, is_reached, its_children, one_node, work};

@@ -1,5 +1,6 @@
 //! Searches and counts over small trees, with answers and numbers that were worked out by hand.
 
+mod random;
 mod uneven;
 mod watched;
 
@@ -27,8 +28,7 @@ fn boxed(rt: &impl Abort, sides: Sides) -> Bounds {
     Bounds::new(min_x, max_x, min_y, max_y).expect(rt, "the minimums are at most the maximums")
 }
 
-fn push(rt: &impl Abort, table: &mut Table, id: i64, sides: Sides) {
-    let bounds = boxed(rt, sides);
+fn push(rt: &impl Abort, table: &mut Table, id: i64, bounds: Bounds) {
     assert!(rt; table.len() < Table::MOST_ENTRIES, "there is room");
     table
         .push(Entry { id, bounds })
@@ -38,7 +38,7 @@ fn push(rt: &impl Abort, table: &mut Table, id: i64, sides: Sides) {
 fn pack(rt: &impl Abort, alloc: Global, boxes: &[(i64, Sides)]) -> Tree {
     let mut table = Table::empty(alloc);
     for (id, sides) in boxes {
-        push(rt, &mut table, *id, *sides);
+        push(rt, &mut table, *id, boxed(rt, *sides));
     }
     Tree::pack(alloc, table, 2).expect(rt, "there is memory")
 }
@@ -49,7 +49,8 @@ fn nested(rt: &impl Abort, alloc: Global, grows: bool) -> Tree {
     for id in 1..65_i32 {
         let high = if grows { id } else { 0 };
         let low = high.wrapping_neg();
-        push(rt, &mut table, id as i64, [low, high, low, high]);
+        let bounds = boxed(rt, [low, high, low, high]);
+        push(rt, &mut table, id as i64, bounds);
     }
     Tree::pack(alloc, table, 2).expect(rt, "there is memory")
 }

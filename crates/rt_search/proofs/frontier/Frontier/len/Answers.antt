@@ -1,23 +1,26 @@
-use Rattle.std.proofs.Common.{◌∙◌, ap, sym, arith, length}
-use Rattle.std.specs.BinaryHeap.{heap_items}
-use Rattle.rt_search.proofs.Heaps.{length-waiting}
+use Rattle.std.proofs.Common.{arith}
+use Rattle.rt_search.proofs.Merging.{length-merged}
 use Rattle.rt_search.proofs.frontier.Frontier.len.Goals as goal
+
+pub overflow_add-result : goal.overflow_add-result
+overflow_add-result c =
+    let n = length-merged c.self.inside.nodes.items c.self.inside.found.items in
+    let k = c.self.invariant in
+    let a = c.len.ensures.value in
+    let b = c.len-2.ensures.value in
+    omega (arith, n, k.few, k.narrow, a, b)
 
 pub overflow_cast-result : goal.overflow_cast-result
 overflow_cast-result c =
-    let n = c.self.invariant.counted in
-    let few = c.self.invariant.few in
-    let fits = c.self.invariant.narrow in
-    let e = c.len.ensures in
-    omega (arith, n, few, e, fits)
+    let n = length-merged c.self.inside.nodes.items c.self.inside.found.items in
+    let k = c.self.invariant in
+    let a = c.len.ensures.value in
+    let b = c.len-2.ensures.value in
+    omega (arith, n, k.few, k.narrow, a, b)
 
 pub returns-clause-value : goal.returns-clause-value
 returns-clause-value c =
-    let n = length-waiting (heap_items c.self.inside.heap) in
-    c.len.ensures ∙ c.self.invariant.counted ∙ sym n ∙ ap (λ w. length w.items) c.self.view_is
-
-pub returns-clause-room : goal.returns-clause-room
-returns-clause-room c =
-    let n = length-waiting (heap_items c.self.inside.heap) in
-    let few = c.self.invariant.few in
-    rw (← c.self.view_is) (omega (arith, n, few))
+    let n = length-merged c.self.inside.nodes.items c.self.inside.found.items in
+    let a = c.len.ensures.value in
+    let b = c.len-2.ensures.value in
+    rw (← c.self.view_is) (omega (arith, n, a, b))

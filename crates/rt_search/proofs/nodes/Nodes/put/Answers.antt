@@ -3,14 +3,16 @@ use Rattle.std.specs.Prelude.{IsOk}
 use Rattle.std.specs.BinaryHeap.{heap_items}
 use Rattle.std.proofs.lemmas.List.Sorted.{length_permutation}
 use Rattle.rt_tree.specs.Sorting.{put}
-use Rattle.rt_search.specs.Items.{item_cmp}
-use Rattle.rt_search.proofs.Heaps.{on_ok, length-waiting, pushed}
-use Rattle.rt_search.proofs.frontier.Frontier.put.Goals as goal
+use Rattle.rt_search.specs.Items.{item_at, item_cmp}
+use Rattle.rt_search.specs.Kept.{node_item}
+use Rattle.rt_search.specs.declared.item.Place.TheVariants as place
+use Rattle.rt_search.proofs.Heaps.{length-in_order, on_ok, pushed}
+use Rattle.rt_search.proofs.nodes.Nodes.put.Goals as goal
 
 pub invariant_of-self : goal.invariant_of-self
 invariant_of-self c =
     let h = rw (← c.self.view_is) at c.requires in
-    let n = length-waiting (heap_items c.self.inside.heap) in
+    let n = length-in_order node_item (heap_items c.self.inside.heap) in
     let k = c.self.invariant in
     let e = c.push-pushed.ensures in
     let ok : IsOk c.push-pushed.result = e.succeeds (omega arith) in
@@ -20,16 +22,14 @@ invariant_of-self c =
       ordered = search rules;
       room = search rules;
       counted = search rules;
-      few =
-          omega (arith, long, h, n);
-      narrow = k.narrow;
+      few = omega (arith, long, h, n);
     }
 
 pub returns-clause-items : goal.returns-clause-items
 returns-clause-items c =
     let h = rw (← c.self.view_is) at c.requires in
-    let n = length-waiting (heap_items c.self.inside.heap) in
+    let n = length-in_order node_item (heap_items c.self.inside.heap) in
     let k = c.self.invariant in
     let ok : IsOk c.push-pushed.result = c.push-pushed.ensures.succeeds (omega arith) in
-    pushed _ _ _ (on_ok c.push-pushed.result ok c.push-pushed.ensures.permutation)
-    ∙ ap (λ w. put item_cmp c.args.item w.items) c.self.view_is
+    pushed node_item _ _ _ (on_ok c.push-pushed.result ok c.push-pushed.ensures.permutation)
+    ∙ ap (λ w. put item_cmp (item_at c.args.score (place.Node c.args.node)) w.items) c.self.view_is

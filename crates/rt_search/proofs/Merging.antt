@@ -1,0 +1,174 @@
+-- Two lists in order, seen as one.
+use Rattle.std.proofs.Common.{◌≡◌, ◌<◌, ◌≤◌, ◌+◌, ℕ, Bool, true, false, cond, Option, Some, None, List, [], ◌∷◌, length}
+use Rattle.std.proofs.Common.{refl, sym, ◌∙◌, ap, subst, arith, Ordering}
+use Rattle.std.specs.Prelude.{IfNone, IfSome, MatchBool, MatchOption}
+use Rattle.std.specs.List.{AllByRecursion}
+use Rattle.std.specs.Ordering.{is_gt}
+use Rattle.rt_tree.specs.Sorting.{put}
+use Rattle.rt_search.specs.Items.{item_cmp}
+use Rattle.rt_search.specs.Kept.{IsAhead, IsEntry, IsFirstScore, IsHead, IsLeast, IsNode}
+use Rattle.rt_search.specs.Remaining.{put_all}
+use Rattle.rt_search.specs.declared.item.Item.{Item}
+use Rattle.rt_search.proofs.OrderedLists.{IsOrder, length-put, length-put_all, put-put, put_all-all, put_all-put, put_least}
+use Rattle.rt_search.proofs.Orders.{item_order, lower_before, node_before}
+
+-- x joins the left list, or the whole
+pub put-put_all : {X : Type 0} (cmp : X → X → Ordering) (o : IsOrder cmp) (x : X) (xs zs : List X)
+    → put_all cmp (put cmp x xs) zs ≡ put cmp x (put_all cmp xs zs)
+put-put_all cmp o x [] zs = refl
+put-put_all cmp o x (y ∷ xs) zs =
+    elim (is_gt (cmp x y)) as
+    (λ b. put_all cmp (cond b (y ∷ put cmp x xs) (x ∷ y ∷ xs)) zs ≡ put cmp x (put cmp y (put_all cmp xs zs))) [
+      | true ↦ ap (put cmp y) (put-put_all cmp o x xs zs) ∙ put-put cmp o y x (put_all cmp xs zs)
+      | false ↦ refl
+    ]
+
+pub length-merged : (xs ys : List Item) → length (put_all item_cmp xs ys) ≡ length xs + length ys
+length-merged xs ys = length-put_all item_cmp item_order xs ys
+
+pub left_fits : (xs ys : List Item) (capacity : ℕ) → length (put_all item_cmp xs ys) < capacity → length xs < capacity
+left_fits xs ys capacity h = omega (arith, length-merged xs ys)
+
+pub right_fits : (xs ys : List Item) (capacity : ℕ) → length (put_all item_cmp xs ys) < capacity → length ys < capacity
+right_fits xs ys capacity h = omega (arith, length-merged xs ys)
+
+-- one more fits
+pub joined_fits : (x : Item) (xs ys : List Item) (capacity : ℕ) → ys ≡ put item_cmp x xs → length xs < capacity
+    → length ys ≤ capacity
+joined_fits x xs ys capacity e h = rw e (omega (arith, length-put item_cmp item_order x xs))
+
+-- ---- the first of the list that is ahead is the first of both
+
+left_least : (x : Item) (old xs ys : List Item) → old ≡ x ∷ xs → IsLeast x xs → IsAhead old ys
+    → IsLeast x (put_all item_cmp xs ys)
+left_least x old xs ys e a h =
+    put_all-all item_cmp item_order (λ y. is_gt (item_cmp x y) ≡ false) xs ys a (subst (λ l. IsAhead l ys) e h)
+
+left_taken : (x : Item) (old xs ys : List Item) → old ≡ x ∷ xs → IsLeast x xs → IsAhead old ys
+    → put_all item_cmp old ys ≡ x ∷ put_all item_cmp xs ys
+left_taken x old xs ys e a h =
+    ap (λ l. put_all item_cmp l ys) e
+    ∙ put_least item_cmp item_order x (put_all item_cmp xs ys) (left_least x old xs ys e a h)
+
+right_least : (x : Item) (xs old ys : List Item) → old ≡ x ∷ ys → IsLeast x ys → IsAhead old xs
+    → IsLeast x (put_all item_cmp xs ys)
+right_least x xs old ys e a h =
+    put_all-all item_cmp item_order (λ y. is_gt (item_cmp x y) ≡ false) xs ys (subst (λ l. IsAhead l xs) e h) a
+
+right_taken : (x : Item) (xs old ys : List Item) → old ≡ x ∷ ys → IsLeast x ys → IsAhead old xs
+    → put_all item_cmp xs old ≡ x ∷ put_all item_cmp xs ys
+right_taken x xs old ys e a h =
+    ap (put_all item_cmp xs) (e ∙ sym (put_least item_cmp item_order x ys a))
+    ∙ put_all-put item_cmp item_order xs x ys
+    ∙ put_least item_cmp item_order x (put_all item_cmp xs ys) (right_least x xs old ys e a h)
+
+none_left : (xs ys : List Item) → xs ≡ [] → IsAhead xs ys → put_all item_cmp xs ys ≡ []
+none_left xs ys e h = ap (λ l. put_all item_cmp l ys) e ∙ subst (λ l. IsAhead l ys) e h
+
+none_right : (xs ys : List Item) → ys ≡ [] → IsAhead ys xs → put_all item_cmp xs ys ≡ []
+none_right xs ys e h =
+    ap (put_all item_cmp xs) e ∙ ap (λ l. put_all item_cmp l []) (subst (λ l. IsAhead l xs) e h)
+
+-- ---- what a call that takes from one of the lists takes from both
+
+pub taken_left : (r : Option Item) (old xs ys : List Item) → MatchOption r (old ≡ []) (λ x. old ≡ x ∷ xs)
+    → IfSome r (λ x. IsLeast x xs) → IsAhead old ys
+    → MatchOption r (put_all item_cmp old ys ≡ []) (λ x. put_all item_cmp old ys ≡ x ∷ put_all item_cmp xs ys)
+taken_left None old xs ys e a h = none_left old ys e h
+taken_left (Some x) old xs ys e a h = left_taken x old xs ys e a h
+
+pub least_left : (r : Option Item) (old xs ys : List Item) → MatchOption r (old ≡ []) (λ x. old ≡ x ∷ xs)
+    → IfSome r (λ x. IsLeast x xs) → IsAhead old ys → IfSome r (λ x. IsLeast x (put_all item_cmp xs ys))
+least_left None old xs ys e a h = tt
+least_left (Some x) old xs ys e a h = left_least x old xs ys e a h
+
+pub left_left : (r : Option Item) (old xs ys : List Item) → MatchOption r (old ≡ []) (λ x. old ≡ x ∷ xs)
+    → IfNone r (xs ≡ []) → IsAhead old ys → IfNone r (put_all item_cmp xs ys ≡ [])
+left_left None old xs ys e n h = ap (λ l. put_all item_cmp l ys) (n ∙ sym e) ∙ none_left old ys e h
+left_left (Some x) old xs ys e n h = tt
+
+pub taken_right : (r : Option Item) (xs old ys : List Item) → MatchOption r (old ≡ []) (λ x. old ≡ x ∷ ys)
+    → IfSome r (λ x. IsLeast x ys) → IsAhead old xs
+    → MatchOption r (put_all item_cmp xs old ≡ []) (λ x. put_all item_cmp xs old ≡ x ∷ put_all item_cmp xs ys)
+taken_right None xs old ys e a h = none_right xs old e h
+taken_right (Some x) xs old ys e a h = right_taken x xs old ys e a h
+
+pub least_right : (r : Option Item) (xs old ys : List Item) → MatchOption r (old ≡ []) (λ x. old ≡ x ∷ ys)
+    → IfSome r (λ x. IsLeast x ys) → IsAhead old xs → IfSome r (λ x. IsLeast x (put_all item_cmp xs ys))
+least_right None xs old ys e a h = tt
+least_right (Some x) xs old ys e a h = right_least x xs old ys e a h
+
+pub left_right : (r : Option Item) (xs old ys : List Item) → MatchOption r (old ≡ []) (λ x. old ≡ x ∷ ys)
+    → IfNone r (ys ≡ []) → IsAhead old xs → IfNone r (put_all item_cmp xs ys ≡ [])
+left_right None xs old ys e n h = ap (put_all item_cmp xs) (n ∙ sym e) ∙ none_right xs old e h
+left_right (Some x) xs old ys e n h = tt
+
+-- no more are left than there were
+fewer : (r : Option Item) (old new : List Item) → MatchOption r (old ≡ []) (λ x. old ≡ x ∷ new)
+    → IfNone r (new ≡ []) → length new ≤ length old
+fewer None old new e n = rw n (omega arith)
+fewer (Some x) old new e n = rw e (omega arith)
+
+pub fewer_left : (r : Option Item) (old xs ys : List Item) (capacity : ℕ)
+    → MatchOption r (old ≡ []) (λ x. old ≡ x ∷ xs) → IfNone r (xs ≡ [])
+    → length (put_all item_cmp old ys) ≤ capacity → length (put_all item_cmp xs ys) ≤ capacity
+fewer_left r old xs ys capacity e n h =
+    omega (arith, h, fewer r old xs e n, length-merged old ys, length-merged xs ys)
+
+pub fewer_right : (r : Option Item) (xs old ys : List Item) (capacity : ℕ)
+    → MatchOption r (old ≡ []) (λ x. old ≡ x ∷ ys) → IfNone r (ys ≡ [])
+    → length (put_all item_cmp xs old) ≤ capacity → length (put_all item_cmp xs ys) ≤ capacity
+fewer_right r xs old ys capacity e n h =
+    omega (arith, h, fewer r old ys e n, length-merged xs old, length-merged xs ys)
+
+-- ---- which list is ahead
+
+-- what comes after none of what another comes after none of
+pub all_after : (x y : Item) (ys : List Item) → is_gt (item_cmp x y) ≡ false → IsLeast y ys → IsLeast x ys
+all_after x y [] h a = tt
+all_after x y (z ∷ ys) h a = (item_order.trans x y z h a.0, all_after x y ys h a.1)
+
+-- that with the lesser head
+pub heads_ahead : (x y : Item) (xs ys : List Item) → IsHead x xs → IsHead y ys → is_gt (item_cmp x y) ≡ false
+    → IsAhead xs ys
+heads_ahead x y [] ys f g h = absurd f
+heads_ahead x y (z ∷ xs) [] f g h = absurd g
+heads_ahead x y (z ∷ xs) (w ∷ ys) f g h =
+    subst (λ t. IsLeast t (w ∷ ys)) f.0
+    (subst (λ t. is_gt (item_cmp x t) ≡ false) g.0 h, all_after x y ys h g.1)
+
+all_scores : (s : ℕ) (xs : List Item) → IsFirstScore s xs → AllByRecursion (λ y. s ≤ y.score) xs
+all_scores s [] h = tt
+all_scores s (x ∷ xs) h = let e = h.0 in (omega (arith, e), h.1)
+
+node_least : (x : Item) (ys : List Item) (r : ℕ) → IsNode x.place → AllByRecursion (λ y. IsEntry y.place) ys
+    → x.score ≤ r → AllByRecursion (λ y. r ≤ y.score) ys → IsLeast x ys
+node_least x [] r p q h a = tt
+node_least x (y ∷ ys) r p q h a =
+    let m = a.0 in
+    (node_before x.score y.score x.place y.place p q.0 (omega (arith, h, m)), node_least x ys r p q.1 h a.1)
+
+lower_least : (x : Item) (ys : List Item) (r : ℕ) → x.score < r → AllByRecursion (λ y. r ≤ y.score) ys → IsLeast x ys
+lower_least x [] r h a = tt
+lower_least x (y ∷ ys) r h a =
+    let m = a.0 in
+    (lower_before x y (omega (arith, h, m)), lower_least x ys r h a.1)
+
+-- nodes before entries of no lower score
+pub nodes_ahead : (s r : ℕ) (xs ys : List Item) → IsFirstScore s xs → IsFirstScore r ys
+    → AllByRecursion (λ x. IsNode x.place) xs → AllByRecursion (λ y. IsEntry y.place) ys → s ≤ r → IsAhead xs ys
+nodes_ahead s r [] ys f g p q h = absurd f
+nodes_ahead s r (x ∷ xs) ys f g p q h =
+    let e = f.0 in
+    node_least x ys r p.0 q (omega (arith, e, h)) (all_scores r ys g)
+
+-- entries before nodes of higher scores
+pub entries_ahead : (s r : ℕ) (xs ys : List Item) → IsFirstScore s xs → IsFirstScore r ys → r < s → IsAhead ys xs
+entries_ahead s r xs [] f g h = absurd g
+entries_ahead s r xs (y ∷ ys) f g h =
+    let e = g.0 in
+    lower_least y xs s (omega (arith, e, h)) (all_scores s xs f)
+
+pub by_test : (b : Bool) (P Q : Type 0) → (b ≡ true → P) → (b ≡ false → Q) → MatchBool b P Q
+by_test true P Q p q = p refl
+by_test false P Q p q = q refl

@@ -1,0 +1,103 @@
+-- How a frontier keeps its items. Nothing that a public call promises speaks of this.
+use Rattle.std.specs.Prelude.{◌≡◌, ◌<◌, ◌≤◌, ◌^◌, ℕ, nat_lt, Bool, true, false, if◌then◌else◌, Option, Some, None}
+use Rattle.std.specs.Prelude.{List, [], ◌∷◌, length, map, vec_capacity}
+use Rattle.std.specs.BinaryHeap.{IsHeap, heap_capacity, heap_items, heap_len}
+use Rattle.std.specs.List.{AllByRecursion}
+use Rattle.std.specs.Ordering.{is_gt}
+use Rattle.std.specs.declared.cmp.Ordering.{Ordering}
+use Rattle.std.specs.declared.cmp.Reverse.{Reverse}
+use Rattle.std.specs.declared.collections.binary_heap.BinaryHeap.{BinaryHeap}
+use Rattle.std.specs.declared.vec.Vec.{Vec}
+use Rattle.rt_tree.specs.Sorting.{sorted}
+use Rattle.rt_search.specs.Items.{Waiting, item_at, item_cmp}
+use Rattle.rt_search.specs.Remaining.{put_all}
+use Rattle.rt_search.specs.declared.item.FoundEntry.{FoundEntry}
+use Rattle.rt_search.specs.declared.item.Item.{Item}
+use Rattle.rt_search.specs.declared.item.Place.{Place}
+use Rattle.rt_search.specs.declared.item.Place.TheVariants.{Node, Entry}
+use Rattle.rt_search.specs.declared.item.ScoredNode.{ScoredNode}
+
+-- a node that waits, as an item
+abbrev pub node_item : Reverse ScoredNode → Item
+node_item r = item_at r.0.score (Node r.0.node)
+
+-- an entry that was found, as an item
+abbrev pub entry_item : Reverse FoundEntry → Item
+entry_item r = item_at r.0.score (Entry r.0.id)
+
+-- what is kept, as items in order
+abbrev pub in_order : {X : Type 0} → (X → Item) → List X → List Item
+in_order item xs = sorted item_cmp (map item xs)
+
+abbrev pub IsNode : Place → Type 0
+IsNode (Node n) = Unit {0}
+IsNode (Entry id) = ⊥
+
+abbrev pub IsEntry : Place → Type 0
+IsEntry (Node n) = ⊥
+IsEntry (Entry id) = Unit {0}
+
+-- x comes after none of them
+abbrev pub IsLeast : Item → List Item → Type 0
+IsLeast x = AllByRecursion (λ y. is_gt (item_cmp x y) ≡ false)
+
+-- the first has this score, and none a lower one
+abbrev pub IsFirstScore : ℕ → List Item → Type 0
+IsFirstScore s [] = ⊥
+IsFirstScore s (x ∷ xs) = (s ≡ x.score) × AllByRecursion (λ y. s ≤ y.score) xs
+
+-- x is the first, and comes after none of the others
+abbrev pub IsHead : Item → List Item → Type 0
+IsHead x [] = ⊥
+IsHead x (y ∷ ys) = (x ≡ y) × IsLeast x ys
+
+-- each comes after none of those behind it
+abbrev pub IsRising : List Item → Type 0
+IsRising [] = Unit {0}
+IsRising (x ∷ xs) = IsLeast x xs × IsRising xs
+
+-- the first of xs comes after none of ys
+abbrev pub IsAhead : List Item → List Item → Type 0
+IsAhead [] ys = ys ≡ []
+IsAhead (x ∷ xs) ys = IsLeast x ys
+
+-- the lesser of a score and the first score, if there is one
+abbrev pub lesser : (first : Option ℕ) → (score : ℕ) → ℕ
+lesser None score = score
+lesser (Some first) score = if nat_lt score first then score else first
+
+-- two collections that have the same room, and hold together no more
+pub record IsMerged (first second : Waiting) (capacity : ℕ) : Type 0 where
+  pub first_room : first.capacity ≡ capacity
+  pub second_room : second.capacity ≡ capacity
+  pub few : length (put_all item_cmp first.items second.items) ≤ capacity
+  pub narrow : capacity < 2 ^ 32
+
+-- ---- in a heap
+
+-- it is a heap, has room for so many items and holds no more
+pub record IsKept {X A : Type 0} (cmp : X → X → Ordering) (heap : BinaryHeap X A) (capacity : ℕ) : Type 0 where
+  pub ordered : IsHeap cmp (heap_items heap)
+  pub room : capacity ≤ heap_capacity heap
+  pub counted : heap_len heap ≡ length (heap_items heap)
+  pub few : length (heap_items heap) ≤ capacity
+
+-- ---- in a list
+
+-- none comes after one that stands before it
+abbrev pub IsFalling : List (Reverse FoundEntry) → Type 0
+IsFalling [] = Unit {0}
+IsFalling (x ∷ xs) = AllByRecursion (λ y. is_gt (item_cmp (entry_item y) (entry_item x)) ≡ false) xs × IsFalling xs
+
+-- it is the least score, where there is any
+abbrev pub IsLeastScore : ℕ → List Item → Type 0
+IsLeastScore s [] = Unit {0}
+IsLeastScore s (x ∷ xs) = IsFirstScore s (x ∷ xs)
+
+-- in order, or with the least score known; it has room for so many and holds no more
+pub record IsGathered {A : Type 0} (list : Vec (Reverse FoundEntry) A) (least : ℕ) (is_sorted : Bool) (capacity : ℕ)
+    : Type 0 where
+  pub unsorted : is_sorted ≡ false → IsLeastScore least (in_order entry_item list.items)
+  pub falling : is_sorted ≡ true → IsFalling list.items
+  pub room : capacity ≤ vec_capacity list
+  pub few : length list.items ≤ capacity

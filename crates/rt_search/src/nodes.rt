@@ -1,0 +1,89 @@
+//! The nodes of a frontier.
+
+ghost use Rattle.std.specs.Prelude.{◌≡◌, ◌<◌, ◌≤◌, [], ◌∷◌, IfNone, IfOk, IfSome, MatchOption, length};
+ghost use Rattle.std.specs.List.{AllByRecursion};
+ghost use Rattle.rt_search.specs.declared.item.Place.TheVariants as place;
+ghost use Rattle.rt_search.specs.Items.{item_at, item_cmp};
+ghost use Rattle.rt_search.specs.Kept.{IsFirstScore, IsLeast, IsNode};
+ghost use Rattle.rt_tree.specs.Sorting.{put};
+
+use crate::item::{Item, Place, ScoredNode, WaitingNode};
+use std::alloc::{AllocError, Global};
+use std::cmp::Reverse;
+use std::collections::BinaryHeap;
+use std::marker::Model;
+
+/// Nodes that wait, in a heap.
+///
+/// It is seen as the items that they are, in order, and its capacity.
+#[derive(Drop)]
+pub struct Nodes {
+    heap: BinaryHeap<Reverse<ScoredNode>>,
+    capacity: u32,
+}
+
+impl Model for Nodes {
+    ghost use Rattle.std.specs.BinaryHeap.{heap_items};
+    ghost use Rattle.rt_search.specs.Items.{Waiting};
+    ghost use Rattle.rt_search.specs.Kept.{IsKept, in_order, node_item};
+
+    ghost Value = { Waiting };
+
+    ghost view = { λ n. record { items = in_order node_item (heap_items n.heap); capacity = n.capacity } };
+
+    ghost invariant = { λ n. IsKept ⟦<Reverse<ScoredNode> as Ord>⟧.cmp n.heap n.capacity };
+}
+
+impl Nodes {
+    pub fn new(alloc: Global, capacity: u32) -> Result<Nodes, AllocError>
+        ensures items { IfOk result (λ n. n.items ≡ []) }
+        ensures capacity { IfOk result (λ n. n.capacity ≡ capacity) }
+    {
+        let heap = BinaryHeap::with_capacity(alloc, capacity as usize)?;
+        Ok(Nodes { heap, capacity })
+    }
+
+    pub fn len(&self) -> usize
+        ensures value { result ≡ length self.now.items }
+        ensures room { length self.now.items ≤ self.now.capacity }
+    {
+        self.heap.len()
+    }
+
+    pub fn clear(&mut self)
+        ensures items { self.new.items ≡ [] }
+        ensures capacity { self.new.capacity ≡ self.old.capacity }
+    {
+        self.heap.clear();
+    }
+
+    pub fn put(&mut self, score: u128, node: WaitingNode)
+        requires { length self.old.items < self.old.capacity }
+        ensures items { self.new.items ≡ put item_cmp (item_at score (place.Node node)) self.old.items }
+        ensures capacity { self.new.capacity ≡ self.old.capacity }
+    {
+        // (there is room, so no memory is taken)
+        let _pushed = self.heap.push(Reverse(ScoredNode { score, node }));
+    }
+
+    pub fn first_score(&self) -> Option<u128>
+        ensures first { MatchOption result (self.now.items ≡ []) (λ s. IsFirstScore s self.now.items) }
+        ensures nodes { AllByRecursion (λ x. IsNode x.place) self.now.items }
+    {
+        let top = self.heap.peek()?;
+        Some(top.0.score)
+    }
+
+    pub fn take(&mut self) -> Option<Item>
+        ensures items { MatchOption result (self.old.items ≡ []) (λ x. self.old.items ≡ x ∷ self.new.items) }
+        ensures none { IfNone result (self.new.items ≡ []) }
+        ensures least { IfSome result (λ x. IsLeast x self.new.items) }
+        ensures capacity { self.new.capacity ≡ self.old.capacity }
+    {
+        let top = self.heap.pop()?;
+        Some(Item {
+            score: top.0.score,
+            place: Place::Node(top.0.node),
+        })
+    }
+}
