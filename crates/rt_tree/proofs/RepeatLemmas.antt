@@ -1,5 +1,5 @@
 -- The first entry whose id an earlier one has.
-use Rattle.std.proofs.Common.{◌≡◌, ◌∙◌, ◌<◌, ◌≤◌, ◌+◌, ℕ, ℤ, Bool, true, false, ◌||◌, List, [], ◌∷◌, ◌++◌, length, drop, get_or, take, Option, Some, None, refl, sym, subst, ap, add-one, append_assoc, arith}
+use Rattle.std.proofs.Common.{◌≡◌, ◌∙◌, ◌<◌, ◌≤◌, ◌+◌, ℕ, ℤ, Bool, true, false, ◌||◌, List, [], ◌∷◌, ◌++◌, length, length-append, drop, get_or, take, Option, Some, None, refl, sym, subst, ap, add-one, append_assoc, arith}
 use Rattle.std.specs.Prelude.{if◌then◌else◌}
 use Rattle.std.specs.List.{AllByRecursion, IsDistinct}
 use Rattle.std.specs.Ordering.{int_eq}
@@ -97,3 +97,21 @@ ids-more entries place d id there = rw (take_more entries place d there) (has_id
 pub repeat-end : (entries : List Entry) (place : ℕ) → length entries ≤ place
     → first_repeat entries ≡ repeat_after (take place entries) (drop place entries) → first_repeat entries ≡ None
 repeat-end entries place over once = once ∙ rw (drop_all place entries over) refl
+
+-- ---- the place is that of an entry
+
+repeat_after-below : (so_far entries : List Entry) (place : ℕ) → repeat_after so_far entries ≡ Some place → place < length so_far + length entries
+repeat_after-below so_far [] place e = absurd cc
+repeat_after-below so_far (entry ∷ more) place e = by (has_id so_far entry.id) refl (repeat_after-below (so_far ++ entry ∷ []) more place)
+  where
+    by : (b : Bool) → has_id so_far entry.id ≡ b
+        → (repeat_after (so_far ++ entry ∷ []) more ≡ Some place → place < length (so_far ++ entry ∷ []) + length more)
+        → place < length so_far + length (entry ∷ more)
+    by true h later =
+        let here : Some (length so_far) ≡ Some place = rw h at e in
+        let is : length so_far ≡ place = cc in
+        omega arith
+    by false h later = omega (arith, later (rw h at e), length-append so_far (entry ∷ []))
+
+pub first_repeat-below : (entries : List Entry) (place : ℕ) → first_repeat entries ≡ Some place → place < length entries
+first_repeat-below entries place e = omega (arith, repeat_after-below [] entries place e)
