@@ -1,5 +1,5 @@
 -- Worked rows of query lines: the definitions compute what a line asks, or its first fault.
-use Rattle.std.proofs.Common.{◌≡◌, pos, negsuc, List, ◌++◌, ◌∷◌, [], ℕ, None, Some, codes, refl}
+use Rattle.std.proofs.Common.{◌≡◌, pos, negsuc, [], None, Some, codes, refl}
 use Rattle.std.specs.Fmt.{digits}
 use Rattle.rt_geo.specs.Boxes.{rect_of}
 use Rattle.rt_geo.specs.declared.order.Order.TheVariants.{ById, Smallest}

@@ -1,11 +1,14 @@
 -- The table: the fields of a record, and one record after the other.
-use Rattle.std.proofs.Common.{◌≡◌, ◌+◌, ◌<◌, ◌≤◌, ℕ, zero, suc, Bool, true, false, ◌&&◌, ◌==◌, List, [], ◌∷◌, ◌++◌, length, drop, get_or, option_map, Option, Some, None, refl, ◌∙◌, ap, sym, inl, inr, arith, rules}
+use Rattle.std.proofs.Common.{◌≡◌, ◌+◌, ◌-◌, ◌<◌, ◌≤◌, ℕ, zero, suc, Bool, true, false, ◌&&◌, ◌==◌, List, [], ◌∷◌, ◌++◌, length, drop, get_or, option_map, Option, Some, None, refl, ◌∙◌, ap, sym, inl, inr, arith, rules}
 use Rattle.std.specs.Prelude.{Result, Ok, Err, if◌then◌else◌, nat_le, IsOkAnd, IsSome}
 use Rattle.std.proofs.lemmas.Bool.Decides.{nat_tests}
 use Rattle.csv.specs.Records.{field_at}
 use Rattle.rt_geo.specs.declared.entry.Entry.{Entry}
 use Rattle.rt_text.specs.Steps.{◌>>=◌}
-use Rattle.rt_text.specs.Tables.{IsRefusal, MayRefuse, entries_from, entry_in, entry_of_fields, fields_wanted, judged, new_entry, records_of, table_of, tells_text}
+use Rattle.rt_tree.specs.Entries.{first_repeat, has_id}
+use Rattle.rt_tree.proofs.RepeatLemmas.{first_repeat-push, repeat_with}
+use Rattle.rt_text.specs.Loads.{after_ids, entry_after, first_number, repeat_or}
+use Rattle.rt_text.specs.Tables.{IsRefusal, MayRefuse, entries_from, entry_in, entry_of_fields, fields_wanted, judged, new_entry, records_of, table_of}
 use Rattle.rt_text.specs.declared.tables.TableFault.{TableFault}
 use Rattle.rt_text.specs.declared.tables.TableFault.TheVariants as fault
 
@@ -29,33 +32,41 @@ entry_of_fields-enough number fields n = rw n refl
 
 -- ---- one record
 
-pub judged-too_many : (max number : ℕ) (so_far : List Entry) (fields : List (List ℕ)) → max ≤ length so_far → judged max number so_far fields ≡ Err (fault.TooMany number)
-judged-too_many max number so_far fields full = rw full_now refl
+pub entry_after-too_many : (max number : ℕ) (so_far : List Entry) (fields : List (List ℕ)) → max ≤ length so_far → entry_after max number so_far fields ≡ Err (fault.TooMany number)
+entry_after-too_many max number so_far fields full = rw full_now refl
   where
     full_now : nat_le max (length so_far) ≡ true
     full_now = grind (arith, nat_tests)
 
-pub judged-fields : (max number : ℕ) (so_far : List Entry) (fields : List (List ℕ)) → length so_far < max
-    → judged max number so_far fields ≡ (entry_of_fields number fields >>= new_entry number so_far)
-judged-fields max number so_far fields room = rw room_now refl
+pub entry_after-fields : (max number : ℕ) (so_far : List Entry) (fields : List (List ℕ)) → length so_far < max
+    → entry_after max number so_far fields ≡ entry_of_fields number fields
+entry_after-fields max number so_far fields room = rw room_now refl
   where
     room_now : nat_le max (length so_far) ≡ false
     room_now = grind (arith, nat_tests)
 
 -- what the entry of a record adds, the record adds
 pub added-fields : (max number : ℕ) (so_far more : List Entry) (fields : List (List ℕ)) (entry : Entry) → length so_far < max
-    → Ok entry ≡ entry_of_fields number fields → new_entry number so_far entry ≡ Ok entry → more ≡ so_far ++ entry ∷ []
-    → IsOkAnd (judged max number so_far fields) (λ e. more ≡ so_far ++ e ∷ [])
-added-fields max number so_far more fields entry room read new added =
-    let is : judged max number so_far fields ≡ Ok entry =
-    judged-fields max number so_far fields room ∙ ap (λ r. r >>= new_entry number so_far) (sym read) ∙ new in
+    → Ok entry ≡ entry_of_fields number fields → more ≡ so_far ++ entry ∷ []
+    → IsOkAnd (entry_after max number so_far fields) (λ e. more ≡ so_far ++ e ∷ [])
+added-fields max number so_far more fields entry room read added =
+    let is : entry_after max number so_far fields ≡ Ok entry = entry_after-fields max number so_far fields room ∙ sym read in
     rw is added
 
--- what refuses the entry of a record refuses the record
-pub refusal-fields : (max number : ℕ) (so_far : List Entry) (fields : List (List ℕ)) (entry : Entry) (f : TableFault) → length so_far < max
-    → Ok entry ≡ entry_of_fields number fields → IsRefusal f (new_entry number so_far entry) → IsRefusal f (judged max number so_far fields)
-refusal-fields max number so_far fields entry f room read (inl memory) = inl memory
-refusal-fields max number so_far fields entry f room read (inr refused) = inr (judged-fields max number so_far fields room ∙ rw (← read) refused)
+-- a record is judged as it is but for its id, and then by its id
+judged-entry : (max number : ℕ) (so_far : List Entry) (fields : List (List ℕ))
+    → judged max number so_far fields ≡ (entry_after max number so_far fields >>= new_entry number so_far)
+judged-entry max number so_far fields = by (nat_le max (length so_far)) refl
+  where
+    by : (b : Bool) → nat_le max (length so_far) ≡ b → judged max number so_far fields ≡ (entry_after max number so_far fields >>= new_entry number so_far)
+    by true e = rw e refl
+    by false e = rw e refl
+
+judged-refused : (max number : ℕ) (so_far : List Entry) (fields : List (List ℕ)) (f : TableFault) → entry_after max number so_far fields ≡ Err f → judged max number so_far fields ≡ Err f
+judged-refused max number so_far fields f refused = judged-entry max number so_far fields ∙ ap (λ r. r >>= new_entry number so_far) refused
+
+judged-id : (max number : ℕ) (so_far : List Entry) (fields : List (List ℕ)) (entry : Entry) → entry_after max number so_far fields ≡ Ok entry → judged max number so_far fields ≡ new_entry number so_far entry
+judged-id max number so_far fields entry read = judged-entry max number so_far fields ∙ ap (λ r. r >>= new_entry number so_far) read
 
 -- ---- one record after the other
 
@@ -90,12 +101,56 @@ pub table_after-more : (header : Bool) (max number : ℕ) (so_far : List Entry) 
 unfolding entries_from
 table_after-more header max number so_far entry fields more n judges ok = rw (judges, ok, later_number header number n) refl
 
+table_after-refused : (header : Bool) (max number : ℕ) (so_far : List Entry) (f : TableFault) (fields : List (List ℕ)) (more : List (List (List ℕ)))
+    → (header && (number == 1)) ≡ false → judged max number so_far fields ≡ Err f → table_after header max number so_far (fields ∷ more) ≡ Err f
+unfolding entries_from
+table_after-refused header max number so_far f fields more judges refused = rw (judges, refused) refl
+
 -- a fault of memory tells nothing of the text
-own : {A : Type 0} (f : TableFault) (step : Result A TableFault) → IsRefusal f step → tells_text f ≡ true → step ≡ Err f
+pub own : {A : Type 0} (f : TableFault) (step : Result A TableFault) → IsRefusal f step → MayRefuse f step
 own f step (inl memory) tells = let never : false ≡ true = rw memory at tells in absurd cc
 own f step (inr refused) tells = refused
 
-pub table_after-refused : (header : Bool) (max number : ℕ) (so_far : List Entry) (f : TableFault) (fields : List (List ℕ)) (more : List (List (List ℕ)))
-    → (header && (number == 1)) ≡ false → IsRefusal f (judged max number so_far fields) → MayRefuse f (table_after header max number so_far (fields ∷ more))
-unfolding entries_from
-table_after-refused header max number so_far f fields more judges refused tells = rw (judges, own f (judged max number so_far fields) refused tells) refl
+-- ---- and their ids at the end
+
+-- the number of a record that is judged is that of the first entry, and one more for each entry so far
+pub number_now : (header : Bool) (number count : ℕ) → 1 ≤ number → (header && (number == 1)) ≡ false → count ≡ number - first_number header
+    → number ≡ first_number header + count
+number_now true number count positive judges counted = let later : (number ≡ 1) → ⊥ = (λ e. cc (rw e at judges)) in omega arith
+number_now false number count positive judges counted = omega arith
+
+pub first_number-small : (header : Bool) → first_number header ≤ 2
+first_number-small true = omega arith
+first_number-small false = omega arith
+
+-- after a header there are no more entries than before it
+pub count-header : (header : Bool) (number count : ℕ) → header ≡ true → number ≡ 1 → count ≡ number - first_number header → count ≡ number + 1 - first_number header
+count-header true number count is first counted = omega arith
+count-header false number count is first counted = cc
+
+-- one record more, whose id waits for the end like those before it
+pub after_ids-more : (header : Bool) (max number : ℕ) (so_far : List Entry) (entry : Entry) (fields : List (List ℕ)) (more : List (List (List ℕ)))
+    → 1 ≤ number → (header && (number == 1)) ≡ false → number ≡ first_number header + length so_far → entry_after max number so_far fields ≡ Ok entry
+    → after_ids header so_far (table_after header max number so_far (fields ∷ more))
+    ≡ after_ids header (so_far ++ entry ∷ []) (table_after header max (number + 1) (so_far ++ entry ∷ []) more)
+after_ids-more header max number so_far entry fields more positive judges counted read =
+    rw (first_repeat-push so_far entry) (by (first_repeat so_far) (has_id so_far entry.id) refl)
+  where
+    rest : Result (List Entry) TableFault
+    rest = table_after header max (number + 1) (so_far ++ entry ∷ []) more
+
+    by : (o : Option ℕ) (b : Bool) → has_id so_far entry.id ≡ b
+        → repeat_or header o (table_after header max number so_far (fields ∷ more)) ≡ repeat_or header (repeat_with so_far entry o) rest
+    by (Some place) b e = refl
+    by None true e =
+        let id = judged-id max number so_far fields entry read in
+        rw (e, ← counted) (table_after-refused header max number so_far (fault.Repeated number) fields more judges (id ∙ rw e refl))
+    by None false e =
+        let id = judged-id max number so_far fields entry read in
+        rw e (table_after-more header max number so_far entry fields more positive judges (id ∙ rw e refl))
+
+-- a record that is refused, whatever its id
+pub after_ids-refused : (header : Bool) (max number : ℕ) (so_far : List Entry) (f : TableFault) (fields : List (List ℕ)) (more : List (List (List ℕ)))
+    → (header && (number == 1)) ≡ false → IsRefusal f (entry_after max number so_far fields) → MayRefuse f (table_after header max number so_far (fields ∷ more))
+after_ids-refused header max number so_far f fields more judges refused tells =
+    table_after-refused header max number so_far f fields more judges (judged-refused max number so_far fields f (own f (entry_after max number so_far fields) refused tells))

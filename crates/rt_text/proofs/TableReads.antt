@@ -1,21 +1,23 @@
 -- Reading a table: what has been read before a record, and what one more read makes of it.
-use Rattle.std.proofs.Common.{◌≡◌, ◌≤◌, ◌+◌, ◌==◌, ◌&&◌, ◌⊎◌, inl, inr, ℕ, Bool, true, false, List, [], ◌∷◌, ◌++◌, Option, Some, refl, ◌∙◌, arith}
+use Rattle.std.proofs.Common.{◌≡◌, ◌≤◌, ◌+◌, ◌==◌, ◌&&◌, ◌⊎◌, inl, inr, ℕ, Bool, true, false, List, [], ◌∷◌, ◌++◌, length, length-append, Option, Some, refl, ◌∙◌, ap, arith}
 use Rattle.std.specs.Prelude.{Result, Ok, Err, IsOkAnd, option_map}
 use Rattle.std.proofs.lemmas.Bool.Decides.{nat_tests}
 use Rattle.csv.specs.Reading.{ReadRecord, default_config, source_of, strip_bom}
 use Rattle.csv.specs.declared.parser.State.TheVariants as st
 use Rattle.csv.specs.declared.reader.Reader.{Reader}
 use Rattle.rt_geo.specs.declared.entry.Entry.{Entry}
-use Rattle.rt_text.specs.Tables.{IsRefusal, MayRefuse, judged, table_of}
+use Rattle.rt_text.specs.Loads.{EndsAt, after_ids, entry_after, first_number}
+use Rattle.rt_text.specs.Tables.{IsRefusal, table_of, tells_text}
 use Rattle.rt_text.specs.declared.tables.TableFault.{TableFault}
+use Rattle.rt_text.specs.declared.tables.TableFault.TheVariants as fault
 use Rattle.rt_text.proofs.Records.{records_after, records_after-end, records_after-found}
-use Rattle.rt_text.proofs.TableLemmas.{table_after, table_after-end, table_after-header, table_after-more, table_after-refused, table_after-start}
+use Rattle.rt_text.proofs.TableLemmas.{after_ids-more, after_ids-refused, table_after, table_after-end, table_after-header, table_after-start}
 
--- before the record of this number: the table is the entries so far and what the bytes to come add
+-- before the record of this number: the table is the entries so far, if no id comes again, and what the bytes to come add
 pub record ReadUpTo {R : Type 0} (rem : R → Option (List ℕ)) (records : Reader R) (so_far : List Entry) (header : Bool) (max number : ℕ) (table : Result (List Entry) TableFault) : Type 0 where
   pub rest : List ℕ
   pub known : source_of rem records ≡ Some rest
-  pub whole : table ≡ table_after header max number so_far (records_after default_config records.state rest)
+  pub whole : table ≡ after_ids header so_far (table_after header max number so_far (records_after default_config records.state rest))
 
 -- which records are judged
 pub is_judged : (header : Bool) (number : ℕ) → (header ≡ true × (number ≡ 1 → ⊥)) ⊎ (header ≡ false) → (header && (number == 1)) ≡ false
@@ -34,12 +36,17 @@ read-start rem reader records so_far header max bytes source state empty known =
   whole = rw (state, empty) (table_after-start bytes header max);
 }
 
+-- one entry more
+pub longer : (r : Result Entry TableFault) (so_far more : List Entry) → IsOkAnd r (λ entry. more ≡ so_far ++ entry ∷ []) → length more ≡ length so_far + 1
+longer (Ok entry) so_far more added = ap length added ∙ length-append so_far (entry ∷ [])
+longer (Err f) so_far more added = absurd added
+
 module _ {R : Type 0} {rem : R → Option (List ℕ)} {records : Reader R} {so_far : List Entry} {header : Bool} {max number : ℕ} {table : Result (List Entry) TableFault} (after : Reader R) (fields : List (List ℕ)) where
   -- at the end the entries so far are the table
-  pub read-end : ReadUpTo rem records so_far header max number table → records.config ≡ default_config → ReadRecord rem records after false fields → table ≡ Ok so_far
+  pub read-end : ReadUpTo rem records so_far header max number table → records.config ≡ default_config → ReadRecord rem records after false fields → table ≡ after_ids header so_far (Ok so_far)
   read-end at config read =
       let none = records_after-end rem records after fields default_config at.rest config at.known read in
-      at.whole ∙ rw none (table_after-end header max number so_far)
+      at.whole ∙ ap (after_ids header so_far) (rw none (table_after-end header max number so_far))
 
   -- a header changes nothing
   pub read-header : ReadUpTo rem records so_far header max number table → records.config ≡ default_config → ReadRecord rem records after true fields
@@ -49,29 +56,45 @@ module _ {R : Type 0} {rem : R → Option (List ℕ)} {records : Reader R} {so_f
       record {
         rest = found.0;
         known = found.1;
-        whole = at.whole ∙ rw found.2 (table_after-header header max number so_far fields _ is_there first);
+        whole = at.whole ∙ ap (after_ids header so_far) (rw found.2 (table_after-header header max number so_far fields _ is_there first));
       }
 
   -- a record that gives an entry
   pub read-entry : (more : List Entry) → ReadUpTo rem records so_far header max number table → records.config ≡ default_config → ReadRecord rem records after true fields
-      → 1 ≤ number → (header && (number == 1)) ≡ false → IsOkAnd (judged max number so_far fields) (λ entry. more ≡ so_far ++ entry ∷ [])
+      → 1 ≤ number → (header && (number == 1)) ≡ false → number ≡ first_number header + length so_far → IsOkAnd (entry_after max number so_far fields) (λ entry. more ≡ so_far ++ entry ∷ [])
       → ReadUpTo rem after more header max (number + 1) table
-  read-entry more at config read positive judges added =
+  read-entry more at config read positive judges counted added =
       let found = records_after-found rem records after fields default_config at.rest config at.known read in
-      let entry = ok_value (judged max number so_far fields) added in
+      let entry = ok_value (entry_after max number so_far fields) added in
       record {
         rest = found.0;
         known = found.1;
-        whole = at.whole ∙ rw (found.2, entry.2) (table_after-more header max number so_far entry.0 fields _ positive judges entry.1);
+        whole = at.whole ∙ rw (found.2, entry.2) (after_ids-more header max number so_far entry.0 fields _ positive judges counted entry.1);
       }
     where
       ok_value : {A E : Type 0} {P : A → Type 0} (r : Result A E) → IsOkAnd r P → (a : A) × (r ≡ Ok a) × P a
       ok_value (Ok a) p = (a, refl, p)
       ok_value (Err e) p = absurd p
 
-  -- a record that is refused
+  -- a record that is refused, whatever its id
   pub read-refused : (f : TableFault) → ReadUpTo rem records so_far header max number table → records.config ≡ default_config → ReadRecord rem records after true fields
-      → (header && (number == 1)) ≡ false → IsRefusal f (judged max number so_far fields) → MayRefuse f table
-  read-refused f at config read judges refused tells =
-      let found = records_after-found rem records after fields default_config at.rest config at.known read in
-      at.whole ∙ rw found.2 (table_after-refused header max number so_far f fields _ judges refused tells)
+      → (header && (number == 1)) ≡ false → IsRefusal f (entry_after max number so_far fields) → EndsAt {U = Unit {0}} (Err f) header so_far table
+  read-refused f at config read judges refused =
+      let found = records_after-found rem records after fields default_config at.rest config at.known read in (
+        table_after header max number so_far (records_after default_config records.state at.rest),
+        at.whole,
+        rw found.2 (after_ids-refused header max number so_far f fields _ judges refused),
+      )
+
+-- the reader failed, or memory did
+pub read-failed : {R : Type 0} {rem : R → Option (List ℕ)} {records : Reader R} {so_far : List Entry} {header : Bool} {max number : ℕ} {table : Result (List Entry) TableFault}
+    (f : TableFault) → ReadUpTo rem records so_far header max number table → (f ≡ fault.Read) ⊎ (f ≡ fault.Memory) → EndsAt {U = Unit {0}} (Err f) header so_far table
+read-failed {records} {so_far} {header} {max} {number} f at failed = (
+  table_after header max number so_far (records_after default_config records.state at.rest),
+  at.whole,
+  (λ tells. absurd (never failed tells)),
+)
+  where
+    never : (f ≡ fault.Read) ⊎ (f ≡ fault.Memory) → tells_text f ≡ true → ⊥
+    never (inl reader) tells = let no : false ≡ true = rw reader at tells in cc
+    never (inr memory) tells = let no : false ≡ true = rw memory at tells in cc

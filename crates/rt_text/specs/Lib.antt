@@ -1,4 +1,5 @@
 pub mod FaultLines
+pub mod Loads
 pub mod Numbers
 pub mod Queries
 pub mod ReplyLines

@@ -4,19 +4,23 @@
 //! quotes with quotes doubled inside, ends by LF, CR or both, empty lines and a byte order mark passed over.
 //! A record is five numbers: an id, the least and the greatest x, the least and the greatest y.
 
-ghost use Rattle.std.specs.Prelude.{◌≡◌, ◌≤ℤ◌, ◌+◌, ◌<◌, ◌≤◌, ◌++◌, ◌∷◌, [], IsOkAnd, IfOk, IfErr, OnErr, OnOk, List, ℕ, Some, Ok, length, ◌⊎◌, true};
+ghost use Rattle.std.specs.Prelude.{◌≡◌, ◌≤ℤ◌, ◌+◌, ◌<◌, ◌≤◌, ◌++◌, ◌∷◌, [], length, ◌⊎◌, true, List, ℕ};
+ghost use Rattle.std.specs.Prelude.{Result, Ok, Some, None, IsOkAnd, IfOk, IfErr, OnErr, OnOk};
 ghost use Rattle.csv.specs.Reading.{default_config, has_failed, is_flexible, Ready, ReadRecord, reader_config, reader_trim};
 ghost use Rattle.csv.specs.Records.{fields_of};
 ghost use Rattle.csv.specs.declared.reader.Trim.TheVariants as trim;
-ghost use Rattle.rt_tree.specs.Entries.{most_entries};
+ghost use Rattle.rt_geo.specs.declared.entry.Entry.{Entry};
+ghost use Rattle.rt_tree.specs.Entries.{first_repeat, most_entries};
+ghost use Rattle.rt_text.specs.Loads.{EndsAt, after_ids, entry_after, first_number};
 ghost use Rattle.rt_text.specs.Numbers.{number_in};
 ghost use Rattle.rt_text.specs.Steps.{map_fault};
-ghost use Rattle.rt_text.specs.Tables.{IsRefusal, MayRefuse, coordinate_of, entry_of_fields, entry_of_sides, field_fault, field_text, id_of, judged, new_entry, table_of};
+ghost use Rattle.rt_text.specs.Tables.{IsRefusal, MayRefuse, coordinate_of, entry_of_fields, entry_of_sides};
+ghost use Rattle.rt_text.specs.Tables.{field_fault, field_text, id_of, table_of};
 
 use crate::numbers::{self, NumberFault};
 use csv::{ByteRecord, Reader, ReaderBuilder};
 use rt_geo::{Bounds, Entry};
-use rt_tree::{PushFault, Table};
+use rt_tree::{EntriesFault, Table};
 use std::alloc::Global;
 use std::io::Read;
 
@@ -52,8 +56,8 @@ pub enum TableFault {
 const FIELDS: usize = 5;
 
 /// The table that a reader's bytes give: at most `max` boxes, each under an id of its own. With `header` the
-/// first record is counted and not judged. Where a record is at fault, the first such ends the load; `Read`
-/// and `Memory` stand in the place of whatever would follow where they come.
+/// first record is counted and not judged. Where records are at fault, the first such is told; `Read` and `Memory`
+/// stand in the place of whatever would follow where they come.
 pub fn read_table<R: Read + Drop>(
     alloc: Global,
     reader: R,
@@ -66,23 +70,70 @@ pub fn read_table<R: Read + Drop>(
     ensures fault { IfErr result (λ cause. (bytes : List ℕ)
         → R.remaining reader ≡ Some bytes → MayRefuse cause (table_of bytes header max)) }
 {
+    let mut entries = Vec::new(alloc);
+    let end = read_entries(alloc, reader, header, max, &mut entries);
+    // (an id that comes again is told first: what ended the load stands after it)
+    let table = table_of_entries(alloc, header, entries)?;
+    match end {
+        Ok(()) => Ok(table),
+        Err(cause) => Err(cause),
+    }
+}
+
+// Reads the entries of records, and compares no ids. At a fault the entries are those of the records before.
+fn read_entries<R: Read + Drop>(
+    alloc: Global,
+    reader: R,
+    header: bool,
+    max: u32,
+    entries: &mut Vec<Entry>,
+) -> Result<(), TableFault>
+    requires none { entries.old.items ≡ [] }
+    requires most { max ≤ most_entries }
+    ensures few { length entries.new.items ≤ max }
+    ensures end { (bytes : List ℕ)
+        → R.remaining reader ≡ Some bytes → EndsAt result header entries.new.items (table_of bytes header max) }
+{
     let mut records = ReaderBuilder::new()
         .flexible(true)
         .has_headers(false)
         .from_reader(alloc, reader);
     let mut fields = ByteRecord::new(alloc);
-    let mut table = Table::empty(alloc);
     // At most a header, `max` entries and one record more are read.
     for number in 1..max + 3 {
         if !next_record(&mut records, &mut fields)? {
-            return Ok(table);
+            return Ok(());
         }
         if header && number == 1 {
             continue;
         }
-        add_record(max, number, &fields, &mut table)?;
+        add_entry(max, number, &fields, entries)?;
     }
     unreachable!()
+}
+
+// The table of the entries that were read, if no id comes again.
+fn table_of_entries(alloc: Global, header: bool, entries: Vec<Entry>) -> Result<Table, TableFault>
+    requires { length entries.items ≤ most_entries }
+    ensures table { IfOk result (λ table. table ≡ entries.items) }
+    ensures once { IfOk result (λ _. first_repeat entries.items ≡ None) }
+    ensures fault { IfErr result (λ cause. (rest : Result (List Entry) TableFault)
+        → IsRefusal cause (after_ids header entries.items rest)) }
+{
+    match Table::of_entries(alloc, entries) {
+        Ok(table) => Ok(table),
+        Err(EntriesFault::Repeated { place }) => Err(TableFault::Repeated {
+            number: first_number(header) + place,
+        }),
+        Err(EntriesFault::Memory) => Err(TableFault::Memory),
+    }
+}
+
+// The number of the record that gives the first entry.
+fn first_number(header: bool) -> u32
+    ensures { result ≡ first_number header }
+{
+    if header { 2 } else { 1 }
 }
 
 // The next record, where there is one. After an error, which is of the reader or of memory, there is none.
@@ -109,37 +160,27 @@ fn next_record<R: Read>(
     }
 }
 
-// Judges one record and adds its entry.
-fn add_record(
+// Judges one record, but for its id, and adds its entry.
+fn add_entry(
     max: u32,
     number: u32,
     fields: &ByteRecord,
-    table: &mut Table,
+    entries: &mut Vec<Entry>,
 ) -> Result<(), TableFault>
-    requires { max ≤ most_entries }
-    ensures added { OnOk result (IsOkAnd (judged max number table.old (fields_of fields.now))
-        (λ entry. table.new ≡ table.old ++ entry ∷ [])) }
-    ensures len { OnOk result ((length table.new ≡ length table.old + 1) × (length table.new ≤ max)) }
-    ensures fault { IfErr result (λ cause. IsRefusal cause (judged max number table.old (fields_of fields.now))) }
+    ensures added { OnOk result (IsOkAnd (entry_after max number entries.old.items (fields_of fields.now))
+        (λ entry. entries.new.items ≡ entries.old.items ++ entry ∷ [])) }
+    ensures few { OnOk result (length entries.new.items ≤ max) }
+    ensures fault { IfErr result (λ cause.
+        IsRefusal cause (entry_after max number entries.old.items (fields_of fields.now))) }
+    ensures err { OnErr result (entries.new.items ≡ entries.old.items) }
 {
-    if table.len() >= max {
+    if entries.len() >= max as usize {
         return Err(TableFault::TooMany { number });
     }
     let entry = entry_of(number, fields)?;
-    add_entry(number, entry, table)
-}
-
-// Adds an entry, unless its id is there.
-fn add_entry(number: u32, entry: Entry, table: &mut Table) -> Result<(), TableFault>
-    requires { length table.old < most_entries }
-    ensures entry { OnOk result (new_entry number table.old entry ≡ Ok entry) }
-    ensures added { OnOk result (table.new ≡ table.old ++ entry ∷ []) }
-    ensures fault { IfErr result (λ cause. IsRefusal cause (new_entry number table.old entry)) }
-{
-    match table.push(entry) {
+    match entries.push(entry) {
         Ok(()) => Ok(()),
-        Err(PushFault::Repeated) => Err(TableFault::Repeated { number }),
-        Err(PushFault::Memory) => Err(TableFault::Memory),
+        Err(_) => Err(TableFault::Memory),
     }
 }
 

@@ -1,25 +1,25 @@
 -- A table with one more entry.
-use Rattle.std.proofs.Common.{◌≡◌, ◌∙◌, ◌<◌, ℤ, Bool, true, false, ◌||◌, cond, List, [], ◌∷◌, ◌++◌, length, refl, sym}
+use Rattle.std.proofs.Common.{◌≡◌, ◌∙◌, ◌<◌, ◌+◌, ℕ, ℤ, get_or, take, Bool, true, false, ◌||◌, cond, List, [], ◌∷◌, ◌++◌, length, refl, sym}
 use Rattle.std.proofs.Common.{ap, subst, arith, length-append}
-use Rattle.std.specs.BTreeSet.{BTreeSet, Updates, contains}
+use Rattle.std.specs.BTreeSet.{BTreeSet}
 use Rattle.std.specs.List.{IsDistinct, list_any}
 use Rattle.std.specs.Ordering.{int_cmp, int_eq, is_eq}
 use Rattle.std.proofs.Math.Bool.{or-false}
 use Rattle.std.proofs.lemmas.Cmp.{int_eq_equiv}
 use Rattle.std.proofs.lemmas.Int.{ints}
-use Rattle.std.proofs.lemmas.List.{map-append}
+use Rattle.std.proofs.lemmas.List.{map-append, take_more}
 use Rattle.std.proofs.lemmas.List.Elements.{All-nil, All-push}
 use Rattle.std.proofs.lemmas.List.Folds.{list_any-append}
 use Rattle.std.proofs.lemmas.Map.Keys.{IsDistinct-push}
 use Rattle.rt_geo.specs.Entries.{HasBox}
 use Rattle.rt_geo.specs.declared.entry.Entry.{Entry}
 use Rattle.rt_tree.specs.Entries.{IsTable, has_id, ids_of, most_entries}
-use Rattle.rt_tree.specs.Indexes.{IsIndexed}
+use Rattle.rt_tree.specs.Indexes.{IsIndexed, keeps}
 
 tie : (a b : ℤ) → is_eq (int_cmp a b) ≡ int_eq b a
 tie a b = grind (arith, ints)
 
-has_id-push : (entries : List Entry) (entry : Entry) (id : ℤ)
+pub has_id-push : (entries : List Entry) (entry : Entry) (id : ℤ)
     → has_id (entries ++ entry ∷ []) id ≡ (has_id entries id || int_eq id entry.id)
 has_id-push entries entry id = list_any-append (λ (e : Entry). int_eq id e.id) entries (entry ∷ [])
     ∙ ap (λ b. has_id entries id || b) (or-false (int_eq id entry.id))
@@ -43,21 +43,27 @@ IsTable-push entries entry t new box room = record {
 }
 
 -- the entry stands last, and its id beside the others
-pub pushed : (ids new : BTreeSet ℤ) (entries : List Entry) (entry : Entry) → IsIndexed ids entries → HasBox entry → contains int_cmp ids entry.id ≡ false
-    → Updates int_cmp ids new entry.id true → length entries < most_entries → IsIndexed new (entries ++ entry ∷ [])
-pushed ids new entries entry kept box absent u room = record {
+pub pushed : (loaded new_loaded : List ℤ) (later new_later : BTreeSet ℤ) (entries : List Entry) (entry : Entry) → IsIndexed loaded later entries → HasBox entry → keeps loaded later entry.id ≡ false
+    → ((id : ℤ) → keeps new_loaded new_later id ≡ (keeps loaded later id || int_eq id entry.id)) → length entries < most_entries → IsIndexed new_loaded new_later (entries ++ entry ∷ [])
+pushed loaded new_loaded later new_later entries entry kept box absent added room = record {
   table = IsTable-push entries entry kept.table (sym (kept.ids_are entry.id) ∙ absent) box room;
-  ids_are = λ id. u.0 id ∙ either (int_eq id entry.id) (is_eq (int_cmp entry.id id)) (contains int_cmp ids id) (sym
-      (tie entry.id id)) ∙ ap (λ b. b || int_eq id entry.id) (kept.ids_are id) ∙ sym (has_id-push entries entry id);
+  ids_are = λ id. added id ∙ ap (λ b. b || int_eq id entry.id) (kept.ids_are id) ∙ sym (has_id-push entries entry id);
 }
 
 pub int_eq-sym : (a b : ℤ) → int_eq a b ≡ int_eq b a
 int_eq-sym a b = grind (arith, ints)
 
 -- a table without entries
-pub IsIndexed-empty : (ids : BTreeSet ℤ) → ((id : ℤ) → contains int_cmp ids id ≡ false) → IsIndexed ids []
+pub IsIndexed-empty : (loaded : List ℤ) (later : BTreeSet ℤ) → ((id : ℤ) → keeps loaded later id ≡ false) → IsIndexed loaded later []
 unfolding IsDistinct
-IsIndexed-empty ids none = record {
+IsIndexed-empty loaded later none = record {
   table = record { distinct = tt; boxes = All-nil HasBox; few = omega arith };
   ids_are = none;
 }
+
+-- the ids of one entry more
+pub ids_of-more : (entries : List Entry) (place : ℕ) (entry : Entry) → place < length entries → entry ≡ get_or entries place entry
+    → ids_of (take (place + 1) entries) ≡ ids_of (take place entries) ++ entry.id ∷ []
+ids_of-more entries place entry there is =
+    ap ids_of (take_more entries place entry there ∙ ap (λ (e : Entry). take place entries ++ e ∷ []) (sym is))
+    ∙ map-append (λ (e : Entry). e.id) (take place entries) (entry ∷ [])

@@ -1,6 +1,7 @@
 mod Children
 mod ChunkLemmas
 mod EntryLemmas
+mod IdLemmas
 mod LevelLemmas
 mod LevelOrder
 mod LoopLemmas
@@ -14,4 +15,5 @@ mod SquareLemmas
 mod Soundness
 mod TileLemmas
 pub mod Permutations
+pub mod RepeatLemmas
 pub mod SortingLemmas

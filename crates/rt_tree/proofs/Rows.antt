@@ -4,6 +4,7 @@ use Rattle.std.specs.Ordering.{nat_cmp}
 use Rattle.rt_geo.specs.Boxes.{Rect, rect_of}
 use Rattle.rt_geo.specs.declared.entry.Entry.{Entry}
 use Rattle.rt_tree.specs.declared.tree.Node.{Node}
+use Rattle.rt_tree.specs.Entries.{first_repeat}
 use Rattle.rt_tree.specs.Levels.{level_sizes}
 use Rattle.rt_tree.specs.Packing.{ceil_sqrt, pack_of}
 use Rattle.rt_tree.specs.Sorting.{limited, sorted}
@@ -105,3 +106,14 @@ nothing_packed = refl
 
 square_roots : map ceil_sqrt (0 ∷ 1 ∷ 2 ∷ 4 ∷ 5 ∷ 9 ∷ 10 ∷ []) ≡ 0 ∷ 1 ∷ 2 ∷ 2 ∷ 3 ∷ 3 ∷ 4 ∷ []
 square_roots = refl
+
+-- ---- ids that come again: the first entry whose id an earlier one has is told
+
+no_repeat : first_repeat (point 3 ∷ point 1 ∷ point 2 ∷ []) ≡ None
+no_repeat = refl
+
+last_repeats : first_repeat (point 1 ∷ point 2 ∷ point 3 ∷ point 1 ∷ []) ≡ Some 3
+last_repeats = refl
+
+first_of_two_repeats : first_repeat (point 1 ∷ point 2 ∷ point 2 ∷ point 1 ∷ []) ≡ Some 2
+first_of_two_repeats = refl

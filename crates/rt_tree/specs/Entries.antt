@@ -1,5 +1,5 @@
 -- Entries with distinct ids.
-use Rattle.std.specs.Prelude.{◌≤◌, ℕ, ℤ, Bool, List, length, map}
+use Rattle.std.specs.Prelude.{◌≤◌, ℕ, ℤ, Bool, if◌then◌else◌, List, [], ◌∷◌, ◌++◌, length, map, Option, Some, None}
 use Rattle.std.specs.List.{All, IsDistinct, list_any}
 use Rattle.std.specs.Ordering.{int_eq}
 use Rattle.rt_geo.specs.Entries.{HasBox}
@@ -12,6 +12,17 @@ ids_of entries = map (λ e. e.id) entries
 -- an entry has this id
 abbrev pub has_id : List Entry → ℤ → Bool
 has_id entries id = list_any (λ e. int_eq id e.id) entries
+
+-- the place of the first of these entries whose id one so far has, where they stand after those so far and each is one
+-- of them for the next
+abbrev pub repeat_after : (so_far entries : List Entry) → Option ℕ
+repeat_after so_far [] = None
+repeat_after so_far (entry ∷ more) =
+    if has_id so_far entry.id then Some (length so_far) else repeat_after (so_far ++ entry ∷ []) more
+
+-- the place, counted from 0, of the first entry whose id an earlier one has
+abbrev pub first_repeat : List Entry → Option ℕ
+first_repeat entries = repeat_after [] entries
 
 -- the most entries of a table
 abbrev pub most_entries : ℕ

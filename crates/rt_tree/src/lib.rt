@@ -1,6 +1,7 @@
 //! The entries of a table, and the tree that is packed over them.
 //!
-//! - A [`Table`] is seen as the list of its entries, in the order pushed. No two have one id.
+//! - A [`Table`] is seen as the list of its entries, in the order pushed. No two have one id. [`Table::of_entries`]
+//!   makes one of many entries at once, and quicker than [`Table::push`] one by one.
 //! - A [`Tree`] is packed over a table by [`Tree::pack`]. It is seen as its fanout and two flat lists: its entries in
 //!   the order of their places, and its [`Node`]s in the order of their numbers, of which a [`NodeNo`] is one.
 //! - [`Levels`] are seen as the sizes of the levels of a tree over so many entries, told without the tree.
@@ -10,11 +11,12 @@
 //! stand in `proofs/Rows.antt`. What `Indexes` and `SortKeys` define is for this crate's code alone.
 #![tactic(auto)]
 
+mod ids;
 mod levels;
 mod packing;
 mod table;
 mod tree;
 
 pub use levels::Levels;
-pub use table::{PushFault, Table};
+pub use table::{EntriesFault, PushFault, Table};
 pub use tree::{Node, NodeNo, Tree};

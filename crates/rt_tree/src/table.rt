@@ -1,12 +1,14 @@
 //! Entries with distinct ids.
 
-ghost use Rattle.std.specs.Prelude.{◌≡◌, ◌==◌, ◌<◌, ◌≤◌, ◌++◌, ◌∷◌, ◌↔◌, [], length, slice_get, Ok, Err, Some, OnOk, OnErr, true, false};
+ghost use Rattle.std.specs.Prelude.{◌≡◌, ◌==◌, ◌<◌, ◌≤◌, ◌++◌, ◌∷◌, ◌↔◌, [], length, slice_get, true, false};
+ghost use Rattle.std.specs.Prelude.{Ok, Err, Some, None, IfOk, IfErr, OnOk, OnErr};
 ghost use Rattle.rt_geo.specs.Entries.{HasBox};
-ghost use Rattle.rt_tree.specs.Entries.{IsTable, has_id, most_entries};
+ghost use Rattle.rt_tree.specs.Entries.{IsTable, first_repeat, has_id, most_entries};
+ghost use Rattle.rt_tree.specs.Repeats.{MayRefuse};
 
+use crate::ids::Ids;
 use rt_geo::Entry;
 use std::alloc::Global;
-use std::collections::BTreeSet;
 use std::marker::Model;
 
 /// Why an entry wasn't added.
@@ -18,12 +20,21 @@ pub enum PushFault {
     Memory,
 }
 
+/// Why entries make no table.
+#[derive(Clone, Copy, Debug, PartialEq, Eq)]
+pub enum EntriesFault {
+    /// The entry at this place, counted from 0, is the first whose id an earlier one has.
+    Repeated { place: u32 },
+    /// There was no memory for the table.
+    Memory,
+}
+
 /// Entries with distinct ids, in the order pushed: at most 16,777,216 of them.
 #[derive(Drop)]
 pub struct Table {
     entries: Vec<Entry>,
-    // The ids of the entries, so that one is found in O(log n) whatever the ids are.
-    ids: BTreeSet<i64>,
+    // The ids of the entries.
+    ids: Ids,
 }
 
 impl Model for Table {
@@ -35,7 +46,7 @@ impl Model for Table {
 
     ghost view = { λ t. t.entries.items };
 
-    ghost invariant = { λ t. IsIndexed t.ids t.entries.items };
+    ghost invariant = { λ t. IsIndexed t.ids.loaded.items t.ids.pushed t.entries.items };
 }
 
 impl Table {
@@ -48,8 +59,20 @@ impl Table {
     {
         Table {
             entries: Vec::new(alloc),
-            ids: BTreeSet::new(alloc),
+            ids: Ids::none(alloc),
         }
+    }
+
+    /// The table of these entries, in their order, in O(n log n) whatever they are. `Repeated` tells the first entry
+    /// whose id an earlier one has; `Memory` comes where there was none for the table.
+    pub fn of_entries(alloc: Global, entries: Vec<Entry>) -> Result<Table, EntriesFault>
+        requires { length entries.items ≤ most_entries }
+        ensures table { IfOk result (λ t. t ≡ entries.items) }
+        ensures once { IfOk result (λ _. first_repeat entries.items ≡ None) }
+        ensures fault { IfErr result (λ f. MayRefuse f entries.items) }
+    {
+        let ids = Ids::of(alloc, &entries)?;
+        Ok(Table { entries, ids })
     }
 
     /// How many entries there are.
@@ -105,14 +128,14 @@ impl Table {
     {
         // (read, so that its sides are known to be those of a box)
         let _least = entry.bounds.min_x();
-        if self.ids.contains(&entry.id) {
+        if self.ids.has(entry.id) {
             return Err(PushFault::Repeated);
         }
         if self.entries.reserve(1).is_err() {
             return Err(PushFault::Memory);
         }
-        match self.ids.insert(entry.id) {
-            Ok(_) => {
+        match self.ids.add(entry.id) {
+            Ok(()) => {
                 self.entries.push_reserved(entry);
                 Ok(())
             }

@@ -85,11 +85,12 @@ impl Tree {
         let mut entries = table.into_entries();
         // (by id, as entries whose boxes have one middle go by id)
         entries.sort_unstable_by_key(|entry| entry.id);
-        let entries = arranged(alloc, &entries, fanout)?;
-        let nodes = all_nodes(alloc, &entries, fanout)?;
+        let tiled = arranged(alloc, &entries, fanout)?;
+        drop(entries);
+        let nodes = all_nodes(alloc, &tiled, fanout)?;
         Ok(Tree {
             fanout,
-            entries,
+            entries: tiled,
             nodes,
             levels,
         })

@@ -32,7 +32,7 @@ fn gave(loaded: &Result<Table, TableFault>, boxes: &[(i64, [i32; 4])]) -> bool {
 }
 
 // Texts, and the fault of each.
-const FAULTS: [(&[u8], TableFault); 18] = [
+const FAULTS: [(&[u8], TableFault); 21] = [
     (
         b"1,0,1,0\n",
         TableFault::FieldCount {
@@ -106,6 +106,22 @@ const FAULTS: [(&[u8], TableFault); 18] = [
             number: 2,
             axis: Axis::X,
         },
+    ),
+    // A repeated id is told before what is wrong with a later record, and after what is wrong with an earlier one.
+    (
+        b"7,0,0,0,0\n7,0,0,0,0\n8,x,0,0,0\n",
+        TableFault::Repeated { number: 2 },
+    ),
+    (
+        b"7,0,0,0,0\n8,x,0,0,0\n7,0,0,0,0\n",
+        TableFault::NotNumber {
+            number: 2,
+            field: 2,
+        },
+    ),
+    (
+        b"9,0,0,0,0\n8,0,0,0,0\n7,0,0,0,0\n7,0,0,0,0\n8,0,0,0,0\n9,0,0",
+        TableFault::Repeated { number: 4 },
     ),
     // A quoted field may hold quotes, commas and line ends, none of which is part of a number.
     (
@@ -229,6 +245,11 @@ fn headers(rt: HostRuntime) {
         read_table(rt.alloc(), &text[..], true, ROOM).err(),
         Some(TableFault::Repeated { number: 3 })
     );
+    let text = b"id\n2,0,0,0,0\n1,0,0,0,0\n2,0,0,0,0\nx\n";
+    assert_eq!(rt;
+        read_table(rt.alloc(), &text[..], true, ROOM).err(),
+        Some(TableFault::Repeated { number: 4 })
+    );
     assert!(rt; gave(&read_table(rt.alloc(), &b"x\n"[..], true, ROOM), &[]));
     assert!(rt; gave(&read_table(rt.alloc(), &b""[..], true, ROOM), &[]));
     assert!(rt; gave(&read_table(rt.alloc(), &b""[..], false, ROOM), &[]));
@@ -258,6 +279,16 @@ fn most_entries(rt: HostRuntime) {
     ] {
         assert_eq!(rt;
             read_table(rt.alloc(), &text[..], header, max).err(),
+            Some(wanted)
+        );
+    }
+    let text = b"1,0,0,0,0\n1,0,0,0,0\n2,0,0,0,0\n";
+    for (max, wanted) in [
+        (1, TableFault::TooMany { number: 2 }),
+        (2, TableFault::Repeated { number: 2 }),
+    ] {
+        assert_eq!(rt;
+            read_table(rt.alloc(), &text[..], false, max).err(),
             Some(wanted)
         );
     }
@@ -296,7 +327,11 @@ impl<'a> Read for Broken<'a> {
 
 #[test]
 fn failing_readers(rt: HostRuntime) {
-    let cases: [(&[u8], TableFault); 5] = [
+    let cases: [(&[u8], TableFault); 6] = [
+        (
+            b"1,0,0,0,0\n1,0,0,0,0\n2,0",
+            TableFault::Repeated { number: 2 },
+        ),
         (b"", TableFault::Read),
         (b"1,0,0,0,0\n", TableFault::Read),
         (b"1,0,0,0,0\n2,0,0", TableFault::Read),

@@ -1,5 +1,6 @@
-use super::{PushFault, Table};
+use super::{EntriesFault, PushFault, Table};
 use rt_geo::{Bounds, Entry};
+use std::alloc::Global;
 
 // Tables, in the order pushed: that of the examples, and one with ids in no order.
 static TABLES: [[(i64, [i32; 4]); 5]; 2] = [
@@ -57,5 +58,79 @@ fn keeps_the_order_and_refuses_an_id_twice(rt: HostRuntime) {
             table.entries().iter().map(|entry| entry.id).max(),
             boxes.iter().map(|(id, _)| *id).max()
         );
+    }
+}
+
+// Boxes of one point with these ids, made a table at once.
+fn loaded(alloc: Global, ids: &[i64]) -> Option<Result<Table, EntriesFault>> {
+    let mut entries = Vec::new(alloc);
+    for id in ids {
+        entries.push(entry(*id, [0; 4])?).ok()?;
+    }
+    if entries.len() > Table::MOST_ENTRIES as usize {
+        return None;
+    }
+    Some(Table::of_entries(alloc, entries))
+}
+
+// Ids in some order, and the place of the first that comes again.
+static LOADED: [(&[i64], Option<u32>); 12] = [
+    (&[], None),
+    (&[7], None),
+    (&[1, 2, 3], None),
+    (&[3, 2, 1], None),
+    (&[9223372036854775807, -9223372036854775808, 0], None),
+    (&[7, 7], Some(1)),
+    (&[1, 2, 3, 4, 1], Some(4)),
+    (&[1, 2, 3, 3, 2, 1], Some(3)),
+    (&[3, 3, 1, 2, 1], Some(1)),
+    (&[5, 4, 3, 4, 5], Some(3)),
+    (&[-9223372036854775808, 1, -9223372036854775808], Some(2)),
+    (
+        &[2, 1, 9223372036854775807, 9223372036854775807, 1],
+        Some(3),
+    ),
+];
+
+#[test]
+fn entries_at_once_are_a_table_or_tell_the_first_repeat(rt: HostRuntime) {
+    for (ids, repeat) in &LOADED {
+        match loaded(rt.alloc(), ids).expect(&rt, "there is memory") {
+            Ok(table) => {
+                assert_eq!(rt; *repeat, None);
+                assert_eq!(rt; table.len() as usize, ids.len());
+                for (entry, id) in table.entries().iter().zip(*ids) {
+                    assert_eq!(rt; entry.id, *id);
+                }
+            }
+            Err(fault) => {
+                assert_eq!(rt;
+                    Some(fault),
+                    (*repeat).map(|place| EntriesFault::Repeated { place })
+                );
+            }
+        }
+    }
+}
+
+#[test]
+fn entries_are_pushed_after_others_at_once(rt: HostRuntime) {
+    let mut table = match loaded(rt.alloc(), &[5, -3, 8]).expect(&rt, "there is memory") {
+        Ok(table) => table,
+        Err(_) => Table::empty(rt.alloc()),
+    };
+    for (id, pushed) in [
+        (8, Err(PushFault::Repeated)),
+        (-3, Err(PushFault::Repeated)),
+        (6, Ok(())),
+        (6, Err(PushFault::Repeated)),
+        (5, Err(PushFault::Repeated)),
+        (-4, Ok(())),
+    ] {
+        assert_eq!(rt; push(&mut table, id, [0; 4]), Some(pushed));
+    }
+    assert_eq!(rt; table.len(), 5);
+    for (entry, id) in table.entries().iter().zip(&[5, -3, 8, 6, -4]) {
+        assert_eq!(rt; entry.id, *id);
     }
 }

@@ -1,6 +1,5 @@
-use Rattle.std.proofs.Common.{rules}
 use Rattle.rt_tree.proofs.EntryLemmas.{IsIndexed-empty}
 use Rattle.rt_tree.proofs.table.Table.empty.Goals as goal
 
 pub invariant_of-result : goal.invariant_of-result
-invariant_of-result c = rw c.new.ensures.items (IsIndexed-empty _ (λ id. search rules))
+invariant_of-result c = rw c.new.ensures.items (IsIndexed-empty _ _ c.none.ensures)

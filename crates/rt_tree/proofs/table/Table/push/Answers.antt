@@ -1,7 +1,8 @@
-use Rattle.std.proofs.Common.{◌<◌, ◌∙◌, sym, length, rules, FitsSigned, w64}
+use Rattle.std.proofs.Common.{◌≡◌, ◌<◌, ◌∙◌, sym, length, rules, FitsSigned, w64, false}
 use Rattle.std.proofs.lemmas.Int.{to_z-of_z}
 use Rattle.rt_geo.specs.Entries.{HasBox}
 use Rattle.rt_tree.specs.Entries.{most_entries}
+use Rattle.rt_tree.specs.Indexes.{keeps}
 use Rattle.rt_tree.proofs.EntryLemmas.{pushed}
 use Rattle.rt_tree.proofs.table.Table.push.Goals as goal
 
@@ -11,5 +12,9 @@ invariant_of-self-in-Ok c =
     let box : HasBox c.args.entry =
     record { box = c.min_x-least.ensures.valid; coordinates = c.min_x-least.ensures.coordinates } in
     let room : length c.self.inside.entries.items < most_entries = rw c.self.view_is c.requires in
+    let absent : keeps c.self.inside.ids.loaded.items c.self.inside.ids.pushed c.args.entry.id ≡ false =
+    simp (to_z-of_z, fits) at (sym c.has.ensures ∙ c.if-has.false) in
     rw (c.push_reserved.ensures.items, c.reserve.ensures.items)
-    (pushed c.self.inside.ids c.insert.new.self c.self.inside.entries.items c.args.entry c.self.invariant box (sym c.contains.ensures ∙ c.if-contains.false) (simp (to_z-of_z, fits) at c.in-Ok.ensures.updates) room)
+    (pushed c.self.inside.ids.loaded.items c.add.new.self.loaded.items c.self.inside.ids.pushed c.add.new.self.pushed
+    c.self.inside.entries.items c.args.entry c.self.invariant box absent
+    (simp (to_z-of_z, fits) at c.in-Ok.ensures.added) room)

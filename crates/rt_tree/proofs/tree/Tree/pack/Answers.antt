@@ -16,9 +16,9 @@ returns c =
     c.sort_unstable_by_key.ensures.permutation in
     let up = c.sort_unstable_by_key.ensures.sorted (λ e. e.id) (answers_always _ _ _ (λ f a r g h. search rules)) in
     let in_order = sorted_by_id c.args.table c.sort_unstable_by_key.new.self.items c.into_entries-entries.ensures.table moved up in
-    let entries = c.in_ok-entries.ensures ∙ ap (λ l. joined (groups (λ (e : Entry). e.bounds) c.args.fanout l)) c.deref.ensures.value in
+    let entries = c.in_ok-tiled.ensures ∙ ap (λ l. joined (groups (λ (e : Entry). e.bounds) c.args.fanout l)) c.deref.ensures.value in
     let nodes = c.in_ok-nodes.ensures ∙ ap (λ l. all_nodes c.args.fanout (nodes_over (λ (e : Entry). e.bounds) (λ _. 1) 1 0 (chunks c.args.fanout l))) c.deref-2.ensures.value in
-    let whole = packed_is c.args.fanout c.args.table c.sort_unstable_by_key.new.self.items c.in_ok-entries.entries.items c.in_ok-nodes.nodes.items c.requires.several in_order entries nodes in
+    let whole = packed_is c.args.fanout c.args.table c.sort_unstable_by_key.new.self.items c.in_ok-tiled.tiled.items c.in_ok-nodes.nodes.items c.requires.several in_order entries nodes in
     record {
       value = whole;
       moved = subst (λ (t : Packed). IsPermutation c.args.table t.entries) (sym whole) (entries-IsPermutation c.args.fanout c.args.table c.requires.several);
@@ -32,13 +32,13 @@ invariant_of-result c =
     let up = c.sort_unstable_by_key.ensures.sorted (λ e. e.id) (answers_always _ _ _ (λ f a r g h. search rules)) in
     let in_order = sorted_by_id c.args.table c.sort_unstable_by_key.new.self.items
     c.into_entries-entries.ensures.table moved up in
-    let entries = c.in_ok-entries.ensures ∙ ap (λ l. joined (groups (λ
+    let entries = c.in_ok-tiled.ensures ∙ ap (λ l. joined (groups (λ
     (e : Entry). e.bounds) c.args.fanout l)) c.deref.ensures.value in
     let nodes = c.in_ok-nodes.ensures ∙ ap (λ l. all_nodes c.args.fanout (nodes_over (λ (e : Entry). e.bounds)
     (λ _. 1) 1 0 (chunks c.args.fanout l))) c.deref-2.ensures.value in
     let whole = packed_is c.args.fanout c.args.table c.sort_unstable_by_key.new.self.items
-    c.in_ok-entries.entries.items c.in_ok-nodes.nodes.items c.requires.several in_order entries nodes in
-    let long : length c.in_ok-entries.entries.items ≡ length c.args.table = ap (λ
+    c.in_ok-tiled.tiled.items c.in_ok-nodes.nodes.items c.requires.several in_order entries nodes in
+    let long : length c.in_ok-tiled.tiled.items ≡ length c.args.table = ap (λ
     (t : Packed). length t.entries) whole ∙ length-packed c.args.fanout c.args.table c.requires.several in (
       subst IsSound (sym whole) (pack_of-IsSound c.args.fanout c.args.table c.requires.several
           c.into_entries-entries.ensures.table),
@@ -47,9 +47,9 @@ invariant_of-result c =
 
 pub all_nodes-requires-clause-few : goal.all_nodes-requires-clause-few
 all_nodes-requires-clause-few c =
-    let entries = c.in_ok-entries.ensures ∙ ap (λ l. joined (groups (λ
+    let entries = c.in_ok-tiled.ensures ∙ ap (λ l. joined (groups (λ
     (e : Entry). e.bounds) c.args.fanout l)) c.deref.ensures.value in
-    let long = length-arranged c.args.fanout c.sort_unstable_by_key.new.self.items c.in_ok-entries.entries.items
+    let long = length-arranged c.args.fanout c.sort_unstable_by_key.new.self.items c.in_ok-tiled.tiled.items
     c.requires.several entries in
     let moved = length_permutation _ _ c.sort_unstable_by_key.ensures.permutation in
     rw c.deref-2.ensures.value (omega (

@@ -1,9 +1,10 @@
-use Rattle.std.proofs.Common.{◌≡◌, ◌+◌, ◌≤◌, ℕ, List, Some, length, true}
+use Rattle.std.proofs.Common.{◌≡◌, ◌-◌, ◌≤◌, ℕ, List, Some, length, true}
 use Rattle.csv.specs.Reading.{Ready, default_config}
 use Rattle.csv.specs.declared.reader.Trim.TheVariants as trim
+use Rattle.rt_text.specs.Loads.{first_number}
 use Rattle.rt_text.specs.Tables.{table_of}
 use Rattle.rt_text.proofs.TableReads.{ReadUpTo}
-use Rattle.rt_text.proofs.tables.read_table.Given as goal
+use Rattle.rt_text.proofs.tables.read_entries.Given as goal
 
 -- each record before this one gave an entry, but the first where it is a header
 abbrev pub invariant-loop-number : goal.invariant-loop-number
@@ -12,8 +13,8 @@ invariant-loop-number g l = record {
   ready : Ready l.records;
   config : l.records.config ≡ default_config;
   flexible : l.records.flexible ≡ true;
-  count : l.number ≤ length l.table + 2;
-  most : length l.table ≤ l.fn.max;
+  count : length l.entries.items ≡ l.number - first_number l.fn.header;
+  most : length l.entries.items ≤ l.fn.max;
   table : (bytes : List ℕ) → g.R.Read.remaining l.fn.reader ≡ Some bytes
-      → ReadUpTo g.R.Read.remaining l.records l.table l.fn.header l.fn.max l.number (table_of bytes l.fn.header l.fn.max);
+      → ReadUpTo g.R.Read.remaining l.records l.entries.items l.fn.header l.fn.max l.number (table_of bytes l.fn.header l.fn.max);
 }

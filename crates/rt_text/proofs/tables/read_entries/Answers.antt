@@ -1,0 +1,78 @@
+use Rattle.std.proofs.Common.{◌≡◌, ◌-◌, Bool, true, false, refl, arith, length, rules}
+use Rattle.std.proofs.lemmas.Result.{err_from_is_err_and}
+use Rattle.csv.specs.Records.{fields_of}
+use Rattle.rt_text.specs.Loads.{entry_after, first_number}
+use Rattle.rt_text.proofs.TableLemmas.{count-header, number_now}
+use Rattle.rt_text.proofs.TableReads.{is_judged, longer, read-end, read-entry, read-failed, read-header, read-refused, read-start}
+use Rattle.rt_text.proofs.tables.read_entries.Goals as goal
+
+pub loop-number-init : goal.loop-number-init
+loop-number-init g c = record {
+  trim = search rules;
+  ready = search rules;
+  config = search rules;
+  flexible = search rules;
+  count = rw c.requires.none (at_start c.args.header);
+  most = rw c.requires.none (omega arith);
+  table = λ bytes h. read-start g.R.Read.remaining c.args.reader c.from_reader-records.result c.args.entries.now.items c.args.header c.args.max bytes
+      c.from_reader-records.ensures.source c.from_reader-records.ensures.state c.requires.none h;
+}
+  where
+    at_start : (header : Bool) → 0 ≡ 1 - first_number header
+    at_start true = refl
+    at_start false = refl
+
+pub returns-in_err-next_record-clause-end : goal.returns-in_err-next_record-clause-end
+returns-in_err-next_record-clause-end g c =
+    let p = err_from_is_err_and c.from_residual.result c.from_residual.ensures.1 in
+    rw (p.1, p.2) (λ bytes h. read-failed c.in_err-next_record.field-0.0 (c.loop-number.invariant.table bytes h) c.in_err-next_record.ensures.fault)
+
+pub returns-then-not-branch-clause-end : goal.returns-then-not-branch-clause-end
+returns-then-not-branch-clause-end g c bytes h =
+    let inv = c.loop-number.invariant in
+    let read = rw c.if-not-branch.true at c.in_ok-next_record.ensures.reads in
+    read-end c.next_record.new.records (fields_of c.next_record.new.fields) (inv.table bytes h) inv.config read
+
+pub loop-number-preserved-then-number-eq1 : goal.loop-number-preserved-then-number-eq1
+loop-number-preserved-then-number-eq1 g c =
+    let inv = c.loop-number.invariant in
+    let read = rw c.if-not-branch.false at c.in_ok-next_record.ensures.reads in
+    record {
+      trim = c.in_ok-next_record.ensures.trim;
+      ready = c.in_ok-next_record.ensures.ready;
+      config = c.in_ok-next_record.ensures.config;
+      flexible = c.in_ok-next_record.ensures.flexible;
+      count = count-header c.args.header c.loop-number.number (length c.loop-number.entries.items) c.if-header.true c.if-number-eq1.true inv.count;
+      most = inv.most;
+      table = λ bytes h. read-header c.next_record.new.records (fields_of c.next_record.new.fields) (inv.table bytes h) inv.config read c.if-header.true c.if-number-eq1.true;
+    }
+
+pub returns-in_err-add_entry-clause-end : goal.returns-in_err-add_entry-clause-end
+returns-in_err-add_entry-clause-end g c =
+    let inv = c.loop-number.invariant in
+    let read = rw c.if-not-branch.false at c.in_ok-next_record.ensures.reads in
+    let judged = is_judged c.args.header c.loop-number.number c.else-header.either in
+    let p = err_from_is_err_and c.from_residual-in_err-add_entry.result c.from_residual-in_err-add_entry.ensures.1 in
+    rw (p.1, p.2, c.in_err-add_entry.ensures.err) (λ bytes h. read-refused c.next_record.new.records (fields_of c.next_record.new.fields)
+    c.in_err-add_entry.field-0.0 (inv.table bytes h) inv.config read judged c.in_err-add_entry.ensures.fault)
+
+pub loop-number-preserved : goal.loop-number-preserved
+loop-number-preserved g c =
+    let inv = c.loop-number.invariant in
+    let so_far = c.loop-number.entries.items in
+    let read = rw c.if-not-branch.false at c.in_ok-next_record.ensures.reads in
+    let judged = is_judged c.args.header c.loop-number.number c.else-header.either in
+    let fields = fields_of c.next_record.new.fields in
+    let added = c.in_ok-add_entry.ensures.added in
+    let counted = number_now c.args.header c.loop-number.number (length so_far) c.loop-number.auto.number judged inv.count in
+    let one_more = longer (entry_after c.args.max c.loop-number.number so_far fields) so_far c.add_entry.new.entries.items added in
+    record {
+      trim = c.in_ok-next_record.ensures.trim;
+      ready = c.in_ok-next_record.ensures.ready;
+      config = c.in_ok-next_record.ensures.config;
+      flexible = c.in_ok-next_record.ensures.flexible;
+      count = omega (arith, one_more, counted);
+      most = c.in_ok-add_entry.ensures.few;
+      table = λ bytes h. read-entry c.next_record.new.records fields
+          c.add_entry.new.entries.items (inv.table bytes h) inv.config read c.loop-number.auto.number judged counted added;
+    }

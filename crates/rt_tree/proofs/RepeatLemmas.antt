@@ -1,0 +1,117 @@
+-- The first entry whose id an earlier one has.
+use Rattle.std.proofs.Common.{◌≡◌, ◌∙◌, ◌<◌, ◌≤◌, ◌+◌, ℕ, ℤ, Bool, true, false, ◌||◌, List, [], ◌∷◌, ◌++◌, length, length-append, drop, get_or, take, Option, Some, None, refl, sym, subst, ap, add-one, append_assoc, arith}
+use Rattle.std.specs.Prelude.{if◌then◌else◌}
+use Rattle.std.specs.List.{AllByRecursion, IsDistinct}
+use Rattle.std.specs.Ordering.{int_eq}
+use Rattle.std.proofs.Math.Seq.{drop-cons}
+use Rattle.std.proofs.lemmas.Cmp.{int_eq_equiv}
+use Rattle.std.proofs.lemmas.List.{append-nil, drop_all, length-take-le, map-append, take_more}
+use Rattle.std.proofs.lemmas.Map.Keys.{IsDistinct-push}
+use Rattle.rt_geo.specs.declared.entry.Entry.{Entry}
+use Rattle.rt_tree.specs.Entries.{first_repeat, has_id, ids_of, repeat_after}
+use Rattle.rt_tree.proofs.EntryLemmas.{has_id-ids_of, has_id-push, int_eq-sym}
+
+-- ---- one entry more
+
+-- what one entry more makes of the place of the first repeat
+abbrev pub repeat_with : (so_far : List Entry) → Entry → Option ℕ → Option ℕ
+repeat_with so_far entry (Some place) = Some place
+repeat_with so_far entry None = if has_id so_far entry.id then Some (length so_far) else None
+
+repeat_after-push : (so_far entries : List Entry) (entry : Entry)
+    → repeat_after so_far (entries ++ entry ∷ []) ≡ repeat_with (so_far ++ entries) entry (repeat_after so_far entries)
+repeat_after-push so_far [] entry = rw (append-nil so_far) refl
+repeat_after-push so_far (e ∷ entries) entry = by (has_id so_far e.id) refl (repeat_after-push (so_far ++ e ∷ []) entries entry)
+  where
+    by : (b : Bool) → has_id so_far e.id ≡ b
+        → repeat_after (so_far ++ e ∷ []) (entries ++ entry ∷ []) ≡ repeat_with ((so_far ++ e ∷ []) ++ entries) entry (repeat_after (so_far ++ e ∷ []) entries)
+        → repeat_after so_far (e ∷ (entries ++ entry ∷ [])) ≡ repeat_with (so_far ++ e ∷ entries) entry (repeat_after so_far (e ∷ entries))
+    by true h later = rw h refl
+    by false h later = rw (h, ← append_assoc so_far (e ∷ []) entries) later
+
+pub first_repeat-push : (entries : List Entry) (entry : Entry)
+    → first_repeat (entries ++ entry ∷ []) ≡ repeat_with entries entry (first_repeat entries)
+first_repeat-push entries entry = repeat_after-push [] entries entry
+
+-- ---- entries that are distinct
+
+distinct_more : (so_far : List Entry) (e : Entry) → IsDistinct int_eq (ids_of so_far) → has_id so_far e.id ≡ false → IsDistinct int_eq (ids_of (so_far ++ e ∷ []))
+distinct_more so_far e d new =
+    subst (IsDistinct int_eq) (sym (map-append (λ (e : Entry). e.id) so_far (e ∷ [])))
+    (IsDistinct-push int_eq_equiv (ids_of so_far) e.id d (has_id-ids_of so_far e.id ∙ new))
+
+distinct_after : (so_far entries : List Entry) → IsDistinct int_eq (ids_of so_far) → repeat_after so_far entries ≡ None
+    → IsDistinct int_eq (ids_of (so_far ++ entries))
+distinct_after so_far [] d once = rw (append-nil so_far) d
+distinct_after so_far (e ∷ entries) d once = by (has_id so_far e.id) refl (distinct_after (so_far ++ e ∷ []) entries)
+  where
+    by : (b : Bool) → has_id so_far e.id ≡ b
+        → (IsDistinct int_eq (ids_of (so_far ++ e ∷ [])) → repeat_after (so_far ++ e ∷ []) entries ≡ None → IsDistinct int_eq (ids_of ((so_far ++ e ∷ []) ++ entries)))
+        → IsDistinct int_eq (ids_of (so_far ++ e ∷ entries))
+    by true h more = let bad : Some (length so_far) ≡ None = rw h at once in absurd cc
+    by false h more =
+        let later : repeat_after (so_far ++ e ∷ []) entries ≡ None = rw h at once in
+        subst (λ es. IsDistinct int_eq (ids_of es)) (append_assoc so_far (e ∷ []) entries)
+        (more (distinct_more so_far e d h) later)
+
+pub distinct-from_once : (entries : List Entry) → first_repeat entries ≡ None → IsDistinct int_eq (ids_of entries)
+unfolding IsDistinct
+distinct-from_once entries once = distinct_after [] entries tt once
+
+new_id : (so_far : List Entry) (e : Entry) (entries : List Entry) → IsDistinct int_eq (ids_of (so_far ++ e ∷ entries)) → has_id so_far e.id ≡ false
+unfolding IsDistinct
+new_id [] e entries d = refl
+new_id (f ∷ so_far) e entries d = rw (int_eq-sym e.id f.id, differs so_far d.0, new_id so_far e entries d.1) refl
+  where
+    differs : (fs : List Entry) → AllByRecursion (λ id. int_eq f.id id ≡ false) (ids_of (fs ++ e ∷ entries)) → int_eq f.id e.id ≡ false
+    differs [] all = all.0
+    differs (g ∷ fs) all = differs fs all.1
+
+once_after : (so_far entries : List Entry) → IsDistinct int_eq (ids_of (so_far ++ entries)) → repeat_after so_far entries ≡ None
+once_after so_far [] d = refl
+once_after so_far (e ∷ entries) d =
+    rw (new_id so_far e entries d) (once_after (so_far ++ e ∷ []) entries (subst (λ es. IsDistinct int_eq (ids_of es)) (sym (append_assoc so_far (e ∷ []) entries)) d))
+
+pub once-from_distinct : (entries : List Entry) → IsDistinct int_eq (ids_of entries) → first_repeat entries ≡ None
+once-from_distinct entries d = once_after [] entries d
+
+-- ---- one entry after the other
+
+module _ (entries : List Entry) (place : ℕ) (d : Entry) (there : place < length entries)
+    (once : first_repeat entries ≡ repeat_after (take place entries) (drop place entries)) where
+  next : drop place entries ≡ get_or entries place d ∷ drop (place + 1) entries
+  next = rw (add-one place) (drop-cons entries place d there)
+
+  pub repeat-here : has_id (take place entries) (get_or entries place d).id ≡ true → first_repeat entries ≡ Some place
+  repeat-here h = once ∙ rw (next, h) (ap (λ (n : ℕ). Some n) (length-take-le place entries (omega arith)))
+
+  pub repeat-later : has_id (take place entries) (get_or entries place d).id ≡ false → first_repeat entries ≡ repeat_after (take (place + 1) entries) (drop (place + 1) entries)
+  repeat-later h = once ∙ rw (next, h, take_more entries place d there) refl
+
+-- the ids of one entry more
+pub ids-more : (entries : List Entry) (place : ℕ) (d : Entry) (id : ℤ) → place < length entries
+    → has_id (take (place + 1) entries) id ≡ (has_id (take place entries) id || int_eq id (get_or entries place d).id)
+ids-more entries place d id there = rw (take_more entries place d there) (has_id-push (take place entries) (get_or entries place d) id)
+
+-- nothing is left
+pub repeat-end : (entries : List Entry) (place : ℕ) → length entries ≤ place
+    → first_repeat entries ≡ repeat_after (take place entries) (drop place entries) → first_repeat entries ≡ None
+repeat-end entries place over once = once ∙ rw (drop_all place entries over) refl
+
+-- ---- the place is that of an entry
+
+repeat_after-below : (so_far entries : List Entry) (place : ℕ) → repeat_after so_far entries ≡ Some place → place < length so_far + length entries
+repeat_after-below so_far [] place e = absurd cc
+repeat_after-below so_far (entry ∷ more) place e = by (has_id so_far entry.id) refl (repeat_after-below (so_far ++ entry ∷ []) more place)
+  where
+    by : (b : Bool) → has_id so_far entry.id ≡ b
+        → (repeat_after (so_far ++ entry ∷ []) more ≡ Some place → place < length (so_far ++ entry ∷ []) + length more)
+        → place < length so_far + length (entry ∷ more)
+    by true h later =
+        let here : Some (length so_far) ≡ Some place = rw h at e in
+        let is : length so_far ≡ place = cc in
+        omega arith
+    by false h later = omega (arith, later (rw h at e), length-append so_far (entry ∷ []))
+
+pub first_repeat-below : (entries : List Entry) (place : ℕ) → first_repeat entries ≡ Some place → place < length entries
+first_repeat-below entries place e = omega (arith, repeat_after-below [] entries place e)

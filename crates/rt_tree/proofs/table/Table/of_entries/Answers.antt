@@ -1,0 +1,12 @@
+use Rattle.rt_tree.proofs.RepeatLemmas.{distinct-from_once}
+use Rattle.rt_tree.proofs.table.Table.of_entries.Goals as goal
+
+pub invariant_of-result : goal.invariant_of-result
+invariant_of-result c = record {
+  table = record {
+    distinct = distinct-from_once c.args.entries.items (rw c.deref.ensures.value at c.in_ok-ids.ensures.once);
+    boxes = rw c.deref.ensures.value at c.in_ok-ids.ensures.boxes;
+    few = c.requires;
+  };
+  ids_are = rw c.deref.ensures.value at c.in_ok-ids.ensures.ids;
+}

@@ -1,0 +1,137 @@
+//! The ids of a table's entries, of which one is found in O(log n) whatever they are.
+
+ghost use Rattle.std.specs.Prelude.{◌≡◌, ◌≤◌, ◌||◌, ◌↔◌, ℤ, None, IfOk, IfErr, OnOk, OnErr, length, true, false};
+ghost use Rattle.std.specs.List.{All, list_any};
+ghost use Rattle.std.specs.List.Sorted.{IsSorted, IsStrictlySortedBy};
+ghost use Rattle.std.specs.Ordering.{int_cmp, int_eq};
+ghost use Rattle.rt_geo.specs.Entries.{HasBox};
+ghost use Rattle.rt_tree.specs.Entries.{first_repeat, ids_of, most_entries};
+ghost use Rattle.rt_tree.specs.Indexes.{AreIdsOf, keeps};
+ghost use Rattle.rt_tree.specs.Repeats.{MayRefuse};
+
+use crate::table::EntriesFault;
+use rt_geo::Entry;
+use std::alloc::{AllocError, Global};
+use std::collections::BTreeSet;
+
+/// The ids of a table's entries.
+#[derive(Drop)]
+pub(crate) struct Ids {
+    // Those of the entries that the table was made of, in order.
+    loaded: Vec<i64>,
+    // Those of the entries pushed since.
+    pushed: BTreeSet<i64>,
+    ghost in_order: { IsSorted int_cmp loaded.items },
+}
+
+impl Ids {
+    /// No ids. It takes no memory.
+    pub(crate) fn none(alloc: Global) -> Ids
+        ensures { (id : ℤ) → keeps result.loaded.items result.pushed id ≡ false }
+    {
+        Ids {
+            loaded: Vec::new(alloc),
+            pushed: BTreeSet::new(alloc),
+        }
+    }
+
+    /// The ids of entries, where no two have one.
+    pub(crate) fn of(alloc: Global, entries: &[Entry]) -> Result<Ids, EntriesFault>
+        requires { length entries.now ≤ most_entries }
+        ensures ids { IfOk result (λ ids. AreIdsOf ids.loaded.items ids.pushed entries.now) }
+        ensures once { IfOk result (λ _. first_repeat entries.now ≡ None) }
+        ensures boxes { IfOk result (λ _. All HasBox entries.now) }
+        ensures fault { IfErr result (λ f. MayRefuse f entries.now) }
+    {
+        let mut loaded = match ids_of(alloc, entries) {
+            Ok(ids) => ids,
+            Err(_) => return Err(EntriesFault::Memory),
+        };
+        loaded.sort_unstable();
+        if !rises(&loaded) {
+            drop(loaded);
+            return Ids::one_by_one(alloc, entries);
+        }
+        Ok(Ids {
+            loaded,
+            pushed: BTreeSet::new(alloc),
+        })
+    }
+
+    // The same, one id after the other, so that the first that comes again is found.
+    fn one_by_one(alloc: Global, entries: &[Entry]) -> Result<Ids, EntriesFault>
+        requires { length entries.now ≤ most_entries }
+        ensures ids { IfOk result (λ ids. AreIdsOf ids.loaded.items ids.pushed entries.now) }
+        ensures once { IfOk result (λ _. first_repeat entries.now ≡ None) }
+        ensures fault { IfErr result (λ f. MayRefuse f entries.now) }
+    {
+        let mut ids = Ids::none(alloc);
+        for place in 0..entries.len() {
+            let id = entries[place].id;
+            if ids.has(id) {
+                return Err(EntriesFault::Repeated {
+                    place: place as u32,
+                });
+            }
+            match ids.add(id) {
+                Ok(()) => {}
+                Err(_) => return Err(EntriesFault::Memory),
+            }
+        }
+        Ok(ids)
+    }
+
+    /// Whether an id is there.
+    pub(crate) fn has(&self, id: i64) -> bool
+        ensures { result ≡ keeps self.now.loaded.items self.now.pushed id }
+    {
+        is_among(&self.loaded, id) || self.pushed.contains(&id)
+    }
+
+    /// Adds an id. An error means that no memory is left; then the ids are as they were.
+    pub(crate) fn add(&mut self, id: i64) -> Result<(), AllocError>
+        ensures added { OnOk result ((other : ℤ) → keeps self.new.loaded.items self.new.pushed other
+            ≡ (keeps self.old.loaded.items self.old.pushed other || int_eq other id)) }
+        ensures err { OnErr result ((other : ℤ) → keeps self.new.loaded.items self.new.pushed other
+            ≡ keeps self.old.loaded.items self.old.pushed other) }
+    {
+        match self.pushed.insert(id) {
+            Ok(_) => Ok(()),
+            Err(_) => Err(AllocError),
+        }
+    }
+}
+
+// The ids of entries, in their order.
+fn ids_of(alloc: Global, entries: &[Entry]) -> Result<Vec<i64>, AllocError>
+    ensures ids { IfOk result (λ ids. ids.items ≡ ids_of entries.now) }
+    ensures boxes { IfOk result (λ _. All HasBox entries.now) }
+{
+    let mut ids = Vec::with_capacity(alloc, entries.len())?;
+    for entry in entries {
+        // (read, so that its sides are known to be those of a box)
+        let _least = entry.bounds.min_x();
+        ids.push(entry.id)?;
+    }
+    Ok(ids)
+}
+
+// Whether each id is above the one before it.
+fn rises(ids: &[i64]) -> bool
+    ensures { (result ≡ true) ↔ IsStrictlySortedBy int_cmp ids.now }
+{
+    for place in 1..ids.len() {
+        if ids[place] <= ids[place - 1] {
+            return false;
+        }
+    }
+    true
+}
+
+// Whether an id is among some in order.
+fn is_among(ids: &[i64], id: i64) -> bool
+    requires { IsSorted int_cmp ids.now }
+    ensures { result ≡ list_any (int_eq id) ids.now }
+{
+    ids.binary_search(&id).is_ok()
+}
