@@ -2,7 +2,8 @@
 //!
 //! [`run`] is the call that the program makes, and its contract is what the crate is for: what is written,
 //! the fault and the status are `run_of` of the settings and the bytes (`specs/Runs.antt`), however reads
-//! and writes are cut. Bytes come from a [`Source`] and go to a [`Sink`], of `rt_device`; settings come from
+//! and writes are cut. [`serve`] is what it does once the table is loaded: each query line is answered as it comes,
+//! by the search of `rt_search`. Bytes come from a [`Source`] and go to a [`Sink`], of `rt_device`; settings come from
 //! the command line by [`settings_of`], of `rt_command`.
 #![tactic(auto)]
 
