@@ -1,5 +1,7 @@
 //! Replies to single lines, pushed into room in memory. The expected bytes were worked out by hand.
 
+ghost use Rattle.std.specs.Prelude.{◌≡◌, length};
+
 use super::push_reply;
 use rt_device::{Sink, SliceSink, WriteFault};
 use rt_geo::{Bounds, ById, Circle, Entry, Order, Point, Region};
@@ -97,7 +99,9 @@ fn pack(rt: &impl Abort, alloc: Global) -> Tree {
     Tree::pack(alloc, table, 2).expect(rt, "there is memory")
 }
 
-fn frontier_over(rt: &impl Abort, alloc: Global, tree: &Tree) -> Frontier {
+fn frontier_over(rt: &impl Abort, alloc: Global, tree: &Tree) -> Frontier
+    ensures { result.capacity ≡ length tree.now.entries }
+{
     Frontier::new(alloc, tree.len()).expect(rt, "there is memory")
 }
 
@@ -108,6 +112,7 @@ fn replies_in_every_form(rt: HostRuntime) {
     let mut frontier = frontier_over(&rt, rt.alloc(), &tree);
     for piece in [1, 3, ROOM] {
         for (text, reply) in REPLIES {
+            assert_eq!(rt; frontier.capacity(), tree.len());
             let mut room = [0u8; ROOM];
             let mut sink = SliceSink::new(&mut room, piece, None);
             frontier = push_reply(&tree, frontier, LINE, parse(text), &mut sink).expect(
@@ -116,7 +121,6 @@ fn replies_in_every_form(rt: HostRuntime) {
             );
             assert_eq!(rt; sink.written(), reply);
             assert_eq!(rt; sink.failures(), 0);
-            assert_eq!(rt; frontier.capacity(), tree.len());
         }
     }
 }
@@ -168,14 +172,14 @@ fn a_failed_push_ends_the_reply(rt: HostRuntime) {
         assert!(rt; piece > 0);
         let whole = reply_to(&rt, text);
         let pushes = before.len().saturating_sub(1);
-        for k in 0..before.len() {
+        for (k, out) in before.iter().enumerate() {
             let mut room = [0u8; ROOM];
             // The next push would be taken again, and a flush is a call too.
             let mut sink = SliceSink::new(&mut room, piece, Some(k as u64 + 1));
             let frontier = frontier_over(&rt, rt.alloc(), &tree);
             let result = push_reply(&tree, frontier, LINE, parse(text), &mut sink);
             assert_eq!(rt; result.is_ok(), k == pushes);
-            assert_eq!(rt; sink.written(), &whole[..before[k].min(whole.len())]);
+            assert_eq!(rt; sink.written(), &whole[..(*out).min(whole.len())]);
             assert_eq!(rt; sink.failures(), u64::from(k < pushes));
         }
         assert_eq!(rt; before.last(), Some(&whole.len()));
@@ -186,7 +190,8 @@ fn a_failed_push_ends_the_reply(rt: HostRuntime) {
 fn room_that_runs_out_ends_the_reply(rt: HostRuntime) {
     let tree = pack(&rt, rt.alloc());
     for (text, reply) in REPLIES {
-        for len in 0..reply.len().min(ROOM) {
+        for len in 0..reply.len() {
+            assert!(rt; len <= ROOM, "each reply has room");
             let mut room = [0u8; ROOM];
             let mut sink = SliceSink::new(&mut room[..len], 3, None);
             let frontier = frontier_over(&rt, rt.alloc(), &tree);
