@@ -215,3 +215,5 @@ fn all_nodes(alloc: Global, entries: &[Entry], fanout: u8) -> Result<Vec<Node>, 
 
 #[cfg(test)]
 mod tests;
+#[cfg(test)]
+mod trees;

@@ -1,0 +1,91 @@
+#!/usr/bin/env python3
+"""Loads tables that are meant to make loading slow, and answers two lines over each.
+
+usage: tests/hostile.py PROGRAM [RECORDS]
+
+Loading sorts the ids, the entries by id, and each level of the tree by its middles, which is to take time in proportion
+to n log n whatever the boxes and the ids are. With 1,000,000 records a sort that takes time in proportion to n * n would
+not end within the time that is given here. The last line is `N passed, M failed`.
+"""
+
+import subprocess
+import sys
+import tempfile
+import time
+from pathlib import Path
+
+SECONDS = 30
+LOW, HIGH = -(2**31), 2**31 - 1
+
+
+def organ_pipe(at, count):
+    """Rising up to the middle, and falling from there."""
+    return 2 * at if 2 * at < count else 2 * (count - at) - 1
+
+
+def saw(at, count):
+    """Rising again and again, each time from a little further on."""
+    return at % 1000 * 10**6 + at // 1000
+
+
+# What a record holds, by its place and how many there are: its id and its sides.
+TABLES = {
+    "all in one place": lambda at, count: (at, 7, 7, 7, 7),
+    "all in one place, ids falling": lambda at, count: (-at, 7, 7, 7, 7),
+    "on a line along x": lambda at, count: (at, at, at, 0, 0),
+    "on a line along y, falling": lambda at, count: (at, 0, 0, -at, -at),
+    "on a diagonal": lambda at, count: (at, at, at, at, at),
+    "one middle, each within the next": lambda at, count: (at, -at, at, -at, at),
+    "two middles by turns": lambda at, count: (at, at % 2, at % 2, -(at % 2), -(at % 2)),
+    "as large as the plane": lambda at, count: (at, LOW, HIGH, LOW, HIGH),
+    "at two corners of the plane": lambda at, count: (at, *([LOW] * 4 if at % 2 else [HIGH] * 4)),
+    "ids at both ends": lambda at, count: (2**63 - 1 - at if at % 2 else at - 2**63, at, at, at, at),
+    "ids up and down": lambda at, count: (organ_pipe(at, count), organ_pipe(at, count), count, 0, at),
+    "ids in a thousand runs": lambda at, count: (saw(at, count), saw(at, count), 10**9, 0, saw(at, count)),
+}
+
+
+def write_table(path, record, count):
+    """The least id of the table that is written."""
+    least = 2**63
+    with open(path, "w") as table:
+        for at in range(count):
+            fields = record(at, count)
+            least = min(least, fields[0])
+            table.write("%d,%d,%d,%d,%d\n" % fields)
+    return least
+
+
+def answers(program, table):
+    """What the program says of all boxes, the seconds, and whether it ended."""
+    start = time.perf_counter()
+    try:
+        ended = subprocess.run(
+            [program, table], input=b"count all\nfind all first 1\n", capture_output=True, timeout=SECONDS
+        )
+    except subprocess.TimeoutExpired:
+        return None, SECONDS
+    return ended.stdout + ended.stderr, time.perf_counter() - start
+
+
+def main():
+    program = str(Path(sys.argv[1]).resolve())
+    count = int(sys.argv[2]) if len(sys.argv) > 2 else 1_000_000
+    passed = failed = 0
+    with tempfile.TemporaryDirectory() as folder:
+        table = str(Path(folder, "table.csv"))
+        for name, record in TABLES.items():
+            least = write_table(table, record, count)
+            said, seconds = answers(program, table)
+            if said == b"ok 1 %d\n%d 0\nok 2 1\n" % (count, least):
+                passed += 1
+                print(f"{name}: {seconds:.2f} s")
+            else:
+                failed += 1
+                print(f"{name}: {'no answer' if said is None else said[:200]!r} after {seconds:.2f} s")
+    print(f"{passed} passed, {failed} failed")
+    return 1 if failed else 0
+
+
+if __name__ == "__main__":
+    sys.exit(main())

@@ -1,0 +1,177 @@
+#!/usr/bin/env python3
+"""The packing of a tree said once more in another language, plainly, and compared with what rt_tree's tests expect.
+
+usage: tests/packing.py [--rows]
+
+Nothing in here is of the crate's code or of its definitions. A test of rt_tree makes the tables that are made here, packs
+them, and tells each whole tree by one number: `crates/rt_tree/src/tree/trees.rt` has the numbers that it must tell. They
+are compared with those of the trees that are packed here, node by node and entry by entry. `--rows` prints the rows of
+that file in place of that. The last line is `N passed, M failed`.
+"""
+
+import math
+import re
+import sys
+from pathlib import Path
+
+ROWS = Path(__file__).resolve().parent.parent / "crates/rt_tree/src/tree/trees.rt"
+ROW = re.compile(r"\(Kind::(\w+), (\d+), (\d+), (-?[\d_]+)\)")
+FANOUTS = 2, 3, 4, 16, 64
+FACTOR = 6364136223846793005
+
+
+# ---- the tables
+
+
+class Chance:
+    """Numbers of 16 bits, each made of the one before."""
+
+    def __init__(self):
+        self.state = 12345
+
+    def below(self, end):
+        self.state = (self.state * 1103515245 + 12345) % 2**32
+        return self.state // 65536 % end
+
+    def coordinate(self):
+        return self.below(65536) * 65536 + self.below(65536) - 2**31
+
+
+def strewn(place, chance):
+    """A small box somewhere, with ids in no order."""
+    x, y = chance.below(1000), chance.below(1000) - 500
+    return place * 7919 % 1_000_003, (x, x + chance.below(16), y, y + chance.below(32))
+
+
+def one_place(place, chance):
+    """All boxes in one place, with ids that fall."""
+    return -place, (7, 9, -7, -7)
+
+
+def one_line(place, chance):
+    """Points on a line, many in one place, with ids at both ends of their range."""
+    x = chance.below(50)
+    return 2**63 - 1 - place if place % 2 else place - 2**63, (x, x, 0, 0)
+
+
+def whole_plane(place, chance):
+    """Boxes as large as the plane, with ids that rise."""
+    a, b, c, d = (chance.coordinate() for _ in range(4))
+    return place, (min(a, b), max(a, b), min(c, d), max(c, d))
+
+
+KINDS = {"Strewn": strewn, "OnePlace": one_place, "OneLine": one_line, "WholePlane": whole_plane}
+
+
+def sizes(fanout):
+    return 0, 1, fanout, fanout + 1, fanout**2, fanout**2 + 1
+
+
+# ---- the packing
+
+
+def groups(items, box, fanout):
+    """The items in tiles: slices by the middles on x, cut by the middles on y; equal middles by place."""
+    count = math.ceil(len(items) / fanout)
+    side = math.isqrt(count - 1) + 1 if count else 0
+    places = sorted(range(len(items)), key=lambda place: (box(items[place])[0] + box(items[place])[1], place))
+    tiles = []
+    for start in range(0, len(places), max(1, side * fanout)):
+        piece = places[start : start + side * fanout]
+        piece.sort(key=lambda place: (box(items[place])[2] + box(items[place])[3], place))
+        tiles += [[items[place] for place in piece[at : at + fanout]] for at in range(0, len(piece), fanout)]
+    return tiles
+
+
+def node(children, box, size, level, first):
+    """What is known of a node: its box, its level, its first child, how many children it has, and how many entries."""
+    boxes = [box(child) for child in children]
+    hull = (
+        min(sides[0] for sides in boxes),
+        max(sides[1] for sides in boxes),
+        min(sides[2] for sides in boxes),
+        max(sides[3] for sides in boxes),
+    )
+    return hull, level, first, len(children), sum(size(child) for child in children)
+
+
+def nodes_over(tiles, box, size, level, first):
+    made = []
+    for tile in tiles:
+        made.append(node(tile, box, size, level, first))
+        first += len(tile)
+    return made
+
+
+def packed(table, fanout):
+    """The entries by place, the nodes by number, and how many there are on each level."""
+    tiles = groups(sorted(table), lambda entry: entry[1], fanout)
+    entries = [entry for tile in tiles for entry in tile]
+    nodes, levels = [], [len(entries)]
+    made = nodes_over(tiles, lambda entry: entry[1], lambda entry: 1, 1, 0)
+    level = 1
+    while made:
+        levels.append(len(made))
+        tiles = groups(made, lambda child: child[0], fanout)
+        first = len(nodes)
+        nodes += [child for tile in tiles for child in tile]
+        if len(made) == 1:
+            break
+        level += 1
+        made = nodes_over(tiles, lambda child: child[0], lambda child: child[4], level, first)
+    return entries, nodes, levels
+
+
+# ---- the number of a tree
+
+
+def told(numbers):
+    """One number for many, of 64 bits with a sign."""
+    all_of_them = 0
+    for number in numbers:
+        all_of_them = (all_of_them * FACTOR + number) % 2**64
+    return all_of_them - 2**64 if all_of_them >= 2**63 else all_of_them
+
+
+def numbers_of(entries, nodes, levels):
+    yield len(entries)
+    for id, sides in entries:
+        yield id
+        yield from sides
+    yield len(nodes)
+    for number, (sides, level, first, count, size) in enumerate(nodes):
+        yield number
+        yield from sides
+        yield from (level, first, count, size)
+    yield len(levels)
+    yield from levels
+
+
+def rows():
+    for kind, entry in KINDS.items():
+        for fanout in FANOUTS:
+            for count in sizes(fanout):
+                chance = Chance()
+                table = [entry(place, chance) for place in range(count)]
+                yield kind, fanout, count, told(numbers_of(*packed(table, fanout)))
+
+
+def main():
+    if sys.argv[1:] == ["--rows"]:
+        for kind, fanout, count, number in rows():
+            print(f"    (Kind::{kind}, {fanout}, {count}, {number}),")
+        return 0
+    stored = [
+        (kind, int(fanout), int(count), int(number.replace("_", "")))
+        for kind, fanout, count, number in ROW.findall(ROWS.read_text())
+    ]
+    own = list(rows())
+    wrong = [row for row in own if row not in stored] + [row for row in stored if row not in own]
+    for kind, fanout, count, number in wrong:
+        print(f"{kind}, fanout {fanout}, {count} entries: {number} is told by one side alone")
+    print(f"{len(own) - len([row for row in own if row not in stored])} passed, {len(wrong)} failed")
+    return 1 if wrong else 0
+
+
+if __name__ == "__main__":
+    sys.exit(main())
