@@ -238,11 +238,19 @@ fn answer_end<K: Sink>(
     ensures went { OnOk result (K.failed sink.new ≡ K.failed sink.old) }
     ensures fails { OnErr result (K.failed sink.new ≡ K.failed sink.old + 1) }
 {
-    if !begun.is_long && held.is_empty() {
+    if !is_line(begun.is_long, held) {
         return Ok(());
     }
     let _frontier = answer(tree, frontier, begun, held, sink)?;
     begun.flush(sink)
+}
+
+// Whether what stands behind the last line feed is a line at the end.
+fn is_line(is_long: bool, held: &[u8]) -> bool
+    ensures some { result ≡ true → (is_long ≡ true) ⊎ (0 < length held.now) }
+    ensures none { result ≡ false → (is_long ≡ false) × (length held.now ≡ 0) }
+{
+    is_long || !held.is_empty()
 }
 
 // Answers one line.

@@ -1,44 +1,31 @@
-use Rattle.std.proofs.Common.{rules, ◌≡◌, ◌⊎◌, ◌<◌, true, length, inl, inr}
+use Rattle.std.proofs.Common.{◌≡◌, refl}
 use Rattle.std.proofs.lemmas.Result.{on_err_weaker, on_ok_weaker}
 use Rattle.rt_filter.specs.Stages.{loaded_tree}
 use Rattle.rt_filter.proofs.PushLemmas.{at_error}
 use Rattle.rt_filter.proofs.PieceLemmas.{end_answered, end_cut, end_lost, end_nothing}
 use Rattle.rt_filter.proofs.serving.answer_end.Goals as goal
-use Rattle.rt_filter.proofs.serving.answer_end.Goals.{else-not-begun-via-then-not-begun+else-is_empty, else-not-begun-via-else-not-begun}
 
-pub returns-then-is_empty-clause-state : goal.returns-then-is_empty-clause-state
-returns-then-is_empty-clause-state g c all before out e s clear =
-    let r = end_nothing (loaded_tree c.args.tree.now) all before out c.args.begun.now.lines c.args.begun.now.bad c.args.begun.now.is_long c.args.held.now s (search rules) (search rules) in
+pub returns-then-not-is_line-clause-state : goal.returns-then-not-is_line-clause-state
+returns-then-not-is_line-clause-state g c all before out e s clear =
+    let r = end_nothing (loaded_tree c.args.tree.now) all before out c.args.begun.now.lines c.args.begun.now.bad c.args.begun.now.is_long c.args.held.now s (c.if-not-is_line.ensures.none refl).0 (c.if-not-is_line.ensures.none refl).1 in
     (rw (← r.0) e, r.1)
 
 pub returns-in_err-_frontier-clause-cut : goal.returns-in_err-_frontier-clause-cut
 returns-in_err-_frontier-clause-cut g c =
-    let some : (c.args.begun.now.is_long ≡ true) ⊎ (0 < length c.args.held.now) = elim c.else-not-begun.branch [
-      | else-not-begun-via-then-not-begun+else-is_empty w ↦ inr (search rules)
-      | else-not-begun-via-else-not-begun w ↦ inl (search rules)
-    ] in
     at_error c.from_residual.result
     (λ all before out e s clear. end_cut (loaded_tree c.args.tree.now) all before out c.args.begun.now.lines c.args.begun.now.bad c.args.begun.now.is_long c.args.held.now s
-    (record { clear = clear; some = some }) (g.K.Sink.written c.args.sink.now) (g.K.Sink.written c.answer.new.sink) c.answer.new.begun.bad e c.in_err-_frontier.ensures.cut c.answer.ensures.bad)
+    (record { clear = clear; some = c.if-not-is_line.ensures.some refl }) (g.K.Sink.written c.args.sink.now) (g.K.Sink.written c.answer.new.sink) c.answer.new.begun.bad e c.in_err-_frontier.ensures.cut c.answer.ensures.bad)
 
 pub returns-clause-state : goal.returns-clause-state
 returns-clause-state g c =
-    let some : (c.args.begun.now.is_long ≡ true) ⊎ (0 < length c.args.held.now) = elim c.else-not-begun.branch [
-      | else-not-begun-via-then-not-begun+else-is_empty w ↦ inr (search rules)
-      | else-not-begun-via-else-not-begun w ↦ inl (search rules)
-    ] in
     on_ok_weaker c.flush.result
     (λ k all before out e s clear. rw c.flush.ensures.bad (end_answered (loaded_tree c.args.tree.now) all before out c.args.begun.now.lines c.args.begun.now.bad c.args.begun.now.is_long c.args.held.now s
-    (record { clear = clear; some = some }) (g.K.Sink.written c.args.sink.now) (g.K.Sink.written c.answer.new.sink) (g.K.Sink.written c.flush.new.sink) c.answer.new.begun.bad
+    (record { clear = clear; some = c.if-not-is_line.ensures.some refl }) (g.K.Sink.written c.args.sink.now) (g.K.Sink.written c.answer.new.sink) (g.K.Sink.written c.flush.new.sink) c.answer.new.begun.bad
     e c.in_ok-_frontier.ensures.written c.answer.ensures.bad k)) c.flush.ensures.bytes
 
 pub returns-clause-cut : goal.returns-clause-cut
 returns-clause-cut g c =
-    let some : (c.args.begun.now.is_long ≡ true) ⊎ (0 < length c.args.held.now) = elim c.else-not-begun.branch [
-      | else-not-begun-via-then-not-begun+else-is_empty w ↦ inr (search rules)
-      | else-not-begun-via-else-not-begun w ↦ inl (search rules)
-    ] in
     on_err_weaker c.flush.result
     (λ k all before out e s clear. rw c.flush.ensures.bad (end_lost (loaded_tree c.args.tree.now) all before out c.args.begun.now.lines c.args.begun.now.bad c.args.begun.now.is_long c.args.held.now s
-    (record { clear = clear; some = some }) (g.K.Sink.written c.args.sink.now) (g.K.Sink.written c.answer.new.sink) (g.K.Sink.written c.flush.new.sink) c.answer.new.begun.bad
+    (record { clear = clear; some = c.if-not-is_line.ensures.some refl }) (g.K.Sink.written c.args.sink.now) (g.K.Sink.written c.answer.new.sink) (g.K.Sink.written c.flush.new.sink) c.answer.new.begun.bad
     e c.in_ok-_frontier.ensures.written k c.answer.ensures.bad)) c.flush.ensures.lost
