@@ -1,5 +1,5 @@
 -- What is kept in any order, seen as items in order.
-use Rattle.std.proofs.Common.{◌≡◌, ◌<◌, ◌≤◌, Bool, true, false, List, [], ◌∷◌, map, length, get_or, refl, sym, ◌∙◌, ap}
+use Rattle.std.proofs.Common.{◌≡◌, ◌<◌, ◌≤◌, false, List, [], ◌∷◌, map, length, get_or, sym, ◌∙◌, ap}
 use Rattle.std.proofs.Common.{subst, arith, Result, Ok, Err, IsPermutation}
 use Rattle.std.specs.Prelude.{IsOk, OnOk}
 use Rattle.std.specs.List.{AllByRecursion}
@@ -9,7 +9,7 @@ use Rattle.std.proofs.lemmas.List.{length-map}
 use Rattle.std.proofs.lemmas.List.Sorted.{IsPermutation-map}
 use Rattle.rt_tree.specs.Sorting.{put, sorted}
 use Rattle.rt_search.specs.Items.{item_cmp}
-use Rattle.rt_search.specs.Kept.{IsEntry, IsFirstScore, IsHead, IsLeast, IsNode, IsRising, entry_item, in_order, node_item}
+use Rattle.rt_search.specs.Kept.{IsEntry, IsFirstScore, IsHead, IsLeast, IsNode, entry_item, in_order, node_item}
 use Rattle.rt_search.specs.contracts.item.FoundEntryOrd.TheImpl.{ghosts as entry_ghosts}
 use Rattle.rt_search.specs.contracts.item.ScoredNodeOrd.TheImpl.{ghosts as node_ghosts}
 use Rattle.rt_search.specs.declared.item.FoundEntry.{FoundEntry}

@@ -2,6 +2,8 @@ mod Rows
 pub mod Answering
 pub mod Children
 pub mod CountSteps
+pub mod CountUnder
+pub mod CountWhole
 pub mod Falling
 pub mod Giving
 pub mod Heaps

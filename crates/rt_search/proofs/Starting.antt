@@ -35,7 +35,7 @@ all_each P f (x ∷ xs) = (f x, all_each P f xs)
 
 -- ---- the root, which waits
 
-some_nodes : (t : Packed) → 0 < length t.nodes → (length t.nodes == 0) ≡ false
+pub some_nodes : (t : Packed) → 0 < length t.nodes → (length t.nodes == 0) ≡ false
 some_nodes t some = grind (arith, nat_tests)
 
 no_nodes : (t : Packed) → length t.nodes ≡ 0 → (length t.nodes == 0) ≡ true

@@ -107,7 +107,7 @@ module _ (verdict : Info → Verdict) (t : Packed) (v : Verdict) where
           → IsChild t (node_at t number) (height_at t number - 1) i ((node_at t number).first + i)
       each i lt = child_of t number i ((node_at t number).first + i) tree high lt refl
 
-      sum_more : (f : Node → ℕ) (i : ℕ) → i < (node_at t number).count
+      pub sum_more : (f : Node → ℕ) (i : ℕ) → i < (node_at t number).count
           → sum_by f (take (suc i) (child_nodes t (node_at t number)))
           ≡ sum_by f (take i (child_nodes t (node_at t number))) + f (node_at t ((node_at t number).first + i))
       sum_more f i lt =

@@ -1,56 +1,53 @@
--- What opening a node adds to a count, and what holds of a count on the way. Nothing that a public call promises speaks
--- of this.
-use Rattle.std.specs.Prelude.{◌≡◌, ◌+◌, ◌≤◌, ℕ, zero, suc, Bool, false, if◌then◌else◌, List, get_or, length}
-use Rattle.std.specs.List.{AllByRecursion}
-use Rattle.rt_geo.specs.Laws.{Extent}
+-- What is counted under a node. Nothing that a public call promises speaks of this.
+use Rattle.std.specs.Prelude.{◌≡◌, ◌+◌, ◌<◌, ◌≤◌, ℕ, zero, suc, Bool, if◌then◌else◌, get_or, length}
+use Rattle.rt_geo.specs.Laws.{Extent, IsQuestion, extent_of}
 use Rattle.rt_geo.specs.declared.geometry.Info.{Info}
 use Rattle.rt_geo.specs.declared.geometry.Verdict.{Verdict}
-use Rattle.rt_tree.specs.Packed.{Packed, IsSound, child_entries, node_at}
+use Rattle.rt_tree.specs.Packed.{Packed, IsSubtree, child_entries, entries_under, extent_of_node, node_at}
 use Rattle.rt_tree.specs.declared.tree.Node.{Node}
 use Rattle.rt_search.specs.Answers.{accepted}
 use Rattle.rt_search.specs.Joining.{info_of_child, no_entry}
-use Rattle.rt_search.specs.Progress.{held, work_left}
-use Rattle.rt_search.specs.Remaining.{AllSound, is_fully, remaining}
-use Rattle.rt_search.specs.Work.{asked_by_count, info_of_node, is_divided, is_kept, its_children, one_node}
-use Rattle.rt_search.specs.Work.{opened_by_count}
-use Rattle.rt_search.specs.declared.item.Item.{Item}
-use Rattle.rt_search.specs.declared.item.Place.{Place}
-use Rattle.rt_search.specs.declared.item.Place.TheVariants as place
+use Rattle.rt_search.specs.Remaining.{height_at}
+use Rattle.rt_search.specs.Work.{info_of_node, is_divided, is_kept, work_from}
 
 -- an entry counts unless it is NOT
 abbrev pub found_at_entry : Verdict → ℕ
 found_at_entry v = if is_kept v.within then 1 else 0
 
--- a node that is FULLY counts whole
-abbrev pub found_at_node : Verdict → (size : ℕ) → ℕ
-found_at_node v size = if is_fully v.within then size else 0
-
--- what the first so many children count: entries
+-- what the first so many children count, which are entries
 abbrev pub found_in_entries : (verdict : Info → Verdict) → Packed → Verdict → Node → (so_many : ℕ) → ℕ
 found_in_entries verdict t of_node n zero = 0
 found_in_entries verdict t of_node n (suc i) =
     found_in_entries verdict t of_node n i
     + found_at_entry (verdict (info_of_child t of_node (get_or (child_entries t n) i no_entry)))
 
--- and nodes
-abbrev pub found_in_nodes : (verdict : Info → Verdict) → Packed → Verdict → Node → (so_many : ℕ) → ℕ
-found_in_nodes verdict t of_node n zero = 0
-found_in_nodes verdict t of_node n (suc i) =
-    let child = node_at t (n.first + i) in
-    found_in_nodes verdict t of_node n i + found_at_node (verdict (info_of_node t of_node child)) child.size
+-- how many entries under a node are accepted
+abbrev pub accepted_under : Packed → (accepts : Extent → Bool) → (number : ℕ) → ℕ
+accepted_under t accepts number = length (accepted (entries_under t (height_at t number) (node_at t number)) accepts)
 
--- a node that is PARTLY
-abbrev pub IsDividedAt : Place → Type 0
-IsDividedAt (place.Node n) = n.is_full ≡ false
-IsDividedAt (place.Entry id) = ⊥
+-- what counting under a node costs
+abbrev pub work_under : (cost : Node → ℕ) → (verdict : Info → Verdict) → Packed → Verdict → (number : ℕ) → ℕ
+work_under cost verdict t v number = work_from is_divided cost verdict t (height_at t number) v (node_at t number)
 
--- what holds of a count: what was found and what waits are all
-pub record IsCounting (accepts : Extent → Bool) (score : Extent → ℕ) (verdict : Info → Verdict) (t : Packed)
-    (found opened asked capacity : ℕ) (items : List Item) : Type 0 where
-  pub tree : IsSound t
-  pub sound : AllSound t accepts score items
-  pub divided : AllByRecursion (λ x. IsDividedAt x.place) items
-  pub room : held t items ≤ capacity
-  pub finding : found + length (remaining t accepts score items) ≡ length (accepted t.entries accepts)
-  pub opening : opened + work_left is_divided one_node verdict t items ≡ opened_by_count verdict t
-  pub asking : asked + work_left is_divided its_children verdict t items ≡ asked_by_count verdict t
+-- what it costs under a node that is opened where its state says so
+abbrev pub work_at_child : (cost : Node → ℕ) → (verdict : Info → Verdict) → Packed → Verdict → (number : ℕ) → ℕ
+work_at_child cost verdict t v number = if is_divided v then work_under cost verdict t v number else 0
+
+-- the sum over the first so many children of a node above level 1, by their numbers
+abbrev pub over_children : (ℕ → ℕ) → Node → (so_many : ℕ) → ℕ
+over_children f n zero = 0
+over_children f n (suc i) = over_children f n i + f (n.first + i)
+
+-- what counting under each costs
+abbrev pub work_of_child : (cost : Node → ℕ) → (verdict : Info → Verdict) → Packed → Verdict → (number : ℕ) → ℕ
+work_of_child cost verdict t of_node number =
+    work_at_child cost verdict t (verdict (info_of_node t of_node (node_at t number))) number
+
+-- what holds of a node that may be asked about
+pub record IsCountable (t : Packed) (accepts : Extent → Bool) (number : ℕ) (info : Info) : Type 0 where
+  pub inside : number < length t.nodes
+  pub tree : IsSubtree t (height_at t number) (node_at t number)
+  pub low : (node_at t number).level ≤ 24
+  pub high : 0 < info.level
+  pub extent : extent_of info ≡ extent_of_node (node_at t number)
+  pub question : IsQuestion accepts info

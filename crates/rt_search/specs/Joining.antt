@@ -13,7 +13,6 @@ use Rattle.rt_search.specs.Items.{item_at, item_cmp}
 use Rattle.rt_search.specs.Remaining.{waiting_node}
 use Rattle.rt_search.specs.Work.{info_of_node, info_under, is_kept}
 use Rattle.rt_search.specs.declared.item.Item.{Item}
-use Rattle.rt_search.specs.declared.item.Place.{Place}
 use Rattle.rt_search.specs.declared.item.Place.TheVariants as place
 use Rattle.rt_search.specs.declared.item.WaitingNode.{WaitingNode}
 

@@ -2,8 +2,8 @@
 //!
 //! A [`Search`] gives the answers to a query one at a time, for any geometry that keeps its laws: those of a plain scan
 //! of all entries, by score and then id, cut at a limit. It opens exactly the nodes that the last answer's score makes
-//! necessary. [`count`] tells how many entries are accepted, and adds the size of a node that is accepted whole. Both
-//! work in the room of a [`Frontier`] that was made beforehand, and take no memory.
+//! necessary. [`count`] tells how many entries are accepted, and adds the size of a node that is accepted whole. A
+//! search works in the room of a [`Frontier`] that was made beforehand, a count in none, and neither takes memory.
 //!
 //! The definitions that the contracts cite stand in `specs/`: `Answers`, and `Work` for the nodes that are opened and
 //! the checks that are made. Their worked rows stand in `proofs/Rows.antt`.

@@ -10,7 +10,7 @@ ghost use Rattle.rt_search.specs.Remaining.{remaining};
 ghost use Rattle.rt_search.specs.Work.{HasWorked, is_reached, its_children, one_node, work};
 
 use crate::frontier::Frontier;
-use crate::item::{Place, WaitingNode};
+use crate::item::{Place, ScoredNode};
 use crate::opening::{Parent, open_inner, open_leaf, put_root};
 use rt_geo::{Counted, Geometry};
 use rt_tree::Tree;
@@ -23,29 +23,28 @@ fn open_node<G: Geometry>(
     counted: &mut Counted<'_, G>,
     opened: &mut u64,
     top: u8,
-    score: u128,
-    waiting: WaitingNode,
+    taken: ScoredNode,
 )
     requires top { top ≡ (root_of tree.now).level }
     requires taken { let g = counted.old.geometry in
         IsTaken (G.accepts g) (G.score g) (G.verdict g) tree.now opened.old counted.old.asked frontier.old.capacity
-        (item_at score (place.Node waiting)) frontier.old.items }
+        (item_at taken.score (place.Node taken.node)) frontier.old.items }
     ensures step { let g = counted.old.geometry in
         IsNodeStep (G.accepts g) (G.score g) (G.verdict g) tree.now opened.old counted.old.asked frontier.old.capacity
-        score waiting frontier.old.items frontier.new.items }
+        taken.score taken.node frontier.old.items frontier.new.items }
     ensures opened { opened.new ≡ opened.old + 1 }
-    ensures asked { counted.new.asked ≡ counted.old.asked + (node_at tree.now waiting.number.number).count }
+    ensures asked { counted.new.asked ≡ counted.old.asked + (node_at tree.now taken.node.number.number).count }
     ensures capacity { frontier.new.capacity ≡ frontier.old.capacity }
     ensures geometry { counted.new.geometry ≡ counted.old.geometry }
 {
-    let node = tree.node(waiting.number);
-    let parent = Parent::new(top, score, waiting);
+    let node = tree.node(taken.node.number);
+    let parent = Parent::new(top, taken.score, taken.node);
     *opened += 1;
     if node.level == 1 {
         open_leaf(tree, frontier, counted, node, parent);
         return;
     }
-    open_inner(tree, frontier, counted, waiting.number, parent);
+    open_inner(tree, frontier, counted, taken.node.number, parent);
 }
 
 // Takes items out until an entry comes: the next answer. None comes where no item is left.
@@ -82,7 +81,11 @@ fn pull<G: Geometry>(
         match item.place {
             Place::Entry(id) => return Some((id, item.score)),
             Place::Node(waiting) => {
-                open_node(tree, frontier, counted, opened, top, item.score, waiting);
+                let taken = ScoredNode {
+                    score: item.score,
+                    node: waiting,
+                };
+                open_node(tree, frontier, counted, opened, top, taken);
             }
         }
     }

@@ -1,17 +1,28 @@
-use Rattle.std.proofs.Common.{◌≤◌, refl, length}
-use Rattle.rt_search.proofs.CountSteps.{count_begun}
+use Rattle.std.proofs.Common.{arith}
+use Rattle.rt_search.proofs.CountWhole.{whole}
 use Rattle.rt_search.proofs.counting.count.Goals as goal
 
-pub loop-item-init : goal.loop-item-init
-loop-item-init g c =
+pub count_under-requires-clause-opened : goal.count_under-requires-clause-opened
+count_under-requires-clause-opened g c =
     let geometry = c.args.counted.now.geometry in
-    let put = c.put_root-top.ensures in
-    let room : length c.args.tree.now.entries ≤ c.put_root-top.new.frontier.capacity =
-    rw (put.capacity, c.clear.ensures.capacity) c.requires.capacity in
-    let begun = count_begun _ _ _ (g.met.G.Geometry.lawful geometry) c.args.tree.now
-    c.put_root-top.new.frontier.capacity c.put_root-top.new.frontier.items put.sound room put.items in
-    record {
-      state = rw c.requires.asked begun;
-      capacity = refl;
-      geometry = refl;
-    }
+    (whole (g.G.Geometry.accepts geometry) (g.G.Geometry.score geometry) (g.G.Geometry.verdict geometry)
+    c.args.tree.now c.in-Some.ensures.sound c.in-Some.number.number c.new-parent.result.verdict
+    c.in-Some.ensures.number c.new-parent.ensures.verdict).opened_few
+
+pub count_under-requires-clause-asked : goal.count_under-requires-clause-asked
+count_under-requires-clause-asked g c =
+    let geometry = c.args.counted.now.geometry in
+    let none = c.requires.asked in
+    let few = (whole (g.G.Geometry.accepts geometry) (g.G.Geometry.score geometry) (g.G.Geometry.verdict geometry)
+    c.args.tree.now c.in-Some.ensures.sound c.in-Some.number.number c.new-parent.result.verdict
+    c.in-Some.ensures.number c.new-parent.ensures.verdict).asked_few in
+    omega (arith, none, few)
+
+pub returns-clause-accepted : goal.returns-clause-accepted
+returns-clause-accepted g c =
+    let geometry = c.args.counted.now.geometry in
+    let found = (whole (g.G.Geometry.accepts geometry) (g.G.Geometry.score geometry) (g.G.Geometry.verdict geometry)
+    c.args.tree.now c.in-Some.ensures.sound c.in-Some.number.number c.new-parent.result.verdict
+    c.in-Some.ensures.number c.new-parent.ensures.verdict).found_is in
+    let counted = c.count_under.ensures.accepted in
+    omega (arith, counted, found)

@@ -32,13 +32,13 @@ open_inner-requires-clause-asked g c =
 pub returns-then-node-eq1-clause-step : goal.returns-then-node-eq1-clause-step
 returns-then-node-eq1-clause-step g c =
     let law = g.met.G.Geometry.lawful c.args.counted.now.geometry in
-    let small : c.args.score < 2 ^ 128 = search rules in
+    let small : c.args.taken.score < 2 ^ 128 = search rules in
     leaf_opened _ _ _ law _ _ _ _ _ _ _ _ _ _ small c.if-node-eq1.true c.node-node.ensures
     c.new-parent.ensures.verdict c.open_leaf.ensures.items c.requires.taken
 
 pub returns-clause-step : goal.returns-clause-step
 returns-clause-step g c =
     let law = g.met.G.Geometry.lawful c.args.counted.now.geometry in
-    let small : c.args.score < 2 ^ 128 = search rules in
+    let small : c.args.taken.score < 2 ^ 128 = search rules in
     inner_opened _ _ _ law _ _ _ _ _ _ _ _ _ _ small c.if-node-eq1.false c.node-node.ensures
     c.new-parent.ensures.verdict c.open_inner.ensures.items c.requires.taken

@@ -1,0 +1,161 @@
+use Rattle.std.proofs.Common.{◌≡◌, ◌<◌, ◌≤◌, ◌+◌, ◌^◌, ◌∙◌, ap, sym, arith, rules}
+use Rattle.rt_tree.specs.Packed.{node_at}
+use Rattle.rt_search.specs.Counting.{found_in_entries}
+use Rattle.rt_search.specs.Work.{info_of_node, info_under, its_children, one_node}
+use Rattle.rt_search.proofs.Children.{subtree_level}
+use Rattle.rt_search.proofs.CountUnder.{all_accepted, can_ask, inner_found, inner_work, leaf_found, not_accepted}
+use Rattle.rt_search.proofs.CountUnder.{under_few}
+use Rattle.rt_search.specs.Remaining.{height_at}
+use Rattle.rt_search.proofs.counting.+counting.Goals as goal
+
+pub count_child-returns-in-Not-clause-accepted : goal.count_child-returns-in-Not-clause-accepted
+count_child-returns-in-Not-clause-accepted g t c =
+    let geometry = c.args.counted.now.geometry in
+    let none = not_accepted (g.G.Geometry.accepts geometry) (g.G.Geometry.score geometry)
+    (g.G.Geometry.verdict geometry) (g.met.G.Geometry.lawful geometry) c.args.tree.now c.args.number.number
+    c.args.info.now c.requires.node (sym (ap (λ v. v.within) c.check-verdict.ensures.verdict) ∙ c.in-Not.is) in
+    omega (arith, none)
+
+pub count_child-returns-in-Fully-clause-accepted : goal.count_child-returns-in-Fully-clause-accepted
+count_child-returns-in-Fully-clause-accepted g t c =
+    let geometry = c.args.counted.now.geometry in
+    let all = all_accepted (g.G.Geometry.accepts geometry) (g.G.Geometry.score geometry)
+    (g.G.Geometry.verdict geometry) (g.met.G.Geometry.lawful geometry) c.args.tree.now c.args.number.number
+    c.args.info.now c.requires.node (sym (ap (λ v. v.within) c.check-verdict.ensures.verdict) ∙ c.in-Fully.is) in
+    let size = ap (λ n. n.size) c.node.ensures in
+    omega (arith, all, size)
+
+pub count_under-overflow_add-count-then-node-eq1 : goal.count_under-overflow_add-count-then-node-eq1
+count_under-overflow_add-count-then-node-eq1 g t c =
+    let geometry = c.args.counted.now.geometry in
+    let verdict = g.G.Geometry.verdict geometry in
+    let tree = c.args.tree.now in
+    let v = c.args.parent.verdict in
+    let small : v.score < 2 ^ 128 = search rules in
+    let is = c.node-node.ensures in
+    let found = leaf_found (g.G.Geometry.accepts geometry) (g.G.Geometry.score geometry) verdict
+    (g.met.G.Geometry.lawful geometry) tree c.requires.tree v small c.args.number.number c.requires.node
+    (sym (ap (λ n. n.level) is) ∙ c.if-node-eq1.true) in
+    let counted = c.count_leaf.ensures.found ∙ ap (λ n. found_in_entries verdict tree v n n.count) is ∙ sym found in
+    let few = under_few (g.G.Geometry.accepts geometry) (g.G.Geometry.score geometry) verdict
+    (g.met.G.Geometry.lawful geometry) tree c.requires.tree v small c.args.number.number c.requires.node in
+    let room = c.requires.few in
+    let low : c.args.count.now.accepted + c.count_leaf.result ≤ 2 ^ 32 = omega (arith, counted, few, room) in
+    search (rules, low)
+
+pub count_under-returns-then-node-eq1-clause-accepted : goal.count_under-returns-then-node-eq1-clause-accepted
+count_under-returns-then-node-eq1-clause-accepted g t c =
+    let geometry = c.args.counted.now.geometry in
+    let verdict = g.G.Geometry.verdict geometry in
+    let tree = c.args.tree.now in
+    let v = c.args.parent.verdict in
+    let small : v.score < 2 ^ 128 = search rules in
+    let is = c.node-node.ensures in
+    let found = leaf_found (g.G.Geometry.accepts geometry) (g.G.Geometry.score geometry) verdict
+    (g.met.G.Geometry.lawful geometry) tree c.requires.tree v small c.args.number.number c.requires.node
+    (sym (ap (λ n. n.level) is) ∙ c.if-node-eq1.true) in
+    let counted = c.count_leaf.ensures.found ∙ ap (λ n. found_in_entries verdict tree v n n.count) is ∙ sym found in
+    omega (arith, counted)
+
+pub count_under-count_child-requires : goal.count_under-count_child-requires
+count_under-count_child-requires g t c κs within =
+    let geometry = c.args.counted.now.geometry in
+    let law = g.met.G.Geometry.lawful geometry in
+    let tree = c.args.tree.now in
+    let v = c.args.parent.verdict in
+    let number = c.args.number.number in
+    let small : v.score < 2 ^ 128 = search rules in
+    let is = c.node-node.ensures in
+    let level = subtree_level tree (height_at tree number) (node_at tree number) c.requires.node.tree in
+    let same_level = ap (λ n. n.level) is in
+    let above = c.if-node-eq1.false in
+    let high : 2 ≤ (node_at tree number).level = omega (arith, level, same_level, above) in
+    let lt : c.loop-i.i < (node_at tree number).count = rw (← is) c.loop-i-test.true in
+    let child = c.child_node-child_number.result.number in
+    let info_is : c.info-info.result ≡ info_of_node tree v (node_at tree child) =
+    c.info-info.ensures
+    ∙ ap (λ top. info_under top v c.node-child.result.bounds c.node-child.result.level) c.requires.top
+    ∙ ap (info_of_node tree v) c.node-child.ensures in
+    let inv = c.loop-i.invariant in
+    let can = can_ask (g.G.Geometry.accepts geometry) (g.G.Geometry.score geometry) (g.G.Geometry.verdict geometry)
+    law tree c.requires.tree v small number c.requires.node high c.loop-i.i child c.args.count.now.accepted
+    c.loop-i.count.accepted c.args.count.now.opened c.loop-i.count.opened c.args.counted.now.asked
+    c.loop-i.counted.asked c.info-info.result lt c.child_node-child_number.ensures.value info_is inv.accepted inv.opened
+    inv.asked c.requires.few c.requires.opened c.requires.asked in
+    let lower = can.lower in
+    let top : c.info-info.result.top ≡ c.args.parent.top = ap (λ i. i.top) c.info-info.ensures in (
+      omega (arith, lower, c.decreases),
+      (
+        within,
+        (
+          c.requires.tree,
+          (
+            top ∙ c.requires.top,
+            rw inv.geometry (can.node, (can.few, (can.opened_few, can.asked_few))),
+          ),
+        ),
+      ),
+    )
+
+pub count_under-returns-clause-accepted : goal.count_under-returns-clause-accepted
+count_under-returns-clause-accepted g t c =
+    let geometry = c.args.counted.now.geometry in
+    let law = g.met.G.Geometry.lawful geometry in
+    let tree = c.args.tree.now in
+    let v = c.args.parent.verdict in
+    let number = c.args.number.number in
+    let small : v.score < 2 ^ 128 = search rules in
+    let is = c.node-node.ensures in
+    let level = subtree_level tree (height_at tree number) (node_at tree number) c.requires.node.tree in
+    let same_level = ap (λ n. n.level) is in
+    let above = c.if-node-eq1.false in
+    let high : 2 ≤ (node_at tree number).level = omega (arith, level, same_level, above) in
+    let same_count = ap (λ n. n.count) is in
+    let over = c.loop-i-test.false in
+    let i_is : c.loop-i.i ≡ (node_at tree number).count = omega (arith, same_count, over, c.loop-i.auto.i-end) in
+    let found = inner_found (g.G.Geometry.accepts geometry) (g.G.Geometry.score geometry)
+    (g.G.Geometry.verdict geometry) law tree c.requires.tree v small number c.requires.node high in
+    let inv = rw i_is at c.loop-i.invariant.accepted in
+    omega (arith, inv, found)
+
+pub count_under-returns-clause-opened : goal.count_under-returns-clause-opened
+count_under-returns-clause-opened g t c =
+    let geometry = c.args.counted.now.geometry in
+    let law = g.met.G.Geometry.lawful geometry in
+    let tree = c.args.tree.now in
+    let v = c.args.parent.verdict in
+    let number = c.args.number.number in
+    let small : v.score < 2 ^ 128 = search rules in
+    let is = c.node-node.ensures in
+    let level = subtree_level tree (height_at tree number) (node_at tree number) c.requires.node.tree in
+    let same_level = ap (λ n. n.level) is in
+    let above = c.if-node-eq1.false in
+    let high : 2 ≤ (node_at tree number).level = omega (arith, level, same_level, above) in
+    let same_count = ap (λ n. n.count) is in
+    let over = c.loop-i-test.false in
+    let i_is : c.loop-i.i ≡ (node_at tree number).count = omega (arith, same_count, over, c.loop-i.auto.i-end) in
+    let work = inner_work (g.G.Geometry.accepts geometry) (g.G.Geometry.score geometry)
+    (g.G.Geometry.verdict geometry) law tree c.requires.tree v small number c.requires.node high one_node in
+    let inv = rw i_is at c.loop-i.invariant.opened in
+    omega (arith, inv, work)
+
+pub count_under-returns-clause-asked : goal.count_under-returns-clause-asked
+count_under-returns-clause-asked g t c =
+    let geometry = c.args.counted.now.geometry in
+    let law = g.met.G.Geometry.lawful geometry in
+    let tree = c.args.tree.now in
+    let v = c.args.parent.verdict in
+    let number = c.args.number.number in
+    let small : v.score < 2 ^ 128 = search rules in
+    let is = c.node-node.ensures in
+    let level = subtree_level tree (height_at tree number) (node_at tree number) c.requires.node.tree in
+    let same_level = ap (λ n. n.level) is in
+    let above = c.if-node-eq1.false in
+    let high : 2 ≤ (node_at tree number).level = omega (arith, level, same_level, above) in
+    let same_count = ap (λ n. n.count) is in
+    let over = c.loop-i-test.false in
+    let i_is : c.loop-i.i ≡ (node_at tree number).count = omega (arith, same_count, over, c.loop-i.auto.i-end) in
+    let work = inner_work (g.G.Geometry.accepts geometry) (g.G.Geometry.score geometry)
+    (g.G.Geometry.verdict geometry) law tree c.requires.tree v small number c.requires.node high its_children in
+    let inv = rw i_is at c.loop-i.invariant.asked in
+    omega (arith, inv, work)
