@@ -47,6 +47,10 @@ example: build/rtfilter
 test:
 	@tests/run
 
+# What loading costs, and what a query line costs. BOXES: how many there are.
+bench: build/rtfilter
+	@bench/bench.py build/rtfilter $(BOXES)
+
 install: build/rtfilter
 	install -D build/rtfilter "$(DESTDIR)$(PREFIX)/bin/rtfilter"
 	install -D -m 644 docs/rtfilter.1 "$(DESTDIR)$(PREFIX)/share/man/man1/rtfilter.1"
@@ -57,5 +61,5 @@ uninstall:
 clean:
 	rm -rf build crates/*/out
 
-.PHONY: example test install uninstall clean
+.PHONY: example test bench install uninstall clean
 .DEFAULT_GOAL := build/rtfilter

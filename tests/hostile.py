@@ -3,9 +3,9 @@
 
 usage: tests/hostile.py PROGRAM [RECORDS]
 
-Loading sorts the ids, the entries by id, and each level of the tree by its middles, which is to take time in proportion
-to n log n whatever the boxes and the ids are. With 1,000,000 records a sort that takes time in proportion to n * n would
-not end within the time that is given here. The last line is `N passed, M failed`.
+Loading sorts the ids, the entries by id, and each level of the tree by its middles, which is to take time in
+proportion to n log n whatever the boxes and the ids are. With 1,000,000 records a sort that takes time in proportion
+to n * n would not end within the time that is given here. The last line is `N passed, M failed`.
 """
 
 import subprocess

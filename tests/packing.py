@@ -3,10 +3,10 @@
 
 usage: tests/packing.py [--rows]
 
-Nothing in here is of the crate's code or of its definitions. A test of rt_tree makes the tables that are made here, packs
-them, and tells each whole tree by one number: `crates/rt_tree/src/tree/trees.rt` has the numbers that it must tell. They
-are compared with those of the trees that are packed here, node by node and entry by entry. `--rows` prints the rows of
-that file in place of that. The last line is `N passed, M failed`.
+Nothing in here is of the crate's code or of its definitions. A test of rt_tree makes the tables that are made here,
+packs them, and tells each whole tree, every entry and every node of it, by one number:
+`crates/rt_tree/src/tree/trees.rt` has the numbers that it must tell. They are compared with those of the trees that
+are packed here. `--rows` prints the rows of that file in place of that. The last line is `N passed, M failed`.
 """
 
 import math
