@@ -10,10 +10,12 @@ exit status. The last line is `N passed, M failed`.
 import contextlib
 import os
 import resource
+import signal
 import subprocess
 import sys
 import tempfile
 import threading
+import time
 from pathlib import Path
 
 BOXES = b"1,0,10,0,10\n2,5,15,5,15\n3,20,30,0,10\n4,-5,-1,-5,-1\n5,12,12,12,12\n"
@@ -57,6 +59,7 @@ FILES = {
     LONG_NAME: MANY_BOXES,
     "late.csv": MANY_BOXES + b"1,0,0,0,0\n",
     "lines": MANY_LINES,
+    "letters": b"a" * 50_000_000 + b"\n" + FIND,
 }
 
 NO_MEMORY = b"rtfilter: out of memory\n"
@@ -187,6 +190,20 @@ def least_memory(program, folder):
     return enough * step
 
 
+def endless_line(program, folder, room):
+    """Whether a run whose queries are one line without an end goes on and on in so many bytes of address space, and what
+    it leaves when it is killed."""
+    held = subprocess.Popen(
+        [program, "boxes.csv", "/dev/zero"], cwd=folder, stdout=subprocess.PIPE, stderr=subprocess.PIPE,
+        preexec_fn=lambda: resource.setrlimit(resource.RLIMIT_AS, (room, room)),
+    )
+    time.sleep(1)
+    is_on = held.poll() is None
+    held.kill()
+    output, error = held.communicate()
+    return is_on, output, error, held.returncode
+
+
 def example(program):
     """The run of the examples, with the answers that stand beside them."""
     folder = Path(__file__).parent.parent / "examples"
@@ -233,12 +250,17 @@ def outcomes(program, folder):
     least = least_memory(program, folder)
     for name, words, room in (
         ("no memory to begin with", ["boxes.csv"], -4 * resource.getpagesize()),
-        ("no memory for table and queries", [LONG_NAME, "lines"], 1_000_000),
+        ("no memory for the table beside a file of queries", [LONG_NAME, "lines"], 1_000_000),
         ("no memory for a record", ["/dev/zero"], 10_000_000),
-        ("no memory for the queries", ["boxes.csv", "/dev/zero"], 10_000_000),
         *((f"no memory for the table in {room} bytes", [LONG_NAME], room) for room in range(0, 20_000_001, 2_500_000)),
     ):
         yield name, (6, b"", NO_MEMORY), little_memory(program, words, folder, least + room)
+    for name, words, output in (
+        ("no more memory for many lines", ["boxes.csv", "lines"], b"1 0\n3 0\nok 6000001 2\n"),
+        ("no more memory for a long line", ["boxes.csv", "letters"], b"error 1 Q1 line too long\n1 0\n2 0\nok 2 2\n"),
+    ):
+        yield name, (int(b"error" in output), output, b""), little_memory(program, words, folder, least)
+    yield "no more memory for a line without an end", (True, b"", b"", -signal.SIGKILL), endless_line(program, folder, least)
     yield "a closed pipe", (5, None, CANNOT_WRITE), closed_pipe(program, folder)
     yield "a full device", (5, None, CANNOT_WRITE), full_device(program, ["boxes.csv", "queries"], folder)
     yield "help to a full device", (5, None, CANNOT_WRITE), full_device(program, ["--help"], folder)
