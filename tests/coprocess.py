@@ -369,7 +369,7 @@ def main():
             (queries_in_a_named_pipe, start, folder),
             (stopped_and_continued, start),
             (the_same_memory_for_many_lines, start, args.lines),
-            (few_writes_for_a_file, program, folder, args.lines),
+            (few_writes_for_a_file, program, folder, args.lines // 10),
         ):
             begun = time.monotonic()
             try:

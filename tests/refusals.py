@@ -58,7 +58,7 @@ TESTS = {
     "rt_command": ["tests::a_refused_name_is_told", "tests::refused_settings_are_told"],
 }
 # What they say of a refused growth: of the call, and of what was made before it.
-TOLD, BEFOREHAND = b"told as refused\n", b"refused beforehand\n"
+TOLD, BEFOREHAND = b"told as refused", b"refused beforehand"
 
 ONE, ALL = 1, 2**31
 
@@ -78,13 +78,13 @@ def refused(allocator, command, folder, at, many, stdin=b""):
         return (done.returncode, done.stdout, done.stderr), len(met.read())
 
 
-def each_growth(allocator, command, folder, many, wanted, stdin=b""):
-    """What each run gave in which something was refused, until none is, whose result is compared."""
+def each_growth(allocator, command, folder, many=ONE, stdin=b""):
+    """What each run gave in which something was refused, and then what one gave in which nothing was."""
     found = []
     while True:
         result, met = refused(allocator, command, folder, len(found) + 1, many, stdin)
         if not met:
-            return found, [] if result == wanted else [f"with nothing refused: {result!s:.300}"]
+            return found, result
         found.append(result)
 
 
@@ -92,19 +92,21 @@ def of_program(allocator, program, folder):
     """Each run, how many growths were refused, and what went wrong."""
     for words, stdin, wanted in RUNS:
         for many in (ONE, ALL):
-            found, wrong = each_growth(allocator, [program, *words], folder, many, wanted, stdin)
-            wrong += [f"growth {at}: {result!s:.300}" for at, result in enumerate(found, 1) if result != NO_MEMORY]
-            rest = "" if many == ONE else ", and all after it"
-            yield f"{' '.join(words):.60}{rest}", len(found), wrong
+            found, whole = each_growth(allocator, [program, *words], folder, many, stdin)
+            wrong = [f"growth {at}: {result!s:.300}" for at, result in enumerate(found, 1) if result != NO_MEMORY]
+            if whole != wanted:
+                wrong.append(f"nothing refused: {whole!s:.300}")
+            yield f"{' '.join(words):.60}{', and all after it' * (many == ALL)}", len(found), wrong
 
 
 def of_call(allocator, binary, name, folder):
     """How many growths of a test's call were refused, and what went wrong."""
-    found, wrong = each_growth(allocator, [binary, name], folder, ONE, (0, b"", b""))
-    said = [error for status, _, error in found if status != 0]
-    wrong += [f"growth {at}: {result!s:.300}" for at, result in enumerate(found, 1)
-              if result[0] == 0 or result[2] not in (TOLD, BEFOREHAND)]
-    return said.count(TOLD), wrong
+    found, whole = each_growth(allocator, [binary, name], folder)
+    told = [error.split(b"\n")[0] if status else b"" for status, _, error in found]
+    wrong = [f"growth {at}: {found[at - 1]!s:.300}" for at, text in enumerate(told, 1) if text not in (TOLD, BEFOREHAND)]
+    if whole[0] != 0:
+        wrong.append(f"nothing refused: {whole!s:.300}")
+    return told.count(TOLD), wrong
 
 
 def of_calls(allocator, folder):
