@@ -8,6 +8,7 @@ exit status. The last line is `N passed, M failed`.
 """
 
 import contextlib
+import itertools
 import os
 import resource
 import signal
@@ -211,22 +212,26 @@ def example(program):
     return (0, answers, b""), run(program, ["boxes.csv", "queries.txt"], folder, stdout=subprocess.PIPE)
 
 
-def in_packets(program, folder):
-    """A run whose queries come through a pipe that gives one byte a read, more than 2^16 of them."""
-    queries = b"#\n" * 2**15 + FIND
+def through_pipe(program, words, folder, pieces):
+    """A run whose standard input is a pipe that gives one of these pieces a read, until the run ends."""
     reads, writes = os.pipe2(os.O_DIRECT)
 
     def send():
         with contextlib.suppress(BrokenPipeError), open(writes, "wb", buffering=0) as sink:
-            for at in range(len(queries)):
-                sink.write(queries[at:at + 1])
+            for piece in pieces:
+                sink.write(piece)
 
     sender = threading.Thread(target=send)
     sender.start()
     with open(reads, "rb") as source:
-        found = run(program, ["boxes.csv"], folder, stdin=source, stdout=subprocess.PIPE)
+        found = run(program, words, folder, stdin=source, stdout=subprocess.PIPE)
     sender.join()
     return found
+
+
+def single(text):
+    """The bytes of a text, each a piece."""
+    return (text[at:at + 1] for at in range(len(text)))
 
 
 def in_terminal(program, folder):
@@ -269,7 +274,15 @@ def outcomes(program, folder):
     for words, status in ((["boxes.csv"], 0), (["nowhere.csv"], 3), (["boxes.csv", "nowhere"], 4), (["-x"], 2)):
         found = FOUND if status == 0 else b""
         yield f"closed error, {words}", (status, found, b""), closed(program, words, folder, "2>&-", input=FIND)
-    yield "queries in packets", (0, b"1 0\n2 0\nok 32769 2\n", b""), in_packets(program, folder)
+    yield "closed output and error", (5, b"", b""), closed(program, ["boxes.csv", "queries"], folder, "1>&- 2>&-")
+    # more than 2^16 reads
+    short = through_pipe(program, ["boxes.csv"], folder, single(b"#\n" * 2**15 + FIND))
+    yield "queries in single bytes", (0, b"1 0\n2 0\nok 32769 2\n", b""), short
+    table = through_pipe(program, ["/dev/stdin", "queries"], folder, single(BOXES))
+    yield "a table in single bytes", (0, FOUND, b""), table
+    rows = (b"%d,0,0,0,0\n" % n for n in itertools.count())
+    endless = through_pipe(program, ["--max-entries", "1000", "/dev/stdin", "queries"], folder, rows)
+    yield "a table without an end", (3, b"", b"rtfilter: table record 1001: too many entries\n"), endless
     yield "queries from a terminal", (0, FOUND, b""), in_terminal(program, folder)
 
 
