@@ -8,12 +8,15 @@ exit status. The last line is `N passed, M failed`.
 """
 
 import contextlib
+import itertools
 import os
 import resource
+import signal
 import subprocess
 import sys
 import tempfile
 import threading
+import time
 from pathlib import Path
 
 BOXES = b"1,0,10,0,10\n2,5,15,5,15\n3,20,30,0,10\n4,-5,-1,-5,-1\n5,12,12,12,12\n"
@@ -57,6 +60,7 @@ FILES = {
     LONG_NAME: MANY_BOXES,
     "late.csv": MANY_BOXES + b"1,0,0,0,0\n",
     "lines": MANY_LINES,
+    "letters": b"a" * 50_000_000 + b"\n" + FIND,
 }
 
 NO_MEMORY = b"rtfilter: out of memory\n"
@@ -187,6 +191,20 @@ def least_memory(program, folder):
     return enough * step
 
 
+def endless_line(program, folder, room):
+    """Whether a run whose queries are one line without an end goes on and on in so many bytes of address space, and what
+    it leaves when it is killed."""
+    held = subprocess.Popen(
+        [program, "boxes.csv", "/dev/zero"], cwd=folder, stdout=subprocess.PIPE, stderr=subprocess.PIPE,
+        preexec_fn=lambda: resource.setrlimit(resource.RLIMIT_AS, (room, room)),
+    )
+    time.sleep(1)
+    is_on = held.poll() is None
+    held.kill()
+    output, error = held.communicate()
+    return is_on, output, error, held.returncode
+
+
 def example(program):
     """The run of the examples, with the answers that stand beside them."""
     folder = Path(__file__).parent.parent / "examples"
@@ -194,22 +212,26 @@ def example(program):
     return (0, answers, b""), run(program, ["boxes.csv", "queries.txt"], folder, stdout=subprocess.PIPE)
 
 
-def in_packets(program, folder):
-    """A run whose queries come through a pipe that gives one byte a read, more than 2^16 of them."""
-    queries = b"#\n" * 2**15 + FIND
+def through_pipe(program, words, folder, pieces):
+    """A run whose standard input is a pipe that gives one of these pieces a read, until the run ends."""
     reads, writes = os.pipe2(os.O_DIRECT)
 
     def send():
         with contextlib.suppress(BrokenPipeError), open(writes, "wb", buffering=0) as sink:
-            for at in range(len(queries)):
-                sink.write(queries[at:at + 1])
+            for piece in pieces:
+                sink.write(piece)
 
     sender = threading.Thread(target=send)
     sender.start()
     with open(reads, "rb") as source:
-        found = run(program, ["boxes.csv"], folder, stdin=source, stdout=subprocess.PIPE)
+        found = run(program, words, folder, stdin=source, stdout=subprocess.PIPE)
     sender.join()
     return found
+
+
+def single(text):
+    """The bytes of a text, each a piece."""
+    return (text[at:at + 1] for at in range(len(text)))
 
 
 def in_terminal(program, folder):
@@ -233,12 +255,17 @@ def outcomes(program, folder):
     least = least_memory(program, folder)
     for name, words, room in (
         ("no memory to begin with", ["boxes.csv"], -4 * resource.getpagesize()),
-        ("no memory for table and queries", [LONG_NAME, "lines"], 1_000_000),
+        ("no memory for the table beside a file of queries", [LONG_NAME, "lines"], 1_000_000),
         ("no memory for a record", ["/dev/zero"], 10_000_000),
-        ("no memory for the queries", ["boxes.csv", "/dev/zero"], 10_000_000),
         *((f"no memory for the table in {room} bytes", [LONG_NAME], room) for room in range(0, 20_000_001, 2_500_000)),
     ):
         yield name, (6, b"", NO_MEMORY), little_memory(program, words, folder, least + room)
+    for name, words, output in (
+        ("no more memory for many lines", ["boxes.csv", "lines"], b"1 0\n3 0\nok 6000001 2\n"),
+        ("no more memory for a long line", ["boxes.csv", "letters"], b"error 1 Q1 line too long\n1 0\n2 0\nok 2 2\n"),
+    ):
+        yield name, (int(b"error" in output), output, b""), little_memory(program, words, folder, least)
+    yield "no more memory for a line without an end", (True, b"", b"", -signal.SIGKILL), endless_line(program, folder, least)
     yield "a closed pipe", (5, None, CANNOT_WRITE), closed_pipe(program, folder)
     yield "a full device", (5, None, CANNOT_WRITE), full_device(program, ["boxes.csv", "queries"], folder)
     yield "help to a full device", (5, None, CANNOT_WRITE), full_device(program, ["--help"], folder)
@@ -247,7 +274,15 @@ def outcomes(program, folder):
     for words, status in ((["boxes.csv"], 0), (["nowhere.csv"], 3), (["boxes.csv", "nowhere"], 4), (["-x"], 2)):
         found = FOUND if status == 0 else b""
         yield f"closed error, {words}", (status, found, b""), closed(program, words, folder, "2>&-", input=FIND)
-    yield "queries in packets", (0, b"1 0\n2 0\nok 32769 2\n", b""), in_packets(program, folder)
+    yield "closed output and error", (5, b"", b""), closed(program, ["boxes.csv", "queries"], folder, "1>&- 2>&-")
+    # more than 2^16 reads
+    short = through_pipe(program, ["boxes.csv"], folder, single(b"#\n" * 2**15 + FIND))
+    yield "queries in single bytes", (0, b"1 0\n2 0\nok 32769 2\n", b""), short
+    table = through_pipe(program, ["/dev/stdin", "queries"], folder, single(BOXES))
+    yield "a table in single bytes", (0, FOUND, b""), table
+    rows = (b"%d,0,0,0,0\n" % n for n in itertools.count())
+    endless = through_pipe(program, ["--max-entries", "1000", "/dev/stdin", "queries"], folder, rows)
+    yield "a table without an end", (3, b"", b"rtfilter: table record 1001: too many entries\n"), endless
     yield "queries from a terminal", (0, FOUND, b""), in_terminal(program, folder)
 
 

@@ -9,6 +9,7 @@ use rt_geo::{All, Bounds, ById, Counted, Entry, Geometry, Guided, Inside, Near, 
 use rt_tree::{Table, Tree};
 use std::alloc::Global;
 use std::process::Abort;
+use std::test::Fail;
 use uneven::Uneven;
 use watched::Watched;
 
@@ -333,4 +334,18 @@ fn nodes_are_opened_by_score_and_number(rt: HostRuntime) {
     // root; e, b; d, a; never c
     let want = [30, 15, 15, 15, 12, 10, 30, -1, 10, 0];
     assert_eq!(rt; by_distance.shown(), want);
+}
+
+// Where an allocator refuses one growth, as tests/refusals.py has it, this tells so, and else it passes.
+#[test]
+fn a_refused_frontier_is_told(rt: HostRuntime) -> Result<(), Fail> {
+    for capacity in [0, 1, 5, 100_000] {
+        let Ok(frontier) = Frontier::new(rt.alloc(), capacity) else {
+            assert!(rt; Frontier::new(rt.alloc(), capacity).is_ok());
+            return Err(Fail::new("told as refused"));
+        };
+        assert_eq!(rt; frontier.capacity(), capacity);
+        assert!(rt; frontier.is_empty());
+    }
+    Ok(())
 }

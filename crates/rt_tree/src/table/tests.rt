@@ -1,6 +1,7 @@
 use super::{EntriesFault, PushFault, Table};
 use rt_geo::{Bounds, Entry};
 use std::alloc::Global;
+use std::test::Fail;
 
 // Tables, in the order pushed: that of the examples, and one with ids in no order.
 static TABLES: [[(i64, [i32; 4]); 5]; 2] = [
@@ -133,4 +134,53 @@ fn entries_are_pushed_after_others_at_once(rt: HostRuntime) {
     for (entry, id) in table.entries().iter().zip(&[5, -3, 8, 6, -4]) {
         assert_eq!(rt; entry.id, *id);
     }
+}
+
+// Where an allocator refuses one growth, as tests/refusals.py has it, this tells so, and else it passes.
+#[test]
+fn a_refused_push_changes_nothing(rt: HostRuntime) -> Result<(), Fail> {
+    let mut table = Table::empty(rt.alloc());
+    let mut is_refused = false;
+    for id in 0..100 {
+        let mut pushed = push(&mut table, id, [0; 4]);
+        if pushed == Some(Err(PushFault::Memory)) {
+            is_refused = true;
+            assert_eq!(rt; i64::from(table.len()), id);
+            for (entry, before) in table.entries().iter().zip(0..100) {
+                assert_eq!(rt; entry.id, before);
+            }
+            pushed = push(&mut table, id, [0; 4]);
+        }
+        assert_eq!(rt; pushed, Some(Ok(())));
+        assert_eq!(rt;
+            push(&mut table, id, [0; 4]),
+            Some(Err(PushFault::Repeated))
+        );
+    }
+    assert_eq!(rt; table.len(), 100);
+    if is_refused {
+        return Err(Fail::new("told as refused"));
+    }
+    Ok(())
+}
+
+// The same of entries at once, in the order of their ids and in none.
+#[test]
+fn refused_entries_at_once_are_told(rt: HostRuntime) -> Result<(), Fail> {
+    for (ids, repeat) in &LOADED {
+        let Some(made) = loaded(rt.alloc(), ids) else {
+            return Err(Fail::new("refused beforehand"));
+        };
+        let told = match made {
+            Ok(_) => None,
+            Err(EntriesFault::Repeated { place }) => Some(place),
+            Err(EntriesFault::Memory) => {
+                let again = loaded(rt.alloc(), ids).expect(&rt, "there is memory again");
+                assert_eq!(rt; again.is_err(), (*repeat).is_some());
+                return Err(Fail::new("told as refused"));
+            }
+        };
+        assert_eq!(rt; told, *repeat);
+    }
+    Ok(())
 }

@@ -2,6 +2,7 @@ use super::{Node, Tree};
 use crate::table::Table;
 use rt_geo::{Bounds, Entry, hull};
 use std::alloc::Global;
+use std::test::Fail;
 
 type Sides = [i32; 4];
 
@@ -207,4 +208,21 @@ fn each_node_is_true_of_its_children(rt: HostRuntime) {
             }
         }
     }
+}
+
+// Where an allocator refuses one growth, as tests/refusals.py has it, this tells so, and else it passes.
+#[test]
+fn a_refused_packing_is_told(rt: HostRuntime) -> Result<(), Fail> {
+    for fanout in [2, 16] {
+        let Some(table) = strewn(rt.alloc(), 100) else {
+            return Err(Fail::new("refused beforehand"));
+        };
+        let Ok(tree) = Tree::pack(rt.alloc(), table, fanout) else {
+            let table = strewn(rt.alloc(), 100).expect(&rt, "there is memory again");
+            assert!(rt; Tree::pack(rt.alloc(), table, fanout).is_ok());
+            return Err(Fail::new("told as refused"));
+        };
+        assert_eq!(rt; tree.len(), 100);
+    }
+    Ok(())
 }

@@ -1,0 +1,234 @@
+#!/usr/bin/env python3
+"""Refuses memory, reads and writes: each call of a run in turn, counting upwards until a run meets no refusal.
+
+usage: tests/refusals.py PROGRAM
+
+Whichever growth of memory is refused, and whether those after it are too, the program ends in status 6 with nothing on
+standard output. A refused read is one of the table or a pull, a refused write leaves a front of the answers.
+
+Single calls are tests of the crates, which `rt ci` and `rt test` leave in out/: where a growth of theirs is refused they
+check that it is told as want of memory, that nothing else changed and that the same call then succeeds, and say so. One
+that isn't built is told and not counted. The calls are refused by tests/refuse.c: without a C compiler nothing is run.
+The last line is `N passed, M failed`.
+"""
+
+import collections
+import errno
+import os
+import shutil
+import subprocess
+import sys
+import tempfile
+from pathlib import Path
+
+sys.dont_write_bytecode = True
+import reading
+
+ROOT = Path(__file__).resolve().parent.parent
+EXAMPLES = ROOT / "examples"
+ANSWERS = (EXAMPLES / "answers.txt").read_bytes()
+BOXES = (EXAMPLES / "boxes.csv").read_bytes()
+QUERIES = (EXAMPLES / "queries.txt").read_bytes()
+
+# More boxes than two levels of nodes hold, some of them equal, and more queries than one pull takes.
+MANY = b"".join(b"%d,%d,%d,0,5\n" % (n * 7919 % 1009, n % 50, n % 50 + n % 7) for n in range(1000))
+LINES = [b"count all\n"] * 2000
+REPLIES = [b"ok %d 1000\n" % at for at in range(1, 2001)]
+MOST_PULLED = 4097
+
+FILES = {
+    "boxes.csv": BOXES,
+    "queries.txt": QUERIES,
+    "header.csv": b"id,minX,maxX,minY,maxY\r\n" + BOXES.replace(b"\n", b"\r\n"),
+    "many.csv": MANY,
+    "lines": b"".join(LINES),
+    "repeated.csv": MANY + b"0,0,0,0,0\n",
+    "wide.csv": b"1" + b",1" * 5000 + b"\n",
+}
+
+# Words, standard input, and what the run gives where nothing is refused.
+RUNS = [
+    (["boxes.csv", "queries.txt"], b"", (0, ANSWERS, b"")),
+    (["-H", "--fanout", "2", "--max-entries", "5", "header.csv"], QUERIES, (0, ANSWERS, b"")),
+    (["--fanout=2", "many.csv"], b"count all\n", (0, b"ok 1 1000\n", b"")),
+    (["./" * 500 + "boxes.csv"], b"x\ncount all", (1, b"error 1 Q2 unknown verb\nok 2 5\n", b"")),
+    (["repeated.csv"], QUERIES, (3, b"", b"rtfilter: table record 1001: repeated id\n")),
+    (["wide.csv"], QUERIES, (3, b"", b"rtfilter: table record 1: wrong number of fields (5001)\n")),
+    (["--fanout", "65", "boxes.csv"], b"", (2, b"", b"rtfilter: bad command line\n")),
+]
+NO_MEMORY = (6, b"", b"rtfilter: out of memory\n")
+NO_TABLE = (3, b"", b"rtfilter: cannot read table\n")
+NO_QUERIES = b"rtfilter: cannot read queries\n"
+NOT_WRITTEN = b"rtfilter: cannot write answers\n"
+
+# The tests of single calls, crate by crate.
+TESTS = {
+    "rt_tree": [
+        "table::tests::a_refused_push_changes_nothing",
+        "table::tests::refused_entries_at_once_are_told",
+        "tree::tests::a_refused_packing_is_told",
+    ],
+    "rt_search": ["tests::a_refused_frontier_is_told"],
+    "rt_command": ["tests::a_refused_name_is_told", "tests::refused_settings_are_told"],
+}
+# What they say of a refused growth: of the call, and of what was made before it.
+TOLD, BEFOREHAND = b"told as refused", b"refused beforehand"
+
+# What is refused, with which error, and how often.
+Refusal = collections.namedtuple("Refusal", ["call", "error", "many"])
+ONCE, FROM_THERE_ON = 1, 2**31
+
+
+class Refuser:
+    """Runs commands in a folder and refuses their calls."""
+
+    def __init__(self, compiler, folder):
+        self.library, self.folder = f"{folder}/refuse.so", folder
+        subprocess.run([compiler, "-O2", "-shared", "-fPIC", "-o", self.library, ROOT / "tests/refuse.c"], check=True)
+
+    def run(self, command, refusal, at, stdin=b""):
+        """Status, standard output and standard error, and how many calls were refused, of which the first is number
+        `at`."""
+        reads, writes = os.pipe()
+        given = {
+            "LD_PRELOAD": self.library,
+            "REFUSE": refusal.call,
+            "REFUSE_AS": str(refusal.error),
+            "REFUSE_AT": str(at),
+            "REFUSE_MANY": str(refusal.many),
+            "REFUSE_TO": str(writes),
+        }
+        with open(reads, "rb") as met:
+            try:
+                done = subprocess.run(
+                    command, cwd=self.folder, env={**os.environ, **given}, input=stdin, capture_output=True,
+                    pass_fds=[writes], timeout=60,
+                )
+            finally:
+                os.close(writes)
+            return (done.returncode, done.stdout, done.stderr), len(met.read())
+
+    def each(self, command, refusal, stdin=b""):
+        """What each run gave in which something was refused, and then what one gave in which nothing was."""
+        found = []
+        while True:
+            result, met = self.run(command, refusal, len(found) + 1, stdin)
+            if not met:
+                return found, result
+            found.append(result)
+
+
+def differences(found, wanted):
+    """Which results aren't among those that are wanted of them."""
+    wrong = [f"{len(found)} runs, and not {len(wanted)}"] if len(found) != len(wanted) else []
+    for at, (result, allowed) in enumerate(zip(found, wanted), 1):
+        if result not in allowed:
+            wrong.append(f"run {at}: {result!s:.300}")
+    return wrong
+
+
+def memory(refuser, program):
+    for words, stdin, wanted in RUNS:
+        for many in (ONCE, FROM_THERE_ON):
+            found, whole = refuser.each([program, *words], Refusal("memory", errno.ENOMEM, many), stdin)
+            wrong = differences([*found, whole], [[NO_MEMORY]] * len(found) + [[wanted]])
+            yield f"memory, {' '.join(words):.50}{', and all after it' * (many > 1)}", len(found), wrong
+
+
+def fronts():
+    """The replies that are made before each pull, and at the end."""
+    made, held, left = 0, 0, b"".join(LINES)
+    yield b""
+    while left:
+        size = min(MOST_PULLED - held, len(left))
+        lines = left[:size].count(b"\n")
+        held = size + held - lines * len(LINES[0])
+        made, left = made + lines, left[size:]
+        yield b"".join(REPLIES[:made])
+
+
+def devices(refuser, program):
+    """Reads and writes that fail or that a signal interrupts. The first reads are those of the table."""
+    command, parts = [program, "many.csv", "lines"], list(fronts())
+    answered = 0, parts[-1], b""
+    for error in (errno.EIO, errno.EINTR):
+        for many in (ONCE, FROM_THERE_ON):
+            found, whole = refuser.each(command, Refusal("read", error, many))
+            pulls = [[(4, part, NO_QUERIES)] for part in parts]
+            wrong = differences([*found, whole], [[NO_TABLE]] * (len(found) - len(pulls)) + pulls + [[answered]])
+            if [NO_TABLE] * 3 != found[:3]:
+                wrong.append("the table isn't read")
+            yield f"reads, {os.strerror(error)}{', and all after it' * (many > 1)}", len(found), wrong
+    # what is left in the buffer may be written when it is given up, where that can be
+    once = [[(5, part, NOT_WRITTEN), (5, more, NOT_WRITTEN)] for part, more in zip(parts, parts[1:])]
+    none = [[(5, part, b"")] for part in parts[:-1]]
+    for name, error, many, wanted in (
+        ("writes", errno.EIO, ONCE, once),
+        ("writes, and all after it", errno.EIO, FROM_THERE_ON, none),
+        ("writes that are interrupted", errno.EINTR, ONCE, [[answered]] * len(once)),
+    ):
+        found, whole = refuser.each(command, Refusal("write", error, many))
+        yield name, len(found), differences([*found, whole], [*wanted, [answered]])
+
+
+def long_answers(refuser, program):
+    """Writes that fail or are interrupted where one reply is more than the buffer of standard output holds."""
+    asked = b"find all\n" * 3
+    answered = reading.expected(MANY, asked)
+    for name, error in (("writes", errno.EIO), ("writes that are interrupted", errno.EINTR)):
+        found, whole = refuser.each([program, "many.csv"], Refusal("write", error, ONCE), asked)
+        wrong = []
+        for at, (status, output, told) in enumerate([*found, whole], 1):
+            is_lost = at <= len(found) and error == errno.EIO
+            is_front = answered[1].startswith(output) and (status, told) == (5, NOT_WRITTEN)
+            if not (is_front if is_lost else (status, output, told) == answered):
+                wrong.append(f"run {at}: {status}, {len(output)} bytes, {told}")
+        yield f"{name}, long answers", len(found), wrong
+
+
+def calls(refuser):
+    """The tests of the crates."""
+    for crate, names in TESTS.items():
+        binary = ROOT / "crates" / crate / "out" / f"{crate}_tests"
+        if not binary.exists():
+            print(f"the tests of {crate} aren't built: {len(names)} not run")
+            continue
+        for name in names:
+            found, whole = refuser.each([str(binary), name], Refusal("memory", errno.ENOMEM, ONCE))
+            said = [error.split(b"\n")[0] if status else b"" for status, _, error in found]
+            wrong = differences([*said, whole[0]], [[TOLD, BEFOREHAND]] * len(said) + [[0]])
+            yield f"{crate}, {name}", said.count(TOLD), wrong
+
+
+def outcomes(refuser, program):
+    yield from memory(refuser, program)
+    yield from devices(refuser, program)
+    yield from long_answers(refuser, program)
+    yield from calls(refuser)
+
+
+def main():
+    program = str(Path(sys.argv[1]).resolve())
+    compiler = shutil.which(os.environ.get("CC", "cc"))
+    if compiler is None:
+        print("no C compiler: nothing was refused\n0 passed, 0 failed")
+        return 0
+    passed = failed = 0
+    with tempfile.TemporaryDirectory() as folder:
+        for name, content in FILES.items():
+            Path(folder, name).write_bytes(content)
+        for name, count, wrong in outcomes(Refuser(compiler, folder), program):
+            if count == 0:
+                wrong = [*wrong, "nothing was refused"]
+            if wrong:
+                failed += 1
+                print(f"FAIL {name}", *wrong[:5], sep="\n  ")
+            else:
+                passed += 1
+                print(f"{name}: refused in {count} runs")
+    print(f"{passed} passed, {failed} failed")
+    return int(failed > 0)
+
+
+if __name__ == "__main__":
+    sys.exit(main())

@@ -1,0 +1,70 @@
+/* Calls that fail, for tests/refusals.py, which loads this before the C library.
+ *
+ * REFUSE names the calls: memory (malloc and realloc), read or write. Those of the program are counted from 1, and
+ * REFUSE_MANY of them, from number REFUSE_AT on, fail with the error REFUSE_AS. Each of these writes one byte to the
+ * descriptor REFUSE_TO. All others are those of the C library (glibc).
+ */
+
+#include <errno.h>
+#include <stddef.h>
+#include <stdlib.h>
+#include <string.h>
+#include <sys/types.h>
+#include <sys/syscall.h>
+#include <unistd.h>
+
+void *__libc_malloc(size_t size);
+void *__libc_realloc(void *old, size_t size);
+
+static const char *refused = "";
+static long first, many, calls;
+static int error, to;
+
+static long number(const char *name)
+{
+    const char *text = getenv(name);
+    return text ? atol(text) : 0;
+}
+
+/* What is called before this, and with it before main, isn't counted. */
+__attribute__((constructor)) static void begin(void)
+{
+    first = number("REFUSE_AT");
+    many = number("REFUSE_MANY");
+    error = (int)number("REFUSE_AS");
+    to = (int)number("REFUSE_TO");
+    refused = getenv("REFUSE") ? getenv("REFUSE") : "";
+}
+
+static int is_refused(const char *call)
+{
+    if (strcmp(call, refused) != 0)
+        return 0;
+    calls++;
+    if (calls < first || calls - first >= many)
+        return 0;
+    if (syscall(SYS_write, to, "r", (size_t)1) != 1)
+        abort();
+    errno = error;
+    return 1;
+}
+
+void *malloc(size_t size)
+{
+    return is_refused("memory") ? NULL : __libc_malloc(size);
+}
+
+void *realloc(void *old, size_t size)
+{
+    return is_refused("memory") ? NULL : __libc_realloc(old, size);
+}
+
+ssize_t read(int from, void *bytes, size_t size)
+{
+    return is_refused("read") ? -1 : syscall(SYS_read, from, bytes, size);
+}
+
+ssize_t write(int into, const void *bytes, size_t size)
+{
+    return is_refused("write") ? -1 : syscall(SYS_write, into, bytes, size);
+}

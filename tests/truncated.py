@@ -1,0 +1,81 @@
+#!/usr/bin/env python3
+"""Cuts tables off behind each of their bytes, and compares what the program makes of each front with `reading`.
+
+usage: tests/truncated.py PROGRAM
+
+Each table is a test, of two runs for each front: its first record is a header or not. Fronts that load, and fronts that
+don't, have to be met in each. The last line is `N passed, M failed`.
+"""
+
+import subprocess
+import sys
+import tempfile
+from pathlib import Path
+
+sys.dont_write_bytecode = True
+import reading
+
+QUERIES = b"find all\nlevels"
+MARK = reading.MARK
+
+TABLES = {
+    "plain": b"1,0,10,0,10\n2,5,15,5,15\n-3,-20,+30,0,0010\n4,-5,-1,-5,-1\n",
+    "carriage returns and line feeds": b"id,minX,maxX,minY,maxY\r\n1,0,10,0,10\r\n2,5,15,5,15\r\n",
+    "carriage returns alone": b"1,0,10,0,10\r2,5,15,5,15\r",
+    "empty lines": b"\n\r\n1,0,10,0,10\n\n\r\r\n2,5,15,5,15\n\n",
+    "quotes": b'"1","0","10","0","10"\n2,"5",15,"5",15\r\n"3",2"0,3"0",0,1"0"\n',
+    "what quotes hold": b'"id ""1""","min,X","max\r\nX",minY,"max\nY"\r\n1,0,10,0,10\n"2","5","15","5""",15\n',
+    "text behind quotes": b'"1"2,0,10,0,10\n"1""2",0,10,0,10\n',
+    "quotes that are left open": b'1,0,10,0,10\n"2,5,15,5,15\n3,5,15,5,15\n',
+    "a mark": MARK + b"1,0,10,0,10\n2,5,15,5,15",
+    "a mark before a header": MARK + b'"id",minX,maxX,minY,maxY\r\n"1",0,10,0,10\r\n',
+    "two marks": MARK + MARK + b"1,0,10,0,10\n",
+    "a mark behind a line": b"1,0,10,0,10\n" + MARK + b"2,5,15,5,15\n",
+    "faults": b"1,0,10,0,10\n2,7,5,0,99999999999,x\n",
+    "a minimum above a maximum, for a while": b"1,50,60,50,60\n2,5,15,-7,-1\n",
+    "ids again": b"12,0,10,0,10\n123,0,10,0,10\n12,5,15,5,15\n",
+    "great numbers": b"-9223372036854775808,-2147483648,2147483647,0,2147483648\n",
+    "one field": b" \n\"\"\n",
+}
+
+
+def run(program, folder, words):
+    done = subprocess.run([program, *words, "table"], cwd=folder, input=QUERIES, capture_output=True, timeout=60)
+    return done.returncode, done.stdout, done.stderr
+
+
+def differences(program, folder, table):
+    """Which fronts aren't as they are read, and the statuses of all."""
+    wrong, statuses = [], set()
+    for size in range(len(table) + 1):
+        Path(folder, "table").write_bytes(table[:size])
+        for header in (False, True):
+            wanted = reading.expected(table[:size], QUERIES, header)
+            found = run(program, folder, ["--header"] * header)
+            statuses.add(wanted[0])
+            if found != wanted:
+                wrong.append(f"{size} bytes, header {header}\n  expected {wanted}\n  found    {found}")
+    return wrong, statuses
+
+
+def main():
+    program = str(Path(sys.argv[1]).resolve())
+    passed = failed = runs = 0
+    with tempfile.TemporaryDirectory() as folder:
+        for name, table in TABLES.items():
+            wrong, statuses = differences(program, folder, table)
+            runs += 2 * (len(table) + 1)
+            if statuses != {0, 3}:
+                wrong.append(f"the only statuses were {statuses}")
+            if wrong:
+                failed += 1
+                print(f"FAIL {name}: {wrong[0]}")
+            else:
+                passed += 1
+    print(f"{runs} fronts of {len(TABLES)} tables")
+    print(f"{passed} passed, {failed} failed")
+    return int(failed > 0)
+
+
+if __name__ == "__main__":
+    sys.exit(main())
