@@ -84,7 +84,7 @@ class Refuser:
 
     def __init__(self, compiler, folder):
         self.library, self.folder = f"{folder}/refuse.so", folder
-        subprocess.run([compiler, "-O2", "-shared", "-fPIC", "-o", self.library, ROOT / "tests/refuse.c"], check=True)
+        subprocess.run([compiler, "-O", "-shared", "-fPIC", "-o", self.library, ROOT / "tests/refuse.c"], check=True)
 
     def run(self, command, refusal, at, stdin=b""):
         """Status, standard output and standard error, and how many calls were refused, of which the first is number

@@ -282,6 +282,10 @@ fn most_entries(rt: HostRuntime) {
             Some(wanted)
         );
     }
+}
+
+#[test]
+fn most_entries_of_repeated_ids_and_of_a_header(rt: HostRuntime) {
     let text = b"1,0,0,0,0\n1,0,0,0,0\n2,0,0,0,0\n";
     for (max, wanted) in [
         (1, TableFault::TooMany { number: 2 }),
