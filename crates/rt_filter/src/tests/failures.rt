@@ -84,6 +84,7 @@ fn tells_failed_pushes(rt: HostRuntime) -> Result<(), Fail> {
             push_fails: Some(fails),
             ..PLAIN
         };
+        assert!(&rt; end <= FOUND.len());
         given.expect(&rt, BOXES, FIND, &FOUND[..end], 5, write)?;
     }
     // A write fault stands before a faulty line.

@@ -1,5 +1,7 @@
 //! When a run pulls, pushes and flushes.
 
+ghost use Rattle.std.specs.Prelude.{◌≡◌};
+
 use super::{BOXES, FIND, FOUND, Given, PLAIN};
 use crate::{ReadFault, RunFault, Settings, Sink, Source, WriteFault, run};
 use std::cell::Cell;
