@@ -24,11 +24,17 @@ SOURCE = re.compile(r"<!--(?: from (?P<path>\S+))?(?: as (?P<file>\S+))? -->")
 MODULES = re.compile(r"(//!.*|#!\[tactic\(auto\)\]|mod \w+;|pub use \w+::\w+;|pub mod \w+|)")
 PROVED_LANGUAGES = ("rust", "rattle", "antt")
 
-# What a reader's crate writes, and what the crate of this repository writes in its place.
-OWN_NAMES = [
-    ("use rt_geo::", "use crate::"),
-    ("Rattle.my_geometry.specs.", "Rattle.rt_geo.specs.Examples."),
-]
+# What a reader's crate writes, and what the crate of this repository that holds the code writes in its place.
+OWN_NAMES = {
+    "rt_geo": [
+        ("use rt_geo::", "use crate::"),
+        ("Rattle.my_geometry.specs.", "Rattle.rt_geo.specs.Examples."),
+    ],
+    "rt_search": [
+        ("use crate::Uneven;", "use super::uneven::Uneven;"),
+        ("use rt_search::", "use crate::"),
+    ],
+}
 
 
 class Block:
@@ -59,8 +65,8 @@ def blocks_of(page):
 def as_held(block):
     """The lines of a block as this repository has them."""
     lines = block.lines
-    if block.file is not None:
-        for own, held in OWN_NAMES:
+    if block.file is not None and block.path is not None:
+        for own, held in OWN_NAMES.get(block.path.split("/")[1], []):
             lines = [line.replace(own, held) for line in lines]
     return lines
 

@@ -1,11 +1,11 @@
 #!/usr/bin/env python3
-"""Draws the pictures of docs/query-language.md: docs/pictures/*.svg.
+"""Draws the pictures of docs/query-language.md and of docs/DESIGN.md: docs/pictures/*.svg.
 
 usage: docs/pictures.py [--check]
 
 The railroad diagrams are made from the grammar block of the page. Which boxes of a picture a region accepts is worked
-out by `tests/reading.py`. With `--check` nothing is written, and each picture that isn't up to date is a failure; the
-last line is then `N passed, M failed`.
+out by `tests/reading.py`, and how points are packed by `tests/packing.py`. With `--check` nothing is written, and each
+picture that isn't up to date is a failure; the last line is then `N passed, M failed`.
 """
 
 import re
@@ -20,6 +20,7 @@ PICTURES = ROOT / "docs/pictures"
 
 sys.dont_write_bytecode = True
 sys.path.insert(0, str(ROOT / "tests"))
+import packing
 import reading
 
 # Colours that can be told from a white page and from a dark one. All text but labels stands on a filled shape.
@@ -231,7 +232,7 @@ class Scene:
 
     def box(self, box, look):
         (x1, y1), (x2, y2) = self.place(box[0], box[3]), self.place(box[1], box[2])
-        return f'<rect x="{x1}" y="{y1}" width="{x2 - x1}" height="{y2 - y1}" rx="1" {look}/>'
+        return f'<rect x="{x1:g}" y="{y1:g}" width="{x2 - x1:g}" height="{y2 - y1:g}" rx="1" {look}/>'
 
     def line(self, start, end, look):
         (x1, y1), (x2, y2) = self.place(*start), self.place(*end)
@@ -338,12 +339,32 @@ def example():
     return scene.picture("The five boxes of examples/boxes.csv", parts)
 
 
+def packed_points():
+    """The picture of a packed tree: points that lie closer in the middle, and the boxes of the nodes over them."""
+    scene, chance = Scene(-1, 61, -1, 41), packing.Chance()
+    table = []
+    for id in range(300):
+        x, y = (sum(chance.below(end * 10) for _ in range(3)) // 3 for end in (60, 40))
+        table.append((id, (x, x, y, y)))
+    _, nodes, levels = packing.packed(table, 8)
+    parts = []
+    for (left, right, bottom, top), level, *_ in nodes:
+        if level < 3:
+            parts.append(scene.box((left / 10, right / 10, bottom / 10, top / 10), AREA if level == 1 else NO))
+    for _, (x, _, y, _) in table:
+        x, y = scene.place(x / 10, y / 10)
+        parts.append(f'<circle cx="{x:g}" cy="{y:g}" r="2" fill="{ACCEPTED}"/>')
+    title = f"{levels[0]} points in {levels[1]} nodes, drawn solid, and {levels[2]} above them, dashed"
+    return scene.picture(title, parts)
+
+
 # ---- all of them
 
 
 def pictures():
     """Each picture by the name of its file."""
     yield "boxes.svg", example()
+    yield "packed.svg", packed_points()
     for name, tokens in grammar().items():
         yield f"grammar-{name}.svg", diagram(name, choice(tokens))
     for name in SCENES:

@@ -192,8 +192,8 @@ def least_memory(program, folder):
 
 
 def endless_line(program, folder, room):
-    """Whether a run whose queries are one line without an end goes on and on in so many bytes of address space, and what
-    it leaves when it is killed."""
+    """Whether a run goes on in so many bytes of address space whose queries are one line without an end, and what it
+    leaves when it is killed."""
     held = subprocess.Popen(
         [program, "boxes.csv", "/dev/zero"], cwd=folder, stdout=subprocess.PIPE, stderr=subprocess.PIPE,
         preexec_fn=lambda: resource.setrlimit(resource.RLIMIT_AS, (room, room)),
@@ -265,7 +265,8 @@ def outcomes(program, folder):
         ("no more memory for a long line", ["boxes.csv", "letters"], b"error 1 Q1 line too long\n1 0\n2 0\nok 2 2\n"),
     ):
         yield name, (int(b"error" in output), output, b""), little_memory(program, words, folder, least)
-    yield "no more memory for a line without an end", (True, b"", b"", -signal.SIGKILL), endless_line(program, folder, least)
+    endless = True, b"", b"", -signal.SIGKILL
+    yield "no more memory for a line without an end", endless, endless_line(program, folder, least)
     yield "a closed pipe", (5, None, CANNOT_WRITE), closed_pipe(program, folder)
     yield "a full device", (5, None, CANNOT_WRITE), full_device(program, ["boxes.csv", "queries"], folder)
     yield "help to a full device", (5, None, CANNOT_WRITE), full_device(program, ["--help"], folder)

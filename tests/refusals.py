@@ -4,17 +4,19 @@
 usage: tests/refusals.py PROGRAM
 
 Whichever growth of memory is refused, and whether those after it are too, the program ends in status 6 with nothing on
-standard output. A refused read is one of the table or a pull, a refused write leaves a front of the answers.
+standard output; once the table is loaded there is none. A refused read is one of the table or a pull, a refused write
+leaves a front of the answers.
 
-Single calls are tests of the crates, which `rt ci` and `rt test` leave in out/: where a growth of theirs is refused they
-check that it is told as want of memory, that nothing else changed and that the same call then succeeds, and say so. One
-that isn't built is told and not counted. The calls are refused by tests/refuse.c: without a C compiler nothing is run.
-The last line is `N passed, M failed`.
+Single calls are tests of the crates, which `rt ci` and `rt test` leave in out/: where one of their growths is refused,
+they check that it is told as want of memory, that nothing else changed and that the same call then succeeds, and say
+so. One that isn't built is told and not counted. The calls are refused by tests/refuse.c: without a C compiler nothing
+is run. The last line is `N passed, M failed`.
 """
 
 import collections
 import errno
 import os
+import random
 import shutil
 import subprocess
 import sys
@@ -22,6 +24,7 @@ import tempfile
 from pathlib import Path
 
 sys.dont_write_bytecode = True
+import random_runs
 import reading
 
 ROOT = Path(__file__).resolve().parent.parent
@@ -135,6 +138,20 @@ def memory(refuser, program):
             yield f"memory, {' '.join(words):.50}{', and all after it' * (many > 1)}", len(found), wrong
 
 
+def after_the_load(refuser, program):
+    """A run takes as much memory for many lines of each kind as for none: the next growth is never met."""
+    command, refusal = [program, "--fanout", "2", "boxes.csv"], Refusal("memory", errno.ENOMEM, FROM_THERE_ON)
+    chance = random.Random(1)
+    lines = [random_runs.some_line(chance) for _ in range(500)] + [b"a" * 5000, b"find all near 3 3"]
+    asked = b"\n".join(lines)
+    found, whole = refuser.each(command, refusal)
+    result, met = refuser.run(command, refusal, len(found) + 1, asked)
+    wrong = differences([whole, result], [[(0, b"", b"")], [reading.expected(BOXES, asked, fanout=2)]])
+    if met:
+        wrong.append(f"{met} growths after the load")
+    yield f"no memory for {len(lines)} lines after the load", len(found), wrong
+
+
 def fronts():
     """The replies that are made before each pull, and at the end."""
     made, held, left = 0, 0, b"".join(LINES)
@@ -202,6 +219,7 @@ def calls(refuser):
 
 def outcomes(refuser, program):
     yield from memory(refuser, program)
+    yield from after_the_load(refuser, program)
     yield from devices(refuser, program)
     yield from long_answers(refuser, program)
     yield from calls(refuser)

@@ -25,6 +25,7 @@ TABLES = {
     "empty lines": b"\n\r\n1,0,10,0,10\n\n\r\r\n2,5,15,5,15\n\n",
     "quotes": b'"1","0","10","0","10"\n2,"5",15,"5",15\r\n"3",2"0,3"0",0,1"0"\n',
     "what quotes hold": b'"id ""1""","min,X","max\r\nX",minY,"max\nY"\r\n1,0,10,0,10\n"2","5","15","5""",15\n',
+    "quotes in quotes": b'"id""\n1,"" 2",minX\n1,0,10,0,10\n2,5,15,5,"15"",5"\n',
     "text behind quotes": b'"1"2,0,10,0,10\n"1""2",0,10,0,10\n',
     "quotes that are left open": b'1,0,10,0,10\n"2,5,15,5,15\n3,5,15,5,15\n',
     "a mark": MARK + b"1,0,10,0,10\n2,5,15,5,15",

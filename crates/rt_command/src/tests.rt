@@ -1,4 +1,4 @@
-//! Refused memory. Where an allocator refuses one growth, as tests/refusals.py has it, these tell so, and else they pass.
+//! Refused memory. Where an allocator refuses one growth, as tests/refusals.py has it, these tell so; else they pass.
 
 use crate::{ArgFault, Invocation, Name, settings_of};
 use std::alloc::{AllocError, Global};

@@ -15,7 +15,7 @@ use crate::pushing::push_line;
 use rt_device::{Sink, WriteFault};
 use rt_geo::{ById, Counted, Geometry, Guided, Order, Rank, Region, Shape};
 use rt_search::{Frontier, Search, count};
-use rt_text::{answer_line, ok_line};
+use rt_text::{Line, ok_line, set_answer_line};
 use rt_tree::Tree;
 
 /// Pushes a line for each answer, the first so many where there is a limit, and then their number.
@@ -122,8 +122,10 @@ fn push_answers<G: Geometry, K: Sink>(
     ensures fails { OnErr result (K.failed sink.new ≡ K.failed sink.old + 1) }
 {
     let mut found: u64 = 0;
+    let mut text = Line::new(b"");
     while let Some((id, score)) = search.next() {
-        push_line(&answer_line(id, score), sink)?;
+        set_answer_line(&mut text, id, score);
+        push_line(&text, sink)?;
         found += 1;
     }
     Ok(found)

@@ -9,7 +9,8 @@ use Rattle.rt_tree.specs.declared.tree.Node.{Node}
 use Rattle.rt_search.specs.Answers.{accepted, answer_cmp}
 use Rattle.rt_search.specs.Counting.{accepted_under, work_under}
 use Rattle.rt_search.specs.Remaining.{IsOpenable}
-use Rattle.rt_search.specs.Work.{asked_by_count, is_divided, its_children, one_node, opened_by_count, root_verdict, work}
+use Rattle.rt_search.specs.Work.{asked_by_count, is_divided, its_children, one_node, opened_by_count, root_verdict}
+use Rattle.rt_search.specs.Work.{work}
 use Rattle.rt_search.proofs.Answering.{among, among-IsPermutation}
 use Rattle.rt_search.proofs.CountSteps.{length-among}
 use Rattle.rt_search.proofs.OrderedLists.{length-put_all}
@@ -33,7 +34,8 @@ module _ (accepts : Extent → Bool) (score : Extent → ℕ) (verdict : Info �
         → work_under cost verdict t root_verdict (length t.nodes - 1) ≡ work is_divided cost verdict t
     whole_work cost some = (let none = some_nodes t some in rw none refl)
 
-    whole_found : 0 < length t.nodes → accepted_under t accepts (length t.nodes - 1) ≡ length (accepted t.entries accepts)
+    whole_found : 0 < length t.nodes
+        → accepted_under t accepts (length t.nodes - 1) ≡ length (accepted t.entries accepts)
     whole_found some =
         let es = entries_under t (height t) (root_of t) in
         let same = ap length (among-IsPermutation accepts score es t.entries [] (sound.every some)) in

@@ -9,7 +9,8 @@ use Rattle.rt_search.specs.Items.{item_cmp}
 use Rattle.rt_search.specs.Kept.{IsAhead, IsEntry, IsFirstScore, IsHead, IsLeast, IsNode}
 use Rattle.rt_search.specs.Remaining.{put_all}
 use Rattle.rt_search.specs.declared.item.Item.{Item}
-use Rattle.rt_search.proofs.OrderedLists.{IsOrder, length-put, length-put_all, put-put, put_all-all, put_all-put, put_least}
+use Rattle.rt_search.proofs.OrderedLists.{IsOrder, length-put, length-put_all, put-put, put_all-all, put_all-put}
+use Rattle.rt_search.proofs.OrderedLists.{put_least}
 use Rattle.rt_search.proofs.Orders.{item_order, lower_before, node_before}
 
 -- x joins the left list, or the whole

@@ -4,8 +4,8 @@ ghost use Rattle.std.specs.Prelude.{◌≡◌, ◌+◌, ◌-◌, ◌≤◌, ◌<
 ghost use Rattle.rt_geo.specs.Laws.{IsHonest};
 ghost use Rattle.rt_tree.specs.Packed.{IsLeafNode, IsSound, extent_of_node, node_at, root_of};
 ghost use Rattle.rt_search.specs.Answers.{accepted};
-ghost use Rattle.rt_search.specs.Counting.{IsCountable, accepted_under, found_at_entry, found_in_entries, work_at_child};
-ghost use Rattle.rt_search.specs.Counting.{work_under};
+ghost use Rattle.rt_search.specs.Counting.{IsCountable, accepted_under, found_at_entry, found_in_entries};
+ghost use Rattle.rt_search.specs.Counting.{work_at_child, work_under};
 ghost use Rattle.rt_search.specs.Remaining.{IsBelow, IsOpenable};
 ghost use Rattle.rt_search.specs.Work.{asked_by_count, its_children, one_node, opened_by_count};
 

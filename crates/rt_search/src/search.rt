@@ -1,6 +1,6 @@
 //! Best-first search.
 
-ghost use Rattle.std.specs.Prelude.{◌≡◌, ◌≢◌, ◌+◌, ◌≤◌, ◌^◌, [], ◌∷◌, None, Some, IfNone, IfSome, MatchOption, length};
+ghost use Rattle.std.specs.Prelude.{◌≡◌, ◌+◌, ◌≤◌, [], ◌∷◌, None, Some, IfNone, IfSome, MatchOption, length};
 ghost use Rattle.rt_tree.specs.Packed.{node_at, root_of};
 ghost use Rattle.rt_search.specs.Items.{item_at};
 ghost use Rattle.rt_search.specs.declared.item.Place.TheVariants as place;

@@ -1,10 +1,12 @@
 //! Searches and counts over small trees, with answers and numbers that were worked out by hand.
 
+mod example;
 mod random;
 mod uneven;
 mod watched;
 
 use crate::{Count, Frontier, Search, count};
+use example::first_answer;
 use rt_geo::{All, Bounds, ById, Counted, Entry, Geometry, Guided, Inside, Near, Point, Window};
 use rt_tree::{Table, Tree};
 use std::alloc::Global;
@@ -172,6 +174,9 @@ fn a_node_may_score_above_its_children(rt: HostRuntime) {
         asked: 10,
     };
     expect_search(&rt, rt.alloc(), &tree, &Uneven, Some(1), &first);
+    let frontier = Frontier::new(rt.alloc(), tree.len()).expect(&rt, "there is memory");
+    let (answer, opened, _frontier) = first_answer(&tree, frontier);
+    assert_eq!(rt; (answer, opened), (Some((1, 10)), 6));
 }
 
 #[test]

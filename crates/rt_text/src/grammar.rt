@@ -3,7 +3,7 @@
 //! One function for each definition of `specs/Queries.antt`, of the same name: it takes the words that the
 //! definition takes, and answers what it answers.
 
-ghost use Rattle.std.specs.Prelude.{◌≡◌, ◌≤◌, ◌≤ℤ◌, ◌∷◌, IfErr, IfOk, Ok, Err};
+ghost use Rattle.std.specs.Prelude.{◌≡◌, ◌≤◌, ◌≤ℤ◌, ◌∷◌, [], IfErr, IfOk, Ok, Err};
 ghost use Rattle.std.specs.Str.Lines.{strip_carriage_return};
 ghost use Rattle.rt_text.specs.Queries.{Takes, circle, coordinate, count, find, finished, is_comment, limit, natural_word, nearest, number_word, order, point, points, polygon, query, query_of, region, sides, usual_order, vertex_count};
 
@@ -166,9 +166,7 @@ fn limit(words: &mut Words) -> Result<Option<u64>, QueryFault>
 fn region(words: &mut Words) -> Result<Region, QueryFault>
     ensures { Takes (region words.old) result words.new }
 {
-    let Some(name) = words.next() else {
-        return Err(QueryFault::MissingWord);
-    };
+    let name = next_word(words)?;
     if name == b"all".as_slice() {
         Ok(Region::All(All))
     } else if name == b"window".as_slice() {
@@ -223,9 +221,7 @@ fn vertex_count(words: &mut Words) -> Result<usize, QueryFault>
     ensures takes { Takes (vertex_count words.old) result words.new }
     ensures most { IfOk result (λ n. n ≤ MOST_VERTICES) }
 {
-    let Some(word) = words.next() else {
-        return Err(QueryFault::MissingWord);
-    };
+    let word = next_word(words)?;
     match number(word, FEWEST_VERTICES, MOST_VERTICES as i128) {
         Ok(value) => Ok(value.unsigned_abs() as usize),
         Err(NumberFault::NotNumber) => Err(QueryFault::NotNumber),
@@ -271,13 +267,22 @@ fn natural_word(words: &mut Words, high: u64) -> Result<u64, QueryFault>
     Ok(value.unsigned_abs() as u64)
 }
 
+// The next word, which has to be there.
+fn next_word<'a>(words: &mut Words<'a>) -> Result<&'a [u8], QueryFault>
+    ensures word { IfOk result (λ word. words.old ≡ word.now ∷ words.new) }
+    ensures missing { IfErr result (λ cause. (cause ≡ QueryFault.MissingWord) × (words.old ≡ [])) }
+{
+    match words.next() {
+        Some(word) => Ok(word),
+        None => Err(QueryFault::MissingWord),
+    }
+}
+
 fn number_word(words: &mut Words, low: i128, high: i128) -> Result<i128, QueryFault>
     ensures takes { Takes (number_word low high words.old) result words.new }
     ensures within { IfOk result (λ n. (low ≤ℤ n) × (n ≤ℤ high)) }
 {
-    let Some(word) = words.next() else {
-        return Err(QueryFault::MissingWord);
-    };
+    let word = next_word(words)?;
     match number(word, low, high) {
         Ok(value) => Ok(value),
         Err(NumberFault::NotNumber) => Err(QueryFault::NotNumber),

@@ -1,6 +1,6 @@
 //! A short line of text.
 
-ghost use Rattle.std.specs.Prelude.{◌≡◌, ◌+◌, ◌++◌, ◌≤◌, length};
+ghost use Rattle.std.specs.Prelude.{◌≡◌, ◌+◌, ◌++◌, ◌≤◌, [], length};
 
 use arrayvec::ArrayVec;
 use std::marker::Model;
@@ -35,6 +35,13 @@ impl Line {
         };
         line.put(text);
         line
+    }
+
+    /// Gives up its bytes, so that another line can be put together in its place.
+    pub fn clear(&mut self)
+        ensures { self.new ≡ [] }
+    {
+        self.bytes.clear();
     }
 
     /// Puts more bytes at its end.

@@ -1,6 +1,6 @@
 //! The lines that query lines are answered with.
 
-ghost use Rattle.std.specs.Prelude.{◌≡◌, ◌≤◌, length};
+ghost use Rattle.std.specs.Prelude.{◌≡◌, ◌+◌, ◌++◌, ◌≤◌, decimal, length};
 ghost use Rattle.rt_text.specs.ReplyLines.{answer_line, error_line, fault_text, level_line, ok_line};
 
 use crate::line::Line;
@@ -11,11 +11,32 @@ use itoa::Buffer;
 pub fn answer_line(id: i64, score: u128) -> Line
     ensures { result ≡ answer_line id score }
 {
-    let mut text = Line::new(Buffer::new().format(id).as_bytes());
-    text.put(b" ");
-    text.put(Buffer::new().format(score).as_bytes());
-    text.put(b"\n");
+    let mut text = Line::new(b"");
+    set_answer_line(&mut text, id, score);
     text
+}
+
+/// The same in the place of another line, so that a line for each of many answers is put together where it is read.
+pub fn set_answer_line(text: &mut Line, id: i64, score: u128)
+    ensures { text.new ≡ answer_line id score }
+{
+    text.clear();
+    text.put(Buffer::new().format(id).as_bytes());
+    text.put(b" ");
+    put_number(text, score);
+    text.put(b"\n");
+}
+
+// Puts a number there. One that fits 64 bits is written faster.
+fn put_number(text: &mut Line, number: u128)
+    requires { length text.old ≤ 64 }
+    ensures value { text.new ≡ text.old ++ decimal number }
+    ensures few { length text.new ≤ length text.old + 40 }
+{
+    match u64::try_from(number) {
+        Ok(short) => text.put(Buffer::new().format(short).as_bytes()),
+        Err(_) => text.put(Buffer::new().format(number).as_bytes()),
+    }
 }
 
 /// The line that ends a reply: the number of the query line, and a count.

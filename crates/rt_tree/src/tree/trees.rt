@@ -6,7 +6,7 @@ use crate::table::Table;
 use rt_geo::{Bounds, Entry};
 use std::alloc::Global;
 
-// How the boxes of a table lie, and what their ids are.
+// How the boxes of a table lie, and what ids they have.
 #[derive(Clone, Copy, Debug, PartialEq, Eq)]
 enum Kind {
     // Small boxes, with ids in no order.

@@ -7,7 +7,7 @@ use Rattle.rt_filter.proofs.finding.push_answers.Goals as goal
 
 pub returns-in_err-push_line-clause-cut : goal.returns-in_err-push_line-clause-cut
 returns-in_err-push_line-clause-cut g c =
-    let line : c.answer_line.result ≡ answer_line c.in-Some.id c.in-Some.score = search rules in
+    let line : c.set_answer_line.new.text ≡ answer_line c.in-Some.id c.in-Some.score = search rules in
     at_error c.from_residual.result (answer_cut (answer_lines c.args.search.now.to_come) (g.K.Sink.written c.args.sink.now) (g.K.Sink.written c.loop-id.sink) (g.K.Sink.written c.push_line.new.sink)
     c.in-Some.id c.in-Some.score c.loop-id.search.to_come c.next.new.self.to_come
     c.in-Some.ensures.answer c.loop-id.invariant.pushed (rw line at c.in_err-push_line.ensures.cut))

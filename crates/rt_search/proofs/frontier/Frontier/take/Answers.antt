@@ -2,19 +2,21 @@ use Rattle.std.proofs.Common.{◌≡◌, [], ◌∷◌, ◌∙◌, ap, subst}
 use Rattle.std.specs.Prelude.{MatchOption}
 use Rattle.rt_search.specs.Items.{item_cmp}
 use Rattle.rt_search.specs.Remaining.{put_all}
-use Rattle.rt_search.proofs.Merging.{fewer_left, fewer_right, least_left, least_right, left_left, left_right, taken_left, taken_right}
+use Rattle.rt_search.proofs.Merging.{fewer_left, fewer_right, least_left, least_right, left_left, left_right}
+use Rattle.rt_search.proofs.Merging.{taken_left, taken_right}
 use Rattle.rt_search.proofs.frontier.Frontier.take.Goals as goal
 
 pub invariant_of-self : goal.invariant_of-self
 invariant_of-self c =
     let e = c.take.ensures in
     let k = c.self.invariant in
+    let left = c.self.inside.nodes.items in
+    let right = c.self.inside.found.items in
     record {
       first_room = e.capacity ∙ k.first_room;
       second_room = k.second_room;
       few =
-          fewer_left c.take.result c.self.inside.nodes.items c.take.new.self.items c.self.inside.found.items _ e.items e.none
-          k.few;
+          fewer_left c.take.result left c.take.new.self.items right _ e.items e.none k.few;
       narrow = k.narrow;
     }
 
@@ -22,47 +24,52 @@ pub invariant_of-self-2 : goal.invariant_of-self-2
 invariant_of-self-2 c =
     let e = c.take-2.ensures in
     let k = c.self.invariant in
+    let left = c.self.inside.nodes.items in
+    let right = c.self.inside.found.items in
     record {
       first_room = k.first_room;
       second_room = e.capacity ∙ k.second_room;
       few =
-          fewer_right c.take-2.result c.self.inside.nodes.items c.self.inside.found.items c.take-2.new.self.items _ e.items e.none
-          k.few;
+          fewer_right c.take-2.result left right c.take-2.new.self.items _ e.items e.none k.few;
       narrow = k.narrow;
     }
 
 pub returns-then-is_node_next-clause-items : goal.returns-then-is_node_next-clause-items
 returns-then-is_node_next-clause-items c =
+    let left = c.self.inside.nodes.items in
+    let right = c.self.inside.found.items in
+    let new = c.take.new.self.items in
     let e = c.take.ensures in
-    subst (λ l. MatchOption c.take.result (l ≡ []) (λ x. l ≡ x ∷ put_all item_cmp c.take.new.self.items c.self.inside.found.items))
+    subst (λ l. MatchOption c.take.result (l ≡ []) (λ x. l ≡ x ∷ put_all item_cmp new right))
     (ap (λ w. w.items) c.self.view_is)
-    (taken_left c.take.result c.self.inside.nodes.items c.take.new.self.items c.self.inside.found.items e.items e.least c.if-is_node_next.ensures)
+    (taken_left c.take.result left new right e.items e.least c.if-is_node_next.ensures)
 
 pub returns-then-is_node_next-clause-least : goal.returns-then-is_node_next-clause-least
 returns-then-is_node_next-clause-least c =
     let e = c.take.ensures in
-    least_left c.take.result c.self.inside.nodes.items c.take.new.self.items c.self.inside.found.items e.items e.least c.if-is_node_next.ensures
-
-pub returns-clause-items : goal.returns-clause-items
-returns-clause-items c =
-    let e = c.take-2.ensures in
-    subst (λ l. MatchOption c.take-2.result (l ≡ []) (λ x. l ≡ x ∷ put_all item_cmp c.self.inside.nodes.items c.take-2.new.self.items))
-    (ap (λ w. w.items) c.self.view_is)
-    (taken_right c.take-2.result c.self.inside.nodes.items c.self.inside.found.items c.take-2.new.self.items e.items e.least c.if-is_node_next.ensures)
-
-pub returns-clause-least : goal.returns-clause-least
-returns-clause-least c =
-    let e = c.take-2.ensures in
-    least_right c.take-2.result c.self.inside.nodes.items c.self.inside.found.items c.take-2.new.self.items e.items e.least c.if-is_node_next.ensures
+    least_left c.take.result _ _ _ e.items e.least c.if-is_node_next.ensures
 
 pub returns-then-is_node_next-clause-none : goal.returns-then-is_node_next-clause-none
 returns-then-is_node_next-clause-none c =
     let e = c.take.ensures in
-    left_left c.take.result c.self.inside.nodes.items c.take.new.self.items c.self.inside.found.items e.items e.none
-    c.if-is_node_next.ensures
+    left_left c.take.result _ _ _ e.items e.none c.if-is_node_next.ensures
+
+pub returns-clause-items : goal.returns-clause-items
+returns-clause-items c =
+    let left = c.self.inside.nodes.items in
+    let right = c.self.inside.found.items in
+    let new = c.take-2.new.self.items in
+    let e = c.take-2.ensures in
+    subst (λ l. MatchOption c.take-2.result (l ≡ []) (λ x. l ≡ x ∷ put_all item_cmp left new))
+    (ap (λ w. w.items) c.self.view_is)
+    (taken_right c.take-2.result left right new e.items e.least c.if-is_node_next.ensures)
+
+pub returns-clause-least : goal.returns-clause-least
+returns-clause-least c =
+    let e = c.take-2.ensures in
+    least_right c.take-2.result _ _ _ e.items e.least c.if-is_node_next.ensures
 
 pub returns-clause-none : goal.returns-clause-none
 returns-clause-none c =
     let e = c.take-2.ensures in
-    left_right c.take-2.result c.self.inside.nodes.items c.self.inside.found.items c.take-2.new.self.items e.items
-    e.none c.if-is_node_next.ensures
+    left_right c.take-2.result _ _ _ e.items e.none c.if-is_node_next.ensures
