@@ -5,7 +5,6 @@ ghost use Rattle.rt_text.specs.FaultLines.{fault_line, numbered_line, record_lin
 
 use crate::line::Line;
 use crate::tables::{Axis, TableFault};
-use itoa::Buffer;
 
 /// The line that tells a fault of the table, its line feed included.
 pub fn fault_line(fault: &TableFault) -> Line
@@ -38,13 +37,11 @@ pub fn fault_line(fault: &TableFault) -> Line
 
 // A line on one record.
 fn record_line(number: u32, text: &[u8]) -> Line
-    requires { length text.now ≤ 95 }
-    ensures line { result ≡ record_line number text.now }
-    ensures short { length result ≤ 33 + length text.now }
+    requires { length text.now ≤ 64 }
+    ensures { result ≡ record_line number text.now }
 {
-    let mut line = Line::new(b"rtfilter: table record ");
-    line.put(Buffer::new().format(number).as_bytes());
-    line.put(text);
+    let mut line = Line::new(text);
+    put_record(&mut line, number);
     line
 }
 
@@ -54,8 +51,18 @@ fn numbered_line(number: u32, before: &[u8], n: u64, after: &[u8]) -> Line
     requires after { length after.now ≤ 32 }
     ensures { result ≡ numbered_line number before.now n after.now }
 {
-    let mut line = record_line(number, before);
-    line.put(Buffer::new().format(n).as_bytes());
-    line.put(after);
+    let mut line = Line::new(after);
+    line.prepend_number(n);
+    line.prepend(before);
+    put_record(&mut line, number);
     line
+}
+
+// Puts before a text which record it is about.
+fn put_record(line: &mut Line, number: u32)
+    requires { length line.old ≤ 84 }
+    ensures { line.new ≡ record_line number line.old }
+{
+    line.prepend_number(u64::from(number));
+    line.prepend(b"rtfilter: table record ");
 }

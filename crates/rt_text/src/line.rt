@@ -1,27 +1,31 @@
 //! A short line of text.
 
-ghost use Rattle.std.specs.Prelude.{◌≡◌, ◌+◌, ◌++◌, ◌≤◌, [], length};
+ghost use Rattle.std.specs.Prelude.{◌≡◌, ◌+◌, ◌++◌, ◌≤◌, ◌∷◌, [], decimal, length};
+ghost use Rattle.std.specs.Fmt.{signed_decimal};
 
-use arrayvec::ArrayVec;
+use itoa::{Buffer, write_digits};
 use std::marker::Model;
 
 /// The most bytes of a line, its line feed included.
 const MOST_BYTES: usize = 128;
 
-/// A text of at most 128 bytes, that is put together from its front. It takes no memory beyond its own.
+/// A text of at most 128 bytes, that is put together from its end. It takes no memory beyond its own.
 #[derive(Debug, Drop)]
 pub struct Line {
-    bytes: ArrayVec<u8, MOST_BYTES>,
+    // its bytes, in the back of the room
+    room: [u8; MOST_BYTES],
+    // where they start
+    start: usize,
 }
 
 impl Model for Line {
-    ghost use Rattle.std.specs.Prelude.{List, ℕ, ◌≤◌, length};
+    ghost use Rattle.std.specs.Prelude.{List, ℕ, ◌≤◌, drop};
 
     ghost Value = { List ℕ };
 
-    ghost view = { λ line. line.bytes.items };
+    ghost view = { λ line. drop line.start line.room };
 
-    ghost invariant = { λ line. length line.bytes.items ≤ 128 };
+    ghost invariant = { λ line. line.start ≤ 128 };
 }
 
 impl Line {
@@ -31,9 +35,10 @@ impl Line {
         ensures { result ≡ text.now }
     {
         let mut line = Line {
-            bytes: ArrayVec::new(),
+            room: [0; MOST_BYTES],
+            start: MOST_BYTES,
         };
-        line.put(text);
+        line.prepend(text);
         line
     }
 
@@ -41,15 +46,58 @@ impl Line {
     pub fn clear(&mut self)
         ensures { self.new ≡ [] }
     {
-        self.bytes.clear();
+        self.start = MOST_BYTES;
     }
 
-    /// Puts more bytes at its end.
-    pub fn put(&mut self, text: &[u8])
+    /// Puts more bytes before its own.
+    pub fn prepend(&mut self, text: &[u8])
         requires { length self.old + length text.now ≤ MOST_BYTES }
-        ensures { self.new ≡ self.old ++ text.now }
+        ensures { self.new ≡ text.now ++ self.old }
     {
-        self.bytes.try_extend_from_slice(text).unwrap();
+        let end = self.start;
+        self.start -= text.len();
+        self.room[self.start..end].copy_from_slice(text);
+    }
+
+    /// Puts one more byte before its own.
+    pub fn prepend_byte(&mut self, byte: u8)
+        requires { length self.old + 1 ≤ MOST_BYTES }
+        ensures { self.new ≡ byte ∷ self.old }
+    {
+        self.start -= 1;
+        self.room[self.start] = byte;
+    }
+
+    /// Puts a number before its bytes.
+    pub fn prepend_number(&mut self, number: u64)
+        requires { length self.old + 20 ≤ MOST_BYTES }
+        ensures value { self.new ≡ decimal number ++ self.old }
+        ensures few { length self.new ≤ length self.old + 20 }
+    {
+        self.start = write_digits(number, &mut self.room, self.start);
+    }
+
+    /// Puts a number of up to 128 bits before its bytes. One that fits 64 bits is written faster.
+    pub fn prepend_wide(&mut self, number: u128)
+        requires { length self.old + 40 ≤ MOST_BYTES }
+        ensures value { self.new ≡ decimal number ++ self.old }
+        ensures few { length self.new ≤ length self.old + 40 }
+    {
+        match u64::try_from(number) {
+            Ok(short) => self.prepend_number(short),
+            Err(_) => self.prepend(Buffer::new().format(number).as_bytes()),
+        }
+    }
+
+    /// Puts a number with a sign before its bytes.
+    pub fn prepend_signed(&mut self, number: i64)
+        requires { length self.old + 21 ≤ MOST_BYTES }
+        ensures value { self.new ≡ signed_decimal number ++ self.old }
+    {
+        self.prepend_number(number.unsigned_abs());
+        if number < 0 {
+            self.prepend_byte(b'-');
+        }
     }
 
     /// Its bytes.
@@ -57,6 +105,6 @@ impl Line {
         ensures value { result.now ≡ self.now }
         ensures short { length result.now ≤ MOST_BYTES }
     {
-        self.bytes.as_slice()
+        &self.room[self.start..]
     }
 }

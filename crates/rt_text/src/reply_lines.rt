@@ -5,7 +5,6 @@ ghost use Rattle.rt_text.specs.ReplyLines.{answer_line, error_line, fault_text, 
 
 use crate::line::Line;
 use crate::query::QueryFault;
-use itoa::Buffer;
 
 /// The line of an answer: its id and its score.
 pub fn answer_line(id: i64, score: u128) -> Line
@@ -21,33 +20,21 @@ pub fn set_answer_line(text: &mut Line, id: i64, score: u128)
     ensures { text.new ≡ answer_line id score }
 {
     text.clear();
-    text.put(Buffer::new().format(id).as_bytes());
-    text.put(b" ");
-    put_number(text, score);
-    text.put(b"\n");
-}
-
-// Puts a number there. One that fits 64 bits is written faster.
-fn put_number(text: &mut Line, number: u128)
-    requires { length text.old ≤ 64 }
-    ensures value { text.new ≡ text.old ++ decimal number }
-    ensures few { length text.new ≤ length text.old + 40 }
-{
-    match u64::try_from(number) {
-        Ok(short) => text.put(Buffer::new().format(short).as_bytes()),
-        Err(_) => text.put(Buffer::new().format(number).as_bytes()),
-    }
+    text.prepend_byte(b'\n');
+    text.prepend_wide(score);
+    text.prepend_byte(b' ');
+    text.prepend_signed(id);
 }
 
 /// The line that ends a reply: the number of the query line, and a count.
 pub fn ok_line(line: u128, n: u64) -> Line
     ensures { result ≡ ok_line line n }
 {
-    let mut text = Line::new(b"ok ");
-    text.put(Buffer::new().format(line).as_bytes());
-    text.put(b" ");
-    text.put(Buffer::new().format(n).as_bytes());
-    text.put(b"\n");
+    let mut text = Line::new(b"\n");
+    text.prepend_number(n);
+    text.prepend_byte(b' ');
+    text.prepend_wide(line);
+    text.prepend(b"ok ");
     text
 }
 
@@ -55,10 +42,10 @@ pub fn ok_line(line: u128, n: u64) -> Line
 pub fn level_line(level: u8, n: u32) -> Line
     ensures { result ≡ level_line level n }
 {
-    let mut text = Line::new(Buffer::new().format(level).as_bytes());
-    text.put(b" ");
-    text.put(Buffer::new().format(n).as_bytes());
-    text.put(b"\n");
+    let mut text = Line::new(b"\n");
+    text.prepend_number(u64::from(n));
+    text.prepend_byte(b' ');
+    text.prepend_number(u64::from(level));
     text
 }
 
@@ -66,11 +53,11 @@ pub fn level_line(level: u8, n: u32) -> Line
 pub fn error_line(line: u128, fault: QueryFault) -> Line
     ensures { result ≡ error_line line fault }
 {
-    let mut text = Line::new(b"error ");
-    text.put(Buffer::new().format(line).as_bytes());
-    text.put(b" ");
-    text.put(fault_text(fault));
-    text.put(b"\n");
+    let mut text = Line::new(b"\n");
+    text.prepend(fault_text(fault));
+    text.prepend_byte(b' ');
+    text.prepend_wide(line);
+    text.prepend(b"error ");
     text
 }
 

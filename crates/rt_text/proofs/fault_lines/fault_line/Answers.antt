@@ -11,4 +11,4 @@ pub returns-in-OutOfRange : goal.returns-in-OutOfRange
 returns-in-OutOfRange c = rw c.in-OutOfRange.is (c.numbered_line-in-OutOfRange.ensures ∙ rw c.from-in-OutOfRange.ensures refl)
 
 pub returns-in-Repeated : goal.returns-in-Repeated
-returns-in-Repeated c = rw c.in-Repeated.is c.record_line-in-Repeated.ensures.line
+returns-in-Repeated c = rw c.in-Repeated.is c.record_line-in-Repeated.ensures
