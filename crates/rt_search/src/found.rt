@@ -67,6 +67,7 @@ impl Found {
         self.is_started = false;
     }
 
+    #[inline(always)]
     pub fn put(&mut self, score: u128, id: i64)
         requires { length self.old.items < self.old.capacity }
         ensures items { self.new.items ≡ put item_cmp (item_at score (place.Entry id)) self.old.items }
@@ -90,6 +91,7 @@ impl Found {
         Some(lesser(late, score))
     }
 
+    #[inline(always)]
     pub fn take(&mut self) -> Option<Item>
         ensures items { MatchOption result (self.old.items ≡ []) (λ x. self.old.items ≡ x ∷ self.new.items) }
         ensures none { IfNone result (self.new.items ≡ []) }
@@ -105,6 +107,7 @@ impl Found {
 }
 
 // Whether the next entry is among those gathered, which are then in order, if there are late ones.
+#[inline(always)]
 fn is_gathered_next(gathered: &mut Gathered, late: &Late) -> bool
     ensures next { MatchBool result (IsAhead gathered.new.items late.now.items)
         (IsAhead late.now.items gathered.new.items) }

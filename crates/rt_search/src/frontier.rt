@@ -92,6 +92,7 @@ impl Frontier {
         self.nodes.put(score, node);
     }
 
+    #[inline(always)]
     pub(crate) fn put_entry(&mut self, score: u128, id: i64)
         requires { length self.old.items < self.old.capacity }
         ensures items { self.new.items ≡ put item_cmp (item_at score (place.Entry id)) self.old.items }
@@ -100,6 +101,7 @@ impl Frontier {
         self.found.put(score, id);
     }
 
+    #[inline(always)]
     pub(crate) fn take(&mut self) -> Option<Item>
         ensures items { MatchOption result (self.old.items ≡ []) (λ x. self.old.items ≡ x ∷ self.new.items) }
         ensures none { IfNone result (self.new.items ≡ []) }
@@ -114,6 +116,7 @@ impl Frontier {
 }
 
 // Whether a node is next: one waits whose score is at most that of each entry found.
+#[inline(always)]
 fn is_node_next(nodes: &Nodes, found: &Found) -> bool
     ensures { MatchBool result (IsAhead nodes.now.items found.now.items) (IsAhead found.now.items nodes.now.items) }
 {
