@@ -1,6 +1,7 @@
 -- A search goes on: an entry is taken out, or a node is opened.
 use Rattle.std.proofs.Common.{◌≡◌, ◌≢◌, ◌<◌, ◌≤◌, ◌+◌, ◌^◌, ℕ, ℤ, Bool, true, false, cond}
 use Rattle.std.proofs.Common.{List, [], ◌∷◌, length, Option, Some, None, refl, sym, ◌∙◌, ap, subst, arith}
+use Rattle.std.specs.Prelude.{IfSome, MatchOption}
 use Rattle.std.specs.List.{AllByRecursion}
 use Rattle.std.specs.Ordering.{is_gt}
 use Rattle.std.proofs.lemmas.Bool.Decides.{nat_tests}
@@ -14,12 +15,15 @@ use Rattle.rt_tree.specs.declared.tree.Node.{Node}
 use Rattle.rt_search.specs.Answers.{Answer, answer_cmp}
 use Rattle.rt_search.specs.Items.{item_at, item_cmp}
 use Rattle.rt_search.specs.Joining.{join_entries, join_nodes}
+use Rattle.rt_search.specs.Kept.{node_or, taken_entry, taken_item}
 use Rattle.rt_search.specs.Progress.{IsNodeStep, IsOnCourse, IsSearching, IsTaken, held, work_at, work_left}
 use Rattle.rt_search.specs.Remaining.{AllSound, answers_at, height_at, put_all, remaining, verdict_on}
 use Rattle.rt_search.specs.Work.{is_kept, is_reached, is_within_bound, its_children, one_node, work, work_from}
+use Rattle.rt_search.specs.declared.item.FoundEntry.{FoundEntry}
 use Rattle.rt_search.specs.declared.item.Item.{Item}
 use Rattle.rt_search.specs.declared.item.Place.{Place}
 use Rattle.rt_search.specs.declared.item.Place.TheVariants as place
+use Rattle.rt_search.specs.declared.item.Taken.{Taken}
 use Rattle.rt_search.specs.declared.item.WaitingNode.{WaitingNode}
 use Rattle.rt_search.proofs.Answering.{among, at_above, before_node, take_entry}
 use Rattle.rt_search.proofs.Children.{leaf_node, subtree_level}
@@ -294,15 +298,7 @@ module _ (accepts : Extent → Bool) (score : Extent → ℕ) (verdict : Info �
         (subst (IsSearching accepts score verdict t opened asked capacity) is state);
   }
 
-  pub node_taken : (opened asked capacity capacity' : ℕ) (n : WaitingNode) (items xs : List Item) (x : Item) → x.place
-      ≡ place.Node n → IsSearching accepts score verdict t opened asked capacity items → items ≡ x ∷ xs
-      → AllByRecursion (λ y. is_gt (item_cmp x y) ≡ false) xs → capacity' ≡ capacity
-      → IsTaken accepts score verdict t opened asked capacity' (item_at x.score (place.Node n)) xs
-  node_taken opened asked capacity capacity' n items xs x at state is least same =
-      subst (λ p. IsTaken accepts score verdict t opened asked capacity' (item_at x.score p) xs) at
-      (taken_out opened asked capacity capacity' items xs x state is least same)
-
-  pub entry_pulled : (opened asked capacity capacity' : ℕ) (i : ℤ) (start : List Answer) (items xs : List Item)
+  entry_pulled : (opened asked capacity capacity' : ℕ) (i : ℤ) (start : List Answer) (items xs : List Item)
       (x : Item) → x.place ≡ place.Entry i → IsSearching accepts score verdict t opened asked capacity items
       → remaining t accepts score items ≡ start → items ≡ x ∷ xs
       → AllByRecursion (λ y. is_gt (item_cmp x y) ≡ false) xs → capacity' ≡ capacity
@@ -318,6 +314,20 @@ module _ (accepts : Extent → Bool) (score : Extent → ℕ) (verdict : Info �
         opened_is = e.opened_is;
         asked_is = e.asked_is;
       }
+
+  -- the same of what a frontier hands out: an entry, and no node
+  pub entry_given : (opened asked capacity capacity' : ℕ) (out : Taken) (e : FoundEntry) (start : List Answer)
+      (items xs : List Item) → out.node ≡ None → out.entry ≡ Some e
+      → IsSearching accepts score verdict t opened asked capacity items → remaining t accepts score items ≡ start
+      → MatchOption (taken_item out) (items ≡ []) (λ x. items ≡ x ∷ xs)
+      → IfSome (taken_item out) (λ x. AllByRecursion (λ y. is_gt (item_cmp x y) ≡ false) xs) → capacity' ≡ capacity
+      → IsEntryStep opened asked capacity' e.id e.score start xs
+  entry_given opened asked capacity capacity' out e start items xs no_node some state so_far is least same =
+      let given : taken_item out ≡ Some (item_at e.score (place.Entry e.id)) =
+      ap (λ n. node_or n (taken_entry out.entry)) no_node ∙ ap taken_entry some in
+      entry_pulled opened asked capacity capacity' e.id start items xs (item_at e.score (place.Entry e.id)) refl state
+      so_far (subst (λ o. MatchOption o (items ≡ []) (λ x. items ≡ x ∷ xs)) given is)
+      (subst (λ o. IfSome o (λ x. AllByRecursion (λ y. is_gt (item_cmp x y) ≡ false) xs)) given least) same
 
   pub leaf_opened : (opened asked capacity s : ℕ) (w : WaitingNode) (xs new : List Item) (n : Node) (v : Verdict)
       → s < 2 ^ 128 → n.level ≡ 1 → n ≡ node_at t w.number.number → v ≡ verdict_on s w → new

@@ -16,6 +16,7 @@ use Rattle.rt_search.specs.declared.item.Item.{Item}
 use Rattle.rt_search.specs.declared.item.Place.{Place}
 use Rattle.rt_search.specs.declared.item.Place.TheVariants.{Node, Entry}
 use Rattle.rt_search.specs.declared.item.ScoredNode.{ScoredNode}
+use Rattle.rt_search.specs.declared.item.Taken.{Taken}
 
 -- a node that waits, as an item
 abbrev pub node_item : Reverse ScoredNode → Item
@@ -24,6 +25,21 @@ node_item r = item_at r.0.score (Node r.0.node)
 -- an entry that was found, as an item
 abbrev pub entry_item : Reverse FoundEntry → Item
 entry_item r = item_at r.0.score (Entry r.0.id)
+
+-- what was taken out, as an item: the node if there is one, otherwise the other
+abbrev pub node_or : Option ScoredNode → Option Item → Option Item
+node_or None other = other
+node_or (Some n) other = Some (item_at n.score (Node n.node))
+
+abbrev pub taken_node : Option ScoredNode → Option Item
+taken_node node = node_or node None
+
+abbrev pub taken_entry : Option FoundEntry → Option Item
+taken_entry None = None
+taken_entry (Some e) = Some (item_at e.score (Entry e.id))
+
+abbrev pub taken_item : Taken → Option Item
+taken_item t = node_or t.node (taken_entry t.entry)
 
 -- what is kept, as items in order
 abbrev pub in_order : {X : Type 0} → (X → Item) → List X → List Item

@@ -4,11 +4,11 @@ ghost use Rattle.std.specs.Prelude.{◌≡◌, ◌<◌, ◌≤◌, [], ◌∷◌
 ghost use Rattle.std.specs.List.{AllByRecursion};
 ghost use Rattle.rt_search.specs.declared.item.Place.TheVariants as place;
 ghost use Rattle.rt_search.specs.Items.{item_at, item_cmp};
-ghost use Rattle.rt_search.specs.Kept.{IsAhead, IsEntry, IsFirstScore, IsLeast};
+ghost use Rattle.rt_search.specs.Kept.{IsAhead, IsEntry, IsFirstScore, IsLeast, taken_entry};
 ghost use Rattle.rt_tree.specs.Sorting.{put};
 
 use crate::gathered::{Gathered, lesser};
-use crate::item::Item;
+use crate::item::FoundEntry;
 use crate::late::Late;
 use std::alloc::{AllocError, Global};
 use std::marker::Model;
@@ -92,10 +92,10 @@ impl Found {
     }
 
     #[inline(always)]
-    pub fn take(&mut self) -> Option<Item>
-        ensures items { MatchOption result (self.old.items ≡ []) (λ x. self.old.items ≡ x ∷ self.new.items) }
-        ensures none { IfNone result (self.new.items ≡ []) }
-        ensures least { IfSome result (λ x. IsLeast x self.new.items) }
+    pub fn take(&mut self) -> Option<FoundEntry>
+        ensures items { MatchOption (taken_entry result) (self.old.items ≡ []) (λ x. self.old.items ≡ x ∷ self.new.items) }
+        ensures none { IfNone (taken_entry result) (self.new.items ≡ []) }
+        ensures least { IfSome (taken_entry result) (λ x. IsLeast x self.new.items) }
         ensures capacity { self.new.capacity ≡ self.old.capacity }
     {
         self.is_started = true;

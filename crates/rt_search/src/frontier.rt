@@ -6,11 +6,11 @@ ghost use Rattle.std.specs.List.{AllByRecursion};
 ghost use Rattle.std.specs.Ordering.{is_gt};
 ghost use Rattle.rt_search.specs.declared.item.Place.TheVariants as place;
 ghost use Rattle.rt_search.specs.Items.{item_at, item_cmp};
-ghost use Rattle.rt_search.specs.Kept.{IsAhead};
+ghost use Rattle.rt_search.specs.Kept.{IsAhead, taken_item};
 ghost use Rattle.rt_tree.specs.Sorting.{put};
 
 use crate::found::Found;
-use crate::item::{Item, WaitingNode};
+use crate::item::{Taken, WaitingNode};
 use crate::nodes::Nodes;
 use std::alloc::{AllocError, Global};
 use std::marker::Model;
@@ -102,16 +102,24 @@ impl Frontier {
     }
 
     #[inline(always)]
-    pub(crate) fn take(&mut self) -> Option<Item>
-        ensures items { MatchOption result (self.old.items ≡ []) (λ x. self.old.items ≡ x ∷ self.new.items) }
-        ensures none { IfNone result (self.new.items ≡ []) }
-        ensures least { IfSome result (λ x. AllByRecursion (λ y. is_gt (item_cmp x y) ≡ false) self.new.items) }
+    pub(crate) fn take(&mut self) -> Taken
+        ensures items { MatchOption (taken_item result) (self.old.items ≡ [])
+            (λ x. self.old.items ≡ x ∷ self.new.items) }
+        ensures none { IfNone (taken_item result) (self.new.items ≡ []) }
+        ensures least { IfSome (taken_item result)
+            (λ x. AllByRecursion (λ y. is_gt (item_cmp x y) ≡ false) self.new.items) }
         ensures capacity { self.new.capacity ≡ self.old.capacity }
     {
         if is_node_next(&self.nodes, &self.found) {
-            return self.nodes.take();
+            return Taken {
+                node: self.nodes.take(),
+                entry: None,
+            };
         }
-        self.found.take()
+        Taken {
+            node: None,
+            entry: self.found.take(),
+        }
     }
 }
 

@@ -4,10 +4,10 @@ ghost use Rattle.std.specs.Prelude.{◌≡◌, ◌<◌, ◌≤◌, [], ◌∷◌
 ghost use Rattle.std.specs.List.{AllByRecursion};
 ghost use Rattle.rt_search.specs.declared.item.Place.TheVariants as place;
 ghost use Rattle.rt_search.specs.Items.{item_at, item_cmp};
-ghost use Rattle.rt_search.specs.Kept.{IsEntry, IsFirstScore, IsHead, IsLeast};
+ghost use Rattle.rt_search.specs.Kept.{IsEntry, IsFirstScore, IsHead, IsLeast, taken_entry};
 ghost use Rattle.rt_tree.specs.Sorting.{put};
 
-use crate::item::{FoundEntry, Item, Place};
+use crate::item::FoundEntry;
 use std::alloc::{AllocError, Global};
 use std::cmp::Reverse;
 use std::collections::BinaryHeap;
@@ -82,16 +82,13 @@ impl Late {
         Some(top.0)
     }
 
-    pub fn take(&mut self) -> Option<Item>
-        ensures items { MatchOption result (self.old.items ≡ []) (λ x. self.old.items ≡ x ∷ self.new.items) }
-        ensures none { IfNone result (self.new.items ≡ []) }
-        ensures least { IfSome result (λ x. IsLeast x self.new.items) }
+    pub fn take(&mut self) -> Option<FoundEntry>
+        ensures items { MatchOption (taken_entry result) (self.old.items ≡ []) (λ x. self.old.items ≡ x ∷ self.new.items) }
+        ensures none { IfNone (taken_entry result) (self.new.items ≡ []) }
+        ensures least { IfSome (taken_entry result) (λ x. IsLeast x self.new.items) }
         ensures capacity { self.new.capacity ≡ self.old.capacity }
     {
         let top = self.heap.pop()?;
-        Some(Item {
-            score: top.0.score,
-            place: Place::Entry(top.0.id),
-        })
+        Some(top.0)
     }
 }

@@ -4,10 +4,10 @@ ghost use Rattle.std.specs.Prelude.{◌≡◌, ◌<◌, ◌≤◌, [], ◌∷◌
 ghost use Rattle.std.specs.List.{AllByRecursion};
 ghost use Rattle.rt_search.specs.declared.item.Place.TheVariants as place;
 ghost use Rattle.rt_search.specs.Items.{item_at, item_cmp};
-ghost use Rattle.rt_search.specs.Kept.{IsFirstScore, IsLeast, IsNode};
+ghost use Rattle.rt_search.specs.Kept.{IsFirstScore, IsLeast, IsNode, taken_node};
 ghost use Rattle.rt_tree.specs.Sorting.{put};
 
-use crate::item::{Item, Place, ScoredNode, WaitingNode};
+use crate::item::{ScoredNode, WaitingNode};
 use std::alloc::{AllocError, Global};
 use std::cmp::Reverse;
 use std::collections::BinaryHeap;
@@ -74,16 +74,13 @@ impl Nodes {
         Some(top.0.score)
     }
 
-    pub fn take(&mut self) -> Option<Item>
-        ensures items { MatchOption result (self.old.items ≡ []) (λ x. self.old.items ≡ x ∷ self.new.items) }
-        ensures none { IfNone result (self.new.items ≡ []) }
-        ensures least { IfSome result (λ x. IsLeast x self.new.items) }
+    pub fn take(&mut self) -> Option<ScoredNode>
+        ensures items { MatchOption (taken_node result) (self.old.items ≡ []) (λ x. self.old.items ≡ x ∷ self.new.items) }
+        ensures none { IfNone (taken_node result) (self.new.items ≡ []) }
+        ensures least { IfSome (taken_node result) (λ x. IsLeast x self.new.items) }
         ensures capacity { self.new.capacity ≡ self.old.capacity }
     {
         let top = self.heap.pop()?;
-        Some(Item {
-            score: top.0.score,
-            place: Place::Node(top.0.node),
-        })
+        Some(top.0)
     }
 }

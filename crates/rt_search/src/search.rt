@@ -10,7 +10,7 @@ ghost use Rattle.rt_search.specs.Remaining.{remaining};
 ghost use Rattle.rt_search.specs.Work.{HasWorked, is_reached, its_children, one_node, work};
 
 use crate::frontier::Frontier;
-use crate::item::{Place, ScoredNode};
+use crate::item::ScoredNode;
 use crate::opening::{Parent, open_inner, open_leaf, put_root};
 use rt_geo::{Counted, Geometry};
 use rt_tree::Tree;
@@ -77,19 +77,14 @@ fn pull<G: Geometry>(
     ensures capacity { frontier.new.capacity ≡ frontier.old.capacity }
     ensures geometry { counted.new.geometry ≡ counted.old.geometry }
 {
-    while let Some(item) = frontier.take() {
-        match item.place {
-            Place::Entry(id) => return Some((id, item.score)),
-            Place::Node(waiting) => {
-                let taken = ScoredNode {
-                    score: item.score,
-                    node: waiting,
-                };
-                open_node(tree, frontier, counted, opened, top, taken);
-            }
-        }
+    loop {
+        let taken = frontier.take();
+        let Some(node) = taken.node else {
+            let entry = taken.entry?;
+            return Some((entry.id, entry.score));
+        };
+        open_node(tree, frontier, counted, opened, top, node);
     }
-    None
 }
 
 /// A search that gives the answers to a query one at a time, those of the lowest score first.

@@ -1,61 +1,45 @@
 use Rattle.std.proofs.Common.{rules, FitsSigned, w64}
 use Rattle.std.proofs.lemmas.Int.{to_z-of_z}
-use Rattle.rt_search.proofs.Stepping.{entry_pulled, falls, node_taken}
+use Rattle.rt_search.proofs.Stepping.{entry_given}
 use Rattle.rt_search.proofs.search.pull.Goals as goal
 
-pub returns-in-Entry-clause-answer : goal.returns-in-Entry-clause-answer
-returns-in-Entry-clause-answer g c =
+pub returns-in_default-clause-answer : goal.returns-in_default-clause-answer
+returns-in_default-clause-answer g c =
     let law = g.met.G.Geometry.lawful c.args.counted.now.geometry in
-    let v = c.loop-item.invariant in
-    let e = c.in-Some.ensures in
-    let k = entry_pulled _ _ _ law _ c.loop-item.opened c.loop-item.counted.asked c.loop-item.frontier.capacity
-    c.take.new.self.capacity c.in-Entry.id _ c.loop-item.frontier.items c.take.new.self.items c.in-Some.item
-    c.in-Entry.is v.state v.same e.items e.least e.capacity in
-    let fits : FitsSigned w64 c.in-Entry.id = search rules in
-    rw (to_z-of_z w64 c.in-Entry.id fits) k.answer
+    let v = c.loop-node.invariant in
+    let e = c.take-taken.ensures in
+    let given = entry_given _ _ _ law _ c.loop-node.opened c.loop-node.counted.asked c.loop-node.frontier.capacity
+    c.take-taken.new.self.capacity c.take-taken.result c.in_ok-entry.entry _ c.loop-node.frontier.items
+    c.take-taken.new.self.items c.in_default.is c.in_ok-entry.was v.state v.same e.items e.least e.capacity in
+    let fits : FitsSigned w64 c.in_ok-entry.entry.id = search rules in
+    rw (to_z-of_z w64 c.in_ok-entry.entry.id fits) given.answer
 
-pub returns-in-Entry-clause-state : goal.returns-in-Entry-clause-state
-returns-in-Entry-clause-state g c =
+pub returns-in_default-clause-state : goal.returns-in_default-clause-state
+returns-in_default-clause-state g c =
     let law = g.met.G.Geometry.lawful c.args.counted.now.geometry in
-    let v = c.loop-item.invariant in
-    let e = c.in-Some.ensures in
-    (entry_pulled _ _ _ law _ c.loop-item.opened c.loop-item.counted.asked c.loop-item.frontier.capacity
-    c.take.new.self.capacity c.in-Entry.id _ c.loop-item.frontier.items c.take.new.self.items c.in-Some.item
-    c.in-Entry.is v.state v.same e.items e.least e.capacity).state
+    let v = c.loop-node.invariant in
+    let e = c.take-taken.ensures in
+    let given = entry_given _ _ _ law _ c.loop-node.opened c.loop-node.counted.asked c.loop-node.frontier.capacity
+    c.take-taken.new.self.capacity c.take-taken.result c.in_ok-entry.entry _ c.loop-node.frontier.items
+    c.take-taken.new.self.items c.in_default.is c.in_ok-entry.was v.state v.same e.items e.least e.capacity in
+    given.state
 
-pub returns-in-Entry-clause-opened : goal.returns-in-Entry-clause-opened
-returns-in-Entry-clause-opened g c =
+pub returns-in_default-clause-opened : goal.returns-in_default-clause-opened
+returns-in_default-clause-opened g c =
     let law = g.met.G.Geometry.lawful c.args.counted.now.geometry in
-    let v = c.loop-item.invariant in
-    let e = c.in-Some.ensures in
-    (entry_pulled _ _ _ law _ c.loop-item.opened c.loop-item.counted.asked c.loop-item.frontier.capacity
-    c.take.new.self.capacity c.in-Entry.id _ c.loop-item.frontier.items c.take.new.self.items c.in-Some.item
-    c.in-Entry.is v.state v.same e.items e.least e.capacity).opened_is
+    let v = c.loop-node.invariant in
+    let e = c.take-taken.ensures in
+    let given = entry_given _ _ _ law _ c.loop-node.opened c.loop-node.counted.asked c.loop-node.frontier.capacity
+    c.take-taken.new.self.capacity c.take-taken.result c.in_ok-entry.entry _ c.loop-node.frontier.items
+    c.take-taken.new.self.items c.in_default.is c.in_ok-entry.was v.state v.same e.items e.least e.capacity in
+    given.opened_is
 
-pub returns-in-Entry-clause-asked : goal.returns-in-Entry-clause-asked
-returns-in-Entry-clause-asked g c =
+pub returns-in_default-clause-asked : goal.returns-in_default-clause-asked
+returns-in_default-clause-asked g c =
     let law = g.met.G.Geometry.lawful c.args.counted.now.geometry in
-    let v = c.loop-item.invariant in
-    let e = c.in-Some.ensures in
-    (entry_pulled _ _ _ law _ c.loop-item.opened c.loop-item.counted.asked c.loop-item.frontier.capacity
-    c.take.new.self.capacity c.in-Entry.id _ c.loop-item.frontier.items c.take.new.self.items c.in-Some.item
-    c.in-Entry.is v.state v.same e.items e.least e.capacity).asked_is
-
-pub open_node-requires-clause-taken : goal.open_node-requires-clause-taken
-open_node-requires-clause-taken g c =
-    let law = g.met.G.Geometry.lawful c.args.counted.now.geometry in
-    let v = c.loop-item.invariant in
-    let e = c.in-Some.ensures in
-    rw v.geometry (node_taken _ _ _ law _ c.loop-item.opened c.loop-item.counted.asked c.loop-item.frontier.capacity
-    c.take.new.self.capacity c.in-Node.waiting c.loop-item.frontier.items c.take.new.self.items c.in-Some.item
-    c.in-Node.is v.state e.items e.least e.capacity)
-
-pub loop-item-smaller : goal.loop-item-smaller
-loop-item-smaller g c =
-    let law = g.met.G.Geometry.lawful c.args.counted.now.geometry in
-    let v = c.loop-item.invariant in
-    let k = rw v.geometry at c.open_node.ensures.step in
-    falls (g.G.Geometry.accepts c.args.counted.now.geometry) (g.G.Geometry.score c.args.counted.now.geometry)
-    (g.G.Geometry.verdict c.args.counted.now.geometry) law c.args.tree.now c.loop-item.opened
-    c.loop-item.counted.asked _ c.loop-item.frontier.capacity _ c.loop-item.frontier.items
-    c.open_node.new.frontier.items v.state k.state
+    let v = c.loop-node.invariant in
+    let e = c.take-taken.ensures in
+    let given = entry_given _ _ _ law _ c.loop-node.opened c.loop-node.counted.asked c.loop-node.frontier.capacity
+    c.take-taken.new.self.capacity c.take-taken.result c.in_ok-entry.entry _ c.loop-node.frontier.items
+    c.take-taken.new.self.items c.in_default.is c.in_ok-entry.was v.state v.same e.items e.least e.capacity in
+    given.asked_is

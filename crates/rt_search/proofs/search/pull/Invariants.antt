@@ -4,8 +4,8 @@ use Rattle.rt_search.specs.Remaining.{remaining}
 use Rattle.rt_search.specs.Work.{is_reached, one_node}
 use Rattle.rt_search.proofs.search.pull.Given as goal
 
-abbrev pub invariant-loop-item : goal.invariant-loop-item
-invariant-loop-item g l =
+abbrev pub invariant-loop-node : goal.invariant-loop-node
+invariant-loop-node g l =
     let accepts = g.G.Geometry.accepts l.initial.counted.geometry in
     let score = g.G.Geometry.score l.initial.counted.geometry in
     let verdict = g.G.Geometry.verdict l.initial.counted.geometry in
@@ -16,6 +16,6 @@ invariant-loop-item g l =
       geometry : l.counted.geometry ≡ l.initial.counted.geometry;
     }
 
-abbrev pub decreases-loop-item : goal.decreases-loop-item
-decreases-loop-item g l =
+abbrev pub decreases-loop-node : goal.decreases-loop-node
+decreases-loop-node g l =
     work_left (is_reached None) one_node (g.G.Geometry.verdict l.initial.counted.geometry) l.tree l.frontier.items
