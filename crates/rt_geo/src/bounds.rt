@@ -106,40 +106,40 @@ impl Bounds {
 pub fn overlaps(a: Bounds, b: Bounds) -> bool
     ensures { result ≡ overlaps a b }
 {
-    // (`&`, so that the two axes are one branch)
+    // (`&` here and below, so that all four comparisons are one branch)
     meet_on_x(a, b) & meet_on_y(a, b)
 }
 
 fn meet_on_x(a: Bounds, b: Bounds) -> bool
     ensures { result ≡ ranges_meet a.min_x a.max_x b.min_x b.max_x }
 {
-    a.min_x <= b.max_x && b.min_x <= a.max_x
+    (a.min_x <= b.max_x) & (b.min_x <= a.max_x)
 }
 
 fn meet_on_y(a: Bounds, b: Bounds) -> bool
     ensures { result ≡ ranges_meet a.min_y a.max_y b.min_y b.max_y }
 {
-    a.min_y <= b.max_y && b.min_y <= a.max_y
+    (a.min_y <= b.max_y) & (b.min_y <= a.max_y)
 }
 
 /// Whether the box `a` lies in `b`. Sides may be equal.
 pub fn inside(a: Bounds, b: Bounds) -> bool
     ensures { result ≡ inside a b }
 {
-    // (`&`, so that the two axes are one branch)
+    // (`&` here and below, as above)
     lies_in_on_x(a, b) & lies_in_on_y(a, b)
 }
 
 fn lies_in_on_x(a: Bounds, b: Bounds) -> bool
     ensures { result ≡ range_lies_in a.min_x a.max_x b.min_x b.max_x }
 {
-    b.min_x <= a.min_x && a.max_x <= b.max_x
+    (b.min_x <= a.min_x) & (a.max_x <= b.max_x)
 }
 
 fn lies_in_on_y(a: Bounds, b: Bounds) -> bool
     ensures { result ≡ range_lies_in a.min_y a.max_y b.min_y b.max_y }
 {
-    b.min_y <= a.min_y && a.max_y <= b.max_y
+    (b.min_y <= a.min_y) & (a.max_y <= b.max_y)
 }
 
 /// The least box in which both boxes lie.

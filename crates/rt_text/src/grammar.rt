@@ -5,9 +5,9 @@
 
 ghost use Rattle.std.specs.Prelude.{◌≡◌, ◌≤◌, ◌≤ℤ◌, ◌∷◌, [], IfErr, IfOk, Ok, Err};
 ghost use Rattle.std.specs.Str.Lines.{strip_carriage_return};
-ghost use Rattle.rt_text.specs.Queries.{Takes, circle, coordinate, count, find, finished, is_comment, limit, natural_word, nearest, number_word, order, point, points, polygon, query, query_of, region, sides, usual_order, vertex_count};
+ghost use Rattle.rt_text.specs.Queries.{Takes, circle, coordinate, count, find, finished, is_comment, limit, natural_word, nearest, number_fault, number_word, order, point, points, polygon, query, query_of, region, sides, usual_order, vertex_count};
 
-use crate::numbers::{NumberFault, number};
+use crate::numbers::{NumberFault, number, number_64};
 use crate::query::{Parsed, Query, QueryFault};
 use crate::words::Words;
 use arrayvec::ArrayVec;
@@ -255,7 +255,7 @@ fn point(words: &mut Words) -> Result<Point, QueryFault>
 fn coordinate(words: &mut Words) -> Result<i32, QueryFault>
     ensures { Takes (coordinate words.old) result words.new }
 {
-    let value = number_word(words, i128::from(i32::MIN), i128::from(i32::MAX))?;
+    let value = short_number_word(words, i64::from(i32::MIN), i64::from(i32::MAX))?;
     Ok(value as i32)
 }
 
@@ -285,8 +285,28 @@ fn number_word(words: &mut Words, low: i128, high: i128) -> Result<i128, QueryFa
     let word = next_word(words)?;
     match number(word, low, high) {
         Ok(value) => Ok(value),
-        Err(NumberFault::NotNumber) => Err(QueryFault::NotNumber),
-        Err(NumberFault::OutOfRange) => Err(QueryFault::OutOfRange),
+        Err(fault) => Err(number_fault(fault)),
+    }
+}
+
+// The same for a range within that of `i64`, and faster.
+fn short_number_word(words: &mut Words, low: i64, high: i64) -> Result<i64, QueryFault>
+    ensures takes { Takes (number_word low high words.old) result words.new }
+    ensures within { IfOk result (λ n. (low ≤ℤ n) × (n ≤ℤ high)) }
+{
+    let word = next_word(words)?;
+    match number_64(word, low, high) {
+        Ok(value) => Ok(value),
+        Err(fault) => Err(number_fault(fault)),
+    }
+}
+
+fn number_fault(fault: NumberFault) -> QueryFault
+    ensures { result ≡ number_fault fault }
+{
+    match fault {
+        NumberFault::NotNumber => QueryFault::NotNumber,
+        NumberFault::OutOfRange => QueryFault::OutOfRange,
     }
 }
 

@@ -24,6 +24,9 @@ const USAGE: &[u8] =
 /// The most pulls of the queries: as many as can be counted.
 const TURNS: u64 = u64::MAX;
 
+/// How many bytes of answers are kept before they are written. They are handed on before each pull in any case.
+const OUTPUT_ROOM: usize = 65_536;
+
 /// How the program ends.
 #[derive(Clone, Copy, Debug, PartialEq, Eq)]
 enum Ending {
@@ -144,7 +147,7 @@ fn run_to_output<R: Print + AllocGlobal, T: Read + Drop, S: Source>(
 ) -> Ending
     requires { S.failed queries.old < 2 ^ 64 - 1 }
 {
-    let Ok(out) = BufWriter::new(rt.alloc(), io::writer(rt)) else {
+    let Ok(out) = BufWriter::with_capacity(rt.alloc(), OUTPUT_ROOM, io::writer(rt)) else {
         return Ending::NoMemory;
     };
     let mut sink = WriteSink::new(out);
