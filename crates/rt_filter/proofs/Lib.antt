@@ -1,4 +1,5 @@
 mod AnswerLemmas
+mod ConsumedLemmas
 mod FindLemmas
 mod LevelLemmas
 mod LineLemmas

@@ -15,3 +15,4 @@ pub mod Sizes
 pub mod Starting
 pub mod Stepping
 pub mod Working
+pub mod ZeroScores

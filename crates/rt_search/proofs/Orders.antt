@@ -9,7 +9,7 @@ use Rattle.std.proofs.lemmas.Cmp.{int_cmp_total, nat_cmp_total, on_total, then_t
 use Rattle.std.proofs.lemmas.Map.Lookups.{CmpEqualImpliesEq, exact_signed, exact_unsigned}
 use Rattle.rt_search.specs.Answers.{Answer, answer_cmp}
 use Rattle.rt_search.specs.Items.{item_at, item_cmp, node_cmp, place_cmp}
-use Rattle.rt_search.specs.Kept.{IsEntry, IsNode, entry_item, node_item}
+use Rattle.rt_search.specs.Kept.{IsEntry, IsNode, entry_item, node_item, zero_item}
 use Rattle.rt_search.specs.contracts.item.FoundEntryOrd.TheImpl.{ghosts as entry_ghosts}
 use Rattle.rt_search.specs.contracts.item.ScoredNodeOrd.TheImpl.{ghosts as node_ghosts}
 use Rattle.rt_search.specs.declared.item.FoundEntry.{FoundEntry}
@@ -144,3 +144,7 @@ node_derived m n = not_after (node_item n) (node_item m)
 pub entry_derived : (d e : Reverse FoundEntry) → is_gt (item_cmp (entry_item e) (entry_item d))
     ≡ is_lt (entry_ghosts.cmp d.0 e.0)
 entry_derived d e = not_after (entry_item e) (entry_item d)
+
+-- and an entry of score 0, by its id alone
+pub zero_derived : (d e : Reverse ℤ) → is_gt (item_cmp (zero_item e) (zero_item d)) ≡ is_lt (int_cmp d.0 e.0)
+zero_derived d e = not_after (zero_item e) (zero_item d)

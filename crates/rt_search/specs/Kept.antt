@@ -1,5 +1,5 @@
 -- How a frontier keeps its items. Nothing that a public call promises speaks of this.
-use Rattle.std.specs.Prelude.{◌≡◌, ◌<◌, ◌≤◌, ◌^◌, ℕ, nat_lt, Bool, true, false, if◌then◌else◌, Option, Some, None}
+use Rattle.std.specs.Prelude.{◌≡◌, ◌<◌, ◌≤◌, ◌^◌, ℕ, ℤ, nat_lt, Bool, true, false, if◌then◌else◌, Option, Some, None}
 use Rattle.std.specs.Prelude.{List, [], ◌∷◌, length, map, vec_capacity}
 use Rattle.std.specs.BinaryHeap.{IsHeap, heap_capacity, heap_items, heap_len}
 use Rattle.std.specs.List.{AllByRecursion}
@@ -25,6 +25,10 @@ node_item r = item_at r.0.score (Node r.0.node)
 -- an entry that was found, as an item
 abbrev pub entry_item : Reverse FoundEntry → Item
 entry_item r = item_at r.0.score (Entry r.0.id)
+
+-- an entry of score 0, by its id, as an item
+abbrev pub zero_item : Reverse ℤ → Item
+zero_item r = item_at 0 (Entry r.0)
 
 -- what was taken out, as an item: the node if there is one, otherwise the other
 abbrev pub node_or : Option ScoredNode → Option Item → Option Item
@@ -89,6 +93,12 @@ pub record IsMerged (first second : Waiting) (capacity : ℕ) : Type 0 where
   pub few : length (put_all item_cmp first.items second.items) ≤ capacity
   pub narrow : capacity < 2 ^ 32
 
+-- entries of score 0, and others of higher scores
+pub record IsFound (zeros scored : Waiting) (capacity : ℕ) : Type 0 where
+  pub merged : IsMerged zeros scored capacity
+  pub entries : AllByRecursion (λ x. IsEntry x.place) scored.items
+  pub above : AllByRecursion (λ x. 0 < x.score) scored.items
+
 -- ---- in a heap
 
 -- it is a heap, has room for so many items and holds no more
@@ -101,9 +111,9 @@ pub record IsKept {X A : Type 0} (cmp : X → X → Ordering) (heap : BinaryHeap
 -- ---- in a list
 
 -- none comes after one that stands before it
-abbrev pub IsFalling : List (Reverse FoundEntry) → Type 0
-IsFalling [] = Unit {0}
-IsFalling (x ∷ xs) = AllByRecursion (λ y. is_gt (item_cmp (entry_item y) (entry_item x)) ≡ false) xs × IsFalling xs
+abbrev pub IsFalling : {X : Type 0} → (X → Item) → List X → Type 0
+IsFalling item [] = Unit {0}
+IsFalling item (x ∷ xs) = AllByRecursion (λ y. is_gt (item_cmp (item y) (item x)) ≡ false) xs × IsFalling item xs
 
 -- it is the least score, where there is any
 abbrev pub IsLeastScore : ℕ → List Item → Type 0
@@ -114,6 +124,12 @@ IsLeastScore s (x ∷ xs) = IsFirstScore s (x ∷ xs)
 pub record IsGathered {A : Type 0} (list : Vec (Reverse FoundEntry) A) (least : ℕ) (is_sorted : Bool) (capacity : ℕ)
     : Type 0 where
   pub unsorted : is_sorted ≡ false → IsLeastScore least (in_order entry_item list.items)
-  pub falling : is_sorted ≡ true → IsFalling list.items
+  pub falling : is_sorted ≡ true → IsFalling entry_item list.items
   pub room : capacity ≤ vec_capacity list
   pub few : length list.items ≤ capacity
+
+-- in order, or not; it has room for so many and holds no more
+pub record HasZeros {A : Type 0} (ids : Vec (Reverse ℤ) A) (is_sorted : Bool) (capacity : ℕ) : Type 0 where
+  pub falling : is_sorted ≡ true → IsFalling zero_item ids.items
+  pub room : capacity ≤ vec_capacity ids
+  pub few : length ids.items ≤ capacity

@@ -1,39 +1,39 @@
 //! The entries of a frontier.
 
-ghost use Rattle.std.specs.Prelude.{◌≡◌, ◌<◌, ◌≤◌, [], ◌∷◌, IfNone, IfOk, IfSome, MatchBool, MatchOption, length};
+ghost use Rattle.std.specs.Prelude.{◌≡◌, ◌<◌, ◌≤◌, [], ◌∷◌, IfNone, IfOk, IfSome, MatchOption, length};
 ghost use Rattle.std.specs.List.{AllByRecursion};
 ghost use Rattle.rt_search.specs.declared.item.Place.TheVariants as place;
 ghost use Rattle.rt_search.specs.Items.{item_at, item_cmp};
-ghost use Rattle.rt_search.specs.Kept.{IsAhead, IsEntry, IsFirstScore, IsLeast, taken_entry};
+ghost use Rattle.rt_search.specs.Kept.{IsEntry, IsFirstScore, IsLeast, taken_entry};
 ghost use Rattle.rt_tree.specs.Sorting.{put};
 
-use crate::gathered::{Gathered, lesser};
 use crate::item::FoundEntry;
-use crate::late::Late;
+use crate::scored::Scored;
+use crate::zeros::Zeros;
 use std::alloc::{AllocError, Global};
 use std::marker::Model;
 
-/// Entries that were found: those from before the first was taken out, which are sorted once, and the later ones.
+/// Entries that were found: those of score 0, which come first, and the others. A search in order of ids scores each
+/// entry 0, so that it keeps and sorts ids alone.
 ///
 /// It is seen as the items that they are, in order, and its capacity, which is that of both.
 #[derive(Drop)]
 pub struct Found {
-    gathered: Gathered,
-    late: Late,
-    is_started: bool,
+    zeros: Zeros,
+    scored: Scored,
     capacity: u32,
 }
 
 impl Model for Found {
     ghost use Rattle.rt_search.specs.Items.{Waiting, item_cmp};
-    ghost use Rattle.rt_search.specs.Kept.{IsMerged};
+    ghost use Rattle.rt_search.specs.Kept.{IsFound};
     ghost use Rattle.rt_search.specs.Remaining.{put_all};
 
     ghost Value = { Waiting };
 
-    ghost view = { λ f. record { items = put_all item_cmp f.gathered.items f.late.items; capacity = f.capacity } };
+    ghost view = { λ f. record { items = put_all item_cmp f.zeros.items f.scored.items; capacity = f.capacity } };
 
-    ghost invariant = { λ f. IsMerged f.gathered f.late f.capacity };
+    ghost invariant = { λ f. IsFound f.zeros f.scored f.capacity };
 }
 
 impl Found {
@@ -41,12 +41,11 @@ impl Found {
         ensures items { IfOk result (λ f. f.items ≡ []) }
         ensures capacity { IfOk result (λ f. f.capacity ≡ capacity) }
     {
-        let gathered = Gathered::new(alloc, capacity)?;
-        let late = Late::new(alloc, capacity)?;
+        let zeros = Zeros::new(alloc, capacity)?;
+        let scored = Scored::new(alloc, capacity)?;
         Ok(Found {
-            gathered,
-            late,
-            is_started: false,
+            zeros,
+            scored,
             capacity,
         })
     }
@@ -55,16 +54,15 @@ impl Found {
         ensures value { result ≡ length self.now.items }
         ensures room { length self.now.items ≤ self.now.capacity }
     {
-        self.gathered.len() + self.late.len()
+        self.zeros.len() + self.scored.len()
     }
 
     pub fn clear(&mut self)
         ensures items { self.new.items ≡ [] }
         ensures capacity { self.new.capacity ≡ self.old.capacity }
     {
-        self.gathered.clear();
-        self.late.clear();
-        self.is_started = false;
+        self.zeros.clear();
+        self.scored.clear();
     }
 
     #[inline(always)]
@@ -73,22 +71,22 @@ impl Found {
         ensures items { self.new.items ≡ put item_cmp (item_at score (place.Entry id)) self.old.items }
         ensures capacity { self.new.capacity ≡ self.old.capacity }
     {
-        if self.is_started {
-            self.late.put(score, id);
+        if score == 0 {
+            self.zeros.put(id);
             return;
         }
-        self.gathered.put(score, id);
+        self.scored.put(score, id);
     }
 
+    #[inline(always)]
     pub fn first_score(&self) -> Option<u128>
         ensures first { MatchOption result (self.now.items ≡ []) (λ s. IsFirstScore s self.now.items) }
         ensures entries { AllByRecursion (λ x. IsEntry x.place) self.now.items }
     {
-        let late = self.late.first_score();
-        let Some(score) = self.gathered.first_score() else {
-            return late;
-        };
-        Some(lesser(late, score))
+        if self.zeros.is_empty() {
+            return self.scored.first_score();
+        }
+        Some(0)
     }
 
     #[inline(always)]
@@ -98,27 +96,9 @@ impl Found {
         ensures least { IfSome (taken_entry result) (λ x. IsLeast x self.new.items) }
         ensures capacity { self.new.capacity ≡ self.old.capacity }
     {
-        self.is_started = true;
-        if is_gathered_next(&mut self.gathered, &self.late) {
-            return self.gathered.take();
+        if self.zeros.is_empty() {
+            return self.scored.take();
         }
-        self.late.take()
+        self.zeros.take()
     }
-}
-
-// Whether the next entry is among those gathered, which are then in order, if there are late ones.
-#[inline(always)]
-fn is_gathered_next(gathered: &mut Gathered, late: &Late) -> bool
-    ensures next { MatchBool result (IsAhead gathered.new.items late.now.items)
-        (IsAhead late.now.items gathered.new.items) }
-    ensures items { gathered.new.items ≡ gathered.old.items }
-    ensures capacity { gathered.new.capacity ≡ gathered.old.capacity }
-{
-    let Some(late_first) = late.first() else {
-        return true;
-    };
-    let Some(first) = gathered.first() else {
-        return false;
-    };
-    first.cmp(&late_first).is_lt()
 }

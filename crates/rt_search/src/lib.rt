@@ -18,7 +18,9 @@ mod item;
 mod late;
 mod nodes;
 mod opening;
+mod scored;
 mod search;
+mod zeros;
 
 pub use counting::count;
 pub use counts::Count;

@@ -4,6 +4,7 @@ use borrow.Rule.Slice.PartMut.{put_mid}
 use Rattle.rt_filter.specs.Lines.{most_pulled}
 use Rattle.rt_filter.specs.Stages.{loaded_tree}
 use Rattle.rt_filter.specs.declared.serving.ServeFault.TheVariants as serve
+use Rattle.rt_filter.proofs.ConsumedLemmas.{consumed_some}
 use Rattle.rt_filter.proofs.PieceLemmas.{if_err}
 use Rattle.rt_filter.proofs.TurnLemmas.{filled_with, serving-cut, serving-cut_at_end, serving-ended, serving-more, serving-stopped}
 use Rattle.rt_filter.proofs.serving.turn.Goals as goal
@@ -12,6 +13,11 @@ pub returns-in_default-clause-ending : goal.returns-in_default-clause-ending
 returns-in_default-clause-ending g c queries before s =
     serving-stopped (loaded_tree c.args.tree.now) queries before (g.S.Source.coming c.args.source.now) (g.K.Sink.written c.args.sink.now)
     c.args.begun.now.lines c.args.begun.now.bad c.args.begun.now.is_long (take c.args.begun.now.held c.args.room.now) s (g.S.Source.coming c.pull.new.self) c.in_default.ensures.bytes
+
+pub returns-clause-gives : goal.returns-clause-gives
+returns-clause-gives g c =
+    let some = c.if-n-eq0.false in
+    consumed_some _ _ c.in-Ok.n c.pull.new.room (omega (arith, some)) c.in-Ok.ensures.bound c.in-Ok.ensures.bytes.0
 
 pub returns-in_err-answer_end-clause-ending : goal.returns-in_err-answer_end-clause-ending
 returns-in_err-answer_end-clause-ending g c = if_err c.from_residual.result _ serve.Write c.from_residual.ensures.1 (λ queries before s.

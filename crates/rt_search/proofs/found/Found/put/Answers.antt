@@ -1,74 +1,93 @@
-use Rattle.std.proofs.Common.{ℤ, ◌∙◌, ap, rules, FitsSigned, w64}
+use Rattle.std.proofs.Common.{ℤ, ℕ, ◌≡◌, ◌<◌, ◌∙◌, sym, ap, subst, arith, rules, FitsSigned, w64}
+use Rattle.std.specs.List.{AllByRecursion}
 use Rattle.std.proofs.lemmas.Int.{to_z-of_z}
 use Rattle.rt_tree.specs.Sorting.{put}
 use Rattle.rt_search.specs.Items.{item_at, item_cmp}
+use Rattle.rt_search.specs.Kept.{IsEntry}
 use Rattle.rt_search.specs.Remaining.{put_all}
 use Rattle.rt_search.specs.declared.item.Place.TheVariants as place
 use Rattle.rt_search.proofs.Merging.{joined_fits, left_fits, put-put_all, right_fits}
-use Rattle.rt_search.proofs.OrderedLists.{put_all-put}
+use Rattle.rt_search.proofs.OrderedLists.{put-all, put_all-put}
 use Rattle.rt_search.proofs.Orders.{item_order}
 use Rattle.rt_search.proofs.found.Found.put.Goals as goal
 
 pub put-requires : goal.put-requires
 put-requires c =
     let h = rw (← c.self.view_is) at c.requires in
-    let fits = right_fits c.self.inside.gathered.items c.self.inside.late.items c.self.inside.capacity h in
-    rw c.self.invariant.second_room fits
+    let fits = left_fits c.self.inside.zeros.items c.self.inside.scored.items c.self.inside.capacity h in
+    rw c.self.invariant.merged.first_room fits
 
 pub put-requires-2 : goal.put-requires-2
 put-requires-2 c =
     let h = rw (← c.self.view_is) at c.requires in
-    let fits = left_fits c.self.inside.gathered.items c.self.inside.late.items c.self.inside.capacity h in
-    rw c.self.invariant.first_room fits
+    let fits = right_fits c.self.inside.zeros.items c.self.inside.scored.items c.self.inside.capacity h in
+    rw c.self.invariant.merged.second_room fits
 
 pub invariant_of-self : goal.invariant_of-self
 invariant_of-self c =
     let h = rw (← c.self.view_is) at c.requires in
     let k = c.self.invariant in
-    let gathered = c.self.inside.gathered.items in
-    let late = c.self.inside.late.items in
-    let same = ap (put_all item_cmp gathered) c.put.ensures.items
-    ∙ put_all-put item_cmp item_order gathered _ late in
+    let zeros = c.self.inside.zeros.items in
+    let scored = c.self.inside.scored.items in
+    let same = ap (λ xs. put_all item_cmp xs scored) c.put.ensures.items
+    ∙ put-put_all item_cmp item_order _ zeros scored in
     record {
-      first_room = k.first_room;
-      second_room = c.put.ensures.capacity ∙ k.second_room;
-      few = joined_fits _ _ _ _ same h;
-      narrow = k.narrow;
+      merged = record {
+        first_room = c.put.ensures.capacity ∙ k.merged.first_room;
+        second_room = k.merged.second_room;
+        few = joined_fits _ _ _ _ same h;
+        narrow = k.merged.narrow;
+      };
+      entries = k.entries;
+      above = k.above;
     }
 
 pub invariant_of-self-2 : goal.invariant_of-self-2
 invariant_of-self-2 c =
     let h = rw (← c.self.view_is) at c.requires in
     let k = c.self.invariant in
-    let gathered = c.self.inside.gathered.items in
-    let late = c.self.inside.late.items in
-    let same = ap (λ xs. put_all item_cmp xs late) c.put-2.ensures.items
-    ∙ put-put_all item_cmp item_order _ gathered late in
+    let e = c.put-2.ensures in
+    let zeros = c.self.inside.zeros.items in
+    let scored = c.self.inside.scored.items in
+    let some = c.if-score-eq0.false in
+    let high : 0 < c.args.score = omega (arith, some) in
+    let same = ap (put_all item_cmp zeros) e.items ∙ put_all-put item_cmp item_order zeros _ scored in
     record {
-      first_room = c.put-2.ensures.capacity ∙ k.first_room;
-      second_room = k.second_room;
-      few = joined_fits _ _ _ _ same h;
-      narrow = k.narrow;
+      merged = record {
+        first_room = k.merged.first_room;
+        second_room = e.capacity ∙ k.merged.second_room;
+        few = joined_fits _ _ _ _ same h;
+        narrow = k.merged.narrow;
+      };
+      entries =
+          subst (AllByRecursion (λ x. IsEntry x.place)) (sym e.items)
+          (put-all item_cmp item_order (λ x. IsEntry x.place) _ scored tt k.entries);
+      above =
+          subst (AllByRecursion (λ x. 0 < x.score)) (sym e.items)
+          (put-all item_cmp item_order (λ x. 0 < x.score) _ scored high k.above);
     }
 
-pub returns-then-self-clause-items : goal.returns-then-self-clause-items
-returns-then-self-clause-items c =
-    let gathered = c.self.inside.gathered.items in
-    let late = c.self.inside.late.items in
+pub returns-then-score-eq0-clause-items : goal.returns-then-score-eq0-clause-items
+returns-then-score-eq0-clause-items c =
+    let zeros = c.self.inside.zeros.items in
+    let scored = c.self.inside.scored.items in
     let fits : FitsSigned w64 c.args.id = search rules in
-    ap (put_all item_cmp gathered)
+    let t = c.if-score-eq0.true in
+    let zero : 0 ≡ c.args.score = omega (arith, t) in
+    ap (λ xs. put_all item_cmp xs scored)
     (c.put.ensures.items
-    ∙ ap (λ (i : ℤ). put item_cmp (item_at c.args.score (place.Entry i)) late) (to_z-of_z w64 c.args.id fits))
-    ∙ put_all-put item_cmp item_order gathered _ late
+    ∙ ap (λ (i : ℤ). put item_cmp (item_at 0 (place.Entry i)) zeros) (to_z-of_z w64 c.args.id fits)
+    ∙ ap (λ (s : ℕ). put item_cmp (item_at s (place.Entry c.args.id)) zeros) zero)
+    ∙ put-put_all item_cmp item_order _ zeros scored
     ∙ ap (λ w. put item_cmp (item_at c.args.score (place.Entry c.args.id)) w.items) c.self.view_is
 
 pub returns-clause-items : goal.returns-clause-items
 returns-clause-items c =
-    let gathered = c.self.inside.gathered.items in
-    let late = c.self.inside.late.items in
+    let zeros = c.self.inside.zeros.items in
+    let scored = c.self.inside.scored.items in
     let fits : FitsSigned w64 c.args.id = search rules in
-    ap (λ xs. put_all item_cmp xs late)
+    ap (put_all item_cmp zeros)
     (c.put-2.ensures.items
-    ∙ ap (λ (i : ℤ). put item_cmp (item_at c.args.score (place.Entry i)) gathered) (to_z-of_z w64 c.args.id fits))
-    ∙ put-put_all item_cmp item_order _ gathered late
+    ∙ ap (λ (i : ℤ). put item_cmp (item_at c.args.score (place.Entry i)) scored) (to_z-of_z w64 c.args.id fits))
+    ∙ put_all-put item_cmp item_order zeros _ scored
     ∙ ap (λ w. put item_cmp (item_at c.args.score (place.Entry c.args.id)) w.items) c.self.view_is

@@ -4,7 +4,7 @@ use Rattle.rt_search.specs.Items.{item_at}
 use Rattle.rt_search.specs.declared.item.Place.TheVariants as place
 use Rattle.rt_search.proofs.Merging.{by_test, heads_ahead}
 use Rattle.rt_search.proofs.Orders.{item_order}
-use Rattle.rt_search.proofs.found.is_gathered_next.Goals as goal
+use Rattle.rt_search.proofs.scored.is_gathered_next.Goals as goal
 
 pub returns-clause-next : goal.returns-clause-next
 returns-clause-next c =
