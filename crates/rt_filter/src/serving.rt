@@ -83,7 +83,7 @@ pub fn serve<S: Source, K: Sink>(
     ensures turns { is_pull result.fault ≡ true → S.failed source.new ≡ S.failed source.old
         → HasConsumed turns (S.coming source.old) (S.coming source.new) }
 
-    // What was pushed is flushed, unless a push or a flush failed. So it is after any number of turns: before each pull.
+    // What was pushed is flushed, unless a push or a flush failed: after any number of turns, so before each pull.
     ensures flushed { is_push result.fault ≡ false → K.waits sink.old ≡ false → K.waits sink.new ≡ false }
 {
     let mut frontier = frontier;
@@ -270,9 +270,11 @@ fn answer<K: Sink>(
     requires capacity { length tree.now.entries ≤ frontier.capacity }
     requires count { K.failed sink.old < 2 ^ 64 - 1 }
     requires few { begun.old.lines + 1 < 2 ^ 128 }
-    ensures written { let answered = reply (loaded_tree tree.now) (begun.old.lines + 1) (asked_by begun.old.is_long line.now) in
+    ensures written { let asked = asked_by begun.old.is_long line.now in
+        let answered = reply (loaded_tree tree.now) (begun.old.lines + 1) asked in
         OnOk result (WasPushed (K.written sink.old) (K.written sink.new) answered) }
-    ensures cut { let answered = reply (loaded_tree tree.now) (begun.old.lines + 1) (asked_by begun.old.is_long line.now) in
+    ensures cut { let asked = asked_by begun.old.is_long line.now in
+        let answered = reply (loaded_tree tree.now) (begun.old.lines + 1) asked in
         OnErr result (WasCut (K.written sink.old) (K.written sink.new) answered) }
     ensures lines { begun.new.lines ≡ begun.old.lines + 1 }
     ensures bad { begun.new.bad ≡ (begun.old.bad || is_fault (asked_by begun.old.is_long line.now)) }
@@ -311,7 +313,8 @@ impl Begun {
         requires { K.failed sink.old < 2 ^ 64 - 1 }
         ensures bytes { OnOk result (Keeps (K.written sink.old) (K.written sink.new)) }
         ensures went { OnOk result (K.failed sink.new ≡ K.failed sink.old) }
-        ensures flushed { OnOk result ((self.old.is_pushed ≡ false → K.waits sink.old ≡ false) → K.waits sink.new ≡ false) }
+        ensures flushed { OnOk result ((self.old.is_pushed ≡ false → K.waits sink.old ≡ false)
+            → K.waits sink.new ≡ false) }
         ensures lost { OnErr result (IsUnmoved (K.written sink.old) (K.written sink.new)) }
         ensures fails { OnErr result (K.failed sink.new ≡ K.failed sink.old + 1) }
         ensures lines { self.new.lines ≡ self.old.lines }
