@@ -1,5 +1,5 @@
 -- What a pull and a push do to the bytes that a device tells.
-use Rattle.std.specs.Prelude.{◌≡◌, ℕ, List, take, Option, IfSome, Result, MatchResult}
+use Rattle.std.specs.Prelude.{◌≡◌, ℕ, Bool, false, nat_lt, List, take, Option, IfSome, Result, Ok, Err, MatchResult}
 use Rattle.std.specs.Io.KnownBytes.{Appends, Consumes, IsAtEnd}
 
 -- where the bytes are still told after a failure, they are as before
@@ -17,10 +17,21 @@ abbrev pub Pushes : {E : Type 0} → Option (List ℕ) → Option (List ℕ) →
 Pushes old new pushed piece =
     MatchResult pushed (λ n. Appends old new (take n piece)) (λ _. IsUnmoved old new)
 
--- a device over a reader or a writer of std, and how many of its calls failed
-pub record Device (D : Type 0) : Type 0 where
-  pub device : D
+-- a push that took a byte at least
+abbrev pub took_any : {E : Type 0} → Result ℕ E → Bool
+took_any (Ok n) = nat_lt 0 n
+took_any (Err _) = false
+
+-- a reader of std, and how many of its calls failed
+pub record Reader (R : Type 0) : Type 0 where
+  pub device : R
   pub failures : ℕ
+
+-- a writer of std, how many of its calls failed, and whether bytes that it took wait for a flush
+pub record Writer (W : Type 0) : Type 0 where
+  pub device : W
+  pub failures : ℕ
+  pub waits : Bool
 
 -- bytes in memory that are to come, at most so many a pull
 pub record Slice : Type 0 where
@@ -39,3 +50,5 @@ pub record Room : Type 0 where
   -- the number, from 1, of the push or flush to come that fails; at 0 none does
   pub fails_in : ℕ
   pub failures : ℕ
+  -- whether bytes that it took wait for a flush
+  pub waits : Bool

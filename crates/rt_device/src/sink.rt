@@ -1,6 +1,6 @@
 //! Where answers go.
 
-ghost use Rattle.std.specs.Prelude.{◌≡◌, ◌+◌, ◌-◌, ◌<◌, ◌≤◌, ◌^◌, ℕ, List, Option, IfOk, OnOk, OnErr, length};
+ghost use Rattle.std.specs.Prelude.{◌≡◌, ◌+◌, ◌-◌, ◌<◌, ◌≤◌, ◌^◌, ℕ, Bool, List, Option, IfOk, OnOk, OnErr, false, length};
 ghost use Rattle.std.specs.Io.KnownBytes.{Keeps};
 ghost use Rattle.rt_device.specs.Devices.{IsUnmoved, Pushes};
 
@@ -16,6 +16,9 @@ pub trait Sink {
     // How many calls failed, each push that took no byte among them.
     ghost failed: { Self → ℕ };
 
+    // Whether bytes that were taken wait for a flush. A sink that hands on each byte at once leaves this out.
+    ghost waits: { Self → Bool } = { λ _. false };
+
     /// Takes bytes from the front of the piece, and tells how many: 0 only where it failed.
     fn push(&mut self, piece: &[u8]) -> Result<usize, WriteFault>
         requires piece { 0 < length piece.now }
@@ -30,6 +33,7 @@ pub trait Sink {
     fn flush(&mut self) -> Result<(), WriteFault>
         requires { failed self.old < 2 ^ 64 - 1 }
         ensures bytes { OnOk result (Keeps (written self.old) (written self.new)) }
+        ensures handed_on { OnOk result (waits self.new ≡ false) }
         ensures went { OnOk result (failed self.new ≡ failed self.old) }
         ensures lost { OnErr result (IsUnmoved (written self.old) (written self.new)) }
         ensures fails { OnErr result (failed self.new ≡ failed self.old + 1) };

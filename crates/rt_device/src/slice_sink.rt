@@ -1,8 +1,8 @@
 //! Room in memory as a sink.
 
-ghost use Rattle.std.specs.Prelude.{◌≡◌, ◌+◌, ◌-◌, ◌<◌, ◌≤◌, ◌^◌, ◌↔◌, [], Some, IfOk, IsErr, OnOk, OnErr, length, min, unwrap_or, if◌then◌else◌, true};
+ghost use Rattle.std.specs.Prelude.{◌≡◌, ◌+◌, ◌-◌, ◌<◌, ◌≤◌, ◌^◌, ◌↔◌, ◌||◌, [], Some, IfOk, IsErr, OnOk, OnErr, length, min, unwrap_or, if◌then◌else◌, true, false};
 ghost use Rattle.std.specs.Io.KnownBytes.{Keeps};
-ghost use Rattle.rt_device.specs.Devices.{IsUnmoved, Pushes};
+ghost use Rattle.rt_device.specs.Devices.{IsUnmoved, Pushes, took_any};
 
 use crate::sink::{Sink, WriteFault};
 use std::marker::Model;
@@ -16,6 +16,8 @@ pub struct SliceSink<'a> {
     // The number, from 1, of the push or flush to come that fails; at 0 none does.
     fails_in: u64,
     failures: u64,
+    // Whether bytes were taken since the last flush.
+    waits: bool,
 }
 
 impl<'a> Model for SliceSink<'a> {
@@ -30,6 +32,7 @@ impl<'a> Model for SliceSink<'a> {
       piece = s.piece;
       fails_in = s.fails_in;
       failures = s.failures;
+      waits = s.waits;
     } };
 
     ghost invariant = { λ s. (s.len ≤ length s.room.now) × (0 < s.piece) };
@@ -47,6 +50,7 @@ impl<'a> SliceSink<'a> {
           piece = piece;
           fails_in = unwrap_or fail_at 0;
           failures = 0;
+          waits = false;
         } }
     {
         SliceSink {
@@ -55,6 +59,7 @@ impl<'a> SliceSink<'a> {
             piece,
             fails_in: fail_at.unwrap_or(0),
             failures: 0,
+            waits: false,
         }
     }
 
@@ -86,7 +91,10 @@ impl Sink for SliceSink<'_> {
 
     ghost failed = { λ s. s.failures };
 
-    // As the trait says, and beside that just which push fails and how many bytes each other one takes.
+    ghost waits = { λ s. s.waits };
+
+    // As the trait says, and beside that just which push fails, how many bytes each other one takes, and that they wait
+    // for a flush.
     fn push(&mut self, piece: &[u8]) -> Result<usize, WriteFault>
         requires piece { 0 < length piece.now }
         requires count { self.old.failures < 2 ^ 64 - 1 }
@@ -99,6 +107,7 @@ impl Sink for SliceSink<'_> {
         ensures many { IfOk result (λ n. n ≡ min self.old.piece (min self.old.left (length piece.now))) }
         ensures left { IfOk result (λ n. self.new.left ≡ self.old.left - n) }
         ensures lost { OnErr result (self.new.left ≡ self.old.left) }
+        ensures waits { self.new.waits ≡ (took_any result || self.old.waits) }
         ensures later { (self.new.fails_in ≡ self.old.fails_in - 1) × (self.new.piece ≡ self.old.piece) }
     {
         if self.fails() {
@@ -112,10 +121,11 @@ impl Sink for SliceSink<'_> {
         }
         self.room[at..at + n].copy_from_slice(&piece[..n]);
         self.len = at + n;
+        self.waits = true;
         Ok(n)
     }
 
-    // As the trait says, and beside that just which flush fails.
+    // As the trait says, and beside that just which flush fails. One that does leaves bytes waiting.
     fn flush(&mut self) -> Result<(), WriteFault>
         requires { self.old.failures < 2 ^ 64 - 1 }
         ensures bytes { OnOk result (Keeps (Some self.old.bytes) (Some self.new.bytes)) }
@@ -125,10 +135,13 @@ impl Sink for SliceSink<'_> {
         ensures which { IsErr result ↔ (self.old.fails_in ≡ 1) }
         ensures later { (self.new.fails_in ≡ self.old.fails_in - 1) × (self.new.piece ≡ self.old.piece) }
         ensures left { self.new.left ≡ self.old.left }
+        ensures handed_on { OnOk result (self.new.waits ≡ false) }
+        ensures waits { OnErr result (self.new.waits ≡ self.old.waits) }
     {
         if self.fails() {
             return Err(WriteFault);
         }
+        self.waits = false;
         Ok(())
     }
 

@@ -1,6 +1,8 @@
 //! A writer of std as a sink.
 
-ghost use Rattle.std.specs.Prelude.{◌≡◌};
+ghost use Rattle.std.specs.Prelude.{◌≡◌, ◌+◌, ◌-◌, ◌<◌, ◌≤◌, ◌^◌, ◌||◌, IfOk, OnOk, OnErr, false, length};
+ghost use Rattle.std.specs.Io.KnownBytes.{Keeps};
+ghost use Rattle.rt_device.specs.Devices.{IsUnmoved, Pushes, took_any};
 
 use crate::sink::{Sink, WriteFault};
 use std::io::Write;
@@ -12,25 +14,29 @@ use std::marker::Model;
 pub struct WriteSink<W: Write> {
     writer: W,
     failures: u64,
+    // Whether bytes were taken since the last flush.
+    waits: bool,
 }
 
 impl<W: Write> Model for WriteSink<W> {
-    ghost use Rattle.rt_device.specs.Devices.{Device};
+    ghost use Rattle.rt_device.specs.Devices.{Writer};
 
-    ghost Value = { Device W };
+    ghost Value = { Writer W };
 
-    ghost view = { λ s. record { device = s.writer; failures = s.failures } };
+    ghost view = { λ s. record { device = s.writer; failures = s.failures; waits = s.waits } };
 }
 
 impl<W: Write> WriteSink<W> {
-    /// The writer, none of its calls failed yet.
+    /// The writer, none of its calls made yet.
     pub fn new(writer: W) -> WriteSink<W>
         ensures writer { result.device ≡ writer }
         ensures count { result.failures ≡ 0 }
+        ensures waits { result.waits ≡ false }
     {
         WriteSink {
             writer,
             failures: 0,
+            waits: false,
         }
     }
 }
@@ -40,13 +46,28 @@ impl<W: Write> Sink for WriteSink<W> {
 
     ghost failed = { λ s. s.failures };
 
-    fn push(&mut self, piece: &[u8]) -> Result<usize, WriteFault> {
+    ghost waits = { λ s. s.waits };
+
+    // As the trait says, and beside that bytes that are taken wait for a flush.
+    fn push(&mut self, piece: &[u8]) -> Result<usize, WriteFault>
+        requires piece { 0 < length piece.now }
+        requires count { self.old.failures < 2 ^ 64 - 1 }
+        ensures bound { IfOk result (λ n. n ≤ length piece.now) }
+        ensures bytes { Pushes (W.contents self.old.device) (W.contents self.new.device) result piece.now }
+        ensures went { IfOk result (λ n. 0 < n → self.new.failures ≡ self.old.failures) }
+        ensures took_none { IfOk result (λ n. n ≡ 0 → self.new.failures ≡ self.old.failures + 1) }
+        ensures fails { OnErr result (self.new.failures ≡ self.old.failures + 1) }
+        ensures waits { self.new.waits ≡ (took_any result || self.old.waits) }
+    {
         match self.writer.write(piece) {
             Ok(0) => {
                 self.failures += 1;
                 Ok(0)
             }
-            Ok(n) => Ok(n),
+            Ok(n) => {
+                self.waits = true;
+                Ok(n)
+            }
             Err(_) => {
                 self.failures += 1;
                 Err(WriteFault)
@@ -54,9 +75,21 @@ impl<W: Write> Sink for WriteSink<W> {
         }
     }
 
-    fn flush(&mut self) -> Result<(), WriteFault> {
+    // As the trait says, and beside that a flush that failed leaves bytes waiting.
+    fn flush(&mut self) -> Result<(), WriteFault>
+        requires { self.old.failures < 2 ^ 64 - 1 }
+        ensures bytes { OnOk result (Keeps (W.contents self.old.device) (W.contents self.new.device)) }
+        ensures went { OnOk result (self.new.failures ≡ self.old.failures) }
+        ensures lost { OnErr result (IsUnmoved (W.contents self.old.device) (W.contents self.new.device)) }
+        ensures fails { OnErr result (self.new.failures ≡ self.old.failures + 1) }
+        ensures handed_on { OnOk result (self.new.waits ≡ false) }
+        ensures waits { OnErr result (self.new.waits ≡ self.old.waits) }
+    {
         match self.writer.flush() {
-            Ok(()) => Ok(()),
+            Ok(()) => {
+                self.waits = false;
+                Ok(())
+            }
             Err(_) => {
                 self.failures += 1;
                 Err(WriteFault)

@@ -1,5 +1,5 @@
 -- One pull, and what it leaves.
-use Rattle.std.proofs.Common.{◌≡◌, ◌∙◌, ◌+◌, ◌-◌, ◌<◌, ◌≤◌, ℕ, Bool, true, false, ◌||◌, List, [], ◌∷◌, ◌++◌, length, take, Option, Some, None, refl, sym, ap, arith, append_assoc, append-nil}
+use Rattle.std.proofs.Common.{◌≡◌, ◌∙◌, ◌+◌, ◌-◌, ◌<◌, ◌≤◌, ℕ, Bool, true, false, ◌||◌, List, [], ◌∷◌, ◌++◌, length, take, Option, Some, None, refl, sym, ap, ap₂, arith, append_assoc, append-nil}
 use Rattle.std.specs.Prelude.{if◌then◌else◌, nat_lt}
 use Rattle.std.specs.Io.KnownBytes.{Consumes, IsAtEnd}
 use Rattle.std.specs.List.{enumerate_from, slice_split}
@@ -20,7 +20,7 @@ use Rattle.rt_filter.proofs.PieceLemmas.{any_fault-append, no_line, or_first, ou
 -- ---- what fills the room
 
 -- what is held, and then what a pull gave
-pub filled_with : (held k n : ℕ) (room given : List ℕ) → held ≤ length room → k ≡ length room - held → length given ≡ k → n ≤ length given
+filled_with : (held k n : ℕ) (room given : List ℕ) → held ≤ length room → k ≡ length room - held → length given ≡ k → n ≤ length given
     → take (held + n) (put_mid held k room given) ≡ take held room ++ take n given
 filled_with held k n room given low size whole few =
     let all : take (held + length given) (put_mid held k room given) ≡ take held room ++ given = take-put_mid held k room given (held + length given) refl low in
@@ -28,6 +28,30 @@ filled_with held k n room given low size whole few =
     let long : held + n ≤ held + length given = omega (arith, few) in
     sym (take-take (held + n) (held + length given) (put_mid held k room given) long) ∙ ap (take (held + n)) all
     ∙ ap (λ j. take (j + n) (take held room ++ given)) (sym front) ∙ take-append-add (take held room) given n
+
+-- what fills the room after a pull of n bytes behind those that are held
+abbrev pub filling : (held n : ℕ) (room given : List ℕ) → List ℕ
+filling held n room given = take (held + n) (put_mid held (length room - held) room given)
+
+pub record IsFilled (held n : ℕ) (room given : List ℕ) : Type 0 where
+  pub parts : filling held n room given ≡ take held room ++ take n given
+  pub none : n ≡ 0 → (take n given ≡ []) × (filling held n room given ≡ take held room)
+  pub few : length (take n given) ≤ most_pulled
+  pub size : length (filling held n room given) ≡ held + n
+
+pub room_filled : (held n : ℕ) (room given : List ℕ) → held < most_pulled → length room ≡ most_pulled → length given ≡ length room - held → n ≤ length given
+    → IsFilled held n room given
+room_filled held n room given begun whole rest bound =
+    let low : held ≤ length room = omega (arith, begun, whole) in
+    let parts = filled_with held (length room - held) n room given low refl rest bound in
+    let nothing : n ≡ 0 → take n given ≡ [] = λ z. ap (λ k. take k given) z in
+    record {
+      parts = parts;
+      none = λ z. (nothing z, parts ∙ ap (λ zs. take held room ++ zs) (nothing z) ∙ append-nil (take held room));
+      few = omega (arith, length-take-le n given bound, bound, rest, whole);
+      size = ap length parts ∙ length-append (take held room) (take n given)
+          ∙ ap₂ (λ (i : ℕ) (j : ℕ). i + j) (length-take-le held room low) (length-take-le n given bound);
+    }
 
 -- ---- lines of bytes that go on, and that have ended
 

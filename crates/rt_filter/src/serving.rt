@@ -82,6 +82,9 @@ pub fn serve<S: Source, K: Sink>(
         ⊎ ((S.failed source.new ≡ S.failed source.old + 1) × (is_pull result.fault ≡ true)) }
     ensures turns { is_pull result.fault ≡ true → S.failed source.new ≡ S.failed source.old
         → HasConsumed turns (S.coming source.old) (S.coming source.new) }
+
+    // What was pushed is flushed, unless a push or a flush failed: after any number of turns, so before each pull.
+    ensures flushed { is_push result.fault ≡ false → K.waits sink.old ≡ false → K.waits sink.new ≡ false }
 {
     let mut frontier = frontier;
     let mut begun = Begun::new();
@@ -158,9 +161,10 @@ fn turn<S: Source, K: Sink>(
     ensures few { begun.new.lines ≤ begun.old.lines + most_pulled }
     ensures went { OnOk result ((S.failed source.new ≡ S.failed source.old) × (K.failed sink.new ≡ K.failed sink.old)) }
     ensures pulls { IfErr result (λ fault. fault ≡ ServeFault.Read
-        → (S.failed source.new ≡ S.failed source.old + 1) × (K.failed sink.new ≡ K.failed sink.old)) }
+        → (S.failed source.new ≡ S.failed source.old + 1) × (sink.new ≡ sink.old)) }
     ensures pushes { IfErr result (λ fault. fault ≡ ServeFault.Write
         → (S.failed source.new ≡ S.failed source.old) × (K.failed sink.new ≡ K.failed sink.old + 1)) }
+    ensures flushed { OnOk result (K.waits sink.old ≡ false → K.waits sink.new ≡ false) }
 {
     let Ok(n) = source.pull(&mut room[begun.held..]) else {
         return Err(ServeFault::Read);
@@ -202,6 +206,7 @@ fn answer_piece<K: Sink>(
     ensures few { begun.new.lines ≤ begun.old.lines + length bytes.now }
     ensures went { OnOk result (K.failed sink.new ≡ K.failed sink.old) }
     ensures fails { OnErr result (K.failed sink.new ≡ K.failed sink.old + 1) }
+    ensures flushed { OnOk result (K.waits sink.old ≡ false → K.waits sink.new ≡ false) }
 {
     let mut frontier = frontier;
     let mut rest = bytes;
@@ -237,6 +242,7 @@ fn answer_end<K: Sink>(
     ensures few { begun.new.lines ≤ begun.old.lines + 1 }
     ensures went { OnOk result (K.failed sink.new ≡ K.failed sink.old) }
     ensures fails { OnErr result (K.failed sink.new ≡ K.failed sink.old + 1) }
+    ensures flushed { OnOk result (K.waits sink.old ≡ false → K.waits sink.new ≡ false) }
 {
     if !is_line(begun.is_long, held) {
         return Ok(());
@@ -253,7 +259,7 @@ fn is_line(is_long: bool, held: &[u8]) -> bool
     is_long || !held.is_empty()
 }
 
-// Answers one line.
+// Answers one line. Where nothing is pushed, the sink is left alone.
 fn answer<K: Sink>(
     tree: &Tree,
     frontier: Frontier,
@@ -264,9 +270,11 @@ fn answer<K: Sink>(
     requires capacity { length tree.now.entries ≤ frontier.capacity }
     requires count { K.failed sink.old < 2 ^ 64 - 1 }
     requires few { begun.old.lines + 1 < 2 ^ 128 }
-    ensures written { let answered = reply (loaded_tree tree.now) (begun.old.lines + 1) (asked_by begun.old.is_long line.now) in
+    ensures written { let asked = asked_by begun.old.is_long line.now in
+        let answered = reply (loaded_tree tree.now) (begun.old.lines + 1) asked in
         OnOk result (WasPushed (K.written sink.old) (K.written sink.new) answered) }
-    ensures cut { let answered = reply (loaded_tree tree.now) (begun.old.lines + 1) (asked_by begun.old.is_long line.now) in
+    ensures cut { let asked = asked_by begun.old.is_long line.now in
+        let answered = reply (loaded_tree tree.now) (begun.old.lines + 1) asked in
         OnErr result (WasCut (K.written sink.old) (K.written sink.new) answered) }
     ensures lines { begun.new.lines ≡ begun.old.lines + 1 }
     ensures bad { begun.new.bad ≡ (begun.old.bad || is_fault (asked_by begun.old.is_long line.now)) }
@@ -275,18 +283,17 @@ fn answer<K: Sink>(
     ensures capacity { IfOk result (λ frontier'. frontier'.capacity ≡ frontier.capacity) }
     ensures went { OnOk result (K.failed sink.new ≡ K.failed sink.old) }
     ensures fails { OnErr result (K.failed sink.new ≡ K.failed sink.old + 1) }
+    ensures untouched { begun.new.is_pushed ≡ false → (begun.old.is_pushed ≡ false) × (sink.new ≡ sink.old) }
 {
     let asked = asked_by(begun.is_long, line);
     begun.lines += 1;
     begun.is_long = false;
     match &asked {
-        Parsed::Skip => {}
-        Parsed::Query(_) => begun.is_pushed = true,
-        Parsed::Fault(_) => {
-            begun.is_pushed = true;
-            begun.bad = true;
-        }
+        Parsed::Skip => return Ok(frontier),
+        Parsed::Query(_) => {}
+        Parsed::Fault(_) => begun.bad = true,
     }
+    begun.is_pushed = true;
     push_reply(tree, frontier, begun.lines, asked, sink)
 }
 
@@ -306,6 +313,8 @@ impl Begun {
         requires { K.failed sink.old < 2 ^ 64 - 1 }
         ensures bytes { OnOk result (Keeps (K.written sink.old) (K.written sink.new)) }
         ensures went { OnOk result (K.failed sink.new ≡ K.failed sink.old) }
+        ensures flushed { OnOk result ((self.old.is_pushed ≡ false → K.waits sink.old ≡ false)
+            → K.waits sink.new ≡ false) }
         ensures lost { OnErr result (IsUnmoved (K.written sink.old) (K.written sink.new)) }
         ensures fails { OnErr result (K.failed sink.new ≡ K.failed sink.old + 1) }
         ensures lines { self.new.lines ≡ self.old.lines }

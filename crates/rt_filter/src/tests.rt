@@ -13,7 +13,8 @@ use std::test::Fail;
 mod failures;
 mod turns;
 
-const BOXES: &[u8] = b"1,0,10,0,10\n2,5,15,5,15\n3,20,30,0,10\n4,-5,-1,-5,-1\n5,12,12,12,12\n";
+pub(crate) const BOXES: &[u8] =
+    b"1,0,10,0,10\n2,5,15,5,15\n3,20,30,0,10\n4,-5,-1,-5,-1\n5,12,12,12,12\n";
 
 const WITH_HEADER: &[u8] =
     b"id,minX,maxX,minY,maxY\n1,0,10,0,10\n2,5,15,5,15\n3,20,30,0,10\n4,-5,-1,-5,-1\n5,12,12,12,12\n";
@@ -193,7 +194,7 @@ const REPLIES: [(&[u8], &[u8]); 19] = [
 #[test]
 fn replies_to_queries(rt: HostRuntime) -> Result<(), Fail> {
     let two = Given { fanout: 2, ..PLAIN };
-    for (query, written) in REPLIES {
+    for (query, written) in &REPLIES {
         two.expect(&rt, BOXES, query, written, 0, None)?;
     }
     PLAIN.expect(&rt, BOXES, b"levels", b"1 1\n0 5\nok 1 2\n", 0, None)?;
@@ -348,8 +349,8 @@ const FAULTY_TABLES: [(&[u8], TableFault); 8] = [
 
 #[test]
 fn refuses_faulty_tables(rt: HostRuntime) -> Result<(), Fail> {
-    for (table, fault) in FAULTY_TABLES {
-        PLAIN.expect(&rt, table, FIND, b"", 3, Some(RunFault::Table(fault)))?;
+    for (table, fault) in &FAULTY_TABLES {
+        PLAIN.expect(&rt, table, FIND, b"", 3, Some(RunFault::Table(*fault)))?;
     }
     let one = Given {
         max_entries: 1,

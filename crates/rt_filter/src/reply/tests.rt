@@ -3,11 +3,12 @@
 ghost use Rattle.std.specs.Prelude.{◌≡◌, length};
 
 use super::push_reply;
+use crate::tests::BOXES;
 use rt_device::{Sink, SliceSink, WriteFault};
-use rt_geo::{Bounds, ById, Circle, Entry, Order, Point, Region};
+use rt_geo::{ById, Circle, Order, Point, Region};
 use rt_search::Frontier;
-use rt_text::{Parsed, Query, parse};
-use rt_tree::{Table, Tree};
+use rt_text::{Parsed, Query, parse, read_table};
+use rt_tree::Tree;
 use std::alloc::Global;
 use std::process::Abort;
 
@@ -16,15 +17,6 @@ const LINE: u128 = 7;
 
 /// The most bytes that a sink of these tests has room for.
 const ROOM: usize = 64;
-
-/// The five boxes of the examples.
-static BOXES: [(i64, [i32; 4]); 5] = [
-    (1, [0, 10, 0, 10]),
-    (2, [5, 15, 5, 15]),
-    (3, [20, 30, 0, 10]),
-    (4, [-5, -1, -5, -1]),
-    (5, [12, 12, 12, 12]),
-];
 
 /// Lines with their replies: each region in each order, then the other forms.
 static REPLIES: [(&[u8], &[u8]); 33] = [
@@ -84,18 +76,9 @@ static REPLIES: [(&[u8], &[u8]); 33] = [
     (b"find all first", b"error 7 Q4 missing word\n"),
 ];
 
+// The five boxes of the examples, at most two children for each node.
 fn pack(rt: &impl Abort, alloc: Global) -> Tree {
-    let mut table = Table::empty(alloc);
-    for (id, [min_x, max_x, min_y, max_y]) in BOXES {
-        let bounds = Bounds::new(min_x, max_x, min_y, max_y).expect(
-            rt,
-            "the minimums are at most the maximums",
-        );
-        assert!(rt; table.len() < Table::MOST_ENTRIES, "there is room");
-        table
-            .push(Entry { id, bounds })
-            .expect(rt, "the id is new, and there is memory");
-    }
+    let table = read_table(alloc, BOXES, false, 5).expect(rt, "the table is sound");
     Tree::pack(alloc, table, 2).expect(rt, "there is memory")
 }
 
@@ -105,22 +88,36 @@ fn frontier_over(rt: &impl Abort, alloc: Global, tree: &Tree) -> Frontier
     Frontier::new(alloc, tree.len()).expect(rt, "there is memory")
 }
 
+// Replies to a line, at most so many bytes a push, and compares what was pushed.
+fn expect_reply(
+    rt: &impl Abort,
+    tree: &Tree,
+    frontier: Frontier,
+    piece: usize,
+    text: &[u8],
+    reply: &[u8],
+) -> Frontier {
+    assert!(rt; piece > 0);
+    assert_eq!(rt; frontier.capacity(), tree.len());
+    let mut room = [0u8; ROOM];
+    let mut sink = SliceSink::new(&mut room, piece, None);
+    let frontier = push_reply(tree, frontier, LINE, parse(text), &mut sink).expect(
+        rt,
+        "no push fails",
+    );
+    assert_eq!(rt; sink.written(), reply);
+    assert_eq!(rt; sink.failures(), 0);
+    frontier
+}
+
 #[test]
 fn replies_in_every_form(rt: HostRuntime) {
     let tree = pack(&rt, rt.alloc());
     // One frontier serves all replies, one after the other.
     let mut frontier = frontier_over(&rt, rt.alloc(), &tree);
     for piece in [1, 3, ROOM] {
-        for (text, reply) in REPLIES {
-            assert_eq!(rt; frontier.capacity(), tree.len());
-            let mut room = [0u8; ROOM];
-            let mut sink = SliceSink::new(&mut room, piece, None);
-            frontier = push_reply(&tree, frontier, LINE, parse(text), &mut sink).expect(
-                &rt,
-                "no push fails",
-            );
-            assert_eq!(rt; sink.written(), reply);
-            assert_eq!(rt; sink.failures(), 0);
+        for (text, reply) in &REPLIES {
+            frontier = expect_reply(&rt, &tree, frontier, piece, text, reply);
         }
     }
 }
@@ -157,9 +154,9 @@ static PUSHES: [(&[u8], usize, &[usize]); 7] = [
 
 fn reply_to(rt: &impl Abort, text: &[u8]) -> &'static [u8] {
     let mut found = None;
-    for (line, reply) in REPLIES {
-        if line == text {
-            found = Some(reply);
+    for (line, reply) in &REPLIES {
+        if *line == text {
+            found = Some(*reply);
         }
     }
     found.expect(rt, "the reply is listed")
@@ -186,19 +183,24 @@ fn a_failed_push_ends_the_reply(rt: HostRuntime) {
     }
 }
 
+// Replies to a line, with room for the first so many bytes alone.
+fn expect_cut(rt: &impl Abort, alloc: Global, tree: &Tree, text: &[u8], front: &[u8]) {
+    let mut room = [0u8; ROOM];
+    assert!(rt; front.len() <= ROOM, "each reply has room");
+    let mut sink = SliceSink::new(&mut room[..front.len()], 3, None);
+    let frontier = frontier_over(rt, alloc, tree);
+    let result = push_reply(tree, frontier, LINE, parse(text), &mut sink);
+    assert_eq!(rt; result.err(), Some(WriteFault));
+    assert_eq!(rt; sink.written(), front);
+    assert_eq!(rt; sink.failures(), 1);
+}
+
 #[test]
 fn room_that_runs_out_ends_the_reply(rt: HostRuntime) {
     let tree = pack(&rt, rt.alloc());
-    for (text, reply) in REPLIES {
+    for (text, reply) in &REPLIES {
         for len in 0..reply.len() {
-            assert!(rt; len <= ROOM, "each reply has room");
-            let mut room = [0u8; ROOM];
-            let mut sink = SliceSink::new(&mut room[..len], 3, None);
-            let frontier = frontier_over(&rt, rt.alloc(), &tree);
-            let result = push_reply(&tree, frontier, LINE, parse(text), &mut sink);
-            assert_eq!(rt; result.err(), Some(WriteFault));
-            assert_eq!(rt; sink.written(), &reply[..len]);
-            assert_eq!(rt; sink.failures(), 1);
+            expect_cut(&rt, rt.alloc(), &tree, text, &reply[..len]);
         }
     }
 }

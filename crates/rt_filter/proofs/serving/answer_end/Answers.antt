@@ -1,4 +1,4 @@
-use Rattle.std.proofs.Common.{◌≡◌, refl}
+use Rattle.std.proofs.Common.{refl}
 use Rattle.std.proofs.lemmas.Result.{on_err_weaker, on_ok_weaker}
 use Rattle.rt_filter.specs.Stages.{loaded_tree}
 use Rattle.rt_filter.proofs.PushLemmas.{at_error}

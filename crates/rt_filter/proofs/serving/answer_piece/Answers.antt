@@ -30,6 +30,7 @@ loop-end-preserved g c =
           c.args.begun.now.lines c.args.begun.now.bad c.args.begun.now.is_long c.args.bytes.now c.loop-end.begun.lines c.loop-end.begun.bad c.loop-end.begun.is_long c.loop-end.rest.now
           c.loop-end.invariant.steps left c.in-Some.end c.answer.new.begun.lines c.answer.new.begun.bad c.answer.new.begun.is_long c.in-Some.ensures is c.in_ok-frontier.ensures.written
           c.answer.ensures.lines c.answer.ensures.bad c.answer.ensures.is_long;
+      flushed = λ e. ap g.K.Sink.waits (c.answer.ensures.untouched e).1 ∙ c.loop-end.invariant.flushed (c.answer.ensures.untouched e).0;
     }
 
 pub returns-in_err-flush-clause-cut : goal.returns-in_err-flush-clause-cut

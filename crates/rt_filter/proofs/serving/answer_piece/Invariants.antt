@@ -1,9 +1,9 @@
-use Rattle.std.proofs.Common.{◌≡◌, ◌+◌, ◌-◌, ◌≤◌, length, drop}
+use Rattle.std.proofs.Common.{◌≡◌, ◌+◌, ◌-◌, ◌≤◌, false, length, drop}
 use Rattle.rt_filter.specs.Stages.{loaded_tree}
 use Rattle.rt_filter.proofs.PieceLemmas.{Steps}
 use Rattle.rt_filter.proofs.serving.answer_piece.Given as goal
 
--- the lines before the rest are answered, and no call has failed
+-- the lines before the rest are answered, and no call has failed. Where nothing was pushed, nothing waits that didn't
 abbrev pub invariant-loop-end : goal.invariant-loop-end
 invariant-loop-end g l = record {
   count : g.K.Sink.failed l.sink ≡ g.K.Sink.failed l.initial.sink;
@@ -14,6 +14,7 @@ invariant-loop-end g l = record {
   back : l.rest ≡ drop (length l.bytes - length l.rest) l.bytes;
   steps : Steps (loaded_tree l.tree) (g.K.Sink.written l.initial.sink) (g.K.Sink.written l.sink)
       l.initial.begun.lines l.initial.begun.bad l.initial.begun.is_long l.bytes l.begun.lines l.begun.bad l.begun.is_long l.rest;
+  flushed : l.begun.is_pushed ≡ false → g.K.Sink.waits l.sink ≡ g.K.Sink.waits l.initial.sink;
 }
 
 abbrev pub decreases-loop-end : goal.decreases-loop-end

@@ -15,6 +15,7 @@ loop-turn-init g c = record {
   serving = λ queries before e w.
       rw (c.new-begun.ensures.lines, c.new-begun.ensures.bad, c.new-begun.ensures.is_long, c.new-begun.ensures.held)
       (serving_first (loaded_tree c.args.tree.now) queries before (g.S.Source.coming c.args.source.now) (g.K.Sink.written c.args.sink.now) e w);
+  flushed = λ e. e;
 }
 
 pub loop-turn-preserved : goal.loop-turn-preserved
@@ -28,6 +29,7 @@ loop-turn-preserved g c = record {
   given = consumed_more c.loop-turn._turn (g.S.Source.coming c.args.source.now) (g.S.Source.coming c.loop-turn.source) (g.S.Source.coming c.turn.new.source)
       c.loop-turn.invariant.given (rw c.in-Ok-Some.field-0-is at c.in-Ok-Some.ensures.gives);
   serving = λ queries before e w. (rw c.in-Ok-Some.field-0-is at c.in-Ok-Some.ensures.serving) queries before (c.loop-turn.invariant.serving queries before e w);
+  flushed = λ e. c.in-Ok-Some.ensures.flushed (c.loop-turn.invariant.flushed e);
 }
 
 pub returns-clause-ending : goal.returns-clause-ending

@@ -1,10 +1,10 @@
-use Rattle.std.proofs.Common.{◌≡◌, ◌*◌, ◌<◌, ◌≤◌, length, take, List, ℕ, Some}
+use Rattle.std.proofs.Common.{◌≡◌, ◌*◌, ◌<◌, ◌≤◌, false, length, take, List, ℕ, Some}
 use Rattle.rt_filter.specs.Endings.{HasConsumed, told_of}
 use Rattle.rt_filter.specs.Lines.{most_pulled}
 use Rattle.rt_filter.specs.Stages.{IsServing, loaded_tree}
 use Rattle.rt_filter.proofs.serving.serve.Given as goal
 
--- no call has failed, each turn gave a byte at least, and what was pulled is answered
+-- no call has failed, each turn gave a byte at least, and what was pulled is answered and flushed
 abbrev pub invariant-loop-turn : goal.invariant-loop-turn
 invariant-loop-turn g l = record {
   capacity : length l.tree.entries ≤ l.frontier.capacity;
@@ -17,4 +17,5 @@ invariant-loop-turn g l = record {
   serving : (queries before : List ℕ) → g.S.Source.coming l.initial.source ≡ Some queries → g.K.Sink.written l.initial.sink ≡ Some before
       → IsServing (loaded_tree l.tree) (told_of queries before (g.S.Source.coming l.source) (g.K.Sink.written l.sink))
       l.begun.lines l.begun.bad l.begun.is_long (take l.begun.held l.room);
+  flushed : g.K.Sink.waits l.initial.sink ≡ false → g.K.Sink.waits l.sink ≡ false;
 }
