@@ -1,6 +1,6 @@
 -- Numbers as text: one digit at a time, up to a greatest number, and one range within another.
 use Rattle.std.proofs.Common.{◌≡◌, ◌+◌, ◌*◌, ◌-◌, ◌<◌, ◌≤◌, ℕ, ℤ, pos, negsuc, ◌^◌, ◌≤ℤ◌, ◌<ℤ◌, min, Bool, true, false, ◌&&◌, Option, Some, None, List, drop, take, length, get_or, arith, ◌∙◌, ap, sym, refl, add-one}
-use Rattle.std.specs.Prelude.{Result, Ok, Err, int_le, if◌then◌else◌, neg_ℤ, option_map}
+use Rattle.std.specs.Prelude.{Result, Ok, Err, int_le, if◌then◌else◌, neg_ℤ, ok_or, option_map}
 use Rattle.std.specs.Char.{digit_value, is_ascii_digit}
 use Rattle.std.specs.List.{list_all}
 use Rattle.std.specs.Str.Parse.{digits_value, starts_with_minus}
@@ -50,6 +50,15 @@ small-more i m c h d = rw (add-one i, pow-suc 10 i) (omega (arith, nine c d))
 -- before the last of 19 digits
 pub short_step : (i m : ℕ) → i < 19 → m < 10 ^ i → m < 10 ^ 18
 short_step i m h small = omega (arith, pow-le-pow_right {n = 10} (omega arith) {i = i} {j = 18} (omega arith))
+
+-- fewer digits than an i64 has room for
+pub short_natural : (i m : ℕ) → i ≤ 18 → m < 10 ^ i → m < 10 ^ 18
+short_natural i m h small = omega (arith, small, pow-le-pow_right {n = 10} (omega arith) {i = i} {j = 18} h)
+
+-- a value, made into another
+pub ok-mapped : {A B E : Type 0} (f : A → B) (o : Option A) (a : A) (e : E) → Ok a ≡ ok_or o e → Ok (f a) ≡ ok_or (option_map f o) e
+ok-mapped f None a e h = absurd cc
+ok-mapped f (Some b) a e h = let same : a ≡ b = cc in rw same refl
 
 -- ---- a range within another
 

@@ -1,10 +1,13 @@
 //! Numbers as text.
 
-ghost use Rattle.std.specs.Prelude.{◌≡◌, ◌≤ℤ◌, ◌≤◌, IfOk, length, neg_ℤ, pos, min, option_map, ok_or};
-ghost use Rattle.rt_text.specs.Numbers.{digits_number, in_range, number_in};
+ghost use Rattle.std.specs.Prelude.{◌≡◌, ◌≤ℤ◌, ◌<◌, ◌≤◌, ◌^◌, IfOk, length, neg_ℤ, pos, min, option_map, ok_or};
+ghost use Rattle.rt_text.specs.Numbers.{digits_number, in_range, number_in, number_text};
 
 /// As many digits as a `u64` has room for, whichever they are.
 const SHORT: usize = 19;
+
+/// As many digits as an `i64` has room for, whichever they are and with either sign.
+const SHORT_SIGNED: usize = 18;
 
 /// Why a text is no number of a range.
 #[derive(Clone, Copy, Debug, PartialEq, Eq)]
@@ -27,6 +30,50 @@ pub fn number(text: &[u8], low: i128, high: i128) -> Result<i128, NumberFault>
     } else {
         Err(NumberFault::OutOfRange)
     }
+}
+
+/// The same for a range within that of `i64`.
+pub(crate) fn number_64(text: &[u8], low: i64, high: i64) -> Result<i64, NumberFault>
+    ensures value { result ≡ number_in low high text.now }
+    ensures within { IfOk result (λ n. (low ≤ℤ n) × (n ≤ℤ high)) }
+{
+    if SHORT_SIGNED < text.len() {
+        return Ok(number(text, i128::from(low), i128::from(high))? as i64);
+    }
+    let number = short_signed(text)?;
+    if number < low || high < number {
+        return Err(NumberFault::OutOfRange);
+    }
+    Ok(number)
+}
+
+// The number that a short text gives.
+fn short_signed(text: &[u8]) -> Result<i64, NumberFault>
+    requires { length text.now ≤ SHORT_SIGNED }
+    ensures { result ≡ ok_or (number_text text.now) NumberFault.NotNumber }
+{
+    match text {
+        [b'-', digits @ ..] => short_below_zero(digits),
+        [b'+', digits @ ..] => short_above_zero(digits),
+        digits => short_above_zero(digits),
+    }
+}
+
+// The number that a few digits write after a `-`.
+fn short_below_zero(digits: &[u8]) -> Result<i64, NumberFault>
+    requires { length digits.now ≤ SHORT_SIGNED }
+    ensures { result ≡ ok_or (option_map (λ n. neg_ℤ (pos n)) (digits_number digits.now)) NumberFault.NotNumber }
+{
+    Ok(-short_above_zero(digits)?)
+}
+
+// The number that a few digits write after a `+` or no sign.
+fn short_above_zero(digits: &[u8]) -> Result<i64, NumberFault>
+    requires { length digits.now ≤ SHORT_SIGNED }
+    ensures value { result ≡ ok_or (option_map pos (digits_number digits.now)) NumberFault.NotNumber }
+    ensures natural { IfOk result (λ n. pos 0 ≤ℤ n) }
+{
+    Ok(short_magnitude(digits)? as i64)
 }
 
 // The number that a text gives, where an `i128` has room for it.
@@ -72,7 +119,8 @@ fn magnitude(digits: &[u8]) -> Result<u128, NumberFault>
 // The number that a few digits write, for which a `u64` has room.
 fn short_magnitude(digits: &[u8]) -> Result<u64, NumberFault>
     requires { length digits.now ≤ SHORT }
-    ensures { result ≡ ok_or (digits_number digits.now) NumberFault.NotNumber }
+    ensures value { result ≡ ok_or (digits_number digits.now) NumberFault.NotNumber }
+    ensures small { IfOk result (λ n. n < 10 ^ length digits.now) }
 {
     if digits.is_empty() {
         return Err(NumberFault::NotNumber);

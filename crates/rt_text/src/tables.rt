@@ -215,7 +215,7 @@ fn field(fields: &ByteRecord, place: usize) -> &[u8]
 fn id_of(number: u32, text: &[u8]) -> Result<i64, TableFault>
     ensures { result ≡ id_of number text.now }
 {
-    Ok(number_of(number, 1, text, i128::from(i64::MIN), i128::from(i64::MAX))? as i64)
+    number_of(number, 1, text, i64::MIN, i64::MAX)
 }
 
 // A later field.
@@ -226,17 +226,17 @@ fn coordinate_of(number: u32, field: u8, text: &[u8]) -> Result<i32, TableFault>
         number,
         field,
         text,
-        i128::from(i32::MIN),
-        i128::from(i32::MAX),
+        i64::from(i32::MIN),
+        i64::from(i32::MAX),
     )? as i32)
 }
 
 // The number of a field, within its range.
-fn number_of(number: u32, field: u8, text: &[u8], low: i128, high: i128) -> Result<i128, TableFault>
+fn number_of(number: u32, field: u8, text: &[u8], low: i64, high: i64) -> Result<i64, TableFault>
     ensures value { result ≡ map_fault (field_fault number field) (number_in low high text.now) }
     ensures within { IfOk result (λ n. (low ≤ℤ n) × (n ≤ℤ high)) }
 {
-    match numbers::number(text, low, high) {
+    match numbers::number_64(text, low, high) {
         Ok(value) => Ok(value),
         Err(NumberFault::NotNumber) => Err(TableFault::NotNumber { number, field }),
         Err(NumberFault::OutOfRange) => Err(TableFault::OutOfRange { number, field }),
