@@ -13,6 +13,8 @@ mod Rows
 mod SortKeyLemmas
 mod SquareLemmas
 mod Soundness
+mod TieLemmas
+mod TieOrders
 mod TileLemmas
 pub mod Permutations
 pub mod RepeatLemmas

@@ -26,7 +26,7 @@ sorted_each cmp (ys ∷ yss) = IsPermutation-append ys (sorted cmp ys) (joined y
     (IsPermutation-sorted cmp ys) (sorted_each cmp yss)
 
 -- items with their places, without the places
-numbered_items : {Y : Type 0} (n : ℕ) (ys : List Y) → map (λ p. p.1) (enumerate_from n ys) ≡ ys
+pub numbered_items : {Y : Type 0} (n : ℕ) (ys : List Y) → map (λ p. p.1) (enumerate_from n ys) ≡ ys
 numbered_items n [] = refl
 numbered_items n (y ∷ ys) = ap (λ l. y ∷ l) (numbered_items (n + 1) ys)
 

@@ -15,6 +15,7 @@ mod ids;
 mod levels;
 mod packing;
 mod table;
+mod ties;
 mod tree;
 
 pub use levels::Levels;

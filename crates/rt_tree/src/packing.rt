@@ -1,25 +1,29 @@
 //! Sort-tile-recursive packing: items in tiles, and nodes over them.
 //!
-//! Each item has a sort key: a number that orders by the middle of its box, and then by its place. Keys are sorted by
-//! x, each slice of them is sorted by y, and the items are moved once, at the end.
+//! Each item has a sort key: a number that tells the middle of its box, and then its place. Keys are sorted by x, each
+//! slice of them is sorted by y, and the items are moved once, at the end. Of nodes whose middles are the same the one at
+//! the lesser place goes first, and of entries that with the lesser id.
 
-ghost use Rattle.std.specs.Prelude.{◌≡◌, ℕ, ◌<◌, ◌≤◌, ◌*◌, ◌+◌, ◌^◌, ◌+ℤ◌, IfOk, length, map, slice_get};
+ghost use Rattle.std.specs.Prelude.{◌≡◌, ℕ, ◌<◌, ◌≤◌, ◌*◌, ◌+◌, ◌^◌, ◌+ℤ◌, IfOk, List, length, map};
 ghost use Rattle.std.specs.Int.{div_ceil};
-ghost use Rattle.std.specs.List.{All, enumerate_from, filter_map, flat_map, sum_by};
-ghost use Rattle.std.specs.Ordering.{nat_cmp};
+ghost use Rattle.std.specs.List.{All, enumerate_from, flat_map, sum_by};
+ghost use Rattle.std.specs.Ordering.{int_cmp, nat_cmp, on};
+ghost use Rattle.std.specs.declared.cmp.Ordering.{Ordering};
 ghost use Rattle.rt_geo.specs.Boxes.{Rect};
-ghost use Rattle.rt_tree.specs.Entries.{most_entries};
+ghost use Rattle.rt_tree.specs.Entries.{IsTable, most_entries};
 ghost use Rattle.rt_tree.specs.Packing.{ceil_sqrt, chunks, groups, joined, node_over, nodes_over};
 ghost use Rattle.rt_tree.specs.Packing.{twice_middle_x, twice_middle_y};
-ghost use Rattle.rt_tree.specs.SortKeys.{IsRanked, IsRankedAt, by_y, key_of, place_of, rank, rekeyed, sort_key};
+ghost use Rattle.rt_tree.specs.SortKeys.{IsRanked, IsRankedAt, by_rank_and_id, by_y, keys_by_x, key_of, place_of, rank};
+ghost use Rattle.rt_tree.specs.SortKeys.{rekeyed, sort_key, told};
 ghost use Rattle.rt_tree.specs.Sorting.{sorted};
 
+use crate::ties::sort_by_rank_and_id;
 use crate::tree::Node;
 use rt_geo::{Bounds, Entry, hull};
 use std::alloc::{AllocError, Global};
 
-// A sort key has room for so many places, one for each entry that a table may have.
-const PLACES: u64 = 16_777_216;
+/// A sort key has room for so many places, one for each entry that a table may have.
+pub(crate) const PLACES: u64 = 16_777_216;
 
 // Added to the sum of two coordinates, so that it is no longer negative.
 const SUM_OFFSET: i64 = 4_294_967_296;
@@ -32,6 +36,9 @@ pub(crate) trait Item: Copy + Drop {
     /// How many entries it stands for.
     ghost weight: { Self → ℕ };
 
+    /// The order of the sort keys of such items.
+    ghost key_order: { List Self → ℕ → ℕ → Ordering };
+
     /// Its box.
     fn bounds(&self) -> Bounds
         ensures { result ≡ rect self.now };
@@ -39,12 +46,18 @@ pub(crate) trait Item: Copy + Drop {
     /// How many entries it stands for.
     fn size(&self) -> u32
         ensures { result ≡ weight self.now };
+
+    /// Sorts the keys of items.
+    fn sort_keys(keys: &mut [u64], items: &[Self])
+        ensures { keys.new ≡ sorted (key_order items.now) keys.old };
 }
 
 impl Item for Entry {
     ghost rect = { λ e. e.bounds };
 
     ghost weight = { λ _. 1 };
+
+    ghost key_order = { by_rank_and_id };
 
     fn bounds(&self) -> Bounds {
         self.bounds
@@ -53,6 +66,10 @@ impl Item for Entry {
     fn size(&self) -> u32 {
         1
     }
+
+    fn sort_keys(keys: &mut [u64], items: &[Entry]) {
+        sort_by_rank_and_id(keys, items);
+    }
 }
 
 impl Item for Node {
@@ -60,12 +77,18 @@ impl Item for Node {
 
     ghost weight = { λ n. n.size };
 
+    ghost key_order = { λ _. nat_cmp };
+
     fn bounds(&self) -> Bounds {
         self.bounds
     }
 
     fn size(&self) -> u32 {
         self.size
+    }
+
+    fn sort_keys(keys: &mut [u64], _items: &[Node]) {
+        keys.sort_unstable();
     }
 }
 
@@ -105,28 +128,60 @@ fn sort_key(rank: u64, place: u64) -> u64
     rank * PLACES + place
 }
 
-// The place that a key tells.
-fn place_of(key: u64) -> usize
+/// The place that a key tells.
+pub(crate) fn place_of(key: u64) -> usize
     ensures { result ≡ place_of key }
 {
     (key % PLACES) as usize
 }
 
-/// The items in the order of their tiles.
-pub(crate) fn arranged<T: Item>(
+/// Entries in the order of their tiles, those whose boxes have one middle by id.
+pub(crate) fn arranged_entries(
     alloc: Global,
-    items: &[T],
+    entries: &[Entry],
     fanout: u8,
-) -> Result<Vec<T>, AllocError>
-    requires few { length items.now ≤ most_entries }
+) -> Result<Vec<Entry>, AllocError>
+    requires table { IsTable entries.now }
     requires several { 2 ≤ fanout }
-    ensures { IfOk result (λ v. v.items ≡ joined (groups T.rect fanout items.now)) }
+    ensures { IfOk result (λ v. v.items ≡ joined (groups (λ e. e.bounds) fanout
+        (sorted (on (λ e. e.id) int_cmp) entries.now))) }
 {
-    if items.is_empty() {
+    if entries.is_empty() {
         return Ok(Vec::new(alloc));
     }
-    let mut keys = keys_by_x(alloc, items)?;
-    keys.sort_unstable();
+    arranged(alloc, entries, fanout)
+}
+
+/// Nodes in the order of their tiles, those whose boxes have one middle by place.
+pub(crate) fn arranged_nodes(
+    alloc: Global,
+    nodes: &[Node],
+    fanout: u8,
+) -> Result<Vec<Node>, AllocError>
+    requires few { length nodes.now ≤ most_entries }
+    requires several { 2 ≤ fanout }
+    ensures { IfOk result (λ v. v.items ≡ joined (groups (λ n. n.bounds) fanout nodes.now)) }
+{
+    if nodes.is_empty() {
+        return Ok(Vec::new(alloc));
+    }
+    arranged(alloc, nodes, fanout)
+}
+
+// Items in the order of their tiles.
+fn arranged<T: Item>(alloc: Global, items: &[T], fanout: u8) -> Result<Vec<T>, AllocError>
+    requires some { 0 < length items.now }
+    requires few { length items.now ≤ most_entries }
+    requires several { 2 ≤ fanout }
+    ensures value { IfOk result (λ v. v.items ≡ told items.now (flat_map (by_y (T.key_order items.now) T.rect items.now)
+        (chunks (ceil_sqrt (div_ceil (length items.now) fanout) * fanout)
+        (keys_by_x (T.key_order items.now) T.rect items.now)))) }
+    ensures ranked_x { IfOk result (λ _. All (λ x. IsRanked (twice_middle_x (T.rect x))) items.now) }
+    ensures ranked_y { IfOk result (λ _.
+        All (IsRankedAt T.rect twice_middle_y items.now) (keys_by_x (T.key_order items.now) T.rect items.now)) }
+{
+    let mut keys = keys_of(alloc, items)?;
+    T::sort_keys(&mut keys, items);
     sort_slices(&mut keys, items, slice_size(items.len(), fanout));
     gathered(alloc, &keys, items)
 }
@@ -143,7 +198,7 @@ fn slice_size(items: usize, fanout: u8) -> usize
 }
 
 // The keys by x of the items, in their order.
-fn keys_by_x<T: Item>(alloc: Global, items: &[T]) -> Result<Vec<u64>, AllocError>
+fn keys_of<T: Item>(alloc: Global, items: &[T]) -> Result<Vec<u64>, AllocError>
     requires { length items.now ≤ most_entries }
     ensures keys { IfOk result (λ v. v.items ≡ map (key_of T.rect twice_middle_x) (enumerate_from 0 items.now)) }
     ensures ranked { IfOk result (λ _. All (λ x. IsRanked (twice_middle_x (T.rect x))) items.now) }
@@ -160,7 +215,7 @@ fn sort_slices<T: Item>(keys: &mut [u64], items: &[T], size: usize)
     requires some { 0 < size }
     requires few { length items.now ≤ most_entries }
     requires places { All (λ key. place_of key < length items.now) keys.old }
-    ensures keys { keys.new ≡ flat_map (by_y T.rect items.now) (chunks size keys.old) }
+    ensures keys { keys.new ≡ flat_map (by_y (T.key_order items.now) T.rect items.now) (chunks size keys.old) }
     ensures ranked { All (IsRankedAt T.rect twice_middle_y items.now) keys.old }
 {
     let mut start = 0;
@@ -175,13 +230,13 @@ fn sort_slices<T: Item>(keys: &mut [u64], items: &[T], size: usize)
 fn sort_by_y<T: Item>(keys: &mut [u64], items: &[T])
     requires few { length items.now ≤ most_entries }
     requires places { All (λ key. place_of key < length items.now) keys.old }
-    ensures keys { keys.new ≡ by_y T.rect items.now keys.old }
+    ensures keys { keys.new ≡ by_y (T.key_order items.now) T.rect items.now keys.old }
     ensures ranked { All (IsRankedAt T.rect twice_middle_y items.now) keys.old }
 {
     for key in keys.iter_mut() {
         *key = key_by_y(*key, items);
     }
-    keys.sort_unstable();
+    T::sort_keys(keys, items);
 }
 
 // The key by y of the item that a key tells.
@@ -198,7 +253,7 @@ fn key_by_y<T: Item>(key: u64, items: &[T]) -> u64
 // The items that the keys tell.
 fn gathered<T: Item>(alloc: Global, keys: &[u64], items: &[T]) -> Result<Vec<T>, AllocError>
     requires { All (λ key. place_of key < length items.now) keys.now }
-    ensures { IfOk result (λ v. v.items ≡ filter_map (λ key. slice_get items.now (place_of key)) keys.now) }
+    ensures { IfOk result (λ v. v.items ≡ told items.now keys.now) }
 {
     let mut gathered = Vec::with_capacity(alloc, keys.len())?;
     for key in keys {

@@ -8,7 +8,7 @@ ghost use Rattle.rt_tree.specs.Packed.{IsSound, node_at, root_of};
 ghost use Rattle.rt_tree.specs.Packing.{all_nodes, chunks, leaf_nodes, pack_of};
 
 use crate::levels::Levels;
-use crate::packing::{arranged, nodes_over};
+use crate::packing::{arranged_entries, arranged_nodes, nodes_over};
 use crate::table::Table;
 use rt_geo::{Bounds, Entry};
 use std::alloc::{AllocError, Global};
@@ -82,10 +82,8 @@ impl Tree {
         ensures moved { IfOk result (λ t. IsPermutation table t.entries) }
     {
         let levels = Levels::new(table.len(), fanout);
-        let mut entries = table.into_entries();
-        // (by id, as entries whose boxes have one middle go by id)
-        entries.sort_unstable_by_key(|entry| entry.id);
-        let tiled = arranged(alloc, &entries, fanout)?;
+        let entries = table.into_entries();
+        let tiled = arranged_entries(alloc, &entries, fanout)?;
         drop(entries);
         let nodes = all_nodes(alloc, &tiled, fanout)?;
         Ok(Tree {
@@ -205,7 +203,7 @@ fn all_nodes(alloc: Global, entries: &[Entry], fanout: u8) -> Result<Vec<Node>, 
     let mut level = 1;
     'levels: while made.len() > 1 {
         level += 1;
-        let ordered = arranged(alloc, &made, fanout)?;
+        let ordered = arranged_nodes(alloc, &made, fanout)?;
         made = nodes_over(alloc, &ordered, fanout, level, nodes.len() as u32)?;
         nodes.extend_from_slice(&ordered)?;
     }

@@ -1,10 +1,8 @@
 use Rattle.std.proofs.Common.{◌∙◌, ℕ, ap, below_more, get_or, subst}
-use Rattle.std.specs.Ordering.{nat_cmp}
 use Rattle.rt_tree.specs.Packing.{twice_middle_y}
 use Rattle.rt_tree.specs.SortKeys.{IsRankedAt, rekeyed}
 use Rattle.rt_tree.specs.Sorting.{sorted}
 use Rattle.rt_tree.proofs.LoopLemmas.{mapped_all, mapped_more, unchanged_at}
-use Rattle.rt_tree.proofs.OrderLemmas.{numbers_sorted}
 use Rattle.rt_tree.proofs.packing.sort_by_y.Goals as goal
 
 pub loop-key-preserved : goal.loop-key-preserved
@@ -25,7 +23,5 @@ loop-key-preserved g c =
 pub returns-clause-keys : goal.returns-clause-keys
 returns-clause-keys g c =
     let key = rekeyed g.T.Item.rect twice_middle_y c.args.items.now in
-    numbers_sorted c.loop-key.keys c.sort_unstable.new.self c.sort_unstable.ensures.permutation
-    c.sort_unstable.ensures.sorted
-    ∙ ap (sorted nat_cmp) (c.loop-key.invariant.keys ∙ mapped_all key c.args.keys.now c.loop-key.key-index
+    c.sort_keys.ensures ∙ ap (sorted (g.T.Item.key_order c.args.items.now)) (c.loop-key.invariant.keys ∙ mapped_all key c.args.keys.now c.loop-key.key-index
     c.loop-key-test.false)

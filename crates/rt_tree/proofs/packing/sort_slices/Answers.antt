@@ -1,9 +1,7 @@
-use Rattle.std.proofs.Common.{◌≡◌, ◌+◌, ◌-◌, ℕ, List, arith, drop, length, map}
-use Rattle.std.specs.Ordering.{nat_cmp}
+use Rattle.std.proofs.Common.{◌≡◌, ◌+◌, ◌-◌, arith, drop, length}
 use Rattle.std.proofs.lemmas.List.{length-drop, length-take}
 use Rattle.rt_tree.specs.Packing.{twice_middle_y}
-use Rattle.rt_tree.specs.SortKeys.{IsRankedAt, rekeyed}
-use Rattle.rt_tree.specs.Sorting.{sorted}
+use Rattle.rt_tree.specs.SortKeys.{IsRankedAt, by_y}
 use Rattle.rt_tree.proofs.LoopLemmas.{all_more, inside_more, later_more, slices_more}
 use Rattle.rt_tree.proofs.packing.sort_slices.Goals as goal
 
@@ -26,7 +24,7 @@ loop-start-preserved g c =
           (drop start keys),
       length-drop start keys,
     ) in
-    let order = λ (keys : List ℕ). sorted nat_cmp (map (rekeyed g.T.Item.rect twice_middle_y c.args.items.now) keys) in
+    let order = by_y (g.T.Item.key_order c.args.items.now) g.T.Item.rect c.args.items.now in
     record {
       inside = inside_more start n k keys slice there k_is long;
       later = later_more start n k old keys slice there k_is long later;

@@ -1,18 +1,16 @@
-use Rattle.std.proofs.Common.{◌≡◌, ℕ, ◌<◌, ◌≤◌, ◌-◌, ◌++◌, length, map, take, drop, get_or}
+use Rattle.std.proofs.Common.{◌≡◌, ℕ, ◌<◌, ◌≤◌, ◌-◌, ◌++◌, length, take, drop, get_or}
 use Rattle.std.specs.List.{flat_map}
-use Rattle.std.specs.Ordering.{nat_cmp}
 use Rattle.rt_tree.specs.Packing.{chunks, twice_middle_y}
-use Rattle.rt_tree.specs.SortKeys.{IsRankedAt, rekeyed}
-use Rattle.rt_tree.specs.Sorting.{sorted}
+use Rattle.rt_tree.specs.SortKeys.{IsRankedAt, by_y}
 use Rattle.rt_tree.proofs.packing.sort_slices.Given as goal
 
 abbrev pub invariant-loop-start : goal.invariant-loop-start
 invariant-loop-start g l = record {
   inside : l.start ≤ length l.keys;
   later : drop l.start l.keys ≡ drop l.start l.initial.keys;
-  keys : take l.start l.keys ++ flat_map (λ slice. sorted nat_cmp (map
-      (rekeyed g.T.Item.rect twice_middle_y l.items) slice)) (chunks l.size (drop l.start l.initial.keys))
-      ≡ flat_map (λ slice. sorted nat_cmp (map (rekeyed g.T.Item.rect twice_middle_y l.items) slice))
+  keys : take l.start l.keys ++ flat_map (λ slice. by_y (g.T.Item.key_order l.items) g.T.Item.rect
+      l.items slice) (chunks l.size (drop l.start l.initial.keys))
+      ≡ flat_map (λ slice. by_y (g.T.Item.key_order l.items) g.T.Item.rect l.items slice)
       (chunks l.size l.initial.keys);
   ranked : (k : ℕ) (d : ℕ) → k < l.start → IsRankedAt g.T.Item.rect twice_middle_y l.items (get_or l.initial.keys k d);
 }

@@ -3,7 +3,7 @@ use Rattle.std.proofs.lemmas.List.{get_or_default}
 use Rattle.rt_tree.specs.Packing.{twice_middle_x}
 use Rattle.rt_tree.specs.SortKeys.{IsRanked, key_of, rank, sort_key}
 use Rattle.rt_tree.proofs.LoopLemmas.{keys_more}
-use Rattle.rt_tree.proofs.packing.keys_by_x.Goals as goal
+use Rattle.rt_tree.proofs.packing.keys_of.Goals as goal
 
 pub loop-place-preserved : goal.loop-place-preserved
 loop-place-preserved g c =

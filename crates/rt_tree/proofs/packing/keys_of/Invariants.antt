@@ -2,7 +2,7 @@ use Rattle.std.proofs.Common.{◌≡◌, ℕ, ◌<◌, map, take, get_or}
 use Rattle.std.specs.List.{enumerate_from}
 use Rattle.rt_tree.specs.Packing.{twice_middle_x}
 use Rattle.rt_tree.specs.SortKeys.{IsRanked, key_of}
-use Rattle.rt_tree.proofs.packing.keys_by_x.Given as goal
+use Rattle.rt_tree.proofs.packing.keys_of.Given as goal
 
 abbrev pub invariant-loop-place : goal.invariant-loop-place
 invariant-loop-place g l = record {
