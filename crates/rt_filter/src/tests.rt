@@ -59,8 +59,7 @@ impl Given {
         fault: Option<RunFault>,
     ) -> Result<(), Fail> {
         let settings = Settings::new(self.header, self.fanout, self.max_entries).ok_or("settings")?;
-        assert!(rt; self.piece > 0);
-        assert!(rt; self.room <= 256);
+        assert!(rt; self.piece > 0 && self.room <= 256);
         let mut source = SliceSource::new(queries, self.piece, self.pull_fails);
         let mut room = [0u8; 256];
         let mut sink = SliceSink::new(&mut room[..self.room], self.piece, self.push_fails);
@@ -74,11 +73,9 @@ impl Given {
         );
         assert_eq!(rt; sink.written(), written);
         assert_eq!(rt; outcome, Outcome { status, fault });
-        assert_eq!(rt;
-            source.failures(),
-            u64::from(fault == Some(RunFault::Read) && self.pull_fails.is_some())
-        );
-        assert_eq!(rt; sink.failures(), u64::from(fault == Some(RunFault::Write)));
+        let pulls = u64::from(fault == Some(RunFault::Read) && self.pull_fails.is_some());
+        let pushes = u64::from(fault == Some(RunFault::Write));
+        assert_eq!(rt; (source.failures(), sink.failures()), (pulls, pushes));
         Ok(())
     }
 }
@@ -270,9 +267,7 @@ fn refuses_long_lines(rt: HostRuntime) -> Result<(), Fail> {
     let counts = padded(rt.alloc(), b"count all", 4087)?;
     let finds = padded(rt.alloc(), b"find all first 0", 4080)?;
     let mut comment = Vec::from_slice(rt.alloc(), b"#")?;
-    for _ in 0..4096 {
-        comment.push(b'a')?;
-    }
+    comment.resize(4097, b'a')?;
     for piece in [1, 4095, 4097] {
         let given = Given { piece, ..PLAIN };
         let counted: &[u8] = b"ok 1 5\nerror 2 Q1 line too long\nok 3 5\n";
@@ -281,7 +276,12 @@ fn refuses_long_lines(rt: HostRuntime) -> Result<(), Fail> {
         given.expect(&rt, BOXES, &finds, found, 1, None)?;
         given.expect(&rt, BOXES, &comment, b"error 1 Q1 line too long\n", 1, None)?;
     }
-    // A line of 100,000 letters, with an end and without.
+    Ok(())
+}
+
+#[test]
+fn refuses_a_line_of_many_letters(rt: HostRuntime) -> Result<(), Fail> {
+    // With an end and without.
     let mut letters = Vec::new(rt.alloc());
     letters.resize(100_000, b'a')?;
     let long: &[u8] = b"error 1 Q1 line too long\n";

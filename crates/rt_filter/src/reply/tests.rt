@@ -4,7 +4,7 @@ ghost use Rattle.std.specs.Prelude.{◌≡◌, length};
 
 use super::push_reply;
 use crate::tests::BOXES;
-use rt_device::{Sink, SliceSink, WriteFault};
+use rt_device::{Sink, SliceSink};
 use rt_geo::{ById, Circle, Order, Point, Region};
 use rt_search::Frontier;
 use rt_text::{Parsed, Query, parse, read_table};
@@ -88,26 +88,43 @@ fn frontier_over(rt: &impl Abort, alloc: Global, tree: &Tree) -> Frontier
     Frontier::new(alloc, tree.len()).expect(rt, "there is memory")
 }
 
-// Replies to a line, at most so many bytes a push, and compares what was pushed.
-fn expect_reply(
-    rt: &impl Abort,
-    tree: &Tree,
-    frontier: Frontier,
+/// What the sink of a reply has room for, how much it takes at once, and which call of it fails.
+#[derive(Clone, Copy)]
+struct Given {
+    room: usize,
     piece: usize,
-    text: &[u8],
-    reply: &[u8],
-) -> Frontier {
-    assert!(rt; piece > 0);
-    assert_eq!(rt; frontier.capacity(), tree.len());
-    let mut room = [0u8; ROOM];
-    let mut sink = SliceSink::new(&mut room, piece, None);
-    let frontier = push_reply(tree, frontier, LINE, parse(text), &mut sink).expect(
-        rt,
-        "no push fails",
-    );
-    assert_eq!(rt; sink.written(), reply);
-    assert_eq!(rt; sink.failures(), 0);
-    frontier
+    fails_at: Option<u64>,
+}
+
+const PLAIN: Given = Given {
+    room: ROOM,
+    piece: ROOM,
+    fails_at: None,
+};
+
+impl Given {
+    // Replies, and compares what was pushed and whether a push failed.
+    fn expect(
+        self,
+        rt: &impl Abort,
+        tree: &Tree,
+        frontier: Frontier,
+        asked: Parsed,
+        written: &[u8],
+        failed: bool,
+    ) -> Option<Frontier> {
+        assert!(rt; self.room <= ROOM && self.piece > 0);
+        assert_eq!(rt; frontier.capacity(), tree.len());
+        let mut room = [0u8; ROOM];
+        let mut sink = SliceSink::new(&mut room[..self.room], self.piece, self.fails_at);
+        let result = push_reply(tree, frontier, LINE, asked, &mut sink);
+        assert_eq!(rt; sink.written(), written);
+        assert_eq!(rt;
+            (result.is_err(), sink.failures()),
+            (failed, u64::from(failed))
+        );
+        result.ok()
+    }
 }
 
 #[test]
@@ -117,7 +134,10 @@ fn replies_in_every_form(rt: HostRuntime) {
     let mut frontier = frontier_over(&rt, rt.alloc(), &tree);
     for piece in [1, 3, ROOM] {
         for (text, reply) in &REPLIES {
-            frontier = expect_reply(&rt, &tree, frontier, piece, text, reply);
+            let given = Given { piece, ..PLAIN };
+            frontier = given
+                .expect(&rt, &tree, frontier, parse(text), reply, false)
+                .expect(&rt, "no push fails");
         }
     }
 }
@@ -134,11 +154,8 @@ fn circles_are_told_by_id_too(rt: HostRuntime) {
         order: Order::ById(ById),
         limit: None,
     });
-    let mut room = [0u8; ROOM];
-    let mut sink = SliceSink::new(&mut room, ROOM, None);
     let frontier = frontier_over(&rt, rt.alloc(), &tree);
-    push_reply(&tree, frontier, LINE, asked, &mut sink).expect(&rt, "no push fails");
-    assert_eq!(rt; sink.written(), b"1 0\n4 0\nok 7 2\n".as_slice());
+    PLAIN.expect(&rt, &tree, frontier, asked, b"1 0\n4 0\nok 7 2\n", false);
 }
 
 /// Lines, the most bytes that a push takes, and how many bytes are out before each push and after the last.
@@ -165,42 +182,36 @@ fn reply_to(rt: &impl Abort, text: &[u8]) -> &'static [u8] {
 #[test]
 fn a_failed_push_ends_the_reply(rt: HostRuntime) {
     let tree = pack(&rt, rt.alloc());
-    for (text, piece, before) in PUSHES {
-        assert!(rt; piece > 0);
+    for (text, piece, before) in &PUSHES {
         let whole = reply_to(&rt, text);
         let pushes = before.len().saturating_sub(1);
         for (k, out) in before.iter().enumerate() {
-            let mut room = [0u8; ROOM];
             // The next push would be taken again, and a flush is a call too.
-            let mut sink = SliceSink::new(&mut room, piece, Some(k as u64 + 1));
+            let given = Given {
+                piece: *piece,
+                fails_at: Some(k as u64 + 1),
+                ..PLAIN
+            };
+            let written = &whole[..(*out).min(whole.len())];
             let frontier = frontier_over(&rt, rt.alloc(), &tree);
-            let result = push_reply(&tree, frontier, LINE, parse(text), &mut sink);
-            assert_eq!(rt; result.is_ok(), k == pushes);
-            assert_eq!(rt; sink.written(), &whole[..(*out).min(whole.len())]);
-            assert_eq!(rt; sink.failures(), u64::from(k < pushes));
+            given.expect(&rt, &tree, frontier, parse(text), written, k < pushes);
         }
         assert_eq!(rt; before.last(), Some(&whole.len()));
     }
-}
-
-// Replies to a line, with room for the first so many bytes alone.
-fn expect_cut(rt: &impl Abort, alloc: Global, tree: &Tree, text: &[u8], front: &[u8]) {
-    let mut room = [0u8; ROOM];
-    assert!(rt; front.len() <= ROOM, "each reply has room");
-    let mut sink = SliceSink::new(&mut room[..front.len()], 3, None);
-    let frontier = frontier_over(rt, alloc, tree);
-    let result = push_reply(tree, frontier, LINE, parse(text), &mut sink);
-    assert_eq!(rt; result.err(), Some(WriteFault));
-    assert_eq!(rt; sink.written(), front);
-    assert_eq!(rt; sink.failures(), 1);
 }
 
 #[test]
 fn room_that_runs_out_ends_the_reply(rt: HostRuntime) {
     let tree = pack(&rt, rt.alloc());
     for (text, reply) in &REPLIES {
-        for len in 0..reply.len() {
-            expect_cut(&rt, rt.alloc(), &tree, text, &reply[..len]);
+        for room in 0..reply.len() {
+            let given = Given {
+                room,
+                piece: 3,
+                ..PLAIN
+            };
+            let frontier = frontier_over(&rt, rt.alloc(), &tree);
+            given.expect(&rt, &tree, frontier, parse(text), &reply[..room], true);
         }
     }
 }
