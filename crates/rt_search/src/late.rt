@@ -82,6 +82,7 @@ impl Late {
         Some(top.0)
     }
 
+    #[inline(always)]
     pub fn take(&mut self) -> Option<Item>
         ensures items { MatchOption result (self.old.items ≡ []) (λ x. self.old.items ≡ x ∷ self.new.items) }
         ensures none { IfNone result (self.new.items ≡ []) }
