@@ -82,6 +82,7 @@ impl Late {
         Some(top.0)
     }
 
+    #[inline(always)]
     pub fn take(&mut self) -> Option<FoundEntry>
         ensures items { MatchOption (taken_entry result) (self.old.items ≡ []) (λ x. self.old.items ≡ x ∷ self.new.items) }
         ensures none { IfNone (taken_entry result) (self.new.items ≡ []) }
