@@ -3,7 +3,7 @@ use Rattle.std.proofs.Common.{◌≡◌, ◌+◌, ◌*◌, ◌-◌, ◌<◌, ◌
 use Rattle.std.specs.Prelude.{Result, Ok, Err, int_le, if◌then◌else◌, neg_ℤ, ok_or, option_map}
 use Rattle.std.specs.Char.{digit_value, is_ascii_digit}
 use Rattle.std.specs.List.{list_all}
-use Rattle.std.specs.Str.Parse.{digits_value, starts_with_minus}
+use Rattle.std.specs.Str.Parse.{digits_value, starts_with_minus, without_leading_sign}
 use Rattle.std.proofs.Math.Nat.{pow-le-pow_right, pow-suc}
 use Rattle.std.proofs.lemmas.Bool.Decides.{nat_tests}
 use Rattle.std.proofs.lemmas.Int.{ints}
@@ -52,8 +52,8 @@ pub short_step : (i m : ℕ) → i < 19 → m < 10 ^ i → m < 10 ^ 18
 short_step i m h small = omega (arith, pow-le-pow_right {n = 10} (omega arith) {i = i} {j = 18} (omega arith))
 
 -- fewer digits than an i64 has room for
-pub short_natural : (i m : ℕ) → i ≤ 18 → m < 10 ^ i → m < 10 ^ 18
-short_natural i m h small = omega (arith, small, pow-le-pow_right {n = 10} (omega arith) {i = i} {j = 18} h)
+pub natural-small : (i m : ℕ) → i ≤ 18 → m < 10 ^ i → m < 10 ^ 18
+natural-small i m h small = omega (arith, small, pow-le-pow_right {n = 10} (omega arith) {i = i} {j = 18} h)
 
 -- a value, made into another
 pub ok-mapped : {A B E : Type 0} (f : A → B) (o : Option A) (a : A) (e : E) → Ok a ≡ ok_or o e → Ok (f a) ≡ ok_or (option_map f o) e
@@ -144,3 +144,23 @@ negated false n = refl
 pub number_text-minus : (text digits : List ℕ) → starts_with_minus text ≡ true → digits ≡ drop 1 text
     → number_text text ≡ option_map (λ n. neg_ℤ (pos n)) (digits_number digits)
 number_text-minus text digits minus e = rw (minus, e) (negated (is_numeral (drop 1 text)) (digits_value 10 (drop 1 text)))
+
+-- ---- with and without a sign
+
+pub without_minus : (text : List ℕ) → starts_with_minus text ≡ true → without_leading_sign text ≡ drop 1 text
+without_minus text minus = rw minus refl
+
+plain : (minus : Bool) (digits : List ℕ) → minus ≡ false
+    → (if is_numeral digits then Some (if minus then neg_ℤ (pos (digits_value 10 digits)) else pos (digits_value 10 digits)) else None)
+    ≡ option_map pos (digits_number digits)
+plain minus digits e = rw e (by (is_numeral digits))
+  where
+    by : (b : Bool) → (if b then Some (pos (digits_value 10 digits)) else None) ≡ option_map pos (if b then Some (digits_value 10 digits) else None)
+    by true = refl
+    by false = refl
+
+-- the number of a text that begins with no minus, by the digits behind its plus, if there is one
+pub number_text-plain : (text digits : List ℕ) → starts_with_minus text ≡ false → digits ≡ without_leading_sign text
+    → number_text text ≡ option_map pos (digits_number digits)
+number_text-plain text digits e d = plain (starts_with_minus text) (without_leading_sign text) e
+    ∙ ap (λ l. option_map pos (digits_number l)) (sym d)

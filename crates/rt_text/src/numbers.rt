@@ -1,6 +1,7 @@
 //! Numbers as text.
 
 ghost use Rattle.std.specs.Prelude.{◌≡◌, ◌≤ℤ◌, ◌<◌, ◌≤◌, ◌^◌, IfOk, length, neg_ℤ, pos, min, option_map, ok_or};
+ghost use Rattle.std.specs.Str.Parse.{without_leading_sign};
 ghost use Rattle.rt_text.specs.Numbers.{digits_number, in_range, number_in, number_text};
 
 /// As many digits as a `u64` has room for, whichever they are.
@@ -52,23 +53,24 @@ fn short_signed(text: &[u8]) -> Result<i64, NumberFault>
     requires { length text.now ≤ SHORT_SIGNED }
     ensures { result ≡ ok_or (number_text text.now) NumberFault.NotNumber }
 {
-    match text {
-        [b'-', digits @ ..] => short_below_zero(digits),
-        [b'+', digits @ ..] => short_above_zero(digits),
-        digits => short_above_zero(digits),
+    if text.is_empty() {
+        return Err(NumberFault::NotNumber);
     }
+    let number = short_natural(without_sign(text))?;
+    Ok(if text[0] == b'-' { -number } else { number })
 }
 
-// The number that a few digits write after a `-`.
-fn short_below_zero(digits: &[u8]) -> Result<i64, NumberFault>
-    requires { length digits.now ≤ SHORT_SIGNED }
-    ensures { result ≡ ok_or (option_map (λ n. neg_ℤ (pos n)) (digits_number digits.now)) NumberFault.NotNumber }
+// What stands behind a sign, if there is one. No branch tells them apart: which it is can't be foretold.
+fn without_sign(text: &[u8]) -> &[u8]
+    requires { 0 < length text.now }
+    ensures { result.now ≡ without_leading_sign text.now }
 {
-    Ok(-short_above_zero(digits)?)
+    let signed = (text[0] == b'-') | (text[0] == b'+');
+    &text[signed as usize..]
 }
 
-// The number that a few digits write after a `+` or no sign.
-fn short_above_zero(digits: &[u8]) -> Result<i64, NumberFault>
+// The number that a few digits write.
+fn short_natural(digits: &[u8]) -> Result<i64, NumberFault>
     requires { length digits.now ≤ SHORT_SIGNED }
     ensures value { result ≡ ok_or (option_map pos (digits_number digits.now)) NumberFault.NotNumber }
     ensures natural { IfOk result (λ n. pos 0 ≤ℤ n) }

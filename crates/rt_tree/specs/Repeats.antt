@@ -5,7 +5,8 @@ use Rattle.rt_tree.specs.Entries.{first_repeat}
 use Rattle.rt_tree.specs.declared.table.EntriesFault.{EntriesFault}
 use Rattle.rt_tree.specs.declared.table.EntriesFault.TheVariants as fault
 
--- a fault that entries may be refused by: the first repeat is told with its place, and memory may be wanting at any time
-abbrev pub MayRefuse : EntriesFault → List Entry → Type 0
-MayRefuse (fault.Repeated place) entries = first_repeat entries ≡ Some place
-MayRefuse fault.Memory entries = ⊤
+-- a fault tells why entries make no table: the first repeat with its place, or that memory is wanting, which may be at
+-- any time
+abbrev pub ExplainsNoTable : EntriesFault → List Entry → Type 0
+ExplainsNoTable (fault.Repeated place) entries = first_repeat entries ≡ Some place
+ExplainsNoTable fault.Memory entries = ⊤

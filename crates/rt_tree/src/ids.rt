@@ -7,7 +7,7 @@ ghost use Rattle.std.specs.Ordering.{int_cmp, int_eq};
 ghost use Rattle.rt_geo.specs.Entries.{HasBox};
 ghost use Rattle.rt_tree.specs.Entries.{first_repeat, ids_of, most_entries};
 ghost use Rattle.rt_tree.specs.Indexes.{AreIdsOf, keeps};
-ghost use Rattle.rt_tree.specs.Repeats.{MayRefuse};
+ghost use Rattle.rt_tree.specs.Repeats.{ExplainsNoTable};
 
 use crate::table::EntriesFault;
 use rt_geo::Entry;
@@ -41,7 +41,7 @@ impl Ids {
         ensures ids { IfOk result (λ ids. AreIdsOf ids.loaded.items ids.pushed entries.now) }
         ensures once { IfOk result (λ _. first_repeat entries.now ≡ None) }
         ensures boxes { IfOk result (λ _. All HasBox entries.now) }
-        ensures fault { IfErr result (λ f. MayRefuse f entries.now) }
+        ensures fault { IfErr result (λ f. ExplainsNoTable f entries.now) }
     {
         let mut loaded = match ids_of(alloc, entries) {
             Ok(ids) => ids,
@@ -63,7 +63,7 @@ impl Ids {
         requires { length entries.now ≤ most_entries }
         ensures ids { IfOk result (λ ids. AreIdsOf ids.loaded.items ids.pushed entries.now) }
         ensures once { IfOk result (λ _. first_repeat entries.now ≡ None) }
-        ensures fault { IfErr result (λ f. MayRefuse f entries.now) }
+        ensures fault { IfErr result (λ f. ExplainsNoTable f entries.now) }
     {
         let mut ids = Ids::none(alloc);
         for place in 0..entries.len() {

@@ -1,8 +1,8 @@
 //! Sort-tile-recursive packing: items in tiles, and nodes over them.
 //!
 //! Each item has a sort key: a number that tells the middle of its box, and then its place. Keys are sorted by x, each
-//! slice of them is sorted by y, and the items are moved once, at the end. Of nodes whose middles are the same the one at
-//! the lesser place goes first, and of entries that with the lesser id.
+//! slice of them is sorted by y, and the items are moved once, at the end. Of nodes with one middle that at the lesser
+//! place goes first, and of entries that with the lesser id.
 
 ghost use Rattle.std.specs.Prelude.{◌≡◌, ℕ, ◌<◌, ◌≤◌, ◌*◌, ◌+◌, ◌^◌, ◌+ℤ◌, IfOk, List, length, map};
 ghost use Rattle.std.specs.Int.{div_ceil};

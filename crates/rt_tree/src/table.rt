@@ -4,7 +4,7 @@ ghost use Rattle.std.specs.Prelude.{◌≡◌, ◌==◌, ◌<◌, ◌≤◌, ◌
 ghost use Rattle.std.specs.Prelude.{Ok, Err, Some, None, IfOk, IfErr, OnOk, OnErr};
 ghost use Rattle.rt_geo.specs.Entries.{HasBox};
 ghost use Rattle.rt_tree.specs.Entries.{IsTable, first_repeat, has_id, most_entries};
-ghost use Rattle.rt_tree.specs.Repeats.{MayRefuse};
+ghost use Rattle.rt_tree.specs.Repeats.{ExplainsNoTable};
 
 use crate::ids::Ids;
 use rt_geo::Entry;
@@ -69,7 +69,7 @@ impl Table {
         requires { length entries.items ≤ most_entries }
         ensures table { IfOk result (λ t. t ≡ entries.items) }
         ensures once { IfOk result (λ _. first_repeat entries.items ≡ None) }
-        ensures fault { IfErr result (λ f. MayRefuse f entries.items) }
+        ensures fault { IfErr result (λ f. ExplainsNoTable f entries.items) }
     {
         let ids = Ids::of(alloc, &entries)?;
         Ok(Table { entries, ids })
