@@ -1,9 +1,9 @@
 //! Boxes of 32-bit coordinates.
 
-ghost use Rattle.std.specs.Prelude.{◌≡◌, true};
+ghost use Rattle.std.specs.Prelude.{◌≡◌, ◌&&◌, true};
 ghost use Rattle.std.specs.Option.{SomeIff};
 ghost use Rattle.rt_geo.specs.Boxes.{IsLeastAround, IsRect, rect_of, plane};
-ghost use Rattle.rt_geo.specs.Boxes.{area, hull, inside, overlaps, range_lies_in, ranges_meet};
+ghost use Rattle.rt_geo.specs.Boxes.{area, hull, inside, overlaps};
 ghost use Rattle.rt_geo.specs.Distances.{rect_at};
 
 use crate::distance::Point;
@@ -106,40 +106,32 @@ impl Bounds {
 pub fn overlaps(a: Bounds, b: Bounds) -> bool
     ensures { result ≡ overlaps a b }
 {
-    // (`&` here and below, so that all four comparisons are one branch)
-    meet_on_x(a, b) & meet_on_y(a, b)
-}
-
-fn meet_on_x(a: Bounds, b: Bounds) -> bool
-    ensures { result ≡ ranges_meet a.min_x a.max_x b.min_x b.max_x }
-{
-    (a.min_x <= b.max_x) & (b.min_x <= a.max_x)
-}
-
-fn meet_on_y(a: Bounds, b: Bounds) -> bool
-    ensures { result ≡ ranges_meet a.min_y a.max_y b.min_y b.max_y }
-{
-    (a.min_y <= b.max_y) & (b.min_y <= a.max_y)
+    all_hold(
+        a.min_x <= b.max_x,
+        b.min_x <= a.max_x,
+        a.min_y <= b.max_y,
+        b.min_y <= a.max_y,
+    )
 }
 
 /// Whether the box `a` lies in `b`. Sides may be equal.
 pub fn inside(a: Bounds, b: Bounds) -> bool
     ensures { result ≡ inside a b }
 {
-    // (`&` here and below, as above)
-    lies_in_on_x(a, b) & lies_in_on_y(a, b)
+    all_hold(
+        b.min_x <= a.min_x,
+        a.max_x <= b.max_x,
+        b.min_y <= a.min_y,
+        a.max_y <= b.max_y,
+    )
 }
 
-fn lies_in_on_x(a: Bounds, b: Bounds) -> bool
-    ensures { result ≡ range_lies_in a.min_x a.max_x b.min_x b.max_x }
+// Whether all four hold. They are counted, so that the compiler makes one branch of them.
+#[inline(always)]
+fn all_hold(first: bool, second: bool, third: bool, fourth: bool) -> bool
+    ensures { result ≡ ((first && second) && (third && fourth)) }
 {
-    (b.min_x <= a.min_x) & (a.max_x <= b.max_x)
-}
-
-fn lies_in_on_y(a: Bounds, b: Bounds) -> bool
-    ensures { result ≡ range_lies_in a.min_y a.max_y b.min_y b.max_y }
-{
-    (b.min_y <= a.min_y) & (a.max_y <= b.max_y)
+    u8::from(first) + u8::from(second) + u8::from(third) + u8::from(fourth) == 4
 }
 
 /// The least box in which both boxes lie.
