@@ -1,5 +1,5 @@
 -- What is kept in any order, seen as items in order.
-use Rattle.std.proofs.Common.{◌≡◌, ◌<◌, ◌≤◌, false, List, [], ◌∷◌, map, length, get_or, sym, ◌∙◌, ap}
+use Rattle.std.proofs.Common.{◌≡◌, ◌<◌, ◌≤◌, ◌^◌, false, List, [], ◌∷◌, map, length, get_or, sym, ◌∙◌, ap}
 use Rattle.std.proofs.Common.{subst, arith, Result, Ok, Err, IsPermutation}
 use Rattle.std.specs.Prelude.{IsOk, OnOk}
 use Rattle.std.specs.List.{AllByRecursion}
@@ -11,10 +11,10 @@ use Rattle.rt_tree.specs.Sorting.{put, sorted}
 use Rattle.rt_search.specs.Items.{item_cmp}
 use Rattle.rt_search.specs.Kept.{IsEntry, IsFirstScore, IsHead, IsLeast, IsNode, entry_item, in_order, node_item}
 use Rattle.rt_search.specs.contracts.item.FoundEntryOrd.TheImpl.{ghosts as entry_ghosts}
-use Rattle.rt_search.specs.contracts.item.ScoredNodeOrd.TheImpl.{ghosts as node_ghosts}
+use Rattle.rt_search.specs.contracts.nodes.NodeKeyOrd.TheImpl.{ghosts as key_ghosts}
 use Rattle.rt_search.specs.declared.item.FoundEntry.{FoundEntry}
 use Rattle.rt_search.specs.declared.item.Item.{Item}
-use Rattle.rt_search.specs.declared.item.ScoredNode.{ScoredNode}
+use Rattle.rt_search.specs.declared.nodes.NodeKey.{NodeKey}
 use Rattle.rt_search.proofs.OrderedLists.{length-put_all, put_all-IsPermutation, put_all-all, put_all-nil, put_least}
 use Rattle.rt_search.proofs.Orders.{entry_derived, item_order, node_derived, score_upto}
 
@@ -95,17 +95,17 @@ module _ {X : Type 0} (item : X → Item) where
 
 -- ---- the two heaps, by the orders that their elements derive
 
-pub nodes_after : (top : Reverse ScoredNode) (ns : List (Reverse ScoredNode))
-    → AllByRecursion (λ y. is_lt (node_ghosts.cmp y.0 top.0) ≡ false) ns → IsLeastOf node_item (node_item top) ns
-nodes_after top [] a = tt
-nodes_after top (n ∷ ns) a = (node_derived n top ∙ a.0, nodes_after top ns a.1)
+pub nodes_after : (top : Reverse NodeKey) (ns : List (Reverse NodeKey)) → top.0.low < 2 ^ 64
+    → AllByRecursion (λ y. is_lt (key_ghosts.cmp y.0 top.0) ≡ false) ns → IsLeastOf node_item (node_item top) ns
+nodes_after top [] small a = tt
+nodes_after top (n ∷ ns) small a = (node_derived n top small a.0, nodes_after top ns small a.1)
 
 pub entries_after : (top : Reverse FoundEntry) (es : List (Reverse FoundEntry))
     → AllByRecursion (λ y. is_lt (entry_ghosts.cmp y.0 top.0) ≡ false) es → IsLeastOf entry_item (entry_item top) es
 entries_after top [] a = tt
 entries_after top (e ∷ es) a = (entry_derived e top ∙ a.0, entries_after top es a.1)
 
-pub all_nodes : (ns : List (Reverse ScoredNode)) → AllByRecursion (λ n. IsNode (node_item n).place) ns
+pub all_nodes : (ns : List (Reverse NodeKey)) → AllByRecursion (λ n. IsNode (node_item n).place) ns
 all_nodes [] = tt
 all_nodes (n ∷ ns) = (tt, all_nodes ns)
 

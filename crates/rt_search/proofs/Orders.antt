@@ -1,6 +1,7 @@
 -- The orders of answers and of items: total, and they tell all apart.
 use Rattle.std.proofs.Common.{◌≡◌, ◌≤◌, ℕ, ℤ, Bool, true, false, Ordering, Less, Equal, Greater, refl, sym, ◌∙◌, ap}
-use Rattle.std.proofs.Common.{◌<◌, arith}
+use Rattle.std.proofs.Common.{◌<◌, ◌+◌, ◌*◌, ◌^◌, arith}
+use Rattle.std.specs.Prelude.{nat_lt}
 use Rattle.std.specs.Cmp.{IsTotalOrder, bool_cmp_total}
 use Rattle.std.specs.Ordering.{bool_cmp, int_cmp, is_gt, is_lt, nat_cmp, ordering_reverse, ordering_then}
 use Rattle.std.specs.declared.cmp.Reverse.{Reverse}
@@ -9,15 +10,15 @@ use Rattle.std.proofs.lemmas.Cmp.{int_cmp_total, nat_cmp_total, on_total, then_t
 use Rattle.std.proofs.lemmas.Map.Lookups.{CmpEqualImpliesEq, exact_signed, exact_unsigned}
 use Rattle.rt_search.specs.Answers.{Answer, answer_cmp}
 use Rattle.rt_search.specs.Items.{item_at, item_cmp, node_cmp, place_cmp}
-use Rattle.rt_search.specs.Kept.{IsEntry, IsNode, entry_item, node_item, zero_item}
+use Rattle.rt_search.specs.Kept.{IsEntry, IsNode, entry_item, node_item, node_of, zero_item}
 use Rattle.rt_search.specs.contracts.item.FoundEntryOrd.TheImpl.{ghosts as entry_ghosts}
-use Rattle.rt_search.specs.contracts.item.ScoredNodeOrd.TheImpl.{ghosts as node_ghosts}
+use Rattle.rt_search.specs.contracts.nodes.NodeKeyOrd.TheImpl.{ghosts as key_ghosts}
 use Rattle.rt_search.specs.declared.item.FoundEntry.{FoundEntry}
 use Rattle.rt_search.specs.declared.item.Item.{Item}
 use Rattle.rt_search.specs.declared.item.Place.{Place}
 use Rattle.rt_search.specs.declared.item.Place.TheVariants.{Node, Entry}
-use Rattle.rt_search.specs.declared.item.ScoredNode.{ScoredNode}
 use Rattle.rt_search.specs.declared.item.WaitingNode.{WaitingNode}
+use Rattle.rt_search.specs.declared.nodes.NodeKey.{NodeKey}
 use Rattle.rt_search.proofs.OrderedLists.{IsOrder, order_of}
 
 then_equal : (o p : Ordering) → ordering_then o p ≡ Equal → (o ≡ Equal) × (p ≡ Equal)
@@ -53,14 +54,14 @@ node_total : IsTotalOrder node_cmp
 node_total = then_total (on_total (λ (n : WaitingNode). n.number.number) nat_cmp_total)
     (on_total (λ (n : WaitingNode). n.is_full) bool_cmp_total)
 
-abbrev node_of : ℕ → Bool → WaitingNode
-node_of number is_full = record { number = record { number = number }; is_full = is_full }
+abbrev waiting : ℕ → Bool → WaitingNode
+waiting number is_full = record { number = record { number = number }; is_full = is_full }
 
 node_exact : CmpEqualImpliesEq node_cmp
 node_exact m n h =
     let both = then_equal (nat_cmp m.number.number n.number.number) (bool_cmp m.is_full n.is_full) h in
-    ap (λ (k : ℕ). node_of k m.is_full) (exact_unsigned m.number.number n.number.number both.0)
-    ∙ ap (node_of n.number.number) (exact_bool m.is_full n.is_full both.1)
+    ap (λ (k : ℕ). waiting k m.is_full) (exact_unsigned m.number.number n.number.number both.0)
+    ∙ ap (waiting n.number.number) (exact_bool m.is_full n.is_full both.1)
 
 place_antisymm : (p q : Place) → place_cmp p q ≡ ordering_reverse (place_cmp q p)
 place_antisymm (Node m) (Node n) = node_total.antisymm m n
@@ -135,10 +136,26 @@ node_before s r (Entry id) q' p q h = absurd p
 not_after : (x y : Item) → is_gt (item_cmp x y) ≡ is_lt (item_cmp y x)
 not_after x y = sym (item_order.turned x y)
 
--- a node comes before another in the order that it derives where its item does
-pub node_derived : (m n : Reverse ScoredNode) → is_gt (item_cmp (node_item n) (node_item m))
-    ≡ is_lt (node_ghosts.cmp m.0 n.0)
-node_derived m n = not_after (node_item n) (node_item m)
+-- what doesn't come first by the halves of a score, the higher first, doesn't by the score
+by_halves : (h l k m : ℕ) (o p : Ordering) → l < 2 ^ 64 → (is_lt o ≡ false → is_lt p ≡ false)
+    → is_lt (ordering_then (nat_cmp k h) (ordering_then (nat_cmp m l) o)) ≡ false
+    → is_lt (ordering_then (nat_cmp (k * 2 ^ 64 + m) (h * 2 ^ 64 + l)) p) ≡ false
+by_halves h l k m o p small f e = grind (arith, nat_tests)
+
+-- what doesn't come first by a number and then 0 or 1 doesn't by the number and then whether that is 1
+by_full : (a b f g : ℕ) → is_lt (ordering_then (nat_cmp a b) (nat_cmp f g)) ≡ false
+    → is_lt (ordering_then (nat_cmp a b) (bool_cmp (nat_lt 0 f) (nat_lt 0 g))) ≡ false
+by_full a b f g e = grind (arith, nat_tests)
+
+-- where a node doesn't come before another in the order that it derives, neither does its item
+pub node_derived : (m n : Reverse NodeKey) → n.0.low < 2 ^ 64 → is_lt (key_ghosts.cmp m.0 n.0) ≡ false
+    → is_gt (item_cmp (node_item n) (node_item m)) ≡ false
+node_derived m n small e =
+    not_after (node_item n) (node_item m)
+    ∙ by_halves n.0.high n.0.low m.0.high m.0.low
+    (ordering_then (nat_cmp m.0.number.number n.0.number.number) (nat_cmp m.0.full n.0.full))
+    (node_cmp (node_of m.0) (node_of n.0)) small
+    (by_full m.0.number.number n.0.number.number m.0.full n.0.full) e
 
 -- and an entry
 pub entry_derived : (d e : Reverse FoundEntry) → is_gt (item_cmp (entry_item e) (entry_item d))

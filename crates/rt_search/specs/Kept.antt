@@ -1,6 +1,6 @@
 -- How a frontier keeps its items. Nothing that a public call promises speaks of this.
-use Rattle.std.specs.Prelude.{◌≡◌, ◌<◌, ◌≤◌, ◌^◌, ℕ, ℤ, nat_lt, Bool, true, false, if◌then◌else◌, Option, Some, None}
-use Rattle.std.specs.Prelude.{List, [], ◌∷◌, length, map, vec_capacity}
+use Rattle.std.specs.Prelude.{◌≡◌, ◌<◌, ◌≤◌, ◌+◌, ◌*◌, ◌^◌, ℕ, ℤ, nat_lt, Bool, true, false, if◌then◌else◌}
+use Rattle.std.specs.Prelude.{Option, Some, None, List, [], ◌∷◌, length, map, vec_capacity}
 use Rattle.std.specs.BinaryHeap.{IsHeap, heap_capacity, heap_items, heap_len}
 use Rattle.std.specs.List.{AllByRecursion}
 use Rattle.std.specs.Ordering.{is_gt}
@@ -17,10 +17,19 @@ use Rattle.rt_search.specs.declared.item.Place.{Place}
 use Rattle.rt_search.specs.declared.item.Place.TheVariants.{Node, Entry}
 use Rattle.rt_search.specs.declared.item.ScoredNode.{ScoredNode}
 use Rattle.rt_search.specs.declared.item.Taken.{Taken}
+use Rattle.rt_search.specs.declared.item.WaitingNode.{WaitingNode}
+use Rattle.rt_search.specs.declared.nodes.NodeKey.{NodeKey}
 
--- a node that waits, as an item
-abbrev pub node_item : Reverse ScoredNode → Item
-node_item r = item_at r.0.score (Node r.0.node)
+-- the node that a key stands for
+abbrev pub node_of : NodeKey → WaitingNode
+node_of k = record { number = k.number; is_full = nat_lt 0 k.full }
+
+-- a node that waits, as an item: by its key, which has its score in halves, and as a heap keeps it
+abbrev pub key_item : NodeKey → Item
+key_item k = item_at (k.high * 2 ^ 64 + k.low) (Node (node_of k))
+
+abbrev pub node_item : Reverse NodeKey → Item
+node_item r = key_item r.0
 
 -- an entry that was found, as an item
 abbrev pub entry_item : Reverse FoundEntry → Item

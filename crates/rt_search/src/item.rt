@@ -30,8 +30,8 @@ pub struct Item {
     pub place: Place,
 }
 
-/// A node that waits with its score, in the order of items.
-#[derive(Clone, Copy, PartialEq, Eq, PartialOrd, Ord)]
+/// A node that waits with its score.
+#[derive(Clone, Copy)]
 pub struct ScoredNode {
     /// Its score.
     pub score: u128,

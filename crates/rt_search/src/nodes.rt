@@ -1,24 +1,75 @@
 //! The nodes of a frontier.
 
-ghost use Rattle.std.specs.Prelude.{◌≡◌, ◌<◌, ◌≤◌, [], ◌∷◌, IfNone, IfOk, IfSome, MatchOption, length};
+ghost use Rattle.std.specs.Prelude.{◌≡◌, ◌<◌, ◌≤◌, ◌^◌, [], ◌∷◌, IfNone, IfOk, IfSome, MatchOption, length};
 ghost use Rattle.std.specs.List.{AllByRecursion};
 ghost use Rattle.rt_search.specs.declared.item.Place.TheVariants as place;
 ghost use Rattle.rt_search.specs.Items.{item_at, item_cmp};
-ghost use Rattle.rt_search.specs.Kept.{IsFirstScore, IsLeast, IsNode, taken_node};
+ghost use Rattle.rt_search.specs.Kept.{IsFirstScore, IsLeast, IsNode, key_item, taken_node};
 ghost use Rattle.rt_tree.specs.Sorting.{put};
 
 use crate::item::{ScoredNode, WaitingNode};
+use rt_tree::NodeNo;
 use std::alloc::{AllocError, Global};
 use std::cmp::Reverse;
 use std::collections::BinaryHeap;
 use std::marker::Model;
+
+// How many numbers a half of a score may be.
+const HALF: u128 = 1 << 64;
+
+/// A node that waits, as the heap keeps it, in the order of items: its score in two halves, and `full` as wide as a
+/// number. So it has no padding, and is copied and compared in whole words.
+#[derive(Clone, Copy, PartialEq, Eq, PartialOrd, Ord)]
+struct NodeKey {
+    high: u64,
+    low: u64,
+    number: NodeNo,
+    // 1 where all that lies under it is accepted, otherwise 0
+    full: u32,
+}
+
+impl NodeKey {
+    #[inline(always)]
+    fn new(score: u128, node: WaitingNode) -> NodeKey
+        ensures { key_item result ≡ item_at score (place.Node node) }
+    {
+        NodeKey {
+            high: (score / HALF) as u64,
+            low: (score % HALF) as u64,
+            number: node.number,
+            full: node.is_full as u32,
+        }
+    }
+
+    #[inline(always)]
+    fn score(self) -> u128
+        ensures value { result ≡ (key_item self).score }
+        ensures low { self.low < 2 ^ 64 }
+    {
+        u128::from(self.high) * HALF + u128::from(self.low)
+    }
+
+    #[inline(always)]
+    fn scored_node(self) -> ScoredNode
+        ensures item { item_at result.score (place.Node result.node) ≡ key_item self }
+        ensures low { self.low < 2 ^ 64 }
+    {
+        ScoredNode {
+            score: self.score(),
+            node: WaitingNode {
+                number: self.number,
+                is_full: 0 < self.full,
+            },
+        }
+    }
+}
 
 /// Nodes that wait, in a heap.
 ///
 /// It is seen as the items that they are, in order, and its capacity.
 #[derive(Drop)]
 pub struct Nodes {
-    heap: BinaryHeap<Reverse<ScoredNode>>,
+    heap: BinaryHeap<Reverse<NodeKey>>,
     capacity: u32,
 }
 
@@ -31,7 +82,7 @@ impl Model for Nodes {
 
     ghost view = { λ n. record { items = in_order node_item (heap_items n.heap); capacity = n.capacity } };
 
-    ghost invariant = { λ n. IsKept ⟦<Reverse<ScoredNode> as Ord>⟧.cmp n.heap n.capacity };
+    ghost invariant = { λ n. IsKept ⟦<Reverse<NodeKey> as Ord>⟧.cmp n.heap n.capacity };
 }
 
 impl Nodes {
@@ -63,7 +114,7 @@ impl Nodes {
         ensures capacity { self.new.capacity ≡ self.old.capacity }
     {
         // (there is room, so no memory is taken)
-        let _pushed = self.heap.push(Reverse(ScoredNode { score, node }));
+        let _pushed = self.heap.push(Reverse(NodeKey::new(score, node)));
     }
 
     pub fn first_score(&self) -> Option<u128>
@@ -71,9 +122,10 @@ impl Nodes {
         ensures nodes { AllByRecursion (λ x. IsNode x.place) self.now.items }
     {
         let top = self.heap.peek()?;
-        Some(top.0.score)
+        Some(top.0.score())
     }
 
+    #[inline(always)]
     pub fn take(&mut self) -> Option<ScoredNode>
         ensures items { MatchOption (taken_node result) (self.old.items ≡ []) (λ x. self.old.items ≡ x ∷ self.new.items) }
         ensures none { IfNone (taken_node result) (self.new.items ≡ []) }
@@ -81,6 +133,6 @@ impl Nodes {
         ensures capacity { self.new.capacity ≡ self.old.capacity }
     {
         let top = self.heap.pop()?;
-        Some(top.0)
+        Some(top.0.scored_node())
     }
 }

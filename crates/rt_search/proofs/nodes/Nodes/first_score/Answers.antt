@@ -12,9 +12,9 @@ returns-clause-first c =
     let v = e.variant.0 refl in
     let n = k.counted in
     let some : 0 < length (heap_items c.self.inside.heap) = omega (arith, v, n) in
-    subst (λ w. IsFirstScore c.in_ok-top.top.now.0.score w.items) c.self.view_is
+    rw c.score.ensures.value (subst (λ w. IsFirstScore (node_item c.in_ok-top.top.now).score w.items) c.self.view_is
     (top_is_first node_item (heap_items c.self.inside.heap) c.in_ok-top.top.now some e.lookup
-    (nodes_after _ _ (e.greatest k.ordered)))
+    (nodes_after _ _ c.score.ensures.low (e.greatest k.ordered))))
 
 pub returns-clause-nodes : goal.returns-clause-nodes
 returns-clause-nodes c =

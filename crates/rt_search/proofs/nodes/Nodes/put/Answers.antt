@@ -4,7 +4,7 @@ use Rattle.std.specs.BinaryHeap.{heap_items}
 use Rattle.std.proofs.lemmas.List.Sorted.{length_permutation}
 use Rattle.rt_tree.specs.Sorting.{put}
 use Rattle.rt_search.specs.Items.{item_at, item_cmp}
-use Rattle.rt_search.specs.Kept.{node_item}
+use Rattle.rt_search.specs.Kept.{in_order, node_item}
 use Rattle.rt_search.specs.declared.item.Place.TheVariants as place
 use Rattle.rt_search.proofs.Heaps.{length-in_order, on_ok, pushed}
 use Rattle.rt_search.proofs.nodes.Nodes.put.Goals as goal
@@ -31,5 +31,7 @@ returns-clause-items c =
     let n = length-in_order node_item (heap_items c.self.inside.heap) in
     let k = c.self.invariant in
     let ok : IsOk c.push-pushed.result = c.push-pushed.ensures.succeeds (omega arith) in
+    let old = in_order node_item (heap_items c.self.inside.heap) in
     pushed node_item _ _ _ (on_ok c.push-pushed.result ok c.push-pushed.ensures.permutation)
+    ∙ ap (λ x. put item_cmp x old) c.new.ensures
     ∙ ap (λ w. put item_cmp (item_at c.args.score (place.Node c.args.node)) w.items) c.self.view_is
