@@ -5,7 +5,7 @@ use Rattle.rt_geo.specs.declared.entry.Entry.{Entry}
 use Rattle.rt_geo.specs.declared.geometry.Info.{Info}
 use Rattle.rt_geo.specs.declared.geometry.Verdict.{Verdict}
 use Rattle.rt_geo.specs.declared.geometry.Within.{Within}
-use Rattle.rt_geo.specs.declared.geometry.Within.TheVariants.{Not, Partly, Fully}
+use Rattle.rt_geo.specs.declared.geometry.Within.TheVariants.{Not, Fully}
 
 -- ---- what a query function is shown
 
@@ -88,13 +88,6 @@ pub record IsLawful (accepts : Extent → Bool) (score : Extent → ℕ) (verdic
   pub admissibility : (i : Info) → IsQuestion accepts i → 0 < i.level
       → (b : Extent) → IsBoxInside b (extent_of i) → accepts b ≡ true → (verdict i).score ≤ score b
 
--- a score beside a state: beside NOT it means nothing, and is 0
-abbrev pub score_beside : Within → ℕ → ℕ
-score_beside Not score = 0
-score_beside Partly score = score
-score_beside Fully score = score
-
 -- the verdict that joins a state and a score
 abbrev pub guided_verdict : (Info → Within) → (Info → ℕ) → Info → Verdict
-guided_verdict state estimate info =
-    record { within = state info; score = score_beside (state info) (estimate info) }
+guided_verdict state estimate info = record { within = state info; score = estimate info }

@@ -2,10 +2,9 @@
 
 ghost use Rattle.rt_geo.specs.Laws.{guided_verdict};
 
-use crate::geometry::{Geometry, Info, Rank, Shape, Verdict, Within};
+use crate::geometry::{Geometry, Info, Rank, Shape, Verdict};
 
-/// The geometry that accepts what its shape accepts, and scores as its rank scores. Beside [`Within::Not`] the score,
-/// which means nothing, is 0: the rank isn't asked.
+/// The geometry that accepts what its shape accepts, and scores as its rank scores.
 ///
 /// It keeps the laws of a geometry wherever its parts keep theirs.
 #[derive(Debug, Drop)]
@@ -24,15 +23,9 @@ impl<S: Shape, R: Rank> Geometry for Guided<S, R> {
     ghost verdict = { λ g. guided_verdict (S.state g.shape) (R.estimate g.rank) };
 
     fn check(&self, info: &Info) -> Verdict {
-        match self.shape.within(info) {
-            Within::Not => Verdict {
-                within: Within::Not,
-                score: 0,
-            },
-            within => Verdict {
-                within,
-                score: self.rank.score(info),
-            },
+        Verdict {
+            within: self.shape.within(info),
+            score: self.rank.score(info),
         }
     }
 
