@@ -101,7 +101,8 @@ pub fn settings_of(alloc: Global, words: &[Name]) -> Result<Invocation, ArgFault
 fn parse<'a>(alloc: Global, words: &'a [Name]) -> Result<ArgMatches<'a>, ArgFault>
     ensures rows { IfOk result (λ m. rows_of (found_of m) ≡ matches_of filter_app words.entry.now) }
     ensures filled { IfOk result (λ m. AreFilled (rows_of (found_of m))) }
-    ensures faults { MatchResult result (λ _. faults_of words.entry.now ≡ []) (IsFaultAmong (faults_of words.entry.now)) }
+    ensures faults { MatchResult result (λ _. faults_of words.entry.now ≡ [])
+        (IsFaultAmong (faults_of words.entry.now)) }
     ensures takes { IfErr result (λ fault. takes filter_app words.entry.now ≡ true → fault ≡ ArgFault.Memory) }
 {
     let command = filter_command(alloc)?;

@@ -48,8 +48,8 @@ pub struct FoundEntry {
     pub id: i64,
 }
 
-/// What was taken out of a frontier: a node, or else an entry, or else nothing, as nothing waited. The two stand side by
-/// side, and not in an enum, so that each stays in registers.
+/// What was taken out of a frontier: a node, or else an entry, or else nothing, as nothing waited. The two stand side
+/// by side, and not in an enum, so that each stays in registers.
 #[derive(Clone, Copy)]
 pub struct Taken {
     /// The node.

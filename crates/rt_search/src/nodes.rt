@@ -127,7 +127,8 @@ impl Nodes {
 
     #[inline(always)]
     pub fn take(&mut self) -> Option<ScoredNode>
-        ensures items { MatchOption (taken_node result) (self.old.items ≡ []) (λ x. self.old.items ≡ x ∷ self.new.items) }
+        ensures items { MatchOption (taken_node result) (self.old.items ≡ [])
+            (λ x. self.old.items ≡ x ∷ self.new.items) }
         ensures none { IfNone (taken_node result) (self.new.items ≡ []) }
         ensures least { IfSome (taken_node result) (λ x. IsLeast x self.new.items) }
         ensures capacity { self.new.capacity ≡ self.old.capacity }

@@ -93,7 +93,8 @@ impl Scored {
 
     #[inline(always)]
     pub fn take(&mut self) -> Option<FoundEntry>
-        ensures items { MatchOption (taken_entry result) (self.old.items ≡ []) (λ x. self.old.items ≡ x ∷ self.new.items) }
+        ensures items { MatchOption (taken_entry result) (self.old.items ≡ [])
+            (λ x. self.old.items ≡ x ∷ self.new.items) }
         ensures none { IfNone (taken_entry result) (self.new.items ≡ []) }
         ensures least { IfSome (taken_entry result) (λ x. IsLeast x self.new.items) }
         ensures capacity { self.new.capacity ≡ self.old.capacity }
