@@ -1,6 +1,6 @@
 -- Boxes of whole numbers, and how two of them lie.
 use Rattle.std.specs.Prelude.{◌≡◌, Bool, true, ◌&&◌, ℕ, ◌*◌, ◌-◌, ◌^◌}
-use Rattle.std.specs.Prelude.{ℤ, pos, ◌-ℤ◌, ◌≤ℤ◌, int_le, unsigned_abs}
+use Rattle.std.specs.Prelude.{ℤ, pos, negsuc, ◌-ℤ◌, ◌≤ℤ◌, int_le, unsigned_abs}
 use Rattle.std.specs.Int.{int_min, int_max}
 
 -- the least and the greatest coordinate, of 32 bits
@@ -9,6 +9,10 @@ least_coordinate = pos 0 -ℤ pos (2 ^ 31)
 
 abbrev pub greatest_coordinate : ℤ
 greatest_coordinate = pos (2 ^ 31 - 1)
+
+-- a number with all its bits flipped: the greater of two becomes the less
+abbrev pub flipped : ℤ → ℤ
+flipped z = negsuc 0 -ℤ z
 
 -- a box: a minimum and a maximum on each axis
 pub record Rect : Type 0 where

@@ -48,3 +48,11 @@ circle_accepts centre radius b = nat_le (near2 centre b.bounds) (square radius)
 abbrev pub circle_state : Point → ℕ → Info → Within
 circle_state centre radius i =
     state_by (nat_lt (square radius) (near2 centre i.bounds)) (nat_le (far2 centre i.bounds) (square radius))
+
+-- disc: a circle with the square of its radius
+abbrev pub disc_accepts : Point → ℕ → Extent → Bool
+disc_accepts centre radius2 b = nat_le (near2 centre b.bounds) radius2
+
+abbrev pub disc_state : Point → ℕ → Info → Within
+disc_state centre radius2 i =
+    state_by (nat_lt radius2 (near2 centre i.bounds)) (nat_le (far2 centre i.bounds) radius2)

@@ -1,13 +1,17 @@
 //! Boxes of 32-bit coordinates.
 
-ghost use Rattle.std.specs.Prelude.{◌≡◌, ◌&&◌, true};
+ghost use Rattle.std.specs.Prelude.{◌≡◌, ◌∷◌, [], true};
 ghost use Rattle.std.specs.Option.{SomeIff};
 ghost use Rattle.rt_geo.specs.Boxes.{IsLeastAround, IsRect, rect_of, plane};
-ghost use Rattle.rt_geo.specs.Boxes.{area, hull, inside, overlaps};
+ghost use Rattle.rt_geo.specs.Boxes.{area, flipped, hull, inside, overlaps};
 ghost use Rattle.rt_geo.specs.Distances.{rect_at};
 
 use crate::distance::Point;
 use std::marker::Model;
+use std::simd::prelude::*;
+
+// All bits of the second and the fourth lane.
+const MAXIMUMS: [i32; 4] = [0, -1, 0, -1];
 
 /// A closed box: a minimum and a maximum on each axis, each minimum at most its maximum.
 ///
@@ -106,32 +110,53 @@ impl Bounds {
 pub fn overlaps(a: Bounds, b: Bounds) -> bool
     ensures { result ≡ overlaps a b }
 {
-    all_hold(
-        a.min_x <= b.max_x,
-        b.min_x <= a.max_x,
-        a.min_y <= b.max_y,
-        b.min_y <= a.max_y,
-    )
+    !ends(a).simd_gt(facing_ends(b)).any()
 }
 
 /// Whether the box `a` lies in `b`. Sides may be equal.
 pub fn inside(a: Bounds, b: Bounds) -> bool
     ensures { result ≡ inside a b }
 {
-    all_hold(
-        b.min_x <= a.min_x,
-        a.max_x <= b.max_x,
-        b.min_y <= a.min_y,
-        a.max_y <= b.max_y,
-    )
+    !ends(b).simd_gt(ends(a)).any()
 }
 
-// Whether all four hold. They are counted, so that the compiler makes one branch of them.
+// How far a box reaches to the left, to the right, down and up, where less is farther: its sides, the maximums with
+// all bits flipped. Two boxes are compared in one step by them.
 #[inline(always)]
-fn all_hold(first: bool, second: bool, third: bool, fourth: bool) -> bool
-    ensures { result ≡ ((first && second) && (third && fourth)) }
+fn ends(bounds: Bounds) -> i32x4
+    ensures value { result ≡ bounds.min_x ∷ flipped bounds.max_x ∷ bounds.min_y ∷ flipped bounds.max_y ∷ [] }
+    ensures valid { IsRect bounds }
+    ensures coordinates { inside bounds plane ≡ true }
 {
-    u8::from(first) + u8::from(second) + u8::from(third) + u8::from(fourth) == 4
+    sides(bounds) ^ i32x4::from_array(MAXIMUMS)
+}
+
+// How far a box must reach to the left, to the right, down and up to touch this one.
+#[inline(always)]
+fn facing_ends(bounds: Bounds) -> i32x4
+    ensures value { result ≡ bounds.max_x ∷ flipped bounds.min_x ∷ bounds.max_y ∷ flipped bounds.min_y ∷ [] }
+    ensures valid { IsRect bounds }
+    ensures coordinates { inside bounds plane ≡ true }
+{
+    facing_sides(bounds) ^ i32x4::from_array(MAXIMUMS)
+}
+
+#[inline(always)]
+fn sides(bounds: Bounds) -> i32x4
+    ensures value { result ≡ bounds.min_x ∷ bounds.max_x ∷ bounds.min_y ∷ bounds.max_y ∷ [] }
+    ensures valid { IsRect bounds }
+    ensures coordinates { inside bounds plane ≡ true }
+{
+    i32x4::from_array([bounds.min_x, bounds.max_x, bounds.min_y, bounds.max_y])
+}
+
+#[inline(always)]
+fn facing_sides(bounds: Bounds) -> i32x4
+    ensures value { result ≡ bounds.max_x ∷ bounds.min_x ∷ bounds.max_y ∷ bounds.min_y ∷ [] }
+    ensures valid { IsRect bounds }
+    ensures coordinates { inside bounds plane ≡ true }
+{
+    sides(bounds).swizzle([1, 0, 3, 2])
 }
 
 /// The least box in which both boxes lie.

@@ -9,7 +9,8 @@
 //! - Boxes: [`Bounds`], [`Entry`], [`overlaps`], [`inside`], [`hull`].
 //! - Distances: [`Point`], [`near2`], [`far2`].
 //! - Query functions: [`Shape`], [`Rank`], [`Geometry`], asked with an [`Info`], answering a [`Within`],
-//!   a score or a [`Verdict`]; [`Guided`] joins a shape and a rank; [`Counted`] counts the checks.
+//!   a score or a [`Verdict`]; [`Guided`] joins a shape and a rank, [`Disc`] is a circle and the order by distance from
+//!   its middle in one; [`Counted`] counts the checks.
 //! - Shapes: [`All`], [`Window`], [`Inside`], [`Covers`], [`Circle`], [`Polygon`], and the enum [`Region`] of
 //!   these.
 //! - Ranks: [`ById`], [`Near`], [`Smallest`], and the enum [`Order`] of these.
@@ -23,6 +24,7 @@
 
 mod bounds;
 mod counted;
+mod disc;
 mod distance;
 mod entry;
 mod geometry;
@@ -35,6 +37,7 @@ mod shapes;
 
 pub use bounds::{Bounds, hull, inside, overlaps};
 pub use counted::Counted;
+pub use disc::Disc;
 pub use distance::{Point, far2, near2};
 pub use entry::Entry;
 pub use geometry::{Geometry, Info, Rank, Shape, Verdict, Within};

@@ -8,8 +8,8 @@ use Rattle.rt_geo.specs.Distances.{far2, near2, square}
 use Rattle.rt_geo.specs.Laws.{AllAccepted, IsFaithful, NoneAccepted, extent_of}
 use Rattle.rt_geo.specs.Lemmas.Boxes.{inside-overlaps, inside-trans, overlaps-part}
 use Rattle.rt_geo.specs.Lemmas.Distances.{near2-far2, near2-part}
-use Rattle.rt_geo.specs.Shapes.{all_accepts, circle_accepts, covers_accepts, inside_accepts, window_accepts}
-use Rattle.rt_geo.specs.Shapes.{all_state, circle_state, covers_state, inside_state, state_by, window_state}
+use Rattle.rt_geo.specs.Shapes.{all_accepts, circle_accepts, covers_accepts, disc_accepts, inside_accepts, window_accepts}
+use Rattle.rt_geo.specs.Shapes.{all_state, circle_state, covers_state, disc_state, inside_state, state_by, window_state}
 use Rattle.rt_geo.specs.declared.distance.Point.{Point}
 use Rattle.rt_geo.specs.declared.geometry.Info.{Info}
 use Rattle.rt_geo.specs.declared.geometry.Within.TheVariants.{Not, Fully}
@@ -107,7 +107,7 @@ covers-faithful w = record {
   fullness = λ i question node e. absurd (covers-fullness w i e);
 }
 
--- ---- circle
+-- ---- disc and circle
 
 -- one number is above another exactly where it isn't at most the other
 nat_lt-not_at_most : (m n : ℕ) → nat_lt n m ≡ not (nat_le m n)
@@ -116,29 +116,32 @@ nat_lt-not_at_most m n = grind (arith, nat_tests)
 at_most-trans : (l m n : ℕ) → l ≤ m → nat_le m n ≡ true → nat_le l n ≡ true
 at_most-trans l m n h e = grind (arith, nat_tests)
 
-circle-leaf : (p : Point) (r : ℕ) (i : Info)
-    → (circle_state p r i ≡ Not) ↔ (circle_accepts p r (extent_of i) ≡ false)
-circle-leaf p r i =
+disc-leaf : (p : Point) (s : ℕ) (i : Info)
+    → (disc_state p s i ≡ Not) ↔ (disc_accepts p s (extent_of i) ≡ false)
+disc-leaf p s i =
     rw nat_lt-not_at_most
-    (state_by-leaf (nat_le (near2 p i.bounds) (square r)) (nat_le (far2 p i.bounds) (square r)))
+    (state_by-leaf (nat_le (near2 p i.bounds) s) (nat_le (far2 p i.bounds) s))
 
-circle-pruning : (p : Point) (r : ℕ) (i : Info)
-    → circle_state p r i ≡ Not → NoneAccepted (circle_accepts p r) (extent_of i)
-circle-pruning p r i e b h =
+disc-pruning : (p : Point) (s : ℕ) (i : Info)
+    → disc_state p s i ≡ Not → NoneAccepted (disc_accepts p s) (extent_of i)
+disc-pruning p s i e b h =
     let no_nearer = near2-part p b.bounds i.bounds h.inside in
-    contrapositive _ _ (at_most-trans (near2 p i.bounds) (near2 p b.bounds) (square r) no_nearer)
-    ((circle-leaf p r i).0 e)
+    contrapositive _ _ (at_most-trans (near2 p i.bounds) (near2 p b.bounds) s no_nearer)
+    ((disc-leaf p s i).0 e)
 
-circle-fullness : (p : Point) (r : ℕ) (i : Info)
-    → circle_state p r i ≡ Fully → AllAccepted (circle_accepts p r) (extent_of i)
-circle-fullness p r i e b h =
+disc-fullness : (p : Point) (s : ℕ) (i : Info)
+    → disc_state p s i ≡ Fully → AllAccepted (disc_accepts p s) (extent_of i)
+disc-fullness p s i e b h =
     let no_farther = near2-far2 p b.bounds i.bounds h.box h.inside in
-    at_most-trans (near2 p b.bounds) (far2 p i.bounds) (square r) no_farther
-    (state_by-Fully (nat_lt (square r) (near2 p i.bounds)) (nat_le (far2 p i.bounds) (square r)) e)
+    at_most-trans (near2 p b.bounds) (far2 p i.bounds) s no_farther
+    (state_by-Fully (nat_lt s (near2 p i.bounds)) (nat_le (far2 p i.bounds) s) e)
+
+pub disc-faithful : (p : Point) (s : ℕ) → IsFaithful (disc_accepts p s) (disc_state p s)
+disc-faithful p s = record {
+  leaf = λ i question entry. disc-leaf p s i;
+  pruning = λ i question node. disc-pruning p s i;
+  fullness = λ i question node. disc-fullness p s i;
+}
 
 pub circle-faithful : (p : Point) (r : ℕ) → IsFaithful (circle_accepts p r) (circle_state p r)
-circle-faithful p r = record {
-  leaf = λ i question entry. circle-leaf p r i;
-  pruning = λ i question node. circle-pruning p r i;
-  fullness = λ i question node. circle-fullness p r i;
-}
+circle-faithful p r = disc-faithful p (square r)

@@ -1,0 +1,78 @@
+//! Discs whose nearest boxes come first.
+
+ghost use Rattle.std.specs.Prelude.{◌≡◌, nat_le, nat_lt};
+ghost use Rattle.rt_geo.specs.Distances.{far2, near2, square};
+ghost use Rattle.rt_geo.specs.Shapes.{state_by};
+
+use crate::bounds::Bounds;
+use crate::distance::{Point, far2, near2};
+use crate::geometry::{Geometry, Info, Verdict, Within};
+use crate::shapes::Circle;
+
+/// Accepts the boxes that share a point with a disc, those nearest to its middle first.
+///
+/// It answers what [`Circle`] and [`Near`](crate::Near) to its middle answer as a [`Guided`](crate::Guided), with one
+/// distance for both.
+#[derive(Clone, Copy, Debug, PartialEq, Eq)]
+pub struct Disc {
+    /// The middle of the disc.
+    pub centre: Point,
+    /// The square of how far the disc reaches from there.
+    pub radius2: u128,
+}
+
+impl Disc {
+    /// The disc of a circle.
+    pub fn new(circle: Circle) -> Disc
+        ensures centre { result.centre ≡ circle.centre }
+        ensures radius { result.radius2 ≡ square circle.radius }
+    {
+        let radius = circle.radius as u128;
+        Disc {
+            centre: circle.centre,
+            radius2: radius * radius,
+        }
+    }
+
+    // How many of the boxes inside the bounds are accepted, whose nearest point is so far from the middle.
+    fn within(&self, nearest: u128, bounds: Bounds) -> Within
+        requires { nearest ≡ near2 self.now.centre bounds }
+        ensures { result ≡ state_by (nat_lt self.now.radius2 (near2 self.now.centre bounds))
+            (nat_le (far2 self.now.centre bounds) self.now.radius2) }
+    {
+        if nearest > self.radius2 {
+            Within::Not
+        } else if far2(self.centre, bounds) <= self.radius2 {
+            Within::Fully
+        } else {
+            Within::Partly
+        }
+    }
+}
+
+impl Geometry for Disc {
+    ghost use Rattle.rt_geo.specs.Laws.{guided_verdict};
+    ghost use Rattle.rt_geo.specs.Ranks.{near_estimate, near_score};
+    ghost use Rattle.rt_geo.specs.Shapes.{disc_accepts, disc_state};
+
+    ghost accepts = { λ d. disc_accepts d.centre d.radius2 };
+
+    ghost score = { λ d. near_score d.centre };
+
+    ghost verdict = { λ d. guided_verdict (disc_state d.centre d.radius2) (near_estimate d.centre) };
+
+    fn check(&self, info: &Info) -> Verdict {
+        let nearest = near2(self.centre, info.bounds);
+        Verdict {
+            within: self.within(nearest, info.bounds),
+            score: nearest,
+        }
+    }
+
+    ghost use Rattle.rt_geo.specs.Lemmas.Guided.{guided-lawful};
+    ghost use Rattle.rt_geo.specs.Lemmas.Ranks.{near-admissible};
+    ghost use Rattle.rt_geo.specs.Lemmas.Shapes.{disc-faithful};
+
+    ghost lawful = { λ d. guided-lawful (disc_accepts d.centre d.radius2) (disc_state d.centre d.radius2)
+        (near_score d.centre) (near_estimate d.centre) (disc-faithful d.centre d.radius2) (near-admissible d.centre) };
+}
