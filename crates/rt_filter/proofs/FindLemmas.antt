@@ -62,3 +62,8 @@ module _ (line : ℕ) (wanted found : List Answer) (is : found ≡ wanted) (old 
     -- all was pushed
     pub found_pushed : WasPushed old mid (answer_lines found) → WasPushed mid new text → WasPushed old new (find_reply line wanted)
     found_pushed h k = rw is at (pushed_both (answer_lines found) (ok_line line (length found)) old mid new h (rw last at k))
+
+-- what holds of an acceptance and a score holds of the same ones under other names
+pub renamed : (P : (Extent → Bool) → (Extent → ℕ) → Type 0) (a b : Extent → Bool) (s t : Extent → ℕ)
+    → a ≡ b → s ≡ t → P a s → P b t
+renamed P a b s t e f h = rw (← e, ← f) h

@@ -6,6 +6,7 @@
 ghost use Rattle.std.specs.Prelude.{◌≡◌, ◌+◌, ◌-◌, ◌<◌, ◌≤◌, ◌^◌, IfOk, OnOk, OnErr, length};
 ghost use Rattle.rt_geo.specs.Orders.{order_score};
 ghost use Rattle.rt_geo.specs.Regions.{region_accepts};
+ghost use Rattle.rt_geo.specs.Shapes.{circle_accepts};
 ghost use Rattle.rt_text.specs.ReplyLines.{ok_line};
 ghost use Rattle.rt_search.specs.Answers.{accepted, answers};
 ghost use Rattle.rt_filter.specs.Pushes.{WasCut, WasPushed};
@@ -13,7 +14,7 @@ ghost use Rattle.rt_filter.specs.Replies.{answer_lines, find_reply};
 
 use crate::pushing::push_line;
 use rt_device::{Sink, WriteFault};
-use rt_geo::{ById, Counted, Geometry, Guided, Order, Rank, Region, Shape};
+use rt_geo::{ById, Circle, Counted, Disc, Geometry, Guided, Order, Region, Shape};
 use rt_search::{Frontier, Search, count};
 use rt_text::{Line, ok_line, set_answer_line};
 use rt_tree::Tree;
@@ -43,7 +44,7 @@ pub(crate) fn push_find<K: Sink>(
         Region::Window(shape) => push_ordered(tree, frontier, line, shape, order, limit, sink),
         Region::Inside(shape) => push_ordered(tree, frontier, line, shape, order, limit, sink),
         Region::Covers(shape) => push_ordered(tree, frontier, line, shape, order, limit, sink),
-        Region::Circle(shape) => push_ordered(tree, frontier, line, shape, order, limit, sink),
+        Region::Circle(shape) => push_circle(tree, frontier, line, shape, order, limit, sink),
         Region::Polygon(shape) => push_ordered(tree, frontier, line, shape, order, limit, sink),
     }
 }
@@ -69,35 +70,67 @@ fn push_ordered<S: Shape + Drop, K: Sink>(
     ensures fails { OnErr result (K.failed sink.new ≡ K.failed sink.old + 1) }
 {
     match order {
-        Order::ById(rank) => push_found(tree, frontier, line, shape, rank, limit, sink),
-        Order::Near(rank) => push_found(tree, frontier, line, shape, rank, limit, sink),
-        Order::Smallest(rank) => push_found(tree, frontier, line, shape, rank, limit, sink),
+        Order::ById(rank) => {
+            push_found(tree, frontier, line, Guided { shape, rank }, limit, sink)
+        }
+        Order::Near(rank) => {
+            push_found(tree, frontier, line, Guided { shape, rank }, limit, sink)
+        }
+        Order::Smallest(rank) => {
+            push_found(tree, frontier, line, Guided { shape, rank }, limit, sink)
+        }
     }
 }
 
-// The same for one shape and one rank.
-fn push_found<S: Shape + Drop, R: Rank + Drop, K: Sink>(
+// The same for a circle. Where the order is by the distance from its middle, one distance tells both.
+fn push_circle<K: Sink>(
     tree: &Tree,
     frontier: Frontier,
     line: u128,
-    shape: S,
-    rank: R,
+    circle: Circle,
+    order: Order,
+    limit: Option<u64>,
+    sink: &mut K,
+) -> Result<Frontier, WriteFault>
+    requires room { length tree.now.entries ≤ frontier.capacity }
+    requires count { K.failed sink.old < 2 ^ 64 - 1 }
+    ensures written { let accepts = circle_accepts circle.centre circle.radius in
+        OnOk result (WasPushed (K.written sink.old) (K.written sink.new)
+        (find_reply line (answers tree.now.entries accepts (order_score order) limit))) }
+    ensures cut { let accepts = circle_accepts circle.centre circle.radius in
+        OnErr result (WasCut (K.written sink.old) (K.written sink.new)
+        (find_reply line (answers tree.now.entries accepts (order_score order) limit))) }
+    ensures capacity { IfOk result (λ frontier'. frontier'.capacity ≡ frontier.capacity) }
+    ensures went { OnOk result (K.failed sink.new ≡ K.failed sink.old) }
+    ensures fails { OnErr result (K.failed sink.new ≡ K.failed sink.old + 1) }
+{
+    match Disc::ordered(&circle, &order) {
+        Some(disc) => push_found(tree, frontier, line, disc, limit, sink),
+        None => push_ordered(tree, frontier, line, circle, order, limit, sink),
+    }
+}
+
+// The same for one geometry.
+fn push_found<G: Geometry + Drop, K: Sink>(
+    tree: &Tree,
+    frontier: Frontier,
+    line: u128,
+    geometry: G,
     limit: Option<u64>,
     sink: &mut K,
 ) -> Result<Frontier, WriteFault>
     requires room { length tree.now.entries ≤ frontier.capacity }
     requires count { K.failed sink.old < 2 ^ 64 - 1 }
     ensures written { OnOk result (WasPushed (K.written sink.old) (K.written sink.new)
-        (find_reply line (answers tree.now.entries (S.accepts shape) (R.score rank) limit))) }
+        (find_reply line (answers tree.now.entries (G.accepts geometry) (G.score geometry) limit))) }
     ensures cut { OnErr result (WasCut (K.written sink.old) (K.written sink.new)
-        (find_reply line (answers tree.now.entries (S.accepts shape) (R.score rank) limit))) }
+        (find_reply line (answers tree.now.entries (G.accepts geometry) (G.score geometry) limit))) }
     ensures capacity { IfOk result (λ frontier'. frontier'.capacity ≡ frontier.capacity) }
     ensures went { OnOk result (K.failed sink.new ≡ K.failed sink.old) }
     ensures fails { OnErr result (K.failed sink.new ≡ K.failed sink.old + 1) }
 {
     // (asked, so that it is known that the number of answers fits)
     let _most = tree.len();
-    let geometry = Guided { shape, rank };
     let mut search = Search::start(tree, frontier, Counted::new(&geometry), limit);
     let pushed = push_answers(&mut search, sink);
     let (frontier, _counted) = search.finish();

@@ -59,8 +59,12 @@ none_above : (z₀ z₁ z₂ z₃ y₀ y₁ y₂ y₃ : ℤ)
     → is_empty (is_above z₀ y₀) (is_above z₁ y₁) (is_above z₂ y₂) (is_above z₃ y₃)
     ≡ ((int_le z₀ y₀ && int_le z₁ y₁) && (int_le z₂ y₂ && int_le z₃ y₃))
 none_above z₀ z₁ z₂ z₃ y₀ y₁ y₂ y₃ a b c d e f g h =
-    rw (← stored_not_above y₀ z₀ e a, ← stored_not_above y₁ z₁ f b, ← stored_not_above y₂ z₂ g c,
-      ← stored_not_above y₃ z₃ h d)
+    rw (
+      ← stored_not_above y₀ z₀ e a,
+      ← stored_not_above y₁ z₁ f b,
+      ← stored_not_above y₂ z₂ g c,
+      ← stored_not_above y₃ z₃ h d,
+    )
     (empty_mask _ _ _ _)
 
 -- the sides of a box of 32-bit coordinates, and what their flipping gives, fit 32 bits
@@ -89,23 +93,23 @@ sides_fit b v h = record {
 -- two boxes share a point where none of the one's ends lies beyond what the other faces it with
 pub overlaps_by_lanes : (a b : Rect) → IsRect a → inside a plane ≡ true → IsRect b → inside b plane ≡ true
     → is_empty (is_above a.min_x b.max_x) (is_above (flipped a.max_x) (flipped b.min_x))
-        (is_above a.min_y b.max_y) (is_above (flipped a.max_y) (flipped b.min_y))
+    (is_above a.min_y b.max_y) (is_above (flipped a.max_y) (flipped b.min_y))
     ≡ overlaps a b
 overlaps_by_lanes a b v h w k =
     let p = sides_fit a v h in
     let q = sides_fit b w k in
     rw (← flipped_order b.min_x a.max_x, ← flipped_order b.min_y a.max_y)
     (none_above a.min_x (flipped a.max_x) a.min_y (flipped a.max_y) b.max_x (flipped b.min_x) b.max_y (flipped b.min_y)
-      p.left p.flipped_right p.low p.flipped_high q.right q.flipped_left q.high q.flipped_low)
+    p.left p.flipped_right p.low p.flipped_high q.right q.flipped_left q.high q.flipped_low)
 
 -- a box lies in another where none of its ends lies beyond the other's
 pub inside_by_lanes : (a b : Rect) → IsRect a → inside a plane ≡ true → IsRect b → inside b plane ≡ true
     → is_empty (is_above b.min_x a.min_x) (is_above (flipped b.max_x) (flipped a.max_x))
-        (is_above b.min_y a.min_y) (is_above (flipped b.max_y) (flipped a.max_y))
+    (is_above b.min_y a.min_y) (is_above (flipped b.max_y) (flipped a.max_y))
     ≡ inside a b
 inside_by_lanes a b v h w k =
     let p = sides_fit a v h in
     let q = sides_fit b w k in
     rw (← flipped_order a.max_x b.max_x, ← flipped_order a.max_y b.max_y)
     (none_above b.min_x (flipped b.max_x) b.min_y (flipped b.max_y) a.min_x (flipped a.max_x) a.min_y (flipped a.max_y)
-      q.left q.flipped_right q.low q.flipped_high p.left p.flipped_right p.low p.flipped_high)
+    q.left q.flipped_right q.low q.flipped_high p.left p.flipped_right p.low p.flipped_high)

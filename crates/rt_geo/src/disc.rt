@@ -1,12 +1,15 @@
 //! Discs whose nearest boxes come first.
 
-ghost use Rattle.std.specs.Prelude.{◌≡◌, nat_le, nat_lt};
+ghost use Rattle.std.specs.Prelude.{◌≡◌, IfSome, nat_le, nat_lt};
 ghost use Rattle.rt_geo.specs.Distances.{far2, near2, square};
-ghost use Rattle.rt_geo.specs.Shapes.{state_by};
+ghost use Rattle.rt_geo.specs.Orders.{order_score};
+ghost use Rattle.rt_geo.specs.Ranks.{near_score};
+ghost use Rattle.rt_geo.specs.Shapes.{circle_accepts, disc_accepts, state_by};
 
 use crate::bounds::Bounds;
 use crate::distance::{Point, far2, near2};
 use crate::geometry::{Geometry, Info, Verdict, Within};
+use crate::order::Order;
 use crate::shapes::Circle;
 
 /// Accepts the boxes that share a point with a disc, those nearest to its middle first.
@@ -31,6 +34,18 @@ impl Disc {
         Disc {
             centre: circle.centre,
             radius2: radius * radius,
+        }
+    }
+
+    /// A circle and an order in one, where the order is by the distance from the middle of the circle.
+    pub fn ordered(circle: &Circle, order: &Order) -> Option<Disc>
+        ensures accepts { IfSome result
+            (λ d. disc_accepts d.centre d.radius2 ≡ circle_accepts circle.now.centre circle.now.radius) }
+        ensures score { IfSome result (λ d. near_score d.centre ≡ order_score order.now) }
+    {
+        match order {
+            Order::Near(rank) if circle.is_around(rank.0) => Some(Disc::new(*circle)),
+            _ => None,
         }
     }
 

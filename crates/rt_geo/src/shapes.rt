@@ -2,7 +2,7 @@
 //!
 //! `specs/Shapes.antt` has the table of their states. No state looks at the parent's.
 
-ghost use Rattle.std.specs.Prelude.{◌≡◌, not};
+ghost use Rattle.std.specs.Prelude.{◌≡◌, Decides, not};
 ghost use Rattle.rt_geo.specs.Boxes.{inside, overlaps};
 ghost use Rattle.rt_geo.specs.Shapes.{state_by};
 
@@ -33,6 +33,15 @@ pub struct Circle {
     pub centre: Point,
     /// How far the disc reaches from there.
     pub radius: u32,
+}
+
+impl Circle {
+    /// Whether a point is the middle of the disc.
+    pub fn is_around(&self, point: Point) -> bool
+        ensures { Decides result (self.now.centre ≡ point) }
+    {
+        self.centre.x == point.x && self.centre.y == point.y
+    }
 }
 
 impl Shape for All {

@@ -10,9 +10,9 @@ ghost use Rattle.std.specs.Prelude.{◌≡◌};
 ghost use Rattle.rt_geo.specs.declared.geometry.Within.TheVariants.{Partly};
 
 use crate::{
-    All, Bounds, ById, Circle, Counted, Covers, Entry, Geometry, Guided, Info, Inside, Near, Order,
-    Point, Rank, Region, Shape, Smallest, Verdict, Window, Within, far2, hull, inside, near2,
-    overlaps,
+    All, Bounds, ById, Circle, Counted, Covers, Disc, Entry, Geometry, Guided, Info, Inside, Near,
+    Order, Point, Rank, Region, Shape, Smallest, Verdict, Window, Within, far2, hull, inside,
+    near2, overlaps,
 };
 use left_of::LeftOf;
 use std::cell::Cell;
@@ -86,6 +86,15 @@ fn boxes_overlap_and_lie_inside(rt: HostRuntime) {
     assert!(rt; inside(unit, unit));
     assert!(rt; !inside(unit, inner));
     assert_eq!(rt; hull(inner, apart), boxed(&rt, 0, 20, 0, 10));
+
+    let plane = boxed(&rt, i32::MIN, i32::MAX, i32::MIN, i32::MAX);
+    let first = boxed(&rt, i32::MIN, i32::MIN, i32::MIN, i32::MIN);
+    let last = boxed(&rt, i32::MAX, i32::MAX, i32::MAX, i32::MAX);
+    assert!(rt; overlaps(plane, first));
+    assert!(rt; overlaps(last, plane));
+    assert!(rt; !overlaps(first, last));
+    assert!(rt; inside(last, plane));
+    assert!(rt; !inside(plane, first));
 }
 
 #[test]
@@ -153,6 +162,39 @@ fn windows_answer_their_states(rt: HostRuntime) {
     );
 
     assert_eq!(rt; state_of(&All, left, 3), Within::Fully);
+}
+
+#[test]
+fn a_disc_answers_as_its_circle_and_the_distance(rt: HostRuntime) {
+    let far = Point {
+        x: i32::MAX,
+        y: i32::MIN,
+    };
+    let boxes = [
+        boxed(&rt, 0, 10, 0, 10),
+        boxed(&rt, 5, 5, 5, 5),
+        boxed(&rt, -9, -3, -4, -4),
+        boxed(&rt, i32::MIN, i32::MIN, i32::MAX, i32::MAX),
+    ];
+    for (centre, radius) in [
+        (Point::default(), 0),
+        (Point { x: 12, y: 14 }, 4),
+        (Point { x: 0, y: 0 }, 5),
+        (far, u32::MAX),
+        (far, 3),
+    ] {
+        let circle = Circle { centre, radius };
+        let guided = Guided {
+            shape: circle,
+            rank: Near(centre),
+        };
+        for bounds in boxes {
+            for level in [0, 2] {
+                let want = verdict_of(&guided, bounds, level);
+                assert_eq!(rt; verdict_of(&Disc::new(circle), bounds, level), want);
+            }
+        }
+    }
 }
 
 #[test]

@@ -5,19 +5,19 @@ use Rattle.rt_filter.proofs.finding.push_found.Goals as goal
 
 pub push_answers-pushed-requires-clause-few : goal.push_answers-pushed-requires-clause-few
 push_answers-pushed-requires-clause-few g c =
-    few_answers c.args.tree.now.entries (g.S.Shape.accepts c.new.result.geometry.shape) (g.R.Rank.score c.new.result.geometry.rank) _ c.start-search.result.to_come c.len-most.result _
+    few_answers c.args.tree.now.entries (g.G.Geometry.accepts c.new.result.geometry) (g.G.Geometry.score c.new.result.geometry) _ c.start-search.result.to_come c.len-most.result _
     c.start-search.ensures.to_come c.len-most.ensures.value c.len-most.type_inv
 
 pub returns-in_err-pushed-clause-cut : goal.returns-in_err-pushed-clause-cut
 returns-in_err-pushed-clause-cut g c =
-    at_error c.from_residual.result (found_cut c.args.line (answers c.args.tree.now.entries (g.S.Shape.accepts c.args.shape) (g.R.Rank.score c.args.rank) c.args.limit)
+    at_error c.from_residual.result (found_cut c.args.line (answers c.args.tree.now.entries (g.G.Geometry.accepts c.args.geometry) (g.G.Geometry.score c.args.geometry) c.args.limit)
     c.start-search.result.to_come (rw c.new.ensures.geometry at c.start-search.ensures.to_come)
     (g.K.Sink.written c.args.sink.now) (g.K.Sink.written c.push_answers-pushed.new.sink) (g.K.Sink.written c.push_answers-pushed.new.sink)
     c.in_err-pushed.ensures.cut)
 
 pub returns-in_err-push_line-clause-cut : goal.returns-in_err-push_line-clause-cut
 returns-in_err-push_line-clause-cut g c =
-    at_error c.from_residual-in_err-push_line.result (found_cut_at_end c.args.line (answers c.args.tree.now.entries (g.S.Shape.accepts c.args.shape) (g.R.Rank.score c.args.rank) c.args.limit)
+    at_error c.from_residual-in_err-push_line.result (found_cut_at_end c.args.line (answers c.args.tree.now.entries (g.G.Geometry.accepts c.args.geometry) (g.G.Geometry.score c.args.geometry) c.args.limit)
     c.start-search.result.to_come (rw c.new.ensures.geometry at c.start-search.ensures.to_come)
     (g.K.Sink.written c.args.sink.now) (g.K.Sink.written c.push_answers-pushed.new.sink) (g.K.Sink.written c.push_line.new.sink)
     c.in_ok-pushed.field-0 c.ok_line.result c.in_ok-pushed.ensures.many c.ok_line.ensures
@@ -25,7 +25,7 @@ returns-in_err-push_line-clause-cut g c =
 
 pub returns-clause-written : goal.returns-clause-written
 returns-clause-written g c =
-    found_pushed c.args.line (answers c.args.tree.now.entries (g.S.Shape.accepts c.args.shape) (g.R.Rank.score c.args.rank) c.args.limit)
+    found_pushed c.args.line (answers c.args.tree.now.entries (g.G.Geometry.accepts c.args.geometry) (g.G.Geometry.score c.args.geometry) c.args.limit)
     c.start-search.result.to_come (rw c.new.ensures.geometry at c.start-search.ensures.to_come)
     (g.K.Sink.written c.args.sink.now) (g.K.Sink.written c.push_answers-pushed.new.sink) (g.K.Sink.written c.push_line.new.sink)
     c.in_ok-pushed.field-0 c.ok_line.result c.in_ok-pushed.ensures.many c.ok_line.ensures
