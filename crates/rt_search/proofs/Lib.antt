@@ -5,6 +5,7 @@ pub mod CountSteps
 pub mod CountUnder
 pub mod CountWhole
 pub mod Falling
+pub mod FilledUp
 pub mod Giving
 pub mod Heaps
 pub mod Joined
