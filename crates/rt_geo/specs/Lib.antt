@@ -3,6 +3,7 @@ pub mod Counted
 pub mod Distances
 pub mod Entries
 pub mod Examples
+pub mod HalfPlanes
 pub mod Laws
 pub mod Lemmas
 pub mod Orders

@@ -12,11 +12,11 @@
 //!   a score or a [`Verdict`]; [`Guided`] joins a shape and a rank, [`Disc`] is a circle and the order by distance from
 //!   its middle in one; [`Counted`] counts the checks.
 //! - Shapes: [`All`], [`Window`], [`Inside`], [`Covers`], [`Circle`], [`Polygon`], and the enum [`Region`] of
-//!   these.
+//!   these. A [`NarrowPolygon`] is a polygon that is asked faster.
 //! - Ranks: [`ById`], [`Near`], [`Smallest`], and the enum [`Order`] of these.
 //!
 //! The definitions that the contracts cite stand in `specs/`: `Boxes`, `Entries`, `Distances`, `Laws`,
-//! `Shapes`, `Polygons`, `Ranks`, `Regions`, `Orders`, `Counted`. They are in whole numbers without bounds; that each
+//! `Shapes`, `Polygons`, `HalfPlanes`, `Ranks`, `Regions`, `Orders`, `Counted`. They are in whole numbers without bounds; that each
 //! `Bounds` is a box of the plane of 32-bit coordinates is a fact of its own (`HasBox` of an entry,
 //! `IsWellFormed` of an info), which the readers of the sides and [`Entry::info`] tell. What stands below
 //! `specs/Lemmas` is proved and has not to be believed.
@@ -29,6 +29,7 @@ mod distance;
 mod entry;
 mod geometry;
 mod guided;
+mod narrow;
 mod order;
 mod polygon;
 mod ranks;
@@ -42,6 +43,7 @@ pub use distance::{Point, far2, near2};
 pub use entry::Entry;
 pub use geometry::{Geometry, Info, Rank, Shape, Verdict, Within};
 pub use guided::Guided;
+pub use narrow::NarrowPolygon;
 pub use order::Order;
 pub use polygon::{Polygon, PolygonFault};
 pub use ranks::{ById, Near, Smallest};

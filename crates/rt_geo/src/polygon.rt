@@ -5,17 +5,19 @@
 //! whether the box meets the half-plane of the edge, the opposite one whether it lies in it.
 
 ghost use Rattle.std.specs.Prelude.{◌≡◌, ◌<◌, ◌≤◌, ◌^◌, ◌-◌, true, not, ◌&&◌, IfOk};
-ghost use Rattle.std.specs.Prelude.{◌-ℤ◌, ◌*ℤ◌, unsigned_abs, ◌∷◌, length, slice_index_or};
+ghost use Rattle.std.specs.Prelude.{IfErr, is_ok, ◌-ℤ◌, ◌*ℤ◌, unsigned_abs, ◌∷◌, length, slice_index_or};
 ghost use Rattle.std.specs.List.{count_by, list_all};
 ghost use Rattle.rt_geo.specs.Boxes.{IsRect};
 ghost use Rattle.rt_geo.specs.Lemmas.HalfPlanes.{corner, leftmost_corner, rightmost_corner};
 ghost use Rattle.rt_geo.specs.Polygons.{bounding_box, cross, edges, is_left, lies_in_half_plane, meets_half_plane};
 ghost use Rattle.rt_geo.specs.Polygons.{IsStrictlyConvex, has_polygon_count, is_strictly_convex, polygon_of};
+ghost use Rattle.rt_geo.specs.HalfPlanes.{is_narrow};
 ghost use Rattle.rt_geo.specs.Shapes.{state_by};
 
 use crate::bounds::{Bounds, hull, inside, overlaps};
 use crate::distance::Point;
 use crate::geometry::{Info, Shape, Within};
+use crate::narrow::{NarrowPolygon, narrow};
 use arrayvec::ArrayVec;
 use std::marker::Model;
 
@@ -23,7 +25,7 @@ use std::marker::Model;
 const FEWEST_VERTICES: usize = 3;
 
 /// The most vertices of a polygon.
-const MOST_VERTICES: usize = 16;
+pub(crate) const MOST_VERTICES: usize = 16;
 
 /// Why a list of vertices is no polygon.
 #[derive(Clone, Copy, Debug, PartialEq, Eq)]
@@ -93,6 +95,32 @@ impl Polygon {
         }
         Err(PolygonFault::NotConvex)
     }
+
+    /// The same polygon, made ready to be asked about many boxes, where each edge leads less than 2^31 far on each
+    /// axis. It comes back as it was where one leads farther.
+    #[inline(always)]
+    pub fn narrow(self) -> Result<NarrowPolygon, Polygon>
+        ensures when { is_ok result ≡ is_narrow self }
+        ensures narrow { IfOk result (λ narrow. narrow ≡ self) }
+        ensures wide { IfErr result (λ wide. wide ≡ self) }
+    {
+        narrow(self)
+    }
+
+    /// The vertices in turn, counterclockwise.
+    pub(crate) fn vertices(&self) -> &[Point]
+        ensures value { result.now ≡ self.now }
+        ensures count { has_polygon_count result.now ≡ true }
+    {
+        &self.vertices
+    }
+
+    /// The least box around the vertices.
+    pub(crate) fn bounds(&self) -> Bounds
+        ensures { result ≡ bounding_box self.now }
+    {
+        self.bounds
+    }
 }
 
 impl Shape for Polygon {
@@ -122,9 +150,9 @@ impl Shape for Polygon {
 
 /// The line from one vertex to the next.
 #[derive(Clone, Copy)]
-struct Edge {
-    from: Point,
-    to: Point,
+pub(crate) struct Edge {
+    pub(crate) from: Point,
+    pub(crate) to: Point,
 }
 
 /// What the edges tell of a box that overlaps the bounding box, and perhaps lies inside it.
@@ -147,7 +175,7 @@ fn state_by_edges(vertices: &[Point], bounds: Bounds, lies_inside: bool) -> With
 }
 
 /// The vertex from which the edge to the first one comes.
-fn last_vertex(vertices: &[Point]) -> Point
+pub(crate) fn last_vertex(vertices: &[Point]) -> Point
     requires { 1 ≤ length vertices.now }
     ensures { result ≡ slice_index_or vertices.now (length vertices.now - 1) result }
 {
@@ -210,7 +238,7 @@ fn cross(edge: Edge, p: Point) -> i128
 }
 
 /// The difference of two coordinates, of up to 33 bits.
-fn difference(left: i32, right: i32) -> i64
+pub(crate) fn difference(left: i32, right: i32) -> i64
     ensures value { result ≡ left -ℤ right }
     ensures size { unsigned_abs result < 2 ^ 32 }
 {

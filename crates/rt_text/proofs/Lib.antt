@@ -1,3 +1,4 @@
+mod LeadingLemmas
 mod NumberLemmas
 mod PointLemmas
 mod QueryRows

@@ -8,7 +8,7 @@ use Rattle.std.proofs.Math.Nat.{pow-le-pow_right, pow-suc}
 use Rattle.std.proofs.lemmas.Bool.Decides.{nat_tests}
 use Rattle.std.proofs.lemmas.Int.{ints}
 use Rattle.std.proofs.lemmas.Int.Digits.{digits_value_more}
-use Rattle.std.proofs.lemmas.List.Folds.{list_all_more}
+use Rattle.std.proofs.lemmas.List.Folds.{list_all_at, list_all_more}
 use Rattle.rt_text.specs.Numbers.{digits_number, in_range, is_numeral, number_text}
 use Rattle.rt_text.specs.declared.numbers.NumberFault.{NumberFault}
 use Rattle.rt_text.specs.declared.numbers.NumberFault.TheVariants as fault
@@ -18,6 +18,14 @@ use Rattle.rt_text.specs.declared.numbers.NumberFault.TheVariants as fault
 pub all_digits-more : (xs : List ℕ) (i : ℕ) → i < length xs → list_all is_ascii_digit (take i xs) ≡ true → is_ascii_digit (get_or xs i 0) ≡ true
     → list_all is_ascii_digit (take (i + 1) xs) ≡ true
 all_digits-more xs i h before here = list_all_more is_ascii_digit xs i 0 h ∙ rw (before, here) refl
+
+-- each of the digits is one
+pub digit_at : (xs : List ℕ) (i : ℕ) → i < length xs → list_all is_ascii_digit xs ≡ true → is_ascii_digit (get_or xs i 0) ≡ true
+digit_at xs i h all = by (is_ascii_digit (get_or xs i 0)) refl
+  where
+    by : (b : Bool) → is_ascii_digit (get_or xs i 0) ≡ b → is_ascii_digit (get_or xs i 0) ≡ true
+    by true e = e
+    by false e = let x : true ≡ false = sym all ∙ list_all_at is_ascii_digit xs i 0 h e in absurd cc
 
 -- a cap at each step is a cap at the end
 capped_step : (n d most : ℕ) → min (min (min n most * 10) most + d) most ≡ min (n * 10 + d) most
@@ -46,6 +54,10 @@ small-more i m c h d = rw (add-one i, pow-suc 10 i) (omega (arith, nine c d))
   where
     nine : (c : ℕ) → is_ascii_digit c ≡ true → c - 48 ≤ 9
     nine c d = grind (arith, nat_tests)
+
+-- what few digits can write, more can
+pub fewer_digits : (i j m : ℕ) → i ≤ j → m < 10 ^ i → m < 10 ^ j
+fewer_digits i j m h small = omega (arith, small, pow-le-pow_right {n = 10} (omega arith) {i = i} {j = j} h)
 
 -- before the last of 19 digits
 pub short_step : (i m : ℕ) → i < 19 → m < 10 ^ i → m < 10 ^ 18

@@ -294,6 +294,21 @@ fn short_number_word(words: &mut Words, low: i64, high: i64) -> Result<i64, Quer
     ensures takes { Takes (number_word low high words.old) result words.new }
     ensures within { IfOk result (λ n. (low ≤ℤ n) × (n ≤ℤ high)) }
 {
+    let Some(value) = words.next_number() else {
+        return any_short_number_word(words, low, high);
+    };
+    if value < low || high < value {
+        return Err(QueryFault::OutOfRange);
+    }
+    Ok(value)
+}
+
+// The same whatever the word is.
+#[inline(never)]
+fn any_short_number_word(words: &mut Words, low: i64, high: i64) -> Result<i64, QueryFault>
+    ensures takes { Takes (number_word low high words.old) result words.new }
+    ensures within { IfOk result (λ n. (low ≤ℤ n) × (n ≤ℤ high)) }
+{
     let word = next_word(words)?;
     match number_64(word, low, high) {
         Ok(value) => Ok(value),

@@ -1,7 +1,9 @@
 //! Numbers as text.
 
-ghost use Rattle.std.specs.Prelude.{◌≡◌, ◌≤ℤ◌, ◌<◌, ◌≤◌, ◌^◌, IfOk, length, neg_ℤ, pos, min, option_map, ok_or};
-ghost use Rattle.std.specs.Str.Parse.{without_leading_sign};
+ghost use Rattle.std.specs.Prelude.{◌≡◌, ◌≤ℤ◌, ◌<◌, ◌≤◌, ◌^◌, IfOk, IfSome, Some, length, neg_ℤ, pos, min, option_map, ok_or, take, true};
+ghost use Rattle.std.specs.Char.{is_ascii_digit};
+ghost use Rattle.std.specs.List.{list_all};
+ghost use Rattle.std.specs.Str.Parse.{digits_value, without_leading_sign};
 ghost use Rattle.rt_text.specs.Numbers.{digits_number, in_range, number_in, number_text};
 
 /// As many digits as a `u64` has room for, whichever they are.
@@ -10,6 +12,9 @@ const SHORT: usize = 19;
 /// As many digits as an `i64` has room for, whichever they are and with either sign.
 const SHORT_SIGNED: usize = 18;
 
+/// As many digits as are judged at once, so that a processor may take them side by side.
+const GROUP: usize = 8;
+
 /// Why a text is no number of a range.
 #[derive(Clone, Copy, Debug, PartialEq, Eq)]
 pub enum NumberFault {
@@ -17,6 +22,20 @@ pub enum NumberFault {
     NotNumber,
     /// Its number lies outside the range.
     OutOfRange,
+}
+
+/// A number in front of a text: what it is, and how many bytes it takes.
+#[derive(Clone, Copy)]
+pub(crate) struct Leading {
+    pub(crate) number: i64,
+    pub(crate) len: usize,
+}
+
+// Digits in front of a text: the number that they write, and how many they are.
+#[derive(Clone, Copy)]
+struct Digits {
+    number: u64,
+    count: usize,
 }
 
 /// The number that a text gives, where it lies in a range: an optional `+` or `-`, then one or more
@@ -46,6 +65,97 @@ pub(crate) fn number_64(text: &[u8], low: i64, high: i64) -> Result<i64, NumberF
         return Err(NumberFault::OutOfRange);
     }
     Ok(number)
+}
+
+/// A number in front of a text, whatever stands behind it: a sign if there is one, and its digits up to the 18th.
+pub(crate) fn leading_number(text: &[u8]) -> Option<Leading>
+    ensures within { IfSome result (λ found. found.len ≤ length text.now) }
+    ensures value { IfSome result (λ found. number_text (take found.len text.now) ≡ Some found.number) }
+{
+    if text.is_empty() {
+        return None;
+    }
+    let behind = without_sign(text);
+    let digits = leading_digits(behind);
+    if digits.count == 0 {
+        return None;
+    }
+    let magnitude = digits.number as i64;
+    Some(Leading {
+        number: if text[0] == b'-' {
+            -magnitude
+        } else {
+            magnitude
+        },
+        len: text.len() - behind.len() + digits.count,
+    })
+}
+
+// The digits in front of a text, up to the 18th.
+fn leading_digits(text: &[u8]) -> Digits
+    ensures within { result.count ≤ length text.now }
+    ensures digits { list_all is_ascii_digit (take result.count text.now) ≡ true }
+    ensures number { result.number ≡ digits_value 10 (take result.count text.now) }
+    ensures small { result.number < 10 ^ SHORT_SIGNED }
+{
+    let most = text.len().min(SHORT_SIGNED);
+    let first = leading_group(text);
+    let mut number = first.number;
+    for at in first.count..most {
+        if !text[at].is_ascii_digit() {
+            return Digits { number, count: at };
+        }
+        number = number * 10 + u64::from(text[at] - b'0');
+    }
+    Digits {
+        number,
+        count: most,
+    }
+}
+
+// The first bytes of a text, where they are all digits, and else none.
+fn leading_group(text: &[u8]) -> Digits
+    ensures within { result.count ≤ min (length text.now) GROUP }
+    ensures digits { list_all is_ascii_digit (take result.count text.now) ≡ true }
+    ensures number { result.number ≡ digits_value 10 (take result.count text.now) }
+    ensures small { result.number < 10 ^ result.count }
+{
+    if GROUP <= text.len() && all_digits(&text[..GROUP]) {
+        Digits {
+            number: written(&text[..GROUP]),
+            count: GROUP,
+        }
+    } else {
+        Digits {
+            number: 0,
+            count: 0,
+        }
+    }
+}
+
+// Whether all bytes are digits. All are looked at, in any order.
+fn all_digits(text: &[u8]) -> bool
+    ensures { result ≡ list_all is_ascii_digit text.now }
+{
+    let mut all = true;
+    for byte in text {
+        all &= byte.is_ascii_digit();
+    }
+    all
+}
+
+// The number that a few digits write.
+fn written(digits: &[u8]) -> u64
+    requires few { length digits.now ≤ SHORT }
+    requires digits { list_all is_ascii_digit digits.now ≡ true }
+    ensures value { result ≡ digits_value 10 digits.now }
+    ensures small { result < 10 ^ length digits.now }
+{
+    let mut number: u64 = 0;
+    for digit in digits {
+        number = number * 10 + u64::from(*digit - b'0');
+    }
+    number
 }
 
 // The number that a short text gives.

@@ -1,9 +1,11 @@
 //! The words of a line.
 
-ghost use Rattle.std.specs.Prelude.{◌≡◌, ◌≤◌, [], ◌∷◌, length, not, MatchOption};
+ghost use Rattle.std.specs.Prelude.{◌≡◌, ◌≤◌, ◌==◌, ℕ, List, [], ◌∷◌, Some, length, not, MatchOption};
 ghost use Rattle.std.specs.List.{position, position_or_len};
+ghost use Rattle.rt_text.specs.Numbers.{number_text};
 ghost use Rattle.rt_text.specs.Words.{is_blank, words};
 
+use crate::numbers::leading_number;
 use std::marker::Model;
 
 /// The words of a line that are still to be read: what stands between runs of spaces and tabs.
@@ -27,6 +29,22 @@ impl<'a> Words<'a> {
         ensures { result ≡ words line.now }
     {
         Words { rest: line }
+    }
+
+    /// The next word's number, where it is a usual one: behind one space or none, of at most 18 digits. Where it isn't,
+    /// no word is read.
+    pub(crate) fn next_number(&mut self) -> Option<i64>
+        ensures { MatchOption result (self.new ≡ self.old)
+            (λ n. (word : List ℕ) × (self.old ≡ word ∷ self.new) × (number_text word ≡ Some n)) }
+    {
+        let text = without_space(self.rest);
+        let found = leading_number(text)?;
+        let rest = &text[found.len..];
+        if !ends_word(rest) {
+            return None;
+        }
+        self.rest = rest;
+        Some(found.number)
     }
 
     /// The same words, to look ahead.
@@ -66,6 +84,26 @@ fn first_word(line: &[u8]) -> Option<(&[u8], &[u8])>
         return None;
     }
     Some(rest.split_at(word_len(rest)))
+}
+
+// What stands behind a space, if there is one.
+fn without_space(line: &[u8]) -> &[u8]
+    ensures { words result.now ≡ words line.now }
+{
+    match line {
+        [b' ', rest @ ..] => rest,
+        _ => line,
+    }
+}
+
+// Whether a word in front of this would end there: a blank stands next, or nothing.
+fn ends_word(rest: &[u8]) -> bool
+    ensures { result ≡ (position_or_len is_blank rest.now == 0) }
+{
+    match rest {
+        [next, ..] => is_blank(*next),
+        [] => true,
+    }
 }
 
 // How many blanks stand in front.

@@ -100,7 +100,7 @@ if-not : {X : Type 0} (t : Bool) (x y : X) → (if t then x else y) ≡ (if not 
 if-not true x y = refl
 if-not false x y = refl
 
-opposite : {X : Type 0} (m n : ℤ) (x y : X) → (if int_lt m n then x else y) ≡ (if int_le n m then y else x)
+pub opposite : {X : Type 0} (m n : ℤ) (x y : X) → (if int_lt m n then x else y) ≡ (if int_le n m then y else x)
 opposite m n x y = rw (int_le-not_lt m n) (if-not (int_lt m n) x y)
 
 -- how a point of a box lies to its sides

@@ -1,7 +1,7 @@
 //! Polygons that were worked out by hand.
 
 use super::{boxed, state_of};
-use crate::{Bounds, Point, Polygon, PolygonFault, Region, Within};
+use crate::{Bounds, NarrowPolygon, Point, Polygon, PolygonFault, Region, Within};
 use std::process::Abort;
 
 fn at(x: i32, y: i32) -> Point {
@@ -14,6 +14,10 @@ fn polygon(rt: &impl Abort, points: &[Point]) -> Polygon {
 
 fn triangle(rt: &impl Abort) -> Polygon {
     polygon(rt, &[at(0, 0), at(30, 0), at(0, 30)])
+}
+
+fn narrow_triangle(rt: &impl Abort) -> NarrowPolygon {
+    triangle(rt).narrow().expect(rt, "the edges are short")
 }
 
 /// The state of an entry's box.
@@ -145,5 +149,53 @@ fn a_region_may_be_a_polygon(rt: HostRuntime) {
     assert_eq!(rt;
         state_of(&region, boxed(&rt, 25, 25, 30, 30), 0),
         Within::Not
+    );
+}
+
+#[test]
+fn a_narrow_polygon_tells_what_the_polygon_tells(rt: HostRuntime) {
+    let narrow = narrow_triangle(&rt);
+    for (bounds, want) in [
+        (boxed(&rt, 0, 10, 0, 10), Within::Fully),
+        (boxed(&rt, 20, 30, 0, 10), Within::Partly),
+        (boxed(&rt, -5, -1, -5, -1), Within::Not),
+        (boxed(&rt, 12, 12, 12, 12), Within::Fully),
+        (boxed(&rt, 25, 30, 25, 30), Within::Not),
+        (boxed(&rt, 15, 30, 15, 30), Within::Partly),
+        (boxed(&rt, 0, 10, 0, 20), Within::Fully),
+        (boxed(&rt, 0, 10, 0, 21), Within::Partly),
+        (boxed(&rt, -1, 10, 0, 20), Within::Partly),
+    ] {
+        assert_eq!(rt; state_of(&narrow, bounds, 1), want, "{bounds:?}");
+    }
+}
+
+#[test]
+fn a_narrow_polygon_reaches_the_end_of_the_plane(rt: HostRuntime) {
+    let (low, high) = (i32::MIN, i32::MAX);
+    let corner = polygon(&rt, &[at(low, low), at(-1, low), at(-1, -1)])
+        .narrow()
+        .expect(&rt, "the edges are short");
+    for (bounds, want) in [
+        (boxed(&rt, -30, -20, -50, -40), Within::Fully),
+        (boxed(&rt, low, high, low, high), Within::Partly),
+        (boxed(&rt, low, low, low, low), Within::Fully),
+        (boxed(&rt, low, low, -1, high), Within::Not),
+        (boxed(&rt, low, -2, -1, high), Within::Not),
+        (boxed(&rt, low, -1, -1, high), Within::Partly),
+    ] {
+        assert_eq!(rt; state_of(&corner, bounds, 1), want, "{bounds:?}");
+    }
+}
+
+#[test]
+fn a_polygon_with_a_long_edge_comes_back(rt: HostRuntime) {
+    let longest = [at(0, 0), at(i32::MAX, 0), at(0, 1)];
+    assert!(rt; polygon(&rt, &longest).narrow().is_ok());
+
+    let too_long = [at(-1, 0), at(i32::MAX, 0), at(0, 1)];
+    assert_eq!(rt;
+        polygon(&rt, &too_long).narrow().err(),
+        Some(polygon(&rt, &too_long))
     );
 }
