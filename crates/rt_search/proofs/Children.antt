@@ -52,6 +52,19 @@ leaf_at t n i e boxes s lt read =
       box = subst HasBox read box;
     }
 
+-- how many entries are lent
+pub entries_count : (t : Packed) (n : Node) (lent : List Entry) → IsLeafNode t n → lent ≡ child_entries t n
+    → length lent ≡ n.count
+entries_count t n lent s entries = ap length entries ∙ part_length t.entries n.first n.count s.range
+
+-- an entry that is read among them
+pub leaf_read : (t : Packed) (n : Node) (i : ℕ) (e : Entry) (lent : List Entry) → All HasBox t.entries → IsLeafNode t n
+    → lent ≡ child_entries t n → i < length lent → e ≡ get_or lent i e → IsLeafAt t n i e
+leaf_read t n i e lent boxes s entries lt read =
+    let few = subst (λ m. i < m) (entries_count t n lent s entries) lt in
+    leaf_at t n i e boxes s few (sym (part_at t.entries n.first n.count i e few)
+    ∙ sym (subst (λ l. e ≡ get_or l i e) entries read))
+
 -- ---- a child of a higher node
 
 pub subtree_level : (t : Packed) (h : ℕ) (n : Node) → IsSubtree t h n → n.level ≡ suc h
@@ -127,6 +140,37 @@ child_of t number i k s level lt is =
     let n = node_at t number in
     let h = height_at t number - 1 in
     subst (λ m. IsChild t n h i m) (sym is) (child_at t n h i (inner_at t (height_at t number) n s level).1 lt)
+
+-- how many children are lent
+pub children_count : (t : Packed) (number : ℕ) (n : Node) (lent : List Node)
+    → IsSubtree t (height_at t number) (node_at t number) → 2 ≤ (node_at t number).level → n ≡ node_at t number
+    → lent ≡ child_nodes t n → length lent ≡ (node_at t number).count
+children_count t number n lent s level is children =
+    let m = node_at t number in
+    ap length (children ∙ ap (child_nodes t) is)
+    ∙ part_length t.nodes m.first m.count (inner_at t (height_at t number) m s level).1.range
+
+-- a child that is read among them
+pub record IsChildRead (t : Packed) (number i k : ℕ) (x : Node) : Type 0 where
+  pub few : i < (node_at t number).count
+  pub child : IsChild t (node_at t number) (height_at t number - 1) i k
+  pub is : x ≡ node_at t k
+
+pub child_read : (t : Packed) (number i k : ℕ) (n x : Node) (lent : List Node)
+    → IsSubtree t (height_at t number) (node_at t number) → 2 ≤ (node_at t number).level → n ≡ node_at t number
+    → lent ≡ child_nodes t n → i < length lent → x ≡ get_or lent i x → k ≡ (node_at t number).first + i
+    → IsChildRead t number i k x
+child_read t number i k n x lent s level is children lt read number_is =
+    let few = subst (λ m. i < m) (children_count t number n lent s level is children) lt in
+    let at = child_of t number i k s level few number_is in
+    let same = children ∙ ap (child_nodes t) is in
+    record {
+      few = few;
+      child = at;
+      is =
+          subst (λ l. x ≡ get_or l i x) same read
+          ∙ get_or_default (child_nodes t (node_at t number)) i x (node_at t k) at.place ∙ sym at.is;
+    }
 
 -- all children of a node
 pub all_children : (t : Packed) (number : ℕ) → IsSubtree t (height_at t number) (node_at t number)

@@ -6,7 +6,7 @@ use Rattle.std.specs.List.{AllByRecursion}
 use Rattle.std.specs.Ordering.{is_gt}
 use Rattle.rt_tree.specs.Sorting.{put}
 use Rattle.rt_search.specs.Items.{item_cmp}
-use Rattle.rt_search.specs.Kept.{IsAhead, IsEntry, IsFirstScore, IsHead, IsLeast, IsNode}
+use Rattle.rt_search.specs.Kept.{IsAhead, IsEntry, IsFirstScore, IsHead, IsLeast, IsNode, offered}
 use Rattle.rt_search.specs.Remaining.{put_all}
 use Rattle.rt_search.specs.declared.item.Item.{Item}
 use Rattle.rt_search.proofs.OrderedLists.{IsOrder, length-put, length-put_all, put-put, put_all-all, put_all-put}
@@ -37,6 +37,24 @@ right_fits xs ys capacity h = omega (arith, length-merged xs ys)
 pub joined_fits : (x : Item) (xs ys : List Item) (capacity : ℕ) → ys ≡ put item_cmp x xs → length xs < capacity
     → length ys ≤ capacity
 joined_fits x xs ys capacity e h = rw e (omega (arith, length-put item_cmp item_order x xs))
+
+-- ---- an item that joins where it is wanted
+
+-- it joins the left list, or the right one, or the whole
+pub offered_left : (b : Bool) (x : Item) (xs ys : List Item)
+    → put_all item_cmp (offered b x xs) ys ≡ offered b x (put_all item_cmp xs ys)
+offered_left true x xs ys = put-put_all item_cmp item_order x xs ys
+offered_left false x xs ys = refl
+
+pub offered_right : (b : Bool) (x : Item) (xs ys : List Item)
+    → put_all item_cmp xs (offered b x ys) ≡ offered b x (put_all item_cmp xs ys)
+offered_right true x xs ys = put_all-put item_cmp item_order xs x ys
+offered_right false x xs ys = refl
+
+pub offered_fits : (b : Bool) (x : Item) (xs ys : List Item) (capacity : ℕ) → ys ≡ offered b x xs
+    → length xs < capacity → length ys ≤ capacity
+offered_fits true x xs ys capacity e h = joined_fits x xs ys capacity e h
+offered_fits false x xs ys capacity e h = rw e (omega (arith, h))
 
 -- ---- the first of the list that is ahead is the first of both
 

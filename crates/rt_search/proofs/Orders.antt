@@ -1,11 +1,13 @@
 -- The orders of answers and of items: total, and they tell all apart.
 use Rattle.std.proofs.Common.{◌≡◌, ◌≤◌, ℕ, ℤ, Bool, true, false, Ordering, Less, Equal, Greater, refl, sym, ◌∙◌, ap}
-use Rattle.std.proofs.Common.{◌<◌, ◌+◌, ◌*◌, ◌^◌, arith}
+use Rattle.std.proofs.Common.{◌<◌, ◌+◌, ◌*◌, ◌/◌, ◌%◌, ◌^◌, arith}
 use Rattle.std.specs.Prelude.{nat_lt}
 use Rattle.std.specs.Cmp.{IsTotalOrder, bool_cmp_total}
 use Rattle.std.specs.Ordering.{bool_cmp, int_cmp, is_gt, is_lt, nat_cmp, ordering_reverse, ordering_then}
 use Rattle.std.specs.declared.cmp.Reverse.{Reverse}
 use Rattle.std.proofs.lemmas.Bool.Decides.{nat_tests}
+use Rattle.std.proofs.Math.Nat.{mod-lt}
+use Rattle.std.proofs.lemmas.Nat.{div-add-mod'}
 use Rattle.std.proofs.lemmas.Cmp.{int_cmp_total, nat_cmp_total, on_total, then_total}
 use Rattle.std.proofs.lemmas.Map.Lookups.{CmpEqualImpliesEq, exact_signed, exact_unsigned}
 use Rattle.rt_search.specs.Answers.{Answer, answer_cmp}
@@ -142,10 +144,17 @@ by_halves : (h l k m : ℕ) (o p : Ordering) → l < 2 ^ 64 → (is_lt o ≡ fal
     → is_lt (ordering_then (nat_cmp (k * 2 ^ 64 + m) (h * 2 ^ 64 + l)) p) ≡ false
 by_halves h l k m o p small f e = grind (arith, nat_tests)
 
--- what doesn't come first by a number and then 0 or 1 doesn't by the number and then whether that is 1
-by_full : (a b f g : ℕ) → is_lt (ordering_then (nat_cmp a b) (nat_cmp f g)) ≡ false
-    → is_lt (ordering_then (nat_cmp a b) (bool_cmp (nat_lt 0 f) (nat_lt 0 g))) ≡ false
-by_full a b f g e = grind (arith, nat_tests)
+-- what doesn't come first by a word doesn't by its higher half and then whether there is anything in the lower one
+by_parts : (h l k m : ℕ) → l < 2 ^ 32 → m < 2 ^ 32 → is_lt (nat_cmp (h * 2 ^ 32 + l) (k * 2 ^ 32 + m)) ≡ false
+    → is_lt (ordering_then (nat_cmp h k) (bool_cmp (nat_lt 0 l) (nat_lt 0 m))) ≡ false
+by_parts h l k m low small e = grind (arith, nat_tests)
+
+by_tail : (f g : ℕ) → is_lt (nat_cmp f g) ≡ false
+    → is_lt (ordering_then (nat_cmp (f / 2 ^ 32) (g / 2 ^ 32))
+    (bool_cmp (nat_lt 0 (f % 2 ^ 32)) (nat_lt 0 (g % 2 ^ 32)))) ≡ false
+by_tail f g e =
+    by_parts (f / 2 ^ 32) (f % 2 ^ 32) (g / 2 ^ 32) (g % 2 ^ 32) (mod-lt f (omega arith))
+    (mod-lt g (omega arith)) (rw (div-add-mod' f (2 ^ 32), div-add-mod' g (2 ^ 32)) e)
 
 -- where a node doesn't come before another in the order that it derives, neither does its item
 pub node_derived : (m n : Reverse NodeKey) → n.0.low < 2 ^ 64 → is_lt (key_ghosts.cmp m.0 n.0) ≡ false
@@ -153,9 +162,7 @@ pub node_derived : (m n : Reverse NodeKey) → n.0.low < 2 ^ 64 → is_lt (key_g
 node_derived m n small e =
     not_after (node_item n) (node_item m)
     ∙ by_halves n.0.high n.0.low m.0.high m.0.low
-    (ordering_then (nat_cmp m.0.number.number n.0.number.number) (nat_cmp m.0.full n.0.full))
-    (node_cmp (node_of m.0) (node_of n.0)) small
-    (by_full m.0.number.number n.0.number.number m.0.full n.0.full) e
+    (nat_cmp m.0.tail n.0.tail) (node_cmp (node_of m.0) (node_of n.0)) small (by_tail m.0.tail n.0.tail) e
 
 -- and an entry
 pub entry_derived : (d e : Reverse FoundEntry) → is_gt (item_cmp (entry_item e) (entry_item d))

@@ -1,5 +1,5 @@
 -- How a frontier keeps its items. Nothing that a public call promises speaks of this.
-use Rattle.std.specs.Prelude.{◌≡◌, ◌<◌, ◌≤◌, ◌+◌, ◌*◌, ◌^◌, ℕ, ℤ, nat_lt, Bool, true, false, if◌then◌else◌}
+use Rattle.std.specs.Prelude.{◌≡◌, ◌<◌, ◌≤◌, ◌+◌, ◌*◌, ◌/◌, ◌%◌, ◌^◌, ℕ, ℤ, nat_lt, Bool, true, false, if◌then◌else◌}
 use Rattle.std.specs.Prelude.{Option, Some, None, List, [], ◌∷◌, length, map, vec_capacity}
 use Rattle.std.specs.BinaryHeap.{IsHeap, heap_capacity, heap_items, heap_len}
 use Rattle.std.specs.List.{AllByRecursion}
@@ -8,7 +8,7 @@ use Rattle.std.specs.declared.cmp.Ordering.{Ordering}
 use Rattle.std.specs.declared.cmp.Reverse.{Reverse}
 use Rattle.std.specs.declared.collections.binary_heap.BinaryHeap.{BinaryHeap}
 use Rattle.std.specs.declared.vec.Vec.{Vec}
-use Rattle.rt_tree.specs.Sorting.{sorted}
+use Rattle.rt_tree.specs.Sorting.{put, sorted}
 use Rattle.rt_search.specs.Items.{Waiting, item_at, item_cmp}
 use Rattle.rt_search.specs.Remaining.{put_all}
 use Rattle.rt_search.specs.declared.item.FoundEntry.{FoundEntry}
@@ -22,7 +22,7 @@ use Rattle.rt_search.specs.declared.nodes.NodeKey.{NodeKey}
 
 -- the node that a key stands for
 abbrev pub node_of : NodeKey → WaitingNode
-node_of k = record { number = k.number; is_full = nat_lt 0 k.full }
+node_of k = record { number = record { number = k.tail / 2 ^ 32 }; is_full = nat_lt 0 (k.tail % 2 ^ 32) }
 
 -- a node that waits, as an item: by its key, which has its score in halves, and as a heap keeps it
 abbrev pub key_item : NodeKey → Item
@@ -65,6 +65,10 @@ IsNode (Entry id) = ⊥
 abbrev pub IsEntry : Place → Type 0
 IsEntry (Node n) = ⊥
 IsEntry (Entry id) = Unit {0}
+
+-- an item joins, where it is wanted
+abbrev pub offered : (is_wanted : Bool) → Item → List Item → List Item
+offered is_wanted x items = if is_wanted then put item_cmp x items else items
 
 -- x comes after none of them
 abbrev pub IsLeast : Item → List Item → Type 0

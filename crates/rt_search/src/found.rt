@@ -3,9 +3,8 @@
 ghost use Rattle.std.specs.Prelude.{◌≡◌, ◌<◌, ◌≤◌, [], ◌∷◌, IfNone, IfOk, IfSome, MatchOption, length};
 ghost use Rattle.std.specs.List.{AllByRecursion};
 ghost use Rattle.rt_search.specs.declared.item.Place.TheVariants as place;
-ghost use Rattle.rt_search.specs.Items.{item_at, item_cmp};
-ghost use Rattle.rt_search.specs.Kept.{IsEntry, IsFirstScore, IsLeast, taken_entry};
-ghost use Rattle.rt_tree.specs.Sorting.{put};
+ghost use Rattle.rt_search.specs.Items.{item_at};
+ghost use Rattle.rt_search.specs.Kept.{IsEntry, IsFirstScore, IsLeast, offered, taken_entry};
 
 use crate::item::FoundEntry;
 use crate::scored::Scored;
@@ -65,17 +64,20 @@ impl Found {
         self.scored.clear();
     }
 
+    /// Puts an entry in where it is wanted.
     #[inline(always)]
-    pub fn put(&mut self, score: u128, id: i64)
+    pub fn offer(&mut self, is_wanted: bool, score: u128, id: i64)
         requires { length self.old.items < self.old.capacity }
-        ensures items { self.new.items ≡ put item_cmp (item_at score (place.Entry id)) self.old.items }
+        ensures items { self.new.items ≡ offered is_wanted (item_at score (place.Entry id)) self.old.items }
         ensures capacity { self.new.capacity ≡ self.old.capacity }
     {
         if score == 0 {
-            self.zeros.put(id);
+            self.zeros.offer(is_wanted, id);
             return;
         }
-        self.scored.put(score, id);
+        if is_wanted {
+            self.scored.put(score, id);
+        }
     }
 
     #[inline(always)]

@@ -6,7 +6,7 @@ ghost use Rattle.std.specs.List.{AllByRecursion};
 ghost use Rattle.std.specs.Ordering.{is_gt};
 ghost use Rattle.rt_search.specs.declared.item.Place.TheVariants as place;
 ghost use Rattle.rt_search.specs.Items.{item_at, item_cmp};
-ghost use Rattle.rt_search.specs.Kept.{IsAhead, taken_item};
+ghost use Rattle.rt_search.specs.Kept.{IsAhead, offered, taken_item};
 ghost use Rattle.rt_tree.specs.Sorting.{put};
 
 use crate::found::Found;
@@ -93,12 +93,12 @@ impl Frontier {
     }
 
     #[inline(always)]
-    pub(crate) fn put_entry(&mut self, score: u128, id: i64)
+    pub(crate) fn offer_entry(&mut self, is_wanted: bool, score: u128, id: i64)
         requires { length self.old.items < self.old.capacity }
-        ensures items { self.new.items ≡ put item_cmp (item_at score (place.Entry id)) self.old.items }
+        ensures items { self.new.items ≡ offered is_wanted (item_at score (place.Entry id)) self.old.items }
         ensures capacity { self.new.capacity ≡ self.old.capacity }
     {
-        self.found.put(score, id);
+        self.found.offer(is_wanted, score, id);
     }
 
     #[inline(always)]

@@ -17,15 +17,17 @@ use std::marker::Model;
 // How many numbers a half of a score may be.
 const HALF: u128 = 1 << 64;
 
-/// A node that waits, as the heap keeps it, in the order of items: its score in two halves, and `full` as wide as a
-/// number. So it has no padding, and is copied and compared in whole words.
+// By how much a tail rises from one number to the next.
+const ONE_NUMBER: u64 = 1 << 32;
+
+/// A node that waits, as the heap keeps it, in the order of items: its score in two halves, and its number and
+/// whether it is full in one word. So it has no padding, and is stored, loaded and compared in whole words.
 #[derive(Clone, Copy, PartialEq, Eq, PartialOrd, Ord)]
 struct NodeKey {
     high: u64,
     low: u64,
-    number: NodeNo,
-    // 1 where all that lies under it is accepted, otherwise 0
-    full: u32,
+    // its number, and below it 1 where all that lies under it is accepted, otherwise 0
+    tail: u64,
 }
 
 impl NodeKey {
@@ -36,8 +38,7 @@ impl NodeKey {
         NodeKey {
             high: (score / HALF) as u64,
             low: (score % HALF) as u64,
-            number: node.number,
-            full: node.is_full as u32,
+            tail: u64::from(node.number.number()) * ONE_NUMBER + u64::from(node.is_full),
         }
     }
 
@@ -57,8 +58,8 @@ impl NodeKey {
         ScoredNode {
             score: self.score(),
             node: WaitingNode {
-                number: self.number,
-                is_full: 0 < self.full,
+                number: NodeNo::new((self.tail / ONE_NUMBER) as u32),
+                is_full: 0 < self.tail % ONE_NUMBER,
             },
         }
     }

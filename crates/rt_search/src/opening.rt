@@ -69,6 +69,18 @@ pub(crate) fn put_root(tree: &Tree, frontier: &mut Frontier) -> u8
     tree.node(number).level
 }
 
+// Whether what is in this state joins the frontier.
+#[inline(always)]
+fn is_kept(within: Within) -> bool
+    ensures { result ≡ is_kept within }
+{
+    match within {
+        Within::Not => false,
+        Within::Partly => true,
+        Within::Fully => true,
+    }
+}
+
 fn ask_entry<G: Geometry>(
     frontier: &mut Frontier,
     counted: &mut Counted<'_, G>,
@@ -84,10 +96,7 @@ fn ask_entry<G: Geometry>(
     ensures asked { counted.new.asked ≡ counted.old.asked + 1 }
 {
     let verdict = counted.check(info);
-    if verdict.within == Within::Not {
-        return;
-    }
-    frontier.put_entry(verdict.score, entry.id);
+    frontier.offer_entry(is_kept(verdict.within), verdict.score, entry.id);
 }
 
 fn ask_node<G: Geometry>(
@@ -134,10 +143,10 @@ pub(crate) fn open_leaf<G: Geometry>(
     ensures geometry { counted.new.geometry ≡ counted.old.geometry }
     ensures asked { counted.new.asked ≡ counted.old.asked + node.count }
 {
-    for i in 0..node.count {
-        let entry = tree.entry(node.first + i as u32);
+    let entries = tree.child_entries(node);
+    for entry in entries {
         let info = parent.info(entry.bounds, 0);
-        ask_entry(frontier, counted, entry, &info);
+        ask_entry(frontier, counted, *entry, &info);
     }
 }
 
@@ -163,10 +172,10 @@ pub(crate) fn open_inner<G: Geometry>(
     ensures asked { counted.new.asked ≡ counted.old.asked + (node_at tree.now number.number).count }
 {
     let node = tree.node(number);
-    for i in 0..node.count {
-        let child_number = tree.child_node(number, i);
-        let child = tree.node(child_number);
+    let children = tree.child_nodes(node);
+    for (i, child) in children.iter().enumerate() {
         let info = parent.info(child.bounds, child.level);
+        let child_number = tree.child_node(number, i as u8);
         ask_node(frontier, counted, child_number, &info);
     }
 }

@@ -4,7 +4,7 @@ ghost use Rattle.std.specs.Prelude.{◌≡◌, ◌==◌, ◌+◌, ◌-◌, ◌<�
 ghost use Rattle.std.specs.List.Sorted.{IsPermutation};
 ghost use Rattle.rt_tree.specs.Entries.{most_entries};
 ghost use Rattle.rt_tree.specs.Levels.{level_sizes};
-ghost use Rattle.rt_tree.specs.Packed.{IsSound, node_at, root_of};
+ghost use Rattle.rt_tree.specs.Packed.{IsSound, child_entries, child_nodes, node_at, root_of};
 ghost use Rattle.rt_tree.specs.Packing.{all_nodes, chunks, leaf_nodes, pack_of};
 
 use crate::levels::Levels;
@@ -38,6 +38,13 @@ pub struct NodeNo {
 }
 
 impl NodeNo {
+    /// The number as that of a node. Which numbers a tree has, it tells itself.
+    pub fn new(number: u32) -> NodeNo
+        ensures { result.number ≡ number }
+    {
+        NodeNo { number }
+    }
+
     /// The number.
     pub fn number(self) -> u32
         ensures { result ≡ self.number }
@@ -182,6 +189,26 @@ impl Tree {
         ensures { result.now ≡ self.now.entries }
     {
         self.entries.as_slice()
+    }
+
+    /// The entries under a node of level 1, in the order of their places.
+    #[inline(always)]
+    pub fn child_entries(&self, node: Node) -> &[Entry]
+        requires { node.first + node.count ≤ length self.now.entries }
+        ensures { result.now ≡ child_entries self.now node }
+    {
+        let first = node.first as usize;
+        &self.entries[first..first + node.count as usize]
+    }
+
+    /// The nodes right under a node above level 1, in the order of their numbers.
+    #[inline(always)]
+    pub fn child_nodes(&self, node: Node) -> &[Node]
+        requires { node.first + node.count ≤ length self.now.nodes }
+        ensures { result.now ≡ child_nodes self.now node }
+    {
+        let first = node.first as usize;
+        &self.nodes[first..first + node.count as usize]
     }
 
     /// The nodes, in the order of their numbers.

@@ -1,26 +1,69 @@
-use Rattle.std.proofs.Common.{arith, ap}
+use Rattle.std.proofs.Common.{◌∙◌, ap, arith, add-one}
 use Rattle.rt_tree.specs.Packed.{node_at}
+use Rattle.rt_search.specs.Joining.{join_nodes}
 use Rattle.rt_search.specs.Work.{is_kept}
-use Rattle.rt_search.proofs.Children.{child_of, honest_child}
+use Rattle.rt_search.proofs.Children.{child_read, children_count, honest_child}
 use Rattle.rt_search.proofs.Working.{length-join_nodes}
 use Rattle.rt_search.proofs.opening.open_inner.Goals as goal
 
 pub ask_node-requires-clause-honest : goal.ask_node-requires-clause-honest
 ask_node-requires-clause-honest g c =
-    let n = rw c.node-node.ensures at c.loop-i-test.true in
-    let k = child_of c.args.tree.now c.args.number.number c.loop-i.i c.child_node-child_number.result.number
-    c.requires.node.tree c.requires.level n c.child_node-child_number.ensures.value in
+    let k = child_read c.args.tree.now c.args.number.number c.loop-i.i c.child_node-child_number.result.number
+    c.node-node.result c.index-children-i.result c.child_nodes-children.result.now c.requires.node.tree
+    c.requires.level c.node-node.ensures c.child_nodes-children.ensures c.loop-i-test.true c.index-children-i.is
+    c.child_node-child_number.ensures.value in
     rw c.loop-i.invariant.geometry
     (honest_child (g.G.Geometry.accepts c.args.counted.now.geometry)
     (g.G.Geometry.score c.args.counted.now.geometry) (node_at c.args.tree.now c.args.number.number).bounds
     c.info-info.result c.args.parent.verdict c.requires.node.below (ap (λ i. i.parent_within) c.info-info.ensures)
-    (rw (c.info-info.ensures, c.node-child.ensures) k.within))
+    (rw (c.info-info.ensures, k.is) k.child.within))
 
 pub ask_node-requires-clause-room : goal.ask_node-requires-clause-room
 ask_node-requires-clause-room g c =
-    let n = rw c.node-node.ensures at c.loop-i-test.true in
+    let count = children_count c.args.tree.now c.args.number.number c.node-node.result
+    c.child_nodes-children.result.now c.requires.node.tree c.requires.level c.node-node.ensures
+    c.child_nodes-children.ensures in
+    let lt = c.loop-i-test.true in
     let long = length-join_nodes (g.G.Geometry.verdict c.args.counted.now.geometry) c.args.tree.now
     c.args.parent.verdict is_kept (node_at c.args.tree.now c.args.number.number) c.loop-i.i
     c.args.frontier.now.items in
     let room = c.requires.room in
-    rw (c.loop-i.invariant.items, c.loop-i.invariant.capacity) (omega (arith, long, room, n))
+    rw (c.loop-i.invariant.items, c.loop-i.invariant.capacity) (omega (arith, long, room, lt, count))
+
+pub loop-i-preserved : goal.loop-i-preserved
+loop-i-preserved g c =
+    let k = child_read c.args.tree.now c.args.number.number c.loop-i.i c.child_node-child_number.result.number
+    c.node-node.result c.index-children-i.result c.child_nodes-children.result.now c.requires.node.tree
+    c.requires.level c.node-node.ensures c.child_nodes-children.ensures c.loop-i-test.true c.index-children-i.is
+    c.child_node-child_number.ensures.value in
+    let v = c.loop-i.invariant in
+    let h = rw (v.geometry, v.items) at c.ask_node.ensures in
+    record {
+      items = rw add-one (rw c.child_node-child_number.ensures.value at
+          (rw k.is at (rw (c.info-info.ensures, c.requires.top) at h.items)));
+      capacity = h.capacity ∙ v.capacity;
+      geometry = h.geometry;
+      asked = omega arith;
+    }
+
+pub returns-clause-items : goal.returns-clause-items
+returns-clause-items g c =
+    let count = children_count c.args.tree.now c.args.number.number c.node-node.result
+    c.child_nodes-children.result.now c.requires.node.tree c.requires.level c.node-node.ensures
+    c.child_nodes-children.ensures in
+    let n = node_at c.args.tree.now c.args.number.number in
+    let no = c.loop-i-test.false in
+    let end = c.loop-i.auto.i-end in
+    c.loop-i.invariant.items
+    ∙ ap (λ m. join_nodes is_kept (g.G.Geometry.verdict c.args.counted.now.geometry) c.args.tree.now
+    c.args.parent.verdict n m c.args.frontier.now.items) (omega (arith, no, end, count))
+
+pub returns-clause-asked : goal.returns-clause-asked
+returns-clause-asked g c =
+    let count = children_count c.args.tree.now c.args.number.number c.node-node.result
+    c.child_nodes-children.result.now c.requires.node.tree c.requires.level c.node-node.ensures
+    c.child_nodes-children.ensures in
+    let no = c.loop-i-test.false in
+    let end = c.loop-i.auto.i-end in
+    let asked = c.loop-i.invariant.asked in
+    omega (arith, asked, no, end, count)
