@@ -5,6 +5,7 @@
 
 ghost use Rattle.std.specs.Prelude.{◌≡◌, ◌+◌, ◌-◌, ◌<◌, ◌≤◌, ◌^◌, IfOk, OnOk, OnErr, length};
 ghost use Rattle.rt_geo.specs.Orders.{order_score};
+ghost use Rattle.rt_geo.specs.Polygons.{polygon_accepts};
 ghost use Rattle.rt_geo.specs.Regions.{region_accepts};
 ghost use Rattle.rt_geo.specs.Shapes.{circle_accepts};
 ghost use Rattle.rt_text.specs.ReplyLines.{ok_line};
@@ -14,7 +15,7 @@ ghost use Rattle.rt_filter.specs.Replies.{answer_lines, find_reply};
 
 use crate::pushing::push_line;
 use rt_device::{Sink, WriteFault};
-use rt_geo::{ById, Circle, Counted, Disc, Geometry, Guided, Order, Region, Shape};
+use rt_geo::{ById, Circle, Counted, Disc, Geometry, Guided, Order, Polygon, Region, Shape};
 use rt_search::{Frontier, Search, count};
 use rt_text::{Line, ok_line, set_answer_line};
 use rt_tree::Tree;
@@ -44,8 +45,37 @@ pub(crate) fn push_find<K: Sink>(
         Region::Window(shape) => push_ordered(tree, frontier, line, shape, order, limit, sink),
         Region::Inside(shape) => push_ordered(tree, frontier, line, shape, order, limit, sink),
         Region::Covers(shape) => push_ordered(tree, frontier, line, shape, order, limit, sink),
-        Region::Circle(shape) => push_circle(tree, frontier, line, shape, order, limit, sink),
-        Region::Polygon(shape) => push_ordered(tree, frontier, line, shape, order, limit, sink),
+        Region::Circle(shape) => push_in_circle(tree, frontier, line, shape, order, limit, sink),
+        Region::Polygon(shape) => {
+            push_in_polygon(tree, frontier, line, shape, order, limit, sink)
+        }
+    }
+}
+
+// The same for a polygon, which is asked faster where it is narrow.
+#[inline(never)]
+fn push_in_polygon<K: Sink>(
+    tree: &Tree,
+    frontier: Frontier,
+    line: u128,
+    polygon: Polygon,
+    order: Order,
+    limit: Option<u64>,
+    sink: &mut K,
+) -> Result<Frontier, WriteFault>
+    requires room { length tree.now.entries ≤ frontier.capacity }
+    requires count { K.failed sink.old < 2 ^ 64 - 1 }
+    ensures written { OnOk result (WasPushed (K.written sink.old) (K.written sink.new)
+        (find_reply line (answers tree.now.entries (polygon_accepts polygon) (order_score order) limit))) }
+    ensures cut { OnErr result (WasCut (K.written sink.old) (K.written sink.new)
+        (find_reply line (answers tree.now.entries (polygon_accepts polygon) (order_score order) limit))) }
+    ensures capacity { IfOk result (λ frontier'. frontier'.capacity ≡ frontier.capacity) }
+    ensures went { OnOk result (K.failed sink.new ≡ K.failed sink.old) }
+    ensures fails { OnErr result (K.failed sink.new ≡ K.failed sink.old + 1) }
+{
+    match polygon.narrow() {
+        Ok(narrow) => push_ordered(tree, frontier, line, narrow, order, limit, sink),
+        Err(wide) => push_ordered(tree, frontier, line, wide, order, limit, sink),
     }
 }
 
@@ -83,7 +113,7 @@ fn push_ordered<S: Shape + Drop, K: Sink>(
 }
 
 // The same for a circle. Where the order is by the distance from its middle, one distance tells both.
-fn push_circle<K: Sink>(
+fn push_in_circle<K: Sink>(
     tree: &Tree,
     frontier: Frontier,
     line: u128,
@@ -188,7 +218,32 @@ pub(crate) fn push_count<K: Sink>(
         Region::Inside(shape) => push_counted(tree, frontier, line, shape, sink),
         Region::Covers(shape) => push_counted(tree, frontier, line, shape, sink),
         Region::Circle(shape) => push_counted(tree, frontier, line, shape, sink),
-        Region::Polygon(shape) => push_counted(tree, frontier, line, shape, sink),
+        Region::Polygon(shape) => push_counted_in_polygon(tree, frontier, line, shape, sink),
+    }
+}
+
+// The same for a polygon, which is asked faster where it is narrow.
+#[inline(never)]
+fn push_counted_in_polygon<K: Sink>(
+    tree: &Tree,
+    frontier: Frontier,
+    line: u128,
+    polygon: Polygon,
+    sink: &mut K,
+) -> Result<Frontier, WriteFault>
+    requires room { length tree.now.entries ≤ frontier.capacity }
+    requires count { K.failed sink.old < 2 ^ 64 - 1 }
+    ensures written { OnOk result (WasPushed (K.written sink.old) (K.written sink.new)
+        (ok_line line (length (accepted tree.now.entries (polygon_accepts polygon))))) }
+    ensures cut { OnErr result (WasCut (K.written sink.old) (K.written sink.new)
+        (ok_line line (length (accepted tree.now.entries (polygon_accepts polygon))))) }
+    ensures capacity { IfOk result (λ frontier'. frontier'.capacity ≡ frontier.capacity) }
+    ensures went { OnOk result (K.failed sink.new ≡ K.failed sink.old) }
+    ensures fails { OnErr result (K.failed sink.new ≡ K.failed sink.old + 1) }
+{
+    match polygon.narrow() {
+        Ok(narrow) => push_counted(tree, frontier, line, narrow, sink),
+        Err(wide) => push_counted(tree, frontier, line, wide, sink),
     }
 }
 

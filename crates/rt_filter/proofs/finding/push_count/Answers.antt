@@ -1,4 +1,4 @@
 use Rattle.rt_filter.proofs.finding.push_count.Goals as goal
 
 pub returns-in-Polygon-clause-written : goal.returns-in-Polygon-clause-written
-returns-in-Polygon-clause-written g c = rw c.in-Polygon.is c.push_counted-in-Polygon.ensures.written
+returns-in-Polygon-clause-written g c = rw c.in-Polygon.is c.push_counted_in_polygon.ensures.written
