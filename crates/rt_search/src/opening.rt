@@ -158,6 +158,7 @@ pub(crate) fn open_inner<G: Geometry>(
     number: NodeNo,
     parent: Parent,
 )
+    requires tree { IsSound tree.now }
     requires top { parent.top ≡ (root_of tree.now).level }
     requires node { let g = counted.old.geometry in
         IsOpenable tree.now (G.accepts g) (G.score g) number.number parent.verdict }
@@ -173,9 +174,10 @@ pub(crate) fn open_inner<G: Geometry>(
 {
     let node = tree.node(number);
     let children = tree.child_nodes(node);
+    let first = tree.child_node(number, 0).number();
     for (i, child) in children.iter().enumerate() {
         let info = parent.info(child.bounds, child.level);
-        let child_number = tree.child_node(number, i as u8);
+        let child_number = NodeNo::new(first + i as u32);
         ask_node(frontier, counted, child_number, &info);
     }
 }

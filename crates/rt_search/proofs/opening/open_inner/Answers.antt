@@ -1,4 +1,4 @@
-use Rattle.std.proofs.Common.{◌∙◌, ap, arith, add-one}
+use Rattle.std.proofs.Common.{◌≡◌, ◌+◌, ◌∙◌, ap, arith, add-one}
 use Rattle.rt_tree.specs.Packed.{node_at}
 use Rattle.rt_search.specs.Joining.{join_nodes}
 use Rattle.rt_search.specs.Work.{is_kept}
@@ -8,10 +8,14 @@ use Rattle.rt_search.proofs.opening.open_inner.Goals as goal
 
 pub ask_node-requires-clause-honest : goal.ask_node-requires-clause-honest
 ask_node-requires-clause-honest g c =
-    let k = child_read c.args.tree.now c.args.number.number c.loop-i.i c.child_node-child_number.result.number
+    let first = c.number-first.ensures ∙ c.child_node.ensures.value in
+    let new = c.new-child_number.ensures in
+    let number : c.new-child_number.result.number
+    ≡ (node_at c.args.tree.now c.args.number.number).first + c.loop-i.i = omega (arith, first, new) in
+    let k = child_read c.args.tree.now c.args.number.number c.loop-i.i c.new-child_number.result.number
     c.node-node.result c.index-children-i.result c.child_nodes-children.result.now c.requires.node.tree
     c.requires.level c.node-node.ensures c.child_nodes-children.ensures c.loop-i-test.true c.index-children-i.is
-    c.child_node-child_number.ensures.value in
+    number in
     rw c.loop-i.invariant.geometry
     (honest_child (g.G.Geometry.accepts c.args.counted.now.geometry)
     (g.G.Geometry.score c.args.counted.now.geometry) (node_at c.args.tree.now c.args.number.number).bounds
@@ -32,14 +36,18 @@ ask_node-requires-clause-room g c =
 
 pub loop-i-preserved : goal.loop-i-preserved
 loop-i-preserved g c =
-    let k = child_read c.args.tree.now c.args.number.number c.loop-i.i c.child_node-child_number.result.number
+    let first = c.number-first.ensures ∙ c.child_node.ensures.value in
+    let new = c.new-child_number.ensures in
+    let number : c.new-child_number.result.number
+    ≡ (node_at c.args.tree.now c.args.number.number).first + c.loop-i.i = omega (arith, first, new) in
+    let k = child_read c.args.tree.now c.args.number.number c.loop-i.i c.new-child_number.result.number
     c.node-node.result c.index-children-i.result c.child_nodes-children.result.now c.requires.node.tree
     c.requires.level c.node-node.ensures c.child_nodes-children.ensures c.loop-i-test.true c.index-children-i.is
-    c.child_node-child_number.ensures.value in
+    number in
     let v = c.loop-i.invariant in
     let h = rw (v.geometry, v.items) at c.ask_node.ensures in
     record {
-      items = rw add-one (rw c.child_node-child_number.ensures.value at
+      items = rw add-one (rw number at
           (rw k.is at (rw (c.info-info.ensures, c.requires.top) at h.items)));
       capacity = h.capacity ∙ v.capacity;
       geometry = h.geometry;

@@ -8,7 +8,7 @@ abbrev pub invariant-loop-i : goal.invariant-loop-i
 invariant-loop-i g l = record {
   items : l.frontier.items
       ≡ join_nodes is_kept (g.G.Geometry.verdict l.initial.counted.geometry) l.tree l.parent.verdict
-      (node_at l.tree l.number.number) l.i l.initial.frontier.items;
+      (node_at l.tree l.fn.number.number) l.i l.initial.frontier.items;
   capacity : l.frontier.capacity ≡ l.initial.frontier.capacity;
   geometry : l.counted.geometry ≡ l.initial.counted.geometry;
   asked : l.counted.asked ≡ l.initial.counted.asked + l.i;
