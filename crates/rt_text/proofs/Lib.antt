@@ -6,4 +6,5 @@ mod Records
 pub mod Rows
 mod TableLemmas
 mod TableReads
+mod VertexCounts
 pub mod WordLemmas

@@ -7,7 +7,7 @@ ghost use Rattle.std.specs.Prelude.{◌≡◌, ◌≤◌, ◌≤ℤ◌, ◌∷�
 ghost use Rattle.std.specs.Str.Lines.{strip_carriage_return};
 ghost use Rattle.rt_text.specs.Queries.{Takes, circle, coordinate, count, find, finished, is_comment, limit, natural_word, nearest, number_fault, number_word, order, point, points, polygon, query, query_of, region, sides, usual_order, vertex_count};
 
-use crate::numbers::{NumberFault, number, number_64};
+use crate::numbers::{NumberFault, number};
 use crate::query::{Parsed, Query, QueryFault};
 use crate::words::Words;
 use arrayvec::ArrayVec;
@@ -221,11 +221,12 @@ fn vertex_count(words: &mut Words) -> Result<usize, QueryFault>
     ensures takes { Takes (vertex_count words.old) result words.new }
     ensures most { IfOk result (λ n. n ≤ MOST_VERTICES) }
 {
-    let word = next_word(words)?;
-    match number(word, FEWEST_VERTICES, MOST_VERTICES as i128) {
+    match number_word(words, FEWEST_VERTICES, MOST_VERTICES as i128) {
         Ok(value) => Ok(value.unsigned_abs() as usize),
-        Err(NumberFault::NotNumber) => Err(QueryFault::NotNumber),
-        Err(NumberFault::OutOfRange) => Err(QueryFault::VertexCount),
+        Err(fault) => match fault {
+            QueryFault::OutOfRange => Err(QueryFault::VertexCount),
+            _ => Err(fault),
+        },
     }
 }
 
@@ -252,13 +253,15 @@ fn point(words: &mut Words) -> Result<Point, QueryFault>
     Ok(Point { x, y })
 }
 
+#[inline(never)]
 fn coordinate(words: &mut Words) -> Result<i32, QueryFault>
     ensures { Takes (coordinate words.old) result words.new }
 {
-    let value = short_number_word(words, i64::from(i32::MIN), i64::from(i32::MAX))?;
+    let value = number_word(words, i128::from(i32::MIN), i128::from(i32::MAX))?;
     Ok(value as i32)
 }
 
+#[inline(never)]
 fn natural_word(words: &mut Words, high: u64) -> Result<u64, QueryFault>
     ensures takes { Takes (natural_word high words.old) result words.new }
     ensures within { IfOk result (λ n. n ≤ high) }
@@ -278,25 +281,15 @@ fn next_word<'a>(words: &mut Words<'a>) -> Result<&'a [u8], QueryFault>
     }
 }
 
+#[inline(always)]
 fn number_word(words: &mut Words, low: i128, high: i128) -> Result<i128, QueryFault>
     ensures takes { Takes (number_word low high words.old) result words.new }
     ensures within { IfOk result (λ n. (low ≤ℤ n) × (n ≤ℤ high)) }
 {
-    let word = next_word(words)?;
-    match number(word, low, high) {
-        Ok(value) => Ok(value),
-        Err(fault) => Err(number_fault(fault)),
-    }
-}
-
-// The same for a range within that of `i64`, and faster.
-fn short_number_word(words: &mut Words, low: i64, high: i64) -> Result<i64, QueryFault>
-    ensures takes { Takes (number_word low high words.old) result words.new }
-    ensures within { IfOk result (λ n. (low ≤ℤ n) × (n ≤ℤ high)) }
-{
-    let Some(value) = words.next_number() else {
-        return any_short_number_word(words, low, high);
+    let Some(short) = words.next_number() else {
+        return any_number_word(words, low, high);
     };
+    let value = i128::from(short);
     if value < low || high < value {
         return Err(QueryFault::OutOfRange);
     }
@@ -305,12 +298,12 @@ fn short_number_word(words: &mut Words, low: i64, high: i64) -> Result<i64, Quer
 
 // The same whatever the word is.
 #[inline(never)]
-fn any_short_number_word(words: &mut Words, low: i64, high: i64) -> Result<i64, QueryFault>
+fn any_number_word(words: &mut Words, low: i128, high: i128) -> Result<i128, QueryFault>
     ensures takes { Takes (number_word low high words.old) result words.new }
     ensures within { IfOk result (λ n. (low ≤ℤ n) × (n ≤ℤ high)) }
 {
     let word = next_word(words)?;
-    match number_64(word, low, high) {
+    match number(word, low, high) {
         Ok(value) => Ok(value),
         Err(fault) => Err(number_fault(fault)),
     }

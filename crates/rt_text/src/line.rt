@@ -77,16 +77,32 @@ impl Line {
         self.start = write_digits(number, &mut self.room, self.start);
     }
 
-    /// Puts a number of up to 128 bits before its bytes. One that fits 64 bits is written faster.
+    /// Puts a number of up to 128 bits before its bytes. One of a single digit is written fastest, and one that fits
+    /// 64 bits faster than a longer one.
+    #[inline(always)]
     pub fn prepend_wide(&mut self, number: u128)
         requires { length self.old + 40 ≤ MOST_BYTES }
         ensures value { self.new ≡ decimal number ++ self.old }
         ensures few { length self.new ≤ length self.old + 40 }
     {
+        if number < 10 {
+            self.prepend_byte(b'0' + number as u8);
+            return;
+        }
         match u64::try_from(number) {
             Ok(short) => self.prepend_number(short),
-            Err(_) => self.prepend(Buffer::new().format(number).as_bytes()),
+            Err(_) => self.prepend_widest(number),
         }
+    }
+
+    // The same for a number of any size.
+    #[inline(never)]
+    fn prepend_widest(&mut self, number: u128)
+        requires { length self.old + 40 ≤ MOST_BYTES }
+        ensures value { self.new ≡ decimal number ++ self.old }
+        ensures few { length self.new ≤ length self.old + 40 }
+    {
+        self.prepend(Buffer::new().format(number).as_bytes());
     }
 
     /// Puts a number with a sign before its bytes.

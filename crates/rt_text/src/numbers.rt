@@ -68,6 +68,7 @@ pub(crate) fn number_64(text: &[u8], low: i64, high: i64) -> Result<i64, NumberF
 }
 
 /// A number in front of a text, whatever stands behind it: a sign if there is one, and its digits up to the 18th.
+#[inline(always)]
 pub(crate) fn leading_number(text: &[u8]) -> Option<Leading>
     ensures within { IfSome result (λ found. found.len ≤ length text.now) }
     ensures value { IfSome result (λ found. number_text (take found.len text.now) ≡ Some found.number) }
@@ -92,6 +93,7 @@ pub(crate) fn leading_number(text: &[u8]) -> Option<Leading>
 }
 
 // The digits in front of a text, up to the 18th.
+#[inline(always)]
 fn leading_digits(text: &[u8]) -> Digits
     ensures within { result.count ≤ length text.now }
     ensures digits { list_all is_ascii_digit (take result.count text.now) ≡ true }
@@ -114,6 +116,7 @@ fn leading_digits(text: &[u8]) -> Digits
 }
 
 // The first bytes of a text, where they are all digits, and else none.
+#[inline(always)]
 fn leading_group(text: &[u8]) -> Digits
     ensures within { result.count ≤ min (length text.now) GROUP }
     ensures digits { list_all is_ascii_digit (take result.count text.now) ≡ true }
@@ -134,6 +137,7 @@ fn leading_group(text: &[u8]) -> Digits
 }
 
 // Whether all bytes are digits. All are looked at, in any order.
+#[inline(always)]
 fn all_digits(text: &[u8]) -> bool
     ensures { result ≡ list_all is_ascii_digit text.now }
 {
@@ -145,6 +149,7 @@ fn all_digits(text: &[u8]) -> bool
 }
 
 // The number that a few digits write.
+#[inline(always)]
 fn written(digits: &[u8]) -> u64
     requires few { length digits.now ≤ SHORT }
     requires digits { list_all is_ascii_digit digits.now ≡ true }

@@ -33,6 +33,7 @@ impl<'a> Words<'a> {
 
     /// The next word's number, where it is a usual one: behind one space or none, of at most 18 digits. Where it isn't,
     /// no word is read.
+    #[inline(always)]
     pub(crate) fn next_number(&mut self) -> Option<i64>
         ensures { MatchOption result (self.new ≡ self.old)
             (λ n. (word : List ℕ) × (self.old ≡ word ∷ self.new) × (number_text word ≡ Some n)) }
