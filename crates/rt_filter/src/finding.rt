@@ -53,7 +53,6 @@ pub(crate) fn push_find<K: Sink>(
 }
 
 // The same for a polygon, which is asked faster where it is narrow.
-#[inline(never)]
 fn push_in_polygon<K: Sink>(
     tree: &Tree,
     frontier: Frontier,
@@ -80,6 +79,7 @@ fn push_in_polygon<K: Sink>(
 }
 
 // The same for one shape.
+#[inline(never)]
 fn push_ordered<S: Shape + Drop, K: Sink>(
     tree: &Tree,
     frontier: Frontier,
@@ -223,7 +223,6 @@ pub(crate) fn push_count<K: Sink>(
 }
 
 // The same for a polygon, which is asked faster where it is narrow.
-#[inline(never)]
 fn push_counted_in_polygon<K: Sink>(
     tree: &Tree,
     frontier: Frontier,
@@ -248,6 +247,7 @@ fn push_counted_in_polygon<K: Sink>(
 }
 
 // The same for one shape.
+#[inline(never)]
 fn push_counted<S: Shape + Drop, K: Sink>(
     tree: &Tree,
     frontier: Frontier,
