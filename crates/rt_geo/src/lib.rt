@@ -16,9 +16,9 @@
 //! - Ranks: [`ById`], [`Near`], [`Smallest`], and the enum [`Order`] of these.
 //!
 //! The definitions that the contracts cite stand in `specs/`: `Boxes`, `Entries`, `Distances`, `Laws`,
-//! `Shapes`, `Polygons`, `HalfPlanes`, `Ranks`, `Regions`, `Orders`, `Counted`. They are in whole numbers without bounds; that each
-//! `Bounds` is a box of the plane of 32-bit coordinates is a fact of its own (`HasBox` of an entry,
-//! `IsWellFormed` of an info), which the readers of the sides and [`Entry::info`] tell. What stands below
+//! `Shapes`, `Polygons`, `HalfPlanes`, `Ranks`, `Regions`, `Orders`, `Counted`. They are in whole numbers without
+//! bounds; that each `Bounds` is a box of the plane of 32-bit coordinates is a fact of its own (`HasBox` of an
+//! entry, `IsWellFormed` of an info), which the readers of the sides and [`Entry::info`] tell. What stands below
 //! `specs/Lemmas` is proved and has not to be believed.
 #![tactic(auto)]
 
