@@ -73,8 +73,8 @@ fn push_in_polygon<K: Sink>(
     ensures fails { OnErr result (K.failed sink.new ≡ K.failed sink.old + 1) }
 {
     match polygon.narrow() {
-        Ok(narrow) => push_ordered(tree, frontier, line, narrow, order, limit, sink),
-        Err(wide) => push_ordered(tree, frontier, line, wide, order, limit, sink),
+        Some(narrow) => push_ordered(tree, frontier, line, narrow, order, limit, sink),
+        None => push_ordered(tree, frontier, line, polygon, order, limit, sink),
     }
 }
 
@@ -241,8 +241,8 @@ fn push_counted_in_polygon<K: Sink>(
     ensures fails { OnErr result (K.failed sink.new ≡ K.failed sink.old + 1) }
 {
     match polygon.narrow() {
-        Ok(narrow) => push_counted(tree, frontier, line, narrow, sink),
-        Err(wide) => push_counted(tree, frontier, line, wide, sink),
+        Some(narrow) => push_counted(tree, frontier, line, narrow, sink),
+        None => push_counted(tree, frontier, line, polygon, sink),
     }
 }
 

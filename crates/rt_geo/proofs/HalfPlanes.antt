@@ -1,23 +1,25 @@
 -- The half-planes of short edges, as the code stores them, and what they tell of a box.
 use Rattle.std.specs.Int.{from_bool}
-use Rattle.std.specs.List.{list_all}
+use Rattle.std.specs.List.{count_by, list_all}
 use Rattle.std.specs.Prelude.{◌*ℤ◌, ◌&&◌, int_le, int_lt, if◌then◌else◌, map, nat_lt, pos, unsigned_abs}
 use Rattle.std.proofs.Common.{◌≡◌, ◌∙◌, ap, sym, refl, arith, ℕ, ◌^◌, ◌*◌, ◌-◌, ◌<◌, ◌≤◌, Bool, true, false, not}
 use Rattle.std.proofs.Common.{ℤ, ◌-ℤ◌}
-use Rattle.std.proofs.Common.{List, [], ◌∷◌, get_or, FitsSigned, to_z, of_z, w32, w64, Some, None, length}
+use Rattle.std.proofs.Common.{List, [], ◌∷◌, get_or, FitsSigned, to_z, of_z, w32, w64, Some, None, length, take}
+use Rattle.std.proofs.Common.{◌+◌}
 use Rattle.std.proofs.lemmas.Bool.{and_from, and_parts}
 use Rattle.std.proofs.lemmas.Bool.Decides.{nat_tests}
 use Rattle.std.proofs.lemmas.Int.{fits_signed_from_abs, ints, to_z-of_z, unsigned_abs-mul}
+use Rattle.std.proofs.lemmas.List.Sums.{count_by_more_no, count_by_more_yes}
 use Rattle.std.proofs.lemmas.Nat.{mul-le}
 use Rattle.arrayvec.specs.ArrayVec.{ArrayVec}
 use Rattle.rt_geo.specs.Boxes.{Rect, IsRect, inside, overlaps}
 use Rattle.rt_geo.specs.HalfPlanes.{edges_from_last, half_plane_of, half_planes_of, is_narrow, is_short}
-use Rattle.rt_geo.specs.HalfPlanes.{is_small, reaches}
+use Rattle.rt_geo.specs.HalfPlanes.{is_small, is_strictly_left, reaches}
 use Rattle.rt_geo.specs.HalfPlanes.{sides_of, turned_sides_of}
 use Rattle.rt_geo.specs.Lemmas.HalfPlanes.{lies_in_half_plane-rightmost}
 use Rattle.rt_geo.specs.Lemmas.HalfPlanes.{meets_half_plane-leftmost, opposite}
 use Rattle.rt_geo.specs.Lemmas.Products.{mul-difference}
-use Rattle.rt_geo.specs.Polygons.{bounding_box, cross, edges, has_polygon_count, is_in_half_plane}
+use Rattle.rt_geo.specs.Polygons.{bounding_box, cross, edges, has_polygon_count, is_in_half_plane, is_left}
 use Rattle.rt_geo.specs.Polygons.{lies_in_half_plane, meets_half_plane, path_from, point_at, polygon_state}
 use Rattle.rt_geo.specs.Shapes.{state_by}
 use Rattle.rt_geo.specs.declared.distance.Point.{Point}
@@ -54,6 +56,11 @@ product-fits m h = grind (arith, ints)
 difference-fits : (m n : ℤ) → unsigned_abs m < 2 ^ 62 → unsigned_abs n < 2 ^ 62 → FitsSigned w64 (m -ℤ n)
 difference-fits m n p q = grind (arith, ints)
 
+pub to_the_left-fits : (m n : ℤ) → unsigned_abs m < 2 ^ 62 → unsigned_abs n < 2 ^ 62
+    → FitsSigned w64 (to_z w64 (of_z w64 m) -ℤ to_z w64 (of_z w64 n))
+to_the_left-fits m n p q =
+    rw (to_z-of_z w64 m (product-fits m p), to_z-of_z w64 n (product-fits n q)) (difference-fits m n p q)
+
 pub to_the_left_is : (m n x y : ℤ) → unsigned_abs m < 2 ^ 62 → unsigned_abs n < 2 ^ 62 → m ≡ x → n ≡ y
     → to_z w64 (of_z w64 (to_z w64 (of_z w64 m) -ℤ to_z w64 (of_z w64 n))) ≡ x -ℤ y
 to_the_left_is m n x y p q e f =
@@ -81,6 +88,31 @@ is_in_half_plane-by_offset : (edge : Edge) (x y : ℤ)
     ≡ is_in_half_plane edge (point_at x y)
 is_in_half_plane-by_offset edge x y =
     at_least_offset (half_plane_of edge).offset _ ∙ ap (int_le (pos 0)) (cross-by_offset edge x y)
+
+above_offset : (o v : ℤ) → int_lt o v ≡ int_lt (pos 0) (v -ℤ o)
+above_offset o v = grind (arith, ints)
+
+-- and to the left of the edge where it is above
+pub is_strictly_left-is : (edge : Edge) (p : Point) → is_strictly_left (half_plane_of edge) p ≡ is_left edge p
+is_strictly_left-is edge p =
+    above_offset (half_plane_of edge).offset _ ∙ ap (int_lt (pos 0)) (cross-by_offset edge p.x p.y)
+
+count_more : (p : Point → Bool) (xs : List Point) (i : ℕ) (d : Point) (t : Bool)
+    → i < length xs → p (get_or xs i d) ≡ t → count_by p (take i xs) + from_bool t ≡ count_by p (take (i + 1) xs)
+count_more p xs i d true h e = sym (count_by_more_yes p xs i d h e)
+count_more p xs i d false h e =
+    let same = count_by_more_no p xs i d h e in
+    omega (arith, same)
+
+-- one more of the points, counted where it is strictly in the half-plane
+pub left_counted : (edge : Edge) (h : HalfPlane) (points : List Point) (i count more : ℕ) (d : Point) (t : Bool)
+    → h ≡ half_plane_of edge → i < length points → count ≡ count_by (is_left edge) (take i points)
+    → t ≡ is_strictly_left h (get_or points i d) → more ≡ from_bool t
+    → count + more ≡ count_by (is_left edge) (take (i + 1) points)
+left_counted edge h points i count more d t e n counted is_left_is m =
+    rw (counted, m)
+    (count_more (is_left edge) points i d t n
+    (sym (is_strictly_left-is edge (get_or points i d)) ∙ sym (is_left_is ∙ rw e refl)))
 
 leads_back : (m n : ℤ) → int_lt (m -ℤ n) (pos 0) ≡ int_lt m n
 leads_back m n = grind (arith, ints)
@@ -155,7 +187,7 @@ below_four_too true = refl
 below_four_too false = refl
 
 -- short edges have small half-planes
-is_small-half_plane : (edge : Edge) → is_short edge ≡ true → is_small (half_plane_of edge) ≡ true
+pub is_small-half_plane : (edge : Edge) → is_short edge ≡ true → is_small (half_plane_of edge) ≡ true
 is_small-half_plane edge h =
     and_from _ _ h (
     and_from _ _ (below_four (int_lt (edge.to.y -ℤ edge.from.y) (pos 0)))
@@ -175,26 +207,26 @@ all_small-edges vertices h = all_small (edges_from_last vertices) (sym (list_all
 -- ---- the state
 
 -- of a box that meets half-planes and lies in some, as that box overlaps the bounding box and lies in it
-state_of : (vertices : List Point) (i : Info) (met held lies_inside : Bool)
+state_of : (vertices : List Point) (i : Info) (met held overlapping lies_inside : Bool)
     → met ≡ list_all (meets_half_plane i.bounds) (edges vertices)
     → held ≡ list_all (lies_in_half_plane i.bounds) (edges vertices)
-    → overlaps i.bounds (bounding_box vertices) ≡ true → lies_inside ≡ inside i.bounds (bounding_box vertices)
-    → state_by (not met) (lies_inside && held) ≡ polygon_state vertices i
-state_of vertices i met held lies_inside e f o l = rw (e, f, l, o) refl
+    → overlapping ≡ overlaps i.bounds (bounding_box vertices) → lies_inside ≡ inside i.bounds (bounding_box vertices)
+    → state_by (not (overlapping && met)) (lies_inside && held) ≡ polygon_state vertices i
+state_of vertices i met held overlapping lies_inside e f o l = rw (e, f, l, o) refl
 
 -- the same told by the half-planes
-pub state_is : (vertices : List Point) (i : Info) (half_planes : List HalfPlane) (sides turned_sides : List ℤ)
-    (whole : Rect) (lies_inside : Bool)
+pub state_is : (vertices : List Point) (i : Info) (half_planes : List HalfPlane) (whole : Rect)
+    (overlapping lies_inside : Bool)
     → IsRect i.bounds → half_planes ≡ map half_plane_of (edges_from_last vertices)
-    → sides ≡ sides_of i.bounds → turned_sides ≡ turned_sides_of i.bounds
-    → whole ≡ bounding_box vertices → overlaps i.bounds whole ≡ true → lies_inside ≡ inside i.bounds whole
-    → state_by (not (list_all (reaches sides) half_planes))
-    (lies_inside && list_all (reaches turned_sides) half_planes)
+    → whole ≡ bounding_box vertices → overlapping ≡ overlaps i.bounds whole → lies_inside ≡ inside i.bounds whole
+    → state_by (not (overlapping && list_all (reaches (sides_of i.bounds)) half_planes))
+    (lies_inside && list_all (reaches (turned_sides_of i.bounds)) half_planes)
     ≡ polygon_state vertices i
-state_is vertices i half_planes sides turned_sides whole lies_inside v h s t w o l =
-    state_of vertices i (list_all (reaches sides) half_planes) (list_all (reaches turned_sides) half_planes) lies_inside
-    (rw (s, h) (all_meet vertices i.bounds v)) (rw (t, h) (all_lie_in vertices i.bounds v)) (rw (← w) o)
-    (l ∙ rw w refl)
+state_is vertices i half_planes whole overlapping lies_inside v h w o l =
+    state_of vertices i (list_all (reaches (sides_of i.bounds)) half_planes)
+    (list_all (reaches (turned_sides_of i.bounds)) half_planes) overlapping lies_inside
+    (rw h (all_meet vertices i.bounds v)) (rw h (all_lie_in vertices i.bounds v))
+    (o ∙ rw w refl) (l ∙ rw w refl)
 
 -- ---- as the code makes them
 
@@ -202,15 +234,20 @@ state_is vertices i half_planes sides turned_sides whole lies_inside v h s t w o
 abbrev stored : ℤ → ℤ
 stored z = to_z w64 (of_z w64 z)
 
+-- the same with 32 bits
+abbrev stored_short : ℤ → ℤ
+stored_short z = to_z w32 (of_z w32 z)
+
 -- the half-plane whose parts are those of an edge's
 pub half_plane_is : (edge : Edge) (along_x along_y x y offset : ℤ) (side_x side_y : ℕ)
-    → FitsSigned w64 along_x → FitsSigned w64 along_y → FitsSigned w64 x → FitsSigned w64 y → FitsSigned w64 offset
+    → FitsSigned w32 along_x → FitsSigned w32 along_y → FitsSigned w64 x → FitsSigned w64 y → FitsSigned w64 offset
     → along_x ≡ edge.to.x -ℤ edge.from.x → along_y ≡ edge.to.y -ℤ edge.from.y → x ≡ edge.from.x → y ≡ edge.from.y
-    → offset ≡ stored along_x *ℤ stored y -ℤ stored along_y *ℤ stored x
-    → side_x ≡ from_bool (int_lt (stored along_y) (pos 0)) → side_y ≡ from_bool (int_lt (stored along_x) (pos 0))
+    → offset ≡ stored_short along_x *ℤ stored y -ℤ stored_short along_y *ℤ stored x
+    → side_x ≡ from_bool (int_lt (stored_short along_y) (pos 0))
+    → side_y ≡ from_bool (int_lt (stored_short along_x) (pos 0))
     → ◌≡◌ {A = HalfPlane} (record {
-      along_x = stored along_x;
-      along_y = stored along_y;
+      along_x = stored_short along_x;
+      along_y = stored_short along_y;
       offset = stored offset;
       side_x = side_x;
       side_y = 3 - side_y;
@@ -222,8 +259,8 @@ half_plane_is edge along_x along_y x y offset side_x side_y f g h k l e p q r o 
       o,
       s,
       t,
-      to_z-of_z w64 along_x f,
-      to_z-of_z w64 along_y g,
+      to_z-of_z w32 along_x f,
+      to_z-of_z w32 along_y g,
       to_z-of_z w64 x h,
       to_z-of_z w64 y k,
       e,
@@ -232,9 +269,6 @@ half_plane_is edge along_x along_y x y offset side_x side_y f g h k l e p q r o 
       r,
     )
     refl
-
-pub difference-stored : (m : ℤ) → unsigned_abs m < 2 ^ 32 → FitsSigned w64 m
-difference-stored m h = grind (arith, ints)
 
 pub coordinate-stored : (m : ℤ) → unsigned_abs m ≤ 2 ^ 31 → FitsSigned w64 m
 coordinate-stored m h = grind (arith, ints)

@@ -68,17 +68,17 @@ none_above z₀ z₁ z₂ z₃ y₀ y₁ y₂ y₃ a b c d e f g h =
     (empty_mask _ _ _ _)
 
 -- the sides of a box of 32-bit coordinates, and what their flipping gives, fit 32 bits
-record FitSides (b : Rect) : Type 0 where
-  left : FitsSigned w32 b.min_x
-  right : FitsSigned w32 b.max_x
-  low : FitsSigned w32 b.min_y
-  high : FitsSigned w32 b.max_y
-  flipped_left : FitsSigned w32 (flipped b.min_x)
-  flipped_right : FitsSigned w32 (flipped b.max_x)
-  flipped_low : FitsSigned w32 (flipped b.min_y)
-  flipped_high : FitsSigned w32 (flipped b.max_y)
+pub record FitSides (b : Rect) : Type 0 where
+  pub left : FitsSigned w32 b.min_x
+  pub right : FitsSigned w32 b.max_x
+  pub low : FitsSigned w32 b.min_y
+  pub high : FitsSigned w32 b.max_y
+  pub flipped_left : FitsSigned w32 (flipped b.min_x)
+  pub flipped_right : FitsSigned w32 (flipped b.max_x)
+  pub flipped_low : FitsSigned w32 (flipped b.min_y)
+  pub flipped_high : FitsSigned w32 (flipped b.max_y)
 
-sides_fit : (b : Rect) → IsRect b → inside b plane ≡ true → FitSides b
+pub sides_fit : (b : Rect) → IsRect b → inside b plane ≡ true → FitSides b
 sides_fit b v h = record {
   left = grind (arith, ints);
   right = grind (arith, ints);

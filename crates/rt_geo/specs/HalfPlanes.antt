@@ -47,6 +47,10 @@ reaches sides h =
     int_le h.offset
     (h.along_x *ℤ get_or sides h.side_y (pos 0) -ℤ h.along_y *ℤ get_or sides h.side_x (pos 0))
 
+-- the point is in the half-plane, and not on its line
+abbrev pub is_strictly_left : HalfPlane → Point → Bool
+is_strictly_left h p = int_lt h.offset (h.along_x *ℤ p.y -ℤ h.along_y *ℤ p.x)
+
 -- a difference that is short on each axis, and two of four sides
 abbrev pub is_small : HalfPlane → Bool
 is_small h =

@@ -150,6 +150,24 @@ fn sides(bounds: Bounds) -> i32x4
     i32x4::from_array([bounds.min_x, bounds.max_x, bounds.min_y, bounds.max_y])
 }
 
+/// Its minimums.
+#[inline(always)]
+pub(crate) fn mins(bounds: Bounds) -> i32x2
+    ensures value { result ≡ bounds.min_x ∷ bounds.min_y ∷ [] }
+    ensures valid { IsRect bounds }
+    ensures coordinates { inside bounds plane ≡ true }
+{
+    sides(bounds).swizzle([0, 2])
+}
+
+/// Its maximums.
+#[inline(always)]
+pub(crate) fn maxs(bounds: Bounds) -> i32x2
+    ensures value { result ≡ bounds.max_x ∷ bounds.max_y ∷ [] }
+{
+    sides(bounds).swizzle([1, 3])
+}
+
 #[inline(always)]
 fn facing_sides(bounds: Bounds) -> i32x4
     ensures value { result ≡ bounds.max_x ∷ bounds.min_x ∷ bounds.max_y ∷ bounds.min_y ∷ [] }

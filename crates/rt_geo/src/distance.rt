@@ -3,10 +3,14 @@
 //! They are squares of Euclidean distances, exact whole numbers. The greatest,
 //! 2 * 4294967295 * 4294967295 = 36893488130239234050, is above 64 bits.
 
-ghost use Rattle.std.specs.Prelude.{◌≡◌, ◌<◌, ◌^◌, ◌≤ℤ◌};
+ghost use Rattle.std.specs.Prelude.{◌≡◌, ◌<◌, ◌^◌, ◌≤ℤ◌, ◌-ℤ◌, ◌∷◌, [], ℤ, FitsSigned, unsigned_abs};
+ghost use Rattle.std.specs.Int.{w32};
+ghost use Rattle.std.specs.Int.{int_max, int_min};
+ghost use Rattle.rt_geo.specs.Boxes.{IsRect};
 ghost use Rattle.rt_geo.specs.Distances.{IsGreatestDistance, IsLeastDistance, far2, gap, near2, reach};
 
-use crate::bounds::Bounds;
+use crate::bounds::{Bounds, maxs, mins};
+use std::simd::prelude::*;
 
 /// A point of the plane, in the coordinates of [`Bounds`].
 #[derive(Clone, Copy, Debug, PartialEq, Eq, Default)]
@@ -20,9 +24,8 @@ pub fn near2(point: Point, bounds: Bounds) -> u128
     ensures value { result ≡ near2 point bounds }
     ensures nearest { IsLeastDistance point bounds result }
 {
-    let gap_x = gap(point.x, bounds.min_x(), bounds.max_x()) as u128;
-    let gap_y = gap(point.y, bounds.min_y(), bounds.max_y()) as u128;
-    gap_x * gap_x + gap_y * gap_y
+    let [gap_x, gap_y] = gaps(point, bounds);
+    u128::from(gap_x * gap_x) + u128::from(gap_y * gap_y)
 }
 
 /// The square of the distance from a point to the farthest point of a box.
@@ -35,18 +38,49 @@ pub fn far2(point: Point, bounds: Bounds) -> u128
     reach_x * reach_x + reach_y * reach_y
 }
 
-/// How far a number lies outside a range.
-fn gap(value: i32, low: i32, high: i32) -> u32
-    requires { low ≤ℤ high }
-    ensures { result ≡ gap value low high }
+/// How far a point lies outside a box, on each axis: as far as from its nearest point in the box.
+#[inline(always)]
+fn gaps(point: Point, bounds: Bounds) -> [u64; 2]
+    ensures value { result ≡ gap point.x bounds.min_x bounds.max_x ∷ gap point.y bounds.min_y bounds.max_y ∷ [] }
+    ensures valid { IsRect bounds }
+    ensures small { (gap point.x bounds.min_x bounds.max_x < 2 ^ 32) × (gap point.y bounds.min_y bounds.max_y < 2 ^ 32) }
 {
-    if value < low {
-        low.abs_diff(value)
-    } else if high < value {
-        value.abs_diff(high)
-    } else {
-        0
-    }
+    let point = lanes(point);
+    let nearest = lesser_of(greater_of(point, mins(bounds)), maxs(bounds));
+    let [from_x, from_y] = differences(point, nearest).to_array();
+    [from_x.unsigned_abs(), from_y.unsigned_abs()]
+}
+
+#[inline(always)]
+fn lanes(point: Point) -> i32x2
+    ensures value { result ≡ point.x ∷ point.y ∷ [] }
+    ensures x { FitsSigned w32 point.x }
+    ensures y { FitsSigned w32 point.y }
+{
+    i32x2::from_array([point.x, point.y])
+}
+
+#[inline(always)]
+fn greater_of(a: i32x2, b: i32x2) -> i32x2
+    ensures { (x y z w : ℤ) → a ≡ x ∷ y ∷ [] → b ≡ z ∷ w ∷ [] → result ≡ int_max x z ∷ int_max y w ∷ [] }
+{
+    a.simd_max(b)
+}
+
+#[inline(always)]
+fn lesser_of(a: i32x2, b: i32x2) -> i32x2
+    ensures { (x y z w : ℤ) → a ≡ x ∷ y ∷ [] → b ≡ z ∷ w ∷ [] → result ≡ int_min x z ∷ int_min y w ∷ [] }
+{
+    a.simd_min(b)
+}
+
+#[inline(always)]
+fn differences(a: i32x2, b: i32x2) -> i64x2
+    ensures { (x y z w : ℤ) → a ≡ x ∷ y ∷ [] → b ≡ z ∷ w ∷ []
+        → FitsSigned w32 x → FitsSigned w32 y → FitsSigned w32 z → FitsSigned w32 w
+        → result ≡ (x -ℤ z) ∷ (y -ℤ w) ∷ [] }
+{
+    a.cast::<i64>() - b.cast::<i64>()
 }
 
 /// How far a number is from the farther end of a range.

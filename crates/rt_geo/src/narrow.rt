@@ -4,12 +4,12 @@
 //! and which corner of a box lies farthest to its left. The products of short edges with coordinates have 63 bits.
 
 ghost use Rattle.std.specs.Prelude.{◌≡◌, ◌<◌, ◌≤◌, ◌^◌, ◌*ℤ◌, ◌-ℤ◌, true, not, ◌&&◌, length};
-ghost use Rattle.std.specs.Prelude.{unsigned_abs, is_ok, IfOk, IfErr};
-ghost use Rattle.std.specs.List.{list_all};
+ghost use Rattle.std.specs.Prelude.{unsigned_abs, is_some, IfSome};
+ghost use Rattle.std.specs.List.{count_by, list_all};
 ghost use Rattle.rt_geo.specs.Boxes.{IsRect};
 ghost use Rattle.rt_geo.specs.HalfPlanes.{half_plane_of, half_planes_of, is_coordinate, is_narrow, is_short, is_small};
-ghost use Rattle.rt_geo.specs.HalfPlanes.{reaches, sides_of, turned_sides_of};
-ghost use Rattle.rt_geo.specs.Polygons.{path_from};
+ghost use Rattle.rt_geo.specs.HalfPlanes.{is_strictly_left, reaches, sides_of, turned_sides_of};
+ghost use Rattle.rt_geo.specs.Polygons.{is_left, path_from};
 ghost use Rattle.rt_geo.specs.Shapes.{state_by};
 
 use crate::bounds::{Bounds, inside, overlaps};
@@ -26,38 +26,41 @@ const SHORT: u32 = 1 << 31;
 /// offset.
 #[derive(Clone, Copy, Debug, PartialEq, Eq, Default)]
 pub(crate) struct HalfPlane {
-    along_x: i64,
-    along_y: i64,
+    along_x: i32,
+    along_y: i32,
     offset: i64,
     /// Which of the four sides of a box make the corner that lies farthest to the left.
     side_x: u32,
     side_y: u32,
 }
 
-/// A [`Polygon`] each edge of which leads less than 2^31 far on each axis. It is asked faster.
+/// A borrowed [`Polygon`] each edge of which leads less than 2^31 far on each axis. It is asked faster.
 #[derive(Debug, Drop)]
-pub struct NarrowPolygon {
-    polygon: Polygon,
+pub struct NarrowPolygon<'a> {
+    polygon: &'a Polygon,
+    bounds: Bounds,
     half_planes: ArrayVec<HalfPlane, MOST_VERTICES>,
 }
 
-impl Model for NarrowPolygon {
+impl<'a> Model for NarrowPolygon<'a> {
     ghost use Rattle.std.specs.Prelude.{◌≡◌, true, List, map};
     ghost use Rattle.std.specs.List.{list_all};
     ghost use Rattle.rt_geo.specs.HalfPlanes.{edges_from_last, half_plane_of, is_narrow};
+    ghost use Rattle.rt_geo.specs.Polygons.{bounding_box};
     ghost use Rattle.rt_geo.specs.declared.distance.Point.{Point};
 
     ghost Value = { List Point };
 
-    ghost view = { λ p. p.polygon };
+    ghost view = { λ p. p.polygon.now };
 
     ghost invariant = { λ p. record {
-      narrow : is_narrow p.polygon ≡ true;
-      half_planes : p.half_planes.items ≡ map half_plane_of (edges_from_last p.polygon);
+      narrow : is_narrow p.polygon.now ≡ true;
+      bounds : p.bounds ≡ bounding_box p.polygon.now;
+      half_planes : p.half_planes.items ≡ map half_plane_of (edges_from_last p.polygon.now);
     } };
 }
 
-impl Shape for NarrowPolygon {
+impl<'a> Shape for NarrowPolygon<'a> {
     ghost use Rattle.std.specs.Prelude.{◌≡◌};
     ghost use Rattle.rt_geo.specs.Polygons.{SharesNoPoint, polygon_accepts, polygon_state};
     ghost use Rattle.rt_geo.specs.declared.geometry.Within.TheVariants.{Not};
@@ -70,14 +73,9 @@ impl Shape for NarrowPolygon {
         ensures state { result ≡ polygon_state self.now info.now }
         ensures apart { result ≡ Not → SharesNoPoint self.now info.now.bounds }
     {
-        let whole = self.polygon.bounds();
-        if !overlaps(info.bounds, whole) {
-            return Within::Not;
-        }
-        let sides = sides(info.bounds);
-        let turned_sides = turned_sides(info.bounds);
-        let lies_inside = inside(info.bounds, whole);
-        state_by_half_planes(&self.half_planes, sides, turned_sides, lies_inside)
+        let overlapping = overlaps(info.bounds, self.bounds);
+        let lies_inside = inside(info.bounds, self.bounds);
+        state_by_half_planes(&self.half_planes, info.bounds, overlapping, lies_inside)
     }
 
     ghost use Rattle.rt_geo.specs.Lemmas.Polygons.{polygon-faithful};
@@ -85,27 +83,44 @@ impl Shape for NarrowPolygon {
     ghost faithful = { polygon-faithful };
 }
 
-/// What the half-planes tell of a box that overlaps the bounding box, and perhaps lies inside it.
+/// What the half-planes tell of a box that perhaps overlaps the bounding box, and perhaps lies inside it.
+#[inline(always)]
 fn state_by_half_planes(
     half_planes: &[HalfPlane],
-    sides: [i64; 4],
-    turned_sides: [i64; 4],
+    bounds: Bounds,
+    overlapping: bool,
     lies_inside: bool,
 ) -> Within
-    requires small { list_all is_small half_planes.now ≡ true }
-    requires sides { list_all is_coordinate sides ≡ true }
-    requires turned_sides { list_all is_coordinate turned_sides ≡ true }
-    ensures { result ≡ state_by (not (list_all (reaches sides) half_planes.now))
-        (lies_inside && list_all (reaches turned_sides) half_planes.now) }
+    requires { list_all is_small half_planes.now ≡ true }
+    ensures value { result ≡ state_by (not (overlapping && list_all (reaches (sides_of bounds)) half_planes.now))
+        (lies_inside && list_all (reaches (turned_sides_of bounds)) half_planes.now) }
+    ensures valid { IsRect bounds }
 {
-    let mut holds = lies_inside;
-    for half_plane in half_planes {
-        if !reaches(half_plane, &sides) {
-            return Within::Not;
-        }
-        holds = holds && reaches(half_plane, &turned_sides);
+    // (`&`, so that no branch hangs on what the half-planes tell)
+    let meets = overlapping & (!overlapping || all_reach(half_planes, &sides(bounds)));
+    let holds = lies_inside && all_reach(half_planes, &turned_sides(bounds));
+    if !meets {
+        Within::Not
+    } else if holds {
+        Within::Fully
+    } else {
+        Within::Partly
     }
-    if holds { Within::Fully } else { Within::Partly }
+}
+
+/// Whether the corner that each half-plane picks of these sides lies in it. All are asked, so that no branch hangs on
+/// what one tells: a processor can't foretell it.
+#[inline(always)]
+fn all_reach(half_planes: &[HalfPlane], sides: &[i64; 4]) -> bool
+    requires small { list_all is_small half_planes.now ≡ true }
+    requires sides { list_all is_coordinate sides.now ≡ true }
+    ensures { result ≡ list_all (reaches sides.now) half_planes.now }
+{
+    let mut all = true;
+    for half_plane in half_planes {
+        all &= reaches(half_plane, sides);
+    }
+    all
 }
 
 /// Whether the corner that the half-plane picks of these sides lies in it.
@@ -146,20 +161,20 @@ fn turned_sides(bounds: Bounds) -> [i64; 4]
     ]
 }
 
-/// The polygon with the half-planes of its edges. It comes back as it was where an edge isn't short.
+/// The polygon with the half-planes of its edges. `None` where an edge isn't short.
 #[inline(always)]
-pub(crate) fn narrow(polygon: Polygon) -> Result<NarrowPolygon, Polygon>
-    ensures when { is_ok result ≡ is_narrow polygon }
-    ensures narrow { IfOk result (λ narrow. narrow ≡ polygon) }
-    ensures wide { IfErr result (λ wide. wide ≡ polygon) }
+pub(crate) fn narrow(polygon: &Polygon) -> Option<NarrowPolygon<'_>>
+    ensures when { is_some result ≡ is_narrow polygon.now }
+    ensures value { IfSome result (λ narrow. narrow ≡ polygon.now) }
 {
     let last = last_vertex(polygon.vertices());
     match half_planes(last, polygon.vertices()) {
-        Some(half_planes) => Ok(NarrowPolygon {
+        Some(half_planes) => Some(NarrowPolygon {
             polygon,
+            bounds: polygon.bounds(),
             half_planes,
         }),
-        None => Err(polygon),
+        None => None,
     }
 }
 
@@ -182,8 +197,34 @@ fn half_planes(first: Point, others: &[Point]) -> Option<ArrayVec<HalfPlane, MOS
     Some(half_planes)
 }
 
+/// How many of the points lie strictly to the left of a short edge. No branch hangs on where one lies: a processor
+/// can't foretell it.
+#[inline(always)]
+pub(crate) fn left_of_short(edge: Edge, points: &[Point]) -> usize
+    requires { is_short edge ≡ true }
+    ensures { result ≡ count_by (is_left edge) points.now }
+{
+    let half_plane = half_plane(edge);
+    let mut count = 0;
+    for point in points {
+        count += usize::from(is_strictly_left(&half_plane, *point));
+    }
+    count
+}
+
+/// Whether the point lies in the half-plane, and not on its line.
+#[inline(always)]
+fn is_strictly_left(half_plane: &HalfPlane, point: Point) -> bool
+    requires { is_small half_plane.now ≡ true }
+    ensures { result ≡ is_strictly_left half_plane.now point }
+{
+    let x = widened(point.x);
+    let y = widened(point.y);
+    to_the_left(half_plane.along_x, half_plane.along_y, x, y) > half_plane.offset
+}
+
 /// Whether the edge leads less than 2^31 far on each axis.
-fn is_short(edge: Edge) -> bool
+pub(crate) fn is_short(edge: Edge) -> bool
     ensures { result ≡ is_short edge }
 {
     edge.to.x.abs_diff(edge.from.x) < SHORT && edge.to.y.abs_diff(edge.from.y) < SHORT
@@ -195,8 +236,8 @@ fn half_plane(edge: Edge) -> HalfPlane
     requires { is_short edge ≡ true }
     ensures { result ≡ half_plane_of edge }
 {
-    let along_x = difference(edge.to.x, edge.from.x);
-    let along_y = difference(edge.to.y, edge.from.y);
+    let along_x = short_difference(edge.to.x, edge.from.x);
+    let along_y = short_difference(edge.to.y, edge.from.y);
     HalfPlane {
         along_x,
         along_y,
@@ -206,23 +247,31 @@ fn half_plane(edge: Edge) -> HalfPlane
     }
 }
 
-/// A coordinate in 64 bits.
-fn widened(coordinate: i32) -> i64
-    ensures value { result ≡ coordinate }
+/// The difference of two coordinates that are less than 2^31 apart.
+fn short_difference(left: i32, right: i32) -> i32
+    requires { unsigned_abs (left -ℤ right) < 2 ^ 31 }
+    ensures { result ≡ left -ℤ right }
+{
+    difference(left, right) as i32
+}
+
+/// A number in 64 bits.
+fn widened(number: i32) -> i64
+    ensures value { result ≡ number }
     ensures size { unsigned_abs result ≤ 2 ^ 31 }
 {
-    coordinate as i64
+    number as i64
 }
 
 /// How far (x, y) lies to the left of the line from the origin along an edge, times the edge's length.
-fn to_the_left(along_x: i64, along_y: i64, x: i64, y: i64) -> i64
+fn to_the_left(along_x: i32, along_y: i32, x: i64, y: i64) -> i64
     requires along_x { unsigned_abs along_x < 2 ^ 31 }
     requires along_y { unsigned_abs along_y < 2 ^ 31 }
     requires x { unsigned_abs x ≤ 2 ^ 31 }
     requires y { unsigned_abs y ≤ 2 ^ 31 }
     ensures { result ≡ along_x *ℤ y -ℤ along_y *ℤ x }
 {
-    short_product(along_x, y) - short_product(along_y, x)
+    short_product(widened(along_x), y) - short_product(widened(along_y), x)
 }
 
 /// The product of a short difference and a coordinate, of up to 63 bits.

@@ -5,7 +5,7 @@
 //! whether the box meets the half-plane of the edge, the opposite one whether it lies in it.
 
 ghost use Rattle.std.specs.Prelude.{◌≡◌, ◌<◌, ◌≤◌, ◌^◌, ◌-◌, true, not, ◌&&◌, IfOk};
-ghost use Rattle.std.specs.Prelude.{IfErr, is_ok, ◌-ℤ◌, ◌*ℤ◌, unsigned_abs, ◌∷◌, length, slice_index_or};
+ghost use Rattle.std.specs.Prelude.{IfSome, is_some, ◌-ℤ◌, ◌*ℤ◌, unsigned_abs, ◌∷◌, length, slice_index_or};
 ghost use Rattle.std.specs.List.{count_by, list_all};
 ghost use Rattle.rt_geo.specs.Boxes.{IsRect};
 ghost use Rattle.rt_geo.specs.Lemmas.HalfPlanes.{corner, leftmost_corner, rightmost_corner};
@@ -17,7 +17,7 @@ ghost use Rattle.rt_geo.specs.Shapes.{state_by};
 use crate::bounds::{Bounds, hull, inside, overlaps};
 use crate::distance::Point;
 use crate::geometry::{Info, Shape, Within};
-use crate::narrow::{NarrowPolygon, narrow};
+use crate::narrow::{NarrowPolygon, is_short, left_of_short, narrow};
 use arrayvec::ArrayVec;
 use std::marker::Model;
 
@@ -78,6 +78,7 @@ impl Polygon {
     ///
     /// [`PolygonFault::Count`] where there are not 3 to 16 of them, [`PolygonFault::NotConvex`] where there
     /// are and they aren't strictly convex either way round, as where three are in line.
+    #[inline(always)]
     pub fn new(points: &[Point]) -> Result<Polygon, PolygonFault>
         ensures value { result ≡ polygon_of points.now }
         ensures convex { IfOk result IsStrictlyConvex }
@@ -97,12 +98,11 @@ impl Polygon {
     }
 
     /// The same polygon, made ready to be asked about many boxes, where each edge leads less than 2^31 far on each
-    /// axis. It comes back as it was where one leads farther.
+    /// axis. `None` where one leads farther.
     #[inline(always)]
-    pub fn narrow(self) -> Result<NarrowPolygon, Polygon>
-        ensures when { is_ok result ≡ is_narrow self }
-        ensures narrow { IfOk result (λ narrow. narrow ≡ self) }
-        ensures wide { IfErr result (λ wide. wide ≡ self) }
+    pub fn narrow(&self) -> Option<NarrowPolygon<'_>>
+        ensures when { is_some result ≡ is_narrow self.now }
+        ensures value { IfSome result (λ narrow. narrow ≡ self.now) }
     {
         narrow(self)
     }
@@ -275,6 +275,9 @@ fn is_strictly_convex(vertices: &[Point]) -> bool
 fn left_of(edge: Edge, points: &[Point]) -> usize
     ensures { result ≡ count_by (is_left edge) points.now }
 {
+    if is_short(edge) {
+        return left_of_short(edge, points);
+    }
     points
         .iter()
         .filter(|point| cross(edge, **point) > 0)
@@ -282,6 +285,7 @@ fn left_of(edge: Edge, points: &[Point]) -> usize
 }
 
 /// The points in a vector of their own.
+#[inline(always)]
 fn collected(points: &[Point]) -> ArrayVec<Point, MOST_VERTICES>
     requires { length points.now ≤ 16 }
     ensures { result.items ≡ points.now }
@@ -294,6 +298,7 @@ fn collected(points: &[Point]) -> ArrayVec<Point, MOST_VERTICES>
 }
 
 /// The polygon with these vertices.
+#[inline(always)]
 fn of_convex(vertices: ArrayVec<Point, MOST_VERTICES>) -> Polygon
     requires count { has_polygon_count vertices.items ≡ true }
     requires convex { is_strictly_convex vertices.items ≡ true }

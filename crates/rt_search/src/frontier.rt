@@ -1,41 +1,33 @@
 //! What waits to be taken out, least first.
 
-ghost use Rattle.std.specs.Prelude.{◌≡◌, ◌==◌, ◌<◌, ◌≤◌, [], ◌∷◌, false, length, IfNone, IfOk, IfSome, MatchBool};
-ghost use Rattle.std.specs.Prelude.{MatchOption};
+ghost use Rattle.std.specs.Prelude.{◌≡◌, ◌==◌, ◌<◌, ◌≤◌, [], ◌∷◌, false, length, IfNone, IfOk, IfSome, MatchOption};
 ghost use Rattle.std.specs.List.{AllByRecursion};
 ghost use Rattle.std.specs.Ordering.{is_gt};
 ghost use Rattle.rt_search.specs.declared.item.Place.TheVariants as place;
 ghost use Rattle.rt_search.specs.Items.{item_at, item_cmp};
-ghost use Rattle.rt_search.specs.Kept.{IsAhead, offered, taken_item};
+ghost use Rattle.rt_search.specs.Kept.{offered, taken_item};
 ghost use Rattle.rt_tree.specs.Sorting.{put};
 
-use crate::found::Found;
 use crate::item::{Taken, WaitingNode};
-use crate::nodes::Nodes;
+use crate::merged::Merged;
 use std::alloc::{AllocError, Global};
 use std::marker::Model;
 
 /// The room in which searches and counts work, one after the other. It is made once, and never grows.
 ///
-/// It is seen as the items that wait in it, in the order in which they are taken out, and its capacity. The nodes and
-/// the entries among them are kept apart, each with room for so many.
+/// It is seen as the items that wait in it, in the order in which they are taken out, and its capacity. It is one
+/// pointer to them, as it is handed on with each query.
 #[derive(Drop)]
 pub struct Frontier {
-    nodes: Nodes,
-    found: Found,
-    capacity: u32,
+    waiting: Box<Merged>,
 }
 
 impl Model for Frontier {
-    ghost use Rattle.rt_search.specs.Items.{Waiting, item_cmp};
-    ghost use Rattle.rt_search.specs.Kept.{IsMerged};
-    ghost use Rattle.rt_search.specs.Remaining.{put_all};
+    ghost use Rattle.rt_search.specs.Items.{Waiting};
 
     ghost Value = { Waiting };
 
-    ghost view = { λ f. record { items = put_all item_cmp f.nodes.items f.found.items; capacity = f.capacity } };
-
-    ghost invariant = { λ f. IsMerged f.nodes f.found f.capacity };
+    ghost view = { λ f. f.waiting.value };
 }
 
 impl Frontier {
@@ -45,20 +37,15 @@ impl Frontier {
         ensures items { IfOk result (λ f. f.items ≡ []) }
         ensures capacity { IfOk result (λ f. f.capacity ≡ capacity) }
     {
-        let nodes = Nodes::new(alloc, capacity)?;
-        let found = Found::new(alloc, capacity)?;
-        Ok(Frontier {
-            nodes,
-            found,
-            capacity,
-        })
+        let waiting = Box::new(alloc, Merged::new(alloc, capacity)?)?;
+        Ok(Frontier { waiting })
     }
 
     /// How many items it has room for.
     pub fn capacity(&self) -> u32
         ensures { result ≡ self.now.capacity }
     {
-        self.capacity
+        self.waiting.capacity()
     }
 
     /// How many items wait in it.
@@ -66,7 +53,7 @@ impl Frontier {
         ensures value { result ≡ length self.now.items }
         ensures room { length self.now.items ≤ self.now.capacity }
     {
-        (self.nodes.len() + self.found.len()) as u32
+        self.waiting.len()
     }
 
     /// Whether nothing waits in it.
@@ -80,8 +67,7 @@ impl Frontier {
         ensures items { self.new.items ≡ [] }
         ensures capacity { self.new.capacity ≡ self.old.capacity }
     {
-        self.nodes.clear();
-        self.found.clear();
+        self.waiting.clear();
     }
 
     pub(crate) fn put_node(&mut self, score: u128, node: WaitingNode)
@@ -89,7 +75,7 @@ impl Frontier {
         ensures items { self.new.items ≡ put item_cmp (item_at score (place.Node node)) self.old.items }
         ensures capacity { self.new.capacity ≡ self.old.capacity }
     {
-        self.nodes.put(score, node);
+        self.waiting.put_node(score, node);
     }
 
     #[inline(always)]
@@ -98,7 +84,7 @@ impl Frontier {
         ensures items { self.new.items ≡ offered is_wanted (item_at score (place.Entry id)) self.old.items }
         ensures capacity { self.new.capacity ≡ self.old.capacity }
     {
-        self.found.offer(is_wanted, score, id);
+        self.waiting.offer_entry(is_wanted, score, id);
     }
 
     #[inline(always)]
@@ -110,29 +96,6 @@ impl Frontier {
             (λ x. AllByRecursion (λ y. is_gt (item_cmp x y) ≡ false) self.new.items) }
         ensures capacity { self.new.capacity ≡ self.old.capacity }
     {
-        if is_node_next(&self.nodes, &self.found) {
-            return Taken {
-                node: self.nodes.take(),
-                entry: None,
-            };
-        }
-        Taken {
-            node: None,
-            entry: self.found.take(),
-        }
+        self.waiting.take()
     }
-}
-
-// Whether a node is next: one waits whose score is at most that of each entry found.
-#[inline(always)]
-fn is_node_next(nodes: &Nodes, found: &Found) -> bool
-    ensures { MatchBool result (IsAhead nodes.now.items found.now.items) (IsAhead found.now.items nodes.now.items) }
-{
-    let Some(node) = nodes.first_score() else {
-        return false;
-    };
-    let Some(entry) = found.first_score() else {
-        return true;
-    };
-    node <= entry
 }

@@ -16,6 +16,7 @@ mod frontier;
 mod gathered;
 mod item;
 mod late;
+mod merged;
 mod nodes;
 mod opening;
 mod scored;

@@ -13,7 +13,11 @@ use crate::late::Late;
 use std::alloc::{AllocError, Global};
 use std::marker::Model;
 
-/// Entries that were found: those from before the first was taken out, which are sorted once, and the later ones.
+// So few entries are sorted anew each time that one is found, which takes less than a heap.
+const FEW: usize = 15;
+
+/// Entries that were found: those that are gathered, and the late ones, which are found once more than a few were
+/// gathered and the first of these was taken out.
 ///
 /// It is seen as the items that they are, in order, and its capacity, which is that of both.
 #[derive(Drop)]
@@ -99,7 +103,7 @@ impl Scored {
         ensures least { IfSome (taken_entry result) (λ x. IsLeast x self.new.items) }
         ensures capacity { self.new.capacity ≡ self.old.capacity }
     {
-        self.is_started = true;
+        self.is_started = self.is_started || FEW < self.gathered.len();
         if is_gathered_next(&mut self.gathered, &self.late) {
             return self.gathered.take();
         }

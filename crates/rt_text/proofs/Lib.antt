@@ -1,3 +1,4 @@
+mod DigitLemmas
 mod LeadingLemmas
 mod NumberLemmas
 mod PointLemmas

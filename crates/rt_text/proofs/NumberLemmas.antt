@@ -1,13 +1,16 @@
 -- Numbers as text: one digit at a time, up to a greatest number, and one range within another.
-use Rattle.std.proofs.Common.{◌≡◌, ◌+◌, ◌*◌, ◌-◌, ◌<◌, ◌≤◌, ℕ, ℤ, pos, negsuc, ◌^◌, ◌≤ℤ◌, ◌<ℤ◌, min, Bool, true, false, ◌&&◌, Option, Some, None, List, drop, take, length, get_or, arith, ◌∙◌, ap, sym, refl, add-one}
+use Rattle.std.proofs.Common.{◌≡◌, ◌+◌, ◌*◌, ◌-◌, ◌%◌, ◌<◌, ◌≤◌, ℕ, zero, suc, ℤ, pos, negsuc, ◌^◌, ◌≤ℤ◌, ◌<ℤ◌, min, Bool, true, false, ◌&&◌, Option, Some, None, List, [], ◌∷◌, map, replicate, drop, take, length, get_or, arith, ◌∙◌, ap, sym, refl, add-one}
 use Rattle.std.specs.Prelude.{Result, Ok, Err, int_le, if◌then◌else◌, neg_ℤ, ok_or, option_map}
 use Rattle.std.specs.Char.{digit_value, is_ascii_digit}
+use Rattle.std.specs.Int.Digits.{AllBelowBase, number_from_digits}
 use Rattle.std.specs.List.{list_all}
+use Rattle.std.specs.Simd.Lanes.{zip2}
 use Rattle.std.specs.Str.Parse.{digits_value, starts_with_minus, without_leading_sign}
 use Rattle.std.proofs.Math.Nat.{pow-le-pow_right, pow-suc}
 use Rattle.std.proofs.lemmas.Bool.Decides.{nat_tests}
 use Rattle.std.proofs.lemmas.Int.{ints}
-use Rattle.std.proofs.lemmas.Int.Digits.{digits_value_more}
+use Rattle.std.proofs.lemmas.Int.Digits.{digits_value_is, digits_value_more, number_lt}
+use Rattle.std.proofs.lemmas.List.{length-map, take_all}
 use Rattle.std.proofs.lemmas.List.Folds.{list_all_at, list_all_more}
 use Rattle.rt_text.specs.Numbers.{digits_number, in_range, is_numeral, number_text}
 use Rattle.rt_text.specs.declared.numbers.NumberFault.{NumberFault}
@@ -58,6 +61,39 @@ small-more i m c h d = rw (add-one i, pow-suc 10 i) (omega (arith, nine c d))
 -- what few digits can write, more can
 pub fewer_digits : (i j m : ℕ) → i ≤ j → m < 10 ^ i → m < 10 ^ j
 fewer_digits i j m h small = omega (arith, small, pow-le-pow_right {n = 10} (omega arith) {i = i} {j = j} h)
+
+-- ---- eight digits in lanes
+
+-- digits, each less the character of zero
+abbrev AreValues : List ℕ → ℕ → Type 0
+AreValues xs n = (zip2 (λ a b. (a + (256 - b)) % 256) xs (replicate n 48) ≡ map digit_value xs) × AllBelowBase 10 (map digit_value xs)
+
+values : (xs : List ℕ) (n : ℕ) → length xs ≡ n → list_all is_ascii_digit xs ≡ true → AreValues xs n
+values [] n long all = (refl, tt)
+values (x ∷ xs) zero long all = absurd (omega (arith, long))
+values (x ∷ xs) (suc n) long all = by (is_ascii_digit x) refl all (λ h. values xs n (omega (arith, long)) h)
+  where
+    value : is_ascii_digit x ≡ true → ((x + (256 - 48)) % 256 ≡ x - 48) × (x - 48 < 10)
+    value h = grind (arith, nat_tests)
+
+    by : (b : Bool) → is_ascii_digit x ≡ b → list_all is_ascii_digit (x ∷ xs) ≡ true → (list_all is_ascii_digit xs ≡ true → AreValues xs n) → AreValues (x ∷ xs) (suc n)
+    by true e h more =
+        let rest = more (rw e at h) in
+        let here = value e in
+        let is = digit_value-ascii x e in
+        (λ i. (here.0 ∙ sym is) i ∷ rest.0 i, (omega (arith, here.1, is), rest.1))
+    by false e h more = let none : false ≡ true = rw e at h in absurd cc
+
+pub in_lanes : (xs : List ℕ) → length xs ≡ 8 → list_all is_ascii_digit xs ≡ true
+    → let lanes = zip2 (λ a b. (a + (256 - b)) % 256) (take 8 xs) (replicate 8 48) in
+    (AllBelowBase 10 lanes) × (length lanes ≡ 8) × (number_from_digits 10 lanes ≡ digits_value 10 xs) × (digits_value 10 xs < 10 ^ 8)
+in_lanes xs long all =
+    let v = values xs 8 long all in
+    let whole : take 8 xs ≡ xs = take_all 8 xs (omega (arith, long)) in
+    let is = digits_value_is 10 xs in
+    let less : number_from_digits 10 (map digit_value xs) < 10 ^ length (map digit_value xs) = number_lt 10 (map digit_value xs) v.1 in
+    let eight : length (map digit_value xs) ≡ 8 = length-map xs digit_value ∙ long in
+    rw (whole, v.0) (v.1, eight, sym is, rw (eight, ← is) at less)
 
 -- before the last of 19 digits
 pub short_step : (i m : ℕ) → i < 19 → m < 10 ^ i → m < 10 ^ 18

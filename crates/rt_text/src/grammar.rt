@@ -3,8 +3,9 @@
 //! One function for each definition of `specs/Queries.antt`, of the same name: it takes the words that the
 //! definition takes, and answers what it answers.
 
-ghost use Rattle.std.specs.Prelude.{◌≡◌, ◌≤◌, ◌≤ℤ◌, ◌∷◌, [], IfErr, IfOk, Ok, Err};
+ghost use Rattle.std.specs.Prelude.{◌≡◌, ◌≤◌, ◌≤ℤ◌, ◌∷◌, [], ℕ, IfErr, IfOk, List, MatchOption, Some, Ok, Err};
 ghost use Rattle.std.specs.Str.Lines.{strip_carriage_return};
+ghost use Rattle.rt_text.specs.Numbers.{number_text};
 ghost use Rattle.rt_text.specs.Queries.{Takes, circle, coordinate, count, find, finished, is_comment, limit, natural_word, nearest, number_fault, number_word, order, point, points, polygon, query, query_of, region, sides, usual_order, vertex_count};
 
 use crate::numbers::{NumberFault, number};
@@ -58,6 +59,7 @@ fn is_comment(word: &[u8]) -> bool
 
 // ---- queries
 
+#[inline(always)]
 fn query(verb: &[u8], words: &mut Words) -> Result<Query, QueryFault>
     ensures { result ≡ query (verb.now ∷ words.old) }
 {
@@ -74,6 +76,7 @@ fn query(verb: &[u8], words: &mut Words) -> Result<Query, QueryFault>
     }
 }
 
+#[inline(always)]
 fn find(words: &mut Words) -> Result<Query, QueryFault>
     ensures { result ≡ find words.old }
 {
@@ -108,6 +111,7 @@ fn count(words: &mut Words) -> Result<Query, QueryFault>
     finished(Query::Count { region }, words)
 }
 
+#[inline(always)]
 fn finished(query: Query, words: &mut Words) -> Result<Query, QueryFault>
     ensures { result ≡ finished query words.old }
 {
@@ -163,6 +167,7 @@ fn limit(words: &mut Words) -> Result<Option<u64>, QueryFault>
 
 // ---- regions
 
+#[inline(always)]
 fn region(words: &mut Words) -> Result<Region, QueryFault>
     ensures { Takes (region words.old) result words.new }
 {
@@ -205,6 +210,7 @@ fn circle(words: &mut Words) -> Result<Circle, QueryFault>
     Ok(Circle { centre, radius })
 }
 
+#[inline(always)]
 fn polygon(words: &mut Words) -> Result<Polygon, QueryFault>
     ensures { Takes (polygon words.old) result words.new }
 {
@@ -231,6 +237,7 @@ fn vertex_count(words: &mut Words) -> Result<usize, QueryFault>
 }
 
 // So many points, one after the other.
+#[inline(always)]
 fn points(count: usize, words: &mut Words) -> Result<ArrayVec<Point, MOST_VERTICES>, QueryFault>
     requires { count ≤ MOST_VERTICES }
     ensures ok { IfOk result (λ vertices. points count words.old ≡ Ok (vertices.items, words.new)) }
@@ -245,6 +252,7 @@ fn points(count: usize, words: &mut Words) -> Result<ArrayVec<Point, MOST_VERTIC
 
 // ---- numbers
 
+#[inline(always)]
 fn point(words: &mut Words) -> Result<Point, QueryFault>
     ensures { Takes (point words.old) result words.new }
 {
@@ -253,11 +261,35 @@ fn point(words: &mut Words) -> Result<Point, QueryFault>
     Ok(Point { x, y })
 }
 
-#[inline(never)]
+#[inline(always)]
 fn coordinate(words: &mut Words) -> Result<i32, QueryFault>
     ensures { Takes (coordinate words.old) result words.new }
 {
-    let value = number_word(words, i128::from(i32::MIN), i128::from(i32::MAX))?;
+    let Some(value) = usual_coordinate(words) else {
+        return any_coordinate(words);
+    };
+    match i32::try_from(value) {
+        Ok(value) => Ok(value),
+        Err(_) => Err(QueryFault::OutOfRange),
+    }
+}
+
+// The next word's number, where it is a usual one. Coordinates have this function to themselves, since they are much
+// alike: what a processor foretells of one isn't spoilt by counts and limits.
+#[inline(never)]
+fn usual_coordinate(words: &mut Words) -> Option<i64>
+    ensures { MatchOption result (words.new ≡ words.old)
+        (λ n. (word : List ℕ) × (words.old ≡ word ∷ words.new) × (number_text word ≡ Some n)) }
+{
+    words.next_number()
+}
+
+// The same as a coordinate whatever the word is.
+#[inline(never)]
+fn any_coordinate(words: &mut Words) -> Result<i32, QueryFault>
+    ensures { Takes (coordinate words.old) result words.new }
+{
+    let value = any_number_word(words, i128::from(i32::MIN), i128::from(i32::MAX))?;
     Ok(value as i32)
 }
 

@@ -9,6 +9,7 @@
 //!   with (`specs/ReplyLines.antt`). Each is a [`Line`], a text of at most 128 bytes.
 #![tactic(auto)]
 
+mod digits;
 mod fault_lines;
 mod grammar;
 mod line;

@@ -1,13 +1,22 @@
 //! A short line of text.
 
-ghost use Rattle.std.specs.Prelude.{◌≡◌, ◌+◌, ◌++◌, ◌≤◌, ◌∷◌, [], decimal, length};
+ghost use Rattle.std.specs.Prelude.{◌≡◌, ◌+◌, ◌++◌, ◌<◌, ◌≤◌, ◌^◌, ◌∷◌, [], decimal, drop, length, map};
 ghost use Rattle.std.specs.Fmt.{signed_decimal};
+ghost use Rattle.std.specs.Int.Digits.{AllBelowBase};
 
+use crate::digits::{sixteen_digits, zeros_in_front};
 use itoa::{Buffer, write_digits};
 use std::marker::Model;
+use std::simd::prelude::*;
 
 /// The most bytes of a line, its line feed included.
 const MOST_BYTES: usize = 128;
+
+/// From here on a number's digits are written side by side.
+const SHORT: u64 = 100_000_000;
+
+/// From here on a number has more digits than are written side by side.
+const LONG: u64 = 10_000_000_000_000_000;
 
 /// A text of at most 128 bytes, that is put together from its end. It takes no memory beyond its own.
 #[derive(Debug, Drop)]
@@ -74,7 +83,55 @@ impl Line {
         ensures value { self.new ≡ decimal number ++ self.old }
         ensures few { length self.new ≤ length self.old + 20 }
     {
+        if number < SHORT {
+            self.prepend_short(number);
+        } else {
+            self.prepend_long(number);
+        }
+    }
+
+    // The same for a number of few digits.
+    fn prepend_short(&mut self, number: u64)
+        requires { length self.old + length (decimal number) ≤ MOST_BYTES }
+        ensures { self.new ≡ decimal number ++ self.old }
+    {
         self.start = write_digits(number, &mut self.room, self.start);
+    }
+
+    // The same for a number of nine digits or more, sixteen of them side by side. No branch asks how many there are:
+    // it can't be foretold.
+    #[inline(never)]
+    fn prepend_long(&mut self, number: u64)
+        requires room { length self.old + 20 ≤ MOST_BYTES }
+        requires long { SHORT ≤ number }
+        ensures value { self.new ≡ decimal number ++ self.old }
+        ensures few { length self.new ≤ length self.old + 20 }
+    {
+        if number < LONG {
+            let digits = sixteen_digits(number);
+            self.prepend_digits(digits);
+            self.drop_first(zeros_in_front(digits));
+        } else {
+            self.prepend_digits(sixteen_digits(number % LONG));
+            self.prepend_short(number / LONG);
+        }
+    }
+
+    // Puts sixteen digits before its bytes.
+    fn prepend_digits(&mut self, digits: u8x16)
+        requires room { length self.old + 16 ≤ MOST_BYTES }
+        requires digits { (length digits ≡ 16) × AllBelowBase 10 digits }
+        ensures { self.new ≡ map (λ digit. 48 + digit) digits ++ self.old }
+    {
+        self.prepend(&(digits + u8x16::splat(b'0')).to_array());
+    }
+
+    // Gives up its first bytes.
+    fn drop_first(&mut self, count: usize)
+        requires { count ≤ length self.old }
+        ensures { self.new ≡ drop count self.old }
+    {
+        self.start += count;
     }
 
     /// Puts a number of up to 128 bits before its bytes. One of a single digit is written fastest, and one that fits

@@ -6,6 +6,9 @@ ghost use Rattle.std.specs.List.{list_all};
 ghost use Rattle.std.specs.Str.Parse.{digits_value, without_leading_sign};
 ghost use Rattle.rt_text.specs.Numbers.{digits_number, in_range, number_in, number_text};
 
+use crate::digits::number_of;
+use std::simd::prelude::*;
+
 /// As many digits as a `u64` has room for, whichever they are.
 const SHORT: usize = 19;
 
@@ -148,19 +151,15 @@ fn all_digits(text: &[u8]) -> bool
     all
 }
 
-// The number that a few digits write.
+// The number that a group of digits writes, all taken at once.
 #[inline(always)]
 fn written(digits: &[u8]) -> u64
-    requires few { length digits.now ≤ SHORT }
+    requires long { length digits.now ≡ GROUP }
     requires digits { list_all is_ascii_digit digits.now ≡ true }
     ensures value { result ≡ digits_value 10 digits.now }
-    ensures small { result < 10 ^ length digits.now }
+    ensures small { result < 10 ^ GROUP }
 {
-    let mut number: u64 = 0;
-    for digit in digits {
-        number = number * 10 + u64::from(*digit - b'0');
-    }
-    number
+    number_of(u8x8::from_slice(digits) - u8x8::splat(b'0'))
 }
 
 // The number that a short text gives.

@@ -103,6 +103,25 @@ mod tests {
         (QueryFault::StrayWord, b"error 7 Q10 stray word\n"),
     ];
 
+    // On both sides of where the way of writing changes, with zeros among the digits.
+    const SCORES: [(u128, &[u8]); 8] = [
+        (99_999_999, b"0 99999999\n"),
+        (100_000_000, b"0 100000000\n"),
+        (1_234_567_890, b"0 1234567890\n"),
+        (102_030_405_060_708, b"0 102030405060708\n"),
+        (9_876_543_210_123_456, b"0 9876543210123456\n"),
+        (9_999_999_999_999_999, b"0 9999999999999999\n"),
+        (10_000_000_000_000_000, b"0 10000000000000000\n"),
+        (18_446_744_073_709_551_615, b"0 18446744073709551615\n"),
+    ];
+
+    #[test]
+    fn scores_of_many_digits(rt: HostRuntime) {
+        for (score, text) in SCORES {
+            assert_eq!(rt; answer_line(0, score).bytes(), text);
+        }
+    }
+
     #[test]
     fn lines_of_replies(rt: HostRuntime) {
         let far = 36893488130239234050;

@@ -16,8 +16,8 @@ fn triangle(rt: &impl Abort) -> Polygon {
     polygon(rt, &[at(0, 0), at(30, 0), at(0, 30)])
 }
 
-fn narrow_triangle(rt: &impl Abort) -> NarrowPolygon {
-    triangle(rt).narrow().expect(rt, "the edges are short")
+fn narrowed<'a>(rt: &impl Abort, polygon: &'a Polygon) -> NarrowPolygon<'a> {
+    polygon.narrow().expect(rt, "the edges are short")
 }
 
 /// The state of an entry's box.
@@ -154,7 +154,8 @@ fn a_region_may_be_a_polygon(rt: HostRuntime) {
 
 #[test]
 fn a_narrow_polygon_tells_what_the_polygon_tells(rt: HostRuntime) {
-    let narrow = narrow_triangle(&rt);
+    let triangle = triangle(&rt);
+    let narrow = narrowed(&rt, &triangle);
     for (bounds, want) in [
         (boxed(&rt, 0, 10, 0, 10), Within::Fully),
         (boxed(&rt, 20, 30, 0, 10), Within::Partly),
@@ -173,9 +174,8 @@ fn a_narrow_polygon_tells_what_the_polygon_tells(rt: HostRuntime) {
 #[test]
 fn a_narrow_polygon_reaches_the_end_of_the_plane(rt: HostRuntime) {
     let (low, high) = (i32::MIN, i32::MAX);
-    let corner = polygon(&rt, &[at(low, low), at(-1, low), at(-1, -1)])
-        .narrow()
-        .expect(&rt, "the edges are short");
+    let corner = polygon(&rt, &[at(low, low), at(-1, low), at(-1, -1)]);
+    let corner = narrowed(&rt, &corner);
     for (bounds, want) in [
         (boxed(&rt, -30, -20, -50, -40), Within::Fully),
         (boxed(&rt, low, high, low, high), Within::Partly),
@@ -189,13 +189,10 @@ fn a_narrow_polygon_reaches_the_end_of_the_plane(rt: HostRuntime) {
 }
 
 #[test]
-fn a_polygon_with_a_long_edge_comes_back(rt: HostRuntime) {
+fn a_polygon_with_a_long_edge_is_not_narrow(rt: HostRuntime) {
     let longest = [at(0, 0), at(i32::MAX, 0), at(0, 1)];
-    assert!(rt; polygon(&rt, &longest).narrow().is_ok());
+    assert!(rt; polygon(&rt, &longest).narrow().is_some());
 
     let too_long = [at(-1, 0), at(i32::MAX, 0), at(0, 1)];
-    assert_eq!(rt;
-        polygon(&rt, &too_long).narrow().err(),
-        Some(polygon(&rt, &too_long))
-    );
+    assert!(rt; polygon(&rt, &too_long).narrow().is_none());
 }

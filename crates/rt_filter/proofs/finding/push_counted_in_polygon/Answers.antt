@@ -1,7 +1,4 @@
 use Rattle.rt_filter.proofs.finding.push_counted_in_polygon.Goals as goal
 
-pub returns-in-Ok-clause-written : goal.returns-in-Ok-clause-written
-returns-in-Ok-clause-written g c = rw (← c.in-Ok.ensures.narrow) c.push_counted.ensures.written
-
-pub returns-in-Err-clause-written : goal.returns-in-Err-clause-written
-returns-in-Err-clause-written g c = rw (← c.in-Err.ensures.wide) c.push_counted-in-Err.ensures.written
+pub returns-in-Some-clause-written : goal.returns-in-Some-clause-written
+returns-in-Some-clause-written g c = rw (← c.in-Some.ensures.value) c.push_counted.ensures.written

@@ -1,10 +1,7 @@
 use Rattle.rt_filter.proofs.finding.push_in_polygon.Goals as goal
 
-pub returns-in-Ok-clause-written : goal.returns-in-Ok-clause-written
-returns-in-Ok-clause-written g c = rw (← c.in-Ok.ensures.narrow) c.push_ordered.ensures.written
+pub returns-in-Some-clause-written : goal.returns-in-Some-clause-written
+returns-in-Some-clause-written g c = rw (← c.in-Some.ensures.value) c.push_ordered.ensures.written
 
-pub returns-in-Ok-clause-cut : goal.returns-in-Ok-clause-cut
-returns-in-Ok-clause-cut g c = rw (← c.in-Ok.ensures.narrow) c.push_ordered.ensures.cut
-
-pub returns-in-Err-clause-written : goal.returns-in-Err-clause-written
-returns-in-Err-clause-written g c = rw (← c.in-Err.ensures.wide) c.push_ordered-in-Err.ensures.written
+pub returns-in-Some-clause-cut : goal.returns-in-Some-clause-cut
+returns-in-Some-clause-cut g c = rw (← c.in-Some.ensures.value) c.push_ordered.ensures.cut

@@ -1,19 +1,18 @@
 use Rattle.std.proofs.Common.{rules}
 use Rattle.rt_geo.proofs.Crosses.{difference_is}
-use Rattle.rt_geo.proofs.HalfPlanes.{coordinate-stored, difference-stored, half_plane_is, widened_is}
+use Rattle.rt_geo.proofs.HalfPlanes.{coordinate-stored, half_plane_is, widened_is}
 use Rattle.rt_geo.proofs.narrow.half_plane.Goals as goal
 
 pub returns : goal.returns
 returns c =
     let from = c.args.edge.from in
     let to = c.args.edge.to in
-    half_plane_is c.args.edge c.difference-along_x.result c.difference-along_y.result c.widened.result
+    half_plane_is c.args.edge c.short_difference-along_x.result c.short_difference-along_y.result c.widened.result
     c.widened-2.result c.to_the_left.result c.from.result c.from-2.result
-    (difference-stored _ c.difference-along_x.ensures.size)
-    (difference-stored _ c.difference-along_y.ensures.size)
+    (search rules) (search rules)
     (coordinate-stored _ c.widened.ensures.size) (coordinate-stored _ c.widened-2.ensures.size) (search rules)
-    (difference_is _ to.x from.x (search rules) (search rules) c.difference-along_x.ensures.value)
-    (difference_is _ to.y from.y (search rules) (search rules) c.difference-along_y.ensures.value)
+    (difference_is _ to.x from.x (search rules) (search rules) c.short_difference-along_x.ensures)
+    (difference_is _ to.y from.y (search rules) (search rules) c.short_difference-along_y.ensures)
     (widened_is _ from.x (search rules) c.widened.ensures.value)
     (widened_is _ from.y (search rules) c.widened-2.ensures.value)
     c.to_the_left.ensures c.from.ensures c.from-2.ensures

@@ -1,13 +1,20 @@
 use Rattle.std.proofs.Common.{refl}
 use Rattle.rt_geo.proofs.Crosses.{product_is}
-use Rattle.rt_geo.proofs.HalfPlanes.{to_the_left_is}
+use Rattle.rt_geo.proofs.HalfPlanes.{coordinate-stored, to_the_left-fits, to_the_left_is, widened_is}
 use Rattle.rt_geo.proofs.narrow.to_the_left.Goals as goal
+
+pub overflow_sub-result : goal.overflow_sub-result
+overflow_sub-result c =
+    to_the_left-fits c.short_product.result c.short_product-2.result c.short_product.ensures.size
+    c.short_product-2.ensures.size
 
 pub returns : goal.returns
 returns c =
     let first =
-    product_is _ _ _ _ _ c.ranges.along_x c.ranges.y c.short_product.ensures.value refl refl in
+    product_is _ _ _ _ _ (coordinate-stored _ c.widened.ensures.size) c.ranges.y c.short_product.ensures.value
+    (widened_is _ c.args.along_x c.ranges.along_x c.widened.ensures.value) refl in
     let second =
-    product_is _ _ _ _ _ c.ranges.along_y c.ranges.x c.short_product-2.ensures.value refl refl in
+    product_is _ _ _ _ _ (coordinate-stored _ c.widened-2.ensures.size) c.ranges.x c.short_product-2.ensures.value
+    (widened_is _ c.args.along_y c.ranges.along_y c.widened-2.ensures.value) refl in
     to_the_left_is c.short_product.result c.short_product-2.result _ _ c.short_product.ensures.size
     c.short_product-2.ensures.size first second
