@@ -17,7 +17,7 @@ use crate::pushing::push_line;
 use rt_device::{Sink, WriteFault};
 use rt_geo::{ById, Circle, Counted, Disc, Geometry, Guided, Order, Polygon, Region, Shape};
 use rt_search::{Frontier, Search, count};
-use rt_text::{Line, ok_line, set_answer_line};
+use rt_text::{Line, ok_line, set_answer_line, set_ok_line};
 use rt_tree::Tree;
 
 /// Pushes a line for each answer, the first so many where there is a limit, and then their number.
@@ -162,15 +162,19 @@ fn push_found<G: Geometry + Drop, K: Sink>(
     // (asked, so that it is known that the number of answers fits)
     let _most = tree.len();
     let mut search = Search::start(tree, frontier, Counted::new(&geometry), limit);
-    let pushed = push_answers(&mut search, sink);
+    let mut text = Line::new(b"");
+    let pushed = push_answers(&mut search, &mut text, sink);
     let (frontier, _counted) = search.finish();
-    push_line(&ok_line(line, pushed?), sink)?;
+    set_ok_line(&mut text, line, pushed?);
+    push_line(&text, sink)?;
     Ok(frontier)
 }
 
-// Pushes a line for each answer that is still to come, as it is found, and tells how many there were.
+// Pushes a line for each answer that is still to come, as it is found, and tells how many there were. All are put
+// together in one place.
 fn push_answers<G: Geometry, K: Sink>(
     search: &mut Search<'_, G>,
+    text: &mut Line,
     sink: &mut K,
 ) -> Result<u64, WriteFault>
     requires few { length search.old.to_come < 2 ^ 32 }
@@ -185,10 +189,9 @@ fn push_answers<G: Geometry, K: Sink>(
     ensures fails { OnErr result (K.failed sink.new ≡ K.failed sink.old + 1) }
 {
     let mut found: u64 = 0;
-    let mut text = Line::new(b"");
     while let Some((id, score)) = search.next() {
-        set_answer_line(&mut text, id, score);
-        push_line(&text, sink)?;
+        set_answer_line(text, id, score);
+        push_line(text, sink)?;
         found += 1;
     }
     Ok(found)

@@ -1,5 +1,5 @@
 -- What is kept in any order, seen as items in order.
-use Rattle.std.proofs.Common.{◌≡◌, ◌<◌, ◌≤◌, ◌^◌, false, List, [], ◌∷◌, map, length, get_or, sym, ◌∙◌, ap}
+use Rattle.std.proofs.Common.{◌≡◌, ◌<◌, ◌≤◌, ◌^◌, ℕ, false, List, [], ◌∷◌, map, length, get_or, sym, ◌∙◌, ap}
 use Rattle.std.proofs.Common.{subst, arith, Result, Ok, Err, IsPermutation}
 use Rattle.std.specs.Prelude.{IsOk, OnOk}
 use Rattle.std.specs.List.{AllByRecursion}
@@ -9,7 +9,7 @@ use Rattle.std.proofs.lemmas.List.{length-map}
 use Rattle.std.proofs.lemmas.List.Sorted.{IsPermutation-map}
 use Rattle.rt_tree.specs.Sorting.{put, sorted}
 use Rattle.rt_search.specs.Items.{item_cmp}
-use Rattle.rt_search.specs.Kept.{IsEntry, IsFirstScore, IsHead, IsLeast, IsNode, entry_item, in_order, node_item}
+use Rattle.rt_search.specs.Kept.{IsEntry, IsFirstScore, IsHead, IsLeast, IsNode, entry_item, gathered_item, in_order, node_item}
 use Rattle.rt_search.specs.contracts.item.FoundEntryOrd.TheImpl.{ghosts as entry_ghosts}
 use Rattle.rt_search.specs.contracts.nodes.NodeKeyOrd.TheImpl.{ghosts as key_ghosts}
 use Rattle.rt_search.specs.declared.item.FoundEntry.{FoundEntry}
@@ -112,3 +112,7 @@ all_nodes (n ∷ ns) = (tt, all_nodes ns)
 pub all_entries : (es : List (Reverse FoundEntry)) → AllByRecursion (λ e. IsEntry (entry_item e).place) es
 all_entries [] = tt
 all_entries (e ∷ es) = (tt, all_entries es)
+
+pub all_gathered : (ks : List (Reverse ℕ)) → AllByRecursion (λ k. IsEntry (gathered_item k).place) ks
+all_gathered [] = tt
+all_gathered (k ∷ ks) = (tt, all_gathered ks)

@@ -1,18 +1,19 @@
 -- The orders of answers and of items: total, and they tell all apart.
 use Rattle.std.proofs.Common.{◌≡◌, ◌≤◌, ℕ, ℤ, Bool, true, false, Ordering, Less, Equal, Greater, refl, sym, ◌∙◌, ap}
-use Rattle.std.proofs.Common.{◌<◌, ◌+◌, ◌*◌, ◌/◌, ◌%◌, ◌^◌, arith}
+use Rattle.std.proofs.Common.{◌<◌, ◌+◌, ◌*◌, ◌/◌, ◌%◌, ◌^◌, ◌-ℤ◌, pos, arith}
 use Rattle.std.specs.Prelude.{nat_lt}
 use Rattle.std.specs.Cmp.{IsTotalOrder, bool_cmp_total}
 use Rattle.std.specs.Ordering.{bool_cmp, int_cmp, is_gt, is_lt, nat_cmp, ordering_reverse, ordering_then}
 use Rattle.std.specs.declared.cmp.Reverse.{Reverse}
 use Rattle.std.proofs.lemmas.Bool.Decides.{nat_tests}
+use Rattle.std.proofs.lemmas.Int.{ints}
 use Rattle.std.proofs.Math.Nat.{mod-lt}
 use Rattle.std.proofs.lemmas.Nat.{div-add-mod'}
 use Rattle.std.proofs.lemmas.Cmp.{int_cmp_total, nat_cmp_total, on_total, then_total}
 use Rattle.std.proofs.lemmas.Map.Lookups.{CmpEqualImpliesEq, exact_signed, exact_unsigned}
 use Rattle.rt_search.specs.Answers.{Answer, answer_cmp}
 use Rattle.rt_search.specs.Items.{item_at, item_cmp, node_cmp, place_cmp}
-use Rattle.rt_search.specs.Kept.{IsEntry, IsNode, entry_item, node_item, node_of, zero_item}
+use Rattle.rt_search.specs.Kept.{IsEntry, IsNode, entry_item, gathered_item, node_item, node_of, zero_item}
 use Rattle.rt_search.specs.contracts.item.FoundEntryOrd.TheImpl.{ghosts as entry_ghosts}
 use Rattle.rt_search.specs.contracts.nodes.NodeKeyOrd.TheImpl.{ghosts as key_ghosts}
 use Rattle.rt_search.specs.declared.item.FoundEntry.{FoundEntry}
@@ -168,6 +169,20 @@ node_derived m n small e =
 pub entry_derived : (d e : Reverse FoundEntry) → is_gt (item_cmp (entry_item e) (entry_item d))
     ≡ is_lt (entry_ghosts.cmp d.0 e.0)
 entry_derived d e = not_after (entry_item e) (entry_item d)
+
+-- also by its number, whose lower half has how far the id is above the least
+by_numbers : (s l r m : ℕ) → l < 2 ^ 64 → m < 2 ^ 64
+    → is_lt (ordering_then (nat_cmp s r) (int_cmp (pos l -ℤ pos (2 ^ 63)) (pos m -ℤ pos (2 ^ 63))))
+    ≡ is_lt (nat_cmp (s * 2 ^ 64 + l) (r * 2 ^ 64 + m))
+by_numbers s l r m low small = grind (arith, ints, nat_tests)
+
+pub gathered_derived : (d e : Reverse ℕ) → is_gt (item_cmp (gathered_item e) (gathered_item d))
+    ≡ is_lt (nat_cmp d.0 e.0)
+gathered_derived d e =
+    not_after (gathered_item e) (gathered_item d)
+    ∙ by_numbers (d.0 / 2 ^ 64) (d.0 % 2 ^ 64) (e.0 / 2 ^ 64) (e.0 % 2 ^ 64) (mod-lt d.0 (omega arith))
+    (mod-lt e.0 (omega arith))
+    ∙ rw (div-add-mod' d.0 (2 ^ 64), div-add-mod' e.0 (2 ^ 64)) refl
 
 -- and an entry of score 0, by its id alone
 pub zero_derived : (d e : Reverse ℤ) → is_gt (item_cmp (zero_item e) (zero_item d)) ≡ is_lt (int_cmp d.0 e.0)

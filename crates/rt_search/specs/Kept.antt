@@ -1,5 +1,5 @@
 -- How a frontier keeps its items. Nothing that a public call promises speaks of this.
-use Rattle.std.specs.Prelude.{◌≡◌, ◌<◌, ◌≤◌, ◌+◌, ◌*◌, ◌/◌, ◌%◌, ◌^◌, ℕ, ℤ, nat_lt, Bool, true, false, if◌then◌else◌}
+use Rattle.std.specs.Prelude.{◌≡◌, ◌<◌, ◌≤◌, ◌+◌, ◌*◌, ◌/◌, ◌%◌, ◌^◌, ◌-ℤ◌, ℕ, ℤ, pos, nat_lt, Bool, true, false, if◌then◌else◌}
 use Rattle.std.specs.Prelude.{Option, Some, None, List, [], ◌∷◌, length, map, vec_capacity}
 use Rattle.std.specs.BinaryHeap.{IsHeap, heap_capacity, heap_items, heap_len}
 use Rattle.std.specs.List.{AllByRecursion}
@@ -34,6 +34,10 @@ node_item r = key_item r.0
 -- an entry that was found, as an item
 abbrev pub entry_item : Reverse FoundEntry → Item
 entry_item r = item_at r.0.score (Entry r.0.id)
+
+-- the same by one number, which has the score and below it how far the id is above the least
+abbrev pub gathered_item : Reverse ℕ → Item
+gathered_item r = item_at (r.0 / 2 ^ 64) (Entry (pos (r.0 % 2 ^ 64) -ℤ pos (2 ^ 63)))
 
 -- an entry of score 0, by its id, as an item
 abbrev pub zero_item : Reverse ℤ → Item
@@ -134,12 +138,12 @@ IsLeastScore s [] = Unit {0}
 IsLeastScore s (x ∷ xs) = IsFirstScore s (x ∷ xs)
 
 -- in order, or with the least score known; it has room for so many and holds no more
-pub record IsGathered {A : Type 0} (list : Vec (Reverse FoundEntry) A) (least : ℕ) (is_sorted : Bool) (capacity : ℕ)
+pub record IsGathered {A : Type 0} (keys : Vec (Reverse ℕ) A) (least : ℕ) (is_sorted : Bool) (capacity : ℕ)
     : Type 0 where
-  pub unsorted : is_sorted ≡ false → IsLeastScore least (in_order entry_item list.items)
-  pub falling : is_sorted ≡ true → IsFalling entry_item list.items
-  pub room : capacity ≤ vec_capacity list
-  pub few : length list.items ≤ capacity
+  pub unsorted : is_sorted ≡ false → IsLeastScore least (in_order gathered_item keys.items)
+  pub falling : is_sorted ≡ true → IsFalling gathered_item keys.items
+  pub room : capacity ≤ vec_capacity keys
+  pub few : length keys.items ≤ capacity
 
 -- in order, or not; it has room for so many and holds no more
 pub record HasZeros {A : Type 0} (ids : Vec (Reverse ℤ) A) (is_sorted : Bool) (capacity : ℕ) : Type 0 where

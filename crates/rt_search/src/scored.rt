@@ -16,6 +16,9 @@ use std::marker::Model;
 // So few entries are sorted anew each time that one is found, which takes less than a heap.
 const FEW: usize = 15;
 
+// The least score that takes more than a word. Entries from there on are rare, and all late.
+const WIDE: u128 = 1 << 64;
+
 /// Entries that were found: those that are gathered, and the late ones, which are found once more than a few were
 /// gathered and the first of these was taken out.
 ///
@@ -77,11 +80,11 @@ impl Scored {
         ensures items { self.new.items ≡ put item_cmp (item_at score (place.Entry id)) self.old.items }
         ensures capacity { self.new.capacity ≡ self.old.capacity }
     {
-        if self.is_started {
+        if self.is_started || WIDE <= score {
             self.late.put(score, id);
             return;
         }
-        self.gathered.put(score, id);
+        self.gathered.put(score as u64, id);
     }
 
     pub fn first_score(&self) -> Option<u128>

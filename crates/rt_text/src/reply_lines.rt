@@ -30,12 +30,21 @@ pub fn set_answer_line(text: &mut Line, id: i64, score: u128)
 pub fn ok_line(line: u128, n: u64) -> Line
     ensures { result ≡ ok_line line n }
 {
-    let mut text = Line::new(b"\n");
+    let mut text = Line::new(b"");
+    set_ok_line(&mut text, line, n);
+    text
+}
+
+/// The same in the place of another line.
+pub fn set_ok_line(text: &mut Line, line: u128, n: u64)
+    ensures { text.new ≡ ok_line line n }
+{
+    text.clear();
+    text.prepend_byte(b'\n');
     text.prepend_number(n);
     text.prepend_byte(b' ');
     text.prepend_wide(line);
     text.prepend(b"ok ");
-    text
 }
 
 /// The line of a level of the tree: how many entries or nodes stand on it.

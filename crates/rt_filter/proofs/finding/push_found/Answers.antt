@@ -20,7 +20,7 @@ returns-in_err-push_line-clause-cut g c =
     at_error c.from_residual-in_err-push_line.result (found_cut_at_end c.args.line (answers c.args.tree.now.entries (g.G.Geometry.accepts c.args.geometry) (g.G.Geometry.score c.args.geometry) c.args.limit)
     c.start-search.result.to_come (rw c.new.ensures.geometry at c.start-search.ensures.to_come)
     (g.K.Sink.written c.args.sink.now) (g.K.Sink.written c.push_answers-pushed.new.sink) (g.K.Sink.written c.push_line.new.sink)
-    c.in_ok-pushed.field-0 c.ok_line.result c.in_ok-pushed.ensures.many c.ok_line.ensures
+    c.in_ok-pushed.field-0 c.set_ok_line.new.text c.in_ok-pushed.ensures.many c.set_ok_line.ensures
     c.in_ok-pushed.ensures.written c.in_err-push_line.ensures.cut)
 
 pub returns-clause-written : goal.returns-clause-written
@@ -28,5 +28,5 @@ returns-clause-written g c =
     found_pushed c.args.line (answers c.args.tree.now.entries (g.G.Geometry.accepts c.args.geometry) (g.G.Geometry.score c.args.geometry) c.args.limit)
     c.start-search.result.to_come (rw c.new.ensures.geometry at c.start-search.ensures.to_come)
     (g.K.Sink.written c.args.sink.now) (g.K.Sink.written c.push_answers-pushed.new.sink) (g.K.Sink.written c.push_line.new.sink)
-    c.in_ok-pushed.field-0 c.ok_line.result c.in_ok-pushed.ensures.many c.ok_line.ensures
+    c.in_ok-pushed.field-0 c.set_ok_line.new.text c.in_ok-pushed.ensures.many c.set_ok_line.ensures
     c.in_ok-pushed.ensures.written c.in_ok-push_line.ensures.written
