@@ -13,7 +13,7 @@ use crate::late::Late;
 use std::alloc::{AllocError, Global};
 use std::marker::Model;
 
-// So few entries are sorted anew after more were found, which takes less than a heap.
+// So few entries are sorted anew each time that one is found, which takes less than a heap.
 const FEW: usize = 15;
 
 // The least score that takes more than a word. Entries from there on are rare, and all late.
@@ -106,9 +106,7 @@ impl Scored {
         ensures least { IfSome (taken_entry result) (λ x. IsLeast x self.new.items) }
         ensures capacity { self.new.capacity ≡ self.old.capacity }
     {
-        if !self.gathered.is_sorted() && FEW < self.gathered.len() {
-            self.is_started = true;
-        }
+        self.is_started = self.is_started || FEW < self.gathered.len();
         if is_gathered_next(&mut self.gathered, &self.late) {
             return self.gathered.take();
         }
