@@ -20,7 +20,7 @@ const FEW: usize = 15;
 const WIDE: u128 = 1 << 64;
 
 /// Entries that were found: those that are gathered, and the late ones, which are found once more than a few were
-/// gathered and the first of these was taken out.
+/// gathered and the first of these was taken out, or have a score of more than a word.
 ///
 /// It is seen as the items that they are, in order, and its capacity, which is that of both.
 #[derive(Drop)]

@@ -314,6 +314,24 @@ fn the_corners_of_the_plane_have_their_scores(rt: HostRuntime) {
     );
 }
 
+#[test]
+fn at_equal_scores_the_lowest_id_comes_first(rt: HostRuntime) {
+    let origin: Sides = [0, 0, 0, 0];
+    let boxes: [(i64, Sides); 4] = [
+        (0, origin),
+        (i64::MAX, origin),
+        (i64::MIN, origin),
+        (-1, origin),
+    ];
+    let tree = pack(&rt, rt.alloc(), &boxes);
+    let want = Want {
+        answers: &[(i64::MIN, 25), (-1, 25), (0, 25), (i64::MAX, 25)],
+        opened: 3,
+        asked: 6,
+    };
+    expect_search(&rt, rt.alloc(), &tree, &near(3, 4), None, &want);
+}
+
 // The greatest x of what is shown, in the order in which nodes are opened and their children stand.
 #[test]
 fn nodes_are_opened_by_score_and_number(rt: HostRuntime) {
