@@ -3,7 +3,7 @@
 //! The region and the order of a query are told apart once, so that what is asked about each box is known to the
 //! compiler.
 
-ghost use Rattle.std.specs.Prelude.{◌≡◌, ◌+◌, ◌-◌, ◌<◌, ◌≤◌, ◌^◌, IfOk, OnOk, OnErr, length};
+ghost use Rattle.std.specs.Prelude.{◌≡◌, ◌+◌, ◌-◌, ◌<◌, ◌≤◌, ◌^◌, Some, IfOk, OnOk, OnErr, length};
 ghost use Rattle.rt_geo.specs.Orders.{order_score};
 ghost use Rattle.rt_geo.specs.Polygons.{polygon_accepts};
 ghost use Rattle.rt_geo.specs.Regions.{region_accepts};
@@ -13,6 +13,7 @@ ghost use Rattle.rt_search.specs.Answers.{accepted, answers};
 ghost use Rattle.rt_filter.specs.Pushes.{WasCut, WasPushed};
 ghost use Rattle.rt_filter.specs.Replies.{answer_lines, find_reply};
 
+use crate::finding_all::push_all;
 use crate::pushing::push_line;
 use rt_device::{Sink, WriteFault};
 use rt_geo::{ById, Circle, Counted, Disc, Geometry, Guided, Order, Polygon, Region, Shape};
@@ -140,7 +141,7 @@ fn push_in_circle<K: Sink>(
     }
 }
 
-// The same for one geometry.
+// The same for one geometry. Where all answers are wanted, all are found first.
 fn push_found<G: Geometry + Drop, K: Sink>(
     tree: &Tree,
     frontier: Frontier,
@@ -159,9 +160,34 @@ fn push_found<G: Geometry + Drop, K: Sink>(
     ensures went { OnOk result (K.failed sink.new ≡ K.failed sink.old) }
     ensures fails { OnErr result (K.failed sink.new ≡ K.failed sink.old + 1) }
 {
+    match limit {
+        Some(limit) => push_first(tree, frontier, line, geometry, limit, sink),
+        None => push_all(tree, frontier, line, geometry, sink),
+    }
+}
+
+// The same for the first so many.
+fn push_first<G: Geometry + Drop, K: Sink>(
+    tree: &Tree,
+    frontier: Frontier,
+    line: u128,
+    geometry: G,
+    limit: u64,
+    sink: &mut K,
+) -> Result<Frontier, WriteFault>
+    requires room { length tree.now.entries ≤ frontier.capacity }
+    requires count { K.failed sink.old < 2 ^ 64 - 1 }
+    ensures written { OnOk result (WasPushed (K.written sink.old) (K.written sink.new)
+        (find_reply line (answers tree.now.entries (G.accepts geometry) (G.score geometry) (Some limit)))) }
+    ensures cut { OnErr result (WasCut (K.written sink.old) (K.written sink.new)
+        (find_reply line (answers tree.now.entries (G.accepts geometry) (G.score geometry) (Some limit)))) }
+    ensures capacity { IfOk result (λ frontier'. frontier'.capacity ≡ frontier.capacity) }
+    ensures went { OnOk result (K.failed sink.new ≡ K.failed sink.old) }
+    ensures fails { OnErr result (K.failed sink.new ≡ K.failed sink.old + 1) }
+{
     // (asked, so that it is known that the number of answers fits)
     let _most = tree.len();
-    let mut search = Search::start(tree, frontier, Counted::new(&geometry), limit);
+    let mut search = Search::start(tree, frontier, Counted::new(&geometry), Some(limit));
     let mut text = Line::new(b"");
     let pushed = push_answers(&mut search, &mut text, sink);
     let (frontier, _counted) = search.finish();

@@ -9,6 +9,7 @@
 
 mod filter;
 mod finding;
+mod finding_all;
 mod pushing;
 mod reply;
 mod serving;

@@ -102,11 +102,11 @@ module _ (accepts : Extent → Bool) (score : Extent → ℕ) (verdict : Info �
         under ∙ sym (length-among accepts score (entries_under t 0 n))
         ∙ sym (entries_found accepts score verdict law t sound v small n leaf.1 opened.below)
 
-    pub leaf_work : (cost : Node → ℕ) → (node_at t number).level ≡ 1
-        → work_under cost verdict t v number ≡ cost (node_at t number)
-    leaf_work cost low =
+    pub leaf_work : (opens : Verdict → Bool) (cost : Node → ℕ) → (node_at t number).level ≡ 1
+        → work_under opens cost verdict t v number ≡ cost (node_at t number)
+    leaf_work opens cost low =
         let n = node_at t number in
-        ap (λ h. work_from is_divided cost verdict t h v n) (leaf_node t (height_at t number) n opened.tree low).0
+        ap (λ h. work_from opens cost verdict t h v n) (leaf_node t (height_at t number) n opened.tree low).0
 
     pub under_few : accepted_under t accepts number ≤ (node_at t number).size
     under_few = accepted_few number opened.tree
@@ -151,7 +151,7 @@ module _ (accepts : Extent → Bool) (score : Extent → ℕ) (verdict : Info �
                 g i lt,
           )
 
-      all_sums : (f : ℕ → ℕ) (g : Node → ℕ)
+      pub all_sums : (f : ℕ → ℕ) (g : Node → ℕ)
           → ((i : ℕ) → i < (node_at t number).count
           → let k = (node_at t number).first + i in f k ≡ g (node_at t k))
           → over_children f (node_at t number) (node_at t number).count
@@ -160,19 +160,19 @@ module _ (accepts : Extent → Bool) (score : Extent → ℕ) (verdict : Info �
           sums f g same (node_at t number).count (omega arith)
           ∙ ap (sum_by g) (all_children t number opened.tree high (node_at t number).count (omega arith))
 
-      pub inner_work : (cost : Node → ℕ) → work_under cost verdict t v number
+      pub inner_work : (opens : Verdict → Bool) (cost : Node → ℕ) → work_under opens cost verdict t v number
           ≡ cost (node_at t number)
-          + over_children (work_of_child cost verdict t v) (node_at t number) (node_at t number).count
-      inner_work cost =
+          + over_children (work_of_child opens cost verdict t v) (node_at t number) (node_at t number).count
+      inner_work opens cost =
           let n = node_at t number in
           let h = height_at t number - 1 in
           let below : Node → ℕ = λ k. (let w = verdict (info_of_node t v k) in
-          cond (is_divided w) (work_from is_divided cost verdict t h w k) 0) in
-          let all = all_sums (work_of_child cost verdict t v) below
+          cond (opens w) (work_from opens cost verdict t h w k) 0) in
+          let all = all_sums (work_of_child opens cost verdict t v) below
           (λ i lt. (let k = node_at t (n.first + i) in let w = verdict (info_of_node t v k) in
-          ap (λ m. cond (is_divided w) (work_from is_divided cost verdict t m w k) 0) (child i lt).height)) in
-          let whole : work_under cost verdict t v number ≡ cost n + sum_by below (child_nodes t n) =
-          ap (λ m. work_from is_divided cost verdict t m v n) (height_suc t number opened.tree high) in
+          ap (λ m. cond (opens w) (work_from opens cost verdict t m w k) 0) (child i lt).height)) in
+          let whole : work_under opens cost verdict t v number ≡ cost n + sum_by below (child_nodes t n) =
+          ap (λ m. work_from opens cost verdict t m v n) (height_suc t number opened.tree high) in
           omega (arith, all, whole)
 
       found_upto : (i : ℕ) → i ≤ (node_at t number).count
@@ -227,37 +227,37 @@ module _ (accepts : Extent → Bool) (score : Extent → ℕ) (verdict : Info �
       pub record CanAsk (found opened' asked k : ℕ) (info : Info) : Type 0 where
         pub node : IsCountable t accepts k info
         pub few : found + (node_at t k).size ≤ 2 ^ 32
-        pub opened_few : opened' + work_at_child one_node verdict t (verdict info) k ≤ 2 ^ 32
-        pub asked_few : asked + 1 + work_at_child its_children verdict t (verdict info) k ≤ 2 ^ 32
+        pub opened_few : opened' + work_at_child is_divided one_node verdict t (verdict info) k ≤ 2 ^ 32
+        pub asked_few : asked + 1 + work_at_child is_divided its_children verdict t (verdict info) k ≤ 2 ^ 32
         pub lower : (node_at t k).level < (node_at t number).level
 
       ask_child : (i found begun asked : ℕ) → i < (node_at t number).count
-          → found + (node_at t number).size ≤ 2 ^ 32 → begun + work_under one_node verdict t v number ≤ 2 ^ 32
-          → asked + work_under its_children verdict t v number ≤ 2 ^ 32
+          → found + (node_at t number).size ≤ 2 ^ 32 → begun + work_under is_divided one_node verdict t v number ≤ 2 ^ 32
+          → asked + work_under is_divided its_children verdict t v number ≤ 2 ^ 32
           → let n = node_at t number in let k = n.first + i in
           CanAsk (found + over_children (accepted_under t accepts) n i)
-          (begun + 1 + over_children (work_of_child one_node verdict t v) n i)
-          (asked + i + over_children (work_of_child its_children verdict t v) n i)
+          (begun + 1 + over_children (work_of_child is_divided one_node verdict t v) n i)
+          (asked + i + over_children (work_of_child is_divided its_children verdict t v) n i)
           k (info_of_node t v (node_at t k))
       ask_child i found begun asked lt few opens asks =
           let n = node_at t number in
-          let one = inner_work one_node in
-          let its = inner_work its_children in
+          let one = inner_work is_divided one_node in
+          let its = inner_work is_divided its_children in
           record {
             node = countable i lt;
             few = omega (arith, few, inner_few i lt);
-            opened_few = omega (arith, opens, one, over_one (work_of_child one_node verdict t v) n i n.count lt);
-            asked_few = omega (arith, asks, its, lt, over_one (work_of_child its_children verdict t v) n i n.count lt);
+            opened_few = omega (arith, opens, one, over_one (work_of_child is_divided one_node verdict t v) n i n.count lt);
+            asked_few = omega (arith, asks, its, lt, over_one (work_of_child is_divided its_children verdict t v) n i n.count lt);
             lower = (child i lt).lower;
           }
 
       pub can_ask : (i k found found' begun begun' asked asked' : ℕ) (info : Info) → i < (node_at t number).count
           → k ≡ (node_at t number).first + i → info ≡ info_of_node t v (node_at t k)
           → found' ≡ found + over_children (accepted_under t accepts) (node_at t number) i
-          → begun' ≡ begun + 1 + over_children (work_of_child one_node verdict t v) (node_at t number) i
-          → asked' ≡ asked + i + over_children (work_of_child its_children verdict t v) (node_at t number) i
-          → found + (node_at t number).size ≤ 2 ^ 32 → begun + work_under one_node verdict t v number ≤ 2 ^ 32
-          → asked + work_under its_children verdict t v number ≤ 2 ^ 32 → CanAsk found' begun' asked' k info
+          → begun' ≡ begun + 1 + over_children (work_of_child is_divided one_node verdict t v) (node_at t number) i
+          → asked' ≡ asked + i + over_children (work_of_child is_divided its_children verdict t v) (node_at t number) i
+          → found + (node_at t number).size ≤ 2 ^ 32 → begun + work_under is_divided one_node verdict t v number ≤ 2 ^ 32
+          → asked + work_under is_divided its_children verdict t v number ≤ 2 ^ 32 → CanAsk found' begun' asked' k info
       can_ask i k found found' begun begun' asked asked' info lt at is f b a few opens asks =
           subst (CanAsk found' begun' asked' k) (sym is)
           (subst (λ m. CanAsk found' begun' asked' m (info_of_node t v (node_at t m))) (sym at)

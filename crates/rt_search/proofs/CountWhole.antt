@@ -24,14 +24,14 @@ module _ (accepts : Extent → Bool) (score : Extent → ℕ) (verdict : Info �
     pub record IsWhole (number : ℕ) (v : Verdict) : Type 0 where
       pub node : IsOpenable t accepts score number v
       pub few : 0 + (node_at t number).size ≤ 2 ^ 32
-      pub opened_few : 0 + work_under one_node verdict t v number ≤ 2 ^ 32
-      pub asked_few : 0 + work_under its_children verdict t v number ≤ 2 ^ 32
+      pub opened_few : 0 + work_under is_divided one_node verdict t v number ≤ 2 ^ 32
+      pub asked_few : 0 + work_under is_divided its_children verdict t v number ≤ 2 ^ 32
       pub found_is : accepted_under t accepts number ≡ length (accepted t.entries accepts)
-      pub opened_is : work_under one_node verdict t v number ≡ opened_by_count verdict t
-      pub asked_is : work_under its_children verdict t v number ≡ asked_by_count verdict t
+      pub opened_is : work_under is_divided one_node verdict t v number ≡ opened_by_count verdict t
+      pub asked_is : work_under is_divided its_children verdict t v number ≡ asked_by_count verdict t
 
     whole_work : (cost : Node → ℕ) → 0 < length t.nodes
-        → work_under cost verdict t root_verdict (length t.nodes - 1) ≡ work is_divided cost verdict t
+        → work_under is_divided cost verdict t root_verdict (length t.nodes - 1) ≡ work is_divided cost verdict t
     whole_work cost some = (let none = some_nodes t some in rw none refl)
 
     whole_found : 0 < length t.nodes

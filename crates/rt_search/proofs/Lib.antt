@@ -6,6 +6,9 @@ pub mod CountUnder
 pub mod CountWhole
 pub mod Falling
 pub mod FilledUp
+pub mod GatherWhole
+pub mod Gathers
+pub mod GivenAll
 pub mod Giving
 pub mod Heaps
 pub mod Joined

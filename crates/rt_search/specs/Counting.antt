@@ -8,7 +8,7 @@ use Rattle.rt_tree.specs.declared.tree.Node.{Node}
 use Rattle.rt_search.specs.Answers.{accepted}
 use Rattle.rt_search.specs.Joining.{info_of_child, no_entry}
 use Rattle.rt_search.specs.Remaining.{height_at}
-use Rattle.rt_search.specs.Work.{info_of_node, is_divided, is_kept, work_from}
+use Rattle.rt_search.specs.Work.{info_of_node, is_kept, work_from}
 
 -- an entry counts unless it is NOT
 abbrev pub found_at_entry : Verdict → ℕ
@@ -25,23 +25,26 @@ found_in_entries verdict t of_node n (suc i) =
 abbrev pub accepted_under : Packed → (accepts : Extent → Bool) → (number : ℕ) → ℕ
 accepted_under t accepts number = length (accepted (entries_under t (height_at t number) (node_at t number)) accepts)
 
--- what counting under a node costs
-abbrev pub work_under : (cost : Node → ℕ) → (verdict : Info → Verdict) → Packed → Verdict → (number : ℕ) → ℕ
-work_under cost verdict t v number = work_from is_divided cost verdict t (height_at t number) v (node_at t number)
+-- what the work under an opened node costs
+abbrev pub work_under : (opens : Verdict → Bool) → (cost : Node → ℕ) → (verdict : Info → Verdict) → Packed → Verdict
+    → (number : ℕ) → ℕ
+work_under opens cost verdict t v number = work_from opens cost verdict t (height_at t number) v (node_at t number)
 
--- what it costs under a node that is opened where its state says so
-abbrev pub work_at_child : (cost : Node → ℕ) → (verdict : Info → Verdict) → Packed → Verdict → (number : ℕ) → ℕ
-work_at_child cost verdict t v number = if is_divided v then work_under cost verdict t v number else 0
+-- what it costs under a node that is opened where the test says so of its verdict
+abbrev pub work_at_child : (opens : Verdict → Bool) → (cost : Node → ℕ) → (verdict : Info → Verdict) → Packed
+    → Verdict → (number : ℕ) → ℕ
+work_at_child opens cost verdict t v number = if opens v then work_under opens cost verdict t v number else 0
 
 -- the sum over the first so many children of a node above level 1, by their numbers
 abbrev pub over_children : (ℕ → ℕ) → Node → (so_many : ℕ) → ℕ
 over_children f n zero = 0
 over_children f n (suc i) = over_children f n i + f (n.first + i)
 
--- what counting under each costs
-abbrev pub work_of_child : (cost : Node → ℕ) → (verdict : Info → Verdict) → Packed → Verdict → (number : ℕ) → ℕ
-work_of_child cost verdict t of_node number =
-    work_at_child cost verdict t (verdict (info_of_node t of_node (node_at t number))) number
+-- what the work under each costs
+abbrev pub work_of_child : (opens : Verdict → Bool) → (cost : Node → ℕ) → (verdict : Info → Verdict) → Packed
+    → Verdict → (number : ℕ) → ℕ
+work_of_child opens cost verdict t of_node number =
+    work_at_child opens cost verdict t (verdict (info_of_node t of_node (node_at t number))) number
 
 -- what holds of a node that may be asked about
 pub record IsCountable (t : Packed) (accepts : Extent → Bool) (number : ℕ) (info : Info) : Type 0 where

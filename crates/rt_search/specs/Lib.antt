@@ -1,5 +1,6 @@
 pub mod Answers
 pub mod Counting
+pub mod Gathering
 pub mod Items
 pub mod Joining
 pub mod Kept

@@ -7,7 +7,7 @@ ghost use Rattle.rt_search.specs.Answers.{accepted};
 ghost use Rattle.rt_search.specs.Counting.{IsCountable, accepted_under, found_at_entry, found_in_entries};
 ghost use Rattle.rt_search.specs.Counting.{work_at_child, work_under};
 ghost use Rattle.rt_search.specs.Remaining.{IsBelow, IsOpenable};
-ghost use Rattle.rt_search.specs.Work.{asked_by_count, its_children, one_node, opened_by_count};
+ghost use Rattle.rt_search.specs.Work.{asked_by_count, is_divided, its_children, one_node, opened_by_count};
 
 use crate::counts::Count;
 use crate::frontier::Frontier;
@@ -73,15 +73,15 @@ fn count_under<G: Geometry>(
         IsOpenable tree.now (G.accepts g) (G.score g) number.number parent.verdict }
     requires few { count.old.accepted + (node_at tree.now number.number).size ≤ 2 ^ 32 }
     requires opened { count.old.opened
-        + work_under one_node (G.verdict counted.old.geometry) tree.now parent.verdict number.number ≤ 2 ^ 32 }
+        + work_under is_divided one_node (G.verdict counted.old.geometry) tree.now parent.verdict number.number ≤ 2 ^ 32 }
     requires asked { counted.old.asked
-        + work_under its_children (G.verdict counted.old.geometry) tree.now parent.verdict number.number ≤ 2 ^ 32 }
+        + work_under is_divided its_children (G.verdict counted.old.geometry) tree.now parent.verdict number.number ≤ 2 ^ 32 }
     ensures accepted { count.new.accepted
         ≡ count.old.accepted + accepted_under tree.now (G.accepts counted.old.geometry) number.number }
     ensures opened { count.new.opened ≡ count.old.opened
-        + work_under one_node (G.verdict counted.old.geometry) tree.now parent.verdict number.number }
+        + work_under is_divided one_node (G.verdict counted.old.geometry) tree.now parent.verdict number.number }
     ensures asked { counted.new.asked ≡ counted.old.asked
-        + work_under its_children (G.verdict counted.old.geometry) tree.now parent.verdict number.number }
+        + work_under is_divided its_children (G.verdict counted.old.geometry) tree.now parent.verdict number.number }
     ensures geometry { counted.new.geometry ≡ counted.old.geometry }
 {
     let node = tree.node(number);
@@ -112,15 +112,15 @@ fn count_child<G: Geometry>(
     requires node { IsCountable tree.now (G.accepts counted.old.geometry) number.number info.now }
     requires few { count.old.accepted + (node_at tree.now number.number).size ≤ 2 ^ 32 }
     requires opened { let g = counted.old.geometry in
-        count.old.opened + work_at_child one_node (G.verdict g) tree.now (G.verdict g info.now) number.number ≤ 2 ^ 32 }
+        count.old.opened + work_at_child is_divided one_node (G.verdict g) tree.now (G.verdict g info.now) number.number ≤ 2 ^ 32 }
     requires asked { let g = counted.old.geometry in counted.old.asked + 1
-        + work_at_child its_children (G.verdict g) tree.now (G.verdict g info.now) number.number ≤ 2 ^ 32 }
+        + work_at_child is_divided its_children (G.verdict g) tree.now (G.verdict g info.now) number.number ≤ 2 ^ 32 }
     ensures accepted { count.new.accepted
         ≡ count.old.accepted + accepted_under tree.now (G.accepts counted.old.geometry) number.number }
     ensures opened { let g = counted.old.geometry in count.new.opened ≡ count.old.opened
-        + work_at_child one_node (G.verdict g) tree.now (G.verdict g info.now) number.number }
+        + work_at_child is_divided one_node (G.verdict g) tree.now (G.verdict g info.now) number.number }
     ensures asked { let g = counted.old.geometry in counted.new.asked ≡ counted.old.asked + 1
-        + work_at_child its_children (G.verdict g) tree.now (G.verdict g info.now) number.number }
+        + work_at_child is_divided its_children (G.verdict g) tree.now (G.verdict g info.now) number.number }
     ensures geometry { counted.new.geometry ≡ counted.old.geometry }
 {
     let verdict = counted.check(info);

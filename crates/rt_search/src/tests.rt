@@ -5,7 +5,7 @@ mod random;
 mod uneven;
 mod watched;
 
-use crate::{Count, Frontier, Search, count};
+use crate::{Count, Frontier, FullSearch, Search, count};
 use example::first_answer;
 use rt_geo::{All, Bounds, ById, Counted, Entry, Geometry, Guided, Inside, Near, Point, Window};
 use rt_tree::{Table, Tree};
@@ -87,6 +87,29 @@ fn expect_search<G: Geometry>(
     assert_eq!(rt; frontier.capacity(), tree.len());
 }
 
+// The same of a search for all answers.
+fn expect_full_search<G: Geometry>(
+    rt: &impl Abort,
+    alloc: Global,
+    tree: &Tree,
+    geometry: &G,
+    want: &Want<'_>,
+) {
+    expect_search(rt, alloc, tree, geometry, None, want);
+    let frontier = Frontier::new(alloc, tree.len()).expect(rt, "there is memory");
+    let mut search = FullSearch::start(tree, frontier, Counted::new(geometry));
+    assert_eq!(rt; search.opened(), want.opened);
+    for answer in want.answers {
+        assert_eq!(rt; search.next(), Some(*answer));
+    }
+    assert_eq!(rt; search.next(), None);
+    assert_eq!(rt; search.next(), None);
+    assert_eq!(rt; search.opened(), want.opened);
+    let (frontier, counted) = search.finish();
+    assert_eq!(rt; counted.asked(), want.asked);
+    assert_eq!(rt; frontier.capacity(), tree.len());
+}
+
 fn expect_count<G: Geometry>(
     rt: &impl Abort,
     alloc: Global,
@@ -156,7 +179,7 @@ fn nodes_come_before_entries_at_equal_score(rt: HostRuntime) {
         opened: 6,
         asked: 10,
     };
-    expect_search(&rt, rt.alloc(), &tree, &all_by_id(), None, &want);
+    expect_full_search(&rt, rt.alloc(), &tree, &all_by_id(), &want);
 }
 
 #[test]
@@ -167,7 +190,7 @@ fn a_node_may_score_above_its_children(rt: HostRuntime) {
         opened: 6,
         asked: 10,
     };
-    expect_search(&rt, rt.alloc(), &tree, &Uneven, None, &all);
+    expect_full_search(&rt, rt.alloc(), &tree, &Uneven, &all);
     let first = Want {
         answers: &[(1, 10)],
         opened: 6,
@@ -216,7 +239,7 @@ fn nothing_is_opened_in_an_empty_tree(rt: HostRuntime) {
         opened: 0,
         asked: 0,
     };
-    expect_search(&rt, rt.alloc(), &tree, &all_by_id(), None, &want);
+    expect_full_search(&rt, rt.alloc(), &tree, &all_by_id(), &want);
     expect_count(
         &rt,
         rt.alloc(),
@@ -247,7 +270,7 @@ fn equal_boxes_are_all_opened_for_the_nearest(rt: HostRuntime) {
         opened: 1,
         asked: 2,
     };
-    expect_search(&rt, rt.alloc(), &tree, &window, None, &none);
+    expect_full_search(&rt, rt.alloc(), &tree, &window, &none);
     expect_count(
         &rt,
         rt.alloc(),
@@ -329,7 +352,7 @@ fn at_equal_scores_the_lowest_id_comes_first(rt: HostRuntime) {
         opened: 3,
         asked: 6,
     };
-    expect_search(&rt, rt.alloc(), &tree, &near(3, 4), None, &want);
+    expect_full_search(&rt, rt.alloc(), &tree, &near(3, 4), &want);
 }
 
 // The greatest x of what is shown, in the order in which nodes are opened and their children stand.

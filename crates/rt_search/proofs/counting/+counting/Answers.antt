@@ -1,7 +1,7 @@
 use Rattle.std.proofs.Common.{◌≡◌, ◌<◌, ◌≤◌, ◌+◌, ◌^◌, ◌∙◌, ap, sym, arith, rules}
 use Rattle.rt_tree.specs.Packed.{node_at}
 use Rattle.rt_search.specs.Counting.{found_in_entries}
-use Rattle.rt_search.specs.Work.{info_of_node, info_under, its_children, one_node}
+use Rattle.rt_search.specs.Work.{info_of_node, info_under, is_divided, its_children, one_node}
 use Rattle.rt_search.proofs.Children.{subtree_level}
 use Rattle.rt_search.proofs.CountUnder.{all_accepted, can_ask, inner_found, inner_work, leaf_found, not_accepted}
 use Rattle.rt_search.proofs.CountUnder.{under_few}
@@ -135,7 +135,7 @@ count_under-returns-clause-opened g t c =
     let over = c.loop-i-test.false in
     let i_is : c.loop-i.i ≡ (node_at tree number).count = omega (arith, same_count, over, c.loop-i.auto.i-end) in
     let work = inner_work (g.G.Geometry.accepts geometry) (g.G.Geometry.score geometry)
-    (g.G.Geometry.verdict geometry) law tree c.requires.tree v small number c.requires.node high one_node in
+    (g.G.Geometry.verdict geometry) law tree c.requires.tree v small number c.requires.node high is_divided one_node in
     let inv = rw i_is at c.loop-i.invariant.opened in
     omega (arith, inv, work)
 
@@ -156,6 +156,6 @@ count_under-returns-clause-asked g t c =
     let over = c.loop-i-test.false in
     let i_is : c.loop-i.i ≡ (node_at tree number).count = omega (arith, same_count, over, c.loop-i.auto.i-end) in
     let work = inner_work (g.G.Geometry.accepts geometry) (g.G.Geometry.score geometry)
-    (g.G.Geometry.verdict geometry) law tree c.requires.tree v small number c.requires.node high its_children in
+    (g.G.Geometry.verdict geometry) law tree c.requires.tree v small number c.requires.node high is_divided its_children in
     let inv = rw i_is at c.loop-i.invariant.asked in
     omega (arith, inv, work)

@@ -1,0 +1,18 @@
+use Rattle.std.proofs.Common.{ℤ, ◌∷◌, ◌∙◌, sym, ap, rules, FitsSigned, w64}
+use Rattle.std.proofs.lemmas.Int.{to_z-of_z}
+use Rattle.rt_search.specs.Remaining.{remaining}
+use Rattle.rt_search.proofs.GivenAll.{given}
+use Rattle.rt_search.proofs.full_search.FullSearch.next.Goals as goal
+
+pub returns-clause-answer : goal.returns-clause-answer
+returns-clause-answer g c =
+    let geometry = c.self.inside.counted.geometry in
+    let accepts = g.G.Geometry.accepts geometry in
+    let score = g.G.Geometry.score geometry in
+    let tree = c.self.inside.tree.now in
+    let e = c.in_ok-entry.entry in
+    let fits : FitsSigned w64 e.id = search rules in
+    sym (ap (λ s. s.to_come) c.self.view_is)
+    ∙ given accepts score tree c.take.result e c.self.inside.frontier.items c.take.new.self.items c.in_ok-entry.was
+    c.self.invariant c.take.ensures.items c.take.ensures.least
+    ∙ ap (λ (i : ℤ). (i, e.score) ∷ remaining tree accepts score c.take.new.self.items) (sym (to_z-of_z w64 e.id fits))

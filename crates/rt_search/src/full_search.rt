@@ -1,0 +1,105 @@
+//! Searches for all answers.
+
+ghost use Rattle.std.specs.Prelude.{◌≡◌, ◌≤◌, [], ◌∷◌, None, IfNone, MatchOption, length};
+ghost use Rattle.rt_search.specs.Answers.{answers};
+ghost use Rattle.rt_search.specs.Work.{HasWorked};
+
+use crate::frontier::Frontier;
+use crate::gathering::gather;
+use rt_geo::{Counted, Geometry};
+use rt_tree::Tree;
+use std::marker::Model;
+
+/// A search that finds all answers to a query, and then gives them one at a time, those of the lowest score first. It
+/// opens the nodes that a [`Search`](crate::Search) without a limit opens, all of them before the first answer, and
+/// takes less time.
+///
+/// It is seen as for what is searched, the answers still to come, the nodes opened and the checks made, and the
+/// capacity of its frontier.
+pub struct FullSearch<'a, G: Geometry> {
+    tree: &'a Tree,
+    frontier: Frontier,
+    counted: Counted<'a, G>,
+    opened: u64,
+}
+
+impl<'a, G: Geometry> Model for FullSearch<'a, G> {
+    ghost use Rattle.rt_search.specs.Gathering.{AllEntries};
+    ghost use Rattle.rt_search.specs.Remaining.{remaining};
+    ghost use Rattle.rt_search.specs.Searching.{FullSearching};
+
+    ghost Value = { FullSearching G };
+
+    ghost view = { λ s. let g = s.counted.geometry in record {
+      geometry = g;
+      to_come = remaining s.tree.now (G.accepts g) (G.score g) s.frontier.items;
+      opened = s.opened;
+      asked = s.counted.asked;
+      capacity = s.frontier.capacity;
+    } };
+
+    ghost invariant = { λ s. AllEntries s.frontier.items };
+}
+
+impl<'a, G: Geometry> FullSearch<'a, G> {
+    /// A search for all answers. What the frontier held is given up.
+    pub fn start(tree: &'a Tree, frontier: Frontier, counted: Counted<'a, G>) -> FullSearch<'a, G>
+        requires capacity { length tree.now.entries ≤ frontier.capacity }
+        requires asked { counted.asked ≡ 0 }
+        ensures to_come { let g = counted.entry.geometry in
+            result.to_come ≡ answers tree.now.entries (G.accepts g) (G.score g) None }
+
+        // The work is that of a search without a limit.
+        ensures worked { let g = counted.entry.geometry in
+            HasWorked (G.accepts g) (G.score g) (G.verdict g) tree.now None result.opened result.asked }
+
+        ensures geometry { result.geometry ≡ counted.entry.geometry }
+        ensures capacity { result.capacity ≡ frontier.capacity }
+    {
+        let mut frontier = frontier;
+        let mut counted = counted;
+        let opened = gather(tree, &mut frontier, &mut counted);
+        FullSearch {
+            tree,
+            frontier,
+            counted,
+            opened,
+        }
+    }
+
+    /// The next answer, as its id and score. `None` where none is left, and from then on.
+    pub fn next(&mut self) -> Option<(i64, u128)>
+        ensures answer { MatchOption result (self.old.to_come ≡ []) (λ a. self.old.to_come ≡ a ∷ self.new.to_come) }
+        ensures none { IfNone result (self.new.to_come ≡ []) }
+        ensures opened { self.new.opened ≡ self.old.opened }
+        ensures asked { self.new.asked ≡ self.old.asked }
+        ensures geometry { self.new.geometry ≡ self.old.geometry }
+        ensures capacity { self.new.capacity ≡ self.old.capacity }
+    {
+        // (no node waits)
+        let entry = self.frontier.take().entry?;
+        Some((entry.id, entry.score))
+    }
+
+    /// How many nodes were opened.
+    pub fn opened(&self) -> u64
+        ensures { result ≡ self.now.opened }
+    {
+        self.opened
+    }
+
+    /// The frontier, for the next search, and the geometry with the number of its checks.
+    pub fn finish(self) -> (Frontier, Counted<'a, G>)
+        ensures capacity { result.0.capacity ≡ self.entry.capacity }
+        ensures geometry { result.1.geometry ≡ self.entry.geometry }
+        ensures asked { result.1.asked ≡ self.entry.asked }
+    {
+        let FullSearch {
+            tree: _,
+            frontier,
+            counted,
+            opened: _,
+        } = self;
+        (frontier, counted)
+    }
+}
