@@ -1,22 +1,19 @@
 -- What is kept in any order, seen as items in order.
-use Rattle.std.proofs.Common.{◌≡◌, ◌<◌, ◌≤◌, ◌^◌, ℕ, false, List, [], ◌∷◌, map, length, get_or, sym, ◌∙◌, ap}
+use Rattle.std.proofs.Common.{◌≡◌, ◌<◌, ◌≤◌, ℕ, false, List, [], ◌∷◌, map, length, get_or, sym, ◌∙◌, ap}
 use Rattle.std.proofs.Common.{subst, arith, Result, Ok, Err, IsPermutation}
 use Rattle.std.specs.Prelude.{IsOk, OnOk}
 use Rattle.std.specs.List.{AllByRecursion}
-use Rattle.std.specs.Ordering.{is_gt, is_lt}
+use Rattle.std.specs.Ordering.{is_gt, is_lt, nat_cmp}
 use Rattle.std.specs.declared.cmp.Reverse.{Reverse}
 use Rattle.std.proofs.lemmas.List.{length-map}
 use Rattle.std.proofs.lemmas.List.Sorted.{IsPermutation-map}
 use Rattle.rt_tree.specs.Sorting.{put, sorted}
 use Rattle.rt_search.specs.Items.{item_cmp}
-use Rattle.rt_search.specs.Kept.{IsEntry, IsFirstScore, IsHead, IsLeast, IsNode, entry_item, gathered_item, in_order, node_item}
-use Rattle.rt_search.specs.contracts.item.FoundEntryOrd.TheImpl.{ghosts as entry_ghosts}
-use Rattle.rt_search.specs.contracts.nodes.NodeKeyOrd.TheImpl.{ghosts as key_ghosts}
-use Rattle.rt_search.specs.declared.item.FoundEntry.{FoundEntry}
+use Rattle.rt_search.specs.Kept.{IsEntry, IsFirstScore, IsHead, IsLeast, IsNode, entry_item, in_order, node_item, wide_item}
+use Rattle.rt_search.specs.contracts.item.ItemOrd.TheImpl.{ghosts as item_ghosts}
 use Rattle.rt_search.specs.declared.item.Item.{Item}
-use Rattle.rt_search.specs.declared.nodes.NodeKey.{NodeKey}
 use Rattle.rt_search.proofs.OrderedLists.{length-put_all, put_all-IsPermutation, put_all-all, put_all-nil, put_least}
-use Rattle.rt_search.proofs.Orders.{entry_derived, item_order, node_derived, score_upto}
+use Rattle.rt_search.proofs.Orders.{entry_derived, item_order, node_derived, score_upto, wide_derived}
 
 pub on_ok : {T E P : Type 0} (r : Result T E) → IsOk r → OnOk r P → P
 on_ok (Ok x) h p = p
@@ -93,26 +90,27 @@ module _ {X : Type 0} (item : X → Item) where
       → IsFirstScore (item top).score (in_order item xs)
   top_is_first xs top some h a = head_score (item top) (in_order item xs) (top_is_head xs top some h a)
 
--- ---- the two heaps, by the orders that their elements derive
+-- ---- keys and items, by the orders that they derive
 
-pub nodes_after : (top : Reverse NodeKey) (ns : List (Reverse NodeKey)) → top.0.low < 2 ^ 64
-    → AllByRecursion (λ y. is_lt (key_ghosts.cmp y.0 top.0) ≡ false) ns → IsLeastOf node_item (node_item top) ns
-nodes_after top [] small a = tt
-nodes_after top (n ∷ ns) small a = (node_derived n top small a.0, nodes_after top ns small a.1)
+pub nodes_after : (k : ℕ) (ns : List (Reverse ℕ)) → AllByRecursion (λ j. is_lt (nat_cmp j.0 k) ≡ false) ns
+    → IsLeastOf node_item (node_item (record { 0 = k })) ns
+nodes_after k [] a = tt
+nodes_after k (n ∷ ns) a = (node_derived n (record { 0 = k }) a.0, nodes_after k ns a.1)
 
-pub entries_after : (top : Reverse FoundEntry) (es : List (Reverse FoundEntry))
-    → AllByRecursion (λ y. is_lt (entry_ghosts.cmp y.0 top.0) ≡ false) es → IsLeastOf entry_item (entry_item top) es
-entries_after top [] a = tt
-entries_after top (e ∷ es) a = (entry_derived e top ∙ a.0, entries_after top es a.1)
+pub entries_after : (k : ℕ) (es : List (Reverse ℕ)) → AllByRecursion (λ j. is_lt (nat_cmp j.0 k) ≡ false) es
+    → IsLeastOf entry_item (entry_item (record { 0 = k })) es
+entries_after k [] a = tt
+entries_after k (e ∷ es) a = (entry_derived e (record { 0 = k }) ∙ a.0, entries_after k es a.1)
 
-pub all_nodes : (ns : List (Reverse NodeKey)) → AllByRecursion (λ n. IsNode (node_item n).place) ns
+pub wide_after : (top : Reverse Item) (xs : List (Reverse Item))
+    → AllByRecursion (λ y. is_lt (item_ghosts.cmp y.0 top.0) ≡ false) xs → IsLeastOf wide_item (wide_item top) xs
+wide_after top [] a = tt
+wide_after top (x ∷ xs) a = (wide_derived x top ∙ a.0, wide_after top xs a.1)
+
+pub all_nodes : (ns : List (Reverse ℕ)) → AllByRecursion (λ n. IsNode (node_item n).place) ns
 all_nodes [] = tt
 all_nodes (n ∷ ns) = (tt, all_nodes ns)
 
-pub all_entries : (es : List (Reverse FoundEntry)) → AllByRecursion (λ e. IsEntry (entry_item e).place) es
+pub all_entries : (ns : List (Reverse ℕ)) → AllByRecursion (λ n. IsEntry (entry_item n).place) ns
 all_entries [] = tt
-all_entries (e ∷ es) = (tt, all_entries es)
-
-pub all_gathered : (ks : List (Reverse ℕ)) → AllByRecursion (λ k. IsEntry (gathered_item k).place) ks
-all_gathered [] = tt
-all_gathered (k ∷ ks) = (tt, all_gathered ks)
+all_entries (n ∷ ns) = (tt, all_entries ns)

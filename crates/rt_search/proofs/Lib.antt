@@ -14,9 +14,12 @@ pub mod Heaps
 pub mod Joined
 pub mod Merging
 pub mod Orders
+pub mod PooledItems
+pub mod Pools
 pub mod OrderedLists
 pub mod Sizes
 pub mod Starting
 pub mod Stepping
+pub mod Widths
 pub mod Working
 pub mod ZeroScores

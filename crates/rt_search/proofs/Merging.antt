@@ -167,7 +167,7 @@ node_least x (y ∷ ys) r p q h a =
     let m = a.0 in
     (node_before x.score y.score x.place y.place p q.0 (omega (arith, h, m)), node_least x ys r p q.1 h a.1)
 
-lower_least : (x : Item) (ys : List Item) (r : ℕ) → x.score < r → AllByRecursion (λ y. r ≤ y.score) ys → IsLeast x ys
+pub lower_least : (x : Item) (ys : List Item) (r : ℕ) → x.score < r → AllByRecursion (λ y. r ≤ y.score) ys → IsLeast x ys
 lower_least x [] r h a = tt
 lower_least x (y ∷ ys) r h a =
     let m = a.0 in

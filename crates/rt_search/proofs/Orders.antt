@@ -13,15 +13,12 @@ use Rattle.std.proofs.lemmas.Cmp.{int_cmp_total, nat_cmp_total, on_total, then_t
 use Rattle.std.proofs.lemmas.Map.Lookups.{CmpEqualImpliesEq, exact_signed, exact_unsigned}
 use Rattle.rt_search.specs.Answers.{Answer, answer_cmp}
 use Rattle.rt_search.specs.Items.{item_at, item_cmp, node_cmp, place_cmp}
-use Rattle.rt_search.specs.Kept.{IsEntry, IsNode, entry_item, gathered_item, node_item, node_of, zero_item}
-use Rattle.rt_search.specs.contracts.item.FoundEntryOrd.TheImpl.{ghosts as entry_ghosts}
-use Rattle.rt_search.specs.contracts.nodes.NodeKeyOrd.TheImpl.{ghosts as key_ghosts}
-use Rattle.rt_search.specs.declared.item.FoundEntry.{FoundEntry}
+use Rattle.rt_search.specs.Kept.{IsEntry, IsNode, entry_item, node_item, tail_node, wide_item, zero_item}
+use Rattle.rt_search.specs.contracts.item.ItemOrd.TheImpl.{ghosts as item_ghosts}
 use Rattle.rt_search.specs.declared.item.Item.{Item}
 use Rattle.rt_search.specs.declared.item.Place.{Place}
 use Rattle.rt_search.specs.declared.item.Place.TheVariants.{Node, Entry}
 use Rattle.rt_search.specs.declared.item.WaitingNode.{WaitingNode}
-use Rattle.rt_search.specs.declared.nodes.NodeKey.{NodeKey}
 use Rattle.rt_search.proofs.OrderedLists.{IsOrder, order_of}
 
 then_equal : (o p : Ordering) → ordering_then o p ≡ Equal → (o ≡ Equal) × (p ≡ Equal)
@@ -139,12 +136,6 @@ node_before s r (Entry id) q' p q h = absurd p
 not_after : (x y : Item) → is_gt (item_cmp x y) ≡ is_lt (item_cmp y x)
 not_after x y = sym (item_order.turned x y)
 
--- what doesn't come first by the halves of a score, the higher first, doesn't by the score
-by_halves : (h l k m : ℕ) (o p : Ordering) → l < 2 ^ 64 → (is_lt o ≡ false → is_lt p ≡ false)
-    → is_lt (ordering_then (nat_cmp k h) (ordering_then (nat_cmp m l) o)) ≡ false
-    → is_lt (ordering_then (nat_cmp (k * 2 ^ 64 + m) (h * 2 ^ 64 + l)) p) ≡ false
-by_halves h l k m o p small f e = grind (arith, nat_tests)
-
 -- what doesn't come first by a word doesn't by its higher half and then whether there is anything in the lower one
 by_parts : (h l k m : ℕ) → l < 2 ^ 32 → m < 2 ^ 32 → is_lt (nat_cmp (h * 2 ^ 32 + l) (k * 2 ^ 32 + m)) ≡ false
     → is_lt (ordering_then (nat_cmp h k) (bool_cmp (nat_lt 0 l) (nat_lt 0 m))) ≡ false
@@ -157,32 +148,55 @@ by_tail f g e =
     by_parts (f / 2 ^ 32) (f % 2 ^ 32) (g / 2 ^ 32) (g % 2 ^ 32) (mod-lt f (omega arith))
     (mod-lt g (omega arith)) (rw (div-add-mod' f (2 ^ 32), div-add-mod' g (2 ^ 32)) e)
 
--- where a node doesn't come before another in the order that it derives, neither does its item
-pub node_derived : (m n : Reverse NodeKey) → n.0.low < 2 ^ 64 → is_lt (key_ghosts.cmp m.0 n.0) ≡ false
+-- what doesn't come first by a key doesn't by its score and then its tail
+by_score : (s l r m : ℕ) (o : Ordering) → l < 2 ^ 64 → m < 2 ^ 64 → (is_lt (nat_cmp l m) ≡ false → is_lt o ≡ false)
+    → is_lt (nat_cmp (s * 2 ^ 64 + l) (r * 2 ^ 64 + m)) ≡ false
+    → is_lt (ordering_then (nat_cmp s r) o) ≡ false
+by_score s l r m o low small f e = grind (arith, nat_tests)
+
+-- where a node doesn't come before another by its key, neither does its item
+pub node_derived : (m n : Reverse ℕ) → is_lt (nat_cmp m.0 n.0) ≡ false
     → is_gt (item_cmp (node_item n) (node_item m)) ≡ false
-node_derived m n small e =
+node_derived m n e =
     not_after (node_item n) (node_item m)
-    ∙ by_halves n.0.high n.0.low m.0.high m.0.low
-    (nat_cmp m.0.tail n.0.tail) (node_cmp (node_of m.0) (node_of n.0)) small (by_tail m.0.tail n.0.tail) e
+    ∙ by_score (m.0 / 2 ^ 64) (m.0 % 2 ^ 64) (n.0 / 2 ^ 64) (n.0 % 2 ^ 64)
+    (node_cmp (tail_node (m.0 % 2 ^ 64)) (tail_node (n.0 % 2 ^ 64))) (mod-lt m.0 (omega arith))
+    (mod-lt n.0 (omega arith)) (by_tail (m.0 % 2 ^ 64) (n.0 % 2 ^ 64))
+    (rw (div-add-mod' m.0 (2 ^ 64), div-add-mod' n.0 (2 ^ 64)) e)
 
--- and an entry
-pub entry_derived : (d e : Reverse FoundEntry) → is_gt (item_cmp (entry_item e) (entry_item d))
-    ≡ is_lt (entry_ghosts.cmp d.0 e.0)
-entry_derived d e = not_after (entry_item e) (entry_item d)
-
--- also by its number, whose lower half has how far the id is above the least
+-- and an entry, whose tail has how far the id is above the least
 by_numbers : (s l r m : ℕ) → l < 2 ^ 64 → m < 2 ^ 64
     → is_lt (ordering_then (nat_cmp s r) (int_cmp (pos l -ℤ pos (2 ^ 63)) (pos m -ℤ pos (2 ^ 63))))
     ≡ is_lt (nat_cmp (s * 2 ^ 64 + l) (r * 2 ^ 64 + m))
 by_numbers s l r m low small = grind (arith, ints, nat_tests)
 
-pub gathered_derived : (d e : Reverse ℕ) → is_gt (item_cmp (gathered_item e) (gathered_item d))
-    ≡ is_lt (nat_cmp d.0 e.0)
-gathered_derived d e =
-    not_after (gathered_item e) (gathered_item d)
+pub entry_derived : (d e : Reverse ℕ) → is_gt (item_cmp (entry_item e) (entry_item d)) ≡ is_lt (nat_cmp d.0 e.0)
+entry_derived d e =
+    not_after (entry_item e) (entry_item d)
     ∙ by_numbers (d.0 / 2 ^ 64) (d.0 % 2 ^ 64) (e.0 / 2 ^ 64) (e.0 % 2 ^ 64) (mod-lt d.0 (omega arith))
     (mod-lt e.0 (omega arith))
     ∙ rw (div-add-mod' d.0 (2 ^ 64), div-add-mod' e.0 (2 ^ 64)) refl
+
+lt_is : (j k : ℕ) → nat_lt j k ≡ is_lt (nat_cmp j k)
+lt_is j k = grind (arith, nat_tests)
+
+-- the lower key is that of the entry which comes first
+pub lower_key : (j k : ℕ)
+    → nat_lt j k ≡ is_gt (item_cmp (entry_item (record { 0 = k })) (entry_item (record { 0 = j })))
+lower_key j k = lt_is j k ∙ sym (entry_derived (record { 0 = j }) (record { 0 = k }))
+
+-- and an item as it is
+items_derived : (s r : ℕ) (p q : Place) → item_ghosts.cmp (item_at s p) (item_at r q)
+    ≡ item_cmp (item_at s p) (item_at r q)
+items_derived s r (Node m) (Node n) = refl
+items_derived s r (Node m) (Entry j) = refl
+items_derived s r (Entry i) (Node n) = refl
+items_derived s r (Entry i) (Entry j) = refl
+
+pub wide_derived : (d e : Reverse Item) → is_gt (item_cmp (wide_item e) (wide_item d)) ≡ is_lt (item_ghosts.cmp d.0 e.0)
+wide_derived d e =
+    not_after (wide_item e) (wide_item d)
+    ∙ ap is_lt (sym (items_derived d.0.score e.0.score d.0.place e.0.place))
 
 -- and an entry of score 0, by its id alone
 pub zero_derived : (d e : Reverse ℤ) → is_gt (item_cmp (zero_item e) (zero_item d)) ≡ is_lt (int_cmp d.0 e.0)

@@ -1,5 +1,5 @@
 -- How a frontier keeps its items. Nothing that a public call promises speaks of this.
-use Rattle.std.specs.Prelude.{◌≡◌, ◌<◌, ◌≤◌, ◌+◌, ◌*◌, ◌/◌, ◌%◌, ◌^◌, ◌-ℤ◌, ℕ, ℤ, pos, nat_lt, Bool, true, false, if◌then◌else◌}
+use Rattle.std.specs.Prelude.{◌≡◌, ◌<◌, ◌≤◌, ◌/◌, ◌%◌, ◌^◌, ◌-ℤ◌, ℕ, ℤ, pos, nat_lt, Bool, true, false, if◌then◌else◌}
 use Rattle.std.specs.Prelude.{Option, Some, None, List, [], ◌∷◌, length, map, vec_capacity}
 use Rattle.std.specs.BinaryHeap.{IsHeap, heap_capacity, heap_items, heap_len}
 use Rattle.std.specs.List.{AllByRecursion}
@@ -18,26 +18,21 @@ use Rattle.rt_search.specs.declared.item.Place.TheVariants.{Node, Entry}
 use Rattle.rt_search.specs.declared.item.ScoredNode.{ScoredNode}
 use Rattle.rt_search.specs.declared.item.Taken.{Taken}
 use Rattle.rt_search.specs.declared.item.WaitingNode.{WaitingNode}
-use Rattle.rt_search.specs.declared.nodes.NodeKey.{NodeKey}
 
--- the node that a key stands for
-abbrev pub node_of : NodeKey → WaitingNode
-node_of k = record { number = record { number = k.tail / 2 ^ 32 }; is_full = nat_lt 0 (k.tail % 2 ^ 32) }
+-- the node of a tail: its number, and below it whether it is full
+abbrev pub tail_node : ℕ → WaitingNode
+tail_node tail = record { number = record { number = tail / 2 ^ 32 }; is_full = nat_lt 0 (tail % 2 ^ 32) }
 
--- a node that waits, as an item: by its key, which has its score in halves, and as a heap keeps it
-abbrev pub key_item : NodeKey → Item
-key_item k = item_at (k.high * 2 ^ 64 + k.low) (Node (node_of k))
+-- items by their keys, which have the score and below it a tail: a node, or how far the id of an entry is above the least
+abbrev pub node_item : Reverse ℕ → Item
+node_item r = item_at (r.0 / 2 ^ 64) (Node (tail_node (r.0 % 2 ^ 64)))
 
-abbrev pub node_item : Reverse NodeKey → Item
-node_item r = key_item r.0
+abbrev pub entry_item : Reverse ℕ → Item
+entry_item r = item_at (r.0 / 2 ^ 64) (Entry (pos (r.0 % 2 ^ 64) -ℤ pos (2 ^ 63)))
 
--- an entry that was found, as an item
-abbrev pub entry_item : Reverse FoundEntry → Item
-entry_item r = item_at r.0.score (Entry r.0.id)
-
--- the same by one number, which has the score and below it how far the id is above the least
-abbrev pub gathered_item : Reverse ℕ → Item
-gathered_item r = item_at (r.0 / 2 ^ 64) (Entry (pos (r.0 % 2 ^ 64) -ℤ pos (2 ^ 63)))
+-- an item by itself
+abbrev pub wide_item : Reverse Item → Item
+wide_item r = r.0
 
 -- an entry of score 0, by its id, as an item
 abbrev pub zero_item : Reverse ℤ → Item
@@ -110,6 +105,12 @@ pub record IsMerged (first second : Waiting) (capacity : ℕ) : Type 0 where
   pub few : length (put_all item_cmp first.items second.items) ≤ capacity
   pub narrow : capacity < 2 ^ 32
 
+-- items whose score is one word, and others
+pub record IsSplit (narrow wide : Waiting) (capacity : ℕ) : Type 0 where
+  pub merged : IsMerged narrow wide capacity
+  pub low : AllByRecursion (λ x. x.score < 2 ^ 64) narrow.items
+  pub high : AllByRecursion (λ x. 2 ^ 64 ≤ x.score) wide.items
+
 -- entries of score 0, and others of higher scores
 pub record IsFound (zeros scored : Waiting) (capacity : ℕ) : Type 0 where
   pub merged : IsMerged zeros scored capacity
@@ -140,8 +141,8 @@ IsLeastScore s (x ∷ xs) = IsFirstScore s (x ∷ xs)
 -- in order, or with the least score known; it has room for so many and holds no more
 pub record IsGathered {A : Type 0} (keys : Vec (Reverse ℕ) A) (least : ℕ) (is_sorted : Bool) (capacity : ℕ)
     : Type 0 where
-  pub unsorted : is_sorted ≡ false → IsLeastScore least (in_order gathered_item keys.items)
-  pub falling : is_sorted ≡ true → IsFalling gathered_item keys.items
+  pub unsorted : is_sorted ≡ false → IsLeastScore least (in_order entry_item keys.items)
+  pub falling : is_sorted ≡ true → IsFalling entry_item keys.items
   pub room : capacity ≤ vec_capacity keys
   pub few : length keys.items ≤ capacity
 

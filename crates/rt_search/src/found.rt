@@ -66,7 +66,7 @@ impl Found {
 
     /// Puts an entry in where it is wanted.
     #[inline(always)]
-    pub fn offer(&mut self, is_wanted: bool, score: u128, id: i64)
+    pub fn offer(&mut self, is_wanted: bool, score: u64, id: i64)
         requires { length self.old.items < self.old.capacity }
         ensures items { self.new.items ≡ offered is_wanted (item_at score (place.Entry id)) self.old.items }
         ensures capacity { self.new.capacity ≡ self.old.capacity }
@@ -81,7 +81,7 @@ impl Found {
     }
 
     #[inline(always)]
-    pub fn first_score(&self) -> Option<u128>
+    pub fn first_score(&self) -> Option<u64>
         ensures first { MatchOption result (self.now.items ≡ []) (λ s. IsFirstScore s self.now.items) }
         ensures entries { AllByRecursion (λ x. IsEntry x.place) self.now.items }
     {

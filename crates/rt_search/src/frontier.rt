@@ -9,7 +9,7 @@ ghost use Rattle.rt_search.specs.Kept.{offered, taken_item};
 ghost use Rattle.rt_tree.specs.Sorting.{put};
 
 use crate::item::{Taken, WaitingNode};
-use crate::merged::Merged;
+use crate::split::Split;
 use std::alloc::{AllocError, Global};
 use std::marker::Model;
 
@@ -19,7 +19,7 @@ use std::marker::Model;
 /// pointer to them, as it is handed on with each query.
 #[derive(Drop)]
 pub struct Frontier {
-    waiting: Box<Merged>,
+    waiting: Box<Split>,
 }
 
 impl Model for Frontier {
@@ -37,7 +37,7 @@ impl Frontier {
         ensures items { IfOk result (λ f. f.items ≡ []) }
         ensures capacity { IfOk result (λ f. f.capacity ≡ capacity) }
     {
-        let waiting = Box::new(alloc, Merged::new(alloc, capacity)?)?;
+        let waiting = Box::new(alloc, Split::new(alloc, capacity)?)?;
         Ok(Frontier { waiting })
     }
 

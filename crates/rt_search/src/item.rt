@@ -1,5 +1,8 @@
 //! What waits in a frontier.
 
+ghost use Rattle.std.specs.Prelude.{◌≡◌, MatchOption, false, true};
+ghost use Rattle.rt_search.specs.Kept.{taken_item};
+
 use rt_tree::NodeNo;
 
 /// A node that waits to be opened.
@@ -12,7 +15,7 @@ pub struct WaitingNode {
 }
 
 /// What an item stands for, nodes before entries.
-#[derive(Clone, Copy)]
+#[derive(Clone, Copy, PartialEq, Eq, PartialOrd, Ord)]
 pub enum Place {
     /// All answers under a node.
     Node(WaitingNode),
@@ -22,7 +25,7 @@ pub enum Place {
 
 /// An item of the frontier. The least is taken out first: that of the lowest score; at equal score nodes before
 /// entries, nodes by number and entries by id.
-#[derive(Clone, Copy)]
+#[derive(Clone, Copy, PartialEq, Eq, PartialOrd, Ord)]
 pub struct Item {
     /// An entry's score; a node's is at most that of each answer under it.
     pub score: u128,
@@ -39,8 +42,8 @@ pub struct ScoredNode {
     pub node: WaitingNode,
 }
 
-/// An entry that was found, in the order of items.
-#[derive(Clone, Copy, PartialEq, Eq, PartialOrd, Ord)]
+/// An entry that was found.
+#[derive(Clone, Copy)]
 pub struct FoundEntry {
     /// Its score.
     pub score: u128,
@@ -56,4 +59,37 @@ pub struct Taken {
     pub node: Option<ScoredNode>,
     /// The entry, where there is no node.
     pub entry: Option<FoundEntry>,
+}
+
+impl Taken {
+    /// This item, or nothing.
+    pub fn of(item: Option<Item>) -> Taken
+        ensures { taken_item result ≡ item }
+    {
+        let Some(item) = item else {
+            return Taken {
+                node: None,
+                entry: None,
+            };
+        };
+        let score = item.score;
+        match item.place {
+            Place::Node(node) => Taken {
+                node: Some(ScoredNode { score, node }),
+                entry: None,
+            },
+            Place::Entry(id) => Taken {
+                node: None,
+                entry: Some(FoundEntry { score, id }),
+            },
+        }
+    }
+
+    /// Whether anything was taken out.
+    #[inline(always)]
+    pub fn is_any(self) -> bool
+        ensures { MatchOption (taken_item self) (result ≡ false) (λ _. result ≡ true) }
+    {
+        self.node.is_some() || self.entry.is_some()
+    }
 }

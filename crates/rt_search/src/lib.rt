@@ -18,12 +18,16 @@ mod full_search;
 mod gathered;
 mod gathering;
 mod item;
+mod keys;
 mod late;
-mod merged;
+mod narrow;
 mod nodes;
 mod opening;
+mod pool;
 mod scored;
 mod search;
+mod split;
+mod wide;
 mod zeros;
 
 pub use counting::count;

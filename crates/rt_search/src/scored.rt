@@ -16,11 +16,8 @@ use std::marker::Model;
 // So few entries are sorted anew each time that one is found, which takes less than a heap.
 const FEW: usize = 15;
 
-// The least score that takes more than a word. Entries from there on are rare, and all late.
-const WIDE: u128 = 1 << 64;
-
 /// Entries that were found: those that are gathered, and the late ones, which are found once more than a few were
-/// gathered and the first of these was taken out, or have a score of more than a word.
+/// gathered and the first of these was taken out.
 ///
 /// It is seen as the items that they are, in order, and its capacity, which is that of both.
 #[derive(Drop)]
@@ -75,19 +72,19 @@ impl Scored {
     }
 
     #[inline(always)]
-    pub fn put(&mut self, score: u128, id: i64)
+    pub fn put(&mut self, score: u64, id: i64)
         requires { length self.old.items < self.old.capacity }
         ensures items { self.new.items ≡ put item_cmp (item_at score (place.Entry id)) self.old.items }
         ensures capacity { self.new.capacity ≡ self.old.capacity }
     {
-        if self.is_started || WIDE <= score {
+        if self.is_started {
             self.late.put(score, id);
             return;
         }
-        self.gathered.put(score as u64, id);
+        self.gathered.put(score, id);
     }
 
-    pub fn first_score(&self) -> Option<u128>
+    pub fn first_score(&self) -> Option<u64>
         ensures first { MatchOption result (self.now.items ≡ []) (λ s. IsFirstScore s self.now.items) }
         ensures entries { AllByRecursion (λ x. IsEntry x.place) self.now.items }
     {
@@ -107,7 +104,7 @@ impl Scored {
         ensures capacity { self.new.capacity ≡ self.old.capacity }
     {
         self.is_started = self.is_started || FEW < self.gathered.len();
-        if is_gathered_next(&mut self.gathered, &self.late) {
+        if is_gathered_next(&mut self.gathered, &mut self.late) {
             return self.gathered.take();
         }
         self.late.take()
@@ -116,17 +113,17 @@ impl Scored {
 
 // Whether the next entry is among those gathered, which are then in order, if there are late ones.
 #[inline(always)]
-fn is_gathered_next(gathered: &mut Gathered, late: &Late) -> bool
-    ensures next { MatchBool result (IsAhead gathered.new.items late.now.items)
-        (IsAhead late.now.items gathered.new.items) }
-    ensures items { gathered.new.items ≡ gathered.old.items }
-    ensures capacity { gathered.new.capacity ≡ gathered.old.capacity }
+fn is_gathered_next(gathered: &mut Gathered, late: &mut Late) -> bool
+    ensures next { MatchBool result (IsAhead gathered.new.items late.new.items)
+        (IsAhead late.new.items gathered.new.items) }
+    ensures gathered { (gathered.new.items ≡ gathered.old.items) × (gathered.new.capacity ≡ gathered.old.capacity) }
+    ensures late { (late.new.items ≡ late.old.items) × (late.new.capacity ≡ late.old.capacity) }
 {
-    let Some(late_first) = late.first() else {
+    let Some(late_key) = late.first_key() else {
         return true;
     };
-    let Some(first) = gathered.first() else {
+    let Some(key) = gathered.first_key() else {
         return false;
     };
-    first.cmp(&late_first).is_lt()
+    key < late_key
 }

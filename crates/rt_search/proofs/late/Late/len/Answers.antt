@@ -1,16 +1,16 @@
 use Rattle.std.proofs.Common.{◌∙◌, ap, sym, arith, length}
-use Rattle.std.specs.BinaryHeap.{heap_items}
 use Rattle.rt_search.specs.Kept.{entry_item}
+use Rattle.rt_search.specs.Pooling.{keys_in}
 use Rattle.rt_search.proofs.Heaps.{length-in_order}
 use Rattle.rt_search.proofs.late.Late.len.Goals as goal
 
 pub returns-clause-value : goal.returns-clause-value
 returns-clause-value c =
-    let n = length-in_order entry_item (heap_items c.self.inside.heap) in
-    c.len.ensures ∙ c.self.invariant.counted ∙ sym n ∙ ap (λ w. length w.items) c.self.view_is
+    c.len.ensures.value ∙ sym (length-in_order entry_item (keys_in c.self.inside.pool))
+    ∙ ap (λ w. length w.items) c.self.view_is
 
 pub returns-clause-room : goal.returns-clause-room
 returns-clause-room c =
-    let n = length-in_order entry_item (heap_items c.self.inside.heap) in
-    let few = c.self.invariant.few in
-    rw (← c.self.view_is) (omega (arith, n, few))
+    let n = length-in_order entry_item (keys_in c.self.inside.pool) in
+    let room = c.len.ensures.room in
+    rw (← c.self.view_is) (omega (arith, n, room))

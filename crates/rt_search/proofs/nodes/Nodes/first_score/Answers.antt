@@ -1,23 +1,18 @@
-use Rattle.std.proofs.Common.{◌<◌, length, refl, subst, arith}
+use Rattle.std.proofs.Common.{◌≡◌, [], refl, subst}
+use Rattle.std.specs.Prelude.{MatchOption}
 use Rattle.std.specs.List.{AllByRecursion}
-use Rattle.std.specs.BinaryHeap.{heap_items}
 use Rattle.rt_search.specs.Kept.{IsFirstScore, IsNode, node_item}
-use Rattle.rt_search.proofs.Heaps.{all_nodes, in_order-all, nodes_after, top_is_first}
+use Rattle.rt_search.specs.Pooling.{keys_in}
+use Rattle.rt_search.proofs.Heaps.{all_nodes, in_order-all}
+use Rattle.rt_search.proofs.PooledItems.{firsts}
 use Rattle.rt_search.proofs.nodes.Nodes.first_score.Goals as goal
 
 pub returns-clause-first : goal.returns-clause-first
 returns-clause-first c =
-    let e = c.in_ok-top.ensures in
-    let k = c.self.invariant in
-    let v = e.variant.0 refl in
-    let n = k.counted in
-    let some : 0 < length (heap_items c.self.inside.heap) = omega (arith, v, n) in
-    rw c.score.ensures.value (subst (λ w. IsFirstScore (node_item c.in_ok-top.top.now).score w.items) c.self.view_is
-    (top_is_first node_item (heap_items c.self.inside.heap) c.in_ok-top.top.now some e.lookup
-    (nodes_after _ _ c.score.ensures.low (e.greatest k.ordered))))
+    subst (λ w. MatchOption c.first_score.result (w.items ≡ []) (λ s. IsFirstScore s w.items)) c.self.view_is
+    (firsts node_item (λ k. refl) c.first_score.result (keys_in c.self.inside.pool) c.first_score.ensures)
 
 pub returns-clause-nodes : goal.returns-clause-nodes
 returns-clause-nodes c =
     subst (λ w. AllByRecursion (λ x. IsNode x.place) w.items) c.self.view_is
-    (in_order-all node_item (λ x. IsNode x.place) (heap_items c.self.inside.heap)
-    (all_nodes (heap_items c.self.inside.heap)))
+    (in_order-all node_item (λ x. IsNode x.place) (keys_in c.self.inside.pool) (all_nodes (keys_in c.self.inside.pool)))

@@ -1,37 +1,20 @@
-use Rattle.std.proofs.Common.{◌∙◌, ap, arith, rules}
-use Rattle.std.specs.Prelude.{IsOk}
-use Rattle.std.specs.BinaryHeap.{heap_items}
-use Rattle.std.proofs.lemmas.List.Sorted.{length_permutation}
+use Rattle.std.proofs.Common.{◌∙◌, ap, arith}
 use Rattle.rt_tree.specs.Sorting.{put}
 use Rattle.rt_search.specs.Items.{item_at, item_cmp}
 use Rattle.rt_search.specs.Kept.{in_order, node_item}
+use Rattle.rt_search.specs.Pooling.{keys_in}
 use Rattle.rt_search.specs.declared.item.Place.TheVariants as place
-use Rattle.rt_search.proofs.Heaps.{length-in_order, on_ok, pushed}
+use Rattle.rt_search.proofs.Heaps.{length-in_order, pushed}
 use Rattle.rt_search.proofs.nodes.Nodes.put.Goals as goal
 
-pub invariant_of-self : goal.invariant_of-self
-invariant_of-self c =
+pub put-requires : goal.put-requires
+put-requires c =
     let h = rw (← c.self.view_is) at c.requires in
-    let n = length-in_order node_item (heap_items c.self.inside.heap) in
-    let k = c.self.invariant in
-    let e = c.push-pushed.ensures in
-    let ok : IsOk c.push-pushed.result = e.succeeds (omega arith) in
-    let moved = on_ok c.push-pushed.result ok e.permutation in
-    let long = length_permutation _ _ moved in
-    record {
-      ordered = search rules;
-      room = search rules;
-      counted = search rules;
-      few = omega (arith, long, h, n);
-    }
+    let n = length-in_order node_item (keys_in c.self.inside.pool) in
+    omega (arith, h, n)
 
 pub returns-clause-items : goal.returns-clause-items
 returns-clause-items c =
-    let h = rw (← c.self.view_is) at c.requires in
-    let n = length-in_order node_item (heap_items c.self.inside.heap) in
-    let k = c.self.invariant in
-    let ok : IsOk c.push-pushed.result = c.push-pushed.ensures.succeeds (omega arith) in
-    let old = in_order node_item (heap_items c.self.inside.heap) in
-    pushed node_item _ _ _ (on_ok c.push-pushed.result ok c.push-pushed.ensures.permutation)
-    ∙ ap (λ x. put item_cmp x old) c.new.ensures
+    pushed node_item _ _ _ c.put.ensures.keys
+    ∙ ap (λ x. put item_cmp x (in_order node_item (keys_in c.self.inside.pool))) c.node_key.ensures
     ∙ ap (λ w. put item_cmp (item_at c.args.score (place.Node c.args.node)) w.items) c.self.view_is

@@ -11,13 +11,13 @@ invariant_of-self c =
     let e = c.take.ensures in
     let k = c.self.invariant in
     let left = c.is_gathered_next.new.gathered.items in
-    let right = c.self.inside.late.items in
+    let right = c.is_gathered_next.new.late.items in
     record {
-      first_room = e.capacity ∙ c.if-is_gathered_next.ensures.capacity ∙ k.first_room;
-      second_room = k.second_room;
+      first_room = e.capacity ∙ c.if-is_gathered_next.ensures.gathered.1 ∙ k.first_room;
+      second_room = c.if-is_gathered_next.ensures.late.1 ∙ k.second_room;
       few =
           fewer_left (taken_entry c.take.result) left c.take.new.self.items right _ e.items e.none
-          (rw c.if-is_gathered_next.ensures.items k.few);
+          (rw (c.if-is_gathered_next.ensures.gathered.0, c.if-is_gathered_next.ensures.late.0) k.few);
       narrow = k.narrow;
     }
 
@@ -26,25 +26,26 @@ invariant_of-self-2 c =
     let e = c.take-2.ensures in
     let k = c.self.invariant in
     let left = c.is_gathered_next.new.gathered.items in
-    let right = c.self.inside.late.items in
+    let right = c.is_gathered_next.new.late.items in
     record {
-      first_room = c.if-is_gathered_next.ensures.capacity ∙ k.first_room;
-      second_room = e.capacity ∙ k.second_room;
+      first_room = c.if-is_gathered_next.ensures.gathered.1 ∙ k.first_room;
+      second_room = e.capacity ∙ c.if-is_gathered_next.ensures.late.1 ∙ k.second_room;
       few =
           fewer_right (taken_entry c.take-2.result) left right c.take-2.new.self.items _ e.items e.none
-          (rw c.if-is_gathered_next.ensures.items k.few);
+          (rw (c.if-is_gathered_next.ensures.gathered.0, c.if-is_gathered_next.ensures.late.0) k.few);
       narrow = k.narrow;
     }
 
 pub returns-then-is_gathered_next-clause-items : goal.returns-then-is_gathered_next-clause-items
 returns-then-is_gathered_next-clause-items c =
     let left = c.is_gathered_next.new.gathered.items in
-    let right = c.self.inside.late.items in
+    let right = c.is_gathered_next.new.late.items in
     let new = c.take.new.self.items in
     let e = c.take.ensures in
     let n = c.if-is_gathered_next.ensures in
     subst (λ l. MatchOption (taken_entry c.take.result) (l ≡ []) (λ x. l ≡ x ∷ put_all item_cmp new right))
-    (ap (λ l. put_all item_cmp l right) n.items ∙ ap (λ w. w.items) c.self.view_is)
+    (ap (λ l. put_all item_cmp l right) n.gathered.0 ∙ ap (put_all item_cmp c.self.inside.gathered.items) n.late.0
+    ∙ ap (λ w. w.items) c.self.view_is)
     (taken_left (taken_entry c.take.result) left new right e.items e.least n.next)
 
 pub returns-then-is_gathered_next-clause-least : goal.returns-then-is_gathered_next-clause-least
@@ -56,12 +57,13 @@ returns-then-is_gathered_next-clause-least c =
 pub returns-clause-items : goal.returns-clause-items
 returns-clause-items c =
     let left = c.is_gathered_next.new.gathered.items in
-    let right = c.self.inside.late.items in
+    let right = c.is_gathered_next.new.late.items in
     let new = c.take-2.new.self.items in
     let e = c.take-2.ensures in
     let n = c.if-is_gathered_next.ensures in
     subst (λ l. MatchOption (taken_entry c.take-2.result) (l ≡ []) (λ x. l ≡ x ∷ put_all item_cmp left new))
-    (ap (λ l. put_all item_cmp l right) n.items ∙ ap (λ w. w.items) c.self.view_is)
+    (ap (λ l. put_all item_cmp l right) n.gathered.0 ∙ ap (put_all item_cmp c.self.inside.gathered.items) n.late.0
+    ∙ ap (λ w. w.items) c.self.view_is)
     (taken_right (taken_entry c.take-2.result) left right new e.items e.least n.next)
 
 pub returns-clause-least : goal.returns-clause-least

@@ -1,0 +1,69 @@
+-- Keys, seen as items in order.
+use Rattle.std.proofs.Common.{◌≡◌, ◌≤◌, ℕ, Bool, true, false, cond, Option, Some, None, List, [], ◌∷◌, ⊎_elim}
+use Rattle.std.proofs.Common.{refl, sym, ◌∙◌, ap, subst, arith}
+use Rattle.std.specs.Prelude.{MatchOption}
+use Rattle.std.specs.List.{AllByRecursion}
+use Rattle.std.specs.Ordering.{is_gt}
+use Rattle.std.specs.declared.cmp.Reverse.{Reverse}
+use Rattle.rt_tree.specs.Sorting.{put}
+use Rattle.rt_search.specs.Items.{item_cmp}
+use Rattle.rt_search.specs.Kept.{IsFirstScore, IsHead, IsLeast, in_order}
+use Rattle.rt_search.specs.Pooling.{HasLeastScore, IsLowest, IsTop, score_in}
+use Rattle.rt_search.specs.declared.item.Item.{Item}
+use Rattle.rt_search.proofs.Falling.{first_put, lesser_right}
+use Rattle.rt_search.proofs.Heaps.{IsLeastOf, in_order-all, popped_least}
+use Rattle.rt_search.proofs.OrderedLists.{put-all, put_least}
+use Rattle.rt_search.proofs.Orders.{item_order, score_upto}
+
+-- x has the least score
+put_first : (s : ℕ) (x : Item) (ys : List Item) → s ≡ x.score → AllByRecursion (λ y. s ≤ y.score) ys
+    → IsFirstScore s (put item_cmp x ys)
+put_first s x [] e a = (e, tt)
+put_first s x (y ∷ ys) e a =
+    let split : (b : Bool) → is_gt (item_cmp x y) ≡ b → IsFirstScore s (cond b (y ∷ put item_cmp x ys) (x ∷ y ∷ ys)) = elim [
+      | true ↦ λ t.
+          let f = score_upto y x (item_order.one_way x y t) in
+          let m = a.0 in
+          (omega (arith, e, f, m), put-all item_cmp item_order (λ z. s ≤ z.score) x ys (omega (arith, e)) a.1)
+      | false ↦ λ t. (e, a)
+    ] in
+    split (is_gt (item_cmp x y)) refl
+
+module _ (item : Reverse ℕ → Item) (scored : (k : Reverse ℕ) → score_in k ≡ (item k).score) where
+  all_scored : (s : ℕ) (ks : List (Reverse ℕ)) → AllByRecursion (λ k. s ≤ score_in k) ks
+      → AllByRecursion (λ k. s ≤ (item k).score) ks
+  all_scored s [] a = tt
+  all_scored s (k ∷ ks) a = let m = a.0 in (omega (arith, scored k, m), all_scored s ks a.1)
+
+  -- the least score is that of the first item
+  first_of_least : (s : ℕ) (ks : List (Reverse ℕ)) → HasLeastScore s ks → IsFirstScore s (in_order item ks)
+  first_of_least s [] h = absurd h.0
+  first_of_least s (k ∷ ks) h =
+      let m = h.1.0 in
+      ⊎_elim
+      (λ e. put_first s (item k) (in_order item ks) (sym e ∙ scored k)
+      (in_order-all item (λ y. s ≤ y.score) ks (all_scored s ks h.1.1)))
+      (λ r. subst (λ n. IsFirstScore n (put item_cmp (item k) (in_order item ks)))
+      (lesser_right s (item k).score (omega (arith, scored k, m)))
+      (first_put (Some s) (item k) (in_order item ks) (first_of_least s ks (r, h.1.1))))
+      h.0
+
+  pub firsts : (r : Option ℕ) (ks : List (Reverse ℕ)) → MatchOption r (ks ≡ []) (λ s. HasLeastScore s ks)
+      → MatchOption r (in_order item ks ≡ []) (λ s. IsFirstScore s (in_order item ks))
+  firsts None ks h = ap (in_order item) h
+  firsts (Some s) ks h = first_of_least s ks h
+
+  module _ (after : (k : ℕ) (ks : List (Reverse ℕ)) → IsLowest k ks → IsLeastOf item (item (record { 0 = k })) ks) where
+    -- the lowest key is that of the first item
+    head_of_top : (k : ℕ) (ks : List (Reverse ℕ)) → IsTop k ks → IsHead (item (record { 0 = k })) (in_order item ks)
+    head_of_top k [] h = absurd h
+    head_of_top k (j ∷ js) h =
+        let top : Reverse ℕ = record { 0 = k } in
+        let least : IsLeast (item top) (in_order item js) = popped_least item top js (after k js h.1) in
+        subst (λ t. IsHead (item top) (in_order item (t ∷ js))) h.0
+        (subst (IsHead (item top)) (sym (put_least item_cmp item_order (item top) (in_order item js) least)) (refl, least))
+
+    pub heads : (r : Option ℕ) (ks : List (Reverse ℕ)) → MatchOption r (ks ≡ []) (λ k. IsTop k ks)
+        → MatchOption r (in_order item ks ≡ []) (λ k. IsHead (item (record { 0 = k })) (in_order item ks))
+    heads None ks h = ap (in_order item) h
+    heads (Some k) ks h = head_of_top k ks h

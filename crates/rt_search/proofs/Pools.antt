@@ -1,0 +1,191 @@
+-- Keys, those that are near and those that are far.
+use Rattle.std.proofs.Common.{◌≡◌, ◌<◌, ◌≤◌, ◌+◌, ◌-◌, ◌*◌, ◌/◌, ◌^◌, ◌%◌, inl, inr, ℕ, zero, suc, Bool, true, false, cond, nat_lt}
+use Rattle.std.proofs.Common.{Option, Some, None, List, [], ◌∷◌, ◌++◌, length, take, drop, set, get_or, refl, sym, ◌∙◌, ap, ⊎_elim}
+use Rattle.std.proofs.Common.{subst, arith, IsPermutation}
+use Rattle.std.specs.Prelude.{MatchOption}
+use Rattle.std.specs.List.{AllByRecursion, swap_remove}
+use Rattle.std.specs.Ordering.{is_lt, nat_cmp}
+use Rattle.std.specs.declared.cmp.Reverse.{Reverse}
+use Rattle.std.proofs.Math.Nat.{mod-lt}
+use Rattle.std.proofs.lemmas.Bool.{ltb-false, ltb-true}
+use Rattle.std.proofs.lemmas.Bool.Decides.{nat_tests}
+use Rattle.std.proofs.lemmas.List.{append_assoc, length-set, length-take-le, take-append-drop, take-append-le, take-set}
+use Rattle.std.proofs.lemmas.List.Elements.{All-from_recursion, recursion_from_All}
+use Rattle.std.proofs.lemmas.List.Sorted.{All-permutation, IsPermutation-append_left, IsPermutation-append_right}
+use Rattle.std.proofs.lemmas.List.Sorted.{IsPermutation-middle, IsPermutation-to_front}
+use Rattle.std.proofs.lemmas.List.Sorted.{IsPermutation-sym, IsPermutation-trans, length_permutation}
+use Rattle.std.proofs.lemmas.Nat.{div-add-mod'}
+use Rattle.rt_search.specs.Kept.{lesser}
+use Rattle.rt_search.specs.Pooling.{HasLeastScore, HasScore, IsFar, IsLowest, IsTop, score_in}
+
+-- ---- lists
+
+pub all_moved : {X : Type 0} (P : X → Type 0) (xs ys : List X) → IsPermutation xs ys → AllByRecursion P xs
+    → AllByRecursion P ys
+all_moved P xs ys h a = recursion_from_All P ys (All-permutation P xs ys h (All-from_recursion P xs a))
+
+pub all_append : {X : Type 0} (P : X → Type 0) (xs ys : List X) → AllByRecursion P xs → AllByRecursion P ys
+    → AllByRecursion P (xs ++ ys)
+all_append P [] ys a b = b
+all_append P (x ∷ xs) ys a b = (a.0, all_append P xs ys a.1 b)
+
+-- what is put into the first of two lists
+pub put_left : {X : Type 0} (x : X) (xs ys zs : List X) → IsPermutation (x ∷ xs) ys
+    → IsPermutation (x ∷ xs ++ zs) (ys ++ zs)
+put_left x xs ys zs h = IsPermutation-append_left zs (x ∷ xs) ys h
+
+-- at the end of the second
+pub put_right : {X : Type 0} (x : X) (xs zs : List X) → IsPermutation (x ∷ xs ++ zs) (xs ++ (zs ++ x ∷ []))
+put_right x xs zs =
+    subst (IsPermutation (x ∷ xs ++ zs)) (append_assoc xs zs (x ∷ []))
+    (IsPermutation-sym ((xs ++ zs) ++ x ∷ []) (x ∷ xs ++ zs) (IsPermutation-to_front (xs ++ zs) x))
+
+-- what moves from the second to the first
+pub moved_over : {X : Type 0} (x : X) (xs ys zs ws : List X) → IsPermutation zs (x ∷ ws) → IsPermutation (x ∷ xs) ys
+    → IsPermutation (xs ++ zs) (ys ++ ws)
+moved_over x xs ys zs ws h k =
+    IsPermutation-trans _ _ _ (IsPermutation-append_right xs zs (x ∷ ws) h)
+    (IsPermutation-trans _ _ _ (IsPermutation-middle xs x ws) (put_left x xs ys ws k))
+
+pub same_read : {X : Type 0} (xs : List X) (i : ℕ) (d e : X) → i < length xs → get_or xs i d ≡ get_or xs i e
+same_read [] i d e h = absurd (omega (arith, h))
+same_read (x ∷ xs) zero d e h = refl
+same_read (x ∷ xs) (suc i) d e h = same_read xs i d e (omega (arith, h))
+
+-- what stands before the one that is taken out stays
+pub take-swap_remove : {X : Type 0} (xs : List X) (i : ℕ) (d : X) → i < length xs
+    → take i (swap_remove xs i d) ≡ take i xs
+take-swap_remove xs i d h =
+    let n = length xs - 1 in
+    let ys = set xs i (get_or xs n d) in
+    let long = length-set xs i (get_or xs n d) in
+    let cut = length-take-le n ys (omega (arith, long)) in
+    sym (take-append-le i (take n ys) (drop n ys) (omega (arith, cut, h))) ∙ ap (take i) (take-append-drop n ys)
+    ∙ take-set xs i (get_or xs n d)
+
+-- ---- keys by their scores
+
+-- by the halves of two numbers
+lower_by_halves : (h l k m : ℕ) → l < 2 ^ 64 → m < 2 ^ 64 → h < k
+    → is_lt (nat_cmp (k * 2 ^ 64 + m) (h * 2 ^ 64 + l)) ≡ false
+lower_by_halves h l k m low small e = grind (arith, nat_tests)
+
+scores_by_halves : (h l k m : ℕ) → l < 2 ^ 64 → m < 2 ^ 64
+    → is_lt (nat_cmp (k * 2 ^ 64 + m) (h * 2 ^ 64 + l)) ≡ false → h ≤ k
+scores_by_halves h l k m low small e = grind (arith, nat_tests)
+
+-- a higher score is that of a key that isn't lower
+lower_score : (k j : ℕ) → k / 2 ^ 64 < j / 2 ^ 64 → is_lt (nat_cmp j k) ≡ false
+lower_score k j e =
+    rw (← div-add-mod' k (2 ^ 64), ← div-add-mod' j (2 ^ 64))
+    (lower_by_halves (k / 2 ^ 64) (k % 2 ^ 64) (j / 2 ^ 64) (j % 2 ^ 64) (mod-lt k (omega arith)) (mod-lt j (omega arith)) e)
+
+-- and a key that isn't lower has no lower score
+score_rises : (k j : ℕ) → is_lt (nat_cmp j k) ≡ false → k / 2 ^ 64 ≤ j / 2 ^ 64
+score_rises k j e =
+    scores_by_halves (k / 2 ^ 64) (k % 2 ^ 64) (j / 2 ^ 64) (j % 2 ^ 64) (mod-lt k (omega arith)) (mod-lt j (omega arith))
+    (rw (div-add-mod' k (2 ^ 64), div-add-mod' j (2 ^ 64)) e)
+
+-- none that is far is lower than one that is near
+pub far_after : (e k : ℕ) (js : List (Reverse ℕ)) → k / 2 ^ 64 ≤ e → AllByRecursion (λ j. e < score_in j) js
+    → IsLowest k js
+far_after e k [] h a = tt
+far_after e k (j ∷ js) h a = let m = a.0 in (lower_score k j.0 (omega (arith, h, m)), far_after e k js h a.1)
+
+lowest_scores : (k : ℕ) (js : List (Reverse ℕ)) → IsLowest k js → AllByRecursion (λ j. k / 2 ^ 64 ≤ score_in j) js
+lowest_scores k [] a = tt
+lowest_scores k (j ∷ js) a = (score_rises k j.0 a.0, lowest_scores k js a.1)
+
+-- ---- the first of those near is the least of all
+
+pub top_of : (e : ℕ) (top : Reverse ℕ) (near far : List (Reverse ℕ)) → 0 < length near → top ≡ get_or near 0 top
+    → IsLowest top.0 near → AllByRecursion (λ k. score_in k ≤ e) near → AllByRecursion (λ k. e < score_in k) far
+    → IsTop top.0 (near ++ far)
+top_of e top [] far some h a low high = absurd (omega (arith, some))
+top_of e top (k ∷ near) far some h a low high =
+    let s : score_in top ≤ e = rw h low.0 in
+    (h, all_append (λ j. is_lt (nat_cmp j.0 top.0) ≡ false) near far a.1 (far_after e top.0 far s high))
+
+pub top_score : (k : ℕ) (ks : List (Reverse ℕ)) → IsTop k ks → HasLeastScore (k / 2 ^ 64) ks
+top_score k [] h = absurd h
+top_score k (j ∷ js) h =
+    let e : k ≡ j.0 = ap (λ r. r.0) h.0 in
+    (inl (ap (λ n. n / 2 ^ 64) (sym e)), (omega (arith, ap (λ n. n / 2 ^ 64) e), lowest_scores k js h.1))
+
+-- what is taken from those near is the least of all
+pub taken_near : (top : Reverse ℕ) (old near far : List (Reverse ℕ)) → IsPermutation old (top ∷ near)
+    → IsPermutation (old ++ far) (top ∷ near ++ far)
+taken_near top old near far h = IsPermutation-append_left far old (top ∷ near) h
+
+pub taken_lowest : (e : ℕ) (top : Reverse ℕ) (old near far : List (Reverse ℕ)) → IsPermutation old (top ∷ near)
+    → IsLowest top.0 near → AllByRecursion (λ k. score_in k ≤ e) old → AllByRecursion (λ k. e < score_in k) far
+    → IsLowest top.0 (near ++ far)
+taken_lowest e top old near far h a low high =
+    let s = (all_moved (λ k. score_in k ≤ e) old (top ∷ near) h low).0 in
+    all_append (λ j. is_lt (nat_cmp j.0 top.0) ≡ false) near far a (far_after e top.0 far s high)
+
+-- ---- the least score of those far
+
+has_left : (s : ℕ) (ks js : List (Reverse ℕ)) → HasScore s ks → HasScore s (ks ++ js)
+has_left s [] js h = absurd h
+has_left s (k ∷ ks) js h = ⊎_elim inl (λ r. inr (has_left s ks js r)) h
+
+has_right : (s : ℕ) (ks js : List (Reverse ℕ)) → HasScore s js → HasScore s (ks ++ js)
+has_right s [] js h = h
+has_right s (k ∷ ks) js h = inr (has_right s ks js h)
+
+has_last : (ks : List (Reverse ℕ)) (k : Reverse ℕ) → HasScore (score_in k) (ks ++ k ∷ [])
+has_last [] k = inl refl
+has_last (j ∷ ks) k = inr (has_last ks k)
+
+scores_down : (s r : ℕ) (ks : List (Reverse ℕ)) → s ≤ r → AllByRecursion (λ k. r ≤ score_in k) ks
+    → AllByRecursion (λ k. s ≤ score_in k) ks
+scores_down s r [] h a = tt
+scores_down s r (k ∷ ks) h a = let m = a.0 in (omega (arith, h, m), scores_down s r ks h a.1)
+
+-- after one more
+least_more : (r : Option ℕ) (ks : List (Reverse ℕ)) (k : Reverse ℕ) → MatchOption r (ks ≡ []) (λ s. HasLeastScore s ks)
+    → HasLeastScore (lesser r (score_in k)) (ks ++ k ∷ [])
+least_more None ks k h = subst (λ l. HasLeastScore (score_in k) (l ++ k ∷ [])) (sym h) (inl refl, (omega arith, tt))
+least_more (Some r) ks k h =
+    let split : (b : Bool) → nat_lt (score_in k) r ≡ b → HasLeastScore (cond b (score_in k) r) (ks ++ k ∷ []) = elim [
+      | true ↦ λ e.
+          let low = ltb-true (score_in k) r e in (
+            has_last ks k,
+            all_append (λ j. score_in k ≤ score_in j) ks (k ∷ [])
+                (scores_down (score_in k) r ks (omega (arith, low)) h.1) (omega arith, tt),
+          )
+      | false ↦ λ e.
+          let high = ltb-false (score_in k) r e in
+          (has_left r ks (k ∷ []) h.0, all_append (λ j. r ≤ score_in j) ks (k ∷ []) h.1 (omega (arith, high), tt))
+    ] in
+    split (nat_lt (score_in k) r) refl
+
+pub far_more : (e : ℕ) (r : Option ℕ) (ks : List (Reverse ℕ)) (k : Reverse ℕ) → IsFar ks e r → e < score_in k
+    → IsFar (ks ++ k ∷ []) e (Some (lesser r (score_in k)))
+far_more e r ks k h m = record {
+  high = all_append (λ j. e < score_in j) ks (k ∷ []) h.high (m, tt);
+  known = least_more r ks k h.known;
+}
+
+-- a score up to the edge isn't far
+not_far : (s e : ℕ) (ks : List (Reverse ℕ)) → HasScore s ks → s ≤ e → AllByRecursion (λ k. e < score_in k) ks → ⊥
+not_far s e [] h le a = h
+not_far s e (k ∷ ks) h le a =
+    let m = a.0 in
+    ⊎_elim (λ i. absurd (omega (arith, i, m, le))) (λ r. not_far s e ks r le a.1) h
+
+-- once the edge has passed the least score some are near
+pub some_near : (s e : ℕ) (near far ks js : List (Reverse ℕ)) → HasScore s far → s ≤ e
+    → IsPermutation (near ++ far) (ks ++ js) → AllByRecursion (λ k. e < score_in k) js → ks ≡ [] → js ≡ []
+some_near s e near far ks js h le p a none =
+    let q : IsPermutation js (near ++ far) =
+    IsPermutation-sym (near ++ far) js (subst (λ l. IsPermutation (near ++ far) (l ++ js)) none p) in
+    absurd (not_far s e (near ++ far) (has_right s near far h) le (all_moved (λ k. e < score_in k) js (near ++ far) q a))
+
+pub no_elements : {X : Type 0} (xs : List X) → length xs ≡ 0 → xs ≡ []
+no_elements [] h = refl
+no_elements (x ∷ xs) h = absurd (omega (arith, h))
+
+pub none_kept : {X : Type 0} (xs ys : List X) → IsPermutation xs ys → ys ≡ [] → xs ≡ []
+none_kept xs ys h e = no_elements xs (omega (arith, length_permutation xs ys h, ap length e))

@@ -1,0 +1,34 @@
+-- Items whose score is one word, and others, which come after them.
+use Rattle.std.proofs.Common.{◌≡◌, ◌<◌, ◌≤◌, ◌^◌, Bool, true, false, Option, Some, None, List, [], ◌∷◌, sym, subst}
+use Rattle.std.specs.Prelude.{IfNone, MatchOption}
+use Rattle.std.specs.List.{AllByRecursion}
+use Rattle.std.proofs.lemmas.Bool.{false≢true}
+use Rattle.rt_search.specs.Items.{item_cmp}
+use Rattle.rt_search.specs.Kept.{IsAhead, offered}
+use Rattle.rt_search.specs.declared.item.Item.{Item}
+use Rattle.rt_search.proofs.Merging.{lower_least}
+use Rattle.rt_search.proofs.OrderedLists.{put-all}
+use Rattle.rt_search.proofs.Orders.{item_order}
+
+-- where one was taken from the narrow items, these are ahead
+pub narrow_ahead : (r : Option Item) (old new wide : List Item) → MatchOption r (true ≡ false) (λ _. true ≡ true)
+    → MatchOption r (old ≡ []) (λ x. old ≡ x ∷ new) → AllByRecursion (λ x. x.score < 2 ^ 64) old
+    → AllByRecursion (λ y. 2 ^ 64 ≤ y.score) wide → IsAhead old wide
+narrow_ahead None old new wide some e low high = absurd (false≢true (sym some))
+narrow_ahead (Some x) old new wide some e low high =
+    subst (λ l. IsAhead l wide) (sym e)
+    (lower_least x wide (2 ^ 64) (subst (AllByRecursion (λ y. y.score < 2 ^ 64)) e low).0 high)
+
+-- ---- what holds of each item
+
+-- also of those left
+pub left-all : (P : Item → Type 0) (r : Option Item) (old new : List Item)
+    → MatchOption r (old ≡ []) (λ x. old ≡ x ∷ new) → IfNone r (new ≡ []) → AllByRecursion P old → AllByRecursion P new
+left-all P None old new e n a = subst (AllByRecursion P) (sym n) tt
+left-all P (Some x) old new e n a = (subst (AllByRecursion P) e a).1
+
+-- and with one that joins where it is wanted
+pub offered-all : (P : Item → Type 0) (b : Bool) (x : Item) (xs : List Item) → P x → AllByRecursion P xs
+    → AllByRecursion P (offered b x xs)
+offered-all P true x xs p a = put-all item_cmp item_order P x xs p a
+offered-all P false x xs p a = a

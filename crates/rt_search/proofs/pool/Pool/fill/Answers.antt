@@ -1,0 +1,29 @@
+use Rattle.std.proofs.Common.{arith}
+use Rattle.std.specs.BinaryHeap.{heap_items}
+use Rattle.std.proofs.lemmas.List.Sorted.{length_permutation}
+use Rattle.rt_search.proofs.Pools.{some_near}
+use Rattle.rt_search.proofs.pool.Pool.fill.Goals as goal
+
+pub invariant_of-self : goal.invariant_of-self
+invariant_of-self c =
+    let k = c.self.invariant in
+    let e = c.move_near-self-inside.ensures in
+    let room = k.near_room in
+    let grown = e.near_capacity in
+    let far_room = k.far_room in
+    let few = k.few in
+    let total = length_permutation _ _ e.same in
+    record {
+      inside = e.near;
+      outside = e.far;
+      near_room = omega (arith, room, grown);
+      far_room = rw e.far_capacity far_room;
+      few = omega (arith, few, total);
+    }
+
+pub returns-clause-filled : goal.returns-clause-filled
+returns-clause-filled c =
+    let e = c.move_near-self-inside.ensures in
+    let known = rw c.in-Some.is at c.self.invariant.outside.known in
+    some_near c.in-Some.least c.edge_beyond-self-inside.result (heap_items c.self.inside.near) c.self.inside.far.items
+    _ _ known.0 c.edge_beyond-self-inside.ensures e.same e.far.high

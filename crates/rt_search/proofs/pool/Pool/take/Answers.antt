@@ -1,0 +1,53 @@
+use Rattle.std.proofs.Common.{◌≡◌, ◌≤◌, [], ◌∷◌, ◌++◌, ap, sym, ◌∙◌, arith}
+use Rattle.std.specs.BinaryHeap.{heap_items}
+use Rattle.std.proofs.lemmas.List.Sorted.{IsPermutation-trans, length_permutation}
+use Rattle.rt_search.specs.Pooling.{score_in}
+use Rattle.rt_search.proofs.Pools.{all_moved, no_elements, none_kept, taken_lowest, taken_near}
+use Rattle.rt_search.proofs.pool.Pool.take.Goals as goal
+
+pub returns-in_default-clause-keys : goal.returns-in_default-clause-keys
+returns-in_default-clause-keys c =
+    let counted = c.self.invariant.inside.counted in
+    let none = c.in_default.ensures.none in
+    let near : heap_items c.self.inside.near ≡ [] = no_elements _ (sym counted ∙ none) in
+    let far = rw (← c.self.view_is) at c.fill.ensures.filled near in
+    none_kept _ _ (rw (← c.self.view_is) at c.fill.ensures.same) (ap (λ l. l ++ c.self.inside.far.items) near ∙ far)
+
+pub invariant_of-self-2 : goal.invariant_of-self-2
+invariant_of-self-2 c =
+    let k = c.self.invariant in
+    let e = c.in-Some.ensures in
+    let counted = k.inside.counted in
+    let few = k.few in
+    let room = k.near_room in
+    let fewer = length_permutation _ _ e.permutation in
+    let total = length_permutation _ _ (taken_near c.in-Some.top (heap_items c.self.inside.near) _
+    c.self.inside.far.items e.permutation) in
+    let long = e.len in
+    record {
+      inside = record {
+        ordered = (e.heap_order k.inside.ordered).0;
+        counted = omega (arith, counted, fewer, long);
+        low = (all_moved (λ j. score_in j ≤ c.self.inside.edge) (heap_items c.self.inside.near) (c.in-Some.top ∷ _)
+            e.permutation k.inside.low).1;
+      };
+      outside = k.outside;
+      near_room = rw e.capacity room;
+      far_room = k.far_room;
+      few = omega (arith, few, total);
+    }
+
+pub returns-clause-keys : goal.returns-clause-keys
+returns-clause-keys c =
+    let near = heap_items c.self.inside.near in
+    let far = c.self.inside.far.items in
+    let same = rw (← c.self.view_is) at c.fill.ensures.same in
+    IsPermutation-trans _ (near ++ far) _ same
+    (taken_near c.in-Some.top near (heap_items c.pop.new.self) far c.in-Some.ensures.permutation)
+
+pub returns-clause-least : goal.returns-clause-least
+returns-clause-least c =
+    let k = c.self.invariant in
+    let e = c.in-Some.ensures in
+    taken_lowest c.self.inside.edge c.in-Some.top (heap_items c.self.inside.near) (heap_items c.pop.new.self)
+    c.self.inside.far.items e.permutation (e.below_top k.inside.ordered) k.inside.low k.outside.high

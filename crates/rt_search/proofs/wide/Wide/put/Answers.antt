@@ -1,0 +1,34 @@
+use Rattle.std.proofs.Common.{◌∙◌, ap, arith, rules}
+use Rattle.std.specs.Prelude.{IsOk}
+use Rattle.std.specs.BinaryHeap.{heap_items}
+use Rattle.std.proofs.lemmas.List.Sorted.{length_permutation}
+use Rattle.rt_tree.specs.Sorting.{put}
+use Rattle.rt_search.specs.Items.{item_cmp}
+use Rattle.rt_search.specs.Kept.{wide_item}
+use Rattle.rt_search.proofs.Heaps.{length-in_order, on_ok, pushed}
+use Rattle.rt_search.proofs.wide.Wide.put.Goals as goal
+
+pub invariant_of-self : goal.invariant_of-self
+invariant_of-self c =
+    let h = rw (← c.self.view_is) at c.requires in
+    let n = length-in_order wide_item (heap_items c.self.inside.heap) in
+    let k = c.self.invariant in
+    let e = c.push-pushed.ensures in
+    let ok : IsOk c.push-pushed.result = e.succeeds (omega arith) in
+    let moved = on_ok c.push-pushed.result ok e.permutation in
+    let long = length_permutation _ _ moved in
+    record {
+      ordered = search rules;
+      room = search rules;
+      counted = search rules;
+      few = omega (arith, long, h, n);
+    }
+
+pub returns-clause-items : goal.returns-clause-items
+returns-clause-items c =
+    let h = rw (← c.self.view_is) at c.requires in
+    let n = length-in_order wide_item (heap_items c.self.inside.heap) in
+    let k = c.self.invariant in
+    let ok : IsOk c.push-pushed.result = c.push-pushed.ensures.succeeds (omega arith) in
+    pushed wide_item _ _ _ (on_ok c.push-pushed.result ok c.push-pushed.ensures.permutation)
+    ∙ ap (λ w. put item_cmp c.args.item w.items) c.self.view_is

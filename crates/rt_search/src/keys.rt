@@ -1,0 +1,70 @@
+//! Items whose score is one word, in one number each.
+//!
+//! A key holds the score, and below it a tail of one word. So keys of entries stand in the order of these, and so do
+//! those of nodes, and each is moved and compared at once.
+
+ghost use Rattle.std.specs.Prelude.{◌≡◌, ◌/◌, ◌^◌};
+ghost use Rattle.rt_search.specs.declared.item.Place.TheVariants as place;
+ghost use Rattle.rt_search.specs.Items.{item_at};
+ghost use Rattle.rt_search.specs.Kept.{entry_item, node_item};
+
+use crate::item::{FoundEntry, ScoredNode, WaitingNode};
+use rt_tree::NodeNo;
+
+// How many tails there are, and so how far a key rises from one score to the next.
+const TAILS: u128 = 1 << 64;
+
+// How far a tail rises from one node's number to the next.
+const ONE_NUMBER: u64 = 1 << 32;
+
+/// The score in a key.
+#[inline(always)]
+pub fn score_of(key: u128) -> u64
+    ensures { result ≡ key / 2 ^ 64 }
+{
+    (key / TAILS) as u64
+}
+
+/// An entry's key: its tail is how far the id is above the least.
+#[inline(always)]
+pub fn entry_key(score: u64, id: i64) -> u128
+    ensures { entry_item (record { 0 = result }) ≡ item_at score (place.Entry id) }
+{
+    let above_least = (i128::from(id) - i128::from(i64::MIN)) as u64;
+    u128::from(score) * TAILS + u128::from(above_least)
+}
+
+/// The entry of a key.
+#[inline(always)]
+pub fn entry_of(key: u128) -> FoundEntry
+    ensures { item_at result.score (place.Entry result.id) ≡ entry_item (record { 0 = key }) }
+{
+    FoundEntry {
+        score: key / TAILS,
+        id: ((key % TAILS) as i128 + i128::from(i64::MIN)) as i64,
+    }
+}
+
+/// A node's key: its tail is its number, and below it 1 where all that lies under it is accepted, otherwise 0.
+#[inline(always)]
+pub fn node_key(score: u64, node: WaitingNode) -> u128
+    ensures { node_item (record { 0 = result }) ≡ item_at score (place.Node node) }
+{
+    let tail = u64::from(node.number.number()) * ONE_NUMBER + u64::from(node.is_full);
+    u128::from(score) * TAILS + u128::from(tail)
+}
+
+/// The node of a key.
+#[inline(always)]
+pub fn node_of(key: u128) -> ScoredNode
+    ensures { item_at result.score (place.Node result.node) ≡ node_item (record { 0 = key }) }
+{
+    let tail = (key % TAILS) as u64;
+    ScoredNode {
+        score: key / TAILS,
+        node: WaitingNode {
+            number: NodeNo::new((tail / ONE_NUMBER) as u32),
+            is_full: 0 < tail % ONE_NUMBER,
+        },
+    }
+}

@@ -1,0 +1,186 @@
+//! Keys of which the least are wanted.
+
+ghost use Rattle.std.specs.Prelude.{◌≡◌, ◌<◌, ◌≤◌, ◌++◌, ℕ, [], ◌∷◌, IfNone, IfOk, IfSome, MatchOption, length, vec_capacity};
+ghost use Rattle.std.specs.BinaryHeap.{heap_capacity, heap_items};
+ghost use Rattle.std.specs.List.{AllByRecursion};
+ghost use Rattle.std.specs.List.Sorted.{IsPermutation};
+ghost use Rattle.rt_search.specs.Pooling.{HasLeastScore, IsFar, IsLowest, IsNear, IsTop, keys_in};
+
+use crate::gathered::lesser;
+use crate::keys::score_of;
+use std::alloc::{AllocError, Global};
+use std::cmp::Reverse;
+use std::collections::BinaryHeap;
+use std::marker::Model;
+
+/// Keys of which the least are taken out. Those whose score is at most the edge are near, in a heap, and the others
+/// far, in no order. Most that a search finds are far and never wanted, so that they cost no more than to be written
+/// down. Once no more are near, the edge moves out, and those that are near then are.
+///
+/// It is seen as its keys, the near before the far, and its capacity, which is that of both.
+#[derive(Drop)]
+pub struct Pool {
+    near: BinaryHeap<Reverse<u128>>,
+    far: Vec<Reverse<u128>>,
+    edge: u64,
+    // the least score that is far
+    least: Option<u64>,
+    capacity: u32,
+}
+
+impl Model for Pool {
+    ghost use Rattle.std.specs.BinaryHeap.{heap_items};
+    ghost use Rattle.rt_search.specs.Pooling.{IsPool, Pooled};
+
+    ghost Value = { Pooled };
+
+    ghost view = { λ p. record { near = heap_items p.near; far = p.far.items; capacity = p.capacity } };
+
+    ghost invariant = { λ p. IsPool p.near p.far p.edge p.least p.capacity };
+}
+
+impl Pool {
+    pub fn new(alloc: Global, capacity: u32) -> Result<Pool, AllocError>
+        ensures keys { IfOk result (λ p. keys_in p ≡ []) }
+        ensures capacity { IfOk result (λ p. p.capacity ≡ capacity) }
+    {
+        let near = BinaryHeap::with_capacity(alloc, capacity as usize)?;
+        let far = Vec::with_capacity(alloc, capacity as usize)?;
+        Ok(Pool {
+            near,
+            far,
+            edge: 0,
+            least: None,
+            capacity,
+        })
+    }
+
+    pub fn len(&self) -> usize
+        ensures value { result ≡ length (keys_in self.now) }
+        ensures room { length (keys_in self.now) ≤ self.now.capacity }
+    {
+        self.near.len() + self.far.len()
+    }
+
+    pub fn clear(&mut self)
+        ensures keys { keys_in self.new ≡ [] }
+        ensures capacity { self.new.capacity ≡ self.old.capacity }
+    {
+        self.near.clear();
+        self.far.clear();
+        self.edge = 0;
+        self.least = None;
+    }
+
+    #[inline(always)]
+    pub fn put(&mut self, key: u128)
+        requires { length (keys_in self.old) < self.old.capacity }
+        ensures keys { IsPermutation (record { 0 = key } ∷ keys_in self.old) (keys_in self.new) }
+        ensures capacity { self.new.capacity ≡ self.old.capacity }
+    {
+        let score = score_of(key);
+        if score <= self.edge {
+            // (there is room, so no memory is taken)
+            let _pushed = self.near.push(Reverse(key));
+            return;
+        }
+        self.least = Some(lesser(self.least, score));
+        self.far.push_reserved(Reverse(key));
+    }
+
+    /// The least score.
+    #[inline(always)]
+    pub fn first_score(&self) -> Option<u64>
+        ensures { MatchOption result (keys_in self.now ≡ []) (λ s. HasLeastScore s (keys_in self.now)) }
+    {
+        let Some(top) = self.near.peek() else {
+            return self.least;
+        };
+        Some(score_of(top.0))
+    }
+
+    /// The least key.
+    #[inline(always)]
+    pub fn first(&mut self) -> Option<u128>
+        ensures first { MatchOption result (keys_in self.new ≡ []) (λ k. IsTop k (keys_in self.new)) }
+        ensures same { IsPermutation (keys_in self.old) (keys_in self.new) }
+        ensures capacity { self.new.capacity ≡ self.old.capacity }
+    {
+        self.fill();
+        let Some(top) = self.near.peek() else {
+            return None;
+        };
+        Some(top.0)
+    }
+
+    #[inline(always)]
+    pub fn take(&mut self) -> Option<u128>
+        ensures keys { MatchOption result (keys_in self.old ≡ [])
+            (λ k. IsPermutation (keys_in self.old) (record { 0 = k } ∷ keys_in self.new)) }
+        ensures none { IfNone result (keys_in self.new ≡ []) }
+        ensures least { IfSome result (λ k. IsLowest k (keys_in self.new)) }
+        ensures capacity { self.new.capacity ≡ self.old.capacity }
+    {
+        self.fill();
+        let Some(top) = self.near.pop() else {
+            return None;
+        };
+        Some(top.0)
+    }
+
+    // Moves the edge out, where no key is near.
+    #[inline(always)]
+    fn fill(&mut self)
+        ensures same { IsPermutation (keys_in self.old) (keys_in self.new) }
+        ensures filled { self.new.near ≡ [] → self.new.far ≡ [] }
+        ensures capacity { self.new.capacity ≡ self.old.capacity }
+    {
+        if !self.near.is_empty() {
+            return;
+        }
+        let Some(least) = self.least else {
+            return;
+        };
+        self.edge = edge_beyond(least);
+        self.least = move_near(&mut self.near, &mut self.far, self.edge);
+    }
+}
+
+// How far the edge moves: to four times the least score, which is twice its distance.
+fn edge_beyond(least: u64) -> u64
+    ensures { least ≤ result }
+{
+    least.saturating_mul(4)
+}
+
+// Moves the keys of scores up to the edge to those near, and tells the least score of the others. Out of line, as it is
+// rare.
+#[inline(never)]
+fn move_near(
+    near: &mut BinaryHeap<Reverse<u128>>,
+    far: &mut Vec<Reverse<u128>>,
+    edge: u64,
+) -> Option<u64>
+    requires near { IsNear near.old edge }
+    requires room { length (heap_items near.old ++ far.old.items) ≤ heap_capacity near.old }
+    ensures near { IsNear near.new edge }
+    ensures far { IsFar far.new.items edge result }
+    ensures same { IsPermutation (heap_items near.old ++ far.old.items) (heap_items near.new ++ far.new.items) }
+    ensures near_capacity { heap_capacity near.old ≤ heap_capacity near.new }
+    ensures far_capacity { vec_capacity far.new ≡ vec_capacity far.old }
+{
+    let mut least = None;
+    let mut at = 0;
+    while at < far.len() {
+        let score = score_of(far[at].0);
+        if score <= edge {
+            let key = far.swap_remove(at);
+            // (there is room, so no memory is taken)
+            let _pushed = near.push(key);
+        } else {
+            least = Some(lesser(least, score));
+            at += 1;
+        }
+    }
+    least
+}

@@ -1,0 +1,78 @@
+//! The items of a frontier whose score is more than one word.
+
+ghost use Rattle.std.specs.Prelude.{◌≡◌, ◌<◌, ◌≤◌, [], ◌∷◌, IfNone, IfOk, IfSome, MatchOption, length};
+ghost use Rattle.rt_search.specs.Items.{item_cmp};
+ghost use Rattle.rt_search.specs.Kept.{IsLeast};
+ghost use Rattle.rt_tree.specs.Sorting.{put};
+
+use crate::item::Item;
+use std::alloc::{AllocError, Global};
+use std::cmp::Reverse;
+use std::collections::BinaryHeap;
+use std::marker::Model;
+
+/// Items, as they are, in a heap.
+///
+/// It is seen as these items, in order, and its capacity.
+#[derive(Drop)]
+pub struct Wide {
+    heap: BinaryHeap<Reverse<Item>>,
+    capacity: u32,
+}
+
+impl Model for Wide {
+    ghost use Rattle.std.specs.BinaryHeap.{heap_items};
+    ghost use Rattle.rt_search.specs.Items.{Waiting};
+    ghost use Rattle.rt_search.specs.Kept.{IsKept, in_order, wide_item};
+
+    ghost Value = { Waiting };
+
+    ghost view = { λ w. record { items = in_order wide_item (heap_items w.heap); capacity = w.capacity } };
+
+    ghost invariant = { λ w. IsKept ⟦<Reverse<Item> as Ord>⟧.cmp w.heap w.capacity };
+}
+
+impl Wide {
+    pub fn new(alloc: Global, capacity: u32) -> Result<Wide, AllocError>
+        ensures items { IfOk result (λ w. w.items ≡ []) }
+        ensures capacity { IfOk result (λ w. w.capacity ≡ capacity) }
+    {
+        let heap = BinaryHeap::with_capacity(alloc, capacity as usize)?;
+        Ok(Wide { heap, capacity })
+    }
+
+    pub fn len(&self) -> usize
+        ensures value { result ≡ length self.now.items }
+        ensures room { length self.now.items ≤ self.now.capacity }
+    {
+        self.heap.len()
+    }
+
+    pub fn clear(&mut self)
+        ensures items { self.new.items ≡ [] }
+        ensures capacity { self.new.capacity ≡ self.old.capacity }
+    {
+        self.heap.clear();
+    }
+
+    pub fn put(&mut self, item: Item)
+        requires { length self.old.items < self.old.capacity }
+        ensures items { self.new.items ≡ put item_cmp item self.old.items }
+        ensures capacity { self.new.capacity ≡ self.old.capacity }
+    {
+        // (there is room, so no memory is taken)
+        let _pushed = self.heap.push(Reverse(item));
+    }
+
+    // Out of line, as wide items are rare.
+    #[inline(never)]
+    pub fn take(&mut self) -> Option<Item>
+        ensures items { MatchOption result (self.old.items ≡ []) (λ x. self.old.items ≡ x ∷ self.new.items) }
+        ensures none { IfNone result (self.new.items ≡ []) }
+        ensures least { IfSome result (λ x. IsLeast x self.new.items) }
+        ensures capacity { self.new.capacity ≡ self.old.capacity }
+    {
+        let top = self.heap.pop()?;
+        Some(top.0)
+    }
+}
