@@ -15,7 +15,7 @@ lane b = cond b 4294967295 0
 abbrev pub is_empty : (p q r s : Bool) → Bool
 is_empty p q r s = not (not (nat_eq (mask_l (map (top 31) (lane p ∷ lane q ∷ lane r ∷ lane s ∷ [])) % 18446744073709551616) 0))
 
-empty_mask : (p q r s : Bool) → is_empty p q r s ≡ ((not p && not q) && (not r && not s))
+empty_mask : (p q r s : Bool) → is_empty p q r s ≡ ((not p && not r) && (not q && not s))
 empty_mask true true true true = refl
 empty_mask true true true false = refl
 empty_mask true true false true = refl
@@ -52,12 +52,12 @@ is_above z y = int_lt (stored y) (stored z)
 stored_not_above : (y z : ℤ) → FitsSigned w32 y → FitsSigned w32 z → not (is_above z y) ≡ int_le z y
 stored_not_above y z fits fits' = rw (to_z-of_z w32 y fits, to_z-of_z w32 z fits') (not_above y z)
 
--- no lane of the first is above that of the second: z to y, in the order of the lanes
+-- no lane of the first is above that of the second: z to y; the first and the third lane are one axis, the others another
 none_above : (z₀ z₁ z₂ z₃ y₀ y₁ y₂ y₃ : ℤ)
     → FitsSigned w32 z₀ → FitsSigned w32 z₁ → FitsSigned w32 z₂ → FitsSigned w32 z₃
     → FitsSigned w32 y₀ → FitsSigned w32 y₁ → FitsSigned w32 y₂ → FitsSigned w32 y₃
     → is_empty (is_above z₀ y₀) (is_above z₁ y₁) (is_above z₂ y₂) (is_above z₃ y₃)
-    ≡ ((int_le z₀ y₀ && int_le z₁ y₁) && (int_le z₂ y₂ && int_le z₃ y₃))
+    ≡ ((int_le z₀ y₀ && int_le z₂ y₂) && (int_le z₁ y₁ && int_le z₃ y₃))
 none_above z₀ z₁ z₂ z₃ y₀ y₁ y₂ y₃ a b c d e f g h =
     rw (
       ← stored_not_above y₀ z₀ e a,
@@ -92,24 +92,24 @@ sides_fit b v h = record {
 
 -- two boxes share a point where none of the one's ends lies beyond what the other faces it with
 pub overlaps_by_lanes : (a b : Rect) → IsRect a → inside a plane ≡ true → IsRect b → inside b plane ≡ true
-    → is_empty (is_above a.min_x b.max_x) (is_above (flipped a.max_x) (flipped b.min_x))
-    (is_above a.min_y b.max_y) (is_above (flipped a.max_y) (flipped b.min_y))
+    → is_empty (is_above a.min_x b.max_x) (is_above a.min_y b.max_y)
+    (is_above (flipped a.max_x) (flipped b.min_x)) (is_above (flipped a.max_y) (flipped b.min_y))
     ≡ overlaps a b
 overlaps_by_lanes a b v h w k =
     let p = sides_fit a v h in
     let q = sides_fit b w k in
     rw (← flipped_order b.min_x a.max_x, ← flipped_order b.min_y a.max_y)
-    (none_above a.min_x (flipped a.max_x) a.min_y (flipped a.max_y) b.max_x (flipped b.min_x) b.max_y (flipped b.min_y)
-    p.left p.flipped_right p.low p.flipped_high q.right q.flipped_left q.high q.flipped_low)
+    (none_above a.min_x a.min_y (flipped a.max_x) (flipped a.max_y) b.max_x b.max_y (flipped b.min_x) (flipped b.min_y)
+    p.left p.low p.flipped_right p.flipped_high q.right q.high q.flipped_left q.flipped_low)
 
 -- a box lies in another where none of its ends lies beyond the other's
 pub inside_by_lanes : (a b : Rect) → IsRect a → inside a plane ≡ true → IsRect b → inside b plane ≡ true
-    → is_empty (is_above b.min_x a.min_x) (is_above (flipped b.max_x) (flipped a.max_x))
-    (is_above b.min_y a.min_y) (is_above (flipped b.max_y) (flipped a.max_y))
+    → is_empty (is_above b.min_x a.min_x) (is_above b.min_y a.min_y)
+    (is_above (flipped b.max_x) (flipped a.max_x)) (is_above (flipped b.max_y) (flipped a.max_y))
     ≡ inside a b
 inside_by_lanes a b v h w k =
     let p = sides_fit a v h in
     let q = sides_fit b w k in
     rw (← flipped_order a.max_x b.max_x, ← flipped_order a.max_y b.max_y)
-    (none_above b.min_x (flipped b.max_x) b.min_y (flipped b.max_y) a.min_x (flipped a.max_x) a.min_y (flipped a.max_y)
-    q.left q.flipped_right q.low q.flipped_high p.left p.flipped_right p.low p.flipped_high)
+    (none_above b.min_x b.min_y (flipped b.max_x) (flipped b.max_y) a.min_x a.min_y (flipped a.max_x) (flipped a.max_y)
+    q.left q.low q.flipped_right q.flipped_high p.left p.low p.flipped_right p.flipped_high)

@@ -10,17 +10,18 @@ use crate::distance::Point;
 use std::marker::Model;
 use std::simd::prelude::*;
 
-// All bits of the second and the fourth lane.
-const MAXIMUMS: [i32; 4] = [0, -1, 0, -1];
+// All bits of the last two lanes.
+const MAXIMUMS: [i32; 4] = [0, 0, -1, -1];
 
 /// A closed box: a minimum and a maximum on each axis, each minimum at most its maximum.
 ///
-/// The sides are those of SQLite's `rtree_i32` tables, in the same order.
+/// The sides are those of SQLite's `rtree_i32` tables. The minimums stand side by side, and so do the maximums, so that
+/// both axes are reckoned in one step.
 #[derive(Clone, Copy, Debug, PartialEq, Eq)]
 pub struct Bounds {
     min_x: i32,
-    max_x: i32,
     min_y: i32,
+    max_x: i32,
     max_y: i32,
 }
 
@@ -120,21 +121,21 @@ pub fn inside(a: Bounds, b: Bounds) -> bool
     !ends(b).simd_gt(ends(a)).any()
 }
 
-// How far a box reaches to the left, to the right, down and up, where less is farther: its sides, the maximums with
+// How far a box reaches to the left, down, to the right and up, where less is farther: its sides, the maximums with
 // all bits flipped. Two boxes are compared in one step by them.
 #[inline(always)]
 fn ends(bounds: Bounds) -> i32x4
-    ensures value { result ≡ bounds.min_x ∷ flipped bounds.max_x ∷ bounds.min_y ∷ flipped bounds.max_y ∷ [] }
+    ensures value { result ≡ bounds.min_x ∷ bounds.min_y ∷ flipped bounds.max_x ∷ flipped bounds.max_y ∷ [] }
     ensures valid { IsRect bounds }
     ensures coordinates { inside bounds plane ≡ true }
 {
     sides(bounds) ^ i32x4::from_array(MAXIMUMS)
 }
 
-// How far a box must reach to the left, to the right, down and up to touch this one.
+// How far a box must reach to the left, down, to the right and up to touch this one.
 #[inline(always)]
 fn facing_ends(bounds: Bounds) -> i32x4
-    ensures value { result ≡ bounds.max_x ∷ flipped bounds.min_x ∷ bounds.max_y ∷ flipped bounds.min_y ∷ [] }
+    ensures value { result ≡ bounds.max_x ∷ bounds.max_y ∷ flipped bounds.min_x ∷ flipped bounds.min_y ∷ [] }
     ensures valid { IsRect bounds }
     ensures coordinates { inside bounds plane ≡ true }
 {
@@ -143,11 +144,11 @@ fn facing_ends(bounds: Bounds) -> i32x4
 
 #[inline(always)]
 fn sides(bounds: Bounds) -> i32x4
-    ensures value { result ≡ bounds.min_x ∷ bounds.max_x ∷ bounds.min_y ∷ bounds.max_y ∷ [] }
+    ensures value { result ≡ bounds.min_x ∷ bounds.min_y ∷ bounds.max_x ∷ bounds.max_y ∷ [] }
     ensures valid { IsRect bounds }
     ensures coordinates { inside bounds plane ≡ true }
 {
-    i32x4::from_array([bounds.min_x, bounds.max_x, bounds.min_y, bounds.max_y])
+    i32x4::from_array([bounds.min_x, bounds.min_y, bounds.max_x, bounds.max_y])
 }
 
 /// Its minimums.
@@ -157,7 +158,7 @@ pub(crate) fn mins(bounds: Bounds) -> i32x2
     ensures valid { IsRect bounds }
     ensures coordinates { inside bounds plane ≡ true }
 {
-    sides(bounds).swizzle([0, 2])
+    sides(bounds).swizzle([0, 1])
 }
 
 /// Its maximums.
@@ -165,16 +166,16 @@ pub(crate) fn mins(bounds: Bounds) -> i32x2
 pub(crate) fn maxs(bounds: Bounds) -> i32x2
     ensures value { result ≡ bounds.max_x ∷ bounds.max_y ∷ [] }
 {
-    sides(bounds).swizzle([1, 3])
+    sides(bounds).swizzle([2, 3])
 }
 
 #[inline(always)]
 fn facing_sides(bounds: Bounds) -> i32x4
-    ensures value { result ≡ bounds.max_x ∷ bounds.min_x ∷ bounds.max_y ∷ bounds.min_y ∷ [] }
+    ensures value { result ≡ bounds.max_x ∷ bounds.max_y ∷ bounds.min_x ∷ bounds.min_y ∷ [] }
     ensures valid { IsRect bounds }
     ensures coordinates { inside bounds plane ≡ true }
 {
-    sides(bounds).swizzle([1, 0, 3, 2])
+    sides(bounds).swizzle([2, 3, 0, 1])
 }
 
 /// The least box in which both boxes lie.

@@ -141,6 +141,18 @@ child_of t number i k s level lt is =
     let h = height_at t number - 1 in
     subst (λ m. IsChild t n h i m) (sym is) (child_at t n h i (inner_at t (height_at t number) n s level).1 lt)
 
+-- a node that was read, and is not of level 1
+pub is_high : (t : Packed) (number : ℕ) (n : Node) → IsSubtree t (height_at t number) (node_at t number)
+    → n ≡ node_at t number → (n.level ≡ 1 → ⊥) → 2 ≤ (node_at t number).level
+is_high t number n s is above =
+    let level = subtree_level t (height_at t number) (node_at t number) s in
+    let same = ap (λ m. m.level) is in
+    omega (arith, level, same, above)
+
+pub children_inside : (t : Packed) (number : ℕ) (n : Node) → IsSubtree t (height_at t number) (node_at t number)
+    → 2 ≤ (node_at t number).level → n ≡ node_at t number → n.first + n.count ≤ length t.nodes
+children_inside t number n s level is = rw is (inner_at t (height_at t number) (node_at t number) s level).1.range
+
 -- how many children are lent
 pub children_count : (t : Packed) (number : ℕ) (n : Node) (lent : List Node)
     → IsSubtree t (height_at t number) (node_at t number) → 2 ≤ (node_at t number).level → n ≡ node_at t number

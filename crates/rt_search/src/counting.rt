@@ -90,10 +90,11 @@ fn count_under<G: Geometry>(
         count.accepted += count_leaf(tree, counted, node, parent);
         return;
     }
-    for i in 0..node.count {
-        let child_number = tree.child_node(number, i);
-        let child = tree.node(child_number);
+    let children = tree.child_nodes(node);
+    let first = tree.child_node(number, 0).number();
+    for (i, child) in children.iter().enumerate() {
         let info = parent.info(child.bounds, child.level);
+        let child_number = NodeNo::new(first + i as u32);
         count_child(tree, counted, count, child_number, &info);
     }
 }

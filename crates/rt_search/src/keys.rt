@@ -6,7 +6,7 @@
 ghost use Rattle.std.specs.Prelude.{◌≡◌, ◌/◌, ◌^◌};
 ghost use Rattle.rt_search.specs.declared.item.Place.TheVariants as place;
 ghost use Rattle.rt_search.specs.Items.{item_at};
-ghost use Rattle.rt_search.specs.Kept.{entry_item, node_item};
+ghost use Rattle.rt_search.specs.Kept.{entry_item, lesser, node_item};
 
 use crate::item::{FoundEntry, ScoredNode, WaitingNode};
 use rt_tree::NodeNo;
@@ -67,4 +67,14 @@ pub fn node_of(key: u128) -> ScoredNode
             is_full: 0 < tail % ONE_NUMBER,
         },
     }
+}
+
+/// The lesser of a score and the first score, if there is one.
+pub fn lesser(first: Option<u64>, score: u64) -> u64
+    ensures { result ≡ lesser first score }
+{
+    let Some(first) = first else {
+        return score;
+    };
+    if score < first { score } else { first }
 }

@@ -6,12 +6,14 @@ ghost use Rattle.std.specs.List.{AllByRecursion};
 ghost use Rattle.std.specs.List.Sorted.{IsPermutation};
 ghost use Rattle.rt_search.specs.Pooling.{HasLeastScore, IsFar, IsLowest, IsNear, IsTop, keys_in};
 
-use crate::gathered::lesser;
-use crate::keys::score_of;
+use crate::keys::{lesser, score_of};
 use std::alloc::{AllocError, Global};
 use std::cmp::Reverse;
 use std::collections::BinaryHeap;
 use std::marker::Model;
+
+// How many times the least score the edge moves to: the square of how many times its distance.
+const FARTHER: u64 = 4;
 
 /// Keys of which the least are taken out. Those whose score is at most the edge are near, in a heap, and the others
 /// far, in no order. Most that a search finds are far and never wanted, so that they cost no more than to be written
@@ -146,11 +148,11 @@ impl Pool {
     }
 }
 
-// How far the edge moves: to four times the least score, which is twice its distance.
+// How far the edge moves.
 fn edge_beyond(least: u64) -> u64
     ensures { least ≤ result }
 {
-    least.saturating_mul(4)
+    least.saturating_mul(FARTHER)
 }
 
 // Moves the keys of scores up to the edge to those near, and tells the least score of the others. Out of line, as it is

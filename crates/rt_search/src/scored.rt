@@ -7,8 +7,9 @@ ghost use Rattle.rt_search.specs.Items.{item_at, item_cmp};
 ghost use Rattle.rt_search.specs.Kept.{IsAhead, IsEntry, IsFirstScore, IsLeast, taken_entry};
 ghost use Rattle.rt_tree.specs.Sorting.{put};
 
-use crate::gathered::{Gathered, lesser};
+use crate::gathered::Gathered;
 use crate::item::FoundEntry;
+use crate::keys::lesser;
 use crate::late::Late;
 use std::alloc::{AllocError, Global};
 use std::marker::Model;

@@ -19,15 +19,15 @@ use std::marker::Model;
 pub struct Node {
     /// The least box in which its children lie.
     pub bounds: Bounds,
-    /// 1 where its children are entries; levels rise towards the root.
-    pub level: u8,
     /// The place of its first child, which is an entry where the level is 1, and else the number of its first child, a
     /// node. The others follow it.
     pub first: u32,
-    /// How many children it has, at least one.
-    pub count: u8,
     /// How many entries are under it.
     pub size: u32,
+    /// How many children it has, at least one.
+    pub count: u8,
+    /// 1 where its children are entries; levels rise towards the root.
+    pub level: u8,
 }
 
 /// The number of a node of a tree. Numbers begin at 0 on level 1 and go on level by level, so that the root has the

@@ -1,11 +1,10 @@
-use Rattle.std.proofs.Common.{◌≡◌, ◌<◌, ◌≤◌, ◌+◌, ◌^◌, ◌∙◌, ap, sym, arith, rules}
+use Rattle.std.proofs.Common.{◌≡◌, ◌<◌, ◌≤◌, ◌+◌, ◌^◌, ◌∙◌, add-one, ap, sym, arith, rules}
 use Rattle.rt_tree.specs.Packed.{node_at}
 use Rattle.rt_search.specs.Counting.{found_in_entries}
 use Rattle.rt_search.specs.Work.{info_of_node, info_under, is_divided, its_children, one_node}
-use Rattle.rt_search.proofs.Children.{subtree_level}
+use Rattle.rt_search.proofs.Children.{child_read, children_count, children_inside, is_high}
 use Rattle.rt_search.proofs.CountUnder.{all_accepted, can_ask, inner_found, inner_work, leaf_found, not_accepted}
 use Rattle.rt_search.proofs.CountUnder.{under_few}
-use Rattle.rt_search.specs.Remaining.{height_at}
 use Rattle.rt_search.proofs.counting.+counting.Goals as goal
 
 pub count_child-returns-in-Not-clause-accepted : goal.count_child-returns-in-Not-clause-accepted
@@ -57,6 +56,14 @@ count_under-returns-then-node-eq1-clause-accepted g t c =
     let counted = c.count_leaf.ensures.found ∙ ap (λ n. found_in_entries verdict tree v n n.count) is ∙ sym found in
     omega (arith, counted)
 
+pub count_under-child_nodes-children-requires : goal.count_under-child_nodes-children-requires
+count_under-child_nodes-children-requires g t c =
+    let tree = c.args.tree.now in
+    let number = c.args.number.number in
+    let is = c.node-node.ensures in
+    let high = is_high tree number c.node-node.result c.requires.node.tree is c.if-node-eq1.false in
+    children_inside tree number c.node-node.result c.requires.node.tree high is
+
 pub count_under-count_child-requires : goal.count_under-count_child-requires
 count_under-count_child-requires g t c κs within =
     let geometry = c.args.counted.now.geometry in
@@ -66,21 +73,24 @@ count_under-count_child-requires g t c κs within =
     let number = c.args.number.number in
     let small : v.score < 2 ^ 128 = search rules in
     let is = c.node-node.ensures in
-    let level = subtree_level tree (height_at tree number) (node_at tree number) c.requires.node.tree in
-    let same_level = ap (λ n. n.level) is in
-    let above = c.if-node-eq1.false in
-    let high : 2 ≤ (node_at tree number).level = omega (arith, level, same_level, above) in
-    let lt : c.loop-i.i < (node_at tree number).count = rw (← is) c.loop-i-test.true in
-    let child = c.child_node-child_number.result.number in
+    let high = is_high tree number c.node-node.result c.requires.node.tree is c.if-node-eq1.false in
+    let child = c.new-child_number.result.number in
+    let first = c.number-first.ensures ∙ c.child_node.ensures.value in
+    let new = c.new-child_number.ensures in
+    let at : child ≡ (node_at tree number).first + c.loop-i.i = omega (arith, first, new) in
+    let read = child_read tree number c.loop-i.i child c.node-node.result c.index-children-i.result
+    c.child_nodes-children.result.now c.requires.node.tree high is c.child_nodes-children.ensures c.loop-i-test.true
+    c.index-children-i.is at in
+    let lt = read.few in
     let info_is : c.info-info.result ≡ info_of_node tree v (node_at tree child) =
     c.info-info.ensures
-    ∙ ap (λ top. info_under top v c.node-child.result.bounds c.node-child.result.level) c.requires.top
-    ∙ ap (info_of_node tree v) c.node-child.ensures in
+    ∙ ap (λ top. info_under top v c.index-children-i.result.bounds c.index-children-i.result.level) c.requires.top
+    ∙ ap (info_of_node tree v) read.is in
     let inv = c.loop-i.invariant in
     let can = can_ask (g.G.Geometry.accepts geometry) (g.G.Geometry.score geometry) (g.G.Geometry.verdict geometry)
     law tree c.requires.tree v small number c.requires.node high c.loop-i.i child c.args.count.now.accepted
     c.loop-i.count.accepted c.args.count.now.opened c.loop-i.count.opened c.args.counted.now.asked
-    c.loop-i.counted.asked c.info-info.result lt c.child_node-child_number.ensures.value info_is inv.accepted inv.opened
+    c.loop-i.counted.asked c.info-info.result lt at info_is inv.accepted inv.opened
     inv.asked c.requires.few c.requires.opened c.requires.asked in
     let lower = can.lower in
     let top : c.info-info.result.top ≡ c.args.parent.top = ap (λ i. i.top) c.info-info.ensures in (
@@ -97,6 +107,39 @@ count_under-count_child-requires g t c κs within =
       ),
     )
 
+pub count_under-loop-i-preserved : goal.count_under-loop-i-preserved
+count_under-loop-i-preserved g t c =
+    let tree = c.args.tree.now in
+    let v = c.args.parent.verdict in
+    let number = c.args.number.number in
+    let is = c.node-node.ensures in
+    let high = is_high tree number c.node-node.result c.requires.node.tree is c.if-node-eq1.false in
+    let child = c.new-child_number.result.number in
+    let first = c.number-first.ensures ∙ c.child_node.ensures.value in
+    let new = c.new-child_number.ensures in
+    let at : child ≡ (node_at tree number).first + c.loop-i.i = omega (arith, first, new) in
+    let read = child_read tree number c.loop-i.i child c.node-node.result c.index-children-i.result
+    c.child_nodes-children.result.now c.requires.node.tree high is c.child_nodes-children.ensures c.loop-i-test.true
+    c.index-children-i.is at in
+    let info_is : c.info-info.result ≡ info_of_node tree v (node_at tree child) =
+    c.info-info.ensures
+    ∙ ap (λ top. info_under top v c.index-children-i.result.bounds c.index-children-i.result.level) c.requires.top
+    ∙ ap (info_of_node tree v) read.is in
+    let inv = c.loop-i.invariant in
+    let e = rw inv.geometry at c.count_child.ensures in
+    let accepted = rw at at e.accepted in
+    let opened = rw at at (rw info_is at e.opened) in
+    let asked = rw at at (rw info_is at e.asked) in
+    let accepted_before = inv.accepted in
+    let opened_before = inv.opened in
+    let asked_before = inv.asked in
+    record {
+      accepted = rw (add-one c.loop-i.i) (omega (arith, accepted, accepted_before));
+      opened = rw (add-one c.loop-i.i) (omega (arith, opened, opened_before));
+      asked = rw (add-one c.loop-i.i) (omega (arith, asked, asked_before));
+      geometry = e.geometry;
+    }
+
 pub count_under-returns-clause-accepted : goal.count_under-returns-clause-accepted
 count_under-returns-clause-accepted g t c =
     let geometry = c.args.counted.now.geometry in
@@ -106,13 +149,11 @@ count_under-returns-clause-accepted g t c =
     let number = c.args.number.number in
     let small : v.score < 2 ^ 128 = search rules in
     let is = c.node-node.ensures in
-    let level = subtree_level tree (height_at tree number) (node_at tree number) c.requires.node.tree in
-    let same_level = ap (λ n. n.level) is in
-    let above = c.if-node-eq1.false in
-    let high : 2 ≤ (node_at tree number).level = omega (arith, level, same_level, above) in
-    let same_count = ap (λ n. n.count) is in
+    let high = is_high tree number c.node-node.result c.requires.node.tree is c.if-node-eq1.false in
+    let count = children_count tree number c.node-node.result c.child_nodes-children.result.now c.requires.node.tree
+    high is c.child_nodes-children.ensures in
     let over = c.loop-i-test.false in
-    let i_is : c.loop-i.i ≡ (node_at tree number).count = omega (arith, same_count, over, c.loop-i.auto.i-end) in
+    let i_is : c.loop-i.i ≡ (node_at tree number).count = omega (arith, count, over, c.loop-i.auto.i-end) in
     let found = inner_found (g.G.Geometry.accepts geometry) (g.G.Geometry.score geometry)
     (g.G.Geometry.verdict geometry) law tree c.requires.tree v small number c.requires.node high in
     let inv = rw i_is at c.loop-i.invariant.accepted in
@@ -127,13 +168,11 @@ count_under-returns-clause-opened g t c =
     let number = c.args.number.number in
     let small : v.score < 2 ^ 128 = search rules in
     let is = c.node-node.ensures in
-    let level = subtree_level tree (height_at tree number) (node_at tree number) c.requires.node.tree in
-    let same_level = ap (λ n. n.level) is in
-    let above = c.if-node-eq1.false in
-    let high : 2 ≤ (node_at tree number).level = omega (arith, level, same_level, above) in
-    let same_count = ap (λ n. n.count) is in
+    let high = is_high tree number c.node-node.result c.requires.node.tree is c.if-node-eq1.false in
+    let count = children_count tree number c.node-node.result c.child_nodes-children.result.now c.requires.node.tree
+    high is c.child_nodes-children.ensures in
     let over = c.loop-i-test.false in
-    let i_is : c.loop-i.i ≡ (node_at tree number).count = omega (arith, same_count, over, c.loop-i.auto.i-end) in
+    let i_is : c.loop-i.i ≡ (node_at tree number).count = omega (arith, count, over, c.loop-i.auto.i-end) in
     let work = inner_work (g.G.Geometry.accepts geometry) (g.G.Geometry.score geometry)
     (g.G.Geometry.verdict geometry) law tree c.requires.tree v small number c.requires.node high is_divided one_node in
     let inv = rw i_is at c.loop-i.invariant.opened in
@@ -148,13 +187,11 @@ count_under-returns-clause-asked g t c =
     let number = c.args.number.number in
     let small : v.score < 2 ^ 128 = search rules in
     let is = c.node-node.ensures in
-    let level = subtree_level tree (height_at tree number) (node_at tree number) c.requires.node.tree in
-    let same_level = ap (λ n. n.level) is in
-    let above = c.if-node-eq1.false in
-    let high : 2 ≤ (node_at tree number).level = omega (arith, level, same_level, above) in
-    let same_count = ap (λ n. n.count) is in
+    let high = is_high tree number c.node-node.result c.requires.node.tree is c.if-node-eq1.false in
+    let count = children_count tree number c.node-node.result c.child_nodes-children.result.now c.requires.node.tree
+    high is c.child_nodes-children.ensures in
     let over = c.loop-i-test.false in
-    let i_is : c.loop-i.i ≡ (node_at tree number).count = omega (arith, same_count, over, c.loop-i.auto.i-end) in
+    let i_is : c.loop-i.i ≡ (node_at tree number).count = omega (arith, count, over, c.loop-i.auto.i-end) in
     let work = inner_work (g.G.Geometry.accepts geometry) (g.G.Geometry.score geometry)
     (g.G.Geometry.verdict geometry) law tree c.requires.tree v small number c.requires.node high is_divided its_children in
     let inv = rw i_is at c.loop-i.invariant.asked in

@@ -14,7 +14,7 @@ abbrev pub invariant-count_under-loop-i : goal.invariant-count_under-loop-i
 invariant-count_under-loop-i g l =
     let geometry = l.initial.counted.geometry in
     let verdict = g.G.Geometry.verdict geometry in
-    let n = node_at l.tree l.number.number in
+    let n = node_at l.tree l.fn.number.number in
     record {
       accepted : l.count.accepted ≡ l.initial.count.accepted
           + over_children (accepted_under l.tree (g.G.Geometry.accepts geometry)) n l.i;

@@ -1,10 +1,9 @@
-use Rattle.std.proofs.Common.{◌≡◌, ◌<◌, ◌≤◌, ◌^◌, ◌∙◌, None, add-one, ap, refl, sym, subst, arith, rules}
+use Rattle.std.proofs.Common.{◌≡◌, ◌<◌, ◌+◌, ◌^◌, ◌∙◌, None, add-one, ap, refl, sym, subst, arith, rules}
 use Rattle.rt_tree.specs.Packed.{node_at}
 use Rattle.rt_search.specs.Gathering.{HasGathered}
 use Rattle.rt_search.specs.Joining.{join_entries}
-use Rattle.rt_search.specs.Remaining.{height_at}
 use Rattle.rt_search.specs.Work.{info_of_node, info_under, is_reached, its_children, one_node}
-use Rattle.rt_search.proofs.Children.{subtree_level}
+use Rattle.rt_search.proofs.Children.{child_read, children_count, children_inside, is_high}
 use Rattle.rt_search.proofs.CountUnder.{inner_work}
 use Rattle.rt_search.proofs.Gathers.{can_enter, can_gather, leaf_gathered, not_gathered, upto_all, upto_more}
 use Rattle.rt_search.proofs.Gathers.{upto_none}
@@ -53,6 +52,14 @@ gather_under-returns-then-node-eq1-clause-gathered g t c =
     (g.met.G.Geometry.lawful geometry) tree c.requires.tree v small c.args.number.number c.requires.node
     (sym (ap (λ n. n.level) is) ∙ c.if-node-eq1.true) old)
 
+pub gather_under-child_nodes-children-requires : goal.gather_under-child_nodes-children-requires
+gather_under-child_nodes-children-requires g t c =
+    let tree = c.args.tree.now in
+    let number = c.args.number.number in
+    let is = c.node-node.ensures in
+    let high = is_high tree number c.node-node.result c.requires.node.tree is c.if-node-eq1.false in
+    children_inside tree number c.node-node.result c.requires.node.tree high is
+
 pub gather_under-loop-i-init : goal.gather_under-loop-i-init
 gather_under-loop-i-init g t c =
     let geometry = c.args.counted.now.geometry in
@@ -74,22 +81,24 @@ gather_under-gather_child-requires g t c κs within =
     let number = c.args.number.number in
     let small : v.score < 2 ^ 128 = search rules in
     let is = c.node-node.ensures in
-    let level = subtree_level tree (height_at tree number) (node_at tree number) c.requires.node.tree in
-    let same_level = ap (λ n. n.level) is in
-    let above = c.if-node-eq1.false in
-    let high : 2 ≤ (node_at tree number).level = omega (arith, level, same_level, above) in
-    let lt : c.loop-i.i < (node_at tree number).count = rw (← is) c.loop-i-test.true in
-    let child = c.child_node-child_number.result.number in
+    let high = is_high tree number c.node-node.result c.requires.node.tree is c.if-node-eq1.false in
+    let child = c.new-child_number.result.number in
+    let first = c.number-first.ensures ∙ c.child_node.ensures.value in
+    let new = c.new-child_number.ensures in
+    let at : child ≡ (node_at tree number).first + c.loop-i.i = omega (arith, first, new) in
+    let read = child_read tree number c.loop-i.i child c.node-node.result c.index-children-i.result
+    c.child_nodes-children.result.now c.requires.node.tree high is c.child_nodes-children.ensures c.loop-i-test.true
+    c.index-children-i.is at in
+    let lt = read.few in
     let info_is : c.info-info.result ≡ info_of_node tree v (node_at tree child) =
     c.info-info.ensures
-    ∙ ap (λ top. info_under top v c.node-child.result.bounds c.node-child.result.level) c.requires.top
-    ∙ ap (info_of_node tree v) c.node-child.ensures in
+    ∙ ap (λ top. info_under top v c.index-children-i.result.bounds c.index-children-i.result.level) c.requires.top
+    ∙ ap (info_of_node tree v) read.is in
     let inv = c.loop-i.invariant in
     let can = can_gather (g.G.Geometry.accepts geometry) (g.G.Geometry.score geometry) (g.G.Geometry.verdict geometry)
     law tree c.requires.tree v small number c.requires.node high c.loop-i.i child c.args.opened.now c.loop-i.opened
     c.args.counted.now.asked c.loop-i.counted.asked c.args.frontier.now.capacity c.args.frontier.now.items
-    c.loop-i.frontier.items c.info-info.result lt
-    c.child_node-child_number.ensures.value info_is inv.gathered inv.opened inv.asked c.requires.room c.requires.opened
+    c.loop-i.frontier.items c.info-info.result lt at info_is inv.gathered inv.opened inv.asked c.requires.room c.requires.opened
     c.requires.asked in
     let lower = can.lower in
     let top : c.info-info.result.top ≡ c.args.parent.top = ap (λ i. i.top) c.info-info.ensures in (
@@ -115,17 +124,19 @@ gather_under-loop-i-preserved g t c =
     let number = c.args.number.number in
     let small : v.score < 2 ^ 128 = search rules in
     let is = c.node-node.ensures in
-    let level = subtree_level tree (height_at tree number) (node_at tree number) c.requires.node.tree in
-    let same_level = ap (λ n. n.level) is in
-    let above = c.if-node-eq1.false in
-    let high : 2 ≤ (node_at tree number).level = omega (arith, level, same_level, above) in
-    let lt : c.loop-i.i < (node_at tree number).count = rw (← is) c.loop-i-test.true in
-    let at = c.child_node-child_number.ensures.value in
-    let child = c.child_node-child_number.result.number in
+    let high = is_high tree number c.node-node.result c.requires.node.tree is c.if-node-eq1.false in
+    let child = c.new-child_number.result.number in
+    let first = c.number-first.ensures ∙ c.child_node.ensures.value in
+    let new = c.new-child_number.ensures in
+    let at : child ≡ (node_at tree number).first + c.loop-i.i = omega (arith, first, new) in
+    let read = child_read tree number c.loop-i.i child c.node-node.result c.index-children-i.result
+    c.child_nodes-children.result.now c.requires.node.tree high is c.child_nodes-children.ensures c.loop-i-test.true
+    c.index-children-i.is at in
+    let lt = read.few in
     let info_is : c.info-info.result ≡ info_of_node tree v (node_at tree child) =
     c.info-info.ensures
-    ∙ ap (λ top. info_under top v c.node-child.result.bounds c.node-child.result.level) c.requires.top
-    ∙ ap (info_of_node tree v) c.node-child.ensures in
+    ∙ ap (λ top. info_under top v c.index-children-i.result.bounds c.index-children-i.result.level) c.requires.top
+    ∙ ap (info_of_node tree v) read.is in
     let inv = c.loop-i.invariant in
     let e = rw inv.geometry at c.gather_child.ensures in
     let opened = rw at at (rw info_is at e.opened) in
@@ -152,13 +163,11 @@ gather_under-returns-clause-gathered g t c =
     let number = c.args.number.number in
     let small : v.score < 2 ^ 128 = search rules in
     let is = c.node-node.ensures in
-    let level = subtree_level tree (height_at tree number) (node_at tree number) c.requires.node.tree in
-    let same_level = ap (λ n. n.level) is in
-    let above = c.if-node-eq1.false in
-    let high : 2 ≤ (node_at tree number).level = omega (arith, level, same_level, above) in
-    let same_count = ap (λ n. n.count) is in
+    let high = is_high tree number c.node-node.result c.requires.node.tree is c.if-node-eq1.false in
+    let count = children_count tree number c.node-node.result c.child_nodes-children.result.now c.requires.node.tree
+    high is c.child_nodes-children.ensures in
     let over = c.loop-i-test.false in
-    let i_is : c.loop-i.i ≡ (node_at tree number).count = omega (arith, same_count, over, c.loop-i.auto.i-end) in
+    let i_is : c.loop-i.i ≡ (node_at tree number).count = omega (arith, count, over, c.loop-i.auto.i-end) in
     upto_all (g.G.Geometry.accepts geometry) (g.G.Geometry.score geometry) (g.G.Geometry.verdict geometry) law tree
     c.requires.tree v small number c.requires.node high c.args.frontier.now.items c.loop-i.frontier.items
     (rw i_is at c.loop-i.invariant.gathered)
@@ -172,13 +181,11 @@ gather_under-returns-clause-opened g t c =
     let number = c.args.number.number in
     let small : v.score < 2 ^ 128 = search rules in
     let is = c.node-node.ensures in
-    let level = subtree_level tree (height_at tree number) (node_at tree number) c.requires.node.tree in
-    let same_level = ap (λ n. n.level) is in
-    let above = c.if-node-eq1.false in
-    let high : 2 ≤ (node_at tree number).level = omega (arith, level, same_level, above) in
-    let same_count = ap (λ n. n.count) is in
+    let high = is_high tree number c.node-node.result c.requires.node.tree is c.if-node-eq1.false in
+    let count = children_count tree number c.node-node.result c.child_nodes-children.result.now c.requires.node.tree
+    high is c.child_nodes-children.ensures in
     let over = c.loop-i-test.false in
-    let i_is : c.loop-i.i ≡ (node_at tree number).count = omega (arith, same_count, over, c.loop-i.auto.i-end) in
+    let i_is : c.loop-i.i ≡ (node_at tree number).count = omega (arith, count, over, c.loop-i.auto.i-end) in
     let work = inner_work (g.G.Geometry.accepts geometry) (g.G.Geometry.score geometry)
     (g.G.Geometry.verdict geometry) law tree c.requires.tree v small number c.requires.node high (is_reached None)
     one_node in
@@ -194,13 +201,11 @@ gather_under-returns-clause-asked g t c =
     let number = c.args.number.number in
     let small : v.score < 2 ^ 128 = search rules in
     let is = c.node-node.ensures in
-    let level = subtree_level tree (height_at tree number) (node_at tree number) c.requires.node.tree in
-    let same_level = ap (λ n. n.level) is in
-    let above = c.if-node-eq1.false in
-    let high : 2 ≤ (node_at tree number).level = omega (arith, level, same_level, above) in
-    let same_count = ap (λ n. n.count) is in
+    let high = is_high tree number c.node-node.result c.requires.node.tree is c.if-node-eq1.false in
+    let count = children_count tree number c.node-node.result c.child_nodes-children.result.now c.requires.node.tree
+    high is c.child_nodes-children.ensures in
     let over = c.loop-i-test.false in
-    let i_is : c.loop-i.i ≡ (node_at tree number).count = omega (arith, same_count, over, c.loop-i.auto.i-end) in
+    let i_is : c.loop-i.i ≡ (node_at tree number).count = omega (arith, count, over, c.loop-i.auto.i-end) in
     let work = inner_work (g.G.Geometry.accepts geometry) (g.G.Geometry.score geometry)
     (g.G.Geometry.verdict geometry) law tree c.requires.tree v small number c.requires.node high (is_reached None)
     its_children in

@@ -15,9 +15,9 @@ abbrev pub invariant-gather_under-loop-i : goal.invariant-gather_under-loop-i
 invariant-gather_under-loop-i g l =
     let geometry = l.initial.counted.geometry in
     let verdict = g.G.Geometry.verdict geometry in
-    let n = node_at l.tree l.number.number in
+    let n = node_at l.tree l.fn.number.number in
     record {
-      gathered : HasGatheredUpto (g.G.Geometry.accepts geometry) (g.G.Geometry.score geometry) l.tree l.number.number
+      gathered : HasGatheredUpto (g.G.Geometry.accepts geometry) (g.G.Geometry.score geometry) l.tree l.fn.number.number
           l.i l.initial.frontier.items l.frontier.items;
       opened : l.opened ≡ l.initial.opened
           + over_children (work_of_child (is_reached None) one_node verdict l.tree l.parent.verdict) n l.i;
