@@ -3,44 +3,48 @@
 SHELL := /bin/bash
 PREFIX ?= /usr/local
 
-# Crates are proved side by side, as far as crates.txt lets them, and each by so many processes.
+# Crates are proved side by side, as far as crates.txt lets them. JOBS=N gives each so many processes; without it each
+# takes the processors that are free when it begins (tools/prove).
 MAKEFLAGS += --jobs=$(shell nproc)
-JOBS ?= 2
+export JOBS
 
 CRATES := $(shell sed -n 's/^\([a-z0-9_]*\):.*/\1/p' crates.txt)
-LIBRARIES := $(filter-out rtfilter,$(CRATES))
+TESTS := $(filter %_tests,$(CRATES))
+LIBRARIES := $(filter-out rtfilter $(TESTS),$(CRATES))
 
-# The crates of this repository that a crate stands on, and its files and folders.
+# The crates of this repository that a crate stands on, those that stand on it, and its files and folders.
 below = $(filter $(CRATES),$(shell sed -n 's/^$(1)://p' crates.txt))
+all_below = $(sort $(foreach it,$(call below,$(1)),$(it) $(call all_below,$(it))))
+above = $(foreach crate,$(CRATES),$(if $(filter $(1),$(call all_below,$(crate))),$(crate)))
 sources = crates.txt $(shell find crates/$(1)/src crates/$(1)/specs crates/$(1)/proofs 2> /dev/null)
 
-# Runs rt on a crate, tells when it begins and ends, and shows what it said where it failed. No older program is left.
-define prove
-  mkdir -p build && rm -f build/rtfilter && echo "$(1): proving"
-  if (cd crates/$(1) && rt $(2)) < /dev/null > build/$(1).log 2>&1; then \
-    echo "$(1): proved in $$SECONDS s"; \
-  else \
-    grep -vE '(: proved|modules loaded=[0-9]+ checked=[0-9]+)$$|^so far|^logic /' build/$(1).log | tail -n 30 | cut -c 1-300; \
-    echo "$(1): NOT PROVED, and no program is built (build/$(1).log has all that rt said)"; \
-    exit 1; \
-  fi
-endef
-
-# The proved program.
+# The proved program. No older one is left where a crate is not proved.
 build/rtfilter: $(foreach it,$(call below,rtfilter),build/$(it).proved) $(call sources,rtfilter)
-	@$(call prove,rtfilter,run --jobs $(JOBS) -- /dev/null)
+	@tools/prove rtfilter run -- /dev/null
 	@cp crates/rtfilter/out/rtfilter build/rtfilter
 
 define library
 build/$(1).proved: $(foreach it,$(call below,$(1)),build/$(it).proved) $(call sources,$(1))
-	@$$(call prove,$(1),lib --jobs $(JOBS))
+	@rm -f build/rtfilter
+	@tools/prove $(1) lib
 	@touch build/$(1).proved
 endef
 $(foreach it,$(LIBRARIES),$(eval $(call library,$(it))))
 
+define tests
+build/$(1).passed: $(foreach it,$(call below,$(1)),build/$(it).proved) $(call sources,$(1))
+	@tools/prove $(1) test
+	@touch build/$(1).passed
+endef
+$(foreach it,$(TESTS),$(eval $(call tests,$(it))))
+
 # The example of the README.
 example: build/rtfilter
 	@build/rtfilter examples/boxes.csv examples/queries.txt
+
+# One library and its tests: make check CRATE=rt_geo.
+check: build/$(CRATE).proved $(patsubst %,build/%.passed,$(filter $(CRATE)_tests,$(TESTS)))
+	@echo "$(CRATE): proved and its tests passed. Not checked, and stands on it: $(filter-out $(TESTS),$(call above,$(CRATE)))"
 
 # Every proof from nothing, the edits that must be refused, the tests, the program's runs, and that the pages
 # show proved code.
@@ -61,5 +65,5 @@ uninstall:
 clean:
 	rm -rf build crates/*/out
 
-.PHONY: example test bench install uninstall clean
+.PHONY: example check test bench install uninstall clean
 .DEFAULT_GOAL := build/rtfilter
