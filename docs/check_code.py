@@ -4,9 +4,9 @@
 The line right above a fenced block of Rattle or antt says where the block comes from:
 
 - `<!-- from PATH -->`: it stands, line for line, in the file PATH of this repository.
-- `<!-- from PATH as FILE -->`: the same, as it reads in the file FILE of a reader's own crate, where
-  the names in OWN_NAMES differ. Such blocks show the whole of PATH, its imports too, but for the comment
-  at its head: a reader who copies them has a file that is proved.
+- `<!-- from PATH as FILE -->`: the same, as it reads in the file FILE of a reader's own crate, which is
+  named my_geometry. Such blocks show the whole of PATH, its imports too, but for the comment at its head:
+  a reader who copies them has a file that is proved.
 - `<!-- as FILE -->`: the reader's file FILE, which only names modules.
 
 A block without such a line is a failure, so that no page shows code that nothing checks.
@@ -24,17 +24,8 @@ SOURCE = re.compile(r"<!--(?: from (?P<path>\S+))?(?: as (?P<file>\S+))? -->")
 MODULES = re.compile(r"(//!.*|#!\[tactic\(auto\)\]|mod \w+;|pub use \w+::\w+;|pub mod \w+|)")
 PROVED_LANGUAGES = ("rust", "rattle", "antt")
 
-# What a reader's crate writes, and what the crate of this repository that holds the code writes in its place.
-OWN_NAMES = {
-    "rt_geo": [
-        ("use rt_geo::", "use crate::"),
-        ("Rattle.my_geometry.specs.", "Rattle.rt_geo.specs.Examples."),
-    ],
-    "rt_search": [
-        ("use crate::Uneven;", "use super::uneven::Uneven;"),
-        ("use rt_search::", "use crate::"),
-    ],
-}
+# The definitions of the reader's crate. The crate of this repository that holds the code has its own name there.
+READERS_SPECS = "Rattle.my_geometry.specs."
 
 
 class Block:
@@ -64,11 +55,10 @@ def blocks_of(page):
 
 def as_held(block):
     """The lines of a block as this repository has them."""
-    lines = block.lines
-    if block.file is not None and block.path is not None:
-        for own, held in OWN_NAMES.get(block.path.split("/")[1], []):
-            lines = [line.replace(own, held) for line in lines]
-    return lines
+    if block.file is None or block.path is None:
+        return block.lines
+    crate = block.path.split("/")[1]
+    return [line.replace(READERS_SPECS, f"Rattle.{crate}.specs.") for line in block.lines]
 
 
 def fault_of(block):

@@ -1,11 +1,11 @@
 #!/usr/bin/env python3
-"""The packing of a tree said once more in another language, plainly, and compared with what rt_tree's tests expect.
+"""The packing of a tree said once more in another language, plainly, and compared with what the tests of rt_tree expect.
 
 usage: tests/packing.py [--rows]
 
 Nothing in here is of the crate's code or of its definitions. A test of rt_tree makes the tables that are made here,
 packs them, and tells each whole tree, every entry and every node of it, by one number:
-`crates/rt_tree/src/tree/trees.rt` has the numbers that it must tell. They are compared with those of the trees that
+`crates/rt_tree_tests/src/trees.rt` has the numbers that it must tell. They are compared with those of the trees that
 are packed here. `--rows` prints the rows of that file in place of that. The last line is `N passed, M failed`.
 """
 
@@ -14,7 +14,7 @@ import re
 import sys
 from pathlib import Path
 
-ROWS = Path(__file__).resolve().parent.parent / "crates/rt_tree/src/tree/trees.rt"
+ROWS = Path(__file__).resolve().parent.parent / "crates/rt_tree_tests/src/trees.rt"
 ROW = re.compile(r"\(Kind::(\w+), (\d+), (\d+), (-?[\d_]+)\)")
 FANOUTS = 2, 3, 4, 16, 64
 FACTOR = 6364136223846793005

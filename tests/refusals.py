@@ -64,15 +64,15 @@ NO_TABLE = (3, b"", b"rtfilter: cannot read table\n")
 NO_QUERIES = b"rtfilter: cannot read queries\n"
 NOT_WRITTEN = b"rtfilter: cannot write answers\n"
 
-# The tests of single calls, crate by crate.
+# The tests of single calls, by the crates that hold them.
 TESTS = {
-    "rt_tree": [
-        "table::tests::a_refused_push_changes_nothing",
-        "table::tests::refused_entries_at_once_are_told",
-        "tree::tests::a_refused_packing_is_told",
+    "rt_tree_tests": [
+        "table::a_refused_push_changes_nothing",
+        "table::refused_entries_at_once_are_told",
+        "tree::a_refused_packing_is_told",
     ],
-    "rt_search": ["tests::a_refused_frontier_is_told"],
-    "rt_command": ["tests::a_refused_name_is_told", "tests::refused_settings_are_told"],
+    "rt_search_tests": ["searches::a_refused_frontier_is_told"],
+    "rt_command_tests": ["memory::a_refused_name_is_told", "memory::refused_settings_are_told"],
 }
 # What they say of a refused growth: of the call, and of what was made before it.
 TOLD, BEFOREHAND = b"told as refused", b"refused beforehand"

@@ -1,9 +1,9 @@
 #!/usr/bin/env python3
 """Random tables, searched by a plain best-first search of this script's own.
 
-It makes the tables of crates/rt_search/src/tests/random.rt, packs them sort-tile-recursively, searches and counts in
+It makes the tables of crates/rt_search_tests/src/random.rt, packs them sort-tile-recursively, searches and counts in
 them, and compares a digest of all answers, of the nodes opened after each and of the checks made with the number that
-stands there. The crate's own test compares the same number with what its search tells. The last line is
+stands there. A test of the crate compares the same number with what its search tells. The last line is
 `N passed, M failed`.
 """
 
@@ -13,7 +13,7 @@ import os
 import re
 import sys
 
-TEST = os.path.join(os.path.dirname(__file__), '..', 'crates', 'rt_search', 'src', 'tests', 'random.rt')
+TEST = os.path.join(os.path.dirname(__file__), '..', 'crates', 'rt_search_tests', 'src', 'random.rt')
 LEAST, MOST = -2**31, 2**31 - 1
 ENDS = [LEAST, -1, 0, 1, MOST]
 QUERIES = 3

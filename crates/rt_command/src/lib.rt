@@ -7,8 +7,6 @@
 mod invocation;
 mod name;
 mod settings;
-#[cfg(test)]
-mod tests;
 
 pub use invocation::{ArgFault, Invocation, settings_of};
 pub use name::Name;

@@ -19,6 +19,3 @@ pub use slice_sink::SliceSink;
 pub use slice_source::SliceSource;
 pub use source::{ReadFault, Source};
 pub use write_sink::WriteSink;
-
-#[cfg(test)]
-mod tests;

@@ -1,16 +1,20 @@
 -- Worked rows of runs: the definitions compute what is written, the fault and the status.
 use Rattle.std.proofs.Common.{◌≡◌, ◌∙◌, pos, false, true, ap, List, [], ◌∷◌, ◌++◌, ℕ, refl}
-use Rattle.std.specs.Prelude.{Ok, Err, Some, codes}
+use Rattle.std.specs.Prelude.{Ok, Err, Some, None, codes}
 use Rattle.std.specs.Fmt.{digits}
 use Rattle.rt_command.specs.Choices.{Choices, choices_of}
 use Rattle.rt_geo.specs.Orders.{order_score}
 use Rattle.rt_geo.specs.Shapes.{all_accepts}
+use Rattle.rt_geo.specs.declared.order.Order.TheVariants.{ById}
+use Rattle.rt_geo.specs.declared.region.Region.TheVariants.{Circle}
 use Rattle.rt_text.proofs.Rows.{boxes, boxes_entries, boxes_load, line}
 use Rattle.rt_text.specs.Queries.{near}
+use Rattle.rt_text.specs.declared.query.Query.TheVariants.{Find}
 use Rattle.rt_text.specs.declared.tables.TableFault.TheVariants as fault
 use Rattle.rt_search.specs.Answers.{answers}
 use Rattle.rt_filter.specs.Faults.{run_fault_line}
 use Rattle.rt_filter.specs.Lines.{numbered_lines}
+use Rattle.rt_filter.specs.Replies.{query_reply}
 use Rattle.rt_filter.specs.Runs.{Run, run_of, run_over, whole_run}
 use Rattle.rt_filter.specs.declared.filter.RunFault.TheVariants.{Table}
 use Rattle.rt_filter.proofs.RunLemmas.{loaded_with}
@@ -46,6 +50,11 @@ row_corners = refl
 row_circle : answered (codes "find circle 0 0 2") ≡ whole_run (line (codes "1 0") ++ line (codes "4 2") ++ line (codes "ok 1 2")) false
 unfolding digits
 row_circle = refl
+
+-- a circle's boxes by id, which no line asks for
+row_circle_by_id : query_reply (record { entries = boxes_entries; fanout = 2 }) 7 (Find (Circle (record { centre = record { x = pos 0; y = pos 0 }; radius = 2 })) (ById (record {})) None) ≡ line (codes "1 0") ++ line (codes "4 0") ++ line (codes "ok 7 2")
+unfolding digits
+row_circle_by_id = refl
 
 row_covers : answered (codes "find covers 5 5 5 5 smallest first 1") ≡ whole_run (line (codes "1 100") ++ line (codes "ok 1 1")) false
 unfolding digits

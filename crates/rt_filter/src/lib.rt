@@ -13,8 +13,6 @@ mod finding_all;
 mod pushing;
 mod reply;
 mod serving;
-#[cfg(test)]
-mod tests;
 
 pub use filter::{Outcome, RunFault, run, run_fault_line};
 pub use rt_command::{ArgFault, Invocation, Name, Settings, settings_of};

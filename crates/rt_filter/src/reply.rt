@@ -90,6 +90,3 @@ fn push_levels<K: Sink>(tree: &Tree, line: u128, sink: &mut K) -> Result<(), Wri
     }
     push_line(&ok_line(line, u64::from(count)), sink)
 }
-
-#[cfg(test)]
-mod tests;

@@ -2,7 +2,6 @@ pub mod Boxes
 pub mod Counted
 pub mod Distances
 pub mod Entries
-pub mod Examples
 pub mod HalfPlanes
 pub mod Laws
 pub mod Lemmas

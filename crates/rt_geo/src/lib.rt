@@ -49,6 +49,3 @@ pub use polygon::{Polygon, PolygonFault};
 pub use ranks::{ById, Near, Smallest};
 pub use region::Region;
 pub use shapes::{All, Circle, Covers, Inside, Window};
-
-#[cfg(test)]
-mod tests;

@@ -1,7 +1,6 @@
 -- Answers that were worked out by hand: the definitions give them by computing.
 use Rattle.std.proofs.Common.{◌≡◌, refl, ℕ, ℤ, pos, negsuc, zero, suc, Option, List, [], ◌∷◌, Some, None, length}
 use Rattle.rt_geo.specs.Boxes.{Rect, rect_of}
-use Rattle.rt_geo.specs.Examples.Uneven.{uneven_accepts, uneven_score, uneven_verdict}
 use Rattle.rt_geo.specs.Laws.{guided_verdict}
 use Rattle.rt_geo.specs.Ranks.{by_id_estimate, by_id_score, near_estimate, near_score}
 use Rattle.rt_geo.specs.Shapes.{all_accepts, all_state, window_accepts, window_state}
@@ -66,14 +65,6 @@ all_by_id = refl
 
 opened_by_id : opened_by_search all_accepts by_id_score (guided_verdict all_state by_id_estimate) tree None ≡ 6
 opened_by_id = refl
-
--- ---- a geometry that scores a node above its children
-
-uneven_answers : answers tree.entries uneven_accepts uneven_score (Some 2) ≡ (pos 1, 10) ∷ (pos 2, 10) ∷ []
-uneven_answers = refl
-
-uneven_opened : opened_by_search uneven_accepts uneven_score uneven_verdict tree (Some 1) ≡ 6
-uneven_opened = refl
 
 -- ---- counts
 

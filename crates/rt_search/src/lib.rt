@@ -35,6 +35,3 @@ pub use counts::Count;
 pub use frontier::Frontier;
 pub use full_search::FullSearch;
 pub use search::Search;
-
-#[cfg(test)]
-mod tests;

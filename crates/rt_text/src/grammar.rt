@@ -349,6 +349,3 @@ fn number_fault(fault: NumberFault) -> QueryFault
         NumberFault::OutOfRange => QueryFault::OutOfRange,
     }
 }
-
-#[cfg(test)]
-mod tests;

@@ -266,6 +266,3 @@ fn entry_of_sides(
         }),
     }
 }
-
-#[cfg(test)]
-mod tests;

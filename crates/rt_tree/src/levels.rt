@@ -83,6 +83,3 @@ impl Levels {
         self.sizes[level as usize]
     }
 }
-
-#[cfg(test)]
-mod tests;

@@ -143,6 +143,3 @@ impl Table {
         }
     }
 }
-
-#[cfg(test)]
-mod tests;

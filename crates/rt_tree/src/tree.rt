@@ -237,8 +237,3 @@ fn all_nodes(alloc: Global, entries: &[Entry], fanout: u8) -> Result<Vec<Node>, 
     nodes.extend_from_slice(&made)?;
     Ok(nodes)
 }
-
-#[cfg(test)]
-mod tests;
-#[cfg(test)]
-mod trees;

@@ -1,0 +1,9 @@
+//! Tests of `rt_command` through its public calls.
+#![tactic(auto)]
+
+#[cfg(test)]
+mod invocation;
+#[cfg(test)]
+mod memory;
+#[cfg(test)]
+mod settings;

@@ -1,0 +1,24 @@
+//! The ranges of the settings.
+
+use rt_command::Settings;
+
+#[test]
+fn settings_have_ranges(rt: HostRuntime) {
+    for (fanout, max_entries, is_allowed) in [
+        (2, 1, true),
+        (64, 16_777_216, true),
+        (1, 1, false),
+        (65, 1, false),
+        (2, 0, false),
+        (2, 16_777_217, false),
+    ] {
+        let settings = Settings::new(true, fanout, max_entries);
+        assert_eq!(rt; settings.is_some(), is_allowed);
+        if let Some(settings) = settings {
+            assert_eq!(rt;
+                (settings.header(), settings.fanout(), settings.max_entries()),
+                (true, fanout, max_entries)
+            );
+        }
+    }
+}

@@ -1,0 +1,102 @@
+//! Readers and writers that fail once and work afterwards: each failure is told and counted, and none is tried
+//! again behind the caller's back.
+
+use rt_device::{
+    ReadFault, ReadSource, Sink, SliceSink, SliceSource, Source, WriteFault, WriteSink,
+};
+use std::io::{self, Read, Write};
+
+/// A reader and writer that counts its calls. The first one fails, as if a signal had come; each later one moves a
+/// byte.
+#[derive(Drop)]
+struct FailsFirst {
+    calls: u64,
+}
+
+impl FailsFirst {
+    fn called(&mut self) -> io::Result<()> {
+        self.calls = self.calls.saturating_add(1);
+        match self.calls {
+            1 => Err(io::Error::from(io::ErrorKind::Interrupted)),
+            _ => Ok(()),
+        }
+    }
+}
+
+impl Read for FailsFirst {
+    fn read(&mut self, room: &mut [u8]) -> io::Result<usize> {
+        self.called()?;
+        Ok(room.len().min(1))
+    }
+}
+
+impl Write for FailsFirst {
+    fn write(&mut self, piece: &[u8]) -> io::Result<usize> {
+        self.called()?;
+        Ok(piece.len().min(1))
+    }
+
+    fn flush(&mut self) -> io::Result<()> {
+        self.called()
+    }
+}
+
+#[test]
+fn a_failed_read_is_told_once(rt: HostRuntime) {
+    let mut source = ReadSource::new(FailsFirst { calls: 0 });
+    assert_eq!(rt; source.failures(), 0);
+    assert_eq!(rt; source.pull(&mut [0; 4]), Err(ReadFault));
+    assert_eq!(rt; source.failures(), 1);
+    assert_eq!(rt; source.pull(&mut [0; 4]), Ok(1));
+    assert_eq!(rt; source.failures(), 1);
+}
+
+#[test]
+fn a_failed_write_is_told_once(rt: HostRuntime) {
+    let mut sink = WriteSink::new(FailsFirst { calls: 0 });
+    assert_eq!(rt; sink.push(b"ab"), Err(WriteFault));
+    assert_eq!(rt; sink.failures(), 1);
+    assert_eq!(rt; sink.push(b"ab"), Ok(1));
+    assert_eq!(rt; sink.flush(), Ok(()));
+    assert_eq!(rt; sink.failures(), 1);
+}
+
+#[test]
+fn a_failed_flush_is_told_once(rt: HostRuntime) {
+    let mut sink = WriteSink::new(FailsFirst { calls: 0 });
+    assert_eq!(rt; sink.flush(), Err(WriteFault));
+    assert_eq!(rt; sink.failures(), 1);
+    assert_eq!(rt; sink.flush(), Ok(()));
+    assert_eq!(rt; sink.failures(), 1);
+}
+
+#[test]
+fn a_write_that_takes_nothing_is_a_failure(rt: HostRuntime) {
+    let mut sink = WriteSink::new(&mut [][..]);
+    assert_eq!(rt; sink.push(b"a"), Ok(0));
+    assert_eq!(rt; sink.failures(), 1);
+}
+
+#[test]
+fn slices_give_and_take_in_pieces(rt: HostRuntime) {
+    let mut source = SliceSource::new(b"abcde", 2, Some(2));
+    let mut room = [0; 4];
+    assert_eq!(rt; source.pull(&mut room), Ok(2));
+    assert_eq!(rt; room, *b"ab\0\0");
+    assert_eq!(rt; source.pull(&mut room), Err(ReadFault));
+    assert_eq!(rt; source.pull(&mut room[..1]), Ok(1));
+    assert_eq!(rt; source.pull(&mut room), Ok(2));
+    assert_eq!(rt; room, *b"de\0\0");
+    assert_eq!(rt; source.pull(&mut room), Ok(0));
+    assert_eq!(rt; source.failures(), 1);
+
+    let mut room = [0; 4];
+    let mut sink = SliceSink::new(&mut room, 3, Some(2));
+    assert_eq!(rt; sink.push(b"abcd"), Ok(3));
+    assert_eq!(rt; sink.flush(), Err(WriteFault));
+    assert_eq!(rt; sink.push(b"de"), Ok(1));
+    assert_eq!(rt; sink.push(b"e"), Ok(0));
+    assert_eq!(rt; sink.flush(), Ok(()));
+    assert_eq!(rt; sink.failures(), 2);
+    assert_eq!(rt; sink.written(), b"abcd".as_slice());
+}

@@ -1,0 +1,204 @@
+//! Runs whose devices fail, at each place.
+
+use crate::given::{BOXES, FIND, FOUND, Given, PLAIN, WITH_HEADER};
+use rt_filter::{RunFault, Settings, SliceSink, SliceSource, run};
+use rt_text::{Axis, TableFault};
+use std::io::{self, Read};
+use std::process::Abort;
+use std::test::Fail;
+
+#[test]
+fn tells_failed_pulls(rt: HostRuntime) -> Result<(), Fail> {
+    let read = Some(RunFault::Read);
+    for fails in 1..24 {
+        let given = Given {
+            piece: 1,
+            pull_fails: Some(fails),
+            ..PLAIN
+        };
+        let written: &[u8] = if fails > 22 { FOUND } else { b"" };
+        given.expect(&rt, BOXES, FIND, written, 4, read)?;
+    }
+    let second = Given {
+        pull_fails: Some(2),
+        ..PLAIN
+    };
+    let all: &[u8] = b"1 0\n2 0\n3 0\n4 0\n5 0\nok 1 5\n";
+    second.expect(&rt, BOXES, b"find all\nfind a", all, 4, read)?;
+    let ended: &[u8] = b"1 0\n2 0\n3 0\n4 0\n5 0\nok 1 5\nerror 2 Q3 unknown region\n";
+    PLAIN.expect(&rt, BOXES, b"find all\nfind a", ended, 1, None)?;
+    // A failed pull stands before a faulty line.
+    second.expect(&rt, BOXES, b"x\n", b"error 1 Q2 unknown verb\n", 4, read)
+}
+
+#[test]
+fn drops_a_long_line_that_never_ends(rt: HostRuntime) -> Result<(), Fail> {
+    let mut letters = Vec::new(rt.alloc());
+    letters.resize(100_000, b'a')?;
+    for fails in [1, 2, 24, 25, 26] {
+        let given = Given {
+            pull_fails: Some(fails),
+            ..PLAIN
+        };
+        given.expect(&rt, BOXES, &letters, b"", 4, Some(RunFault::Read))?;
+    }
+    Ok(())
+}
+
+#[test]
+fn tells_room_that_runs_out(rt: HostRuntime) -> Result<(), Fail> {
+    let write = Some(RunFault::Write);
+    let front: &[u8] = b"\x31\x20\x30\x0a\x32";
+    for piece in [1, 2, 4097] {
+        let small = Given {
+            room: 5,
+            piece,
+            ..PLAIN
+        };
+        small.expect(&rt, BOXES, FIND, front, 5, write)?;
+        let with_header = Given {
+            header: true,
+            ..small
+        };
+        with_header.expect(&rt, WITH_HEADER, FIND, front, 5, write)?;
+    }
+    // A write fault stands before a faulty line.
+    let faulty = Given { room: 10, ..PLAIN };
+    faulty.expect(&rt, BOXES, b"x\n", b"error 1 Q2", 5, write)?;
+    faulty.expect(&rt, BOXES, b"x\nfind all", b"error 1 Q2", 5, write)
+}
+
+#[test]
+fn tells_failed_pushes(rt: HostRuntime) -> Result<(), Fail> {
+    let write = Some(RunFault::Write);
+    for fails in 1..17u64 {
+        let given = Given {
+            piece: 1,
+            push_fails: Some(fails),
+            ..PLAIN
+        };
+        let front = (fails - 1) as usize;
+        assert!(&rt; front <= FOUND.len());
+        given.expect(&rt, BOXES, FIND, &FOUND[..front], 5, write)?;
+    }
+    Given {
+        piece: 1,
+        push_fails: Some(17),
+        ..PLAIN
+    }
+    .expect(&rt, BOXES, FIND, FOUND, 0, None)?;
+    // Each line is pushed by itself, and after the third comes the flush.
+    for (fails, end) in [(1, 0), (2, 4), (3, 8), (4, 15)] {
+        let given = Given {
+            push_fails: Some(fails),
+            ..PLAIN
+        };
+        assert!(&rt; end <= FOUND.len());
+        given.expect(&rt, BOXES, FIND, &FOUND[..end], 5, write)?;
+    }
+    Ok(())
+}
+
+#[test]
+fn loads_no_truncated_table_as_a_whole(rt: HostRuntime) -> Result<(), Fail> {
+    let found: &[u8] = b"1 0\nok 1 1\n";
+    let fields = |found| TableFault::FieldCount { number: 1, found };
+    let cases = [
+        (5, fields(3)),
+        (8, fields(4)),
+        (
+            9,
+            TableFault::NotNumber {
+                number: 1,
+                field: 5,
+            },
+        ),
+    ];
+    for (end, fault) in cases {
+        PLAIN.expect(
+            &rt,
+            &BOXES[..end],
+            b"find all",
+            b"",
+            3,
+            Some(RunFault::Table(fault)),
+        )?;
+    }
+    for end in [10, 11, 12] {
+        PLAIN.expect(&rt, &BOXES[..end], b"find all", found, 0, None)?;
+    }
+    let open: &[u8] = b"\"1,0,10,0,10\n";
+    PLAIN.expect(
+        &rt,
+        open,
+        b"find all",
+        b"",
+        3,
+        Some(RunFault::Table(fields(1))),
+    )
+}
+
+/// Gives bytes one at a time, and fails at one of its reads.
+#[derive(Drop)]
+struct Broken<'a> {
+    bytes: &'a [u8],
+    at: usize,
+}
+
+impl<'a> Read for Broken<'a> {
+    fn read(&mut self, buf: &mut [u8]) -> io::Result<usize> {
+        match (self.bytes.get(self.at), buf.first_mut()) {
+            (Some(byte), Some(place)) => {
+                *place = *byte;
+                self.at = self.at.saturating_add(1);
+                Ok(1)
+            }
+            _ => Err(io::Error::from(io::ErrorKind::BrokenPipe)),
+        }
+    }
+}
+
+// The fault of a run over so many bytes of a table and then a failed read. Nothing is read or written beside it.
+fn broken_after<R: Abort + AllocGlobal>(
+    rt: &R,
+    table: &[u8],
+    reads: usize,
+) -> Result<Option<RunFault>, Fail> {
+    let settings = Settings::new(false, 16, 16).ok_or("settings")?;
+    let mut source = SliceSource::new(FIND, 4097, Some(1));
+    let mut room = [0u8; 64];
+    let mut sink = SliceSink::new(&mut room, 64, Some(1));
+    let reader = Broken {
+        bytes: &table[..reads.min(table.len())],
+        at: 0,
+    };
+    let outcome = run(
+        rt.alloc(),
+        &settings,
+        reader,
+        &mut source,
+        &mut sink,
+        u64::MAX,
+    );
+    assert_eq!(rt; outcome.status, 3);
+    assert_eq!(rt; sink.written(), b"".as_slice());
+    Ok(outcome.fault)
+}
+
+#[test]
+fn tells_each_failed_read_of_the_table(rt: HostRuntime) -> Result<(), Fail> {
+    let read = Some(RunFault::Table(TableFault::Read));
+    for reads in 0..=BOXES.len() {
+        assert_eq!(rt; broken_after(&rt, BOXES, reads)?, read);
+    }
+    let turned: &[u8] = b"1,5,4,0,0\n";
+    let own = Some(RunFault::Table(TableFault::MinAboveMax {
+        number: 1,
+        axis: Axis::X,
+    }));
+    for reads in 0..10 {
+        assert_eq!(rt; broken_after(&rt, turned, reads)?, read);
+    }
+    assert_eq!(rt; broken_after(&rt, turned, 10)?, own);
+    Ok(())
+}

@@ -1,0 +1,72 @@
+//! A run over bytes in memory: what it is given, and what it has to give.
+
+use rt_filter::{Outcome, RunFault, Settings, Sink, SliceSink, SliceSource, Source, run};
+use std::process::Abort;
+use std::test::Fail;
+
+pub(crate) const BOXES: &[u8] =
+    b"1,0,10,0,10\n2,5,15,5,15\n3,20,30,0,10\n4,-5,-1,-5,-1\n5,12,12,12,12\n";
+
+pub(crate) const WITH_HEADER: &[u8] =
+    b"id,minX,maxX,minY,maxY\n1,0,10,0,10\n2,5,15,5,15\n3,20,30,0,10\n4,-5,-1,-5,-1\n5,12,12,12,12\n";
+
+pub(crate) const FIND: &[u8] = b"find window 0 10 0 10\n";
+
+pub(crate) const FOUND: &[u8] = b"1 0\n2 0\nok 1 2\n";
+
+/// What a run is given beside its table and its queries.
+#[derive(Clone, Copy)]
+pub(crate) struct Given {
+    pub(crate) header: bool,
+    pub(crate) fanout: u8,
+    pub(crate) max_entries: u32,
+    pub(crate) piece: usize,
+    pub(crate) room: usize,
+    pub(crate) pull_fails: Option<u64>,
+    pub(crate) push_fails: Option<u64>,
+    pub(crate) turns: u64,
+}
+
+pub(crate) const PLAIN: Given = Given {
+    header: false,
+    fanout: 16,
+    max_entries: 16_777_216,
+    piece: 4097,
+    room: 256,
+    pull_fails: None,
+    push_fails: None,
+    turns: u64::MAX,
+};
+
+impl Given {
+    /// Runs, and compares what was written, the status and the fault.
+    pub(crate) fn expect<R: Abort + AllocGlobal>(
+        self,
+        rt: &R,
+        table: &[u8],
+        queries: &[u8],
+        written: &[u8],
+        status: u8,
+        fault: Option<RunFault>,
+    ) -> Result<(), Fail> {
+        let settings = Settings::new(self.header, self.fanout, self.max_entries).ok_or("settings")?;
+        assert!(rt; self.piece > 0 && self.room <= 256);
+        let mut source = SliceSource::new(queries, self.piece, self.pull_fails);
+        let mut room = [0u8; 256];
+        let mut sink = SliceSink::new(&mut room[..self.room], self.piece, self.push_fails);
+        let outcome = run(
+            rt.alloc(),
+            &settings,
+            table,
+            &mut source,
+            &mut sink,
+            self.turns,
+        );
+        assert_eq!(rt; sink.written(), written);
+        assert_eq!(rt; outcome, Outcome { status, fault });
+        let pulls = u64::from(fault == Some(RunFault::Read) && self.pull_fails.is_some());
+        let pushes = u64::from(fault == Some(RunFault::Write));
+        assert_eq!(rt; (source.failures(), sink.failures()), (pulls, pushes));
+        Ok(())
+    }
+}

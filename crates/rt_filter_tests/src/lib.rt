@@ -1,0 +1,13 @@
+//! Tests of `rt_filter` through its public calls.
+#![tactic(auto)]
+
+#[cfg(test)]
+mod failures;
+#[cfg(test)]
+mod given;
+#[cfg(test)]
+mod replies;
+#[cfg(test)]
+mod runs;
+#[cfg(test)]
+mod turns;

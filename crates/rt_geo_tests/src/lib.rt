@@ -1,0 +1,12 @@
+//! Tests of `rt_geo` through its public calls: what no clause says, as that the definitions give the answers that were
+//! worked out by hand, and that each type can be used through its bound.
+#![tactic(auto)]
+
+#[cfg(test)]
+mod asked;
+#[cfg(test)]
+mod geometries;
+#[cfg(test)]
+mod polygons;
+#[cfg(test)]
+mod watched;

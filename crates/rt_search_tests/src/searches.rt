@@ -1,0 +1,400 @@
+//! Searches and counts over small trees, with answers and numbers that were worked out by hand.
+
+use crate::searching::first_answer;
+use crate::tables::{Sides, boxed, push};
+use crate::uneven::Uneven;
+use crate::watched::Watched;
+use rt_geo::{
+    All, ById, Circle, Counted, Geometry, Guided, Inside, Near, Order, Point, Region, Window,
+};
+use rt_search::{Count, Frontier, FullSearch, Search, count};
+use rt_tree::{Table, Tree};
+use std::alloc::Global;
+use std::process::Abort;
+use std::test::Fail;
+
+// The five boxes of the examples, in the order of their records.
+static BOXES: [(i64, Sides); 5] = [
+    (1, [0, 10, 0, 10]),
+    (2, [5, 15, 5, 15]),
+    (3, [20, 30, 0, 10]),
+    (4, [-5, -1, -5, -1]),
+    (5, [12, 12, 12, 12]),
+];
+
+fn pack(rt: &impl Abort, alloc: Global, boxes: &[(i64, Sides)]) -> Tree {
+    let mut table = Table::empty(alloc);
+    for (id, sides) in boxes {
+        push(rt, &mut table, *id, boxed(rt, *sides));
+    }
+    Tree::pack(alloc, table, 2).expect(rt, "there is memory")
+}
+
+// 64 boxes round the origin: all one point, or each wider than the last.
+fn nested(rt: &impl Abort, alloc: Global, grows: bool) -> Tree {
+    let mut table = Table::empty(alloc);
+    for id in 1..65_i32 {
+        let high = if grows { id } else { 0 };
+        let low = high.wrapping_neg();
+        let bounds = boxed(rt, [low, high, low, high]);
+        push(rt, &mut table, id as i64, bounds);
+    }
+    Tree::pack(alloc, table, 2).expect(rt, "there is memory")
+}
+
+// What a search has to give and to do: its answers, the nodes opened and the checks made.
+#[derive(Clone, Copy)]
+struct Want<'a> {
+    answers: &'a [(i64, u128)],
+    opened: u64,
+    asked: u64,
+}
+
+fn expect_search<G: Geometry>(
+    rt: &impl Abort,
+    alloc: Global,
+    tree: &Tree,
+    geometry: &G,
+    limit: Option<u64>,
+    want: &Want<'_>,
+) {
+    let frontier = Frontier::new(alloc, tree.len()).expect(rt, "there is memory");
+    let mut search = Search::start(tree, frontier, Counted::new(geometry), limit);
+    for answer in want.answers {
+        assert_eq!(rt; search.next(), Some(*answer));
+    }
+    assert_eq!(rt; search.next(), None);
+    assert_eq!(rt; search.next(), None);
+    assert_eq!(rt; search.opened(), want.opened);
+    let (frontier, counted) = search.finish();
+    assert_eq!(rt; counted.asked(), want.asked);
+    assert_eq!(rt; frontier.capacity(), tree.len());
+}
+
+// The same of a search for all answers.
+fn expect_full_search<G: Geometry>(
+    rt: &impl Abort,
+    alloc: Global,
+    tree: &Tree,
+    geometry: &G,
+    want: &Want<'_>,
+) {
+    expect_search(rt, alloc, tree, geometry, None, want);
+    let frontier = Frontier::new(alloc, tree.len()).expect(rt, "there is memory");
+    let mut search = FullSearch::start(tree, frontier, Counted::new(geometry));
+    assert_eq!(rt; search.opened(), want.opened);
+    for answer in want.answers {
+        assert_eq!(rt; search.next(), Some(*answer));
+    }
+    assert_eq!(rt; search.next(), None);
+    assert_eq!(rt; search.next(), None);
+    assert_eq!(rt; search.opened(), want.opened);
+    let (frontier, counted) = search.finish();
+    assert_eq!(rt; counted.asked(), want.asked);
+    assert_eq!(rt; frontier.capacity(), tree.len());
+}
+
+fn expect_count<G: Geometry>(
+    rt: &impl Abort,
+    alloc: Global,
+    tree: &Tree,
+    geometry: &G,
+    want: Count,
+) {
+    let mut frontier = Frontier::new(alloc, tree.len()).expect(rt, "there is memory");
+    let mut counted = Counted::new(geometry);
+    assert_eq!(rt; count(tree, &mut frontier, &mut counted), want);
+    assert!(rt; frontier.is_empty());
+}
+
+fn near(x: i32, y: i32) -> Guided<All, Near> {
+    Guided {
+        shape: All,
+        rank: Near(Point { x, y }),
+    }
+}
+
+fn all_by_id() -> Guided<All, ById> {
+    Guided {
+        shape: All,
+        rank: ById,
+    }
+}
+
+#[test]
+fn the_nearest_are_found_with_exact_work(rt: HostRuntime) {
+    let tree = pack(&rt, rt.alloc(), &BOXES);
+    let geometry = near(12, 12);
+    for (limit, want) in [
+        (
+            3,
+            Want {
+                answers: &[(2, 0), (5, 0), (1, 8)],
+                opened: 5,
+                asked: 9,
+            },
+        ),
+        (
+            2,
+            Want {
+                answers: &[(2, 0), (5, 0)],
+                opened: 3,
+                asked: 5,
+            },
+        ),
+        (
+            0,
+            Want {
+                answers: &[],
+                opened: 0,
+                asked: 0,
+            },
+        ),
+    ] {
+        expect_search(&rt, rt.alloc(), &tree, &geometry, Some(limit), &want);
+    }
+}
+
+#[test]
+fn nodes_come_before_entries_at_equal_score(rt: HostRuntime) {
+    let tree = pack(&rt, rt.alloc(), &BOXES);
+    let want = Want {
+        answers: &[(1, 0), (2, 0), (3, 0), (4, 0), (5, 0)],
+        opened: 6,
+        asked: 10,
+    };
+    expect_full_search(&rt, rt.alloc(), &tree, &all_by_id(), &want);
+}
+
+// No query line asks so: one that has a circle and no order asks for the nearest first.
+#[test]
+fn circles_are_told_by_id_too(rt: HostRuntime) {
+    let tree = pack(&rt, rt.alloc(), &BOXES);
+    let circle = Guided {
+        shape: Region::Circle(Circle {
+            centre: Point::default(),
+            radius: 2,
+        }),
+        rank: Order::ById(ById),
+    };
+    let want = Want {
+        answers: &[(1, 0), (4, 0)],
+        opened: 3,
+        asked: 6,
+    };
+    expect_full_search(&rt, rt.alloc(), &tree, &circle, &want);
+}
+
+#[test]
+fn a_node_may_score_above_its_children(rt: HostRuntime) {
+    let tree = pack(&rt, rt.alloc(), &BOXES);
+    let all = Want {
+        answers: &[(1, 10), (2, 10), (3, 10), (4, 10), (5, 10)],
+        opened: 6,
+        asked: 10,
+    };
+    expect_full_search(&rt, rt.alloc(), &tree, &Uneven, &all);
+    let first = Want {
+        answers: &[(1, 10)],
+        opened: 6,
+        asked: 10,
+    };
+    expect_search(&rt, rt.alloc(), &tree, &Uneven, Some(1), &first);
+    let frontier = Frontier::new(rt.alloc(), tree.len()).expect(&rt, "there is memory");
+    let (answer, opened, _frontier) = first_answer(&tree, frontier);
+    assert_eq!(rt; (answer, opened), (Some((1, 10)), 6));
+}
+
+#[test]
+fn counts_whole_subtrees(rt: HostRuntime) {
+    let tree = pack(&rt, rt.alloc(), &BOXES);
+    let window = Guided {
+        shape: Window(boxed(&rt, [0, 10, 0, 10])),
+        rank: ById,
+    };
+    expect_count(
+        &rt,
+        rt.alloc(),
+        &tree,
+        &window,
+        Count {
+            accepted: 2,
+            opened: 5,
+        },
+    );
+    expect_count(
+        &rt,
+        rt.alloc(),
+        &tree,
+        &all_by_id(),
+        Count {
+            accepted: 5,
+            opened: 1,
+        },
+    );
+}
+
+#[test]
+fn nothing_is_opened_in_an_empty_tree(rt: HostRuntime) {
+    let tree = pack(&rt, rt.alloc(), &[]);
+    let want = Want {
+        answers: &[],
+        opened: 0,
+        asked: 0,
+    };
+    expect_full_search(&rt, rt.alloc(), &tree, &all_by_id(), &want);
+    expect_count(
+        &rt,
+        rt.alloc(),
+        &tree,
+        &all_by_id(),
+        Count {
+            accepted: 0,
+            opened: 0,
+        },
+    );
+}
+
+#[test]
+fn equal_boxes_are_all_opened_for_the_nearest(rt: HostRuntime) {
+    let tree = nested(&rt, rt.alloc(), false);
+    let nearest = Want {
+        answers: &[(1, 0)],
+        opened: 63,
+        asked: 126,
+    };
+    expect_search(&rt, rt.alloc(), &tree, &near(0, 0), Some(1), &nearest);
+    let window = Guided {
+        shape: Window(boxed(&rt, [1, 1, 1, 1])),
+        rank: ById,
+    };
+    let none = Want {
+        answers: &[],
+        opened: 1,
+        asked: 2,
+    };
+    expect_full_search(&rt, rt.alloc(), &tree, &window, &none);
+    expect_count(
+        &rt,
+        rt.alloc(),
+        &tree,
+        &all_by_id(),
+        Count {
+            accepted: 64,
+            opened: 1,
+        },
+    );
+}
+
+#[test]
+fn nested_boxes_are_told_apart(rt: HostRuntime) {
+    let tree = nested(&rt, rt.alloc(), true);
+    let nearest = Want {
+        answers: &[(64, 2592)],
+        opened: 6,
+        asked: 12,
+    };
+    expect_search(&rt, rt.alloc(), &tree, &near(100, 100), Some(1), &nearest);
+    let inside = Guided {
+        shape: Inside(boxed(&rt, [-32, 32, -32, 32])),
+        rank: ById,
+    };
+    expect_count(
+        &rt,
+        rt.alloc(),
+        &tree,
+        &inside,
+        Count {
+            accepted: 32,
+            opened: 32,
+        },
+    );
+}
+
+#[test]
+fn the_corners_of_the_plane_have_their_scores(rt: HostRuntime) {
+    let corners: [(i64, Sides); 4] = [
+        (1, [i32::MIN, i32::MIN, i32::MIN, i32::MIN]),
+        (2, [i32::MAX, i32::MAX, i32::MIN, i32::MIN]),
+        (3, [i32::MIN, i32::MIN, i32::MAX, i32::MAX]),
+        (4, [i32::MAX, i32::MAX, i32::MAX, i32::MAX]),
+    ];
+    let tree = pack(&rt, rt.alloc(), &corners);
+    let want = Want {
+        answers: &[
+            (1, 0),
+            (2, 18_446_744_065_119_617_025),
+            (3, 18_446_744_065_119_617_025),
+            (4, 36_893_488_130_239_234_050),
+        ],
+        opened: 3,
+        asked: 6,
+    };
+    expect_search(
+        &rt,
+        rt.alloc(),
+        &tree,
+        &near(i32::MIN, i32::MIN),
+        Some(4),
+        &want,
+    );
+}
+
+#[test]
+fn at_equal_scores_the_lowest_id_comes_first(rt: HostRuntime) {
+    let origin: Sides = [0, 0, 0, 0];
+    let boxes: [(i64, Sides); 4] = [
+        (0, origin),
+        (i64::MAX, origin),
+        (i64::MIN, origin),
+        (-1, origin),
+    ];
+    let tree = pack(&rt, rt.alloc(), &boxes);
+    let want = Want {
+        answers: &[(i64::MIN, 25), (-1, 25), (0, 25), (i64::MAX, 25)],
+        opened: 3,
+        asked: 6,
+    };
+    expect_full_search(&rt, rt.alloc(), &tree, &near(3, 4), &want);
+}
+
+// The greatest x of what is shown, in the order in which nodes are opened and their children stand.
+#[test]
+fn nodes_are_opened_by_score_and_number(rt: HostRuntime) {
+    let tree = pack(&rt, rt.alloc(), &BOXES);
+    let by_id = Watched::new(all_by_id());
+    let all = Want {
+        answers: &[(1, 0), (2, 0), (3, 0), (4, 0), (5, 0)],
+        opened: 6,
+        asked: 10,
+    };
+    expect_search(&rt, rt.alloc(), &tree, &by_id, None, &all);
+    // root; d, a, c; e, b
+    let want = [30, 15, 10, 30, -1, 10, 30, 15, 15, 12];
+    assert_eq!(rt; by_id.shown(), want);
+
+    let by_distance = Watched::new(near(12, 12));
+    let three = Want {
+        answers: &[(2, 0), (5, 0), (1, 8)],
+        opened: 5,
+        asked: 9,
+    };
+    expect_search(&rt, rt.alloc(), &tree, &by_distance, Some(3), &three);
+    // root; e, b; d, a; never c
+    let want = [30, 15, 15, 15, 12, 10, 30, -1, 10, 0];
+    assert_eq!(rt; by_distance.shown(), want);
+}
+
+// Where an allocator refuses one growth, as tests/refusals.py has it, this tells so, and else it passes.
+#[test]
+fn a_refused_frontier_is_told(rt: HostRuntime) -> Result<(), Fail> {
+    for capacity in [0, 1, 5, 100_000] {
+        let Ok(frontier) = Frontier::new(rt.alloc(), capacity) else {
+            assert!(rt; Frontier::new(rt.alloc(), capacity).is_ok());
+            return Err(Fail::new("told as refused"));
+        };
+        assert_eq!(rt; frontier.capacity(), capacity);
+        assert!(rt; frontier.is_empty());
+    }
+    Ok(())
+}

@@ -1,0 +1,19 @@
+//! Boxes, and tables of them.
+
+use rt_geo::{Bounds, Entry};
+use rt_tree::Table;
+use std::process::Abort;
+
+pub(crate) type Sides = [i32; 4];
+
+pub(crate) fn boxed(rt: &impl Abort, sides: Sides) -> Bounds {
+    let [min_x, max_x, min_y, max_y] = sides;
+    Bounds::new(min_x, max_x, min_y, max_y).expect(rt, "the minimums are at most the maximums")
+}
+
+pub(crate) fn push(rt: &impl Abort, table: &mut Table, id: i64, bounds: Bounds) {
+    assert!(rt; table.len() < Table::MOST_ENTRIES, "there is room");
+    table
+        .push(Entry { id, bounds })
+        .expect(rt, "the id is new, and there is memory");
+}

@@ -1,0 +1,34 @@
+//! A geometry of one's own: an example of `docs/write-your-own-geometry.md`.
+
+use rt_geo::{Geometry, Info, Verdict, Within};
+
+/// Accepts every box. A box scores 10, a node of level l the lesser of l and 10, so that a high node
+/// scores above its children.
+#[derive(Clone, Copy, Debug)]
+pub struct Uneven;
+
+impl Geometry for Uneven {
+    ghost use Rattle.rt_search_tests.specs.Uneven.{uneven_accepts, uneven_score, uneven_verdict};
+
+    ghost accepts = { λ _. uneven_accepts };
+
+    ghost score = { λ _. uneven_score };
+
+    ghost verdict = { λ _. uneven_verdict };
+
+    fn check(&self, info: &Info) -> Verdict {
+        let score = if info.level == 0 {
+            10
+        } else {
+            info.level.min(10) as u128
+        };
+        Verdict {
+            within: Within::Fully,
+            score,
+        }
+    }
+
+    ghost use Rattle.rt_search_tests.specs.Uneven.{uneven-lawful};
+
+    ghost lawful = { λ _. uneven-lawful };
+}

@@ -1,0 +1,180 @@
+//! Query lines, and what each asks or is told. The expectations were worked out by hand.
+
+use rt_geo::{
+    All, Bounds, ById, Circle, Covers, Inside, Near, Order, Point, Polygon, Region, Smallest,
+    Window,
+};
+use rt_text::{Parsed, Query, QueryFault, parse};
+use std::test::Fail;
+
+/// Lines that are faulty, each under its first fault from left to right.
+static FAULTS: [(&[u8], QueryFault); 46] = [
+    (b"Find all", QueryFault::UnknownVerb),
+    (b"FIND all", QueryFault::UnknownVerb),
+    (b"finds all", QueryFault::UnknownVerb),
+    (b"\xff", QueryFault::UnknownVerb),
+    (b"all", QueryFault::UnknownVerb),
+    (b"\xef\xbb\xbffind all", QueryFault::UnknownVerb),
+    (b"find alls", QueryFault::UnknownRegion),
+    (b"find all\r\r", QueryFault::UnknownRegion),
+    (b"count near", QueryFault::UnknownRegion),
+    (b"find", QueryFault::MissingWord),
+    (b"count", QueryFault::MissingWord),
+    (b"nearest", QueryFault::MissingWord),
+    (b"nearest 3 1", QueryFault::MissingWord),
+    (b"find window 1", QueryFault::MissingWord),
+    (b"find circle 1 2", QueryFault::MissingWord),
+    (b"find all near 1", QueryFault::MissingWord),
+    (b"find all first", QueryFault::MissingWord),
+    (b"find polygon", QueryFault::MissingWord),
+    (b"find polygon 3 0 0 5 5 10", QueryFault::MissingWord),
+    (b"find window 0 10 x 1", QueryFault::NotNumber),
+    (b"find window 10 0 x 1", QueryFault::NotNumber),
+    (b"find window 10 0 0 x", QueryFault::NotNumber),
+    (b"find polygon x", QueryFault::NotNumber),
+    (b"find polygon 3 0 0 5 y", QueryFault::NotNumber),
+    (b"nearest first 1 1", QueryFault::NotNumber),
+    (b"nearest 1 99999999999 0", QueryFault::OutOfRange),
+    (b"nearest -1 x 0", QueryFault::OutOfRange),
+    (b"find circle 0 0 -1", QueryFault::OutOfRange),
+    (b"find circle 0 0 4294967296", QueryFault::OutOfRange),
+    (
+        b"find all first 18446744073709551616",
+        QueryFault::OutOfRange,
+    ),
+    (b"find window 0 2147483648 1 0", QueryFault::OutOfRange),
+    (b"find window 10 0 0 10", QueryFault::MinAboveMax),
+    (b"find inside 0 10 10 0", QueryFault::MinAboveMax),
+    (b"find covers 10 0 0 10 x", QueryFault::MinAboveMax),
+    (b"find polygon 2 0 0", QueryFault::VertexCount),
+    (b"find polygon 17", QueryFault::VertexCount),
+    (
+        b"find polygon -9999999999999999999999",
+        QueryFault::VertexCount,
+    ),
+    (b"find polygon 3 0 0 5 5 10 10", QueryFault::NotConvex),
+    (b"find polygon 3 0 0 5 5 10 10 x", QueryFault::NotConvex),
+    (b"find polygon 3 0 0 0 0 1 1", QueryFault::NotConvex),
+    (b"find all x", QueryFault::StrayWord),
+    (b"find all first 3 near 1 1", QueryFault::StrayWord),
+    (b"find all smallest near 1 1", QueryFault::StrayWord),
+    (b"nearest 1 0 0 first 1", QueryFault::StrayWord),
+    (b"count all first 1", QueryFault::StrayWord),
+    (b"levels x", QueryFault::StrayWord),
+];
+
+#[test]
+fn faults(rt: HostRuntime) {
+    for (line, fault) in &FAULTS {
+        assert_eq!(rt; parse(*line), Parsed::Fault(*fault));
+    }
+}
+
+#[test]
+fn skipped_lines(rt: HostRuntime) {
+    let lines: [&[u8]; 6] = [b"", b"\r", b" \t ", b"#", b"  # find all", b"#find\r"];
+    for line in lines {
+        assert_eq!(rt; parse(line), Parsed::Skip);
+    }
+}
+
+// What `find` asks with this region, order and limit.
+fn find(region: Region, order: Order, limit: Option<u64>) -> Parsed {
+    Parsed::Query(Query::Find {
+        region,
+        order,
+        limit,
+    })
+}
+
+#[test]
+fn regions(rt: HostRuntime) -> Result<(), Fail> {
+    let by_id = Order::ById(ById);
+    let sides = Bounds::new(-1, 2, -3, 4).ok_or("sides")?;
+    let widest = Bounds::new(i32::MIN, i32::MAX, i32::MIN, i32::MAX).ok_or("widest")?;
+    assert_eq!(rt; parse(b"find all"), find(Region::All(All), by_id, None));
+    assert_eq!(rt;
+        parse(b"\tfind  window -1 +2 -03 4 \r"),
+        find(Region::Window(Window(sides)), by_id, None)
+    );
+    assert_eq!(rt;
+        parse(b"find window -2147483648 2147483647 -2147483648 2147483647"),
+        find(Region::Window(Window(widest)), by_id, None)
+    );
+    assert_eq!(rt;
+        parse(b"find inside -1 2 -3 4"),
+        find(Region::Inside(Inside(sides)), by_id, None)
+    );
+    assert_eq!(rt;
+        parse(b"find covers -1 2 -3 4"),
+        find(Region::Covers(Covers(sides)), by_id, None)
+    );
+    let centre = Point { x: -1, y: 2 };
+    let circle = Circle {
+        centre,
+        radius: u32::MAX,
+    };
+    assert_eq!(rt;
+        parse(b"find circle -1 2 4294967295"),
+        find(Region::Circle(circle), Order::Near(Near(centre)), None)
+    );
+    let triangle = Polygon::new(&[
+        Point { x: 0, y: 0 },
+        Point { x: 30, y: 0 },
+        Point { x: 0, y: 30 },
+    ]);
+    assert_eq!(rt;
+        parse(b"find polygon 3 0 0 30 0 0 30"),
+        find(
+            Region::Polygon(triangle.ok().ok_or("triangle")?),
+            by_id,
+            None
+        )
+    );
+    Ok(())
+}
+
+#[test]
+fn orders_and_limits(rt: HostRuntime) {
+    let near = Order::Near(Near(Point { x: 5, y: -6 }));
+    let smallest = Order::Smallest(Smallest);
+    assert_eq!(rt;
+        parse(b"find all near 5 -6"),
+        find(Region::All(All), near, None)
+    );
+    assert_eq!(rt;
+        parse(b"find all smallest"),
+        find(Region::All(All), smallest, None)
+    );
+    assert_eq!(rt;
+        parse(b"find all first 0"),
+        find(Region::All(All), Order::ById(ById), Some(0))
+    );
+    assert_eq!(rt;
+        parse(b"find all smallest first 18446744073709551615"),
+        find(Region::All(All), smallest, Some(u64::MAX))
+    );
+    assert_eq!(rt;
+        parse(b"nearest 7 5 -6"),
+        find(Region::All(All), near, Some(7))
+    );
+    let circle = Circle {
+        centre: Point { x: 1, y: 2 },
+        radius: 3,
+    };
+    assert_eq!(rt;
+        parse(b"find circle 1 2 3 near 5 -6 first 2"),
+        find(Region::Circle(circle), near, Some(2))
+    );
+}
+
+#[test]
+fn counts_and_levels(rt: HostRuntime) {
+    assert_eq!(rt;
+        parse(b"count all"),
+        Parsed::Query(Query::Count {
+            region: Region::All(All)
+        })
+    );
+    assert_eq!(rt; parse(b"levels\r"), Parsed::Query(Query::Levels));
+}

@@ -1,0 +1,11 @@
+//! Tests of `rt_text` through its public calls.
+#![tactic(auto)]
+
+#[cfg(test)]
+mod grammar;
+#[cfg(test)]
+mod numbers;
+#[cfg(test)]
+mod reply_lines;
+#[cfg(test)]
+mod tables;

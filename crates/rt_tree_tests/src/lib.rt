@@ -1,0 +1,11 @@
+//! Tests of `rt_tree` through its public calls.
+#![tactic(auto)]
+
+#[cfg(test)]
+mod levels;
+#[cfg(test)]
+mod table;
+#[cfg(test)]
+mod tree;
+#[cfg(test)]
+mod trees;

@@ -1,0 +1,188 @@
+//! Tables, pushed one by one and made at once.
+
+use rt_geo::{Bounds, Entry};
+use rt_tree::{EntriesFault, PushFault, Table};
+use std::alloc::Global;
+use std::test::Fail;
+
+// Tables, in the order pushed: that of the examples, and one with ids in no order.
+static TABLES: [[(i64, [i32; 4]); 5]; 2] = [
+    [
+        (1, [0, 10, 0, 10]),
+        (2, [5, 15, 5, 15]),
+        (3, [20, 30, 0, 10]),
+        (4, [-5, -1, -5, -1]),
+        (5, [12, 12, 12, 12]),
+    ],
+    [
+        (5, [12, 12, 12, 12]),
+        (1, [0, 10, 0, 10]),
+        (-9223372036854775808, [5, 15, 5, 15]),
+        (9223372036854775807, [20, 30, 0, 10]),
+        (4, [-5, -1, -5, -1]),
+    ],
+];
+
+fn entry(id: i64, sides: [i32; 4]) -> Option<Entry> {
+    let [min_x, max_x, min_y, max_y] = sides;
+    let bounds = Bounds::new(min_x, max_x, min_y, max_y)?;
+    Some(Entry { id, bounds })
+}
+
+// Pushes a box, where it is one and there is room for another.
+fn push(table: &mut Table, id: i64, sides: [i32; 4]) -> Option<Result<(), PushFault>> {
+    if table.len() >= Table::MOST_ENTRIES {
+        return None;
+    }
+    Some(table.push(entry(id, sides)?))
+}
+
+#[test]
+fn keeps_the_order_and_refuses_an_id_twice(rt: HostRuntime) {
+    for boxes in &TABLES {
+        let mut table = Table::empty(rt.alloc());
+        assert!(rt; table.is_empty());
+        for (count, (id, sides)) in boxes.iter().enumerate() {
+            assert_eq!(rt; table.len() as usize, count);
+            assert_eq!(rt; push(&mut table, *id, *sides), Some(Ok(())));
+            assert_eq!(rt;
+                push(&mut table, *id, [0; 4]),
+                Some(Err(PushFault::Repeated))
+            );
+        }
+        assert!(rt; !table.is_empty());
+        assert_eq!(rt; push(&mut table, 5, [0; 4]), Some(Err(PushFault::Repeated)));
+        assert_eq!(rt; table.len(), 5);
+        for place in 0..table.len() {
+            let (id, sides) = boxes[place as usize % boxes.len()];
+            assert_eq!(rt; Some(table.get(place)), entry(id, sides));
+        }
+        assert_eq!(rt;
+            table.entries().iter().map(|entry| entry.id).max(),
+            boxes.iter().map(|(id, _)| *id).max()
+        );
+    }
+}
+
+// Boxes of one point with these ids, made a table at once.
+fn loaded(alloc: Global, ids: &[i64]) -> Option<Result<Table, EntriesFault>> {
+    let mut entries = Vec::new(alloc);
+    for id in ids {
+        entries.push(entry(*id, [0; 4])?).ok()?;
+    }
+    if entries.len() > Table::MOST_ENTRIES as usize {
+        return None;
+    }
+    Some(Table::of_entries(alloc, entries))
+}
+
+// Ids in some order, and the place of the first that comes again.
+static LOADED: [(&[i64], Option<u32>); 12] = [
+    (&[], None),
+    (&[7], None),
+    (&[1, 2, 3], None),
+    (&[3, 2, 1], None),
+    (&[9223372036854775807, -9223372036854775808, 0], None),
+    (&[7, 7], Some(1)),
+    (&[1, 2, 3, 4, 1], Some(4)),
+    (&[1, 2, 3, 3, 2, 1], Some(3)),
+    (&[3, 3, 1, 2, 1], Some(1)),
+    (&[5, 4, 3, 4, 5], Some(3)),
+    (&[-9223372036854775808, 1, -9223372036854775808], Some(2)),
+    (
+        &[2, 1, 9223372036854775807, 9223372036854775807, 1],
+        Some(3),
+    ),
+];
+
+#[test]
+fn entries_at_once_are_a_table_or_tell_the_first_repeat(rt: HostRuntime) {
+    for (ids, repeat) in &LOADED {
+        match loaded(rt.alloc(), ids).expect(&rt, "there is memory") {
+            Ok(table) => {
+                assert_eq!(rt; *repeat, None);
+                assert_eq!(rt; table.len() as usize, ids.len());
+                for (entry, id) in table.entries().iter().zip(*ids) {
+                    assert_eq!(rt; entry.id, *id);
+                }
+            }
+            Err(fault) => {
+                assert_eq!(rt;
+                    Some(fault),
+                    (*repeat).map(|place| EntriesFault::Repeated { place })
+                );
+            }
+        }
+    }
+}
+
+#[test]
+fn entries_are_pushed_after_others_at_once(rt: HostRuntime) {
+    let mut table = match loaded(rt.alloc(), &[5, -3, 8]).expect(&rt, "there is memory") {
+        Ok(table) => table,
+        Err(_) => Table::empty(rt.alloc()),
+    };
+    for (id, pushed) in [
+        (8, Err(PushFault::Repeated)),
+        (-3, Err(PushFault::Repeated)),
+        (6, Ok(())),
+        (6, Err(PushFault::Repeated)),
+        (5, Err(PushFault::Repeated)),
+        (-4, Ok(())),
+    ] {
+        assert_eq!(rt; push(&mut table, id, [0; 4]), Some(pushed));
+    }
+    assert_eq!(rt; table.len(), 5);
+    for (entry, id) in table.entries().iter().zip(&[5, -3, 8, 6, -4]) {
+        assert_eq!(rt; entry.id, *id);
+    }
+}
+
+// Where an allocator refuses one growth, as tests/refusals.py has it, this tells so, and else it passes.
+#[test]
+fn a_refused_push_changes_nothing(rt: HostRuntime) -> Result<(), Fail> {
+    let mut table = Table::empty(rt.alloc());
+    let mut is_refused = false;
+    for id in 0..100 {
+        let mut pushed = push(&mut table, id, [0; 4]);
+        if pushed == Some(Err(PushFault::Memory)) {
+            is_refused = true;
+            assert_eq!(rt; i64::from(table.len()), id);
+            for (entry, before) in table.entries().iter().zip(0..100) {
+                assert_eq!(rt; entry.id, before);
+            }
+            pushed = push(&mut table, id, [0; 4]);
+        }
+        assert_eq!(rt; pushed, Some(Ok(())));
+        assert_eq!(rt;
+            push(&mut table, id, [0; 4]),
+            Some(Err(PushFault::Repeated))
+        );
+    }
+    assert_eq!(rt; table.len(), 100);
+    if is_refused {
+        return Err(Fail::new("told as refused"));
+    }
+    Ok(())
+}
+
+// The same of entries at once, in the order of their ids and in none.
+#[test]
+fn refused_entries_at_once_are_told(rt: HostRuntime) -> Result<(), Fail> {
+    for (ids, repeat) in &LOADED {
+        let Some(made) = loaded(rt.alloc(), ids) else {
+            return Err(Fail::new("refused beforehand"));
+        };
+        let told = match made {
+            Ok(_) => None,
+            Err(EntriesFault::Repeated { place }) => Some(place),
+            Err(EntriesFault::Memory) => {
+                let again = loaded(rt.alloc(), ids).expect(&rt, "there is memory again");
+                assert_eq!(rt; again.is_err(), (*repeat).is_some());
+                return Err(Fail::new("told as refused"));
+            }
+        };
+        assert_eq!(rt; told, *repeat);
+    }
+    Ok(())
+}

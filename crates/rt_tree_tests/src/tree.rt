@@ -1,0 +1,229 @@
+//! Packed trees, node by node.
+
+use rt_geo::{Bounds, Entry, hull};
+use rt_tree::{Node, Table, Tree};
+use std::alloc::Global;
+use std::test::Fail;
+
+type Sides = [i32; 4];
+
+// The five boxes of the examples, in the order of their records.
+static BOXES: [(i64, Sides); 5] = [
+    (1, [0, 10, 0, 10]),
+    (2, [5, 15, 5, 15]),
+    (3, [20, 30, 0, 10]),
+    (4, [-5, -1, -5, -1]),
+    (5, [12, 12, 12, 12]),
+];
+
+// Their nodes, two children for each: the sides, the level, the first child, the children and the entries.
+static NODES: [(Sides, u8, u32, u8, u32); 6] = [
+    ([-5, 10, -5, 10], 1, 0, 2, 2),
+    ([20, 30, 0, 10], 1, 4, 1, 1),
+    ([5, 15, 5, 15], 1, 2, 2, 2),
+    ([-5, 30, -5, 10], 2, 0, 2, 3),
+    ([5, 15, 5, 15], 2, 2, 1, 2),
+    ([-5, 30, -5, 15], 3, 3, 2, 5),
+];
+
+fn bounds(sides: Sides) -> Option<Bounds> {
+    let [min_x, max_x, min_y, max_y] = sides;
+    Bounds::new(min_x, max_x, min_y, max_y)
+}
+
+// Pushes a box, where it is one and there is room for another.
+fn push(table: &mut Table, id: i64, sides: Sides) -> Option<()> {
+    if table.len() >= Table::MOST_ENTRIES {
+        return None;
+    }
+    table
+        .push(Entry {
+            id,
+            bounds: bounds(sides)?,
+        })
+        .ok()
+}
+
+fn table(alloc: Global, boxes: &[(i64, Sides)]) -> Option<Table> {
+    let mut table = Table::empty(alloc);
+    for (id, sides) in boxes {
+        push(&mut table, *id, *sides)?;
+    }
+    Some(table)
+}
+
+// So many boxes, strewn over the plane, with ids in no order.
+fn strewn(alloc: Global, count: u32) -> Option<Table> {
+    let mut table = Table::empty(alloc);
+    let mut state: u32 = 12_345;
+    for place in 0..count {
+        state = state.wrapping_mul(1_103_515_245).wrapping_add(12_345);
+        let x = state / 65_536 % 1000;
+        let y = state / 256 % 1000;
+        let right = x + state % 16;
+        let top = y + state % 32;
+        let id = (place as i64 * 7919).wrapping_rem(1_000_003);
+        push(
+            &mut table,
+            id,
+            [x as i32, right as i32, y as i32 - 500, top as i32 - 500],
+        )?;
+    }
+    Some(table)
+}
+
+// One more box beside others, and how many entries they stand for.
+fn with(others: Option<(Bounds, u32)>, bounds: Bounds, size: u32) -> Option<(Bounds, u32)> {
+    match others {
+        None => Some((bounds, size)),
+        Some((all, sum)) => Some((hull(all, bounds), sum.wrapping_add(size))),
+    }
+}
+
+fn over_entries(entries: &[Entry]) -> Option<(Bounds, u32)> {
+    let mut all = None;
+    for entry in entries {
+        all = with(all, entry.bounds, 1);
+    }
+    all
+}
+
+fn over_nodes(nodes: &[Node]) -> Option<(Bounds, u32)> {
+    let mut all = None;
+    for node in nodes {
+        all = with(all, node.bounds, node.size);
+    }
+    all
+}
+
+// What the children of a node are together.
+fn over_children(tree: &Tree, node: &Node) -> Option<(Bounds, u32)> {
+    let first = node.first as usize;
+    let end = first + node.count as usize;
+    if node.level == 1 {
+        over_entries(tree.entries().get(first..end)?)
+    } else {
+        over_nodes(tree.nodes().get(first..end)?)
+    }
+}
+
+// How many nodes are on a level.
+fn count_of(tree: &Tree, level: u8) -> usize {
+    tree.nodes()
+        .iter()
+        .filter(|node| node.level == level)
+        .count()
+}
+
+#[test]
+fn packs_the_five_boxes_node_by_node(rt: HostRuntime) {
+    let table = table(rt.alloc(), &BOXES).expect(&rt, "the boxes are a table");
+    let tree = Tree::pack(rt.alloc(), table, 2).expect(&rt, "there is memory");
+    assert_eq!(rt; tree.len(), 5);
+    assert!(rt; !tree.is_empty());
+    assert_eq!(rt; tree.top(), 3);
+    assert_eq!(rt; tree.node_len(), 6);
+    for (place, id) in [4, 1, 2, 5, 3].iter().enumerate() {
+        if (place as u32) < tree.len() {
+            assert_eq!(rt; tree.entry(place as u32).id, *id);
+        }
+    }
+    for (node, (sides, level, first, count, size)) in tree.nodes().iter().zip(&NODES) {
+        assert_eq!(rt; Some(node.bounds), bounds(*sides));
+        assert_eq!(rt; node.level, *level);
+        assert_eq!(rt; node.first, *first);
+        assert_eq!(rt; node.count, *count);
+        assert_eq!(rt; node.size, *size);
+    }
+    let root = tree.root().expect(&rt, "there are entries");
+    assert_eq!(rt; root.number(), 5);
+    let node = tree.node(root);
+    assert_eq!(rt; node.level, 3);
+    assert_eq!(rt; node.count, 2);
+    let child = tree.child_node(root, 1);
+    assert_eq!(rt; child.number(), 4);
+    assert_eq!(rt; tree.node(child).size, 2);
+}
+
+#[test]
+fn equal_boxes_stand_by_id(rt: HostRuntime) {
+    let boxes = [
+        (5, [0; 4]),
+        (4, [0; 4]),
+        (3, [0; 4]),
+        (2, [0; 4]),
+        (1, [0; 4]),
+    ];
+    let table = table(rt.alloc(), &boxes).expect(&rt, "the boxes are a table");
+    let tree = Tree::pack(rt.alloc(), table, 2).expect(&rt, "there is memory");
+    for (entry, id) in tree.entries().iter().zip(&[1, 2, 3, 4, 5]) {
+        assert_eq!(rt; entry.id, *id);
+    }
+    let firsts = [(0, 2), (2, 2), (4, 1), (0, 2), (2, 1), (3, 2)];
+    for (node, (first, count)) in tree.nodes().iter().zip(&firsts) {
+        assert_eq!(rt; node.first, *first);
+        assert_eq!(rt; node.count, *count);
+    }
+}
+
+#[test]
+fn one_entry_too_many_for_a_node(rt: HostRuntime) {
+    let table = strewn(rt.alloc(), 65).expect(&rt, "the boxes are a table");
+    let tree = Tree::pack(rt.alloc(), table, 64).expect(&rt, "there is memory");
+    assert_eq!(rt; tree.top(), 2);
+    assert_eq!(rt; tree.level_len(0), 65);
+    assert_eq!(rt; tree.level_len(1), 2);
+    assert_eq!(rt; tree.level_len(2), 1);
+}
+
+#[test]
+fn no_entries_have_no_root(rt: HostRuntime) {
+    let tree = Tree::pack(rt.alloc(), Table::empty(rt.alloc()), 16).expect(&rt, "there is memory");
+    assert_eq!(rt; tree.len(), 0);
+    assert!(rt; tree.is_empty());
+    assert_eq!(rt; tree.node_len(), 0);
+    assert_eq!(rt; tree.root(), None);
+    assert_eq!(rt; tree.top(), 0);
+    assert_eq!(rt; tree.level_len(0), 0);
+}
+
+#[test]
+fn each_node_is_true_of_its_children(rt: HostRuntime) {
+    for fanout in [2u8, 3, 16, 64] {
+        let full = fanout as u32 * fanout as u32;
+        for count in [1, fanout as u32, fanout as u32 + 1, full, full + 1] {
+            let table = strewn(rt.alloc(), count).expect(&rt, "the boxes are a table");
+            let tree = Tree::pack(rt.alloc(), table, fanout.clamp(2, 64)).expect(
+                &rt,
+                "there is memory",
+            );
+            assert_eq!(rt; tree.len(), count);
+            for node in tree.nodes() {
+                assert!(rt; over_children(&tree, node) == Some((node.bounds, node.size)));
+                assert!(rt; node.count <= fanout);
+            }
+            let root = tree.root().expect(&rt, "there are entries");
+            assert_eq!(rt; tree.node(root).size, count);
+            for level in 1..=tree.top() {
+                assert_eq!(rt; tree.level_len(level) as usize, count_of(&tree, level));
+            }
+        }
+    }
+}
+
+// Where an allocator refuses one growth, as tests/refusals.py has it, this tells so, and else it passes.
+#[test]
+fn a_refused_packing_is_told(rt: HostRuntime) -> Result<(), Fail> {
+    for fanout in [2, 16] {
+        let Some(table) = strewn(rt.alloc(), 100) else {
+            return Err(Fail::new("refused beforehand"));
+        };
+        let Ok(tree) = Tree::pack(rt.alloc(), table, fanout) else {
+            let table = strewn(rt.alloc(), 100).expect(&rt, "there is memory again");
+            assert!(rt; Tree::pack(rt.alloc(), table, fanout).is_ok());
+            return Err(Fail::new("told as refused"));
+        };
+        assert_eq!(rt; tree.len(), 100);
+    }
+    Ok(())
+}
