@@ -21,6 +21,10 @@ extent_of_entry entry = record { bounds = entry.bounds }
 abbrev pub extent_of : Info → Extent
 extent_of info = record { bounds = info.bounds }
 
+-- the one extent is part of the other: its bounds lie in the other's
+pub record IsPart (part whole : Extent) : Type 0 where
+  pub bounds : inside part.bounds whole.bounds ≡ true
+
 -- the extent `b` is one box, inside the other extent
 pub record IsBoxInside (b extent : Extent) : Type 0 where
   pub box : IsRect b.bounds

@@ -7,9 +7,8 @@ use Rattle.std.proofs.lemmas.Bool.Decides.{nat_tests}
 use Rattle.std.proofs.lemmas.Grind.{flat_map-append}
 use Rattle.std.proofs.lemmas.List.{append-nil, map-append, take_more}
 use Rattle.std.proofs.lemmas.List.Elements.{filter-append}
-use Rattle.rt_geo.specs.Boxes.{Rect, inside}
-use Rattle.rt_geo.specs.Laws.{Extent, IsBoxInside, NoneAccepted, extent_of_entry}
-use Rattle.rt_geo.specs.Lemmas.Boxes.{inside-trans}
+use Rattle.rt_geo.specs.Laws.{Extent, IsBoxInside, IsPart, NoneAccepted, extent_of_entry}
+use Rattle.rt_geo.specs.Lemmas.Laws.{IsBoxInside-part}
 use Rattle.rt_geo.specs.declared.entry.Entry.{Entry}
 use Rattle.rt_tree.specs.Packed.{Packed, IsSubtree, child_nodes, entries_under, extent_of_node, node_at}
 use Rattle.rt_tree.specs.Sorting.{put}
@@ -40,24 +39,21 @@ take_more_at xs i x lt is = take_more xs i x lt ∙ ap (λ y. take i xs ++ (y �
 abbrev pub IsEntryInside : Extent → Entry → Type 0
 IsEntryInside extent e = IsBoxInside (extent_of_entry e) extent
 
--- a box inside a part is a box inside the whole
-pub inside_more : (a : Rect) (c b : Extent) → inside a c.bounds ≡ true → IsBoxInside b (record { bounds = a })
-    → IsBoxInside b c
-inside_more a c b h k = record { box = k.box; inside = inside-trans b.bounds a c.bounds k.inside h }
-
-each_more : (a : Rect) (c : Extent) (es : List Entry) → inside a c.bounds ≡ true
-    → AllByRecursion (IsEntryInside (record { bounds = a })) es → AllByRecursion (IsEntryInside c) es
-each_more a c [] h k = tt
-each_more a c (e ∷ es) h k = (inside_more a c (extent_of_entry e) h k.0, each_more a c es h k.1)
+-- entries inside a part are inside the whole
+each_more : (part whole : Extent) (es : List Entry) → IsPart part whole → AllByRecursion (IsEntryInside part) es
+    → AllByRecursion (IsEntryInside whole) es
+each_more part whole [] p a = tt
+each_more part whole (e ∷ es) p a =
+    (IsBoxInside-part (extent_of_entry e) part whole p a.0, each_more part whole es p a.1)
 
 each_inside : (t : Packed) (h : ℕ) (c : Extent)
     → ((k : Node) → IsSubtree t h k → AllByRecursion (IsEntryInside (extent_of_node k)) (entries_under t h k))
-    → (ks : List Node) → AllByRecursion (IsSubtree t h) ks → AllByRecursion (λ k. inside k.bounds c.bounds ≡ true) ks
+    → (ks : List Node) → AllByRecursion (IsSubtree t h) ks → AllByRecursion (λ k. IsPart (extent_of_node k) c) ks
     → AllByRecursion (IsEntryInside c) (flat_map (entries_under t h) ks)
 each_inside t h c each [] a b = tt
 each_inside t h c each (k ∷ ks) a b =
     all-append (IsEntryInside c) (entries_under t h k) (flat_map (entries_under t h) ks)
-    (each_more k.bounds c (entries_under t h k) b.0 (each k a.0)) (each_inside t h c each ks a.1 b.1)
+    (each_more (extent_of_node k) c (entries_under t h k) b.0 (each k a.0)) (each_inside t h c each ks a.1 b.1)
 
 -- each entry under a node is a box inside its bounds
 pub all_inside : (t : Packed) (h : ℕ) (n : Node) → IsSubtree t h n

@@ -4,9 +4,10 @@ use Rattle.std.proofs.Common.{take, drop, get_or, refl, sym, ◌∙◌, ap, subs
 use Rattle.std.specs.List.{All}
 use Rattle.std.proofs.lemmas.List.{get_or-take, get_or-drop, get_or_default, length-take, length-drop, take_all}
 use Rattle.std.proofs.lemmas.List.Elements.{All-from_recursion}
-use Rattle.rt_geo.specs.Boxes.{Rect, IsRect, inside, plane}
+use Rattle.rt_geo.specs.Boxes.{IsRect, inside, plane}
 use Rattle.rt_geo.specs.Entries.{HasBox}
-use Rattle.rt_geo.specs.Laws.{Extent, IsHonest, IsQuestion}
+use Rattle.rt_geo.specs.Laws.{Extent, IsHonest, IsPart, IsQuestion, extent_of, extent_of_entry}
+use Rattle.rt_geo.specs.Lemmas.Laws.{AllAccepted-part, IsPart-box}
 use Rattle.rt_geo.specs.declared.entry.Entry.{Entry}
 use Rattle.rt_geo.specs.declared.geometry.Info.{Info}
 use Rattle.rt_geo.specs.declared.geometry.Verdict.{Verdict}
@@ -16,7 +17,7 @@ use Rattle.rt_tree.specs.declared.tree.Node.{Node}
 use Rattle.rt_search.specs.Joining.{info_of_child}
 use Rattle.rt_search.specs.Remaining.{IsBelow, height_at}
 use Rattle.rt_search.specs.Work.{info_of_node}
-use Rattle.rt_search.proofs.Answering.{IsEntryInside, inside_more}
+use Rattle.rt_search.proofs.Answering.{IsEntryInside}
 
 -- ---- a part of a list
 
@@ -33,7 +34,7 @@ part_at xs first count i d h = get_or-take count (drop first xs) i d h ∙ get_o
 pub record IsLeafAt (t : Packed) (n : Node) (i : ℕ) (e : Entry) : Type 0 where
   pub place : i < length (child_entries t n)
   pub is : e ≡ get_or (child_entries t n) i e
-  pub within : IsEntryInside (extent_of_node n) e
+  pub within : IsPart (extent_of_entry e) (extent_of_node n)
   pub box : HasBox e
 
 pub leaf_at : (t : Packed) (n : Node) (i : ℕ) (e : Entry) → All HasBox t.entries → IsLeafNode t n → i < n.count
@@ -48,7 +49,7 @@ leaf_at t n i e boxes s lt read =
     record {
       place = here;
       is = sym is;
-      within = subst (IsEntryInside (extent_of_node n)) is within;
+      within = IsPart-box (extent_of_entry e) (extent_of_node n) (subst (IsEntryInside (extent_of_node n)) is within);
       box = subst HasBox read box;
     }
 
@@ -100,7 +101,7 @@ pub record IsChild (t : Packed) (n : Node) (h i k : ℕ) : Type 0 where
   pub number : k < length t.nodes
   pub is : node_at t k ≡ get_or (child_nodes t n) i (node_at t k)
   pub tree : IsSubtree t (height_at t k) (node_at t k)
-  pub within : inside (node_at t k).bounds n.bounds ≡ true
+  pub within : IsPart (extent_of_node (node_at t k)) (extent_of_node n)
   pub height : height_at t k ≡ h
   pub level : 0 < (node_at t k).level
   pub lower : (node_at t k).level < n.level
@@ -117,7 +118,8 @@ child_at t n h i s lt =
     ∙ get_or_default t.nodes (n.first + i) k no_node number in
     let tree : IsSubtree t h k =
     subst (IsSubtree t h) is (All-from_recursion (IsSubtree t h) (child_nodes t n) s.below i k here) in
-    let within = All-from_recursion (λ m. inside m.bounds n.bounds ≡ true) (child_nodes t n) s.within i k here in
+    let IsWithin = λ (m : Node). IsPart (extent_of_node m) (extent_of_node n) in
+    let within = All-from_recursion IsWithin (child_nodes t n) s.within i k here in
     let level = subtree_level t h k tree in
     let above = s.level in
     let height : height_at t (n.first + i) ≡ h = omega (arith, level) in
@@ -126,7 +128,7 @@ child_at t n h i s lt =
       number = number;
       is = sym is;
       tree = subst (λ m. IsSubtree t m k) (sym height) tree;
-      within = subst (λ m. inside m.bounds n.bounds ≡ true) is within;
+      within = subst IsWithin is within;
       height = height;
       level = omega (arith, level);
       lower = omega (arith, level, above);
@@ -200,11 +202,12 @@ height_suc t number s level = (inner_at t (height_at t number) (node_at t number
 
 -- ---- what may be asked
 
-pub honest_child : (accepts : Extent → Bool) (score : Extent → ℕ) (bounds : Rect) (info : Info) (v : Verdict)
-    → IsBelow accepts score (record { bounds = bounds }) v → info.parent_within ≡ v.within → inside info.bounds bounds
-    ≡ true → IsHonest accepts info
-honest_child accepts score bounds info v below told within = λ full b h.
-    below.full (sym told ∙ full) b (inside_more info.bounds (record { bounds = bounds }) b within h)
+-- what is part of a node may be asked about under the node's verdict
+pub honest_child : (accepts : Extent → Bool) (score : Extent → ℕ) (whole : Extent) (info : Info) (v : Verdict)
+    → IsBelow accepts score whole v → info.parent_within ≡ v.within → IsPart (extent_of info) whole
+    → IsHonest accepts info
+honest_child accepts score whole info v below told part = λ full.
+    AllAccepted-part accepts (extent_of info) whole part (below.full (sym told ∙ full))
 
 module _ (accepts : Extent → Bool) (score : Extent → ℕ) (t : Packed) (sound : IsSound t) (v : Verdict)
     (small : v.score < 2 ^ 128) where
@@ -221,7 +224,7 @@ module _ (accepts : Extent → Bool) (score : Extent → ℕ) (t : Packed) (soun
               omega (arith, top);
           parent_score = small;
         };
-        honest = honest_child accepts score n.bounds (info_of_child t v e) v below refl at.within.inside;
+        honest = honest_child accepts score (extent_of_node n) (info_of_child t v e) v below refl at.within;
       }
 
   pub node_question : (n : Node) (h i k : ℕ) → n.level ≤ 24 → IsBelow accepts score (extent_of_node n) v
@@ -237,5 +240,5 @@ module _ (accepts : Extent → Bool) (score : Extent → ℕ) (t : Packed) (soun
           top = omega (arith, top);
           parent_score = small;
         };
-        honest = honest_child accepts score n.bounds (info_of_node t v (node_at t k)) v below refl at.within;
+        honest = honest_child accepts score (extent_of_node n) (info_of_node t v (node_at t k)) v below refl at.within;
       }

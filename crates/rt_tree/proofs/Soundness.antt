@@ -9,12 +9,13 @@ use Rattle.std.proofs.lemmas.List.{drop-append-le, length-drop, take-append-le, 
 use Rattle.std.proofs.lemmas.List.Sums.{sum_by-cons}
 use Rattle.rt_geo.specs.Boxes.{Rect, IsRect, hull, inside, plane}
 use Rattle.rt_geo.specs.Entries.{HasBox}
-use Rattle.rt_geo.specs.Laws.{IsBoxInside, extent_of_entry}
+use Rattle.rt_geo.specs.Laws.{Extent, IsBoxInside, IsPart, extent_of_entry}
 use Rattle.rt_geo.specs.Lemmas.Boxes.{IsRect-hull, hull-inside, inside-hull_left, inside-hull_right, inside-same, inside-trans}
+use Rattle.rt_geo.specs.Lemmas.Laws.{IsBoxInside-entry, IsBoxInside-part}
 use Rattle.rt_geo.specs.declared.entry.Entry.{Entry}
 use Rattle.rt_tree.specs.Packed.{Packed, IsLeafNode, IsSubtree, child_nodes}
-use Rattle.rt_tree.specs.Packed.{entries_under, hull_of}
-use Rattle.rt_tree.specs.Packing.{joined, nodes_over}
+use Rattle.rt_tree.specs.Packed.{entries_under, extent_of_node, hull_of}
+use Rattle.rt_tree.specs.Packing.{joined, node_over, nodes_over}
 use Rattle.rt_tree.specs.declared.tree.Node.{Node}
 
 -- ---- lists
@@ -94,6 +95,26 @@ module _ {X : Type 0} (box : X → Rect) where
             (map box xs)),
       )
 
+module _ {X : Type 0} (extent : X → Extent) where
+  -- each of a group is part of the extent whose bounds are their hull
+  parts_of-hull : (whole : Extent) (xs : List X) → whole.bounds ≡ hull_of (map (λ x. (extent x).bounds) xs)
+      → AllByRecursion (λ x. IsPart (extent x) whole) xs
+  parts_of-hull whole xs is =
+      let box = λ (x : X). (extent x).bounds in
+      all_map (λ (x : X). inside (box x) whole.bounds ≡ true) (λ x. IsPart (extent x) whole)
+      (λ x h. record { bounds = h }) xs
+      (subst (λ b. AllByRecursion (λ x. inside (box x) b ≡ true) xs) (sym is) (inside-hull_of box xs))
+
+-- entries that are parts of an extent are boxes inside it
+entries_inside : (whole : Extent) (es : List Entry) → AllByRecursion HasBox es
+    → AllByRecursion (λ e. IsPart (extent_of_entry e) whole) es
+    → AllByRecursion (λ e. IsBoxInside (extent_of_entry e) whole) es
+entries_inside whole [] a p = tt
+entries_inside whole (e ∷ es) a p = (
+  IsBoxInside-part (extent_of_entry e) (extent_of_entry e) whole p.0 (IsBoxInside-entry e a.0),
+  entries_inside whole es a.1 p.1,
+)
+
 -- ---- what the nodes of a level stand for
 
 pub length-nodes_over : {X : Type 0} (box : X → Rect) (size : X → ℕ) (level first : ℕ) (groups : List (List X))
@@ -154,7 +175,7 @@ module _ (fanout : ℕ) (es : List Entry) where
         valid = s.valid;
         coordinates = s.coordinates;
         exact = s.exact ∙ ap (λ ks. hull_of (map (λ (k : Node). k.bounds) ks)) same;
-        within = subst (AllByRecursion (λ k. inside k.bounds n.bounds ≡ true)) same s.within;
+        within = subst (AllByRecursion (λ k. IsPart (extent_of_node k) (extent_of_node n))) same s.within;
         size = s.size ∙ ap (sum_by (λ k. k.size)) same;
       }
 
@@ -193,7 +214,7 @@ module _ (fanout : ℕ) (es : List Entry) where
   leaves_sound ns [] front is a = tt
   leaves_sound ns (g ∷ gs) front is a =
       let box = λ (e : Entry). e.bounds in
-      let whole = hull_of (map box g) in
+      let whole = extent_of_node (node_over box (λ _. 1) 1 (length front) g) in
       let here : take (length g) (drop (length front) es) ≡ g = ap (λ l. take (length g) (drop
       (length front) l)) is ∙ group_at front g (joined gs) in
       let behind : es ≡ (front ++ g) ++ joined gs = is ∙ sym (append_assoc front g (joined gs)) in
@@ -208,19 +229,13 @@ module _ (fanout : ℕ) (es : List Entry) where
           coordinates = hull_of-inside box plane g a.0.0.0
               (all_map HasBox (λ e. inside e.bounds plane ≡ true) (λ e b. b.coordinates) g a.0.1);
           exact = ap (λ l. hull_of (map box l)) (sym here);
-          within = subst (AllByRecursion (λ e. IsBoxInside (extent_of_entry e) (record { bounds = whole })))
-              (sym here) (both_inside g whole boxes (inside-hull_of box g));
+          within = subst (AllByRecursion (λ e. IsBoxInside (extent_of_entry e) whole)) (sym here)
+              (entries_inside whole g a.0.1 (parts_of-hull extent_of_entry whole g refl));
           size = sum_by-ones g;
         },
         subst (λ n. AllByRecursion (IsLeafNode (tree ns)) (nodes_over box (λ _. 1) 1 n gs)) (length-append front g)
             (leaves_sound ns gs (front ++ g) behind a.1),
       )
-    where
-      both_inside : (g : List Entry) (whole : Rect) → AllByRecursion (λ e. IsRect e.bounds) g
-          → AllByRecursion (λ e. inside e.bounds whole ≡ true) g
-          → AllByRecursion (λ e. IsBoxInside (extent_of_entry e) (record { bounds = whole })) g
-      both_inside [] whole a b = tt
-      both_inside (e ∷ g) whole a b = (record { box = a.0; inside = b.0 }, both_inside g whole a.1 b.1)
 
   pub leaves_under : (ns : List Node) (gs : List (List Entry)) (front : List Entry) → es ≡ front ++ joined gs
       → flat_map (entries_under (tree ns) 0) (nodes_over (λ e. e.bounds) (λ _. 1) 1 (length front) gs) ≡ joined gs
@@ -242,7 +257,7 @@ module _ (fanout : ℕ) (es : List Entry) where
   over_sound ns h [] front is a = tt
   over_sound ns h (g ∷ gs) front is a =
       let box = λ (n : Node). n.bounds in
-      let whole = hull_of (map box g) in
+      let whole = extent_of_node (node_over box (λ k. k.size) (suc (suc h)) (length front) g) in
       let here : take (length g) (drop (length front) ns) ≡ g = ap (λ l. take (length g) (drop
       (length front) l)) is ∙ group_at front g (joined gs) in
       let behind : ns ≡ (front ++ g) ++ joined gs = is ∙ sym (append_assoc front g (joined gs)) in
@@ -258,7 +273,8 @@ module _ (fanout : ℕ) (es : List Entry) where
           coordinates = hull_of-inside box plane g a.0.0.0
               (all_map (IsSubtree (tree ns) h) (λ n. inside n.bounds plane ≡ true) (subtree_coordinates (tree ns) h) g a.0.1);
           exact = ap (λ l. hull_of (map box l)) (sym here);
-          within = subst (AllByRecursion (λ k. inside k.bounds whole ≡ true)) (sym here) (inside-hull_of box g);
+          within = subst (AllByRecursion (λ k. IsPart (extent_of_node k) whole)) (sym here)
+              (parts_of-hull extent_of_node whole g refl);
           size = ap (sum_by (λ k. k.size)) (sym here);
         },
         subst (λ n. AllByRecursion (IsSubtree (tree ns) (suc h)) (nodes_over box (λ k. k.size) (suc (suc h)) n gs))

@@ -4,7 +4,7 @@ use Rattle.std.specs.Prelude.{List, [], ◌∷◌, ◌++◌, drop, filter, get_o
 use Rattle.std.specs.List.{All, AllByRecursion, flat_map, fold, sum_by}
 use Rattle.std.specs.List.Sorted.{IsPermutation}
 use Rattle.rt_geo.specs.Boxes.{Rect, IsRect, hull, inside, plane, rect_of}
-use Rattle.rt_geo.specs.Laws.{Extent, IsBoxInside, extent_of_entry}
+use Rattle.rt_geo.specs.Laws.{Extent, IsBoxInside, IsPart, extent_of_entry}
 use Rattle.rt_geo.specs.declared.entry.Entry.{Entry}
 use Rattle.rt_tree.specs.Entries.{IsTable}
 use Rattle.rt_tree.specs.Levels.{level_sizes}
@@ -88,7 +88,7 @@ pub record IsInnerNode (t : Packed) (levels : ℕ) (Below : Node → Type 0) (n 
   pub valid : IsRect n.bounds
   pub coordinates : inside n.bounds plane ≡ true
   pub exact : n.bounds ≡ hull_of (map (λ k. k.bounds) (child_nodes t n))
-  pub within : AllByRecursion (λ k. inside k.bounds n.bounds ≡ true) (child_nodes t n)
+  pub within : AllByRecursion (λ k. IsPart (extent_of_node k) (extent_of_node n)) (child_nodes t n)
   pub size : n.size ≡ sum_by (λ k. k.size) (child_nodes t n)
 
 -- a node that has so many levels of nodes below it

@@ -1,7 +1,7 @@
 use Rattle.std.proofs.Common.{◌+◌, arith, ap, ◌∙◌, add-one}
 use Rattle.std.proofs.lemmas.List.{get_or_default}
 use Rattle.std.proofs.lemmas.Option.{get_or_from_slice_get}
-use Rattle.rt_tree.specs.Packed.{child_entries}
+use Rattle.rt_tree.specs.Packed.{child_entries, extent_of_node}
 use Rattle.rt_search.specs.Joining.{no_entry}
 use Rattle.rt_search.proofs.Children.{leaf_at, honest_child}
 use Rattle.rt_search.proofs.counting.count_leaf.Goals as goal
@@ -15,8 +15,9 @@ count_entry-found-requires-clause-honest g c =
     c.loop-i-test.true read in
     rw c.loop-i.invariant.geometry
     (honest_child (g.G.Geometry.accepts c.args.counted.now.geometry)
-    (g.G.Geometry.score c.args.counted.now.geometry) c.args.node.bounds c.info-info.result c.args.parent.verdict
-    c.requires.below (ap (λ i. i.parent_within) c.info-info.ensures) (rw c.info-info.ensures k.within.inside))
+    (g.G.Geometry.score c.args.counted.now.geometry) (extent_of_node c.args.node) c.info-info.result
+    c.args.parent.verdict c.requires.below (ap (λ i. i.parent_within) c.info-info.ensures)
+    (rw c.info-info.ensures k.within))
 
 pub loop-i-preserved : goal.loop-i-preserved
 loop-i-preserved g c =

@@ -1,5 +1,5 @@
 use Rattle.std.proofs.Common.{◌≡◌, ◌+◌, ◌∙◌, ap, arith, add-one}
-use Rattle.rt_tree.specs.Packed.{node_at}
+use Rattle.rt_tree.specs.Packed.{extent_of_node, node_at}
 use Rattle.rt_search.specs.Joining.{join_nodes}
 use Rattle.rt_search.specs.Work.{is_kept}
 use Rattle.rt_search.proofs.Children.{child_read, children_count, honest_child}
@@ -18,8 +18,9 @@ ask_node-requires-clause-honest g c =
     number in
     rw c.loop-i.invariant.geometry
     (honest_child (g.G.Geometry.accepts c.args.counted.now.geometry)
-    (g.G.Geometry.score c.args.counted.now.geometry) (node_at c.args.tree.now c.args.number.number).bounds
-    c.info-info.result c.args.parent.verdict c.requires.node.below (ap (λ i. i.parent_within) c.info-info.ensures)
+    (g.G.Geometry.score c.args.counted.now.geometry)
+    (extent_of_node (node_at c.args.tree.now c.args.number.number)) c.info-info.result c.args.parent.verdict
+    c.requires.node.below (ap (λ i. i.parent_within) c.info-info.ensures)
     (rw (c.info-info.ensures, k.is) k.child.within))
 
 pub ask_node-requires-clause-room : goal.ask_node-requires-clause-room

@@ -1,6 +1,6 @@
 use Rattle.std.proofs.Common.{arith, ap, ◌∙◌, add-one}
 use Rattle.std.proofs.lemmas.List.{get_or_default}
-use Rattle.rt_tree.specs.Packed.{child_entries}
+use Rattle.rt_tree.specs.Packed.{child_entries, extent_of_node}
 use Rattle.rt_search.specs.Joining.{join_entries, no_entry}
 use Rattle.rt_search.proofs.Children.{entries_count, honest_child, leaf_read}
 use Rattle.rt_search.proofs.Working.{length-join_entries}
@@ -13,8 +13,9 @@ ask_entry-requires-clause-honest g c =
     c.loop-entry-test.true c.entry-item.is in
     rw c.loop-entry.invariant.geometry
     (honest_child (g.G.Geometry.accepts c.args.counted.now.geometry)
-    (g.G.Geometry.score c.args.counted.now.geometry) c.args.node.bounds c.info-info.result c.args.parent.verdict
-    c.requires.below (ap (λ i. i.parent_within) c.info-info.ensures) (rw c.info-info.ensures k.within.inside))
+    (g.G.Geometry.score c.args.counted.now.geometry) (extent_of_node c.args.node) c.info-info.result
+    c.args.parent.verdict c.requires.below (ap (λ i. i.parent_within) c.info-info.ensures)
+    (rw c.info-info.ensures k.within))
 
 pub ask_entry-requires-clause-room : goal.ask_entry-requires-clause-room
 ask_entry-requires-clause-room g c =
