@@ -1,0 +1,34 @@
+"""The text of many replies, cut into the reply to each line."""
+
+import re
+from typing import Union
+
+from .answers import Answers
+from .errors import QueryError
+
+Reply = Union[Answers, QueryError, None]
+"""What one line is answered: None where it is blank or a comment, which the program skips."""
+
+# A reply's last line. No answer before it holds a letter.
+LAST_LINE = re.compile(rb"(ok|error) (\d+) ([^\n]*)\n")
+
+
+def may_be_skipped(line: str) -> bool:
+    """Whether a line may be one that has no reply. Some that are faulty are told to be so too."""
+    return line.strip(" \t\r")[:1] in ("", "#")
+
+
+def cut(text: bytes | bytearray, lines: list[str], first: int) -> list[Reply]:
+    """The reply to each of these lines, of which the first has this number. Replies to later lines are left out."""
+    replies: list[Reply] = [None] * len(lines)
+    parts = LAST_LINE.split(text)
+    for answers, kind, number, told in zip(parts[0::4], parts[1::4], parts[2::4], parts[3::4]):
+        at = int(number) - first
+        if at >= len(lines):
+            break
+        if kind == b"ok":
+            replies[at] = Answers(answers, int(told))
+        else:
+            code, _, text_of_code = told.decode().partition(" ")
+            replies[at] = QueryError(lines[at], code, text_of_code)
+    return replies
