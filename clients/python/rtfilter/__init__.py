@@ -15,6 +15,8 @@ from .answers import Answers
 from .boxes import Boxes
 from .client import Command, Rtfilter
 from .errors import Ended, QueryError, RtfilterError, TimedOut
+from .joining import join
+from .pool import Pool
 from .queries import All, ById, Circle, Covers, Inside, Near, Order, Polygon, Region, Smallest, Window
 from .replies import Reply
 from .tables import Row, Table
@@ -32,6 +34,7 @@ __all__ = [
     "Near",
     "Order",
     "Polygon",
+    "Pool",
     "QueryError",
     "Region",
     "Reply",
@@ -42,4 +45,5 @@ __all__ = [
     "Table",
     "TimedOut",
     "Window",
+    "join",
 ]

@@ -9,6 +9,7 @@ from .answers import Answers
 from .errors import QueryError
 from .queries import Order, Region, find_line, nearest_line
 from .replies import Reply
+from .tables import Table
 
 NO_ANSWERS = Answers(b"", 0)
 
@@ -26,6 +27,15 @@ class Boxes(abc.ABC):
 
         Lines are as in a file of queries, without their line feeds: one that holds a line feed raises `ValueError`, and
         nothing is asked. They go out as UTF-8; bytes that aren't may be held by surrogates, as `os.fsdecode` gives them.
+        """
+
+    @abc.abstractmethod
+    def reload(self, table: Table | None = None) -> None:
+        """Exchanges the table for another, or for what the same file holds now, while questions are asked.
+
+        The new one is loaded beside the old, which answers until that is done, and is closed then. Each call is answered by
+        one table. Where the load fails, its error is raised and the old table stays. Rows are read once: where the table
+        was made of them, the new one has to be named (`ValueError`).
         """
 
     @abc.abstractmethod

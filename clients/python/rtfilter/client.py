@@ -7,11 +7,11 @@ from operator import index
 from typing import Union
 
 from .boxes import Boxes
-from .program import Program
+from .program import CLOSED, Program
 from .replies import Reply, cut, may_be_skipped
-from .tables import Table, named
+from .tables import File, Table, again, file_of, named
 
-Command = Union[str, "os.PathLike[str]", Sequence[str]]
+Command = Union[File, Sequence[str]]
 """The program: its name or path, or the words of a command, which options and the table's name are to follow."""
 
 ANSWERED = "find all first 0"
@@ -39,18 +39,16 @@ class Rtfilter(Boxes):
         program: Command = "rtfilter",
         timeout: float | None = None,
     ) -> None:
-        if header and not isinstance(table, (str, os.PathLike)):
-            raise ValueError("rows have no header")
-        words = command(program, header, fanout, max_entries)
-        with named(table) as (name, files):
-            self._program = Program([*words, "--", name], files, timeout)
+        self._file = file_of(table)
+        self._header = header
+        self._words = command(program, header, fanout, max_entries)
+        self._timeout = timeout
         self._lock = threading.Lock()
-        try:
-            (answer,) = self.ask(["count all"])  # waits for the load, and is told of a faulty table
-        except BaseException:
-            self.close()
-            raise
-        self._size = answer.told
+        self._program = self._loaded(table)
+
+    def _loaded(self, table: Table) -> Program:
+        with named(table, self._header) as name:
+            return Program([*self._words, "--", name], self._timeout)
 
     def replies(self, lines: Iterable[str]) -> list[Reply]:
         asked = query_lines(lines)
@@ -63,8 +61,20 @@ class Rtfilter(Boxes):
             replies = self._program.replies_to(text, len(sent))
         return cut(replies, asked, first)
 
+    def reload(self, table: Table | None = None) -> None:
+        table = again(table, self._file)
+        fresh = self._loaded(table)
+        with self._lock:
+            was_closed = self._program.is_closed
+            if not was_closed:
+                self._program, fresh = fresh, self._program
+                self._file = file_of(table)
+        fresh.close()
+        if was_closed:
+            raise ValueError(CLOSED)
+
     def __len__(self) -> int:
-        return self._size
+        return self._program.size
 
     def close(self) -> None:
         with self._lock:

@@ -13,15 +13,17 @@ from .errors import Ended, TimedOut
 PIECE = 1 << 16  # bytes of a write or a read: what a pipe holds
 LONGEST_ERROR = 1 << 12  # bytes of standard error that are told
 GRACE = 5.0  # seconds that the program has to end by itself
+CLOSED = "the table was closed"
 
 
 class Program:
-    """A process that answers lines, which it numbers from 1; `lines` is how many it was given. For one thread at a time.
+    """A process that has loaded its table and answers lines. For one thread at a time.
 
-    `files` are the open files that it inherits, `seconds` is how long it may take for the replies to one text.
+    It numbers the lines that it is given from 1; `lines` is how many they are so far. `size` is how many boxes it holds.
     """
 
-    def __init__(self, command: Sequence[str], files: Sequence[int], seconds: float | None) -> None:
+    def __init__(self, command: Sequence[str], seconds: float | None) -> None:
+        """Starts the process and waits for the load, which may take so many seconds, as the reply to each text may."""
         self.lines = 0
         self._seconds = math.inf if seconds is None else seconds
         # A file takes whatever is written, so that nobody has to read it meanwhile.
@@ -30,8 +32,7 @@ class Program:
             # In a process group of its own: an interrupt from the keyboard is for this process. The program ends with its
             # input, and so with this process too.
             self._process = subprocess.Popen(
-                command, bufsize=0, stdin=subprocess.PIPE, stdout=subprocess.PIPE, stderr=self._errors,
-                pass_fds=files, process_group=0,
+                command, bufsize=0, stdin=subprocess.PIPE, stdout=subprocess.PIPE, stderr=self._errors, process_group=0
             )
         except BaseException:
             self._errors.close()
@@ -39,6 +40,16 @@ class Program:
         assert self._process.stdin is not None and self._process.stdout is not None
         self._input, self._output = self._process.stdin, self._process.stdout
         os.set_blocking(self._input.fileno(), False)
+        try:
+            # Nothing else tells that the load is over, or that the table is faulty.
+            self.size = int(self.replies_to(b"count all\n", 1).split()[-1])
+        except BaseException:
+            self.close()
+            raise
+
+    @property
+    def is_closed(self) -> bool:
+        return self._input.closed
 
     def replies_to(self, text: bytes, lines: int) -> bytearray:
         """The replies to a text of so many lines, of which the last has to be one that is answered.
@@ -46,6 +57,8 @@ class Program:
         Raises `Ended` where the program ends, `TimedOut` where it takes too long, `ValueError` where this was closed.
         Whatever is raised, the program is killed: replies that are still to come would be taken for those to later lines.
         """
+        if self.is_closed:
+            raise ValueError(CLOSED)
         self.lines += lines
         try:
             return self._exchanged(text)

@@ -134,7 +134,7 @@ class Times(unittest.TestCase):
                 boxes.ask(["find all"] * 100_000)
 
     def test_a_part_of_an_answer(self) -> None:
-        with Rtfilter(BOXES, program=acting("printf '1 0\\nok 2 1'; exec sleep 60"), timeout=SOON) as boxes:
+        with Rtfilter(BOXES, program=acting("read line; printf '1 0\\nok 2 1'; exec sleep 60"), timeout=SOON) as boxes:
             with self.assertRaises(TimedOut):
                 boxes.find(All())
 
