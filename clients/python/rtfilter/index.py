@@ -83,25 +83,24 @@ class Index:
     def nearest(self, coordinates: Sequence[float], num_results: int = 1) -> Iterator[int]:
         """The ids of so many boxes nearest to a point, by distance and then id; with the last, all that are as near.
 
-        A point alone: a box raises `ValueError`. With a scale it is moved to the nearest whole unit, so that boxes whose
-        distances differ by a few units may come in the wrong order.
+        A point alone, and at least one: a box, and a number below 1, raise `ValueError`. With a scale the point is moved to
+        the nearest whole unit, so that boxes whose distances differ by a few units may come in the wrong order.
         """
         x, max_x, y, max_y = self._sides(coordinates)
         if (x, y) != (max_x, max_y):
             raise ValueError("the boxes nearest to a box can't be asked for, but those nearest to a point")
+        if num_results < 1:
+            raise ValueError("at least one box has to be asked for")
         if self._scale is not None:
             x, y = round(x * self._scale), round(y * self._scale)
-        if num_results < 1:
-            return iter(())
         asked = num_results + 1  # the one behind the last tells whether more may be as near
         while True:
             found = self._boxes.nearest(asked, x, y)  # type: ignore[arg-type]  # what isn't whole is refused there
             scores = found.scores
-            if len(scores) < asked or scores[-1] > scores[num_results - 1]:
-                break
+            farthest = scores[num_results - 1] if len(scores) >= num_results else math.inf
+            if len(scores) < asked or scores[-1] > farthest:
+                return iter(found.ids[:bisect_right(scores, farthest)])
             asked *= 2
-        kept = bisect_right(scores, scores[num_results - 1]) if len(scores) > num_results else len(scores)
-        return iter(found.ids[:kept])
 
     @property
     def bounds(self) -> list[float]:

@@ -15,7 +15,7 @@ from rtfilter.index import Index
 
 DEBIAN = "/usr/bin/python3"  # sees Debian's packages, as another Python on the path doesn't
 PEER = Path(__file__).with_name("rtree_peer.py")
-TABLES, QUESTIONS = 60, 60
+TABLES, QUESTIONS = 60, 30
 
 Box = tuple[float, float, float, float]  # min_x, min_y, max_x, max_y
 
@@ -82,9 +82,13 @@ def told_by_scan(table: dict[str, Any]) -> dict[str, Any]:
         "contains": [[id for id, box in rows if lies_in(box, it)] for it in table["contains"]],
         "count": [sum(meet(box, it) for _, box in rows) for it in table["count"]],
         "nearest": [nearest(point, count) for point, count in table["nearest"]],
-        "bounds": [pick(side) for pick, side in zip((min, min, max, max), zip(*(box for _, box in rows)))],
+        "bounds": hull([box for _, box in rows]),
         "len": len(rows),
     }
+
+
+def hull(boxes: list[Box]) -> list[float]:
+    return [pick(sides) for pick, sides in zip((min, min, max, max), zip(*boxes))]
 
 
 def meet(one: Box, other: Box) -> bool:
@@ -135,7 +139,9 @@ class Ends(unittest.TestCase):
             self.assertEqual(list(boxes.nearest((-far - 1, -far - 1), 3)), list(range(1000)))
             self.assertEqual(list(boxes.nearest((-far - 1, -far - 1), 1000)), list(range(1000)))
             self.assertEqual(list(boxes.nearest((0, 0), 5000)), list(range(1000)))
-            self.assertEqual(list(boxes.nearest((0, 0), 0)), [])
+            for few in (0, -1):
+                with self.assertRaises(ValueError):
+                    boxes.nearest((0, 0), few)
 
     def test_none(self) -> None:
         with Index(program=PROGRAM) as boxes:
@@ -164,18 +170,17 @@ class Decimals(unittest.TestCase):
             x, y = round(chance.uniform(-180, 180), 1), round(chance.uniform(-90, 90), 1)
             return x, y, x + round(chance.uniform(0, longest), 1), y + round(chance.uniform(0, longest), 1)
 
-        rows = [(id, some_box(2)) for id in range(2000)]
+        rows = [(id, some_box(2)) for id in range(500)]
         beside = 2 / Fraction(self.SCALE)
         with Index(((id, box, None) for id, box in rows), scale=self.SCALE, program=PROGRAM) as boxes:
-            for _ in range(100):
-                window = some_box(20)
+            for _ in range(60):
+                window = some_box(40)
                 wide = tuple(Fraction(side) + beside * way for side, way in zip(window, (-1, -1, 1, 1)))
                 for found, holds in ((boxes.intersection(window), meet), (boxes.contains(window), lies_in)):
                     ids = {*found}
                     self.assertLessEqual({id for id, box in rows if holds(box, window)}, ids)
                     self.assertLessEqual(ids, {id for id, box in rows if holds(box, wide)})
-            self.assertEqual(boxes.bounds, told_by_scan({"rows": rows, **dict.fromkeys(
-                ("intersection", "contains", "count", "nearest"), [])})["bounds"])
+            self.assertEqual(boxes.bounds, hull([box for _, box in rows]))
 
     def test_nearest(self) -> None:
         with Index(((id, (id / 10, 0.05), None) for id in range(100)), scale=self.SCALE, program=PROGRAM) as boxes:
