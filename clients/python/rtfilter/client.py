@@ -59,7 +59,7 @@ class Rtfilter(Boxes):
         with self._lock:
             first = self._program.lines + 1
             replies = self._program.replies_to(text, len(sent))
-        return cut(replies, asked, first)
+        return cut(replies, sent, first)[:len(asked)]
 
     def reload(self, table: Table | None = None) -> None:
         table = again(table, self._file)

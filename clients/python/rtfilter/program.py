@@ -10,9 +10,9 @@ from collections.abc import Sequence
 
 from .errors import Ended, TimedOut
 
-PIECE = 1 << 16  # bytes of a write or a read: what a pipe holds
+PIECE = 1 << 16  # bytes of a read: what a pipe holds
 LONGEST_ERROR = 1 << 12  # bytes of standard error that are told
-GRACE = 5.0  # seconds that the program has to end by itself
+GRACE = 2.0  # seconds that the program has to end by itself
 CLOSED = "the table was closed"
 
 
@@ -87,7 +87,7 @@ class Program:
         if not unsent:
             return unsent
         try:
-            return unsent[os.write(self._input.fileno(), unsent[:PIECE]):]
+            return unsent[os.write(self._input.fileno(), unsent):]
         except BlockingIOError:
             return unsent
         except BrokenPipeError:  # it has ended, as the end of its output tells

@@ -80,6 +80,7 @@ class Calls(unittest.TestCase):
                 self.assertEqual(replies[0], Answers(b"", 5))
                 self.assertEqual(isinstance(replies[1], QueryError), len(last) > 4096)
             self.assertEqual([answers.told for answers in boxes.ask(["", "count all", "#"])], [0, 5, 0])
+            self.assertEqual(boxes.replies(["count all", "count all", ""])[1:], [Answers(b"", 5), None])
             self.assertEqual(boxes.replies([""]), [None])
             self.assertEqual(boxes.replies([]), [])
 

@@ -10,10 +10,11 @@ import threading
 import time
 import unittest
 from functools import partial
+from itertools import chain
 from pathlib import Path
 from unittest import mock
 
-from support import BOXES, PROGRAM, open_files, some_lines
+from support import BOXES, PROGRAM, open_files, some_lines, written
 
 from rtfilter import All, Ended, Rtfilter, TimedOut
 
@@ -90,9 +91,11 @@ class Ends(unittest.TestCase):
     def test_killed_while_it_is_asked(self) -> None:
         with tempfile.TemporaryDirectory() as folder:
             number = Path(folder, "number")
-            program = ["bash", "-c", f'echo $$ > {number}; exec "$@"', "-", PROGRAM]
+            program = ["sh", "-c", f'echo $$ > {number}; exec "$@"', "-", PROGRAM]
             with Rtfilter([(at, 0, 1, 0, 1) for at in range(10_000)], program=program) as boxes:
-                threading.Timer(0.05, os.kill, (int(number.read_text()), signal.SIGKILL)).start()
+                process = int(number.read_text())
+                self.assertEqual(os.getpgid(process), process)  # an interrupt from the keyboard passes it by
+                threading.Timer(0.05, os.kill, (process, signal.SIGKILL)).start()
                 with self.assertRaises(Ended) as raised:
                     while True:
                         boxes.ask(["find all"] * 20)
@@ -100,7 +103,7 @@ class Ends(unittest.TestCase):
 
     def test_much_on_standard_error(self) -> None:
         """More than a pipe holds, before it answers."""
-        with Rtfilter(BOXES, program=["bash", "-c", "head -c 1000000 /dev/zero >&2; exec \"$@\"", "-", PROGRAM]) as boxes:
+        with Rtfilter(BOXES, program=["sh", "-c", 'head -c 1000000 /dev/zero >&2; exec "$@"', "-", PROGRAM]) as boxes:
             self.assertEqual(boxes.count(All()), 5)
 
     def test_closed(self) -> None:
@@ -178,13 +181,13 @@ class Crowds(unittest.TestCase):
     def test_threads(self) -> None:
         lines = [[os.fsdecode(line) for line in some_lines(random.Random(seed), 200)] for seed in range(8)]
         with Rtfilter(BOXES, program=PROGRAM, timeout=60) as boxes:
-            wanted = [list(map(str, map(bytes_of, boxes.replies(some)))) for some in lines]
+            wanted = [b"".join(written(boxes.replies(some))) for some in lines]
             differ = []
 
             def ask(at: int) -> None:
                 for size in (1, 7, 200):
-                    replies = [it for cut in range(0, 200, size) for it in boxes.replies(lines[at][cut:cut + size])]
-                    if list(map(str, map(bytes_of, replies))) != wanted[at]:
+                    parts = [boxes.replies(lines[at][cut:cut + size]) for cut in range(0, 200, size)]
+                    if b"".join(written(chain.from_iterable(parts))) != wanted[at]:
                         differ.append((at, size))
 
             threads = [threading.Thread(target=ask, args=(at,)) for at in range(8)]
@@ -206,8 +209,3 @@ class Crowds(unittest.TestCase):
             with self.assertRaises(TimedOut):
                 Rtfilter(BOXES, program=SLEEPING, timeout=0.01)
         self.assertEqual(open_files(), before)
-
-
-def bytes_of(reply: object) -> object:
-    """A reply as a value that equals that of the same reply to another line."""
-    return reply.args if isinstance(reply, Exception) else reply and (bytes(reply), reply.told)

@@ -140,10 +140,15 @@ class Errors(unittest.TestCase):
 
 class Cutting(unittest.TestCase):
     def test_by_the_numbers_of_lines(self) -> None:
-        text = b"1 0\n2 5\nok 7 2\nerror 9 Q2 unknown verb\nok 10 0\nok 11 0\n"
+        text = b"1 0\n2 5\nok 7 2\nerror 9 Q2 unknown verb\nok 10 0\n"
         found = cut(text, ["find all", "", "x", "find all first 0"], 7)
         self.assertEqual([found[0], found[1], found[3]], [Answers(b"1 0\n2 5\n", 2), None, Answers(b"", 0)])
         self.assertEqual(str(found[2]), "Q2 unknown verb: x")
+
+    def test_where_each_line_has_its_answers(self) -> None:
+        text = b"1 0\n2 5\nok 7 2\nok 8 3\n1 0\nok 9 1\n"
+        found = cut(text, ["find all", "count all", "find all"], 7)
+        self.assertEqual(found, [Answers(b"1 0\n2 5\n", 2), Answers(b"", 3), Answers(b"1 0\n", 1)])
 
     def test_which_lines_may_be_skipped(self) -> None:
         for line in ("", " ", "\t", "\r", " \t\r", "#", " # find all", "\t#\r"):
