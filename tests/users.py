@@ -8,6 +8,7 @@ The tests are those of clients/python/tests. One that wants what isn't installed
 """
 
 import argparse
+import faulthandler
 import os
 import sys
 import time
@@ -16,6 +17,7 @@ from pathlib import Path
 
 sys.dont_write_bytecode = True
 TESTS = Path(__file__).resolve().parent.parent / "clients/python/tests"
+TOO_LONG = 300  # seconds: something waits for ever
 
 
 class Results(unittest.TestResult):
@@ -44,6 +46,7 @@ def main():
     parser.add_argument("program")
     parser.add_argument("--need-all", action="store_true")
     args = parser.parse_args()
+    faulthandler.dump_traceback_later(TOO_LONG, exit=True)
     os.environ["RTFILTER_PROGRAM"] = str(Path(args.program).resolve())
     results = Results()
     unittest.defaultTestLoader.discover(str(TESTS)).run(results)

@@ -4,13 +4,13 @@ import os
 import random
 import tempfile
 import threading
-import time
 import unittest
+from functools import partial
 from pathlib import Path
 
 from support import BOXES, PROGRAM, open_files, some_lines, some_rows, told_by_program, written
 
-from rtfilter import All, Boxes, Ended, Pool, QueryError, Rtfilter, Smallest
+from rtfilter import All, Ended, Pool, QueryError, Rtfilter, Smallest
 
 
 class Pools(unittest.TestCase):
@@ -65,16 +65,15 @@ class Pools(unittest.TestCase):
 class Reloads(unittest.TestCase):
     """Of one client, and of a pool of them."""
 
-    def both(self, table: object, **options: object) -> list[Boxes]:
-        return [Rtfilter(table, program=PROGRAM, **options), Pool(2, table, program=PROGRAM, **options)]
+    BOTH = partial(Rtfilter, program=PROGRAM), partial(Pool, 2, program=PROGRAM)
 
     def test_the_same_file_and_others(self) -> None:
         with tempfile.TemporaryDirectory() as folder:
             table, other = Path(folder, "table"), Path(folder, "other")
             other.write_text("1,0,1,0,1\n")
-            for at in range(2):
+            for opened in self.BOTH:
                 table.write_text("1,0,1,0,1\n2,0,1,0,1\n")
-                with self.both(table)[at] as boxes:
+                with opened(table) as boxes:
                     table.write_text("1,0,1,0,1\n2,0,1,0,1\n3,0,1,0,1\n")
                     self.assertEqual(len(boxes), 2)
                     boxes.reload()
@@ -89,8 +88,8 @@ class Reloads(unittest.TestCase):
                     self.assertEqual(len(boxes), 1)
 
     def test_a_faulty_table_leaves_the_old_one(self) -> None:
-        for boxes in self.both(BOXES):
-            with boxes:
+        for opened in self.BOTH:
+            with opened(BOXES) as boxes:
                 for table, error in (([(1, 1, 0, 0, 0)], Ended), ("/no/such/table", Ended), ([(1, 0.5)], TypeError)):
                     with self.assertRaises(error):
                         boxes.reload(table)
@@ -99,7 +98,8 @@ class Reloads(unittest.TestCase):
 
     def test_after_the_end(self) -> None:
         before = open_files()
-        for boxes in self.both(BOXES):
+        for opened in self.BOTH:
+            boxes = opened(BOXES)
             boxes.close()
             with self.assertRaises(ValueError):
                 boxes.reload()
@@ -110,21 +110,22 @@ class Reloads(unittest.TestCase):
         before = open_files()
         chance = random.Random(4)
         tables = [some_rows(chance, count, 1000, 100) for count in (300, 200)]
-        for boxes in self.both(tables[0]):
+        for opened in self.BOTH:
             told: list[set[int]] = []
-            ends = time.monotonic() + 0.7
+            is_over = threading.Event()
 
             def ask() -> None:
-                while time.monotonic() < ends:
+                while not is_over.is_set():
                     told.append({answers.told for answers in boxes.ask(["count all"] * 400)})
 
             def reload() -> None:
-                for at in range(10):
-                    boxes.reload(tables[(at + 1) % 2])
-                while time.monotonic() < ends:
-                    time.sleep(0.01)
+                try:
+                    for at in range(20):
+                        boxes.reload(tables[(at + 1) % 2])
+                finally:
+                    is_over.set()
 
-            with boxes:
+            with opened(tables[0]) as boxes:
                 run_at_once([ask, ask, ask, reload])
             self.assertEqual({len(some) for some in told}, {1})
             self.assertEqual(set().union(*told), {300, 200})
