@@ -1,0 +1,49 @@
+"""Asks `rtfilter`, which finds boxes, from Python: exact answers, complete and in order.
+
+    from rtfilter import Rtfilter, Window
+
+    with Rtfilter("boxes.csv") as boxes:
+        for id, score in boxes.find(Window(0, 10, 0, 10)):
+            print(id)
+
+A table is held by the program, which runs beside this process (`Rtfilter`). Regions and orders are small values
+(`Window`, `Near` and the like), answers are made into numbers where they are looked at (`Answers`), and errors tell what
+the program told (`QueryError`, `Ended`, `TimedOut`).
+"""
+
+from .answers import Answers
+from .boxes import Boxes
+from .client import Command, Rtfilter
+from .errors import Ended, QueryError, RtfilterError, TimedOut
+from .joining import join
+from .pool import Pool
+from .queries import All, ById, Circle, Covers, Inside, Near, Order, Polygon, Region, Smallest, Window
+from .replies import Reply
+from .tables import Row, Table
+
+__all__ = [
+    "All",
+    "Answers",
+    "Boxes",
+    "ById",
+    "Circle",
+    "Command",
+    "Covers",
+    "Ended",
+    "Inside",
+    "Near",
+    "Order",
+    "Polygon",
+    "Pool",
+    "QueryError",
+    "Region",
+    "Reply",
+    "Row",
+    "Rtfilter",
+    "RtfilterError",
+    "Smallest",
+    "Table",
+    "TimedOut",
+    "Window",
+    "join",
+]

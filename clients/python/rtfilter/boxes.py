@@ -1,0 +1,86 @@
+"""What can be asked of a table of boxes, however it is held."""
+
+import abc
+from collections.abc import Iterable
+from types import TracebackType
+from typing import Self
+
+from .answers import Answers
+from .errors import QueryError
+from .queries import Order, Region, find_line, nearest_line
+from .replies import Reply
+from .tables import Table
+
+NO_ANSWERS = Answers(b"", 0)
+
+
+class Boxes(abc.ABC):
+    """A table of boxes that answers queries. Threads may share it; used in a `with` statement, it is closed at its end.
+
+    Each call that asks may raise `QueryError` for a faulty query, `Ended` where the program has ended, `TimedOut` where it
+    took too long, `ValueError` after `close`, and `TypeError` for a number that isn't whole.
+    """
+
+    @abc.abstractmethod
+    def replies(self, lines: Iterable[str]) -> list[Reply]:
+        """The reply to each query line, with faults and skipped lines as values.
+
+        Lines are as in a file of queries, without their line feeds: one that holds a line feed raises `ValueError`, and
+        nothing is asked. They go out as UTF-8; bytes that aren't may be held by surrogates, as `os.fsdecode` gives them.
+        """
+
+    @abc.abstractmethod
+    def reload(self, table: Table | None = None) -> None:
+        """Exchanges the table for another, or for what the same file holds now, while questions are asked.
+
+        The new one is loaded beside the old, which answers until that is done, and is closed then. Each call is answered by
+        one table. Where the load fails, its error is raised and the old table stays. Rows are read once: where the table
+        was made of them, the new one has to be named (`ValueError`).
+        """
+
+    @abc.abstractmethod
+    def __len__(self) -> int:
+        """How many boxes there are."""
+
+    @abc.abstractmethod
+    def close(self) -> None:
+        """Ends what holds the table. Nothing can be asked afterwards; closing again does nothing."""
+
+    def ask(self, lines: Iterable[str]) -> list[Answers]:
+        """The answers to each query line, none for a line that is skipped. All are asked, then the first fault is raised."""
+        found = []
+        for reply in self.replies(lines):
+            if isinstance(reply, QueryError):
+                raise reply
+            found.append(NO_ANSWERS if reply is None else reply)
+        return found
+
+    def find(self, region: Region, order: Order | None = None, first: int | None = None) -> Answers:
+        """The boxes that a region accepts, by score and then id, the least first; the first so many of them.
+
+        Without an order all scores are 0, and a circle's are those of `Near` its centre.
+        """
+        return self._answers(find_line(region, order, first))
+
+    def nearest(self, k: int, x: int, y: int) -> Answers:
+        """The k boxes nearest to a point, by the square of the distance and then id."""
+        return self._answers(nearest_line(k, x, y))
+
+    def count(self, region: Region) -> int:
+        """How many boxes a region accepts."""
+        return self._answers(f"count {region}").told
+
+    def levels(self) -> list[tuple[int, int]]:
+        """The levels of the tree from the top, each with how many nodes it has; level 0 is that of the boxes."""
+        return list(self._answers("levels"))
+
+    def _answers(self, line: str) -> Answers:
+        return self.ask([line])[0]
+
+    def __enter__(self) -> Self:
+        return self
+
+    def __exit__(
+        self, kind: type[BaseException] | None, error: BaseException | None, trace: TracebackType | None
+    ) -> None:
+        self.close()

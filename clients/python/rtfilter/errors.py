@@ -1,0 +1,49 @@
+"""What may go wrong. Each error is made of the arguments that it keeps, so that pickling gives it back whole."""
+
+LONGEST_SHOWN = 200  # of a query, in a message
+
+
+class RtfilterError(Exception):
+    """An error of this package."""
+
+
+class QueryError(RtfilterError):
+    """A query line that the program calls faulty. It changes nothing for other lines.
+
+    `line` is the line, `code` is one of Q1 to Q10, and `text` says what it stands for.
+    """
+
+    def __init__(self, line: str, code: str, text: str) -> None:
+        super().__init__(line, code, text)
+        self.line = line
+        self.code = code
+        self.text = text
+
+    def __str__(self) -> str:
+        return f"{self.code} {self.text}: {self.line:.{LONGEST_SHOWN}}"
+
+
+class Ended(RtfilterError):
+    """The program has ended: with a faulty table at its start, say, or because it was killed.
+
+    `status` is its exit status, or a signal's number below zero; `text` is what it wrote on standard error.
+    """
+
+    def __init__(self, status: int, text: str) -> None:
+        super().__init__(status, text)
+        self.status = status
+        self.text = text
+
+    def __str__(self) -> str:
+        return self.text or f"the program ended with status {self.status}"
+
+
+class TimedOut(RtfilterError, TimeoutError):
+    """The program had no answer in `seconds`, and was killed: what it would still have told belongs to no query."""
+
+    def __init__(self, seconds: float) -> None:
+        super().__init__(seconds)
+        self.seconds = seconds
+
+    def __str__(self) -> str:
+        return f"no answer in {self.seconds} s; the program was killed"

@@ -1,0 +1,158 @@
+"""Regions and orders as small values. `str` of each gives its words in the query language.
+
+Numbers are whole: `int`, or what Python takes for an index, as numpy's integers are. Any other, a float above all, is
+refused with a `TypeError` when the value is made, and never rounded. Coordinates have the unit of the table; whether
+they lie in their ranges is the program's to judge, when it is asked. Regions are closed: what touches shares a point.
+"""
+
+from collections.abc import Iterable
+from dataclasses import dataclass
+from operator import index
+from typing import ClassVar, Union
+
+
+def _check_whole(*numbers: int) -> None:
+    for number in numbers:
+        index(number)
+
+
+# ---- regions
+
+
+@dataclass(frozen=True, slots=True)
+class All:
+    """Every box."""
+
+    def __str__(self) -> str:
+        return "all"
+
+
+@dataclass(frozen=True, slots=True)
+class _Sides:
+    """A region that is told by the sides of a window: from x1 to x2 and from y1 to y2, the least before the greatest."""
+
+    x1: int
+    x2: int
+    y1: int
+    y2: int
+    _word: ClassVar[str]
+
+    def __post_init__(self) -> None:
+        _check_whole(self.x1, self.x2, self.y1, self.y2)
+
+    def __str__(self) -> str:
+        return f"{self._word} {self.x1:d} {self.x2:d} {self.y1:d} {self.y2:d}"
+
+
+class Window(_Sides):
+    """The boxes that share a point with the window."""
+
+    __slots__ = ()
+    _word = "window"
+
+
+class Inside(_Sides):
+    """The boxes that lie in the window; they may share its sides."""
+
+    __slots__ = ()
+    _word = "inside"
+
+
+class Covers(_Sides):
+    """The boxes in which the window lies; it may share their sides. With x1 = x2 and y1 = y2 it is a point."""
+
+    __slots__ = ()
+    _word = "covers"
+
+
+@dataclass(frozen=True, slots=True)
+class Circle:
+    """The boxes whose point nearest to (x, y) is at most `radius` away."""
+
+    x: int
+    y: int
+    radius: int
+
+    def __post_init__(self) -> None:
+        _check_whole(self.x, self.y, self.radius)
+
+    def __str__(self) -> str:
+        return f"circle {self.x:d} {self.y:d} {self.radius:d}"
+
+
+@dataclass(frozen=True, slots=True, init=False)
+class Polygon:
+    """The boxes that share a point with a strictly convex polygon of 3 to 16 vertices.
+
+    The vertices are pairs (x, y) in order round it, either way, the first one not repeated at the end.
+    """
+
+    vertices: tuple[tuple[int, int], ...]
+
+    def __init__(self, vertices: Iterable[tuple[int, int]]) -> None:
+        points = tuple((x, y) for x, y in vertices)
+        for x, y in points:
+            _check_whole(x, y)
+        object.__setattr__(self, "vertices", points)
+
+    def __str__(self) -> str:
+        return " ".join([f"polygon {len(self.vertices)}", *(f"{x:d} {y:d}" for x, y in self.vertices)])
+
+
+Region = Union[All, Window, Inside, Covers, Circle, Polygon]
+
+
+# ---- orders
+
+
+@dataclass(frozen=True, slots=True)
+class ById:
+    """No score (0), so that answers come by id: what a region other than a circle has without an order."""
+
+    def __str__(self) -> str:
+        return ""
+
+
+@dataclass(frozen=True, slots=True)
+class Near:
+    """The nearest to (x, y) first. The score is the square of the distance to the box, 0 where it holds the point."""
+
+    x: int
+    y: int
+
+    def __post_init__(self) -> None:
+        _check_whole(self.x, self.y)
+
+    def __str__(self) -> str:
+        return f"near {self.x:d} {self.y:d}"
+
+
+@dataclass(frozen=True, slots=True)
+class Smallest:
+    """The smallest first. The score is the area, (max_x - min_x) * (max_y - min_y)."""
+
+    def __str__(self) -> str:
+        return "smallest"
+
+
+Order = Union[ById, Near, Smallest]
+
+
+# ---- query lines
+
+
+def find_line(region: Region, order: Order | None, first: int | None) -> str:
+    """A query for boxes. A circle's boxes come by distance where no order is named, and can't come by id: ValueError."""
+    if isinstance(order, ById) and isinstance(region, Circle):
+        raise ValueError("the boxes of a circle come by a score: its own, Near or Smallest")
+    words = [f"find {region}"]
+    if order is not None:
+        words.append(str(order))
+    if first is not None:
+        words.append(f"first {index(first):d}")
+    return " ".join(words)
+
+
+def nearest_line(k: int, x: int, y: int) -> str:
+    """A query for the k boxes nearest to a point."""
+    return f"nearest {index(k):d} {index(x):d} {index(y):d}"

@@ -1,0 +1,50 @@
+"""A table for the program: a CSV file, or rows that are written to one."""
+
+import contextlib
+import os
+import tempfile
+from collections.abc import Iterable, Iterator, Sequence
+from operator import index
+from typing import Union
+
+Row = Sequence[int]
+"""A box: id, min_x, max_x, min_y, max_y, each a whole number."""
+
+File = Union[str, "os.PathLike[str]"]
+"""The name of a file."""
+
+Table = Union[File, Iterable[Row]]
+"""The name of a CSV file, or rows."""
+
+
+@contextlib.contextmanager
+def named(table: Table, header: bool) -> Iterator[str]:
+    """The name of a file that has the table, for as long as it takes to load it.
+
+    Rows go to a file of their own, in the folder for temporary files, before any program is started: whatever making them
+    raises is raised here, and more than one program may read them. A row that isn't five whole numbers raises `TypeError`,
+    and rows with a header `ValueError`; whether the numbers make a box is the program's to judge.
+    """
+    if isinstance(table, (str, os.PathLike)):
+        yield os.fspath(table)
+        return
+    if header:
+        raise ValueError("rows have no header")
+    with tempfile.NamedTemporaryFile("w", encoding="ascii", prefix="rtfilter-", suffix=".csv") as file:
+        file.writelines("%d,%d,%d,%d,%d\n" % tuple(map(index, row)) for row in table)
+        file.flush()
+        yield file.name
+
+
+def file_of(table: Table) -> File | None:
+    """The file that a table is: it can be read again, as rows can't."""
+    return table if isinstance(table, (str, os.PathLike)) else None
+
+
+def again(table: Table | None, file: File | None) -> Table:
+    """The table to load where another one was loaded before, by default from this file."""
+    if table is not None:
+        return table
+    if file is not None:
+        return file
+    raise ValueError("rows are read once: the new table has to be named")

@@ -1,0 +1,54 @@
+"""What the tests of the client share: the program, the folders, and lines at random."""
+
+import os
+import random
+import subprocess
+import sys
+from collections.abc import Iterable, Iterator
+from pathlib import Path
+
+ROOT = Path(__file__).resolve().parents[3]
+PACKAGE = ROOT / "clients/python"
+EXAMPLES = ROOT / "examples"
+BOXES = EXAMPLES / "boxes.csv"
+PROGRAM = os.environ["RTFILTER_PROGRAM"]
+
+sys.path[:0] = [str(PACKAGE), str(ROOT / "tests")]
+
+import random_runs
+import reading
+
+from rtfilter import QueryError, Reply
+
+
+def some_lines(chance: random.Random, count: int) -> list[bytes]:
+    """Sound and faulty query lines, and some that are skipped."""
+    return [random_runs.some_line(chance) for _ in range(count)]
+
+
+def some_rows(chance: random.Random, count: int, span: int, longest: int) -> list[tuple[int, int, int, int, int]]:
+    """Boxes whose ids rise, and whose sides are at most so long."""
+    rows = []
+    for id in range(1, count + 1):
+        x, y = chance.randrange(-span, span), chance.randrange(-span, span)
+        rows.append((id, x, x + chance.randint(0, longest), y, y + chance.randint(0, longest)))
+    return rows
+
+
+def told_by_program(table: Path, lines: Iterable[bytes]) -> bytes:
+    """What the program writes for a file of these lines."""
+    queries = b"".join(line + b"\n" for line in lines)
+    return subprocess.run([PROGRAM, table], input=queries, capture_output=True, timeout=60).stdout
+
+
+def written(replies: Iterable[Reply]) -> Iterator[bytes]:
+    """The replies as the program writes them, where the first is that to its first line."""
+    for at, reply in enumerate(replies, 1):
+        if isinstance(reply, QueryError):
+            yield b"error %d %s %s\n" % (at, reply.code.encode(), reply.text.encode())
+        elif reply is not None:
+            yield bytes(reply) + b"ok %d %d\n" % (at, reply.told)
+
+
+def open_files() -> int:
+    return len(os.listdir("/proc/self/fd"))

@@ -1,0 +1,78 @@
+"""The package is installed by pip without an index, and its types are right."""
+
+import contextlib
+import importlib.util
+import os
+import shutil
+import subprocess
+import sys
+import tempfile
+import tomllib
+import unittest
+import zipfile
+from pathlib import Path
+
+from support import BOXES, PACKAGE, PROGRAM
+
+FIRST_ANSWER = f"""
+import rtfilter, rtfilter.index
+with rtfilter.Rtfilter({str(BOXES)!r}, program={PROGRAM!r}) as boxes:
+    print(rtfilter.__file__, *boxes.find(rtfilter.Window(0, 10, 0, 10)).ids)
+"""
+
+
+def run(*words: object, **options: object) -> str:
+    """What a command prints. One that fails raises, with all that it said."""
+    environment = {**os.environ, "PYTHONDONTWRITEBYTECODE": "1", "PIP_DISABLE_PIP_VERSION_CHECK": "1"}
+    environment.pop("PYTHONPATH", None)
+    done = subprocess.run(
+        [*map(str, words)], env=environment, stdout=subprocess.PIPE, stderr=subprocess.STDOUT, text=True, **options
+    )
+    if done.returncode:
+        raise AssertionError(f"{words}: {done.stdout}")
+    return done.stdout
+
+
+class Installed(unittest.TestCase):
+    def setUp(self) -> None:
+        self.folder = self.enterContext(tempfile.TemporaryDirectory())
+
+    def test_in_a_plain_environment(self) -> None:
+        if importlib.util.find_spec("pip") is None:
+            self.skipTest("python3-pip isn't installed")
+        before = sorted(PACKAGE.rglob("*"))
+        run(sys.executable, "-m", "venv", "--without-pip", self.folder)
+        python = Path(self.folder, "bin/python")
+        run(sys.executable, "-m", "pip", "--python", python, "install", "--no-index", PACKAGE)
+        place, *ids = run(python, "-c", FIRST_ANSWER, cwd="/").split()
+        self.assertTrue(place.startswith(self.folder), place)
+        self.assertEqual(ids, ["1", "2"])
+        self.assertTrue(Path(place).with_name("py.typed").exists())
+        self.assertEqual(sorted(PACKAGE.rglob("*")), before)
+
+    def test_the_wheel_is_the_same_each_time(self) -> None:
+        build = f"import wheel_here; wheel_here.build_wheel({self.folder!r})"
+        wheels = []
+        for _ in range(2):
+            run(sys.executable, "-c", build, cwd=PACKAGE)
+            (wheel,) = Path(self.folder).iterdir()
+            wheels.append((wheel.name, wheel.read_bytes()))
+            with zipfile.ZipFile(wheel) as archive:
+                names = {name for name in archive.namelist() if name.startswith("rtfilter/")}
+                (record,) = (name for name in archive.namelist() if name.endswith("/RECORD"))
+                recorded = [line.split(",")[0] for line in archive.read(record).decode().splitlines()]
+                self.assertEqual(recorded, archive.namelist())  # what is uninstalled
+            wheel.unlink()
+        self.assertEqual(wheels[0], wheels[1])
+        self.assertEqual(names, {f"rtfilter/{path.name}" for path in (PACKAGE / "rtfilter").iterdir() if path.is_file()})
+        version = tomllib.loads((PACKAGE / "pyproject.toml").read_text())["project"]["version"]
+        self.assertEqual(wheels[0][0], f"rtfilter-{version}-py3-none-any.whl")
+
+
+class Types(unittest.TestCase):
+    def test_strictly(self) -> None:
+        mypy = shutil.which("mypy")
+        if mypy is None:
+            self.skipTest("mypy isn't installed")
+        with contextlib.chdir(PACKAGE):
+            run(mypy, "--strict", "--python-version", "3.11", "--cache-dir", os.devnull, "rtfilter", "wheel_here.py")

@@ -1,0 +1,34 @@
+"""A join gives the pairs that a plain scan and SQLite give, in order."""
+
+import random
+import sqlite3
+import unittest
+
+from support import PROGRAM, some_rows
+
+from rtfilter import Pool, QueryError, Rtfilter, join
+from rtfilter.joining import BATCH
+
+MEET = "a.min_x <= b.max_x AND b.min_x <= a.max_x AND a.min_y <= b.max_y AND b.min_y <= a.max_y"
+
+
+class Joins(unittest.TestCase):
+    def test_as_sqlite(self) -> None:
+        chance = random.Random(1)
+        for count in (0, 1, 200, BATCH + 1):
+            ours, theirs = some_rows(chance, 100, 30, 5), some_rows(chance, count, 30, 5)
+            chance.shuffle(theirs)
+            base = sqlite3.connect(":memory:")
+            for name, rows in (("a", ours), ("b", theirs)):
+                base.execute(f"CREATE TABLE {name} (id, min_x, max_x, min_y, max_y)")
+                base.executemany(f"INSERT INTO {name} VALUES (?, ?, ?, ?, ?)", rows)
+            wanted = base.execute(f"SELECT a.id, b.id FROM b JOIN a ON {MEET} ORDER BY b.rowid, a.id").fetchall()
+            with Rtfilter(ours, program=PROGRAM) as boxes:
+                self.assertEqual(list(join(boxes, theirs)), wanted)
+            self.assertEqual(bool(wanted), count > 0)
+
+    def test_of_what_is_no_row(self) -> None:
+        with Pool(2, [(1, 0, 10, 0, 10)], program=PROGRAM) as boxes:
+            for bad, error in (((1, 0, 1, 0), TypeError), ((1, 0, 0.5, 0, 1), TypeError), ((1, 1, 0, 0, 1), QueryError)):
+                with self.assertRaises(error):
+                    list(join(boxes, [bad]))

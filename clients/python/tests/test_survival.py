@@ -1,0 +1,211 @@
+"""Whatever goes wrong is told, nothing waits for ever, and nothing is left open."""
+
+import os
+import pickle
+import random
+import signal
+import subprocess
+import tempfile
+import threading
+import time
+import unittest
+from functools import partial
+from itertools import chain
+from pathlib import Path
+from unittest import mock
+
+from support import BOXES, PROGRAM, open_files, some_lines, written
+
+from rtfilter import All, Ended, Rtfilter, TimedOut
+
+SMALL_PIPES = mock.patch("subprocess.Popen", partial(subprocess.Popen, pipesize=4096))
+
+
+SLEEPING = ["sh", "-c", "exec sleep 60"]
+SOON = 1.0  # seconds in which a script answers, however busy the machine is
+
+
+def acting(script: str) -> list[str]:
+    """A program that loads and then does as a script of the shell says."""
+    return ["sh", "-c", f"read line; echo ok 1 0; {script}"]
+
+
+class Ends(unittest.TestCase):
+    def assert_ended(self, raised: Ended, status: int, text: str) -> None:
+        self.assertEqual((raised.status, raised.text), (status, text))
+        self.assertEqual(vars(pickle.loads(pickle.dumps(raised))), vars(raised))
+
+    def test_a_faulty_table(self) -> None:
+        for table, text in (
+            ("/no/such/table", "rtfilter: cannot open table"),
+            ([(1, 0, 10, 0, 10), (1, 0, 10, 0, 10)], "rtfilter: table record 2: repeated id"),
+            ([(1, 10, 0, 0, 10)], "rtfilter: table record 1: minimum above maximum in x"),
+            ([(1, 0, 2**31, 0, 10)], "rtfilter: table record 1: field 3 is out of range"),
+            (((at, 1, 0, 0, 0) for at in range(100_000)), "rtfilter: table record 1: minimum above maximum in x"),
+        ):
+            with self.assertRaises(Ended) as raised:
+                Rtfilter(table, program=PROGRAM)
+            self.assert_ended(raised.exception, 3, text)
+            self.assertEqual(str(raised.exception), text)
+
+    def test_faulty_options(self) -> None:
+        for options in ({"fanout": 1}, {"fanout": 65}, {"max_entries": 0}):
+            with self.assertRaises(Ended) as raised:
+                Rtfilter(BOXES, program=PROGRAM, **options)
+            self.assert_ended(raised.exception, 2, "rtfilter: bad command line")
+        for options in ({"fanout": 2.0}, {"max_entries": "5"}):
+            with self.assertRaises(TypeError):
+                Rtfilter(BOXES, program=PROGRAM, **options)
+
+    def test_rows_that_are_none(self) -> None:
+        for rows in ([(1, 0, 0.5, 0, 1)], [(1, 0, 1.0, 0, 1)], [(1, 0, 1, 0)], [(1, 0, 1, 0, 1, 2)], [("1", 0, 1, 0, 1)], [1]):
+            with self.assertRaises(TypeError):
+                Rtfilter(rows, program=PROGRAM)
+        with self.assertRaises(ValueError):
+            Rtfilter([(1, 0, 1, 0, 1)], header=True, program=PROGRAM)
+
+    def test_rows_that_cannot_be_made(self) -> None:
+        def rows():
+            yield 1, 0, 1, 0, 1
+            raise KeyError("row 2")
+
+        with self.assertRaises(KeyError):
+            Rtfilter(rows(), program=PROGRAM)
+
+    def test_no_program(self) -> None:
+        with self.assertRaises(FileNotFoundError):
+            Rtfilter(BOXES, program="/no/such/program")
+
+    def test_death_in_mid_answer(self) -> None:
+        for script, status, text in (
+            ("read line; printf '1 0\\n2 '; echo told >&2; exit 7", 7, "told"),
+            ("read line; printf '1 0\\nok 2 1'; kill -9 $$", -9, ""),
+            ("exit 0", 0, ""),
+        ):
+            with Rtfilter(BOXES, program=acting(script)) as boxes:
+                for _ in range(2):  # it stays ended
+                    with self.assertRaises(Ended) as raised:
+                        boxes.find(All())
+                    self.assert_ended(raised.exception, status, text)
+
+    def test_killed_while_it_is_asked(self) -> None:
+        with tempfile.TemporaryDirectory() as folder:
+            number = Path(folder, "number")
+            program = ["sh", "-c", f'echo $$ > {number}; exec "$@"', "-", PROGRAM]
+            with Rtfilter([(at, 0, 1, 0, 1) for at in range(10_000)], program=program) as boxes:
+                process = int(number.read_text())
+                self.assertEqual(os.getpgid(process), process)  # an interrupt from the keyboard passes it by
+                threading.Timer(0.05, os.kill, (process, signal.SIGKILL)).start()
+                with self.assertRaises(Ended) as raised:
+                    while True:
+                        boxes.ask(["find all"] * 20)
+                self.assert_ended(raised.exception, -signal.SIGKILL, "")
+
+    def test_much_on_standard_error(self) -> None:
+        """More than a pipe holds, before it answers."""
+        with Rtfilter(BOXES, program=["sh", "-c", 'head -c 1000000 /dev/zero >&2; exec "$@"', "-", PROGRAM]) as boxes:
+            self.assertEqual(boxes.count(All()), 5)
+
+    def test_closed(self) -> None:
+        boxes = Rtfilter(BOXES, program=PROGRAM)
+        boxes.close()
+        boxes.close()
+        with self.assertRaises(ValueError):
+            boxes.count(All())
+
+
+class Times(unittest.TestCase):
+    def test_no_answer(self) -> None:
+        begun = time.monotonic()
+        with Rtfilter(BOXES, program=acting("exec sleep 60"), timeout=SOON) as boxes:
+            with self.assertRaises(TimedOut) as raised:
+                boxes.count(All())
+            self.assertEqual(raised.exception.seconds, SOON)
+            with self.assertRaises(Ended) as ended:
+                boxes.count(All())
+            self.assertEqual(ended.exception.status, -signal.SIGKILL)
+        self.assertLess(time.monotonic() - begun, 5)
+
+    def test_no_load(self) -> None:
+        with self.assertRaises(TimedOut):
+            Rtfilter(BOXES, program=SLEEPING, timeout=0.1)
+
+    def test_nobody_reads(self) -> None:
+        """More lines than a pipe holds, and a program that takes none of them."""
+        with Rtfilter(BOXES, program=acting("exec sleep 60"), timeout=SOON) as boxes:
+            with self.assertRaises(TimedOut):
+                boxes.ask(["find all"] * 100_000)
+
+    def test_a_part_of_an_answer(self) -> None:
+        with Rtfilter(BOXES, program=acting("read line; printf '1 0\\nok 2 1'; exec sleep 60"), timeout=SOON) as boxes:
+            with self.assertRaises(TimedOut):
+                boxes.find(All())
+
+    def test_an_interrupt(self) -> None:
+        """What comes after it isn't taken for another line's reply."""
+        with Rtfilter(BOXES, program=acting("exec sleep 60")) as boxes:
+            def interrupt(*_: object) -> None:
+                raise KeyboardInterrupt
+
+            before = signal.signal(signal.SIGALRM, interrupt)
+            try:
+                signal.setitimer(signal.ITIMER_REAL, 0.1)
+                with self.assertRaises(KeyboardInterrupt):
+                    boxes.count(All())
+            finally:
+                signal.signal(signal.SIGALRM, before)
+            with self.assertRaises(Ended):
+                boxes.count(All())
+
+
+class Crowds(unittest.TestCase):
+    def test_many_answers_in_one_call(self) -> None:
+        with Rtfilter(BOXES, program=PROGRAM) as boxes:
+            found = boxes.ask(["find all"] * 200_000)
+            self.assertEqual(len(found), 200_000)
+            self.assertEqual(len(set(found)), 1)
+            self.assertEqual(list(found[-1].ids), [1, 2, 3, 4, 5])
+
+    def test_one_reply_of_many_answers(self) -> None:
+        with Rtfilter([(at, at, at, 0, 0) for at in range(200_000)], program=PROGRAM, timeout=60) as boxes:
+            found = boxes.find(All())
+            self.assertEqual((len(found), found.told), (200_000, 200_000))
+            self.assertEqual(found.ids[-1], 199_999)
+
+    def test_small_pipes(self) -> None:
+        with SMALL_PIPES:
+            boxes = Rtfilter(BOXES, program=PROGRAM)
+        with boxes:
+            self.assertEqual(len(set(boxes.ask(["find all".ljust(4096)] * 5_000))), 1)
+
+    def test_threads(self) -> None:
+        lines = [[os.fsdecode(line) for line in some_lines(random.Random(seed), 200)] for seed in range(8)]
+        with Rtfilter(BOXES, program=PROGRAM, timeout=60) as boxes:
+            wanted = [b"".join(written(boxes.replies(some))) for some in lines]
+            differ = []
+
+            def ask(at: int) -> None:
+                for size in (1, 7, 200):
+                    parts = [boxes.replies(lines[at][cut:cut + size]) for cut in range(0, 200, size)]
+                    if b"".join(written(chain.from_iterable(parts))) != wanted[at]:
+                        differ.append((at, size))
+
+            threads = [threading.Thread(target=ask, args=(at,)) for at in range(8)]
+            for thread in threads:
+                thread.start()
+            for thread in threads:
+                thread.join()
+            self.assertEqual(differ, [])
+
+    def test_nothing_is_left_open(self) -> None:
+        before = open_files()
+        for _ in range(100):
+            with Rtfilter(BOXES, program=PROGRAM) as boxes:
+                boxes.count(All())
+        for _ in range(5):
+            for table, program in (([(1, 1, 0, 0, 0)], PROGRAM), (BOXES, "/no/such/program"), ([(1, 0.5)], PROGRAM)):
+                with self.assertRaises((Ended, OSError, TypeError)):
+                    Rtfilter(table, program=program)
+            with self.assertRaises(TimedOut):
+                Rtfilter(BOXES, program=SLEEPING, timeout=0.01)
+        self.assertEqual(open_files(), before)

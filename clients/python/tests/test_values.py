@@ -1,0 +1,157 @@
+"""Values that need no program: regions and orders, answers, errors."""
+
+import dataclasses
+import pickle
+import unittest
+from array import array
+from decimal import Decimal
+from fractions import Fraction
+
+import support  # noqa: F401, which makes the package found
+
+from rtfilter import (
+    All,
+    Answers,
+    ById,
+    Circle,
+    Covers,
+    Ended,
+    Inside,
+    Near,
+    Polygon,
+    QueryError,
+    RtfilterError,
+    Smallest,
+    TimedOut,
+    Window,
+)
+from rtfilter.queries import find_line, nearest_line
+from rtfilter.replies import cut, may_be_skipped
+
+WORDS = {
+    All(): "all",
+    Window(1, -2, 3, 4): "window 1 -2 3 4",
+    Inside(1, 2, 3, 4): "inside 1 2 3 4",
+    Covers(1, 2, 3, 4): "covers 1 2 3 4",
+    Circle(1, 2, 3): "circle 1 2 3",
+    Polygon([(0, 0), (30, 0), (0, 30)]): "polygon 3 0 0 30 0 0 30",
+    Polygon([]): "polygon 0",
+    ById(): "",
+    Near(-1, 2): "near -1 2",
+    Smallest(): "smallest",
+}
+
+
+class Whole(int):
+    """A whole number whose text is no digits, as an enumeration's may be."""
+
+    def __str__(self) -> str:
+        return "whole"
+
+
+class Regions(unittest.TestCase):
+    def test_words(self) -> None:
+        for value, words in WORDS.items():
+            self.assertEqual(str(value), words)
+
+    def test_equal_by_kind_and_numbers(self) -> None:
+        self.assertEqual(len(WORDS), 10)
+        self.assertEqual(Window(1, 2, 3, 4), Window(1, 2, 3, 4))
+        self.assertNotEqual(Window(1, 2, 3, 4), Inside(1, 2, 3, 4))
+        self.assertEqual(Polygon([(0, 0), (1, 0), (0, 1)]), Polygon(((0, 0), (1, 0), (0, 1))))
+
+    def test_frozen_and_pickled(self) -> None:
+        for value in WORDS:
+            self.assertEqual(pickle.loads(pickle.dumps(value)), value)
+        with self.assertRaises(dataclasses.FrozenInstanceError):
+            Window(1, 2, 3, 4).x1 = 5  # type: ignore[misc]
+
+    def test_no_number_but_a_whole_one(self) -> None:
+        for bad in (0.5, 1.0, "1", Decimal(1), Fraction(1), None, 1j):
+            for make in (
+                lambda it: Window(it, 2, 3, 4),
+                lambda it: Inside(1, it, 3, 4),
+                lambda it: Covers(1, 2, 3, it),
+                lambda it: Circle(1, 2, it),
+                lambda it: Near(it, 2),
+                lambda it: Polygon([(0, 0), (1, it), (1, 1)]),
+                lambda it: nearest_line(it, 1, 2),
+                lambda it: nearest_line(1, it, 2),
+            ):
+                with self.assertRaises(TypeError):
+                    make(bad)
+        with self.assertRaises(TypeError):
+            find_line(All(), None, 1.0)  # type: ignore[arg-type]
+
+    def test_digits_whatever_the_number_calls_itself(self) -> None:
+        self.assertEqual(str(Circle(Whole(1), True, Whole(3))), "circle 1 1 3")
+        self.assertEqual(nearest_line(Whole(1), True, Whole(3)), "nearest 1 1 3")
+        self.assertEqual(find_line(All(), None, Whole(3)), "find all first 3")
+
+    def test_lines(self) -> None:
+        self.assertEqual(find_line(All(), None, None), "find all")
+        self.assertEqual(find_line(Window(1, 2, 3, 4), Near(5, 6), 7), "find window 1 2 3 4 near 5 6 first 7")
+        self.assertEqual(find_line(Circle(1, 2, 3), Smallest(), None), "find circle 1 2 3 smallest")
+
+    def test_a_circle_does_not_come_by_id(self) -> None:
+        with self.assertRaises(ValueError):
+            find_line(Circle(1, 2, 3), ById(), None)
+
+
+class AnswersAsValues(unittest.TestCase):
+    LINES = b"-9223372036854775808 0\n9223372036854775807 36893488130239234050\n"
+
+    def test_readings(self) -> None:
+        answers = Answers(self.LINES, 2)
+        self.assertEqual(len(answers), 2)
+        self.assertEqual(answers.told, 2)
+        self.assertEqual(answers.ids, array("q", [-(2**63), 2**63 - 1]))
+        self.assertEqual(answers.scores, [0, 36893488130239234050])
+        self.assertEqual(list(answers), [(-(2**63), 0), (2**63 - 1, 36893488130239234050)])
+        self.assertEqual(bytes(answers), self.LINES)
+
+    def test_without_answers(self) -> None:
+        counted = Answers(b"", 7)
+        self.assertEqual((len(counted), counted.told, list(counted), len(counted.ids)), (0, 7, [], 0))
+        self.assertFalse(counted)
+
+    def test_equal_by_text_and_number(self) -> None:
+        self.assertEqual(Answers(self.LINES, 2), Answers(self.LINES, 2))
+        self.assertNotEqual(Answers(b"", 2), Answers(b"", 3))
+        self.assertEqual(len({Answers(b"", 2), Answers(b"", 2), Answers(b"1 2\n", 2)}), 2)
+
+
+class Errors(unittest.TestCase):
+    def test_pickled_whole(self) -> None:
+        for error in (QueryError("x", "Q2", "unknown verb"), Ended(3, "rtfilter: cannot open table"), TimedOut(0.5)):
+            again = pickle.loads(pickle.dumps(error))
+            self.assertIs(type(again), type(error))
+            self.assertEqual(vars(again), vars(error))
+            self.assertEqual(str(again), str(error))
+            self.assertIsInstance(error, RtfilterError)
+
+    def test_a_time_out_is_python_s_too(self) -> None:
+        self.assertIsInstance(TimedOut(1.0), TimeoutError)
+
+    def test_long_lines_are_cut_in_messages_alone(self) -> None:
+        error = QueryError("x" * 5000, "Q1", "line too long")
+        self.assertEqual((len(error.line), len(str(error))), (5000, 218))
+
+
+class Cutting(unittest.TestCase):
+    def test_by_the_numbers_of_lines(self) -> None:
+        text = b"1 0\n2 5\nok 7 2\nerror 9 Q2 unknown verb\nok 10 0\n"
+        found = cut(text, ["find all", "", "x", "find all first 0"], 7)
+        self.assertEqual([found[0], found[1], found[3]], [Answers(b"1 0\n2 5\n", 2), None, Answers(b"", 0)])
+        self.assertEqual(str(found[2]), "Q2 unknown verb: x")
+
+    def test_where_each_line_has_its_answers(self) -> None:
+        text = b"1 0\n2 5\nok 7 2\nok 8 3\n1 0\nok 9 1\n"
+        found = cut(text, ["find all", "count all", "find all"], 7)
+        self.assertEqual(found, [Answers(b"1 0\n2 5\n", 2), Answers(b"", 3), Answers(b"1 0\n", 1)])
+
+    def test_which_lines_may_be_skipped(self) -> None:
+        for line in ("", " ", "\t", "\r", " \t\r", "#", " # find all", "\t#\r"):
+            self.assertTrue(may_be_skipped(line), line)
+        for line in ("x", "find all", " count all #", "\v", "\f#", "\0"):
+            self.assertFalse(may_be_skipped(line), line)

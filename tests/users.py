@@ -1,0 +1,63 @@
+#!/usr/bin/env python3
+"""Tries what stands in clients/ with the built program.
+
+usage: tests/users.py PROGRAM [--need-all]
+
+The tests are those of clients/python/tests. One that wants what isn't installed here is skipped and named; with
+--need-all it has failed. The last line is `N passed, M failed`.
+"""
+
+import argparse
+import faulthandler
+import os
+import sys
+import time
+import unittest
+from pathlib import Path
+
+sys.dont_write_bytecode = True
+TESTS = Path(__file__).resolve().parent.parent / "clients/python/tests"
+TOO_LONG = 300  # seconds: something waits for ever
+
+
+class Results(unittest.TestResult):
+    """Counts what has passed. With TIMES in the environment, each test's time is told."""
+
+    def __init__(self):
+        super().__init__()
+        self.passed = 0
+
+    def startTest(self, test):
+        super().startTest(test)
+        self.begun = time.monotonic()
+
+    def stopTest(self, test):
+        super().stopTest(test)
+        if "TIMES" in os.environ:
+            print(f"{time.monotonic() - self.begun:.2f} s {test.id()}")
+
+    def addSuccess(self, test):
+        super().addSuccess(test)
+        self.passed += 1
+
+
+def main():
+    parser = argparse.ArgumentParser()
+    parser.add_argument("program")
+    parser.add_argument("--need-all", action="store_true")
+    args = parser.parse_args()
+    faulthandler.dump_traceback_later(TOO_LONG, exit=True)
+    os.environ["RTFILTER_PROGRAM"] = str(Path(args.program).resolve())
+    results = Results()
+    unittest.defaultTestLoader.discover(str(TESTS)).run(results)
+    for test, why in [*results.failures, *results.errors]:
+        print(f"FAIL {test.id()}: {why}")
+    for test, why in results.skipped:
+        print(f"{'FAIL' if args.need_all else 'skipped'} {test.id()}: {why}")
+    failed = len(results.failures) + len(results.errors) + len(results.skipped) * args.need_all
+    print(f"{results.passed} passed, {failed} failed")
+    return int(failed > 0)
+
+
+if __name__ == "__main__":
+    sys.exit(main())
