@@ -51,6 +51,10 @@ check: build/$(CRATE).proved $(patsubst %,build/%.passed,$(filter $(CRATE)_tests
 test:
 	@tests/run
 
+# The clients, with the built program. NEED=all: what can't be tried here has failed.
+test-users: build/rtfilter
+	@tests/users.py build/rtfilter $(if $(filter all,$(NEED)),--need-all)
+
 # What loading costs, and what a query line costs. BOXES: how many there are.
 bench: build/rtfilter
 	@bench/bench.py build/rtfilter $(BOXES)
@@ -65,5 +69,5 @@ uninstall:
 clean:
 	rm -rf build crates/*/out
 
-.PHONY: example check test bench install uninstall clean
+.PHONY: example check test test-users bench install uninstall clean
 .DEFAULT_GOAL := build/rtfilter
