@@ -14,7 +14,7 @@ the program told (`QueryError`, `Ended`, `TimedOut`).
 from .answers import Answers
 from .boxes import Boxes
 from .client import Command, Rtfilter
-from .errors import Ended, QueryError, RtfilterError, TimedOut
+from .errors import Ended, FeatureError, QueryError, RtfilterError, TimedOut
 from .joining import join
 from .pool import Pool
 from .queries import All, ById, Circle, Covers, Inside, Near, Order, Polygon, Region, Smallest, Window
@@ -30,6 +30,7 @@ __all__ = [
     "Command",
     "Covers",
     "Ended",
+    "FeatureError",
     "Inside",
     "Near",
     "Order",

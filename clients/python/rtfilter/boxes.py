@@ -2,10 +2,9 @@
 
 import abc
 from collections.abc import Iterable
-from types import TracebackType
-from typing import Self
 
 from .answers import Answers
+from .closing import Closing
 from .errors import QueryError
 from .queries import Order, Region, find_line, nearest_line
 from .replies import Reply
@@ -14,7 +13,7 @@ from .tables import Table
 NO_ANSWERS = Answers(b"", 0)
 
 
-class Boxes(abc.ABC):
+class Boxes(Closing):
     """A table of boxes that answers queries. Threads may share it; used in a `with` statement, it is closed at its end.
 
     Each call that asks may raise `QueryError` for a faulty query, `Ended` where the program has ended, `TimedOut` where it
@@ -41,10 +40,6 @@ class Boxes(abc.ABC):
     @abc.abstractmethod
     def __len__(self) -> int:
         """How many boxes there are."""
-
-    @abc.abstractmethod
-    def close(self) -> None:
-        """Ends what holds the table. Nothing can be asked afterwards; closing again does nothing."""
 
     def ask(self, lines: Iterable[str]) -> list[Answers]:
         """The answers to each query line, none for a line that is skipped. All are asked, then the first fault is raised."""
@@ -76,11 +71,3 @@ class Boxes(abc.ABC):
 
     def _answers(self, line: str) -> Answers:
         return self.ask([line])[0]
-
-    def __enter__(self) -> Self:
-        return self
-
-    def __exit__(
-        self, kind: type[BaseException] | None, error: BaseException | None, trace: TracebackType | None
-    ) -> None:
-        self.close()

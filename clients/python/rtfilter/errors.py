@@ -47,3 +47,18 @@ class TimedOut(RtfilterError, TimeoutError):
 
     def __str__(self) -> str:
         return f"no answer in {self.seconds} s; the program was killed"
+
+
+class FeatureError(RtfilterError, ValueError):
+    """A feature that isn't taken, so that none is: it would be missing from answers, or answered wrongly.
+
+    `number` is its place among the features, from 0; `text` says what is wrong with it.
+    """
+
+    def __init__(self, number: int, text: str) -> None:
+        super().__init__(number, text)
+        self.number = number
+        self.text = text
+
+    def __str__(self) -> str:
+        return f"features[{self.number}]: {self.text}"

@@ -3,17 +3,17 @@
 import math
 from bisect import bisect_right
 from collections.abc import Iterable, Iterator, Sequence
-from types import TracebackType
-from typing import Any, Self
+from typing import Any
 
 from .client import Command, Rtfilter
+from .closing import Closing
 from .queries import Inside, Window
 from .tables import Row
 
 Sides = tuple[float, float, float, float]  # min_x, max_x, min_y, max_y
 
 
-class Index:
+class Index(Closing):
     """Boxes that are loaded at once and asked as those of rtree's `Index` are.
 
     `stream` has an item for each box: its id, its coordinates, and whatever else, which is passed over. Coordinates are
@@ -112,13 +112,4 @@ class Index:
         return len(self._boxes)
 
     def close(self) -> None:
-        """Ends the program that holds the boxes."""
         self._boxes.close()
-
-    def __enter__(self) -> Self:
-        return self
-
-    def __exit__(
-        self, kind: type[BaseException] | None, error: BaseException | None, trace: TracebackType | None
-    ) -> None:
-        self.close()

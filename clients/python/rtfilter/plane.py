@@ -1,0 +1,90 @@
+"""Points, pieces of lines, windows and polygons of the plane, exactly: all numbers are whole, and of any size."""
+
+from collections.abc import Iterator, Sequence
+from fractions import Fraction
+from itertools import pairwise
+
+Place = tuple[int, int]
+"""A point, as x and y."""
+
+Path = Sequence[Place]
+"""Places that are joined by straight pieces, one after the other. One whose last place is its first is a ring."""
+
+Piece = tuple[Place, Place]
+"""What joins two places, both of them included."""
+
+Sides = tuple[int, int, int, int]
+"""A window, or the least one around something: from x1 to x2 and from y1 to y2, as x1, x2, y1, y2."""
+
+
+def sides_of(path: Path) -> Sides:
+    """The least window around places."""
+    xs, ys = zip(*path)
+    return min(xs), max(xs), min(ys), max(ys)
+
+
+def side_of(piece: Piece, x: int, y: int) -> int:
+    """Above 0 where a point lies to the left of a piece, seen along it, below 0 to the right, and 0 on its line."""
+    (ax, ay), (bx, by) = piece
+    return (bx - ax) * (y - ay) - (by - ay) * (x - ax)
+
+
+def is_straight(path: Path) -> bool:
+    """Whether all places lie on one line."""
+    first = path[0]
+    other = next((place for place in path if place != first), first)
+    return all(side_of((first, other), x, y) == 0 for x, y in path)
+
+
+def distance2(piece: Piece, x: int, y: int) -> Fraction:
+    """The square of a point's distance to the nearest point of a piece."""
+    (ax, ay), (bx, by) = piece
+    along_x, along_y = bx - ax, by - ay
+    length2 = along_x * along_x + along_y * along_y
+    along = (x - ax) * along_x + (y - ay) * along_y
+    if along <= 0:
+        return Fraction((x - ax) ** 2 + (y - ay) ** 2)
+    if along >= length2:
+        return Fraction((x - bx) ** 2 + (y - by) ** 2)
+    return Fraction(side_of(piece, x, y) ** 2, length2)
+
+
+def holds(rings: Sequence[Path], x: int, y: int) -> bool:
+    """Whether a polygon holds a point: one on a ring, or one from which a ray crosses the rings an odd number of times.
+
+    Where rings neither cross nor overlap, and one goes round the others, these are the points in that one and in no other,
+    and those on the rings themselves.
+    """
+    is_odd = False
+    for piece in _pieces(rings):
+        (ax, ay), (bx, by) = piece
+        if (ay > y and by > y) or (ay < y and by < y):
+            continue
+        side = side_of(piece, x, y)
+        if side == 0 and min(ax, bx) <= x <= max(ax, bx):
+            return True
+        # A piece holds its lower end and not its upper one, so that a ray through a corner crosses one piece or two.
+        if (ay > y) != (by > y) and (side > 0) == (by > ay):
+            is_odd = not is_odd
+    return is_odd
+
+
+def meets(rings: Sequence[Path], window: Sides) -> bool:
+    """Whether a polygon and a window share a point: on a ring, or else the window lies in the polygon, all of it."""
+    x1, _, y1, _ = window
+    return any(piece_meets(piece, window) for piece in _pieces(rings)) or holds(rings, x1, y1)
+
+
+def piece_meets(piece: Piece, window: Sides) -> bool:
+    """Whether a piece and a window share a point: no line parallel to a side of the window, or to the piece, parts them."""
+    x1, x2, y1, y2 = window
+    min_x, max_x, min_y, max_y = sides_of(piece)
+    if max_x < x1 or x2 < min_x or max_y < y1 or y2 < min_y:
+        return False
+    corners = [side_of(piece, x, y) for x in (x1, x2) for y in (y1, y2)]
+    return min(corners) <= 0 <= max(corners)
+
+
+def _pieces(rings: Sequence[Path]) -> Iterator[Piece]:
+    for ring in rings:
+        yield from pairwise(ring)
