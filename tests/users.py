@@ -1,9 +1,9 @@
 #!/usr/bin/env python3
-"""Tries what stands in clients/ with the built program.
+"""Tries what stands in clients/ and the recipes of docs/ with the built program.
 
 usage: tests/users.py PROGRAM [--need-all]
 
-The tests are those of clients/python/tests. One that wants what isn't installed here is skipped and named; with
+The tests are those of the folders TESTS. One that wants what isn't installed here is skipped and named; with
 --need-all it has failed. The last line is `N passed, M failed`.
 """
 
@@ -16,7 +16,8 @@ import unittest
 from pathlib import Path
 
 sys.dont_write_bytecode = True
-TESTS = Path(__file__).resolve().parent.parent / "clients/python/tests"
+ROOT = Path(__file__).resolve().parent.parent
+TESTS = [ROOT / "clients/python/tests", ROOT / "tests/recipes"]
 TOO_LONG = 300  # seconds: something waits for ever
 
 
@@ -49,7 +50,8 @@ def main():
     faulthandler.dump_traceback_later(TOO_LONG, exit=True)
     os.environ["RTFILTER_PROGRAM"] = str(Path(args.program).resolve())
     results = Results()
-    unittest.defaultTestLoader.discover(str(TESTS)).run(results)
+    for folder in TESTS:
+        unittest.TestLoader().discover(str(folder)).run(results)
     for test, why in [*results.failures, *results.errors]:
         print(f"FAIL {test.id()}: {why}")
     for test, why in results.skipped:

@@ -1,0 +1,65 @@
+"""The recipes of docs/recipes.md print what they show, each where its tools are installed."""
+
+import os
+import re
+import shutil
+import tempfile
+import unittest
+from pathlib import Path
+from unittest import mock
+
+from support import EXAMPLES, PROGRAM, ROOT
+
+import pages
+from postgres import server
+
+PAGE = ROOT / "docs/recipes.md"
+SECTION = re.compile(r"^## (.*)\n((?:(?!^## ).*\n)*)", re.MULTILINE)
+BLOCK = re.compile(r"^```console (.+)\n((?:.*\n)*?)```$", re.MULTILINE)
+EXAMPLE = re.compile(r"^\$ (.*\n(?:> .*\n|>\n)*)((?:(?!\$ ).*\n)*)", re.MULTILINE)
+
+
+def sections() -> dict[str, tuple[set[str], list[tuple[str, str]]]]:
+    """The tools of each section, and its commands, each with what it is to print."""
+    found = {}
+    for title, text in SECTION.findall(PAGE.read_text(encoding="utf-8")):
+        blocks = BLOCK.findall(text)
+        tools = {tool for words, _ in blocks for tool in words.split()}
+        examples = [(command.replace("\n> ", "\n"), shown) for _, block in blocks for command, shown in EXAMPLE.findall(block)]
+        found[title] = tools, examples
+    return found
+
+
+class Recipes(unittest.TestCase):
+    def run_section(self, tools: set[str], examples: list[tuple[str, str]]) -> None:
+        missing = sorted(tool for tool in tools if shutil.which(tool) is None)
+        if missing:
+            self.skipTest(f"{', '.join(missing)}: not installed")
+        room = Path(self.enterContext(tempfile.TemporaryDirectory()))
+        path, folder = room / "bin", room / "examples"
+        shutil.copytree(EXAMPLES, folder)
+        path.mkdir()
+        (path / "rtfilter").symlink_to(PROGRAM)
+        if "psql" in tools:
+            self.enterContext(mock.patch.dict(os.environ, self.enterContext(server(self))))
+        for command, shown in examples:
+            self.assertEqual(pages.printed(command, folder, path), shown, command)
+
+    def test_that_blocks_are_found(self) -> None:
+        commands = PAGE.read_text(encoding="utf-8").count("\n$ ")
+        self.assertEqual(sum(len(examples) for _, examples in sections().values()), commands)
+        self.assertGreater(commands, 30)
+
+
+def add_tests() -> None:
+    """A test for each section that has commands, named after its title."""
+    for title, (tools, examples) in sections().items():
+
+        def test(self: Recipes, tools: set[str] = tools, examples: list[tuple[str, str]] = examples) -> None:
+            self.run_section(tools, examples)
+
+        if examples:
+            setattr(Recipes, "test_" + re.sub(r"\W+", "_", title).lower(), test)
+
+
+add_tests()
