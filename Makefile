@@ -59,15 +59,23 @@ test-users: build/rtfilter
 bench: build/rtfilter
 	@bench/bench.py build/rtfilter $(BOXES)
 
+# The Debian package, in build/.
+deb: build/rtfilter
+	@packaging/make_deb.py build/rtfilter build
+
+SHARE := $(DESTDIR)$(PREFIX)/share
+COMPLETION := $(SHARE)/bash-completion/completions/rtfilter
+
 install: build/rtfilter
 	install -D build/rtfilter "$(DESTDIR)$(PREFIX)/bin/rtfilter"
-	install -D -m 644 docs/rtfilter.1 "$(DESTDIR)$(PREFIX)/share/man/man1/rtfilter.1"
+	install -D -m 644 docs/rtfilter.1 "$(SHARE)/man/man1/rtfilter.1"
+	install -D -m 644 packaging/rtfilter.bash "$(COMPLETION)"
 
 uninstall:
-	rm -f "$(DESTDIR)$(PREFIX)/bin/rtfilter" "$(DESTDIR)$(PREFIX)/share/man/man1/rtfilter.1"
+	rm -f "$(DESTDIR)$(PREFIX)/bin/rtfilter" "$(SHARE)/man/man1/rtfilter.1" "$(COMPLETION)"
 
 clean:
 	rm -rf build crates/*/out
 
-.PHONY: example check test test-users bench install uninstall clean
+.PHONY: example check test test-users bench deb install uninstall clean
 .DEFAULT_GOAL := build/rtfilter
