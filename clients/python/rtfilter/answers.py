@@ -25,12 +25,12 @@ class Answers:
     @property
     def ids(self) -> "array[int]":
         """The ids, in 64 bits each. Made anew by each use."""
-        return array("q", map(int, self._text.split()[::2]))
+        return array("q", map(int, self._words()[::2]))
 
     @property
     def scores(self) -> list[int]:
         """The scores, as whole numbers of any size. Made anew by each use."""
-        return [int(word) for word in self._text.split()[1::2]]
+        return [int(word) for word in self._words()[1::2]]
 
     def __len__(self) -> int:
         """How many answers there are. A `count` has none, whatever it has counted."""
@@ -38,8 +38,12 @@ class Answers:
 
     def __iter__(self) -> Iterator[tuple[int, int]]:
         """The ids, each with its score."""
-        words = map(int, self._text.split())
-        return zip(words, words)
+        numbers = map(int, self._words())
+        return zip(numbers, numbers)
+
+    def _words(self) -> list[str]:
+        """The ids and scores by turns. `int` takes text faster than bytes, by a third and more."""
+        return self._text.decode("ascii").split()
 
     def __bytes__(self) -> bytes:
         """The lines `ID SCORE` as the program wrote them."""
