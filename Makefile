@@ -51,7 +51,7 @@ check: build/$(CRATE).proved $(patsubst %,build/%.passed,$(filter $(CRATE)_tests
 test:
 	@tests/run
 
-# The clients, with the built program. NEED=all: what can't be tried here has failed.
+# The clients, the recipes and the package, with the built program. NEED=all: what can't be tried here has failed.
 test-users: build/rtfilter
 	@tests/users.py build/rtfilter $(if $(filter all,$(NEED)),--need-all)
 

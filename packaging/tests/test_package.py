@@ -104,16 +104,16 @@ class Package(unittest.TestCase):
 
     def test_installed_and_removed(self) -> None:
         """In a folder that stands for the system, which has the library in a version that is old enough, or not."""
-        wants(self, "dpkg")
-        if os.geteuid() != 0:
-            self.skipTest("only root may install")
+        as_root = [] if os.geteuid() == 0 else ["fakeroot"]
+        wants(self, "dpkg", *as_root)
+        path = f"{os.environ['PATH']}:/usr/sbin:/sbin"  # dpkg looks for tools there, whether it needs them or not
         for library, is_enough in (("2.36-9", True), ("2.31-13", False)):
             with tempfile.TemporaryDirectory() as system:
                 data = Path(system, "var/lib/dpkg")
                 (data / "info").mkdir(parents=True)
                 (data / "updates").mkdir()
                 (data / "status").write_text(LIBRARY.format(library))
-                dpkg = ["dpkg", f"--root={system}", f"--log={os.devnull}"]
+                dpkg = [*as_root, "env", f"PATH={path}", "dpkg", f"--root={system}", f"--log={os.devnull}"]
                 if not is_enough:
                     with self.assertRaisesRegex(AssertionError, "dependency problems"):
                         run(*dpkg, "--install", self.package)
