@@ -283,6 +283,14 @@ SCENES = {
 }
 
 
+# A region on one layer, and boxes with their layers.
+LAYERED = (
+    "window 8 16 5 11",
+    "on 3",
+    [(10, 13, 7, 9, 3), (3, 9, 8, 13, 3), (16, 20, 10, 14, 0), (11, 15, 2, 6, 7), (18, 22, 3, 8, 3), (2, 5, 2, 5, 63)],
+)
+
+
 def outline(name, words, scene):
     """The drawing of a region."""
     numbers = [reading.number(word) for word in words.left[1:]]
@@ -319,6 +327,17 @@ def region(name):
     return scene.picture(f"Boxes that {name} accepts are drawn solid, the others dashed", parts)
 
 
+def on_layer():
+    """The picture of a window on one layer, each box with its layer."""
+    asked, layer, boxes = LAYERED
+    scene = Scene(1, 23, 0, 15)
+    accepts, _ = reading.asked_boxes(reading.Words(f"{asked} {layer}".encode()))
+    parts = [scene.box(box, YES if accepts(box) else NO) for box in boxes]
+    parts += outline("window", reading.Words(asked.encode()), scene)
+    parts += [scene.label((box[0] + box[1]) / 2, (box[2] + box[3]) / 2, box[4]) for box in boxes]
+    return scene.picture(f"Boxes that {asked} {layer} accepts are drawn solid, the others dashed", parts)
+
+
 def example():
     """The picture of examples/boxes.csv."""
     scene = Scene(-7, 32, -7, 17)
@@ -329,7 +348,7 @@ def example():
         scene.label(-1.6, 10, 10),
     ]
     table = reading.boxes((ROOT / "examples/boxes.csv").read_bytes(), False, 100)
-    for id, (left, right, bottom, top) in table.items():
+    for id, (left, right, bottom, top, _) in table.items():
         if left == right:
             x, y = scene.place(left, top)
             parts.append(f'<circle cx="{x}" cy="{y}" r="3.5" fill="{ACCEPTED}"/>')
@@ -345,14 +364,14 @@ def packed_points():
     table = []
     for id in range(300):
         x, y = (sum(chance.below(end * 10) for _ in range(3)) // 3 for end in (60, 40))
-        table.append((id, (x, x, y, y)))
+        table.append(packing.Entry(id, (x, x, y, y), 0))
     _, nodes, levels = packing.packed(table, 8)
     parts = []
-    for (left, right, bottom, top), level, *_ in nodes:
-        if level < 3:
-            parts.append(scene.box((left / 10, right / 10, bottom / 10, top / 10), AREA if level == 1 else NO))
-    for _, (x, _, y, _) in table:
-        x, y = scene.place(x / 10, y / 10)
+    for node in nodes:
+        if node.level < 3:
+            parts.append(scene.box([side / 10 for side in node.box], AREA if node.level == 1 else NO))
+    for point in table:
+        x, y = scene.place(point.box[0] / 10, point.box[2] / 10)
         parts.append(f'<circle cx="{x:g}" cy="{y:g}" r="2" fill="{ACCEPTED}"/>')
     title = f"{levels[0]} points in {levels[1]} nodes, drawn solid, and {levels[2]} above them, dashed"
     return scene.picture(title, parts)
@@ -364,6 +383,7 @@ def packed_points():
 def pictures():
     """Each picture by the name of its file."""
     yield "boxes.svg", example()
+    yield "layers.svg", on_layer()
     yield "packed.svg", packed_points()
     for name, tokens in grammar().items():
         yield f"grammar-{name}.svg", diagram(name, choice(tokens))

@@ -29,7 +29,8 @@ import reading
 
 # A tree of four levels.
 COUNT, FANOUT = 60, 3
-TABLE = b"".join(b"%d,%d,%d,%d,%d\n" % (n, n % 9, n % 9 + n % 3, n // 9, n // 9 + n % 5) for n in range(COUNT))
+ROWS = [(n, n % 9, n % 9 + n % 3, n // 9, n // 9 + n % 5) for n in range(COUNT)]
+TABLE = b"".join(b"%d,%d,%d,%d,%d" % row + (b",%d" % (row[0] % 6) if row[0] % 2 else b"") + b"\n" for row in ROWS)
 BOXES = reading.boxes(TABLE, False, 2**24)
 
 # How many lines wait for each other, and how long nothing comes where nothing is to come, and at most something does.
@@ -310,7 +311,7 @@ def pass_on(held, text, times):
 
 def the_same_memory_for_many_lines(start, lines):
     """What is resident doesn't grow, as far as the system counts it: by parts, of which some are told late."""
-    text = b"find window 3 4 5 6\nnearest 3 1 1\nfind all smallest\nx\n" + b"count all\n" * 996
+    text = b"find window 3 4 5 6\nnearest 3 1 1\nfind all smallest\nx\nfind all on 1,5\n" + b"count all\n" * 995
     with start() as held:
         pass_on(held, text, 1)
         space, resident = memory_of(held)

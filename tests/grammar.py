@@ -5,7 +5,8 @@ usage: tests/grammar.py PROGRAM
 
 Each way through the grammar is made into a line, with small numbers. The line has to be answered; each of its
 beginnings that isn't one itself wants a word; one word more is stray; and each of its numbers is tried at both ends of
-its range, just beyond them, and as no number. The last line is `N passed, M failed`.
+its range, just beyond them, and as no number, a list of layers with such numbers in each place. The last line is
+`N passed, M failed`.
 """
 
 import re
@@ -21,7 +22,7 @@ sys.path.insert(0, str(ROOT / "docs"))
 from pictures import PAGE, grammar
 
 # Numbers that suit each other, and the vertices of a polygon in the place of its points.
-SMALL = {"X1": 0, "X2": 10, "Y1": 0, "Y2": 10, "X": 3, "Y": 4, "R": 5, "K": 2, "N": 3}
+SMALL = {"X1": 0, "X2": 10, "Y1": 0, "Y2": 10, "X": 3, "Y": 4, "R": 5, "K": 2, "N": 3, "LIST": 0}
 VERTICES = [("X", 0), ("Y", 0), ("X", 9), ("Y", 0), ("X", 0), ("Y", 9)]
 
 
@@ -77,6 +78,8 @@ def cases(way, whole, ends):
             yield words(way[:at]), "error .* Q4 missing word"
         if not isinstance(piece, str):
             yield from number_cases(way, at, piece[0], ends[piece[0]])
+            if piece[0] == "LIST":
+                yield from list_cases(way, at, *ends["LIST"])
 
 
 def number_cases(way, at, name, ends):
@@ -86,6 +89,22 @@ def number_cases(way, at, name, ends):
     tried = [("x", "error .* Q5 not a number"), (ends[0] - 1, beyond), (ends[1] + 1, beyond)]
     for value, reply in [*tried, *((end, within) for end in ends)]:
         yield [*words(way[:at]), str(value), *words(way[at + 1:] if name != "N" else [])], reply
+
+
+def list_cases(way, at, least, most):
+    """The list at this place with several parts, of which the first that is at fault is told."""
+    no_number, beyond = "error .* Q5 not a number", "error .* Q6 out of range"
+    for parts, reply in (
+        ((least, most, least), r"ok \d+ \d+"),
+        ((least, ""), no_number),
+        (("", most), no_number),
+        ((least, "", most), no_number),
+        ((least, most + 1), beyond),
+        ((least, most + 1, "x"), beyond),
+        ((least, "x", most + 1), no_number),
+        ((least, f" {most}"), "error .*"),
+    ):
+        yield [*words(way[:at]), ",".join(map(str, parts)), *words(way[at + 1:])], reply
 
 
 def replies(program, lines):

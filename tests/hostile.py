@@ -1,11 +1,12 @@
 #!/usr/bin/env python3
-"""Loads tables that are meant to make loading slow, and answers two lines over each.
+"""Loads tables that are meant to make loading slow, and answers two lines over each, and then many on a rare layer.
 
 usage: tests/hostile.py PROGRAM [RECORDS]
 
 Loading sorts the ids, the entries by id, and each level of the tree by its middles, which is to take time in
 proportion to n log n whatever the boxes and the ids are. With 1,000,000 records a sort that takes time in proportion
-to n * n would not end within the time that is given here. The last line is `N passed, M failed`.
+to n * n would not end within the time that is given here, nor would a search on a layer that one box has, if it looked
+at every other box. The last line is `N passed, M failed`.
 """
 
 import subprocess
@@ -28,7 +29,7 @@ def saw(at, count):
     return at % 1000 * 10**6 + at // 1000
 
 
-# What a record holds, by its place and how many there are: its id and its sides.
+# What a record holds, by its place and how many there are: its id, its sides and perhaps its layer.
 TABLES = {
     "all in one place": lambda at, count: (at, 7, 7, 7, 7),
     "all in one place, ids falling": lambda at, count: (-at, 7, 7, 7, 7),
@@ -38,11 +39,20 @@ TABLES = {
     "one middle, each within the next": lambda at, count: (at, -at, at, -at, at),
     "two middles by turns": lambda at, count: (at, at % 2, at % 2, -(at % 2), -(at % 2)),
     "as large as the plane": lambda at, count: (at, LOW, HIGH, LOW, HIGH),
-    "at two corners of the plane": lambda at, count: (at, *([LOW] * 4 if at % 2 else [HIGH] * 4)),
+    "at two corners of the plane": lambda at, count: (at, *([LOW] * 4 if at % 2 else [HIGH] * 4), at % 64),
     "ids at both ends": lambda at, count: (2**63 - 1 - at if at % 2 else at - 2**63, at, at, at, at),
     "ids up and down": lambda at, count: (organ_pipe(at, count), organ_pipe(at, count), count, 0, at),
     "ids in a thousand runs": lambda at, count: (saw(at, count), saw(at, count), 10**9, 0, saw(at, count)),
 }
+
+# One box in the middle of all has a layer of its own, for which so many lines ask in each form.
+RARE = 63
+LINES = 5000
+FORMS = b"count all on %d\nfind window %d %d 0 0 on %d\nfind all on %d near 0 0 first 2\n"
+
+
+def one_of_all(at, count):
+    return at, at, at, 0, 0, RARE if at == count // 2 else at % 3
 
 
 def write_table(path, record, count):
@@ -52,17 +62,24 @@ def write_table(path, record, count):
         for at in range(count):
             fields = record(at, count)
             least = min(least, fields[0])
-            table.write("%d,%d,%d,%d,%d\n" % fields)
+            table.write(",".join(map(str, fields)) + "\n")
     return least
 
 
-def answers(program, table):
-    """What the program says of all boxes, the seconds, and whether it ended."""
+def rare_lines(count):
+    """The lines that ask for the box on the rare layer, and their replies."""
+    box = count // 2
+    asked = FORMS % (RARE, LOW, HIGH, RARE, RARE) * LINES
+    told = (b"ok %d 1\n%d 0\nok %d 1\n%d %d\nok %d 1\n" % (at, box, at + 1, box, box**2, at + 2)
+            for at in range(1, 3 * LINES, 3))
+    return asked, b"".join(told)
+
+
+def answers(program, table, lines):
+    """What the program says to lines, and the seconds; nothing where it didn't end."""
     start = time.perf_counter()
     try:
-        ended = subprocess.run(
-            [program, table], input=b"count all\nfind all first 1\n", capture_output=True, timeout=SECONDS
-        )
+        ended = subprocess.run([program, table], input=lines, capture_output=True, timeout=SECONDS)
     except subprocess.TimeoutExpired:
         return None, SECONDS
     return ended.stdout + ended.stderr, time.perf_counter() - start
@@ -74,10 +91,13 @@ def main():
     passed = failed = 0
     with tempfile.TemporaryDirectory() as folder:
         table = str(Path(folder, "table.csv"))
-        for name, record in TABLES.items():
+        for name, record in [*TABLES.items(), ("a layer of one box", one_of_all)]:
             least = write_table(table, record, count)
-            said, seconds = answers(program, table)
-            if said == b"ok 1 %d\n%d 0\nok 2 1\n" % (count, least):
+            lines, told = b"count all\nfind all first 1\n", b"ok 1 %d\n%d 0\nok 2 1\n" % (count, least)
+            if record == one_of_all:
+                lines, told = rare_lines(count)
+            said, seconds = answers(program, table, lines)
+            if said == told:
                 passed += 1
                 print(f"{name}: {seconds:.2f} s")
             else:

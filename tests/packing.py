@@ -12,12 +12,18 @@ are packed here. `--rows` prints the rows of that file in place of that. The las
 import math
 import re
 import sys
+from collections import namedtuple
 from pathlib import Path
 
 ROWS = Path(__file__).resolve().parent.parent / "crates/rt_tree_tests/src/trees.rt"
 ROW = re.compile(r"\(Kind::(\w+), (\d+), (\d+), (-?[\d_]+)\)")
 FANOUTS = 2, 3, 4, 16, 64
 FACTOR = 6364136223846793005
+
+
+# A box is its four sides. An entry has one layer, and a node those of its children, as a set.
+Entry = namedtuple("Entry", ["id", "box", "layer"])
+Node = namedtuple("Node", ["box", "level", "first", "count", "size", "layers"])
 
 
 # ---- the tables
@@ -38,26 +44,27 @@ class Chance:
 
 
 def strewn(place, chance):
-    """A small box somewhere, with ids in no order."""
+    """A small box somewhere, with ids in no order, on any layer."""
     x, y = chance.below(1000), chance.below(1000) - 500
-    return place * 7919 % 1_000_003, (x, x + chance.below(16), y, y + chance.below(32))
+    box = x, x + chance.below(16), y, y + chance.below(32)
+    return Entry(place * 7919 % 1_000_003, box, chance.below(64))
 
 
 def one_place(place, chance):
-    """All boxes in one place, with ids that fall."""
-    return -place, (7, 9, -7, -7)
+    """All boxes in one place, with ids that fall, on one layer."""
+    return Entry(-place, (7, 9, -7, -7), 0)
 
 
 def one_line(place, chance):
-    """Points on a line, many in one place, with ids at both ends of their range."""
+    """Points on a line, many in one place, with ids at both ends of their range and layers that go with the place."""
     x = chance.below(50)
-    return 2**63 - 1 - place if place % 2 else place - 2**63, (x, x, 0, 0)
+    return Entry(2**63 - 1 - place if place % 2 else place - 2**63, (x, x, 0, 0), x)
 
 
 def whole_plane(place, chance):
-    """Boxes as large as the plane, with ids that rise."""
+    """Boxes as large as the plane, with ids that rise. One has a layer of its own, the others have three."""
     a, b, c, d = (chance.coordinate() for _ in range(4))
-    return place, (min(a, b), max(a, b), min(c, d), max(c, d))
+    return Entry(place, (min(a, b), max(a, b), min(c, d), max(c, d)), place % 3 if place else 63)
 
 
 KINDS = {"Strewn": strewn, "OnePlace": one_place, "OneLine": one_line, "WholePlane": whole_plane}
@@ -70,55 +77,57 @@ def sizes(fanout):
 # ---- the packing
 
 
-def groups(items, box, fanout):
+def groups(items, fanout):
     """The items in tiles: slices by the middles on x, cut by the middles on y; equal middles by place."""
     count = math.ceil(len(items) / fanout)
     side = math.isqrt(count - 1) + 1 if count else 0
-    places = sorted(range(len(items)), key=lambda place: (box(items[place])[0] + box(items[place])[1], place))
+    places = sorted(range(len(items)), key=lambda place: (items[place].box[0] + items[place].box[1], place))
     tiles = []
     for start in range(0, len(places), max(1, side * fanout)):
         piece = places[start : start + side * fanout]
-        piece.sort(key=lambda place: (box(items[place])[2] + box(items[place])[3], place))
+        piece.sort(key=lambda place: (items[place].box[2] + items[place].box[3], place))
         tiles += [[items[place] for place in piece[at : at + fanout]] for at in range(0, len(piece), fanout)]
     return tiles
 
 
-def node(children, box, size, level, first):
-    """What is known of a node: its box, its level, its first child, how many children it has, and how many entries."""
-    boxes = [box(child) for child in children]
+def node(children, level, first):
+    """The node over these children, of which the first has this number."""
     hull = (
-        min(sides[0] for sides in boxes),
-        max(sides[1] for sides in boxes),
-        min(sides[2] for sides in boxes),
-        max(sides[3] for sides in boxes),
+        min(child.box[0] for child in children),
+        max(child.box[1] for child in children),
+        min(child.box[2] for child in children),
+        max(child.box[3] for child in children),
     )
-    return hull, level, first, len(children), sum(size(child) for child in children)
+    if level == 1:
+        return Node(hull, level, first, len(children), len(children), {entry.layer for entry in children})
+    layers = set().union(*(child.layers for child in children))
+    return Node(hull, level, first, len(children), sum(child.size for child in children), layers)
 
 
-def nodes_over(tiles, box, size, level, first):
+def nodes_over(tiles, level, first):
     made = []
     for tile in tiles:
-        made.append(node(tile, box, size, level, first))
+        made.append(node(tile, level, first))
         first += len(tile)
     return made
 
 
 def packed(table, fanout):
     """The entries by place, the nodes by number, and how many there are on each level."""
-    tiles = groups(sorted(table), lambda entry: entry[1], fanout)
+    tiles = groups(sorted(table), fanout)
     entries = [entry for tile in tiles for entry in tile]
     nodes, levels = [], [len(entries)]
-    made = nodes_over(tiles, lambda entry: entry[1], lambda entry: 1, 1, 0)
+    made = nodes_over(tiles, 1, 0)
     level = 1
     while made:
         levels.append(len(made))
-        tiles = groups(made, lambda child: child[0], fanout)
+        tiles = groups(made, fanout)
         first = len(nodes)
         nodes += [child for tile in tiles for child in tile]
         if len(made) == 1:
             break
         level += 1
-        made = nodes_over(tiles, lambda child: child[0], lambda child: child[4], level, first)
+        made = nodes_over(tiles, level, first)
     return entries, nodes, levels
 
 
@@ -135,14 +144,16 @@ def told(numbers):
 
 def numbers_of(entries, nodes, levels):
     yield len(entries)
-    for id, sides in entries:
-        yield id
-        yield from sides
+    for entry in entries:
+        yield entry.id
+        yield from entry.box
+        yield entry.layer
     yield len(nodes)
-    for number, (sides, level, first, count, size) in enumerate(nodes):
+    for number, node in enumerate(nodes):
         yield number
-        yield from sides
-        yield from (level, first, count, size)
+        yield from node.box
+        yield from (node.level, node.first, node.count, node.size)
+        yield sum(2**layer for layer in node.layers)
     yield len(levels)
     yield from levels
 

@@ -6,7 +6,8 @@ usage: tests/pages.py PROGRAM
 In README.md, docs/*.md and the manual page a console example is a command after `$ `, which may go on over lines, and
 what it prints. One is tried where each of its lines calls `rtfilter` or `cat`, in a folder with the files of examples/.
 A block that names tools behind `console` is a recipe, which tests/recipes tries. A row of a table with the columns `line`
-and `reply` is a run with that line alone over boxes.csv. The last line is `N passed, M failed`.
+and `reply` is a run with that line alone over boxes.csv, or over the table that the head of the column names. The last
+line is `N passed, M failed`.
 """
 
 import os
@@ -49,11 +50,13 @@ def table_rows(text):
         if not row.startswith("|"):
             columns = None
         elif columns is None:
-            columns = cells(row)
+            over = re.search(r"\| line over `([^`]*)` \|", row)
+            columns = cells(row.replace(over[0], "| line |") if over else row)
         elif {"line", "reply"} <= {*columns}:
             found = dict(zip(columns, cells(row)))
             for line in codes(found["line"]):
-                yield f"echo '{line}' | rtfilter boxes.csv", "".join(f"{it}\n" for it in codes(found["reply"]))
+                command = f"echo '{line}' | rtfilter {over[1] if over else 'boxes.csv'}"
+                yield command, "".join(f"{it}\n" for it in codes(found["reply"]))
 
 
 def examples():

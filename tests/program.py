@@ -20,6 +20,7 @@ import time
 from pathlib import Path
 
 BOXES = b"1,0,10,0,10\n2,5,15,5,15\n3,20,30,0,10\n4,-5,-1,-5,-1\n5,12,12,12,12\n"
+LAYERED = b"1,0,10,0,10,3\n2,5,15,5,15\n"
 HEADER = b"id,minX,maxX,minY,maxY\n"
 FIND = b"find window 0 10 0 10\n"
 FOUND = b"1 0\n2 0\nok 1 2\n"
@@ -52,6 +53,17 @@ FILES = {
     "short.csv": b"1,0,1,0\n",
     "letter.csv": b"1,a,0,0,0\n",
     "wide.csv": b"1,0,2147483648,0,0\n",
+    "layers.csv": LAYERED,
+    "zero_layer.csv": LAYERED.replace(b"15\n", b"15,0\n"),
+    "layers_header.csv": b"id,minX,maxX,minY,maxY,layer\r\n" + LAYERED,
+    "layer_64.csv": LAYERED + b"3,0,0,0,0,64\n",
+    "layer_below.csv": LAYERED + b"3,0,0,0,0,-1\n",
+    "layer_letter.csv": LAYERED + b"3,0,0,0,0,x\n",
+    "layer_empty.csv": b"1,0,1,0,1,\n",
+    "layer_swapped.csv": b"1,5,4,0,0,64\n",
+    "layer_wide.csv": b"1,0,0,0,2147483648,x\n",
+    "layer_repeated.csv": LAYERED + b"1,0,0,0,0,7\n",
+    "seven.csv": LAYERED + b"3,0,0,0,0,0,0\n",
     "empty.csv": b"",
     "fields.csv": b"1" + b",1" * (FIELDS - 1) + b"\n",
     "-H": BOXES,
@@ -73,6 +85,41 @@ def table_fault(words, text):
     return words, FIND, 3, b"", b"rtfilter: table record " + text + b"\n"
 
 
+# Lines on layers, each with its reply over layers.csv, where it is line 1.
+ON_LAYERS = {
+    b"find all on 3": b"1 0\nok 1 1\n",
+    b"find all on 0,3": b"1 0\n2 0\nok 1 2\n",
+    b"find window 0 4 0 4 on 0": b"ok 1 0\n",
+    b"count all on 0,0": b"ok 1 1\n",
+    b"find all on +3": b"1 0\nok 1 1\n",
+    b"find all on -0,0003": b"1 0\n2 0\nok 1 2\n",
+    b"find circle 0 0 2 on 3 near 0 0 first 1": b"1 0\nok 1 1\n",
+    b"find circle 20 20 10 on 0": b"2 50\nok 1 1\n",
+    b"find all on " + b",".join(b"%d" % layer for layer in range(64)): b"1 0\n2 0\nok 1 2\n",
+    b"count all on " + b"63," * 1000 + b"3": b"ok 1 1\n",
+    b"find all on": b"error 1 Q4 missing word\n",
+    b"find all on 3,": b"error 1 Q5 not a number\n",
+    b"find all on ,": b"error 1 Q5 not a number\n",
+    b"find all on ,3": b"error 1 Q5 not a number\n",
+    b"find all on 0,,3": b"error 1 Q5 not a number\n",
+    b"find all on x,64": b"error 1 Q5 not a number\n",
+    b"find all on near 1 1": b"error 1 Q5 not a number\n",
+    b"find all on 3, 0": b"error 1 Q5 not a number\n",
+    b"find all on 64": b"error 1 Q6 out of range\n",
+    b"find all on 64,x": b"error 1 Q6 out of range\n",
+    b"find all on -1": b"error 1 Q6 out of range\n",
+    b"find all on 256": b"error 1 Q6 out of range\n",
+    b"find window 1 0 0 0 on 64": b"error 1 Q7 minimum above maximum\n",
+    b"find polygon 3 0 0 5 5 10 10 on x": b"error 1 Q9 polygon not strictly convex\n",
+    b"find all first 1 on 3": b"error 1 Q10 stray word\n",
+    b"find all near 1 1 on 0": b"error 1 Q10 stray word\n",
+    b"find all on 0 on 3": b"error 1 Q10 stray word\n",
+    b"find all on 0 3": b"error 1 Q10 stray word\n",
+    b"count all on 3 first 1": b"error 1 Q10 stray word\n",
+    b"nearest 1 0 0 on 0": b"error 1 Q10 stray word\n",
+    b"levels on 0": b"error 1 Q10 stray word\n",
+}
+
 # Words, standard input, status, standard output, standard error.
 RUNS = [
     (["boxes.csv"], FIND, 0, FOUND, b""),
@@ -92,6 +139,10 @@ RUNS = [
     (["-H", "-"], FIND, 0, b"1 0\nok 1 1\n", b""),
     (["boxes.csv", "-"], b"", 1, FOUND + b"error 2 Q2 unknown verb\n", b""),
     (["boxes.csv"], b"# c\n\nfind window 0 10 0 10", 0, b"1 0\n2 0\nok 3 2\n", b""),
+    *((["layers.csv"], line, int(b"error" in reply), reply, b"") for line, reply in ON_LAYERS.items()),
+    (["zero_layer.csv"], b"find all on 3\nfind all on 0,3", 0, b"1 0\nok 1 1\n1 0\n2 0\nok 2 2\n", b""),
+    (["-H", "layers_header.csv"], b"count all on 3\ncount all on 0", 0, b"ok 1 1\nok 2 1\n", b""),
+    (["--fanout", "2", "boxes.csv"], b"count all on 1\ncount all on 0", 0, b"ok 1 0\nok 2 5\n", b""),
     (["boxes.csv"], b"x\n" + FIND, 1, b"error 1 Q2 unknown verb\n1 0\n2 0\nok 2 2\n", b""),
     (["--help"], b"", 0, USAGE, b""),
     (["-h"], b"", 0, USAGE, b""),
@@ -120,6 +171,15 @@ RUNS = [
     table_fault(["short.csv"], b"1: wrong number of fields (4)"),
     table_fault(["letter.csv"], b"1: field 2 is not a number"),
     table_fault(["wide.csv"], b"1: field 3 is out of range"),
+    table_fault(["layer_64.csv"], b"3: field 6 is out of range"),
+    table_fault(["layer_below.csv"], b"3: field 6 is out of range"),
+    table_fault(["layer_letter.csv"], b"3: field 6 is not a number"),
+    table_fault(["layer_empty.csv"], b"1: field 6 is not a number"),
+    table_fault(["layer_swapped.csv"], b"1: field 6 is out of range"),
+    table_fault(["layer_wide.csv"], b"1: field 5 is out of range"),
+    table_fault(["layer_repeated.csv"], b"3: repeated id"),
+    table_fault(["seven.csv"], b"3: wrong number of fields (7)"),
+    table_fault(["layers_header.csv"], b"1: field 1 is not a number"),
     table_fault(["fields.csv"], b"1: wrong number of fields (%d)" % FIELDS),
     table_fault(["late.csv"], b"%d: repeated id" % (COUNT + 1)),
     table_fault(["--max-entries", str(2**20 + 1), "late.csv"], b"%d: too many entries" % (2**20 + 2)),
@@ -248,7 +308,7 @@ def in_terminal(program, folder):
 def outcomes(program, folder):
     """What each run is, what is expected of it, and what it did."""
     for words, stdin, *expected in RUNS:
-        yield " ".join(words) or "no words", tuple(expected), run(
+        yield f"{' '.join(words) or 'no words'}, {stdin[:60]}", tuple(expected), run(
             program, words, folder, input=stdin, stdout=subprocess.PIPE
         )
     yield "the examples", *example(program)

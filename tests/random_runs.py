@@ -72,11 +72,41 @@ SIZES = [0, 1, 2, 3, 4, 9, 10, 16, 17, 50, 64, 65, 150]
 QUOTED = [b'""', b'"1"2', b'1"2', b'"1\n"', b'"1,2"', b'"a""b"', b'"']
 
 
-def some_record(chance, is_sound):
+# The layer of a box by the kind of its table: chance alone decides it, or the box's place. Where there is none, records
+# have five fields, and layer 0 may be written or not.
+LAYERS = {
+    "five fields": lambda chance, sides: None,
+    "no layer but 0": lambda chance, sides: 0,
+    "few layers": lambda chance, sides: chance.choice([0, 1, 5]),
+    "all layers": lambda chance, sides: chance.randint(0, 63),
+    "a rare layer": lambda chance, sides: 63 if chance.random() < 0.03 else 1,
+    "layers by place": lambda chance, sides: min(max(sides[0] - SMALL[0], 0), 63),
+}
+BEYOND_LAYERS = [b"64", b"-1", b"+64", b"65", b"255", b"256", b"0064", b"99999999999999999999"]
+
+
+def some_bad_layer(chance):
+    """The fields of a record whose sixth is at fault, and now and then the fifth, or a minimum above its maximum."""
+    fields = [b"%d" % n for n in (chance.randint(-(10**12), 10**12), *box(chance))]
+    fields.append(chance.choice(chance.choice([BEYOND_LAYERS, BEYOND_LAYERS, NO_NUMBERS, [b""]])))
+    if chance.random() < 0.2:
+        fields[4] = some_number(chance)
+    if chance.random() < 0.3:
+        fields[1:3] = fields[2:0:-1]
+    return fields
+
+
+def some_record(chance, is_sound, layer):
     if is_sound or chance.random() < 0.9:
-        fields = [b"%d" % n for n in (chance.randint(-(10**12), 10**12), *box(chance))]
+        sides = box(chance)
+        fields = [b"%d" % n for n in (chance.randint(-(10**12), 10**12), *sides)]
+        on = layer(chance, sides)
+        if on or on == 0 and chance.random() < 0.5:
+            fields.append(written(chance, on))
+    elif chance.random() < 0.6:
+        fields = some_bad_layer(chance)
     else:
-        fields = [some_number(chance) for _ in range(chance.choice([5, 5, 5, 5, 4, 6, 1]))]
+        fields = [some_number(chance) for _ in range(chance.choice([5, 5, 6, 6, 4, 7, 1]))]
         if chance.random() < 0.1:
             fields[0] = chance.choice(QUOTED)
     return b",".join(b'"%b"' % field if chance.random() < 0.05 and b'"' not in field else field for field in fields)
@@ -85,7 +115,8 @@ def some_record(chance, is_sound):
 def some_table(chance):
     is_sound = chance.random() < 0.8
     end = chance.choice([*ENDS, None])
-    rows = [some_record(chance, is_sound) for _ in range(chance.choice(SIZES))]
+    layer = chance.choice([*LAYERS.values()])
+    rows = [some_record(chance, is_sound, layer) for _ in range(chance.choice(SIZES))]
     if rows and not is_sound and chance.random() < 0.3:
         rows.append(chance.choice([chance.choice(rows), b" ", b'""']))
     text = b"".join(row + (end or chance.choice(ENDS)) for row in rows)
@@ -149,6 +180,21 @@ def some_limit(chance):
     return written(chance, chance.choice([0, 1, 1, 2, 3, 5, 20, 2**64 - 1]))
 
 
+# Lists at fault: an empty part, one that is no number, one out of range, or two of these.
+BAD_LISTS = [b",", b"3,", b",3", b"0,,1", b"x", b"0,x", b"1;2", b"0-3", b"1.0", b"+", b"0,+", b"1,\xff", b"x,64"]
+BAD_LISTS += [b"64", b"0,64,1", b"-1", b"64,x", b"64,", b"256", b"18446744073709551616", b"0,99999999999999999999999"]
+
+
+def some_list(chance):
+    """A list of layers, now and then with one of them twice."""
+    asked = chance.choices([0, 0, 1, 1, 5, 63, chance.randint(0, 63)], k=chance.choice([1, 1, 1, 2, 3, 8]))
+    return b",".join(written(chance, layer) for layer in asked)
+
+
+def some_on(chance):
+    return [b"on", some_list(chance)]
+
+
 def some_point(chance):
     values = chance.choices(COORDINATE_ENDS, k=2) if chance.random() < 0.15 else [small(chance), small(chance)]
     return [written(chance, value) for value in values]
@@ -161,14 +207,15 @@ def some_query(chance):
         return [verb]
     if verb == b"nearest":
         return [verb, some_limit(chance), *some_point(chance)]
-    words = [verb, *some_region(chance)]
+    words = [verb, *some_region(chance), *chance.choice([[], some_on(chance)])]
     if verb == b"find":
         words += chance.choice([[], [], [b"near", *some_point(chance)], [b"smallest"]])
         words += chance.choice([[], [b"first", some_limit(chance)]])
     return words
 
 
-WORDS = [*REGIONS, b"find", b"count", b"nearest", b"levels", b"near", b"smallest", b"first", b"x", b"#", b"3", b"-1"]
+WORDS = [*REGIONS, b"find", b"count", b"nearest", b"levels", b"near", b"smallest", b"first", b"on"]
+WORDS += [b"x", b"#", b"3", b"-1", b"0,3"]
 
 
 # ---- near misses: each changes one thing of the words of a sound query
@@ -191,8 +238,20 @@ def add_last(chance, words):
 
 
 def add_part(chance, words):
-    parts = [[b"near", *some_point(chance)], [b"smallest"], [b"first", some_limit(chance)]]
+    parts = [[b"near", *some_point(chance)], [b"smallest"], [b"first", some_limit(chance)], some_on(chance)]
     words += chance.choice(parts)
+
+
+def add_on(chance, words):
+    at = chance.randint(0, len(words))
+    words[at:at] = some_on(chance)
+
+
+def spoil_list(chance, words):
+    """A list at fault in place of the one that is there, or a list in two words."""
+    if b"on" in words[:-1]:
+        at = words.index(b"on") + 1
+        words[at:at + 1] = [chance.choice(BAD_LISTS)] if chance.random() < 0.8 else [words[at] + b",", b"3"]
 
 
 def respell(chance, words):
@@ -226,7 +285,7 @@ def misstate(chance, words):
 
 
 MISSES = [cut, drop, add, add_last, add_part, add_part, respell, replace, replace_verb, swap, swap_sides]
-MISSES += [misstate] * 4
+MISSES += [misstate] * 4 + [spoil_list] * 3 + [add_on]
 
 
 def missed(chance, words):
@@ -255,7 +314,7 @@ OTHER_WORDS = [[], [b"#"], [b"#find"], [b"# find all"], [b"\0"], [b"find\vall"],
 
 def some_words(chance):
     kind = chance.random()
-    if kind < 0.42:
+    if kind < 0.38:
         return some_query(chance)
     if kind < 0.9:
         return missed(chance, some_query(chance))
@@ -292,6 +351,7 @@ def differs(program, folder, chance, met):
     done = subprocess.run([program, *words], cwd=folder, input=queries, capture_output=True, timeout=60)
     found = done.returncode, done.stdout, done.stderr
     wanted = reading.expected(table, queries, header, most, fanout)
+    met.update(re.findall(r"record \d+: (.*)", wanted[2].decode()))
     for line, text in enumerate(reading.lines_of(queries) if not wanted[2] else [], 1):
         met.update(kinds(line, text, wanted[1]))
     if found == wanted:
@@ -300,18 +360,22 @@ def differs(program, folder, chance, met):
 
 
 def kinds(at, line, output):
-    """What a line is a case of: its fault, or its verb, region, order and limit."""
+    """What a line is a case of: its fault, or its verb, region, order and limit; with `on` it is told too."""
     told = re.search(rb"^(ok|error) %d ([^ \n]*)" % at, output, re.MULTILINE)
     if told is None:
         return ["skipped"]
+    words = [word.decode(errors="replace") for word in reading.Words(line).left]
     if told[1] == b"error":
-        return ["error", told[2].decode()]
-    words = {word.decode() for word in reading.Words(line).left if word.isalpha()}
-    return ["ok", *words]
+        code = told[2].decode()
+        return ["error", code, *[f"{code} of on"] * ("on" in words)]
+    kinds = {word for word in words if word.isalpha()}
+    return ["ok", *kinds, *(f"{kind} and on" for kind in kinds if "on" in kinds)]
 
 
-WHOLE = {"skipped", "find", "nearest", "count", "levels", "near", "smallest", "first", *FAULTS}
-WHOLE |= {name.decode() for name in REGIONS}
+PARTS = {"find", "count", "near", "smallest", "first", *(name.decode() for name in REGIONS)}
+WHOLE = {"skipped", "nearest", "levels", "on", *PARTS, *(f"{part} and on" for part in PARTS), *FAULTS}
+WHOLE |= {f"{code} of on" for code in ("Q4", "Q5", "Q6", "Q7", "Q10")}
+WHOLE |= {f"field 6 is {fault}" for fault in ("not a number", "out of range")}
 
 
 def lacks(met, seeds):

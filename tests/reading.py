@@ -4,7 +4,8 @@
 usage: tests/reading.py [-H|--header] [--fanout M] [--max-entries N] TABLE [QUERIES]
 
 Nothing in here is of the program's code or of its definitions. The table is read as docs/table-format.md says, a query
-as docs/query-language.md does, and answers come from a look at every box. A box is its `min_x, max_x, min_y, max_y`.
+as docs/query-language.md does, and answers come from a look at every box. A box is its `min_x, max_x, min_y, max_y`,
+and in a table its layer behind them.
 """
 
 import argparse
@@ -19,6 +20,7 @@ IDS = -(2**63), 2**63 - 1
 RADII = 0, 2**32 - 1
 LIMITS = 0, 2**64 - 1
 VERTICES = 3, 16
+LAYERS = 0, 63
 
 FAULTS = {
     "Q1": "line too long",
@@ -72,19 +74,21 @@ def records(text):
 
 
 def judged(fields, ids):
-    """The five numbers of a record after those with these ids, or what is wrong with it."""
-    if len(fields) != 5:
+    """The id, the sides and the layer of a record after those with these ids, or what is wrong with it."""
+    if len(fields) not in (5, 6):
         return f"wrong number of fields ({len(fields)})"
     numbers = [number(text) for text in fields]
-    for at, value in enumerate(numbers):
+    for at, (value, ends) in enumerate(zip(numbers, [IDS, *[COORDINATES] * 4, LAYERS]), 1):
         if value is None:
-            return f"field {at + 1} is not a number"
-        if not is_in(value, COORDINATES if at else IDS):
-            return f"field {at + 1} is out of range"
+            return f"field {at} is not a number"
+        if not is_in(value, ends):
+            return f"field {at} is out of range"
     for axis, low, high in (("x", 1, 2), ("y", 3, 4)):
         if numbers[low] > numbers[high]:
             return f"minimum above maximum in {axis}"
-    return "repeated id" if numbers[0] in ids else numbers
+    if numbers[0] in ids:
+        return "repeated id"
+    return numbers if len(numbers) == 6 else [*numbers, 0]
 
 
 def boxes(text, header, most):
@@ -171,6 +175,16 @@ class Fault(Exception):
     """A faulty line, with its code."""
 
 
+def number_in(text, ends, fault="Q6"):
+    """The number that a text writes, where it has one and it lies between these ends."""
+    value = number(text)
+    if value is None:
+        raise Fault("Q5")
+    if not is_in(value, ends):
+        raise Fault(fault)
+    return value
+
+
 class Words:
     """The words of a line, taken from left to right."""
 
@@ -193,12 +207,7 @@ class Words:
             raise Fault("Q10")
 
     def number(self, ends, fault="Q6"):
-        value = number(self.take())
-        if value is None:
-            raise Fault("Q5")
-        if not is_in(value, ends):
-            raise Fault(fault)
-        return value
+        return number_in(self.take(), ends, fault)
 
     def point(self):
         return self.number(COORDINATES), self.number(COORDINATES)
@@ -247,6 +256,20 @@ def region(words):
     raise Fault("Q3")
 
 
+def layers(words):
+    """The layers that are asked for: those of the list behind `on`, or all."""
+    if words.takes(b"on"):
+        return {number_in(part, LAYERS) for part in words.take().split(b",")}
+    return set(range(LAYERS[0], LAYERS[1] + 1))
+
+
+def asked_boxes(words):
+    """Which boxes of a table are asked for, by a region and by layers, and their scores where no order is named."""
+    accepts, score = region(words)
+    asked = layers(words)
+    return lambda box: box[4] in asked and accepts(box), score
+
+
 def order(words, otherwise):
     """The score of a box by the order that is named, if one is."""
     if words.takes(b"near"):
@@ -272,7 +295,7 @@ def query_reply(table, fanout, words):
     verb = words.take()
     if verb in (b"find", b"nearest"):
         if verb == b"find":
-            accepts, score = region(words)
+            accepts, score = asked_boxes(words)
             score = order(words, score)
             limit = words.number(LIMITS) if words.takes(b"first") else None
         else:
@@ -282,7 +305,7 @@ def query_reply(table, fanout, words):
         found = answers(table, accepts, score, limit)
         return [b"%d %d" % (id, score) for score, id in found], len(found)
     if verb == b"count":
-        accepts, _ = region(words)
+        accepts, _ = asked_boxes(words)
         words.end()
         return [], sum(map(accepts, table.values()))
     if verb == b"levels":

@@ -33,8 +33,13 @@ ANSWERS = (EXAMPLES / "answers.txt").read_bytes()
 BOXES = (EXAMPLES / "boxes.csv").read_bytes()
 QUERIES = (EXAMPLES / "queries.txt").read_bytes()
 
-# More boxes than two levels of nodes hold, some of them equal, and more queries than one pull takes.
-MANY = b"".join(b"%d,%d,%d,0,5\n" % (n * 7919 % 1009, n % 50, n % 50 + n % 7) for n in range(1000))
+LAYERED = (EXAMPLES / "layers.csv").read_bytes()
+
+# More boxes than two levels of nodes hold, some of them equal, half of them on layer 7; and more queries than one pull
+# takes.
+MANY = b"".join(
+    b"%d,%d,%d,0,5" % (n * 7919 % 1009, n % 50, n % 50 + n % 7) + b",7" * (n % 2) + b"\n" for n in range(1000)
+)
 LINES = [b"count all\n"] * 2000
 REPLIES = [b"ok %d 1000\n" % at for at in range(1, 2001)]
 MOST_PULLED = 4097
@@ -42,6 +47,7 @@ MOST_PULLED = 4097
 FILES = {
     "boxes.csv": BOXES,
     "queries.txt": QUERIES,
+    "layers.csv": LAYERED,
     "header.csv": b"id,minX,maxX,minY,maxY\r\n" + BOXES.replace(b"\n", b"\r\n"),
     "many.csv": MANY,
     "lines": b"".join(LINES),
@@ -53,7 +59,7 @@ FILES = {
 RUNS = [
     (["boxes.csv", "queries.txt"], b"", (0, ANSWERS, b"")),
     (["-H", "--fanout", "2", "--max-entries", "5", "header.csv"], QUERIES, (0, ANSWERS, b"")),
-    (["--fanout=2", "many.csv"], b"count all\n", (0, b"ok 1 1000\n", b"")),
+    (["--fanout=2", "many.csv"], b"count all\ncount all on 7\n", (0, b"ok 1 1000\nok 2 500\n", b"")),
     (["./" * 500 + "boxes.csv"], b"x\ncount all", (1, b"error 1 Q2 unknown verb\nok 2 5\n", b"")),
     (["repeated.csv"], QUERIES, (3, b"", b"rtfilter: table record 1001: repeated id\n")),
     (["wide.csv"], QUERIES, (3, b"", b"rtfilter: table record 1: wrong number of fields (5001)\n")),
@@ -140,13 +146,13 @@ def memory(refuser, program):
 
 def after_the_load(refuser, program):
     """A run takes as much memory for many lines of each kind as for none: the next growth is never met."""
-    command, refusal = [program, "--fanout", "2", "boxes.csv"], Refusal("memory", errno.ENOMEM, FROM_THERE_ON)
+    command, refusal = [program, "--fanout", "2", "layers.csv"], Refusal("memory", errno.ENOMEM, FROM_THERE_ON)
     chance = random.Random(1)
     lines = [random_runs.some_line(chance) for _ in range(500)] + [b"a" * 5000, b"find all near 3 3"]
     asked = b"\n".join(lines)
     found, whole = refuser.each(command, refusal)
     result, met = refuser.run(command, refusal, len(found) + 1, asked)
-    wrong = differences([whole, result], [[(0, b"", b"")], [reading.expected(BOXES, asked, fanout=2)]])
+    wrong = differences([whole, result], [[(0, b"", b"")], [reading.expected(LAYERED, asked, fanout=2)]])
     if met:
         wrong.append(f"{met} growths after the load")
     yield f"no memory for {len(lines)} lines after the load", len(found), wrong

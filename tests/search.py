@@ -2,9 +2,13 @@
 """Random tables, searched by a plain best-first search of this script's own.
 
 It makes the tables of crates/rt_search_tests/src/random.rt, packs them sort-tile-recursively, searches and counts in
-them, and compares a digest of all answers, of the nodes opened after each and of the checks made with the number that
-stands there. A test of the crate compares the same number with what its search tells. The last line is
-`N passed, M failed`.
+them, on all layers and on some, and compares a digest of all answers, of the nodes opened after each and of the checks
+made with the number that stands there. A test of the crate compares the same number with what its search tells. The
+last line is `N passed, M failed`.
+
+usage: tests/search.py [--rows]
+
+`--rows` prints the number of each case in place of that.
 """
 
 import heapq
@@ -18,6 +22,7 @@ LEAST, MOST = -2**31, 2**31 - 1
 ENDS = [LEAST, -1, 0, 1, MOST]
 QUERIES = 3
 MOST_ANSWERS = 12
+ALL_LAYERS = 64
 NOT, PARTLY, FULLY = range(3)
 
 
@@ -41,8 +46,26 @@ class Row:
     def box(self, lie):
         return (*self.sides(lie), *self.sides(lie))
 
+    def entry(self, place, lie, layers):
+        """A box and its layer: one of so many, at random or, where there are none, by the box's place."""
+        box = self.box(lie)
+        layer = self.next() % layers if layers else (box[0] - LEAST) * ALL_LAYERS // 2**32
+        return Item(box, 0, None, place * 7919 % 65537 - 32768, {layer})
 
-# ---- the tree: nodes are (box, level, children, number), entries (box, 0, None, id)
+
+# ---- the tree
+
+class Item:
+    """An entry, on level 0, or a node with its children. It has the layers of all that lies under it."""
+
+    def __init__(self, box, level, children, number, layers):
+        self.box, self.level, self.children, self.number, self.layers = box, level, children, number, layers
+
+
+def over(children, level):
+    """The node over these children, without a number."""
+    return Item(hull([it.box for it in children]), level, children, None, {on for it in children for on in it.layers})
+
 
 def hull(boxes):
     return (min(b[0] for b in boxes), max(b[1] for b in boxes), min(b[2] for b in boxes), max(b[3] for b in boxes))
@@ -56,30 +79,30 @@ def groups(items, fanout):
     """Sorted by the middle on the x axis and cut into slices, each sorted on the y axis and cut; sorts are stable."""
     nodes = -(-len(items) // fanout)
     side = math.isqrt(nodes - 1) + 1
-    in_x = sorted(items, key=lambda item: item[0][0] + item[0][1])
+    in_x = sorted(items, key=lambda item: item.box[0] + item.box[1])
     # places among the items decide between equal middles, on the y axis too
     place = {id(item): i for i, item in enumerate(items)}
     for part in pieces(in_x, side * fanout):
-        yield from pieces(sorted(part, key=lambda item: (item[0][2] + item[0][3], place[id(item)])), fanout)
+        yield from pieces(sorted(part, key=lambda item: (item.box[2] + item.box[3], place[id(item)])), fanout)
 
 
 def pack(entries, fanout):
     """The root, its nodes numbered level by level."""
-    items, level, first = sorted(entries, key=lambda entry: entry[3]), 0, 0
+    items, level, first = sorted(entries, key=lambda entry: entry.number), 0, 0
     while items and (level == 0 or len(items) > 1):
         cut = list(groups(items, fanout))
         if level > 0:
             number = first
             for group in cut:
                 for node in group:
-                    node[3] = number
+                    node.number = number
                     number += 1
             first = number
         level += 1
-        items = [[hull([item[0] for item in group]), level, group, None] for group in cut]
+        items = [over(group, level) for group in cut]
     if not items:
         return None
-    items[0][3] = first
+    items[0].number = first
     return items[0]
 
 
@@ -97,9 +120,13 @@ def far2(point, box):
     return sum(max(abs(p - low), abs(p - high)) ** 2 for p, low, high in ((point[0], *box[:2]), (point[1], *box[2:])))
 
 
+def everything(item):
+    return FULLY
+
+
 def in_window(window):
-    def state(box, level):
-        a, b = window, box
+    def state(item):
+        a, b = window, item.box
         if a[0] > b[1] or b[0] > a[1] or a[2] > b[3] or b[2] > a[3]:
             return NOT
         return FULLY if a[0] <= b[0] and b[1] <= a[1] and a[2] <= b[2] and b[3] <= a[3] else PARTLY
@@ -107,17 +134,26 @@ def in_window(window):
 
 
 def in_circle(centre, radius):
-    def state(box, level):
-        if near2(centre, box) > radius ** 2:
+    def state(item):
+        if near2(centre, item.box) > radius ** 2:
             return NOT
-        return FULLY if far2(centre, box) <= radius ** 2 else PARTLY
+        return FULLY if far2(centre, item.box) <= radius ** 2 else PARTLY
+    return state
+
+
+def on_layers(inner, asked):
+    """The boxes of which a layer is asked for. A node is full only where all of its layers are."""
+    def state(item):
+        if not item.layers & asked:
+            return NOT
+        return inner(item) if item.layers <= asked else min(inner(item), PARTLY)
     return state
 
 
 def ranks(point):
-    return [lambda box, level: 0,
-            lambda box, level: near2(point, box),
-            lambda box, level: (box[1] - box[0]) * (box[3] - box[2]) if level == 0 else 0]
+    return [lambda item: 0,
+            lambda item: near2(point, item.box),
+            lambda item: (item.box[1] - item.box[0]) * (item.box[3] - item.box[2]) if item.level == 0 else 0]
 
 
 # ---- searches
@@ -126,22 +162,22 @@ def search(root, state, score, limit):
     """The answers with the nodes opened up to each, and the nodes opened and the checks made in the end."""
     queue, opened, asked, found = [], 0, 0, []
     if root and limit != 0:
-        queue.append((0, 0, root[3], root))
+        queue.append((0, 0, root.number, root))
     while queue and (limit is None or len(found) < limit):
         value, is_entry, number, item = heapq.heappop(queue)
         if is_entry:
             found.append((number, value, opened))
             continue
         opened += 1
-        for child in item[2]:
+        for child in item.children:
             asked += 1
-            if state(child[0], child[1]) != NOT:
-                heapq.heappush(queue, (score(child[0], child[1]), int(child[1] == 0), child[3], child))
+            if state(child) != NOT:
+                heapq.heappush(queue, (score(child), int(child.level == 0), child.number, child))
     return found, opened, asked
 
 
 def size(item):
-    return 1 if item[1] == 0 else sum(size(child) for child in item[2])
+    return 1 if item.level == 0 else sum(size(child) for child in item.children)
 
 
 def count(root, state):
@@ -150,10 +186,10 @@ def count(root, state):
 
     def open_node(node):
         told[1] += 1
-        for child in node[2]:
+        for child in node.children:
             told[2] += 1
-            within = state(child[0], child[1])
-            if within == FULLY or (within == PARTLY and child[1] == 0):
+            within = state(child)
+            if within == FULLY or (within == PARTLY and child.level == 0):
                 told[0] += size(child)
             elif within == PARTLY:
                 open_node(child)
@@ -183,37 +219,46 @@ def add_geometry(digest, root, state, score):
     digest.add(*count(root, state))
 
 
-def digest_of(seed, lie, entries, fanout):
+def digest_of(seed, lie, entries, fanout, layers):
     row = Row(seed)
-    root = pack([(row.box(lie), 0, None, place * 7919 % 65537 - 32768) for place in range(entries)], fanout)
+    root = pack([row.entry(place, lie, layers) for place in range(entries)], fanout)
     digest = Digest()
     for _ in range(QUERIES):
         area, around = row.box(lie), row.box(lie)
         point = around[0], around[2]
         radius = abs(around[1] - area[1])
-        for state in in_window(area), in_circle(point, radius), lambda box, level: FULLY:
-            for score in ranks(point):
-                add_geometry(digest, root, state, score)
+        asked = {row.next() % (layers or ALL_LAYERS) for _ in range(2)}
+        for shape in in_window(area), in_circle(point, radius), everything:
+            for state in shape, on_layers(shape, asked):
+                for score in ranks(point):
+                    add_geometry(digest, root, state, score)
     return digest.value
+
+
+def cases(text):
+    """The cases of random.rt, each with the number that stands there."""
+    number = r'([\d_]+)'
+    lie, layers = rf'(?:spread\({number}, {number}\)|Lie::Ends)', rf'(?:any_of\({number}\)|Kinds::ByPlace)'
+    row = re.compile(r'new_case\(\s*' + r',\s*'.join([number, lie, number, number, layers, number]) + r',?\s*\)')
+    for match in row.finditer(text):
+        seed, reach, width, entries, fanout, layers, stored = (part and int(part) for part in match.groups())
+        yield (seed, None if reach is None else (reach, width), entries, fanout, layers), stored
 
 
 def main():
     with open(TEST) as file:
         text = file.read()
-    number = r'([\d_]+)'
-    parts = number, rf'(?:spread\({number}, {number}\)|Lie::Ends)', number, number, number
-    row = re.compile(r'new_case\(\s*' + r',\s*'.join(parts) + r',?\s*\)')
     passed = failed = 0
-    for match in row.finditer(text):
-        seed, reach, width, entries, fanout, stored = (part and int(part) for part in match.groups())
-        lie = None if reach is None else (reach, width)
-        mine = digest_of(seed, lie, entries, fanout)
-        if mine == stored:
+    for case, stored in cases(text):
+        mine = digest_of(*case)
+        if sys.argv[1:] == ['--rows']:
+            print(f'seed {case[0]}: {mine:_}')
+        elif mine == stored:
             passed += 1
         else:
             failed += 1
-            print(f'seed {seed}: {mine:_} is not the number in random.rt, {stored:_}')
-    if passed + failed != text.count('new_case(') - 1:
+            print(f'seed {case[0]}: {mine:_} is not the number in random.rt, {stored:_}')
+    if len(list(cases(text))) != text.count('new_case(') - 1:
         failed += 1
         print('a case of random.rt was not read')
     print(f'{passed} passed, {failed} failed')

@@ -15,7 +15,7 @@ from pathlib import Path
 sys.dont_write_bytecode = True
 import reading
 
-QUERIES = b"find all\nlevels"
+QUERIES = b"find all\nfind all on 3,63\nlevels"
 MARK = reading.MARK
 
 TABLES = {
@@ -32,7 +32,9 @@ TABLES = {
     "a mark before a header": MARK + b'"id",minX,maxX,minY,maxY\r\n"1",0,10,0,10\r\n',
     "two marks": MARK + MARK + b"1,0,10,0,10\n",
     "a mark behind a line": b"1,0,10,0,10\n" + MARK + b"2,5,15,5,15\n",
-    "faults": b"1,0,10,0,10\n2,7,5,0,99999999999,x\n",
+    "layers": b"1,0,10,0,10,3\n2,5,15,5,15\n-3,0,1,0,1,63\r\n4,0,1,0,1,+003\n",
+    "layers at fault": b'1,0,10,0,10,6\n2,9,1,0,1,"x"\n3,0,1,0,1,640\n4,0,0,0,0,0,\n',
+    "faults": b"1,0,10,0,10\n2,7,5,0,99999999999,x,1\n",
     "a minimum above a maximum, for a while": b"1,50,60,50,60\n2,5,15,-7,-1\n",
     "ids again": b"12,0,10,0,10\n123,0,10,0,10\n12,5,15,5,15\n",
     "great numbers": b"-9223372036854775808,-2147483648,2147483647,0,2147483648\n",

@@ -1,6 +1,7 @@
 mod AnswerLemmas
 mod ConsumedLemmas
 mod FindLemmas
+mod LayerLemmas
 mod LevelLemmas
 mod LineLemmas
 mod PieceLemmas

@@ -3,6 +3,7 @@ use Rattle.std.proofs.Common.{◌≡◌, ◌∙◌, pos, false, true, ap, List, 
 use Rattle.std.specs.Prelude.{Ok, Err, Some, None, codes}
 use Rattle.std.specs.Fmt.{digits}
 use Rattle.rt_command.specs.Choices.{Choices, choices_of}
+use Rattle.rt_geo.specs.Layers.{all_layers}
 use Rattle.rt_geo.specs.Orders.{order_score}
 use Rattle.rt_geo.specs.Shapes.{all_accepts}
 use Rattle.rt_geo.specs.declared.order.Order.TheVariants.{ById}
@@ -52,7 +53,7 @@ unfolding digits
 row_circle = refl
 
 -- a circle's boxes by id, which no line asks for
-row_circle_by_id : query_reply (record { entries = boxes_entries; fanout = 2 }) 7 (Find (Circle (record { centre = record { x = pos 0; y = pos 0 }; radius = 2 })) (ById (record {})) None) ≡ line (codes "1 0") ++ line (codes "4 0") ++ line (codes "ok 7 2")
+row_circle_by_id : query_reply (record { entries = boxes_entries; fanout = 2 }) 7 (Find (Circle (record { centre = record { x = pos 0; y = pos 0 }; radius = 2 })) (ById (record {})) None all_layers) ≡ line (codes "1 0") ++ line (codes "4 0") ++ line (codes "ok 7 2")
 unfolding digits
 row_circle_by_id = refl
 

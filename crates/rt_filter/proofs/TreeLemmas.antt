@@ -4,6 +4,7 @@ use Rattle.std.proofs.lemmas.List.Concat.{flat_map-cons}
 use Rattle.std.specs.List.Sorted.{IsPermutation}
 use Rattle.std.proofs.lemmas.List.Sorted.{IsPermutation-cons, IsPermutation-map, IsPermutation-middle, IsPermutation-refl, IsPermutation-trans, length_permutation}
 use Rattle.rt_geo.specs.Laws.{Extent, extent_of_entry}
+use Rattle.rt_geo.specs.OnLayers.{on_layers_accepts}
 use Rattle.rt_geo.specs.Orders.{order_score}
 use Rattle.rt_geo.specs.Regions.{region_accepts}
 use Rattle.rt_geo.specs.declared.entry.Entry.{Entry}
@@ -66,8 +67,10 @@ module _ (fanout : ℕ) (xs ys : List Entry) (moved : IsPermutation xs ys) where
   other = record { entries = ys; fanout = fanout }
 
   query_same : (line : ℕ) (query : Query) → query_reply first line query ≡ query_reply other line query
-  query_same line (Find region order limit) = ap (find_reply line) (answers-IsPermutation xs ys (region_accepts region) (order_score order) limit moved)
-  query_same line (Count region) = ap (ok_line line) (sym (length_permutation _ _ (IsPermutation-accepted (region_accepts region) xs ys moved)))
+  query_same line (Find region order limit layers) = ap (find_reply line)
+      (answers-IsPermutation xs ys (on_layers_accepts (region_accepts region) layers) (order_score order) limit moved)
+  query_same line (Count region layers) = ap (ok_line line) (sym (length_permutation _ _
+      (IsPermutation-accepted (on_layers_accepts (region_accepts region) layers) xs ys moved)))
   query_same line Levels = ap (λ n. levels_reply line (level_sizes n fanout)) (sym (length_permutation xs ys moved))
 
   reply_same : (line : ℕ) (parsed : Parsed) → reply first line parsed ≡ reply other line parsed

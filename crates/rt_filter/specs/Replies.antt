@@ -1,6 +1,7 @@
 -- The bytes that lines are answered with.
 use Rattle.std.specs.Prelude.{ℕ, nat_lt, Bool, true, false, if◌then◌else◌, List, [], ◌++◌, length, flat_map, reverse}
 use Rattle.std.specs.List.{enumerate_from, list_any}
+use Rattle.rt_geo.specs.OnLayers.{on_layers_accepts}
 use Rattle.rt_geo.specs.Orders.{order_score}
 use Rattle.rt_geo.specs.Regions.{region_accepts}
 use Rattle.rt_geo.specs.declared.entry.Entry.{Entry}
@@ -39,9 +40,10 @@ levels_reply line sizes =
 
 -- the reply to a query
 abbrev pub query_reply : Loaded → (line : ℕ) → Query → List ℕ
-query_reply loaded line (Find region order limit) =
-    find_reply line (answers loaded.entries (region_accepts region) (order_score order) limit)
-query_reply loaded line (Count region) = ok_line line (length (accepted loaded.entries (region_accepts region)))
+query_reply loaded line (Find region order limit layers) =
+    find_reply line (answers loaded.entries (on_layers_accepts (region_accepts region) layers) (order_score order) limit)
+query_reply loaded line (Count region layers) =
+    ok_line line (length (accepted loaded.entries (on_layers_accepts (region_accepts region) layers)))
 query_reply loaded line Levels = levels_reply line (level_sizes (length loaded.entries) loaded.fanout)
 
 -- the reply to what a line asks

@@ -4,6 +4,7 @@
 //! compiler.
 
 ghost use Rattle.std.specs.Prelude.{◌≡◌, ◌+◌, ◌-◌, ◌<◌, ◌≤◌, ◌^◌, Some, IfOk, OnOk, OnErr, length};
+ghost use Rattle.rt_geo.specs.OnLayers.{on_layers_accepts};
 ghost use Rattle.rt_geo.specs.Orders.{order_score};
 ghost use Rattle.rt_geo.specs.Polygons.{polygon_accepts};
 ghost use Rattle.rt_geo.specs.Regions.{region_accepts};
@@ -16,13 +17,57 @@ ghost use Rattle.rt_filter.specs.Replies.{answer_lines, find_reply};
 use crate::finding_all::push_all;
 use crate::pushing::push_line;
 use rt_device::{Sink, WriteFault};
-use rt_geo::{ById, Circle, Counted, Disc, Geometry, Guided, Order, Polygon, Region, Shape};
+use rt_geo::{
+    ById, Circle, Counted, Disc, Geometry, Guided, Layers, OnLayers, Order, Polygon, Region, Shape,
+};
 use rt_search::{Frontier, Search, count};
 use rt_text::{Line, ok_line, set_answer_line, set_ok_line};
 use rt_tree::Tree;
 
-/// Pushes a line for each answer, the first so many where there is a limit, and then their number.
+/// Pushes a line for each answer on these layers, the first so many where there is a limit, and then their number.
 pub(crate) fn push_find<K: Sink>(
+    tree: &Tree,
+    frontier: Frontier,
+    line: u128,
+    region: Region,
+    order: Order,
+    limit: Option<u64>,
+    layers: Layers,
+    sink: &mut K,
+) -> Result<Frontier, WriteFault>
+    requires room { length tree.now.entries ≤ frontier.capacity }
+    requires count { K.failed sink.old < 2 ^ 64 - 1 }
+    ensures written { OnOk result (WasPushed (K.written sink.old) (K.written sink.new)
+        (find_reply line (answers tree.now.entries (on_layers_accepts (region_accepts region) layers)
+        (order_score order) limit))) }
+    ensures cut { OnErr result (WasCut (K.written sink.old) (K.written sink.new)
+        (find_reply line (answers tree.now.entries (on_layers_accepts (region_accepts region) layers)
+        (order_score order) limit))) }
+    ensures capacity { IfOk result (λ frontier'. frontier'.capacity ≡ frontier.capacity) }
+    ensures went { OnOk result (K.failed sink.new ≡ K.failed sink.old) }
+    ensures fails { OnErr result (K.failed sink.new ≡ K.failed sink.old + 1) }
+{
+    // (asked, so that it is known which layers the entries have)
+    let _most = tree.len();
+    if layers.bits() == u64::MAX {
+        return push_in_region(tree, frontier, line, region, order, limit, sink);
+    }
+    let shape = OnLayers {
+        shape: region,
+        layers,
+    };
+    push_found(
+        tree,
+        frontier,
+        line,
+        Guided { shape, rank: order },
+        limit,
+        sink,
+    )
+}
+
+// The same on all layers, which are those of all entries: none is asked for.
+fn push_in_region<K: Sink>(
     tree: &Tree,
     frontier: Frontier,
     line: u128,
@@ -223,8 +268,41 @@ fn push_answers<G: Geometry, K: Sink>(
     Ok(found)
 }
 
-/// Pushes the number of the boxes that the region accepts.
+/// Pushes the number of the boxes on these layers that the region accepts.
 pub(crate) fn push_count<K: Sink>(
+    tree: &Tree,
+    frontier: Frontier,
+    line: u128,
+    region: Region,
+    layers: Layers,
+    sink: &mut K,
+) -> Result<Frontier, WriteFault>
+    requires room { length tree.now.entries ≤ frontier.capacity }
+    requires count { K.failed sink.old < 2 ^ 64 - 1 }
+    ensures written { OnOk result (WasPushed (K.written sink.old) (K.written sink.new)
+        (ok_line line (length (accepted tree.now.entries
+        (on_layers_accepts (region_accepts region) layers))))) }
+    ensures cut { OnErr result (WasCut (K.written sink.old) (K.written sink.new)
+        (ok_line line (length (accepted tree.now.entries
+        (on_layers_accepts (region_accepts region) layers))))) }
+    ensures capacity { IfOk result (λ frontier'. frontier'.capacity ≡ frontier.capacity) }
+    ensures went { OnOk result (K.failed sink.new ≡ K.failed sink.old) }
+    ensures fails { OnErr result (K.failed sink.new ≡ K.failed sink.old + 1) }
+{
+    // (asked, so that it is known which layers the entries have)
+    let _most = tree.len();
+    if layers.bits() == u64::MAX {
+        return push_counted_in_region(tree, frontier, line, region, sink);
+    }
+    let shape = OnLayers {
+        shape: region,
+        layers,
+    };
+    push_counted(tree, frontier, line, shape, sink)
+}
+
+// The same on all layers.
+fn push_counted_in_region<K: Sink>(
     tree: &Tree,
     frontier: Frontier,
     line: u128,

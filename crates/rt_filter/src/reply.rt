@@ -64,8 +64,9 @@ fn push_query_reply<K: Sink>(
             region,
             order,
             limit,
-        } => push_find(tree, frontier, line, region, order, limit, sink),
-        Query::Count { region } => push_count(tree, frontier, line, region, sink),
+            layers,
+        } => push_find(tree, frontier, line, region, order, limit, layers, sink),
+        Query::Count { region, layers } => push_count(tree, frontier, line, region, layers, sink),
         Query::Levels => {
             push_levels(tree, line, sink)?;
             Ok(frontier)

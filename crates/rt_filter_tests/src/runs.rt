@@ -34,6 +34,33 @@ fn finds_windows(rt: HostRuntime) -> Result<(), Fail> {
     )
 }
 
+// Lines over two boxes, of which the first has layer 3, with what each is answered.
+static ON_LAYERS: [(&[u8], &[u8], u8); 10] = [
+    (b"find all on 3", b"1 0\nok 1 1\n", 0),
+    (b"find all on 0,3", b"1 0\n2 0\nok 1 2\n", 0),
+    (b"find window 0 4 0 4 on 0", b"ok 1 0\n", 0),
+    (
+        b"find circle 0 0 2 on 3 near 0 0 first 1",
+        b"1 0\nok 1 1\n",
+        0,
+    ),
+    (b"find all on 63", b"ok 1 0\n", 0),
+    (b"find all on 64", b"error 1 Q6 out of range\n", 1),
+    (b"find all", b"1 0\n2 0\nok 1 2\n", 0),
+    (b"count all on 0,0", b"ok 1 1\n", 0),
+    (b"count window 0 20 0 20 on 3,0", b"ok 1 2\n", 0),
+    (b"count all", b"ok 1 2\n", 0),
+];
+
+#[test]
+fn queries_on_layers_are_answered(rt: HostRuntime) -> Result<(), Fail> {
+    let table: &[u8] = b"1,0,10,0,10,3\n2,5,15,5,15\n";
+    for (query, reply, status) in &ON_LAYERS {
+        PLAIN.expect(&rt, table, query, reply, *status, None)?;
+    }
+    Ok(())
+}
+
 #[test]
 fn serves_empty_tables_and_queries(rt: HostRuntime) -> Result<(), Fail> {
     let nothing: &[u8] = b"find window 0 0 0 0\n";

@@ -2,6 +2,7 @@
 use Rattle.std.proofs.Common.{◌≡◌, refl, ℕ, zero, suc, ℤ, pos, negsuc, true, false}
 use Rattle.rt_geo.specs.Boxes.{Rect, area, greatest_coordinate, hull, inside, least_coordinate, overlaps, rect_of}
 use Rattle.rt_geo.specs.Distances.{far2, near2}
+use Rattle.rt_geo.specs.Layers.{only}
 use Rattle.rt_geo.specs.Ranks.{near_estimate, smallest_estimate}
 use Rattle.rt_geo.specs.Shapes.{circle_state, covers_state, inside_state}
 use Rattle.rt_geo.specs.declared.distance.Point.{Point}
@@ -23,7 +24,8 @@ point_at x y = record { x = x; y = y }
 -- a node or an entry whose parent was PARTLY
 abbrev pub info_of : Rect → ℕ → Info
 info_of bounds level =
-    record { bounds = bounds; level = level; top = 3; parent_within = Partly; parent_score = 0 }
+    let layers = only 0 in
+    record { bounds = bounds; layers = layers; level = level; top = 3; parent_within = Partly; parent_score = 0 }
 
 abbrev unit : Rect
 unit = square_box (pos 0) (pos 10)

@@ -1,34 +1,40 @@
 -- What a query function means, and the laws by which a search may skip a whole subtree.
 use Rattle.std.specs.Prelude.{◌≡◌, ◌↔◌, ◌<◌, ◌≤◌, ◌^◌, ℕ, Bool, true, false}
 use Rattle.rt_geo.specs.Boxes.{Rect, IsRect, inside, plane}
+use Rattle.rt_geo.specs.Layers.{HasSome, IsOneLayer, only, subset}
 use Rattle.rt_geo.specs.declared.entry.Entry.{Entry}
 use Rattle.rt_geo.specs.declared.geometry.Info.{Info}
 use Rattle.rt_geo.specs.declared.geometry.Verdict.{Verdict}
 use Rattle.rt_geo.specs.declared.geometry.Within.{Within}
 use Rattle.rt_geo.specs.declared.geometry.Within.TheVariants.{Not, Fully}
+use Rattle.rt_geo.specs.declared.layers.Layers.{Layers}
 
 -- ---- what a query function is shown
 
 -- all that it is shown of an entry, or of the entries under a node
 pub record Extent : Type 0 where
   pub bounds : Rect
+  pub layers : Layers
 
--- the extent of an entry: one box
+-- the extent of an entry: one box, of one layer
 abbrev pub extent_of_entry : Entry → Extent
-extent_of_entry entry = record { bounds = entry.bounds }
+extent_of_entry entry = record { bounds = entry.bounds; layers = only entry.layer }
 
 -- the extent that an info shows
 abbrev pub extent_of : Info → Extent
-extent_of info = record { bounds = info.bounds }
+extent_of info = record { bounds = info.bounds; layers = info.layers }
 
--- the one extent is part of the other: its bounds lie in the other's
+-- the one extent is part of the other: its bounds lie in the other's, and its layers are among the other's
 pub record IsPart (part whole : Extent) : Type 0 where
   pub bounds : inside part.bounds whole.bounds ≡ true
+  pub layers : subset part.layers whole.layers ≡ true
 
--- the extent `b` is one box, inside the other extent
+-- the extent `b` is one box of one layer, inside the other extent
 pub record IsBoxInside (b extent : Extent) : Type 0 where
   pub box : IsRect b.bounds
+  pub one : IsOneLayer b.layers
   pub inside : inside b.bounds extent.bounds ≡ true
+  pub among : subset b.layers extent.layers ≡ true
 
 -- each box inside the extent is accepted
 abbrev pub AllAccepted : (Extent → Bool) → Extent → Type 0
@@ -40,11 +46,13 @@ NoneAccepted accepts extent = (b : Extent) → IsBoxInside b extent → accepts 
 
 -- ---- what it may be asked
 
--- an info that shows an entry or a node: its bounds are a box of the plane, as each `Bounds` is, and its
--- numbers have the ranges of their types
+-- an info that shows an entry or a node: its bounds are a box of the plane, as each `Bounds` is, it has some layer, an
+-- entry has exactly one, and its numbers have the ranges of their types
 pub record IsWellFormed (info : Info) : Type 0 where
   pub box : IsRect info.bounds
   pub coordinates : inside info.bounds plane ≡ true
+  pub layers : HasSome info.layers
+  pub one : info.level ≡ 0 → IsOneLayer info.layers
   pub level : info.level < 2 ^ 8
   pub top : info.top < 2 ^ 8
   pub parent_score : info.parent_score < 2 ^ 128

@@ -5,7 +5,9 @@ pub mod Distances
 pub mod Guided
 pub mod HalfPlanes
 pub mod Laws
+pub mod Layers
 pub mod Nearest
+pub mod OnLayers
 pub mod Orders
 pub mod Polygons
 pub mod Products

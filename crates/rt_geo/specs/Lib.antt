@@ -4,7 +4,9 @@ pub mod Distances
 pub mod Entries
 pub mod HalfPlanes
 pub mod Laws
+pub mod Layers
 pub mod Lemmas
+pub mod OnLayers
 pub mod Orders
 pub mod Polygons
 pub mod Ranks

@@ -14,6 +14,7 @@ ghost use Rattle.rt_geo.specs.declared.geometry.Verdict.{Verdict};
 ghost use Rattle.rt_geo.specs.declared.geometry.Within.{Within};
 
 use crate::bounds::Bounds;
+use crate::layers::Layers;
 
 /// How many of the boxes inside some bounds are accepted.
 #[derive(Clone, Copy, Debug, PartialEq, Eq)]
@@ -31,12 +32,14 @@ pub enum Within {
 pub struct Info {
     /// The entry's box, or a box in which all the entries under the node lie.
     pub bounds: Bounds,
+    /// The entry's layer alone, or the layers of all the entries under the node.
+    pub layers: Layers,
     /// 0 for an entry; levels rise towards the root.
     pub level: u8,
     /// The level of the root.
     pub top: u8,
     /// What was answered for the parent. It may be [`Within::Fully`] only where every box inside
-    /// `bounds` is accepted.
+    /// `bounds` whose layer is among `layers` is accepted.
     pub parent_within: Within,
     /// The score that was answered for the parent.
     pub parent_score: u128,

@@ -6,17 +6,17 @@
 //! search has to rest on to be right for each geometry: for one made of the shapes and ranks below, and for
 //! one of a user's own.
 //!
-//! - Boxes: [`Bounds`], [`Entry`], [`overlaps`], [`inside`], [`hull`].
+//! - Boxes: [`Bounds`], [`Entry`], [`overlaps`], [`inside`], [`hull`]; sets of their [`Layers`].
 //! - Distances: [`Point`], [`near2`], [`far2`].
 //! - Query functions: [`Shape`], [`Rank`], [`Geometry`], asked with an [`Info`], answering a [`Within`],
 //!   a score or a [`Verdict`]; [`Guided`] joins a shape and a rank, [`Disc`] is a circle and the order by distance from
 //!   its middle in one; [`Counted`] counts the checks.
 //! - Shapes: [`All`], [`Window`], [`Inside`], [`Covers`], [`Circle`], [`Polygon`], and the enum [`Region`] of
-//!   these. A [`NarrowPolygon`] is a polygon that is asked faster.
+//!   these; [`OnLayers`] is one of them on some layers. A [`NarrowPolygon`] is a polygon that is asked faster.
 //! - Ranks: [`ById`], [`Near`], [`Smallest`], and the enum [`Order`] of these.
 //!
-//! The definitions that the contracts cite stand in `specs/`: `Boxes`, `Entries`, `Distances`, `Laws`,
-//! `Shapes`, `Polygons`, `HalfPlanes`, `Ranks`, `Regions`, `Orders`, `Counted`. They are in whole numbers without
+//! The definitions that the contracts cite stand in `specs/`: `Boxes`, `Layers`, `Entries`, `Distances`, `Laws`,
+//! `Shapes`, `OnLayers`, `Polygons`, `HalfPlanes`, `Ranks`, `Regions`, `Orders`, `Counted`. They are in whole numbers without
 //! bounds; that each `Bounds` is a box of the plane of 32-bit coordinates is a fact of its own (`HasBox` of an
 //! entry, `IsWellFormed` of an info), which the readers of the sides and [`Entry::info`] tell. What stands below
 //! `specs/Lemmas` is proved and has not to be believed.
@@ -29,7 +29,9 @@ mod distance;
 mod entry;
 mod geometry;
 mod guided;
+mod layers;
 mod narrow;
+mod on_layers;
 mod order;
 mod polygon;
 mod ranks;
@@ -43,7 +45,9 @@ pub use distance::{Point, far2, near2};
 pub use entry::Entry;
 pub use geometry::{Geometry, Info, Rank, Shape, Verdict, Within};
 pub use guided::Guided;
+pub use layers::Layers;
 pub use narrow::NarrowPolygon;
+pub use on_layers::OnLayers;
 pub use order::Order;
 pub use polygon::{Polygon, PolygonFault};
 pub use ranks::{ById, Near, Smallest};

@@ -3,7 +3,7 @@
 ghost use Rattle.std.specs.Prelude.{◌≡◌};
 ghost use Rattle.rt_geo.specs.declared.geometry.Within.TheVariants.{Partly};
 
-use rt_geo::{Bounds, Geometry, Info, Rank, Shape, Verdict, Within};
+use rt_geo::{Bounds, Geometry, Info, Layers, Rank, Shape, Verdict, Within};
 use std::process::Abort;
 
 pub(crate) fn boxed(rt: &impl Abort, min_x: i32, max_x: i32, min_y: i32, max_y: i32) -> Bounds {
@@ -14,8 +14,16 @@ pub(crate) fn boxed(rt: &impl Abort, min_x: i32, max_x: i32, min_y: i32, max_y: 
 pub(crate) fn question(bounds: Bounds, level: u8) -> Info
     ensures { result.parent_within ≡ Partly }
 {
+    question_on(bounds, Layers::of(0), level)
+}
+
+/// The same of an entry or a node on these layers.
+pub(crate) fn question_on(bounds: Bounds, layers: Layers, level: u8) -> Info
+    ensures { result.parent_within ≡ Partly }
+{
     Info {
         bounds,
+        layers,
         level,
         top: 3,
         parent_within: Within::Partly,

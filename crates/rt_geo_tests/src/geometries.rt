@@ -3,8 +3,9 @@
 use crate::asked::{boxed, question, score_of, state_of, verdict_of};
 use crate::watched::Watched;
 use rt_geo::{
-    All, Bounds, ById, Circle, Counted, Covers, Disc, Entry, Geometry, Guided, Info, Inside, Near,
-    Order, Point, Region, Smallest, Verdict, Window, Within, far2, hull, inside, near2, overlaps,
+    All, Bounds, ById, Circle, Counted, Covers, Disc, Entry, Geometry, Guided, Info, Inside,
+    Layers, Near, Order, Point, Region, Smallest, Verdict, Window, Within, far2, hull, inside,
+    near2, overlaps,
 };
 
 #[test]
@@ -24,12 +25,18 @@ fn an_entry_is_shown_by_itself(rt: HostRuntime) {
     let bounds = boxed(&rt, -5, 30, -6, 10);
     let want = Info {
         bounds,
+        layers: Layers::of(9),
         level: 0,
         top: 0,
         parent_within: Within::Partly,
         parent_score: 0,
     };
-    assert_eq!(rt; Entry { id: 7, bounds }.info(), want);
+    let entry = Entry {
+        id: 7,
+        bounds,
+        layer: 9,
+    };
+    assert_eq!(rt; entry.info(), want);
 }
 
 #[test]

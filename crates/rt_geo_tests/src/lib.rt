@@ -7,6 +7,8 @@ mod asked;
 #[cfg(test)]
 mod geometries;
 #[cfg(test)]
+mod layers;
+#[cfg(test)]
 mod polygons;
 #[cfg(test)]
 mod watched;

@@ -1,20 +1,27 @@
 -- The children of a node, one at a time, and what may be asked about them.
 use Rattle.std.proofs.Common.{◌≡◌, ◌<◌, ◌≤◌, ◌+◌, ◌-◌, ◌^◌, ℕ, zero, suc, Bool, true, List, length}
-use Rattle.std.proofs.Common.{take, drop, get_or, refl, sym, ◌∙◌, ap, subst, arith}
+use Rattle.std.proofs.Common.{map, slice_get, Some, take, drop, get_or, refl, sym, ◌∙◌, ap, subst, arith}
 use Rattle.std.specs.List.{All}
-use Rattle.std.proofs.lemmas.List.{get_or-take, get_or-drop, get_or_default, length-take, length-drop, take_all}
+use Rattle.std.proofs.lemmas.List.{get_or-map, get_or-take, get_or-drop, get_or_default, length-map, length-take}
+use Rattle.std.proofs.lemmas.List.{length-drop, take_all}
+use Rattle.std.proofs.lemmas.Option.{slice_get-get_or}
 use Rattle.std.proofs.lemmas.List.Elements.{All-from_recursion}
 use Rattle.rt_geo.specs.Boxes.{IsRect, inside, plane}
-use Rattle.rt_geo.specs.Entries.{HasBox}
+use Rattle.rt_geo.specs.Entries.{HasBox, HasLayer}
+use Rattle.rt_geo.specs.Layers.{HasSome}
 use Rattle.rt_geo.specs.Laws.{Extent, IsHonest, IsPart, IsQuestion, extent_of, extent_of_entry}
 use Rattle.rt_geo.specs.Lemmas.Laws.{AllAccepted-part, IsPart-box}
+use Rattle.rt_geo.specs.Lemmas.Layers.{HasSome-only}
 use Rattle.rt_geo.specs.declared.entry.Entry.{Entry}
 use Rattle.rt_geo.specs.declared.geometry.Info.{Info}
 use Rattle.rt_geo.specs.declared.geometry.Verdict.{Verdict}
+use Rattle.rt_tree.specs.Entries.{IsTable}
+use Rattle.rt_tree.specs.Leaves.{without_layer}
 use Rattle.rt_tree.specs.Packed.{Packed, IsInnerNode, IsLeafNode, IsSound, IsSubtree, child_entries, child_nodes}
 use Rattle.rt_tree.specs.Packed.{extent_of_node, no_node, node_at}
+use Rattle.rt_tree.specs.declared.leaves.LeafEntry.{LeafEntry}
 use Rattle.rt_tree.specs.declared.tree.Node.{Node}
-use Rattle.rt_search.specs.Joining.{info_of_child}
+use Rattle.rt_search.specs.Joining.{info_of_child, no_entry}
 use Rattle.rt_search.specs.Remaining.{IsBelow, height_at}
 use Rattle.rt_search.specs.Work.{info_of_node}
 use Rattle.rt_search.proofs.Answering.{IsEntryInside}
@@ -36,35 +43,56 @@ pub record IsLeafAt (t : Packed) (n : Node) (i : ℕ) (e : Entry) : Type 0 where
   pub is : e ≡ get_or (child_entries t n) i e
   pub within : IsPart (extent_of_entry e) (extent_of_node n)
   pub box : HasBox e
+  pub few : HasLayer e
 
-pub leaf_at : (t : Packed) (n : Node) (i : ℕ) (e : Entry) → All HasBox t.entries → IsLeafNode t n → i < n.count
+pub leaf_at : (t : Packed) (n : Node) (i : ℕ) (e : Entry) → IsTable t.entries → IsLeafNode t n → i < n.count
     → get_or t.entries (n.first + i) e ≡ e → IsLeafAt t n i e
-leaf_at t n i e boxes s lt read =
+leaf_at t n i e table s lt read =
     let long = part_length t.entries n.first n.count s.range in
     let range = s.range in
     let here : i < length (child_entries t n) = omega (arith, long) in
     let is : get_or (child_entries t n) i e ≡ e = part_at t.entries n.first n.count i e lt ∙ read in
     let within = All-from_recursion (IsEntryInside (extent_of_node n)) (child_entries t n) s.within i e here in
-    let box = boxes (n.first + i) e (omega (arith, range, lt)) in
+    let inside : n.first + i < length t.entries = omega (arith, range, lt) in
     record {
       place = here;
       is = sym is;
       within = IsPart-box (extent_of_entry e) (extent_of_node n) (subst (IsEntryInside (extent_of_node n)) is within);
-      box = subst HasBox read box;
+      box = subst HasBox read (table.boxes (n.first + i) e inside);
+      few = subst HasLayer read (table.layers (n.first + i) e inside);
     }
 
 -- how many entries are lent
-pub entries_count : (t : Packed) (n : Node) (lent : List Entry) → IsLeafNode t n → lent ≡ child_entries t n
-    → length lent ≡ n.count
-entries_count t n lent s entries = ap length entries ∙ part_length t.entries n.first n.count s.range
+pub entries_count : (t : Packed) (n : Node) (lent : List LeafEntry) → IsLeafNode t n
+    → lent ≡ map without_layer (child_entries t n) → length lent ≡ n.count
+entries_count t n lent s entries =
+    ap length entries ∙ length-map (child_entries t n) without_layer
+    ∙ part_length t.entries n.first n.count s.range
 
 -- an entry that is read among them
-pub leaf_read : (t : Packed) (n : Node) (i : ℕ) (e : Entry) (lent : List Entry) → All HasBox t.entries → IsLeafNode t n
-    → lent ≡ child_entries t n → i < length lent → e ≡ get_or lent i e → IsLeafAt t n i e
-leaf_read t n i e lent boxes s entries lt read =
+pub record IsLeafRead (t : Packed) (n : Node) (i : ℕ) (x : LeafEntry) (e : Entry) : Type 0 where
+  pub at : IsLeafAt t n i e
+  pub is : x ≡ without_layer e
+  pub found : slice_get t.entries (n.first + i) ≡ Some e
+
+pub leaf_read : (t : Packed) (n : Node) (i : ℕ) (x : LeafEntry) (lent : List LeafEntry) → IsTable t.entries
+    → IsLeafNode t n → lent ≡ map without_layer (child_entries t n) → i < length lent → x ≡ get_or lent i x
+    → IsLeafRead t n i x (get_or (child_entries t n) i no_entry)
+leaf_read t n i x lent table s entries lt read =
+    let children = child_entries t n in
+    let e = get_or children i no_entry in
     let few = subst (λ m. i < m) (entries_count t n lent s entries) lt in
-    leaf_at t n i e boxes s few (sym (part_at t.entries n.first n.count i e few)
-    ∙ sym (subst (λ l. e ≡ get_or l i e) entries read))
+    let long = part_length t.entries n.first n.count s.range in
+    let range = s.range in
+    let there : i < length children = omega (arith, long, few) in
+    let inside : n.first + i < length t.entries = omega (arith, range, few) in
+    let same : get_or t.entries (n.first + i) e ≡ e = sym (part_at t.entries n.first n.count i e few)
+    ∙ get_or_default children i e no_entry there in
+    record {
+      at = leaf_at t n i e table s few same;
+      is = subst (λ l. x ≡ get_or l i x) entries read ∙ get_or-map without_layer children i no_entry x there;
+      found = slice_get-get_or t.entries (n.first + i) e inside ∙ ap Some same;
+    }
 
 -- ---- a child of a higher node
 
@@ -79,6 +107,10 @@ subtree_valid t (suc h) n s = s.valid
 subtree_coordinates : (t : Packed) (h : ℕ) (n : Node) → IsSubtree t h n → inside n.bounds plane ≡ true
 subtree_coordinates t zero n s = s.coordinates
 subtree_coordinates t (suc h) n s = s.coordinates
+
+subtree_layers : (t : Packed) (h : ℕ) (n : Node) → IsSubtree t h n → HasSome n.layers
+subtree_layers t zero n s = s.layers
+subtree_layers t (suc h) n s = s.layers
 
 one_less : (h : ℕ) → suc h - 1 ≡ h
 one_less h = omega arith
@@ -219,6 +251,8 @@ module _ (accepts : Extent → Bool) (score : Extent → ℕ) (t : Packed) (soun
         well_formed = record {
           box = at.box.box;
           coordinates = at.box.coordinates;
+          layers = HasSome-only e.layer at.few;
+          one = λ _. record { layer = e.layer; few = at.few; is = refl };
           level = omega arith;
           top =
               omega (arith, top);
@@ -236,6 +270,8 @@ module _ (accepts : Extent → Bool) (score : Extent → ℕ) (t : Packed) (soun
         well_formed = record {
           box = at.valid;
           coordinates = subtree_coordinates t (height_at t k) (node_at t k) at.tree;
+          layers = subtree_layers t (height_at t k) (node_at t k) at.tree;
+          one = (let above = at.level in λ low. absurd (omega (arith, low, above)));
           level = omega (arith, lower, low);
           top = omega (arith, top);
           parent_score = small;

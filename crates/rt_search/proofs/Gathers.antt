@@ -30,7 +30,7 @@ use Rattle.rt_search.proofs.Working.{length-join_entries}
 
 -- ---- entries that join
 
-entry_joins : (v : Verdict) (e : Entry) (xs : List Item) → AllEntries xs → AllEntries (join_entry v e xs)
+entry_joins : (v : Verdict) (e : Entry) (xs : List Item) → AllEntries xs → AllEntries (join_entry v e.id xs)
 entry_joins v e xs all =
     elim (is_kept v.within) as
     (λ b. AllEntries (cond b (put item_cmp (item_at v.score (place.Entry e.id)) xs) xs)) [

@@ -58,17 +58,17 @@ module _ (accepts : Extent → Bool) (score : Extent → ℕ) (verdict : Info �
     (law : IsLawful accepts score verdict) (t : Packed) where
   -- an entry
   entry_joined : (e : Entry) (info : Info) (xs : List Item) → extent_of info ≡ extent_of_entry e → info.level ≡ 0
-      → IsQuestion accepts info → remaining t accepts score (join_entry (verdict info) e xs)
+      → IsQuestion accepts info → remaining t accepts score (join_entry (verdict info) e.id xs)
       ≡ put_all answer_cmp (among accepts score (e ∷ [])) (remaining t accepts score xs)
   entry_joined e info xs at low question =
       let v = verdict info in
       let R = remaining t accepts score in
       let put_in = put item_cmp (item_at v.score (place.Entry e.id)) xs in
-      let split : (b : Bool) → is_kept v.within ≡ b → R (join_entry v e xs)
+      let split : (b : Bool) → is_kept v.within ≡ b → R (join_entry v e.id xs)
       ≡ put_all answer_cmp (among accepts score (e ∷ [])) (R xs) = elim [
         | true ↦ λ h.
             let accepted : accepts (extent_of info) ≡ true = accepted_at info low question h in
-            entry_kept accepts score t e v.score xs (join_entry v e xs) (subst (λ b. accepts b ≡ true) at accepted)
+            entry_kept accepts score t e v.score xs (join_entry v e.id xs) (subst (λ b. accepts b ≡ true) at accepted)
             (law.exact info question low accepted ∙ ap score at) (taken (is_kept v.within) put_in xs h)
         | false ↦ λ h.
             let never : accepts (extent_of_entry e) ≡ false =
@@ -111,7 +111,7 @@ module _ (accepts : Extent → Bool) (score : Extent → ℕ) (verdict : Info �
       split (is_kept v.within) refl
 
   entry_sound : (v : Verdict) (e : Entry) (xs : List Item) → AllSound t accepts score xs
-      → AllSound t accepts score (join_entry v e xs)
+      → AllSound t accepts score (join_entry v e.id xs)
   entry_sound v e xs a =
       elim (is_kept v.within) as
       (λ b. AllSound t accepts score (cond b (put item_cmp (item_at v.score (place.Entry e.id)) xs) xs)) [
@@ -159,7 +159,7 @@ module _ (accepts : Extent → Bool) (score : Extent → ℕ) (verdict : Info �
         let same : e ≡ get_or t.entries (n.first + i) no_entry = part_at t.entries n.first n.count i no_entry lt in
         let read : get_or t.entries (n.first + i) e ≡ e =
         get_or_default t.entries (n.first + i) e no_entry (omega (arith, range, lt)) ∙ sym same in
-        leaf_at t n i e sound.table.boxes leaf lt read
+        leaf_at t n i e sound.table leaf lt read
 
     entries_upto : (n : Node) (xs : List Item) → IsLeafNode t n → IsBelow accepts score (extent_of_node n) v → (i : ℕ)
         → i ≤ n.count → remaining t accepts score (join_entries verdict t v n i xs)

@@ -19,7 +19,7 @@ minus zero = pos 0
 minus (suc n) = negsuc n
 
 abbrev entry : ℕ → Rect → Entry
-entry id bounds = record { id = pos id; bounds = bounds }
+entry id bounds = record { id = pos id; bounds = bounds; layer = 0 }
 
 abbrev five_boxes : List Entry
 five_boxes =

@@ -1,12 +1,12 @@
 -- What opening a node leaves in the frontier. Nothing that a public call promises speaks of this.
-use Rattle.std.specs.Prelude.{◌+◌, ◌-◌, ◌==◌, ℕ, zero, suc, pos, Bool, false, if◌then◌else◌, List, [], ◌∷◌, get_or}
+use Rattle.std.specs.Prelude.{◌+◌, ◌-◌, ◌==◌, ℕ, zero, suc, ℤ, pos, Bool, false, if◌then◌else◌, List, [], ◌∷◌, get_or}
 use Rattle.std.specs.Prelude.{length}
-use Rattle.rt_geo.specs.Boxes.{rect_of}
+use Rattle.rt_geo.specs.Laws.{extent_of_entry}
 use Rattle.rt_geo.specs.declared.entry.Entry.{Entry}
 use Rattle.rt_geo.specs.declared.geometry.Info.{Info}
 use Rattle.rt_geo.specs.declared.geometry.Verdict.{Verdict}
 use Rattle.rt_geo.specs.declared.geometry.Within.{Within}
-use Rattle.rt_tree.specs.Packed.{Packed, child_entries, node_at, root_of}
+use Rattle.rt_tree.specs.Packed.{Packed, child_entries, no_box, node_at, root_of}
 use Rattle.rt_tree.specs.Sorting.{put}
 use Rattle.rt_tree.specs.declared.tree.Node.{Node}
 use Rattle.rt_search.specs.Items.{item_at, item_cmp}
@@ -18,11 +18,11 @@ use Rattle.rt_search.specs.declared.item.WaitingNode.{WaitingNode}
 
 -- what is asked about an entry whose parent has this verdict
 abbrev pub info_of_child : Packed → (parent : Verdict) → Entry → Info
-info_of_child t parent e = info_under (root_of t).level parent e.bounds 0
+info_of_child t parent e = info_under (root_of t).level parent (extent_of_entry e) 0
 
 -- an entry joins, unless it is NOT
-abbrev pub join_entry : Verdict → Entry → List Item → List Item
-join_entry v e items = if is_kept v.within then put item_cmp (item_at v.score (place.Entry e.id)) items else items
+abbrev pub join_entry : Verdict → (id : ℤ) → List Item → List Item
+join_entry v id items = if is_kept v.within then put item_cmp (item_at v.score (place.Entry id)) items else items
 
 -- a node joins, where its state says so
 abbrev pub join_node : (joins : Within → Bool) → Verdict → (number : ℕ) → List Item → List Item
@@ -31,14 +31,14 @@ join_node joins v number items =
 
 -- an entry that no tree holds
 abbrev pub no_entry : Entry
-no_entry = record { id = pos 0; bounds = rect_of (pos 0) (pos 0) (pos 0) (pos 0) }
+no_entry = record { id = pos 0; bounds = no_box; layer = 0 }
 
 -- the first so many children join: entries
 abbrev pub join_entries : (verdict : Info → Verdict) → Packed → Verdict → Node → (so_many : ℕ) → List Item → List Item
 join_entries verdict t of_node n zero items = items
 join_entries verdict t of_node n (suc i) items =
     let e = get_or (child_entries t n) i no_entry in
-    join_entry (verdict (info_of_child t of_node e)) e (join_entries verdict t of_node n i items)
+    join_entry (verdict (info_of_child t of_node e)) e.id (join_entries verdict t of_node n i items)
 
 -- and nodes
 abbrev pub join_nodes : (joins : Within → Bool) → (verdict : Info → Verdict) → Packed → Verdict → Node → (so_many : ℕ)

@@ -3,13 +3,12 @@ use Rattle.std.specs.Prelude.{◌≡◌, ℕ, zero, suc, ◌+◌, ◌-◌, ◌==
 use Rattle.std.specs.Prelude.{Option, Some, None, List, length, slice_get}
 use Rattle.std.specs.List.{sum_by}
 use Rattle.std.specs.Option.{option_map}
-use Rattle.rt_geo.specs.Boxes.{Rect}
 use Rattle.rt_geo.specs.Laws.{Extent}
 use Rattle.rt_geo.specs.declared.geometry.Info.{Info}
 use Rattle.rt_geo.specs.declared.geometry.Verdict.{Verdict}
 use Rattle.rt_geo.specs.declared.geometry.Within.{Within}
 use Rattle.rt_geo.specs.declared.geometry.Within.TheVariants.{Not, Partly, Fully}
-use Rattle.rt_tree.specs.Packed.{Packed, child_nodes, height, root_of}
+use Rattle.rt_tree.specs.Packed.{Packed, child_nodes, extent_of_node, height, root_of}
 use Rattle.rt_tree.specs.declared.tree.Node.{Node}
 use Rattle.rt_search.specs.Answers.{Answer, answers}
 
@@ -20,13 +19,19 @@ abbrev pub root_verdict : Verdict
 root_verdict = record { within = Partly; score = 0 }
 
 -- what is asked about a child of a node that has this verdict
-abbrev pub info_under : (top : ℕ) → (parent : Verdict) → (bounds : Rect) → (level : ℕ) → Info
-info_under top parent bounds level =
-    record { bounds = bounds; level = level; top = top; parent_within = parent.within; parent_score = parent.score }
+abbrev pub info_under : (top : ℕ) → (parent : Verdict) → Extent → (level : ℕ) → Info
+info_under top parent extent level = record {
+  bounds = extent.bounds;
+  layers = extent.layers;
+  level = level;
+  top = top;
+  parent_within = parent.within;
+  parent_score = parent.score;
+}
 
 -- about a node
 abbrev pub info_of_node : Packed → (parent : Verdict) → Node → Info
-info_of_node t parent n = info_under (root_of t).level parent n.bounds n.level
+info_of_node t parent n = info_under (root_of t).level parent (extent_of_node n) n.level
 
 -- ---- the nodes that are opened
 

@@ -13,7 +13,7 @@ use crate::counts::Count;
 use crate::frontier::Frontier;
 use crate::item::WaitingNode;
 use crate::opening::Parent;
-use rt_geo::{Counted, Geometry, Info, Within};
+use rt_geo::{Counted, Geometry, Info, Layers, Within};
 use rt_tree::{Node, NodeNo, Tree};
 
 // An entry counts unless it is NOT.
@@ -52,7 +52,7 @@ fn count_leaf<G: Geometry>(
     let mut found = 0;
     for i in 0..node.count {
         let entry = tree.entry(node.first + i as u32);
-        let info = parent.info(entry.bounds, 0);
+        let info = parent.info(entry.bounds, Layers::of(entry.layer), 0);
         found += count_entry(counted, &info);
     }
     found
@@ -93,7 +93,7 @@ fn count_under<G: Geometry>(
     let children = tree.child_nodes(node);
     let first = tree.child_node(number, 0).number();
     for (i, child) in children.iter().enumerate() {
-        let info = parent.info(child.bounds, child.level);
+        let info = parent.info(child.bounds, child.layers, child.level);
         let child_number = NodeNo::new(first + i as u32);
         count_child(tree, counted, count, child_number, &info);
     }

@@ -51,7 +51,7 @@ fn gather_under<G: Geometry>(
     let children = tree.child_nodes(node);
     let first = tree.child_node(number, 0).number();
     for (i, child) in children.iter().enumerate() {
-        let info = parent.info(child.bounds, child.level);
+        let info = parent.info(child.bounds, child.layers, child.level);
         let child_number = NodeNo::new(first + i as u32);
         gather_child(tree, frontier, counted, opened, child_number, &info);
     }

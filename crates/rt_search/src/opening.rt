@@ -1,7 +1,7 @@
 //! Opening a node: each of its children is asked about, and joins the frontier where it may hold answers.
 
 ghost use Rattle.std.specs.Prelude.{◌≡◌, ◌+◌, ◌-◌, ◌<◌, ◌≤◌, ◌^◌, [], length};
-ghost use Rattle.rt_geo.specs.Laws.{IsHonest};
+ghost use Rattle.rt_geo.specs.Laws.{Extent, IsHonest};
 ghost use Rattle.rt_tree.specs.Packed.{IsLeafNode, IsSound, extent_of_node, node_at, root_of};
 ghost use Rattle.rt_search.specs.Joining.{join_entries, join_entry, join_node, join_nodes, root_items};
 ghost use Rattle.rt_search.specs.Remaining.{IsBelow, IsOpenable, verdict_on};
@@ -9,7 +9,7 @@ ghost use Rattle.rt_search.specs.Work.{info_under, is_kept};
 
 use crate::frontier::Frontier;
 use crate::item::WaitingNode;
-use rt_geo::{Bounds, Counted, Entry, Geometry, Info, Verdict, Within};
+use rt_geo::{Bounds, Counted, Geometry, Info, Layers, Verdict, Within};
 use rt_tree::{Node, NodeNo, Tree};
 
 /// What the children of an opened node are told.
@@ -39,11 +39,13 @@ impl Parent {
     }
 
     /// What is asked about a child.
-    pub fn info(&self, bounds: Bounds, level: u8) -> Info
-        ensures { result ≡ info_under self.now.top self.now.verdict bounds level }
+    pub fn info(&self, bounds: Bounds, layers: Layers, level: u8) -> Info
+        ensures { let extent : Extent = record { bounds = bounds; layers = layers } in
+            result ≡ info_under self.now.top self.now.verdict extent level }
     {
         Info {
             bounds,
+            layers,
             level,
             top: self.top,
             parent_within: self.verdict.within,
@@ -84,19 +86,19 @@ fn is_kept(within: Within) -> bool
 fn ask_entry<G: Geometry>(
     frontier: &mut Frontier,
     counted: &mut Counted<'_, G>,
-    entry: Entry,
+    id: i64,
     info: &Info,
 )
     requires honest { IsHonest (G.accepts counted.old.geometry) info.now }
     requires room { length frontier.old.items < frontier.old.capacity }
     requires asked { counted.old.asked < 2 ^ 64 - 1 }
-    ensures items { frontier.new.items ≡ join_entry (G.verdict counted.old.geometry info.now) entry frontier.old.items }
+    ensures items { frontier.new.items ≡ join_entry (G.verdict counted.old.geometry info.now) id frontier.old.items }
     ensures capacity { frontier.new.capacity ≡ frontier.old.capacity }
     ensures geometry { counted.new.geometry ≡ counted.old.geometry }
     ensures asked { counted.new.asked ≡ counted.old.asked + 1 }
 {
     let verdict = counted.check(info);
-    frontier.offer_entry(is_kept(verdict.within), verdict.score, entry.id);
+    frontier.offer_entry(is_kept(verdict.within), verdict.score, id);
 }
 
 fn ask_node<G: Geometry>(
@@ -143,10 +145,12 @@ pub(crate) fn open_leaf<G: Geometry>(
     ensures geometry { counted.new.geometry ≡ counted.old.geometry }
     ensures asked { counted.new.asked ≡ counted.old.asked + node.count }
 {
+    let first = node.first;
     let entries = tree.child_entries(node);
-    for entry in entries {
-        let info = parent.info(entry.bounds, 0);
-        ask_entry(frontier, counted, *entry, &info);
+    for (i, entry) in entries.iter().enumerate() {
+        let layers = tree.layers_at(first + i as u32);
+        let info = parent.info(entry.bounds, layers, 0);
+        ask_entry(frontier, counted, entry.id, &info);
     }
 }
 
@@ -176,7 +180,7 @@ pub(crate) fn open_inner<G: Geometry>(
     let children = tree.child_nodes(node);
     let first = tree.child_node(number, 0).number();
     for (i, child) in children.iter().enumerate() {
-        let info = parent.info(child.bounds, child.level);
+        let info = parent.info(child.bounds, child.layers, child.level);
         let child_number = NodeNo::new(first + i as u32);
         ask_node(frontier, counted, child_number, &info);
     }

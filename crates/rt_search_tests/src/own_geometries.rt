@@ -6,12 +6,13 @@ ghost use Rattle.rt_geo.specs.declared.geometry.Within.TheVariants.{Partly};
 use crate::left_of::LeftOf;
 use crate::tables::boxed;
 use crate::uneven::Uneven;
-use rt_geo::{Bounds, Geometry, Guided, Info, Near, Point, Verdict, Within};
+use rt_geo::{Bounds, Geometry, Guided, Info, Layers, Near, Point, Verdict, Within};
 
 /// What a geometry answers about an entry (level 0) or a node whose parent was PARTLY.
 fn verdict_of<G: Geometry>(geometry: &G, bounds: Bounds, level: u8) -> Verdict {
     geometry.check(&Info {
         bounds,
+        layers: Layers::of(0),
         level,
         top: 3,
         parent_within: Within::Partly,

@@ -1,10 +1,10 @@
 //! Searches and counts over random tables. `tests/search.py` makes the same tables, packs and searches them in its own
 //! way, and looks for its own numbers here.
 
-use crate::tables::push;
+use crate::tables::push_on;
 use rt_geo::{
-    All, Bounds, ById, Circle, Counted, Geometry, Guided, Near, Point, Rank, Shape, Smallest,
-    Window,
+    All, Bounds, ById, Circle, Counted, Geometry, Guided, Layers, Near, OnLayers, Point, Rank,
+    Shape, Smallest, Window,
 };
 use rt_search::{Frontier, Search, count};
 use rt_tree::{Table, Tree};
@@ -20,12 +20,22 @@ enum Lie {
     Ends,
 }
 
+// What layers the boxes of a table have.
+#[derive(Clone, Copy)]
+enum Kinds {
+    // Any of so many.
+    AnyOf(u32),
+    // Those that go with the place.
+    ByPlace,
+}
+
 #[derive(Clone, Copy)]
 struct Case {
     seed: u64,
     lie: Lie,
     entries: u32,
     fanout: u8,
+    kinds: Kinds,
     // Of all that the searches and counts tell.
     digest: u64,
 }
@@ -41,12 +51,17 @@ fn spread(reach: u32, width: u32) -> Lie {
     Lie::Spread { reach, width }
 }
 
-fn new_case(seed: u64, lie: Lie, entries: u32, fanout: u8, digest: u64) -> Case {
+fn any_of(layers: u32) -> Kinds {
+    Kinds::AnyOf(layers)
+}
+
+fn new_case(seed: u64, lie: Lie, entries: u32, fanout: u8, kinds: Kinds, digest: u64) -> Case {
     Case {
         seed,
         lie,
         entries,
         fanout,
+        kinds,
         digest,
     }
 }
@@ -102,6 +117,33 @@ impl Row {
         let (min_y, max_y) = self.sides(lie);
         Bounds::new(min_x, max_x, min_y, max_y).expect(rt, "the low side is the first")
     }
+
+    // One of so many layers.
+    fn layer_of(&mut self, layers: u32) -> u8 {
+        u8::try_from(self.next() % layers.max(1))
+            .unwrap_or(0)
+            .min(63)
+    }
+
+    // The layer of a box.
+    fn layer(&mut self, kinds: Kinds, bounds: Bounds) -> u8 {
+        match kinds {
+            Kinds::AnyOf(layers) => self.layer_of(layers),
+            Kinds::ByPlace => u8::try_from(bounds.min_x().abs_diff(i32::MIN) / 67_108_864)
+                .unwrap_or(0)
+                .min(63),
+        }
+    }
+
+    // Two layers, which may be one.
+    fn asked(&mut self, kinds: Kinds) -> Layers {
+        let layers = match kinds {
+            Kinds::AnyOf(layers) => layers,
+            Kinds::ByPlace => 64,
+        };
+        let one = Layers::of(self.layer_of(layers));
+        one.union(Layers::of(self.layer_of(layers)))
+    }
 }
 
 // One number for a row of numbers.
@@ -121,7 +163,8 @@ fn table_of(rt: &impl Abort, alloc: Global, row: &mut Row, case: Case) -> Table 
     for place in 0..case.entries {
         let id = (i64::from(place).wrapping_mul(7_919) % 65_537).wrapping_sub(32_768);
         let bounds = row.boxed(rt, case.lie);
-        push(rt, &mut table, id, bounds);
+        let layer = row.layer(case.kinds, bounds);
+        push_on(rt, &mut table, id, bounds, layer);
     }
     table
 }
@@ -174,27 +217,48 @@ fn add_geometry<G: Geometry>(
     frontier
 }
 
-// Adds a shape with each rank.
+// Adds a shape with each rank, on all layers and then on some.
 fn add_shape<S: Shape + Copy>(
     rt: &impl Abort,
     tree: &Tree,
     frontier: Frontier,
     shape: S,
+    layers: Layers,
     point: Point,
     digest: &mut Digest,
 ) -> Frontier {
-    let by_id = Guided { shape, rank: ById };
-    let frontier = add_geometry(rt, tree, frontier, &by_id, digest);
-    let near = Guided {
-        shape,
-        rank: Near(point),
-    };
-    let frontier = add_geometry(rt, tree, frontier, &near, digest);
-    let smallest = Guided {
-        shape,
-        rank: Smallest,
-    };
-    add_geometry(rt, tree, frontier, &smallest, digest)
+    let frontier = add_guided(rt, tree, frontier, shape, ById, digest);
+    let frontier = add_guided(rt, tree, frontier, shape, Near(point), digest);
+    let frontier = add_guided(rt, tree, frontier, shape, Smallest, digest);
+    let frontier = add_on_layers(rt, tree, frontier, shape, layers, ById, digest);
+    let frontier = add_on_layers(rt, tree, frontier, shape, layers, Near(point), digest);
+    add_on_layers(rt, tree, frontier, shape, layers, Smallest, digest)
+}
+
+fn add_guided<S: Shape + Copy, R: Rank + Copy>(
+    rt: &impl Abort,
+    tree: &Tree,
+    frontier: Frontier,
+    shape: S,
+    rank: R,
+    digest: &mut Digest,
+) -> Frontier {
+    let geometry = Guided { shape, rank };
+    add_geometry(rt, tree, frontier, &geometry, digest)
+}
+
+fn add_on_layers<S: Shape + Copy, R: Rank + Copy>(
+    rt: &impl Abort,
+    tree: &Tree,
+    frontier: Frontier,
+    shape: S,
+    layers: Layers,
+    rank: R,
+    digest: &mut Digest,
+) -> Frontier {
+    let shape = OnLayers { shape, layers };
+    let geometry = Guided { shape, rank };
+    add_geometry(rt, tree, frontier, &geometry, digest)
 }
 
 fn digest_of(rt: &impl Abort, alloc: Global, case: Case) -> u64 {
@@ -218,9 +282,11 @@ fn digest_of(rt: &impl Abort, alloc: Global, case: Case) -> u64 {
             centre: point,
             radius,
         };
-        frontier = add_shape(rt, &tree, frontier, Window(area), point, &mut digest);
-        frontier = add_shape(rt, &tree, frontier, circle, point, &mut digest);
-        frontier = add_shape(rt, &tree, frontier, All, point, &mut digest);
+        let layers = row.asked(case.kinds);
+        let window = Window(area);
+        frontier = add_shape(rt, &tree, frontier, window, layers, point, &mut digest);
+        frontier = add_shape(rt, &tree, frontier, circle, layers, point, &mut digest);
+        frontier = add_shape(rt, &tree, frontier, All, layers, point, &mut digest);
     }
     digest.value
 }
@@ -228,20 +294,56 @@ fn digest_of(rt: &impl Abort, alloc: Global, case: Case) -> u64 {
 #[test]
 fn random_tables_are_searched_as_by_another_search(rt: HostRuntime) {
     let cases = [
-        new_case(1, spread(1_000, 50), 120, 4, 16_736_450_084_431_565_490),
-        new_case(2, spread(3, 2), 90, 3, 16_416_396_763_116_570_636),
+        new_case(
+            1,
+            spread(1_000, 50),
+            120,
+            4,
+            any_of(64),
+            2_175_116_353_363_919_717,
+        ),
+        new_case(2, spread(3, 2), 90, 3, any_of(3), 1_630_893_816_778_446_787),
         new_case(
             3,
             spread(1_000_000_000, 100_000_000),
             200,
             16,
-            18_277_405_051_901_869_665,
+            Kinds::ByPlace,
+            2_513_138_314_226_199_934,
         ),
-        new_case(4, Lie::Ends, 60, 2, 15_600_872_133_236_751_493),
-        new_case(5, spread(0, 0), 33, 2, 2_272_098_468_582_537_574),
-        new_case(6, spread(20, 40), 65, 64, 2_946_647_141_998_205_277),
-        new_case(7, spread(100, 1), 1, 2, 13_942_324_494_911_269_599),
-        new_case(8, spread(100, 1), 0, 2, 8_491_110_705_845_590_407),
+        new_case(
+            4,
+            Lie::Ends,
+            60,
+            2,
+            Kinds::ByPlace,
+            1_990_914_365_463_987_160,
+        ),
+        new_case(5, spread(0, 0), 33, 2, any_of(2), 7_119_055_544_920_242_175),
+        new_case(
+            6,
+            spread(20, 40),
+            65,
+            64,
+            any_of(64),
+            484_666_924_712_425_547,
+        ),
+        new_case(
+            7,
+            spread(100, 1),
+            1,
+            2,
+            any_of(1),
+            6_352_310_215_311_238_981,
+        ),
+        new_case(
+            8,
+            spread(100, 1),
+            0,
+            2,
+            any_of(64),
+            11_093_117_819_520_246_301,
+        ),
     ];
     for case in cases {
         let digest = digest_of(&rt, rt.alloc(), case);

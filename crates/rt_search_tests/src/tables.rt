@@ -12,8 +12,14 @@ pub(crate) fn boxed(rt: &impl Abort, sides: Sides) -> Bounds {
 }
 
 pub(crate) fn push(rt: &impl Abort, table: &mut Table, id: i64, bounds: Bounds) {
+    push_on(rt, table, id, bounds, 0);
+}
+
+/// The same on a layer.
+pub(crate) fn push_on(rt: &impl Abort, table: &mut Table, id: i64, bounds: Bounds, layer: u8) {
+    assert!(rt; layer <= 63, "it is a layer");
     assert!(rt; table.len() < Table::MOST_ENTRIES, "there is room");
     table
-        .push(Entry { id, bounds })
+        .push(Entry { id, bounds, layer })
         .expect(rt, "the id is new, and there is memory");
 }

@@ -1,4 +1,5 @@
 mod DigitLemmas
+mod LayerLemmas
 mod LeadingLemmas
 mod NumberLemmas
 mod PointLemmas

@@ -2,6 +2,7 @@
 use Rattle.std.proofs.Common.{◌≡◌, pos, negsuc, [], None, Some, codes, refl}
 use Rattle.std.specs.Fmt.{digits}
 use Rattle.rt_geo.specs.Boxes.{rect_of}
+use Rattle.rt_geo.specs.Layers.{all_layers, only}
 use Rattle.rt_geo.specs.declared.order.Order.TheVariants.{ById, Smallest}
 use Rattle.rt_geo.specs.declared.region.Region.TheVariants.{All, Circle, Window}
 use Rattle.rt_text.specs.Queries.{inside_of, near, query_of}
@@ -12,22 +13,22 @@ use Rattle.rt_text.specs.declared.query.QueryFault.TheVariants as fault
 
 -- ---- queries
 
-row_window : query_of (codes "find window 0 10 -5 +10") ≡ Query (Find (Window (record { 0 = rect_of (pos 0) (pos 10) (negsuc 4) (pos 10) })) (ById (record {})) None)
+row_window : query_of (codes "find window 0 10 -5 +10") ≡ Query (Find (Window (record { 0 = rect_of (pos 0) (pos 10) (negsuc 4) (pos 10) })) (ById (record {})) None all_layers)
 row_window = refl
 
-row_smallest : query_of (codes "find all smallest first 3") ≡ Query (Find (All (record {})) (Smallest (record {})) (Some 3))
+row_smallest : query_of (codes "find all smallest first 3") ≡ Query (Find (All (record {})) (Smallest (record {})) (Some 3) all_layers)
 row_smallest = refl
 
-row_circle : query_of (codes "find circle 1 2 3") ≡ Query (Find (Circle (record { centre = record { x = pos 1; y = pos 2 }; radius = 3 })) (near (record { x = pos 1; y = pos 2 })) None)
+row_circle : query_of (codes "find circle 1 2 3") ≡ Query (Find (Circle (record { centre = record { x = pos 1; y = pos 2 }; radius = 3 })) (near (record { x = pos 1; y = pos 2 })) None all_layers)
 row_circle = refl
 
-row_circle_near : query_of (codes "find circle 1 2 3 near 4 5") ≡ Query (Find (Circle (record { centre = record { x = pos 1; y = pos 2 }; radius = 3 })) (near (record { x = pos 4; y = pos 5 })) None)
+row_circle_near : query_of (codes "find circle 1 2 3 near 4 5") ≡ Query (Find (Circle (record { centre = record { x = pos 1; y = pos 2 }; radius = 3 })) (near (record { x = pos 4; y = pos 5 })) None all_layers)
 row_circle_near = refl
 
-row_nearest : query_of (codes "nearest 2 10 -5") ≡ Query (Find (All (record {})) (near (record { x = pos 10; y = negsuc 4 })) (Some 2))
+row_nearest : query_of (codes "nearest 2 10 -5") ≡ Query (Find (All (record {})) (near (record { x = pos 10; y = negsuc 4 })) (Some 2) all_layers)
 row_nearest = refl
 
-row_count : query_of (codes "count inside 0 15 0 15") ≡ Query (Count (inside_of (rect_of (pos 0) (pos 15) (pos 0) (pos 15))))
+row_count : query_of (codes "count inside 0 15 0 15") ≡ Query (Count (inside_of (rect_of (pos 0) (pos 15) (pos 0) (pos 15))) all_layers)
 row_count = refl
 
 row_levels : query_of (codes "\tlevels  \r") ≡ Query Levels
@@ -38,6 +39,27 @@ row_empty = refl
 
 row_comment : query_of (codes " #find") ≡ Skip
 row_comment = refl
+
+-- ---- layers
+
+row_on : query_of (codes "find all on 3") ≡ Query (Find (All (record {})) (ById (record {})) None (only 3))
+row_on = refl
+
+row_on_two : query_of (codes "find all on 0,3") ≡ Query (Find (All (record {})) (ById (record {})) None (record { bits = 9 }))
+row_on_two = refl
+
+row_on_last : query_of (codes "find all on +63,0063") ≡ Query (Find (All (record {})) (ById (record {})) None (only 63))
+row_on_last = refl
+
+row_count_on : query_of (codes "count all on 0,0") ≡ Query (Count (All (record {})) (only 0))
+row_count_on = refl
+
+-- a circle's usual order is near its centre on layers too
+row_circle_on : query_of (codes "find circle 1 2 3 on 3") ≡ Query (Find (Circle (record { centre = record { x = pos 1; y = pos 2 }; radius = 3 })) (near (record { x = pos 1; y = pos 2 })) None (only 3))
+row_circle_on = refl
+
+row_circle_on_near : query_of (codes "find circle 0 0 2 on 3 near 4 5 first 1") ≡ Query (Find (Circle (record { centre = record { x = pos 0; y = pos 0 }; radius = 2 })) (near (record { x = pos 4; y = pos 5 })) (Some 1) (only 3))
+row_circle_on_near = refl
 
 -- ---- faults, from left to right
 
@@ -72,6 +94,55 @@ row_count_stray = refl
 
 row_levels_stray : query_of (codes "levels x") ≡ Fault fault.StrayWord
 row_levels_stray = refl
+
+row_on_missing : query_of (codes "find all on") ≡ Fault fault.MissingWord
+row_on_missing = refl
+
+row_on_comma_last : query_of (codes "find all on 3,") ≡ Fault fault.NotNumber
+row_on_comma_last = refl
+
+row_on_comma_alone : query_of (codes "find all on ,") ≡ Fault fault.NotNumber
+row_on_comma_alone = refl
+
+-- whatever word follows `on` is the LIST
+row_on_word : query_of (codes "find all on near 1 1") ≡ Fault fault.NotNumber
+row_on_word = refl
+
+row_on_above : query_of (codes "find all on 64") ≡ Fault fault.OutOfRange
+row_on_above = refl
+
+-- the parts of a LIST are judged from left to right
+row_on_above_first : query_of (codes "find all on 64,x") ≡ Fault fault.OutOfRange
+row_on_above_first = refl
+
+row_on_above_later : query_of (codes "find all on x,64") ≡ Fault fault.NotNumber
+row_on_above_later = refl
+
+-- a LIST is one word
+row_on_blank : query_of (codes "find all on 0, 3") ≡ Fault fault.NotNumber
+row_on_blank = refl
+
+row_on_blank_before : query_of (codes "find all on 0 ,3") ≡ Fault fault.StrayWord
+row_on_blank_before = refl
+
+-- the region is judged before the LIST
+row_on_after_region : query_of (codes "find window 10 0 0 10 on x") ≡ Fault fault.MinAboveMax
+row_on_after_region = refl
+
+row_on_twice : query_of (codes "find all on 0 on 3") ≡ Fault fault.StrayWord
+row_on_twice = refl
+
+row_on_after_order : query_of (codes "find all near 1 1 on 0") ≡ Fault fault.StrayWord
+row_on_after_order = refl
+
+row_on_after_limit : query_of (codes "find all first 1 on 3") ≡ Fault fault.StrayWord
+row_on_after_limit = refl
+
+row_on_nearest : query_of (codes "nearest 1 0 0 on 0") ≡ Fault fault.StrayWord
+row_on_nearest = refl
+
+row_on_levels : query_of (codes "levels on 0") ≡ Fault fault.StrayWord
+row_on_levels = refl
 
 -- ---- the lines of a reply
 

@@ -65,11 +65,11 @@ boxes =
 
 abbrev pub boxes_entries : List Entry
 boxes_entries =
-    record { id = pos 1; bounds = rect_of (pos 0) (pos 10) (pos 0) (pos 10) }
-    ∷ record { id = pos 2; bounds = rect_of (pos 5) (pos 15) (pos 5) (pos 15) }
-    ∷ record { id = pos 3; bounds = rect_of (pos 20) (pos 30) (pos 0) (pos 10) }
-    ∷ record { id = pos 4; bounds = rect_of (negsuc 4) (negsuc 0) (negsuc 4) (negsuc 0) }
-    ∷ record { id = pos 5; bounds = rect_of (pos 12) (pos 12) (pos 12) (pos 12) }
+    record { id = pos 1; bounds = rect_of (pos 0) (pos 10) (pos 0) (pos 10); layer = 0 }
+    ∷ record { id = pos 2; bounds = rect_of (pos 5) (pos 15) (pos 5) (pos 15); layer = 0 }
+    ∷ record { id = pos 3; bounds = rect_of (pos 20) (pos 30) (pos 0) (pos 10); layer = 0 }
+    ∷ record { id = pos 4; bounds = rect_of (negsuc 4) (negsuc 0) (negsuc 4) (negsuc 0); layer = 0 }
+    ∷ record { id = pos 5; bounds = rect_of (pos 12) (pos 12) (pos 12) (pos 12); layer = 0 }
     ∷ []
 
 pub boxes_load : load boxes ≡ Ok boxes_entries
@@ -84,7 +84,7 @@ row_nothing : load [] ≡ Ok []
 unfolding csv_on_literals entries_from
 row_nothing = refl
 
-row_one_box : load (line (codes "1,0,10,-3,+4")) ≡ Ok (record { id = pos 1; bounds = rect_of (pos 0) (pos 10) (negsuc 2) (pos 4) } ∷ [])
+row_one_box : load (line (codes "1,0,10,-3,+4")) ≡ Ok (record { id = pos 1; bounds = rect_of (pos 0) (pos 10) (negsuc 2) (pos 4); layer = 0 } ∷ [])
 unfolding csv_on_literals entries_from
 row_one_box = refl
 
@@ -116,9 +116,57 @@ row_header : table_of (line (codes "id") ++ line (codes "1,2")) true 1 ≡ Err (
 unfolding csv_on_literals entries_from
 row_header = refl
 
-row_quoted : table_of (line (codes "id,minX,maxX,minY,maxY") ++ 34 ∷ 49 ∷ 34 ∷ line (codes ",0,10,0,10")) true 1 ≡ Ok (record { id = pos 1; bounds = rect_of (pos 0) (pos 10) (pos 0) (pos 10) } ∷ [])
+row_quoted : table_of (line (codes "id,minX,maxX,minY,maxY") ++ 34 ∷ 49 ∷ 34 ∷ line (codes ",0,10,0,10")) true 1 ≡ Ok (record { id = pos 1; bounds = rect_of (pos 0) (pos 10) (pos 0) (pos 10); layer = 0 } ∷ [])
 unfolding csv_on_literals entries_from
 row_quoted = refl
+
+-- ---- layers, over a table whose second record has none
+
+abbrev pub layered : List ℕ
+layered = line (codes "1,0,10,0,10,3") ++ line (codes "2,5,15,5,15")
+
+abbrev pub layered_entries : List Entry
+layered_entries =
+    record { id = pos 1; bounds = rect_of (pos 0) (pos 10) (pos 0) (pos 10); layer = 3 }
+    ∷ record { id = pos 2; bounds = rect_of (pos 5) (pos 15) (pos 5) (pos 15); layer = 0 }
+    ∷ []
+
+pub layered_load : load layered ≡ Ok layered_entries
+unfolding csv_on_literals entries_from
+layered_load = refl
+
+row_layer_zero : load (line (codes "1,0,10,0,10,+03") ++ line (codes "2,5,15,5,15,-0")) ≡ Ok layered_entries
+unfolding csv_on_literals entries_from
+row_layer_zero = refl
+
+row_layer_above : load (layered ++ line (codes "3,0,0,0,0,64")) ≡ Err (fault.OutOfRange 3 6)
+unfolding csv_on_literals entries_from
+row_layer_above = refl
+
+row_layer_below : load (line (codes "1,0,0,0,0,-1")) ≡ Err (fault.OutOfRange 1 6)
+unfolding csv_on_literals entries_from
+row_layer_below = refl
+
+row_layer_not_number : load (line (codes "1,0,0,0,0,x")) ≡ Err (fault.NotNumber 1 6)
+unfolding csv_on_literals entries_from
+row_layer_not_number = refl
+
+row_layer_empty : load (line (codes "1,0,1,0,1,")) ≡ Err (fault.NotNumber 1 6)
+unfolding csv_on_literals entries_from
+row_layer_empty = refl
+
+-- the layer is judged after the sides are numbers, and before they are compared
+row_layer_after_sides : load (line (codes "1,0,0,0,x,x")) ≡ Err (fault.NotNumber 1 5)
+unfolding csv_on_literals entries_from
+row_layer_after_sides = refl
+
+row_layer_before_minimum : load (line (codes "1,5,4,0,0,64")) ≡ Err (fault.OutOfRange 1 6)
+unfolding csv_on_literals entries_from
+row_layer_before_minimum = refl
+
+row_seven_fields : load (line (codes "1,0,0,0,0,0,0")) ≡ Err (fault.FieldCount 1 7)
+unfolding csv_on_literals entries_from
+row_seven_fields = refl
 
 -- ---- the line of a fault
 

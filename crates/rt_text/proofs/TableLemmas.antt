@@ -8,7 +8,7 @@ use Rattle.rt_text.specs.Steps.{◌>>=◌}
 use Rattle.rt_tree.specs.Entries.{first_repeat, has_id}
 use Rattle.rt_tree.proofs.RepeatLemmas.{first_repeat-push, repeat_with}
 use Rattle.rt_text.specs.Loads.{after_ids, entry_after, first_number, repeat_or}
-use Rattle.rt_text.specs.Tables.{IsRefusal, MayRefuse, entries_from, entry_in, entry_of_fields, fields_wanted, judged, new_entry, records_of, table_of}
+use Rattle.rt_text.specs.Tables.{IsRefusal, MayRefuse, entries_from, entry_in, entry_of_fields, is_field_count, judged, new_entry, records_of, table_of}
 use Rattle.rt_text.specs.declared.tables.TableFault.{TableFault}
 use Rattle.rt_text.specs.declared.tables.TableFault.TheVariants as fault
 
@@ -26,7 +26,7 @@ IsSome-field text None fields place e h = let x : None ≡ Some (get_or fields p
 IsSome-field text (Some a) fields place e h = search rules
 
 -- a record of enough fields
-pub entry_of_fields-enough : (number : ℕ) (fields : List (List ℕ)) → length fields ≡ fields_wanted
+pub entry_of_fields-enough : (number : ℕ) (fields : List (List ℕ)) → is_field_count (length fields) ≡ true
     → entry_of_fields number fields ≡ entry_in number fields
 entry_of_fields-enough number fields n = rw n refl
 

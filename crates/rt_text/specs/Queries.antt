@@ -1,9 +1,12 @@
 -- What a query line asks: a recursion on its words from left to right, whose first fault is the line's.
 use Rattle.std.specs.Prelude.{◌≡◌, ℕ, zero, suc, ◌-◌, ◌^◌, ◌==◌, ℤ, pos, int_lt, unsigned_abs, Bool, false, ◌||◌, if◌then◌else◌, List, [], ◌∷◌, Option, Some, None, Result, Ok, Err, codes}
+use Rattle.std.specs.List.{slice_split}
 use Rattle.std.specs.Str.{bytes_eq}
 use Rattle.std.specs.Str.Lines.{strip_carriage_return}
 use Rattle.rt_geo.specs.Boxes.{Rect, greatest_coordinate, least_coordinate, rect_of}
+use Rattle.rt_geo.specs.Layers.{all_layers, most_layer, no_layers, only, union}
 use Rattle.rt_geo.specs.declared.distance.Point.{Point}
+use Rattle.rt_geo.specs.declared.layers.Layers.{Layers}
 use Rattle.rt_geo.specs.declared.order.Order.{Order}
 use Rattle.rt_geo.specs.declared.order.Order.TheVariants.{ById, Near, Smallest}
 use Rattle.rt_geo.specs.Polygons.{polygon_of}
@@ -146,6 +149,43 @@ region (name ∷ more) =
     else if bytes_eq name (codes "polygon") then taken_as Polygon (polygon more)
     else Err fault.UnknownRegion
 
+-- ---- layers
+
+-- a comma, which is 44
+abbrev pub is_comma : ℕ → Bool
+is_comma c = c == 44
+
+-- a part of a LIST: a number from 0 to 63
+abbrev pub layer_part : List ℕ → Result ℕ QueryFault
+layer_part part = do
+  layer ← map_fault number_fault (number_in (pos 0) (pos most_layer) part)
+  Ok (unsigned_abs layer)
+
+-- the layers so far, and those of the parts, judged from left to right
+abbrev pub layers_from : (so_far : Layers) → (parts : List (List ℕ)) → Result Layers QueryFault
+layers_from so_far [] = Ok so_far
+layers_from so_far (part ∷ more) = do
+  layer ← layer_part part
+  layers_from (union so_far (only layer)) more
+
+-- the layers of a LIST, whose parts stand between commas
+abbrev pub layers_of : List ℕ → Result Layers QueryFault
+layers_of list = layers_from no_layers (slice_split is_comma list)
+
+-- a word that is a LIST
+abbrev pub list_word : List (List ℕ) → Result (Taken Layers) QueryFault
+list_word [] = Err fault.MissingWord
+list_word (word ∷ more) = do
+  layers ← layers_of word
+  Ok (layers, more)
+
+-- `on LIST`, where it stands next; all layers where it doesn't
+abbrev pub on_list : List (List ℕ) → Result (Taken Layers) QueryFault
+on_list [] = Ok (all_layers, [])
+on_list (word ∷ more) =
+    if bytes_eq word (codes "on") then list_word more
+    else Ok (all_layers, word ∷ more)
+
 -- ---- orders and limits
 
 -- nearest to a point first
@@ -183,26 +223,28 @@ abbrev pub finished : Query → List (List ℕ) → Result Query QueryFault
 finished query [] = Ok query
 finished query (word ∷ more) = Err fault.StrayWord
 
--- the words after `find`: a region, an order, a limit
+-- the words after `find`: a region, its layers, an order, a limit
 abbrev pub find : List (List ℕ) → Result Query QueryFault
 find words = do
   found ← region words
-  ordered ← order found.0 found.1
+  on ← on_list found.1
+  ordered ← order found.0 on.1
   limited ← limit ordered.1
-  finished (Find found.0 ordered.0 limited.0) limited.1
+  finished (Find found.0 ordered.0 limited.0 on.0) limited.1
 
 -- the words after `nearest`: K X Y, which is `find all near X Y first K`
 abbrev pub nearest : List (List ℕ) → Result Query QueryFault
 nearest words = do
   limited ← natural_word greatest_limit words
   centre ← point limited.1
-  finished (Find (All (record {})) (near centre.0) (Some limited.0)) centre.1
+  finished (Find (All (record {})) (near centre.0) (Some limited.0) all_layers) centre.1
 
--- the words after `count`: a region
+-- the words after `count`: a region, its layers
 abbrev pub count : List (List ℕ) → Result Query QueryFault
 count words = do
   found ← region words
-  finished (Count found.0) found.1
+  on ← on_list found.1
+  finished (Count found.0 on.0) on.1
 
 -- a query by its first word
 abbrev pub query : List (List ℕ) → Result Query QueryFault

@@ -1,8 +1,9 @@
 -- The table that a text of CSV gives, or what is wrong with it.
 use Rattle.std.specs.List.{slice_index_or}
-use Rattle.std.specs.Prelude.{◌≡◌, ◌⊎◌, ◌==◌, ℕ, ◌+◌, ◌-◌, ◌^◌, ℤ, pos, ◌-ℤ◌, int_lt, nat_le, Bool, true, false, if◌then◌else◌, List, [], ◌∷◌, ◌++◌, length, drop, Result, Ok, Err}
+use Rattle.std.specs.Prelude.{◌≡◌, ◌⊎◌, ◌==◌, ℕ, ◌+◌, ◌-◌, ◌^◌, ℤ, pos, ◌-ℤ◌, int_lt, nat_le, unsigned_abs, Bool, true, false, ◌||◌, if◌then◌else◌, List, [], ◌∷◌, ◌++◌, length, drop, Result, Ok, Err}
 use Rattle.csv.specs.Reading.{default_config, records, strip_bom}
 use Rattle.rt_geo.specs.Boxes.{greatest_coordinate, least_coordinate, rect_of}
+use Rattle.rt_geo.specs.Layers.{most_layer}
 use Rattle.rt_geo.specs.declared.entry.Entry.{Entry}
 use Rattle.rt_tree.specs.Entries.{has_id}
 use Rattle.rt_text.specs.Numbers.{number_in}
@@ -32,20 +33,39 @@ abbrev pub coordinate_of : (number field : ℕ) → List ℕ → Result ℤ Tabl
 coordinate_of number field text =
     map_fault (field_fault number field) (number_in least_coordinate greatest_coordinate text)
 
--- the entry of an id and the four sides of its box
-abbrev pub entry_of_sides : (number : ℕ) → (id min_x max_x min_y max_y : ℤ) → Result Entry TableFault
-entry_of_sides number id min_x max_x min_y max_y =
+-- the entry of an id, the four sides of its box and its layer
+abbrev pub entry_of_sides : (number : ℕ) → (id min_x max_x min_y max_y : ℤ) → (layer : ℕ) → Result Entry TableFault
+entry_of_sides number id min_x max_x min_y max_y layer =
     if int_lt max_x min_x then Err (fault.MinAboveMax number axis.X)
     else if int_lt max_y min_y then Err (fault.MinAboveMax number axis.Y)
-    else Ok (record { id = id; bounds = rect_of min_x max_x min_y max_y })
+    else Ok (record { id = id; bounds = rect_of min_x max_x min_y max_y; layer = layer })
 
--- how many fields a record has: an id and the four sides of its box
-abbrev pub fields_wanted : ℕ
-fields_wanted = 5
+-- how many fields a record without a layer has: an id and the four sides of its box
+abbrev pub fields_without_layer : ℕ
+fields_without_layer = 5
+
+-- how many fields a record with a layer has: the layer stands last
+abbrev pub fields_with_layer : ℕ
+fields_with_layer = 6
+
+-- a record may have so many fields
+abbrev pub is_field_count : ℕ → Bool
+is_field_count found = found == fields_without_layer || found == fields_with_layer
 
 -- the text of the field at a place, counted from 0
 abbrev pub field_text : List (List ℕ) → (place : ℕ) → List ℕ
 field_text fields place = slice_index_or fields place []
+
+-- the sixth field, a number from 0 to 63
+abbrev pub layer_of : (number : ℕ) → List ℕ → Result ℕ TableFault
+layer_of number text = do
+  layer ← map_fault (field_fault number 6) (number_in (pos 0) (pos most_layer) text)
+  Ok (unsigned_abs layer)
+
+-- the layer of a record, which is 0 where it has no sixth field
+abbrev pub layer_in : (number : ℕ) → List (List ℕ) → Result ℕ TableFault
+layer_in number fields =
+    if length fields == fields_without_layer then Ok 0 else layer_of number (field_text fields 5)
 
 -- the entry of a record's fields, of which there are enough: from left to right, then its sides
 abbrev pub entry_in : (number : ℕ) → List (List ℕ) → Result Entry TableFault
@@ -55,12 +75,13 @@ entry_in number fields = do
   max_x ← coordinate_of number 3 (field_text fields 2)
   min_y ← coordinate_of number 4 (field_text fields 3)
   max_y ← coordinate_of number 5 (field_text fields 4)
-  entry_of_sides number id min_x max_x min_y max_y
+  layer ← layer_in number fields
+  entry_of_sides number id min_x max_x min_y max_y layer
 
 -- the entry of a record: the number of its fields, then the fields
 abbrev pub entry_of_fields : (number : ℕ) → List (List ℕ) → Result Entry TableFault
 entry_of_fields number fields =
-    if length fields == fields_wanted then entry_in number fields
+    if is_field_count (length fields) then entry_in number fields
     else Err (fault.FieldCount number (length fields))
 
 -- the entry, where no entry so far has its id

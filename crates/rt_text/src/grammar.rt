@@ -6,15 +6,16 @@
 ghost use Rattle.std.specs.Prelude.{◌≡◌, ◌≤◌, ◌≤ℤ◌, ◌∷◌, [], ℕ, IfErr, IfOk, List, MatchOption, Some, Ok, Err};
 ghost use Rattle.std.specs.Str.Lines.{strip_carriage_return};
 ghost use Rattle.rt_text.specs.Numbers.{number_text};
-ghost use Rattle.rt_text.specs.Queries.{Takes, circle, coordinate, count, find, finished, is_comment, limit, natural_word, nearest, number_fault, number_word, order, point, points, polygon, query, query_of, region, sides, usual_order, vertex_count};
+ghost use Rattle.rt_geo.specs.Layers.{most_layer};
+ghost use Rattle.rt_text.specs.Queries.{Takes, circle, coordinate, count, find, finished, is_comma, is_comment, layer_part, layers_of, limit, list_word, natural_word, nearest, number_fault, number_word, on_list, order, point, points, polygon, query, query_of, region, sides, usual_order, vertex_count};
 
 use crate::numbers::{NumberFault, number};
 use crate::query::{Parsed, Query, QueryFault};
 use crate::words::Words;
 use arrayvec::ArrayVec;
 use rt_geo::{
-    All, Bounds, ById, Circle, Covers, Inside, Near, Order, Point, Polygon, PolygonFault, Region,
-    Smallest, Window,
+    All, Bounds, ById, Circle, Covers, Inside, Layers, Near, Order, Point, Polygon, PolygonFault,
+    Region, Smallest, Window,
 };
 
 /// The fewest vertices of a polygon.
@@ -81,12 +82,14 @@ fn find(words: &mut Words) -> Result<Query, QueryFault>
     ensures { result ≡ find words.old }
 {
     let region = region(words)?;
+    let layers = on_list(words)?;
     let order = order(&region, words)?;
     let limit = limit(words)?;
     let query = Query::Find {
         region,
         order,
         limit,
+        layers,
     };
     finished(query, words)
 }
@@ -100,6 +103,7 @@ fn nearest(words: &mut Words) -> Result<Query, QueryFault>
         region: Region::All(All),
         order: Order::Near(Near(centre)),
         limit: Some(limit),
+        layers: Layers::all(),
     };
     finished(query, words)
 }
@@ -108,7 +112,8 @@ fn count(words: &mut Words) -> Result<Query, QueryFault>
     ensures { result ≡ count words.old }
 {
     let region = region(words)?;
-    finished(Query::Count { region }, words)
+    let layers = on_list(words)?;
+    finished(Query::Count { region, layers }, words)
 }
 
 #[inline(always)]
@@ -118,6 +123,53 @@ fn finished(query: Query, words: &mut Words) -> Result<Query, QueryFault>
     match words.next() {
         None => Ok(query),
         Some(_) => Err(QueryFault::StrayWord),
+    }
+}
+
+// ---- layers
+
+// Kept out of line, with what only lines with `on` have need of: in line it made all others slower.
+#[inline(never)]
+fn on_list(words: &mut Words) -> Result<Layers, QueryFault>
+    ensures { Takes (on_list words.old) result words.new }
+{
+    let mut ahead = words.ahead();
+    let Some(word) = ahead.next() else {
+        return Ok(Layers::all());
+    };
+    if word == b"on".as_slice() {
+        *words = ahead;
+        list_word(words)
+    } else {
+        Ok(Layers::all())
+    }
+}
+
+#[inline(never)]
+fn list_word(words: &mut Words) -> Result<Layers, QueryFault>
+    ensures { Takes (list_word words.old) result words.new }
+{
+    let list = next_word(words)?;
+    layers_of(list)
+}
+
+fn layers_of(list: &[u8]) -> Result<Layers, QueryFault>
+    ensures { result ≡ layers_of list.now }
+{
+    let mut layers = Layers::new(0);
+    for part in list.split(|byte| *byte == b',') {
+        layers = layers.union(Layers::of(layer_part(part)?));
+    }
+    Ok(layers)
+}
+
+fn layer_part(part: &[u8]) -> Result<u8, QueryFault>
+    ensures value { result ≡ layer_part part.now }
+    ensures within { IfOk result (λ layer. layer ≤ most_layer) }
+{
+    match number(part, 0, i128::from(Layers::MOST)) {
+        Ok(layer) => Ok(layer.unsigned_abs() as u8),
+        Err(fault) => Err(number_fault(fault)),
     }
 }
 

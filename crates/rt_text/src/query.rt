@@ -1,19 +1,21 @@
 //! What a query line asks.
 
-use rt_geo::{Order, Region};
+use rt_geo::{Layers, Order, Region};
 
 /// A query.
 #[derive(Debug, PartialEq, Eq, Drop)]
 pub enum Query {
-    /// The boxes that the region accepts, in order, the first so many where there is a limit.
+    /// The boxes on the layers that the region accepts, in order, the first so many where there is a limit.
     Find {
         region: Region,
         order: Order,
         limit: Option<u64>,
+        layers: Layers,
     },
-    /// How many boxes the region accepts.
+    /// How many boxes on the layers the region accepts.
     Count {
         region: Region,
+        layers: Layers,
     },
     /// How many entries or nodes stand on each level of the tree.
     Levels,

@@ -2,24 +2,28 @@
 //!
 //! Records are those of `csv` with its usual settings, of any number of fields: commas, fields in double
 //! quotes with quotes doubled inside, ends by LF, CR or both, empty lines and a byte order mark passed over.
-//! A record is five numbers: an id, the least and the greatest x, the least and the greatest y.
+//! A record is five numbers: an id, the least and the greatest x, the least and the greatest y. A sixth may follow, the
+//! layer, which is 0 where it doesn't stand.
 
 ghost use Rattle.std.specs.Prelude.{◌≡◌, ◌≤ℤ◌, ◌+◌, ◌<◌, ◌≤◌, ◌++◌, ◌∷◌, [], length, ◌⊎◌, true, List, ℕ};
 ghost use Rattle.std.specs.Prelude.{Result, Ok, Some, None, IsOkAnd, IfOk, IfErr, OnErr, OnOk};
+ghost use Rattle.std.specs.List.{All};
 ghost use Rattle.csv.specs.Reading.{default_config, has_failed, is_flexible, Ready, ReadRecord, reader_config, reader_trim};
 ghost use Rattle.csv.specs.Records.{fields_of};
 ghost use Rattle.csv.specs.declared.reader.Trim.TheVariants as trim;
+ghost use Rattle.rt_geo.specs.Entries.{HasLayer};
+ghost use Rattle.rt_geo.specs.Layers.{most_layer};
 ghost use Rattle.rt_geo.specs.declared.entry.Entry.{Entry};
 ghost use Rattle.rt_tree.specs.Entries.{first_repeat, most_entries};
 ghost use Rattle.rt_text.specs.Loads.{EndsAt, after_ids, entry_after, first_number};
 ghost use Rattle.rt_text.specs.Numbers.{number_in};
 ghost use Rattle.rt_text.specs.Steps.{map_fault};
 ghost use Rattle.rt_text.specs.Tables.{IsRefusal, MayRefuse, coordinate_of, entry_of_fields, entry_of_sides};
-ghost use Rattle.rt_text.specs.Tables.{field_fault, field_text, id_of, table_of};
+ghost use Rattle.rt_text.specs.Tables.{field_fault, field_text, fields_without_layer, id_of, layer_in, layer_of, table_of};
 
 use crate::numbers::{self, NumberFault};
 use csv::{ByteRecord, Reader, ReaderBuilder};
-use rt_geo::{Bounds, Entry};
+use rt_geo::{Bounds, Entry, Layers};
 use rt_tree::{EntriesFault, Table};
 use std::alloc::Global;
 use std::io::Read;
@@ -36,7 +40,7 @@ pub enum Axis {
 pub enum TableFault {
     /// The record comes after as many entries as are allowed.
     TooMany { number: u32 },
-    /// The record doesn't have five fields.
+    /// The record has neither five nor six fields.
     FieldCount { number: u32, found: u64 },
     /// The field is no number.
     NotNumber { number: u32, field: u8 },
@@ -52,8 +56,11 @@ pub enum TableFault {
     Memory,
 }
 
-/// The number of fields of a record: `id`, `minX`, `maxX`, `minY` and `maxY`.
-const FIELDS: usize = 5;
+/// The number of fields of a record without a layer: `id`, `minX`, `maxX`, `minY` and `maxY`.
+const FIELDS_WITHOUT_LAYER: usize = 5;
+
+/// The number of fields of a record whose layer stands behind these.
+const FIELDS_WITH_LAYER: usize = 6;
 
 /// The table that a reader's bytes give: at most `max` boxes, each under an id of its own. With `header` the
 /// first record is counted and not judged. Where records are at fault, the first such is told; `Read` and `Memory`
@@ -91,6 +98,7 @@ fn read_entries<R: Read + Drop>(
     requires none { entries.old.items ≡ [] }
     requires most { max ≤ most_entries }
     ensures few { length entries.new.items ≤ max }
+    ensures layers { All HasLayer entries.new.items }
     ensures end { (bytes : List ℕ)
         → R.remaining reader ≡ Some bytes → EndsAt result header entries.new.items (table_of bytes header max) }
 {
@@ -114,7 +122,8 @@ fn read_entries<R: Read + Drop>(
 
 // The table of the entries that were read, if no id comes again.
 fn table_of_entries(alloc: Global, header: bool, entries: Vec<Entry>) -> Result<Table, TableFault>
-    requires { length entries.items ≤ most_entries }
+    requires most { length entries.items ≤ most_entries }
+    requires layers { All HasLayer entries.items }
     ensures table { IfOk result (λ table. table ≡ entries.items) }
     ensures once { IfOk result (λ _. first_repeat entries.items ≡ None) }
     ensures fault { IfErr result (λ cause. (rest : Result (List Entry) TableFault)
@@ -167,9 +176,11 @@ fn add_entry(
     fields: &ByteRecord,
     entries: &mut Vec<Entry>,
 ) -> Result<(), TableFault>
+    requires { All HasLayer entries.old.items }
     ensures added { OnOk result (IsOkAnd (entry_after max number entries.old.items (fields_of fields.now))
         (λ entry. entries.new.items ≡ entries.old.items ++ entry ∷ [])) }
     ensures few { OnOk result (length entries.new.items ≤ max) }
+    ensures layers { All HasLayer entries.new.items }
     ensures fault { IfErr result (λ cause.
         IsRefusal cause (entry_after max number entries.old.items (fields_of fields.now))) }
     ensures err { OnErr result (entries.new.items ≡ entries.old.items) }
@@ -186,10 +197,11 @@ fn add_entry(
 
 // The entry of a record's fields.
 fn entry_of(number: u32, fields: &ByteRecord) -> Result<Entry, TableFault>
-    ensures { result ≡ entry_of_fields number (fields_of fields.now) }
+    ensures value { result ≡ entry_of_fields number (fields_of fields.now) }
+    ensures layer { IfOk result HasLayer }
 {
     let found = fields.len();
-    if found != FIELDS {
+    if found != FIELDS_WITHOUT_LAYER && found != FIELDS_WITH_LAYER {
         return Err(TableFault::FieldCount {
             number,
             found: found as u64,
@@ -200,7 +212,8 @@ fn entry_of(number: u32, fields: &ByteRecord) -> Result<Entry, TableFault>
     let max_x = coordinate_of(number, 3, field(fields, 2))?;
     let min_y = coordinate_of(number, 4, field(fields, 3))?;
     let max_y = coordinate_of(number, 5, field(fields, 4))?;
-    entry_of_sides(number, id, min_x, max_x, min_y, max_y)
+    let layer = layer_in(number, fields)?;
+    entry_of_sides(number, id, min_x, max_x, min_y, max_y, layer)
 }
 
 // The field at a place that is there.
@@ -231,6 +244,28 @@ fn coordinate_of(number: u32, field: u8, text: &[u8]) -> Result<i32, TableFault>
     )? as i32)
 }
 
+// The layer of a record.
+fn layer_in(number: u32, fields: &ByteRecord) -> Result<u8, TableFault>
+    requires { fields_without_layer ≤ length (fields_of fields.now) }
+    ensures value { result ≡ layer_in number (fields_of fields.now) }
+    ensures within { IfOk result (λ layer. layer ≤ most_layer) }
+{
+    if fields.len() == FIELDS_WITHOUT_LAYER {
+        Ok(0)
+    } else {
+        layer_of(number, field(fields, 5))
+    }
+}
+
+// The sixth field.
+fn layer_of(number: u32, text: &[u8]) -> Result<u8, TableFault>
+    ensures value { result ≡ layer_of number text.now }
+    ensures within { IfOk result (λ layer. layer ≤ most_layer) }
+{
+    let layer = number_of(number, 6, text, 0, i64::from(Layers::MOST))?;
+    Ok(layer.unsigned_abs() as u8)
+}
+
 // The number of a field, within its range.
 fn number_of(number: u32, field: u8, text: &[u8], low: i64, high: i64) -> Result<i64, TableFault>
     ensures value { result ≡ map_fault (field_fault number field) (number_in low high text.now) }
@@ -243,7 +278,7 @@ fn number_of(number: u32, field: u8, text: &[u8], low: i64, high: i64) -> Result
     }
 }
 
-// The entry of an id and the four sides of its box.
+// The entry of an id, the four sides of its box and its layer.
 fn entry_of_sides(
     number: u32,
     id: i64,
@@ -251,11 +286,14 @@ fn entry_of_sides(
     max_x: i32,
     min_y: i32,
     max_y: i32,
+    layer: u8,
 ) -> Result<Entry, TableFault>
-    ensures { result ≡ entry_of_sides number id min_x max_x min_y max_y }
+    requires { layer ≤ most_layer }
+    ensures value { result ≡ entry_of_sides number id min_x max_x min_y max_y layer }
+    ensures layer { IfOk result HasLayer }
 {
     match Bounds::new(min_x, max_x, min_y, max_y) {
-        Some(bounds) => Ok(Entry { id, bounds }),
+        Some(bounds) => Ok(Entry { id, bounds, layer }),
         None if min_x > max_x => Err(TableFault::MinAboveMax {
             number,
             axis: Axis::X,

@@ -1,8 +1,8 @@
 //! Query lines, and what each asks or is told. The expectations were worked out by hand.
 
 use rt_geo::{
-    All, Bounds, ById, Circle, Covers, Inside, Near, Order, Point, Polygon, Region, Smallest,
-    Window,
+    All, Bounds, ById, Circle, Covers, Inside, Layers, Near, Order, Point, Polygon, Region,
+    Smallest, Window,
 };
 use rt_text::{Parsed, Query, QueryFault, parse};
 use std::test::Fail;
@@ -63,9 +63,60 @@ static FAULTS: [(&[u8], QueryFault); 46] = [
     (b"levels x", QueryFault::StrayWord),
 ];
 
+/// The same of lines with `on`.
+static LAYER_FAULTS: [(&[u8], QueryFault); 37] = [
+    (b"find all on", QueryFault::MissingWord),
+    (b"count all on", QueryFault::MissingWord),
+    (b"find all on \t", QueryFault::MissingWord),
+    (b"find all on 3,", QueryFault::NotNumber),
+    (b"find all on ,", QueryFault::NotNumber),
+    (b"find all on ,3", QueryFault::NotNumber),
+    (b"find all on 0,,3", QueryFault::NotNumber),
+    (b"find all on near 1 1", QueryFault::NotNumber),
+    (b"find all on first 1", QueryFault::NotNumber),
+    (b"find all on on", QueryFault::NotNumber),
+    (b"find all on x,64", QueryFault::NotNumber),
+    (b"find all on 0;3", QueryFault::NotNumber),
+    (b"find all on 0, 3", QueryFault::NotNumber),
+    (b"find all on 3+", QueryFault::NotNumber),
+    (b"find all on 64", QueryFault::OutOfRange),
+    (b"find all on 65", QueryFault::OutOfRange),
+    (b"find all on -1", QueryFault::OutOfRange),
+    (b"find all on 64,x", QueryFault::OutOfRange),
+    (b"find all on 63,64,", QueryFault::OutOfRange),
+    (
+        b"find all on 340282366920938463463374607431768211456",
+        QueryFault::OutOfRange,
+    ),
+    (b"count all on 0,256", QueryFault::OutOfRange),
+    (b"find window 10 0 0 10 on x", QueryFault::MinAboveMax),
+    (b"find polygon 3 0 0 5 5 10 10 on 64", QueryFault::NotConvex),
+    (b"find all on 0 ,3", QueryFault::StrayWord),
+    (b"find all on 0 3", QueryFault::StrayWord),
+    (b"find all on 0 on 3", QueryFault::StrayWord),
+    (b"find all near 1 1 on 0", QueryFault::StrayWord),
+    (b"find all smallest on 0", QueryFault::StrayWord),
+    (b"find all first 1 on 3", QueryFault::StrayWord),
+    (b"find all On 3", QueryFault::StrayWord),
+    (b"find all ones 3", QueryFault::StrayWord),
+    (b"nearest 1 0 0 on 0", QueryFault::StrayWord),
+    (b"levels on 0", QueryFault::StrayWord),
+    (b"count all on 0 near 1 1", QueryFault::StrayWord),
+    (b"count all on 0 first 1", QueryFault::StrayWord),
+    (b"count all on 0 on 0", QueryFault::StrayWord),
+    (b"find on 3 all", QueryFault::UnknownRegion),
+];
+
 #[test]
 fn faults(rt: HostRuntime) {
     for (line, fault) in &FAULTS {
+        assert_eq!(rt; parse(*line), Parsed::Fault(*fault));
+    }
+}
+
+#[test]
+fn faults_of_layers(rt: HostRuntime) {
+    for (line, fault) in &LAYER_FAULTS {
         assert_eq!(rt; parse(*line), Parsed::Fault(*fault));
     }
 }
@@ -78,12 +129,18 @@ fn skipped_lines(rt: HostRuntime) {
     }
 }
 
-// What `find` asks with this region, order and limit.
+// What `find` asks with this region, order and limit, and without `on`.
 fn find(region: Region, order: Order, limit: Option<u64>) -> Parsed {
+    find_on(region, order, limit, Layers::new(u64::MAX))
+}
+
+// What `find` asks with this region, order, limit and layers.
+fn find_on(region: Region, order: Order, limit: Option<u64>, layers: Layers) -> Parsed {
     Parsed::Query(Query::Find {
         region,
         order,
         limit,
+        layers,
     })
 }
 
@@ -173,8 +230,86 @@ fn counts_and_levels(rt: HostRuntime) {
     assert_eq!(rt;
         parse(b"count all"),
         Parsed::Query(Query::Count {
-            region: Region::All(All)
+            region: Region::All(All),
+            layers: Layers::new(u64::MAX),
         })
     );
     assert_eq!(rt; parse(b"levels\r"), Parsed::Query(Query::Levels));
+}
+
+/// Lists of layers, and the bits of the set of each.
+static LISTS: [(&[u8], u64); 12] = [
+    (b"0", 1),
+    (b"3", 8),
+    (b"0,3", 9),
+    (b"3,0", 9),
+    (b"0,0", 1),
+    (b"63", 1 << 63),
+    (b"63,62,61,0", 0xe000_0000_0000_0001),
+    (b"+3", 8),
+    (b"-0", 1),
+    (b"0063,+001,1", 0x8000_0000_0000_0002),
+    (
+        b"00000000000000000000000000000000000000000000000000000000000007",
+        128,
+    ),
+    (
+        b"0,1,2,3,4,5,6,7,8,9,10,11,12,13,14,15,16,17,18,19,20,21,22,23,24,25,26,27,28,29,30,31,32,33,34,35,36,37,38,39,40,41,42,43,44,45,46,47,48,49,50,51,52,53,54,55,56,57,58,59,60,61,62,63",
+        u64::MAX,
+    ),
+];
+
+#[test]
+fn lists_of_layers(rt: HostRuntime) -> Result<(), Fail> {
+    for (list, bits) in &LISTS {
+        let mut line = Vec::new(rt.alloc());
+        line.extend_from_slice(b"count all on ")?;
+        line.extend_from_slice(*list)?;
+        assert_eq!(rt;
+            parse(&line),
+            Parsed::Query(Query::Count {
+                region: Region::All(All),
+                layers: Layers::new(*bits),
+            })
+        );
+    }
+    Ok(())
+}
+
+#[test]
+fn layers_of_a_find(rt: HostRuntime) {
+    let by_id = Order::ById(ById);
+    let three = Layers::of(3);
+    assert_eq!(rt;
+        parse(b"find all on 3"),
+        find_on(Region::All(All), by_id, None, three)
+    );
+    assert_eq!(rt;
+        parse(b"find all \ton  3 first 2\r"),
+        find_on(Region::All(All), by_id, Some(2), three)
+    );
+    assert_eq!(rt;
+        parse(b"find all on 3 smallest first 2"),
+        find_on(Region::All(All), Order::Smallest(Smallest), Some(2), three)
+    );
+    // A circle is ordered near its centre on layers too, where no other order stands.
+    let centre = Point { x: 1, y: 2 };
+    assert_eq!(rt;
+        parse(b"find circle 1 2 3 on 0,3"),
+        find_on(
+            Region::Circle(Circle { centre, radius: 3 }),
+            Order::Near(Near(centre)),
+            None,
+            Layers::new(9)
+        )
+    );
+    assert_eq!(rt;
+        parse(b"find circle 1 2 3 on 3 near 5 -6 first 1"),
+        find_on(
+            Region::Circle(Circle { centre, radius: 3 }),
+            Order::Near(Near(Point { x: 5, y: -6 })),
+            Some(1),
+            three
+        )
+    );
 }

@@ -35,7 +35,7 @@ fn gave(loaded: &Result<Table, TableFault>, boxes: &[(i64, [i32; 4])]) -> bool {
 }
 
 // Texts, and the fault of each.
-const FAULTS: [(&[u8], TableFault); 21] = [
+const FAULTS: [(&[u8], TableFault); 22] = [
     (
         b"1,0,1,0\n",
         TableFault::FieldCount {
@@ -45,9 +45,16 @@ const FAULTS: [(&[u8], TableFault); 21] = [
     ),
     (
         b"1,0,1,0,1,\n",
+        TableFault::NotNumber {
+            number: 1,
+            field: 6,
+        },
+    ),
+    (
+        b"1,0,1,0,1,0,0\n",
         TableFault::FieldCount {
             number: 1,
-            found: 6,
+            found: 7,
         },
     ),
     (
@@ -185,6 +192,125 @@ fn faults_of_texts(rt: HostRuntime) {
     for (text, wanted) in FAULTS {
         assert_eq!(rt; fault_of(rt.alloc(), text), Some(wanted));
     }
+}
+
+// Texts whose layers are at fault, and the fault of each.
+const LAYER_FAULTS: [(&[u8], TableFault); 10] = [
+    (
+        b"1,0,10,0,10,3\n2,5,15,5,15\n3,0,0,0,0,64\n",
+        TableFault::OutOfRange {
+            number: 3,
+            field: 6,
+        },
+    ),
+    (
+        b"1,0,0,0,0,-1\n",
+        TableFault::OutOfRange {
+            number: 1,
+            field: 6,
+        },
+    ),
+    (
+        b"1,0,0,0,0,99999999999999999999999999999999999999999999999999\n",
+        TableFault::OutOfRange {
+            number: 1,
+            field: 6,
+        },
+    ),
+    (
+        b"1,0,0,0,0,x\n",
+        TableFault::NotNumber {
+            number: 1,
+            field: 6,
+        },
+    ),
+    (
+        b"1,0,0,0,0, 3\n",
+        TableFault::NotNumber {
+            number: 1,
+            field: 6,
+        },
+    ),
+    (
+        b"1,0,0,0,0,+\n",
+        TableFault::NotNumber {
+            number: 1,
+            field: 6,
+        },
+    ),
+    // The layer is judged after the fields in front of it, and before the sides are compared and the ids are.
+    (
+        b"1,0,0,0,x,y\n",
+        TableFault::NotNumber {
+            number: 1,
+            field: 5,
+        },
+    ),
+    (
+        b"1,5,4,1,0,64\n",
+        TableFault::OutOfRange {
+            number: 1,
+            field: 6,
+        },
+    ),
+    (
+        b"1,5,4,1,0,63\n",
+        TableFault::MinAboveMax {
+            number: 1,
+            axis: Axis::X,
+        },
+    ),
+    (
+        b"1,0,0,0,0,1\n1,0,0,0,0,2\n1,0,0,0,0,64\n",
+        TableFault::Repeated { number: 2 },
+    ),
+];
+
+#[test]
+fn faults_of_layers(rt: HostRuntime) {
+    for (text, wanted) in LAYER_FAULTS {
+        assert_eq!(rt; fault_of(rt.alloc(), text), Some(wanted));
+    }
+}
+
+// Whether a load gave entries of just these layers, in this order.
+fn gave_layers(loaded: &Result<Table, TableFault>, layers: &[u8]) -> bool {
+    match loaded {
+        Ok(table) => {
+            table.entries().len() == layers.len()
+                && table
+                    .entries()
+                    .iter()
+                    .zip(layers)
+                    .all(|(entry, layer)| entry.layer == *layer)
+        }
+        Err(_) => false,
+    }
+}
+
+#[test]
+fn records_with_and_without_a_layer(rt: HostRuntime) {
+    let text = b"5,0,0,0,0\n4,1,1,1,1,63\n3,2,2,2,2,0\n2,3,3,3,3\n1,4,4,4,4,\"+7\"\n\
+        0,5,5,5,5,-0\n-1,6,6,6,6,000000000000000000000000000000000000000009\n";
+    let loaded = read_table(rt.alloc(), &text[..], false, ROOM);
+    assert!(rt; gave_layers(&loaded, &[0, 63, 0, 0, 7, 0, 9]));
+    let boxes = [
+        (5, [0; 4]),
+        (4, [1; 4]),
+        (3, [2; 4]),
+        (2, [3; 4]),
+        (1, [4; 4]),
+        (0, [5; 4]),
+        (-1, [6; 4]),
+    ];
+    assert!(rt; gave(&loaded, &boxes));
+    // A header may name the layer, or not.
+    let text = b"id,minX,maxX,minY,maxY,layer\n1,0,0,0,0\n2,0,0,0,0,3\n";
+    let loaded = read_table(rt.alloc(), &text[..], true, ROOM);
+    assert!(rt; gave_layers(&loaded, &[0, 3]));
+    let text = b"id,minX,maxX,minY,maxY\n1,0,0,0,0,3\n2,0,0,0,0\n";
+    let loaded = read_table(rt.alloc(), &text[..], true, ROOM);
+    assert!(rt; gave_layers(&loaded, &[3, 0]));
 }
 
 #[test]

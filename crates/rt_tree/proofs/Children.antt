@@ -11,6 +11,7 @@ use Rattle.std.proofs.lemmas.List.Sorted.{IsPermutation-refl, IsPermutation-sym,
 use Rattle.std.proofs.lemmas.List.Sorted.{IsPermutation-trans}
 use Rattle.rt_geo.specs.declared.entry.Entry.{Entry}
 use Rattle.rt_tree.specs.Packed.{Packed, IsSubtree, all_child_entries, all_child_nodes, child_entries, child_nodes}
+use Rattle.rt_tree.specs.Packed.{extent_of_node}
 use Rattle.rt_tree.specs.Packing.{joined, nodes_over}
 use Rattle.rt_tree.specs.declared.tree.Node.{Node}
 use Rattle.rt_tree.proofs.LevelOrder.{AreOn}
@@ -56,14 +57,14 @@ module _ (fanout : ℕ) (es : List Entry) where
   -- ---- right under the nodes over groups stand the groups
 
   over_children : (ns : List Node) (level : ℕ) (gs : List (List Node)) (front : List Node) → ns ≡ front ++ joined gs
-      → flat_map (child_nodes (tree fanout es ns)) (nodes_over (λ n. n.bounds) (λ n. n.size) level
+      → flat_map (child_nodes (tree fanout es ns)) (nodes_over extent_of_node (λ n. n.size) level
       (length front) gs) ≡ joined gs
   over_children ns level [] front is = refl
   over_children ns level (g ∷ gs) front is =
       let here : take (length g) (drop (length front) ns) ≡ g = ap (λ l. take (length g) (drop
       (length front) l)) is ∙ group_at front g (joined gs) in
       let behind : ns ≡ (front ++ g) ++ joined gs = is ∙ sym (append_assoc front g (joined gs)) in
-      let rest = subst (λ n. flat_map (child_nodes (tree fanout es ns)) (nodes_over (λ k. k.bounds)
+      let rest = subst (λ n. flat_map (child_nodes (tree fanout es ns)) (nodes_over extent_of_node
       (λ k. k.size) level n gs) ≡ joined gs) (length-append front g) (over_children ns level gs
       (front ++ g) behind) in
       rw (here, rest) refl
@@ -102,14 +103,14 @@ module _ (fanout : ℕ) (es : List Entry) where
   pub once_more : (h : ℕ) (numbered made : List Node) (gs : List (List Node)) → IsPermutation made (joined gs)
       → AllByRecursion (λ n. IsSubtree (tree fanout es numbered) (n.level - 1) n) (numbered ++ joined gs)
       → AreOnce numbered made
-      → AreOn (suc (suc h)) (nodes_over (λ n. n.bounds) (λ n. n.size) (suc (suc h)) (length numbered) gs)
-      → AreOnce (numbered ++ joined gs) (nodes_over (λ n. n.bounds) (λ n. n.size) (suc (suc h)) (length numbered) gs)
+      → AreOn (suc (suc h)) (nodes_over extent_of_node (λ n. n.size) (suc (suc h)) (length numbered) gs)
+      → AreOnce (numbered ++ joined gs) (nodes_over extent_of_node (λ n. n.size) (suc (suc h)) (length numbered) gs)
   once_more h numbered made gs moved sound once on =
       let ordered = joined gs in
       let old = tree fanout es numbered in
       let ns = numbered ++ ordered in
       let now = tree fanout es ns in
-      let new = nodes_over (λ n. n.bounds) (λ n. n.size) (suc (suc h)) (length numbered) gs in
+      let new = nodes_over extent_of_node (λ n. n.size) (suc (suc h)) (length numbered) gs in
       let later = IsPermutation-append_right numbered made ordered moved in
       let over : flat_map (nodes_under now) new ≡ ordered =
       flat_map-same (nodes_under now) (child_nodes now) (λ n. n.level ≡ suc (suc h)) (λ n e. high now (suc

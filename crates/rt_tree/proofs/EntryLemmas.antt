@@ -11,7 +11,7 @@ use Rattle.std.proofs.lemmas.List.{map-append, take_more}
 use Rattle.std.proofs.lemmas.List.Elements.{All-nil, All-push}
 use Rattle.std.proofs.lemmas.List.Folds.{list_any-append}
 use Rattle.std.proofs.lemmas.Map.Keys.{IsDistinct-push}
-use Rattle.rt_geo.specs.Entries.{HasBox}
+use Rattle.rt_geo.specs.Entries.{HasBox, HasLayer}
 use Rattle.rt_geo.specs.declared.entry.Entry.{Entry}
 use Rattle.rt_tree.specs.Entries.{IsTable, has_id, ids_of, most_entries}
 use Rattle.rt_tree.specs.Indexes.{IsIndexed, keeps}
@@ -34,19 +34,20 @@ pub has_id-ids_of : (entries : List Entry) (id : ℤ) → list_any (int_eq id) (
 has_id-ids_of [] id = refl
 has_id-ids_of (e ∷ entries) id = ap (λ b. int_eq id e.id || b) (has_id-ids_of entries id)
 
-IsTable-push : (entries : List Entry) (entry : Entry) → IsTable entries → has_id entries entry.id ≡ false → HasBox entry → length entries < most_entries
+IsTable-push : (entries : List Entry) (entry : Entry) → IsTable entries → has_id entries entry.id ≡ false → HasBox entry → HasLayer entry → length entries < most_entries
     → IsTable (entries ++ entry ∷ [])
-IsTable-push entries entry t new box room = record {
+IsTable-push entries entry t new box few room = record {
   distinct = subst (IsDistinct int_eq) (sym (map-append (λ (e : Entry). e.id) entries (entry ∷ []))) (IsDistinct-push int_eq_equiv (ids_of entries) entry.id t.distinct (has_id-ids_of entries entry.id ∙ new));
   boxes = All-push HasBox entries entry t.boxes box;
+  layers = All-push HasLayer entries entry t.layers few;
   few = omega (arith, length-append entries (entry ∷ []), room);
 }
 
 -- the entry stands last, and its id beside the others
-pub pushed : (loaded new_loaded : List ℤ) (later new_later : BTreeSet ℤ) (entries : List Entry) (entry : Entry) → IsIndexed loaded later entries → HasBox entry → keeps loaded later entry.id ≡ false
+pub pushed : (loaded new_loaded : List ℤ) (later new_later : BTreeSet ℤ) (entries : List Entry) (entry : Entry) → IsIndexed loaded later entries → HasBox entry → HasLayer entry → keeps loaded later entry.id ≡ false
     → ((id : ℤ) → keeps new_loaded new_later id ≡ (keeps loaded later id || int_eq id entry.id)) → length entries < most_entries → IsIndexed new_loaded new_later (entries ++ entry ∷ [])
-pushed loaded new_loaded later new_later entries entry kept box absent added room = record {
-  table = IsTable-push entries entry kept.table (sym (kept.ids_are entry.id) ∙ absent) box room;
+pushed loaded new_loaded later new_later entries entry kept box few absent added room = record {
+  table = IsTable-push entries entry kept.table (sym (kept.ids_are entry.id) ∙ absent) box few room;
   ids_are = λ id. added id ∙ ap (λ b. b || int_eq id entry.id) (kept.ids_are id) ∙ sym (has_id-push entries entry id);
 }
 
@@ -57,7 +58,7 @@ int_eq-sym a b = grind (arith, ints)
 pub IsIndexed-empty : (loaded : List ℤ) (later : BTreeSet ℤ) → ((id : ℤ) → keeps loaded later id ≡ false) → IsIndexed loaded later []
 unfolding IsDistinct
 IsIndexed-empty loaded later none = record {
-  table = record { distinct = tt; boxes = All-nil HasBox; few = omega arith };
+  table = record { distinct = tt; boxes = All-nil HasBox; layers = All-nil HasLayer; few = omega arith };
   ids_are = none;
 }
 

@@ -9,9 +9,10 @@ use Rattle.std.proofs.lemmas.Bool.Decides.{nat_tests}
 use Rattle.std.proofs.lemmas.List.{append-nil, get_or-append_right, get_or-replicate, length-map}
 use Rattle.std.proofs.lemmas.List.{length-replicate, map-append}
 use Rattle.std.proofs.lemmas.List.Sorted.{length_permutation}
-use Rattle.rt_geo.specs.Boxes.{Rect}
+use Rattle.rt_geo.specs.Laws.{Extent}
 use Rattle.rt_tree.specs.Levels.{level_sizes, sizes_above}
 use Rattle.rt_tree.specs.Packed.{level_by_level, no_node}
+use Rattle.rt_tree.specs.Packed.{extent_of_node}
 use Rattle.rt_tree.specs.Packing.{joined, nodes_from, nodes_over}
 use Rattle.rt_tree.specs.declared.tree.Node.{Node}
 use Rattle.rt_tree.proofs.ChunkLemmas.{le_or_lt}
@@ -30,10 +31,10 @@ levels_of : (level : ℕ) (ns : List Node) → AreOn level ns → map (λ n. n.l
 levels_of level [] a = refl
 levels_of level (n ∷ ns) a = rw (a.0, levels_of level ns a.1) refl
 
-pub nodes_over-AreOn : {X : Type 0} (box : X → Rect) (size : X → ℕ) (level first : ℕ) (gs : List (List X))
-    → AreOn level (nodes_over box size level first gs)
-nodes_over-AreOn box size level first [] = tt
-nodes_over-AreOn box size level first (g ∷ gs) = (refl, nodes_over-AreOn box size level (first + length g) gs)
+pub nodes_over-AreOn : {X : Type 0} (extent : X → Extent) (size : X → ℕ) (level first : ℕ) (gs : List (List X))
+    → AreOn level (nodes_over extent size level first gs)
+nodes_over-AreOn extent size level first [] = tt
+nodes_over-AreOn extent size level first (g ∷ gs) = (refl, nodes_over-AreOn extent size level (first + length g) gs)
 
 -- the sizes of a level of so many nodes, and of those above it
 abbrev pub sizes_from : (fanout len : ℕ) → List ℕ
@@ -65,7 +66,7 @@ module _ (fanout : ℕ) (several : 2 ≤ fanout) where
           count,
           div_ceil-positive
               (length made) fanout several there,
-        )) (nodes_over-AreOn (λ (n : Node). n.bounds) (λ n. n.size)
+        )) (nodes_over-AreOn extent_of_node (λ n. n.size)
         (level + 1) first (cut fanout several made)) in
         let sizes : sizes_above (length made) fanout (length made) ≡ sizes_from fanout (length new) =
         sizes_above-step fanout (length made) several there ∙ ap (sizes_from fanout) (sym count) in

@@ -2,6 +2,7 @@ mod Children
 mod ChunkLemmas
 mod EntryLemmas
 mod IdLemmas
+mod LeafLemmas
 mod LevelLemmas
 mod LevelOrder
 mod LoopLemmas

@@ -11,8 +11,8 @@ use Rattle.std.proofs.lemmas.List.{take_more}
 use Rattle.std.proofs.lemmas.List.Sums.{fold-append, sum_by-take-drop, sum_by-take-le}
 use Rattle.std.proofs.lemmas.Slice.{drop-put_mid, take-put_mid}
 use Rattle.std.proofs.Math.Seq.{drop-cons}
-use Rattle.rt_geo.specs.Boxes.{Rect, hull}
-use Rattle.rt_tree.specs.Packed.{hull_of}
+use Rattle.rt_geo.specs.Laws.{Extent}
+use Rattle.rt_tree.specs.Packed.{reduced}
 use Rattle.rt_tree.specs.Packing.{chunks, node_over, nodes_over}
 use Rattle.rt_tree.specs.declared.tree.Node.{Node}
 use Rattle.rt_tree.proofs.ChunkLemmas.{chunks-step, le_or_lt}
@@ -184,9 +184,10 @@ all_more P start n k old keys k_is inside later before here i d h = elim (le_or_
 
 -- ---- one more child under a node
 
-pub hull_of-push : (bs : List Rect) (b : Rect) → 0 < length bs → hull_of (bs ++ b ∷ []) ≡ hull (hull_of bs) b
-hull_of-push [] b some = absurd (omega (arith, some))
-hull_of-push (c ∷ bs) b some = fold-append hull c bs (b ∷ [])
+pub reduced-push : {X : Type 0} (f : X → X → X) (none : X) (xs : List X) (x : X) → 0 < length xs
+    → reduced f none (xs ++ x ∷ []) ≡ f (reduced f none xs) x
+reduced-push f none [] x some = absurd (omega (arith, some))
+reduced-push f none (y ∷ xs) x some = fold-append f y xs (x ∷ [])
 
 -- the element at i of what is behind the first one
 next_behind : {X : Type 0} (xs : List X) (i : ℕ) (x : X) → i < length xs - 1
@@ -199,15 +200,15 @@ next_behind xs i x h e =
     ∙ ap (λ l. get_or l i x) (sym rest) ∙ sym e in
     take_more xs (i + 1) x (omega (arith, h)) ∙ ap (λ y. take (i + 1) xs ++ y ∷ []) at
 
-pub hull_more : {X : Type 0} (box : X → Rect) (xs : List X) (i : ℕ) (x : X) (b : Rect) → i < length xs - 1
-    → x ≡ get_or (take (length xs - 1) (drop 1 xs)) i x
-    → b ≡ hull_of (map box (take (i + 1) xs)) → hull b (box x) ≡ hull_of (map box (take (i + 1 + 1) xs))
-hull_more box xs i x b h e is =
-    let front = map box (take (i + 1) xs) in
-    let long : 0 < length front = omega (arith, h, length-map (take (i + 1) xs) box, length-take (i + 1) xs) in
-    sym (ap (λ l. hull_of (map box l)) (next_behind xs i x h e)
-    ∙ ap hull_of (map-append box (take (i + 1) xs) (x ∷ [])) ∙ hull_of-push front (box x) long
-    ∙ ap (λ c. hull c (box x)) (sym is))
+pub reduced_more : {X Y : Type 0} (f : Y → Y → Y) (none : Y) (show : X → Y) (xs : List X) (i : ℕ) (x : X) (y : Y)
+    → i < length xs - 1 → x ≡ get_or (take (length xs - 1) (drop 1 xs)) i x
+    → y ≡ reduced f none (map show (take (i + 1) xs)) → f y (show x) ≡ reduced f none (map show (take (i + 1 + 1) xs))
+reduced_more f none show xs i x y h e is =
+    let front = map show (take (i + 1) xs) in
+    let long : 0 < length front = omega (arith, h, length-map (take (i + 1) xs) show, length-take (i + 1) xs) in
+    sym (ap (λ l. reduced f none (map show l)) (next_behind xs i x h e)
+    ∙ ap (reduced f none) (map-append show (take (i + 1) xs) (x ∷ [])) ∙ reduced-push f none front (show x) long
+    ∙ ap (λ z. f z (show x)) (sym is))
 
 pub weight_more : {X : Type 0} (weight : X → ℕ) (xs : List X) (i : ℕ) (x : X) → i < length xs - 1
     → x ≡ get_or (take (length xs - 1) (drop 1 xs)) i x
@@ -222,24 +223,24 @@ part-weight weight n start xs = omega (arith, sum_by-take-le weight (drop start 
 
 -- ---- a node over each chunk
 
-pub nodes_more : {X : Type 0} (box : X → Rect) (weight : X → ℕ) (level first size start n k : ℕ) (items : List X)
+pub nodes_more : {X : Type 0} (extent : X → Extent) (weight : X → ℕ) (level first size start n k : ℕ) (items : List X)
     (nodes whole : List Node) (node : Node)
     → 0 < size → start < length items → n ≡ min size (length items - start) → k ≡ n
-    → node ≡ node_over box weight level (first + start) (take k (drop start items))
-    → nodes ++ nodes_over box weight level (first + start) (chunks size (drop start items)) ≡ whole
-    → (nodes ++ node ∷ []) ++ nodes_over box weight level (first + (start + n)) (chunks size (drop
+    → node ≡ node_over extent weight level (first + start) (take k (drop start items))
+    → nodes ++ nodes_over extent weight level (first + start) (chunks size (drop start items)) ≡ whole
+    → (nodes ++ node ∷ []) ++ nodes_over extent weight level (first + (start + n)) (chunks size (drop
     (start + n) items)) ≡ whole
-nodes_more box weight level first size start n k items nodes whole node some there at k_is is course =
+nodes_more extent weight level first size start n k items nodes whole node some there at k_is is course =
     let group = take n (drop start items) in
     let rest = chunks size (drop (start + n) items) in
     let long : length group ≡ n = omega (arith, length-take n (drop start items), length-drop start items) in
-    let this : node ≡ node_over box weight level (first + start) group = is
-    ∙ ap (λ m. node_over box weight level (first + start) (take m (drop start items))) k_is in
+    let this : node ≡ node_over extent weight level (first + start) group = is
+    ∙ ap (λ m. node_over extent weight level (first + start) (take m (drop start items))) k_is in
     let next : first + start + length group ≡ first + (start + n) = omega (arith, long) in
-    append_assoc nodes (node ∷ []) (nodes_over box weight level (first + (start + n)) rest)
-    ∙ ap (λ l. nodes ++ l) (ap (λ m. node ∷ nodes_over box weight level m rest) (sym next)
-    ∙ ap (λ m. m ∷ nodes_over box weight level (first + start + length group) rest) this
-    ∙ ap (nodes_over box weight level (first + start)) (sym (chunks-at size start n items some there at)))
+    append_assoc nodes (node ∷ []) (nodes_over extent weight level (first + (start + n)) rest)
+    ∙ ap (λ l. nodes ++ l) (ap (λ m. node ∷ nodes_over extent weight level m rest) (sym next)
+    ∙ ap (λ m. m ∷ nodes_over extent weight level (first + start + length group) rest) this
+    ∙ ap (nodes_over extent weight level (first + start)) (sym (chunks-at size start n items some there at)))
     ∙ course
 
 -- the front of a list that is as long as what is taken

@@ -9,7 +9,9 @@ use Rattle.std.proofs.lemmas.Bool.Decides.{nat_tests}
 use Rattle.std.proofs.lemmas.List.Sorted.{length_permutation, sum_by-IsPermutation}
 use Rattle.std.proofs.lemmas.List.Sums.{sum_by-append, sum_by-cons}
 use Rattle.rt_geo.specs.Boxes.{Rect}
+use Rattle.rt_geo.specs.Laws.{Extent, extent_of_entry}
 use Rattle.rt_geo.specs.declared.entry.Entry.{Entry}
+use Rattle.rt_tree.specs.Packed.{extent_of_node}
 use Rattle.rt_tree.specs.Packing.{chunks, groups, joined, node_over, nodes_from, nodes_over}
 use Rattle.rt_tree.specs.declared.tree.Node.{Node}
 use Rattle.rt_tree.proofs.ChunkLemmas.{joined-chunks, le_or_lt, length-chunks}
@@ -29,16 +31,15 @@ length-groups box fanout items several there =
     (groups-IsPermutation box items fanout several there))
 
 -- the nodes stand for as many entries as the items
-pub weight-nodes_over : {X : Type 0} (box : X → Rect) (weight : X → ℕ) (level first : ℕ) (gs : List (List X))
-    → sum_by (λ n. n.size) (nodes_over box weight level first gs) ≡ sum_by weight (joined gs)
-weight-nodes_over box weight level first [] = refl
-weight-nodes_over box weight level first (g ∷ gs) =
-    let rest = nodes_over box weight level (first + length g) gs in
+pub weight-nodes_over : {X : Type 0} (extent : X → Extent) (weight : X → ℕ) (level first : ℕ) (gs : List (List X))
+    → sum_by (λ n. n.size) (nodes_over extent weight level first gs) ≡ sum_by weight (joined gs)
+weight-nodes_over extent weight level first [] = refl
+weight-nodes_over extent weight level first (g ∷ gs) =
+    let rest = nodes_over extent weight level (first + length g) gs in
     omega (
       arith,
-      sum_by-cons (λ (n : Node). n.size) (node_over box weight level first g) rest,
-      weight-nodes_over box
-          weight level (first + length g) gs,
+      sum_by-cons (λ (n : Node). n.size) (node_over extent weight level first g) rest,
+      weight-nodes_over extent weight level (first + length g) gs,
       sum_by-append weight g (joined gs),
     )
 
@@ -59,11 +60,11 @@ module _ (fanout : ℕ) (several : 2 ≤ fanout) where
 
   -- the nodes over them
   abbrev pub above : (level first : ℕ) → List Node → List Node
-  above level first made = nodes_over (λ n. n.bounds) (λ n. n.size) (level + 1) first (cut made)
+  above level first made = nodes_over extent_of_node (λ n. n.size) (level + 1) first (cut made)
 
   pub length-above : (level first : ℕ) (made : List Node) → 0 < length made
       → length (above level first made) ≡ div_ceil (length made) fanout
-  length-above level first made there = length-nodes_over (λ n. n.bounds) (λ n. n.size) (level + 1) first
+  length-above level first made there = length-nodes_over extent_of_node (λ n. n.size) (level + 1) first
       (cut made) ∙ length-groups (λ n. n.bounds) fanout made several there
 
   -- a level of one node, or of none, is the last one
@@ -157,7 +158,7 @@ module _ (fanout : ℕ) (several : 2 ≤ fanout) where
         weight = omega (
           arith,
           c.weight,
-          weight-nodes_over (λ (n : Node). n.bounds) (λ n. n.size) (level + 1)
+          weight-nodes_over extent_of_node (λ n. n.size) (level + 1)
               (length nodes) (cut made),
           sum_by-IsPermutation (λ (n : Node). n.size) made (joined (cut made)) moved,
         );
@@ -179,13 +180,13 @@ module _ (fanout : ℕ) (several : 2 ≤ fanout) where
   -- the course of the loop
   pub course_more : (level : ℕ) (nodes made ordered new whole : List Node) → 1 < length made
       → ordered ≡ joined (cut made)
-      → new ≡ nodes_over (λ n. n.bounds) (λ n. n.size) (level + 1) (length nodes) (chunks fanout ordered)
+      → new ≡ nodes_over extent_of_node (λ n. n.size) (level + 1) (length nodes) (chunks fanout ordered)
       → nodes ++ nodes_from (length made) fanout level (length nodes) made ≡ whole
       → (nodes ++ ordered) ++ nodes_from (length new) fanout (level + 1) (length (nodes ++ ordered)) new ≡ whole
   course_more level nodes made ordered new whole some ordered_is new_is course =
       let moved = groups-IsPermutation (λ (n : Node). n.bounds) made fanout several (omega arith) in
       let same : new ≡ above level (length nodes) made =
-      new_is ∙ ap (nodes_over (λ n. n.bounds) (λ n. n.size) (level + 1) (length nodes)) (ap
+      new_is ∙ ap (nodes_over extent_of_node (λ n. n.size) (level + 1) (length nodes)) (ap
       (chunks fanout) ordered_is ∙ sym (groups-chunks (λ (n : Node). n.bounds) made fanout (omega arith))) in
       let long : length (nodes ++ ordered) ≡ length nodes + length made = omega (
         arith,
@@ -210,10 +211,10 @@ module _ (fanout : ℕ) (several : 2 ≤ fanout) where
   -- ---- the same of what the loop holds
 
   pub above_is : (level first : ℕ) (made ordered new : List Node) → ordered ≡ joined (cut made)
-      → new ≡ nodes_over (λ n. n.bounds) (λ n. n.size) (level + 1) first (chunks fanout ordered)
+      → new ≡ nodes_over extent_of_node (λ n. n.size) (level + 1) first (chunks fanout ordered)
       → new ≡ above level first made
   above_is level first made ordered new ordered_is new_is =
-      new_is ∙ ap (nodes_over (λ n. n.bounds) (λ n. n.size) (level + 1) first) (ap (chunks fanout) ordered_is
+      new_is ∙ ap (nodes_over extent_of_node (λ n. n.size) (level + 1) first) (ap (chunks fanout) ordered_is
       ∙ sym (groups-chunks (λ (n : Node). n.bounds) made fanout (omega arith)))
 
   pub ordered_length : (made ordered : List Node) → 0 < length made → ordered ≡ joined (cut made)
@@ -229,14 +230,14 @@ module _ (fanout : ℕ) (several : 2 ≤ fanout) where
 
   pub level_counted : (level : ℕ) (nodes made ordered new after : List Node) → IsCounted level nodes made
       → 1 < length made → ordered ≡ joined (cut made)
-      → new ≡ nodes_over (λ n. n.bounds) (λ n. n.size) (level + 1) (length nodes) (chunks fanout ordered)
+      → new ≡ nodes_over extent_of_node (λ n. n.size) (level + 1) (length nodes) (chunks fanout ordered)
       → after ≡ nodes ++ ordered → IsCounted (level + 1) after new
   level_counted level nodes made ordered new after c some ordered_is new_is after_is =
       rw (after_is, ordered_is, above_is level (length nodes) made ordered new ordered_is new_is)
       (counted_more level nodes made c some)
 
   pub level_smaller : (level first : ℕ) (made ordered new : List Node) → 1 < length made → ordered ≡ joined (cut made)
-      → new ≡ nodes_over (λ n. n.bounds) (λ n. n.size) (level + 1) first (chunks fanout ordered)
+      → new ≡ nodes_over extent_of_node (λ n. n.size) (level + 1) first (chunks fanout ordered)
       → length new < length made
   level_smaller level first made ordered new some ordered_is new_is =
       omega (
@@ -248,12 +249,11 @@ module _ (fanout : ℕ) (several : 2 ≤ fanout) where
 
   -- the nodes over entries
   pub entries_counted : (entries : List Entry) (made : List Node) → length entries ≤ 16777216
-      → made ≡ nodes_over (λ e. e.bounds) (λ _. 1) 1 0 (chunks fanout entries) → IsCounted 1 [] made
+      → made ≡ nodes_over extent_of_entry (λ _. 1) 1 0 (chunks fanout entries) → IsCounted 1 [] made
   entries_counted entries made few is =
-      let box = λ (e : Entry). e.bounds in
       let count : length made ≡ div_ceil (length entries) fanout = ap length is
-      ∙ length-nodes_over box (λ _. 1) 1 0 (chunks fanout entries) ∙ length-chunks fanout entries in
+      ∙ length-nodes_over extent_of_entry (λ _. 1) 1 0 (chunks fanout entries) ∙ length-chunks fanout entries in
       let weight : sum_by (λ n. n.size) made ≡ length entries =
-      ap (sum_by (λ n. n.size)) is ∙ weight-nodes_over box (λ _. 1) 1 0 (chunks fanout entries)
+      ap (sum_by (λ n. n.size)) is ∙ weight-nodes_over extent_of_entry (λ _. 1) 1 0 (chunks fanout entries)
       ∙ sum_by-ones (joined (chunks fanout entries)) ∙ ap length (joined-chunks fanout entries (omega arith)) in
       counted_first made (length entries) count few weight

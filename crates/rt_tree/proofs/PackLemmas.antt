@@ -5,6 +5,7 @@ use Rattle.std.specs.Cmp.{IsTotalOrder}
 use Rattle.std.specs.Ordering.{int_cmp, on}
 use Rattle.std.proofs.lemmas.Cmp.{int_cmp_total, on_total}
 use Rattle.std.proofs.lemmas.List.Sorted.{length_permutation}
+use Rattle.rt_geo.specs.Laws.{extent_of_entry}
 use Rattle.rt_geo.specs.declared.entry.Entry.{Entry}
 use Rattle.rt_tree.specs.Packed.{Packed}
 use Rattle.rt_tree.specs.Packing.{all_nodes, chunks, groups, joined, nodes_over, pack_of}
@@ -23,12 +24,12 @@ by_id_total = on_total (λ e. e.id) int_cmp_total
 
 pub packed_is : (fanout : ℕ) (table entries : List Entry) (nodes : List Node) → 2 ≤ fanout
     → entries ≡ joined (groups (λ e. e.bounds) fanout (sorted by_id table))
-    → nodes ≡ all_nodes fanout (nodes_over (λ e. e.bounds) (λ _. 1) 1 0 (chunks fanout entries))
+    → nodes ≡ all_nodes fanout (nodes_over extent_of_entry (λ _. 1) 1 0 (chunks fanout entries))
     → ◌≡◌ {A = Packed} (record { fanout = fanout; entries = entries; nodes = nodes }) (pack_of fanout table)
 packed_is fanout table entries nodes several whole nodes_is =
     let box = λ (e : Entry). e.bounds in
-    let over : nodes ≡ all_nodes fanout (nodes_over box (λ _. 1) 1 0 (groups box fanout (sorted by_id table))) =
-    nodes_is ∙ ap (λ gs. all_nodes fanout (nodes_over box (λ _. 1) 1 0 gs)) (ap (chunks fanout) whole
+    let over : nodes ≡ all_nodes fanout (nodes_over extent_of_entry (λ _. 1) 1 0 (groups box fanout (sorted by_id table))) =
+    nodes_is ∙ ap (λ gs. all_nodes fanout (nodes_over extent_of_entry (λ _. 1) 1 0 gs)) (ap (chunks fanout) whole
     ∙ sym (groups-chunks box (sorted by_id table) fanout (omega arith))) in
     rw (whole, over) refl
 

@@ -11,11 +11,12 @@ use Rattle.std.proofs.lemmas.List.Sorted.{IsPermutation-map, IsPermutation-refl}
 use Rattle.std.proofs.lemmas.List.Sorted.{IsPermutation-sym, IsPermutation-trans, length_permutation}
 use Rattle.rt_geo.specs.declared.entry.Entry.{Entry}
 use Rattle.rt_tree.specs.Packed.{Packed, IsSound, IsSubtree, all_child_entries, all_child_nodes, child_entries}
-use Rattle.rt_tree.specs.Packed.{entries_under, height, level_by_level, no_node, node_at, root_of}
+use Rattle.rt_tree.specs.Packed.{entries_under, extent_of_node, height, level_by_level, no_node, node_at, root_of}
 use Rattle.rt_tree.specs.Packing.{chunks, groups, joined, nodes_from, nodes_over, pack_of}
 use Rattle.rt_tree.specs.Entries.{IsTable, ids_of}
 use Rattle.rt_tree.specs.Sorting.{sorted}
-use Rattle.rt_geo.specs.Entries.{HasBox}
+use Rattle.rt_geo.specs.Entries.{HasBox, HasLayer}
+use Rattle.rt_geo.specs.Laws.{extent_of_entry}
 use Rattle.std.specs.Ordering.{int_cmp, int_eq, on}
 use Rattle.std.proofs.lemmas.Map.Keys.{IsDistinct-IsPermutation}
 use Rattle.rt_tree.proofs.EntryLemmas.{int_eq-sym}
@@ -31,7 +32,7 @@ use Rattle.rt_tree.proofs.LoopLemmas.{get_or_behind}
 use Rattle.rt_tree.proofs.LevelLemmas.{div_ceil-positive}
 use Rattle.rt_tree.proofs.LevelOrder.{last_node-top, nodes_from-levels, nodes_over-AreOn, sizes_from, sizes_from_first}
 use Rattle.rt_tree.specs.Levels.{level_sizes}
-use Rattle.rt_tree.proofs.Soundness.{IsGroup, all_map, all_under_more, inner-range, leaves_sound, leaves_under}
+use Rattle.rt_tree.proofs.Soundness.{IsEntry, IsGroup, all_map, all_under_more, inner-range, leaves_sound, leaves_under}
 use Rattle.rt_tree.proofs.Soundness.{length-nodes_over, over_sound, over_under, subtree_more, sum_by-ones, tree}
 use Rattle.rt_tree.proofs.TileLemmas.{groups-IsPermutation, groups-chunks, groups-moved, groups-nil}
 
@@ -70,7 +71,7 @@ module _ (fanout : ℕ) (several : 2 ≤ fanout) (es : List Entry) where
 
   -- one more level keeps that
   climb : (h : ℕ) (numbered made : List Node) → 0 < length made → IsBuilt h numbered made
-      → IsBuilt (suc h) (numbered ++ joined (cut fanout several made)) (nodes_over (λ n. n.bounds) (λ n. n.size)
+      → IsBuilt (suc h) (numbered ++ joined (cut fanout several made)) (nodes_over extent_of_node (λ n. n.size)
       (suc (suc h)) (length numbered) (cut fanout several made))
   climb h numbered made there b =
       let gs = cut fanout several made in
@@ -96,7 +97,7 @@ module _ (fanout : ℕ) (several : 2 ≤ fanout) (es : List Entry) where
         once = once_more fanout es h numbered made gs moved
             (all_append (λ n. IsSubtree old (n.level - 1) n) numbered ordered b.lower (all_map (IsSubtree old h)
             (λ n. IsSubtree old (n.level - 1) n) (at_its_level old h) ordered here))
-            b.once (nodes_over-AreOn (λ (n : Node). n.bounds) (λ n. n.size) (suc (suc h)) (length numbered) gs);
+            b.once (nodes_over-AreOn extent_of_node (λ n. n.size) (suc (suc h)) (length numbered) gs);
       }
 
   -- what holds of the finished tree
@@ -146,7 +147,7 @@ module _ (fanout : ℕ) (several : 2 ≤ fanout) (es : List Entry) where
 
   -- the nodes over those of a level
   abbrev new_nodes : (h : ℕ) (numbered made : List Node) → List Node
-  new_nodes h numbered made = nodes_over (λ n. n.bounds) (λ n. n.size) (suc (suc h)) (length numbered)
+  new_nodes h numbered made = nodes_over extent_of_node (λ n. n.size) (suc (suc h)) (length numbered)
       (cut fanout several made)
 
   -- with one more level numbered, the nodes to come are the same
@@ -163,20 +164,20 @@ module _ (fanout : ℕ) (several : 2 ≤ fanout) (es : List Entry) where
       (new_nodes h numbered made))
       ∙ ap (λ l. numbered ++ l) (ap (λ n. ordered ++ nodes_from fuel fanout (suc (suc h)) n
       (new_nodes h numbered made)) long
-      ∙ ap (λ k. ordered ++ nodes_from fuel fanout k (length numbered + length made) (nodes_over (λ n. n.bounds)
+      ∙ ap (λ k. ordered ++ nodes_from fuel fanout k (length numbered + length made) (nodes_over extent_of_node
       (λ n. n.size) k (length numbered) (cut fanout several made))) (sym (add-one (suc h)))
       ∙ sym (nodes_from-more fanout several fuel (suc h) (length numbered) made some))
 
   few_above : (fuel h : ℕ) (numbered made : List Node) → 1 < length made → length made ≤ suc fuel
       → length (new_nodes h numbered made) ≤ fuel
   few_above fuel h numbered made some few =
-      subst (λ k. length (nodes_over (λ n. n.bounds) (λ n. n.size) k (length numbered)
+      subst (λ k. length (nodes_over extent_of_node (λ n. n.size) k (length numbered)
       (cut fanout several made)) ≤ fuel) (add-one (suc h)) (fewer fanout several (suc h)
       (length numbered) fuel made some few)
 
   some_above : (h : ℕ) (numbered made : List Node) → 0 < length made → 0 < length (new_nodes h numbered made)
   some_above h numbered made some =
-      subst (λ k. 0 < length (nodes_over (λ n. n.bounds) (λ n. n.size) k (length numbered)
+      subst (λ k. 0 < length (nodes_over extent_of_node (λ n. n.size) k (length numbered)
       (cut fanout several made))) (add-one (suc h))
       (omega (
         arith,
@@ -188,7 +189,7 @@ module _ (fanout : ℕ) (several : 2 ≤ fanout) (es : List Entry) where
   counted_above : (h : ℕ) (numbered made : List Node) → 1 < length made → IsCounted (suc h) numbered made
       → IsCounted (suc (suc h)) (numbered ++ joined (cut fanout several made)) (new_nodes h numbered made)
   counted_above h numbered made some c =
-      subst (λ k. IsCounted k (numbered ++ joined (cut fanout several made)) (nodes_over (λ n. n.bounds)
+      subst (λ k. IsCounted k (numbered ++ joined (cut fanout several made)) (nodes_over extent_of_node
       (λ n. n.size) k (length numbered) (cut fanout several made))) (add-one (suc h))
       (counted_more fanout several (suc h) numbered made c some)
 
@@ -223,6 +224,7 @@ IsTable-IsPermutation xs ys moved t = record {
   distinct = IsDistinct-IsPermutation int_eq int_eq-sym (ids_of xs) (ids_of ys) (IsPermutation-map (λ
       (e : Entry). e.id) xs ys moved) t.distinct;
   boxes = All-permutation HasBox xs ys moved t.boxes;
+  layers = All-permutation HasLayer xs ys moved t.layers;
   few = omega (arith, t.few, length_permutation xs ys moved);
 }
 
@@ -278,7 +280,7 @@ module _ (fanout : ℕ) (several : 2 ≤ fanout) (in_order : List Entry) where
   es = joined gs
 
   abbrev made : List Node
-  made = nodes_over (λ e. e.bounds) (λ _. 1) 1 0 gs
+  made = nodes_over extent_of_entry (λ _. 1) 1 0 gs
 
   moved : IsPermutation in_order es
   moved = groups-moved (λ (e : Entry). e.bounds) fanout in_order several
@@ -286,21 +288,21 @@ module _ (fanout : ℕ) (several : 2 ≤ fanout) (in_order : List Entry) where
   made-first : 0 < length in_order → IsTable es → IsCounted 1 [] made
   made-first there table =
       let long = length_permutation in_order es moved in
-      let count : length made ≡ div_ceil (length in_order) fanout = length-nodes_over (λ (e : Entry). e.bounds)
+      let count : length made ≡ div_ceil (length in_order) fanout = length-nodes_over extent_of_entry
       (λ _. 1) 1 0 gs ∙ length-groups (λ (e : Entry). e.bounds) fanout in_order several there in
-      let weight : sum_by (λ n. n.size) made ≡ length in_order = weight-nodes_over (λ (e : Entry). e.bounds)
+      let weight : sum_by (λ n. n.size) made ≡ length in_order = weight-nodes_over extent_of_entry
       (λ _. 1) 1 0 gs ∙ sum_by-ones es ∙ long in
       counted_first fanout several made (length in_order) count (omega (arith, long, table.few)) weight
 
   made-IsBuilt : IsTable es → IsBuilt fanout several es 0 [] made
   made-IsBuilt table =
-      let boxes = recursion_from_All HasBox es table.boxes in
+      let entries = recursion_from_All IsEntry es (λ i d h. (table.boxes i d h, table.layers i d h)) in
       record {
-        nodes = leaves_sound fanout es [] gs [] refl (chunk_groups fanout HasBox gs (omega arith) (groups-chunks (λ
-            (e : Entry). e.bounds) in_order fanout (omega arith)) boxes);
+        nodes = leaves_sound fanout es [] gs [] refl (chunk_groups fanout IsEntry gs (omega arith) (groups-chunks (λ
+            (e : Entry). e.bounds) in_order fanout (omega arith)) entries);
         every = subst (λ l. IsPermutation l es) (sym (leaves_under fanout es [] gs [] refl)) (IsPermutation-refl es);
         lower = tt;
-        once = once_first fanout es made (nodes_over-AreOn (λ (e : Entry). e.bounds) (λ _. 1) 1 0 gs)
+        once = once_first fanout es made (nodes_over-AreOn extent_of_entry (λ _. 1) 1 0 gs)
             (leaves_under fanout es [] gs [] refl);
       }
 
@@ -308,7 +310,7 @@ module _ (fanout : ℕ) (several : 2 ≤ fanout) (in_order : List Entry) where
   packed-some there table =
       let long = length_permutation in_order es moved in
       let count : length made ≡ div_ceil (length es) fanout =
-      length-nodes_over (λ (e : Entry). e.bounds) (λ _. 1) 1 0 gs
+      length-nodes_over extent_of_entry (λ _. 1) 1 0 gs
       ∙ length-groups (λ (e : Entry). e.bounds) fanout in_order several there
       ∙ ap (λ n. div_ceil n fanout) (sym long) in
       let some : 0 < length made = omega (
@@ -318,7 +320,7 @@ module _ (fanout : ℕ) (several : 2 ≤ fanout) (in_order : List Entry) where
         div_ceil-positive (length es) fanout several (omega
             (arith, long)),
       ) in
-      let on = nodes_over-AreOn (λ (e : Entry). e.bounds) (λ _. 1) 1 0 gs in
+      let on = nodes_over-AreOn extent_of_entry (λ _. 1) 1 0 gs in
       sound_finished fanout several es (nodes_from (length made) fanout 1 0 made) (length made) (omega
       (arith, there, long)) count
       (nodes_from-levels fanout several (length made) 1 0 made (omega arith) some on) table
@@ -330,7 +332,7 @@ packed-none : (fanout : ℕ) (several : 2 ≤ fanout) (in_order : List Entry) �
     → nodes_from (length (made fanout several in_order)) fanout 1 0 (made fanout several in_order) ≡ []
 packed-none fanout several in_order none =
     ap (λ l. nodes_from (length (made fanout several l)) fanout 1 0 (made fanout several l)) none
-    ∙ ap (λ g. let m = nodes_over (λ (e : Entry). e.bounds) (λ _. 1) 1 0 g in nodes_from (length m) fanout 1 0 m)
+    ∙ ap (λ g. let m = nodes_over extent_of_entry (λ _. 1) 1 0 g in nodes_from (length m) fanout 1 0 m)
     (groups-nil (λ (e : Entry). e.bounds) fanout)
 
 pub pack_of-IsSound : (fanout : ℕ) (entries : List Entry) → 2 ≤ fanout → IsTable entries

@@ -2,6 +2,7 @@
 use Rattle.std.proofs.Common.{◌≡◌, refl, ℕ, ℤ, pos, negsuc, zero, suc, [], ◌∷◌, Some, None, map}
 use Rattle.std.specs.Ordering.{nat_cmp}
 use Rattle.rt_geo.specs.Boxes.{Rect, rect_of}
+use Rattle.rt_geo.specs.Layers.{only}
 use Rattle.rt_geo.specs.declared.entry.Entry.{Entry}
 use Rattle.rt_tree.specs.declared.tree.Node.{Node}
 use Rattle.rt_tree.specs.Entries.{first_repeat}
@@ -40,17 +41,12 @@ minus zero = pos 0
 minus (suc n) = negsuc n
 
 abbrev entry : ℕ → Rect → Entry
-entry id bounds = record { id = pos id; bounds = bounds }
+entry id bounds = record { id = pos id; bounds = bounds; layer = 0 }
 
 abbrev node : Rect → (level first count size : ℕ) → Node
-node bounds level first count size = record {
-  bounds = bounds;
-  level = level;
-  first = first;
-  count = count;
-  size =
-      size;
-}
+node bounds level first count size =
+    let layers = only 0 in
+    record { layers = layers; bounds = bounds; first = first; size = size; count = count; level = level }
 
 abbrev box1 : Entry
 box1 = entry 1 (rect_of (pos 0) (pos 10) (pos 0) (pos 10))

@@ -1,5 +1,5 @@
 -- A packed tree is sound.
-use Rattle.std.proofs.Common.{◌≡◌, ◌<◌, ◌≤◌, ◌+◌, ℕ, zero, suc, true, List, [], ◌∷◌, ◌++◌, length, map}
+use Rattle.std.proofs.Common.{◌≡◌, ◌<◌, ◌≤◌, ◌+◌, ℕ, zero, suc, Bool, true, List, [], ◌∷◌, ◌++◌, length, map}
 use Rattle.std.proofs.Common.{take, drop, refl, sym, ◌∙◌, ap, subst, arith, append_assoc}
 use Rattle.std.proofs.Common.{length-append}
 use Rattle.std.specs.List.{AllByRecursion, flat_map, fold, sum_by}
@@ -8,13 +8,17 @@ use Rattle.std.proofs.lemmas.Grind.{flat_map-append}
 use Rattle.std.proofs.lemmas.List.{drop-append-le, length-drop, take-append-le, take_all}
 use Rattle.std.proofs.lemmas.List.Sums.{sum_by-cons}
 use Rattle.rt_geo.specs.Boxes.{Rect, IsRect, hull, inside, plane}
-use Rattle.rt_geo.specs.Entries.{HasBox}
+use Rattle.rt_geo.specs.Entries.{HasBox, HasLayer}
+use Rattle.rt_geo.specs.Layers.{HasSome, no_layers, subset, union}
 use Rattle.rt_geo.specs.Laws.{Extent, IsBoxInside, IsPart, extent_of_entry}
 use Rattle.rt_geo.specs.Lemmas.Boxes.{IsRect-hull, hull-inside, inside-hull_left, inside-hull_right, inside-same, inside-trans}
 use Rattle.rt_geo.specs.Lemmas.Laws.{IsBoxInside-entry, IsBoxInside-part}
+use Rattle.rt_geo.specs.Lemmas.Layers.{HasSome-only, HasSome-union, subset-same, subset-trans, subset-union_left}
+use Rattle.rt_geo.specs.Lemmas.Layers.{subset-union_right}
 use Rattle.rt_geo.specs.declared.entry.Entry.{Entry}
+use Rattle.rt_geo.specs.declared.layers.Layers.{Layers}
 use Rattle.rt_tree.specs.Packed.{Packed, IsLeafNode, IsSubtree, child_nodes}
-use Rattle.rt_tree.specs.Packed.{entries_under, extent_of_node, hull_of}
+use Rattle.rt_tree.specs.Packed.{entries_under, extent_of_node, hull_of, no_box, reduced, union_of}
 use Rattle.rt_tree.specs.Packing.{joined, node_over, nodes_over}
 use Rattle.rt_tree.specs.declared.tree.Node.{Node}
 
@@ -39,88 +43,108 @@ pub all_map : {X : Type 0} (P Q : X → Type 0) → ((x : X) → P x → Q x) �
 all_map P Q f [] a = tt
 all_map P Q f (x ∷ xs) a = (f x a.0, all_map P Q f xs a.1)
 
--- ---- hulls
+-- ---- hulls and unions
 
--- the first box lies in the hull, and so does each later one
-inside-fold : (b : Rect) (bs : List Rect) → inside b (fold hull b bs) ≡ true
-inside-fold b [] = inside-same b
-inside-fold b (c ∷ bs) = inside-trans b (hull b c) (fold hull (hull b c) bs) (inside-hull_left b c) (inside-fold
-    (hull b c) bs)
+module _ {X : Type 0} (f : X → X → X) where
+  -- what two have and what is made of them, all have and what is made of all
+  kept-fold : (P : X → Type 0) → ((a b : X) → P a → P b → P (f a b)) → (x : X) (xs : List X) → P x
+      → AllByRecursion P xs → P (fold f x xs)
+  kept-fold P kept x [] h a = h
+  kept-fold P kept x (y ∷ xs) h a = kept-fold P kept (f x y) xs (kept x y h a.0) a.1
 
-all_inside-fold : (b : Rect) (bs : List Rect) → AllByRecursion (λ c. inside c (fold hull b bs) ≡ true) bs
-all_inside-fold b [] = tt
-all_inside-fold b (c ∷ bs) = (
-  inside-trans c (hull b c) (fold hull (hull b c) bs) (inside-hull_right b c) (inside-fold
-      (hull b c) bs),
-  all_inside-fold (hull b c) bs,
-)
+  module _ (is_part : X → X → Bool) (same : (a : X) → is_part a a ≡ true)
+      (trans : (a b c : X) → is_part a b ≡ true → is_part b c ≡ true → is_part a c ≡ true)
+      (left : (a b : X) → is_part a (f a b) ≡ true) (right : (a b : X) → is_part b (f a b) ≡ true) where
+    -- the first is part of what is made of all, and so is each later one
+    part-fold : (x : X) (xs : List X) → is_part x (fold f x xs) ≡ true
+    part-fold x [] = same x
+    part-fold x (y ∷ xs) = trans x (f x y) (fold f (f x y) xs) (left x y) (part-fold (f x y) xs)
 
-IsRect-fold : (b : Rect) (bs : List Rect) → IsRect b → AllByRecursion IsRect bs → IsRect (fold hull b bs)
-IsRect-fold b [] v a = v
-IsRect-fold b (c ∷ bs) v a = IsRect-fold (hull b c) bs (IsRect-hull b c v a.0) a.1
+    all_part-fold : (x : X) (xs : List X) → AllByRecursion (λ y. is_part y (fold f x xs) ≡ true) xs
+    all_part-fold x [] = tt
+    all_part-fold x (y ∷ xs) = (
+      trans y (f x y) (fold f (f x y) xs) (right x y) (part-fold (f x y) xs),
+      all_part-fold (f x y) xs,
+    )
 
--- what holds the boxes holds their hull
-fold-inside : (whole b : Rect) (bs : List Rect) → inside b whole ≡ true → AllByRecursion (λ c. inside c whole ≡ true) bs
-    → inside (fold hull b bs) whole ≡ true
-fold-inside whole b [] h a = h
-fold-inside whole b (c ∷ bs) h a = fold-inside whole (hull b c) bs (hull-inside b c whole h a.0) a.1
+    pub parts-reduced : (none : X) (xs : List X) → AllByRecursion (λ x. is_part x (reduced f none xs) ≡ true) xs
+    parts-reduced none [] = tt
+    parts-reduced none (x ∷ xs) = (part-fold x xs, all_part-fold x xs)
 
-module _ {X : Type 0} (box : X → Rect) where
-  all_mapped : (P : Rect → Type 0) (xs : List X) → AllByRecursion (λ x. P (box x)) xs → AllByRecursion P (map box xs)
+module _ {X Y : Type 0} (show : X → Y) where
+  all_mapped : (P : Y → Type 0) (xs : List X) → AllByRecursion (λ x. P (show x)) xs → AllByRecursion P (map show xs)
   all_mapped P [] a = tt
   all_mapped P (x ∷ xs) a = (a.0, all_mapped P xs a.1)
 
-  all_unmapped : (P : Rect → Type 0) (xs : List X) → AllByRecursion P (map box xs) → AllByRecursion (λ x. P (box x)) xs
+  all_unmapped : (P : Y → Type 0) (xs : List X) → AllByRecursion P (map show xs) → AllByRecursion (λ x. P (show x)) xs
   all_unmapped P [] a = tt
   all_unmapped P (x ∷ xs) a = (a.0, all_unmapped P xs a.1)
 
-  -- the hull of a group is a box, and each of the group lies in it
-  hull-IsRect : (xs : List X) → 0 < length xs → AllByRecursion (λ x. IsRect (box x)) xs → IsRect (hull_of (map box xs))
-  hull-IsRect [] some a = absurd (omega (arith, some))
-  hull-IsRect (x ∷ xs) some a = IsRect-fold (box x) (map box xs) a.0 (all_mapped IsRect xs a.1)
+  -- what each of a group shows, and what two make of it, the whole group makes
+  kept-reduced : (f : Y → Y → Y) (none : Y) (P : Y → Type 0) → ((a b : Y) → P a → P b → P (f a b)) → (xs : List X)
+      → 0 < length xs → AllByRecursion (λ x. P (show x)) xs → P (reduced f none (map show xs))
+  kept-reduced f none P kept [] some a = absurd (omega (arith, some))
+  kept-reduced f none P kept (x ∷ xs) some a = kept-fold f P kept (show x) (map show xs) a.0 (all_mapped P xs a.1)
 
-  -- it lies in what holds each of the group
-  hull_of-inside : (whole : Rect) (xs : List X) → 0 < length xs → AllByRecursion (λ x. inside (box x) whole ≡ true) xs
-      → inside (hull_of (map box xs)) whole ≡ true
-  hull_of-inside whole [] some a = absurd (omega (arith, some))
-  hull_of-inside whole (x ∷ xs) some a =
-      fold-inside whole (box x) (map box xs) a.0 (all_mapped (λ c. inside c whole ≡ true) xs a.1)
+-- the hull of a group is a box, and lies in what holds each of the group
+hull-IsRect : {X : Type 0} (box : X → Rect) (xs : List X) → 0 < length xs → AllByRecursion (λ x. IsRect (box x)) xs
+    → IsRect (hull_of (map box xs))
+hull-IsRect box = kept-reduced box hull no_box IsRect IsRect-hull
 
-  inside-hull_of : (xs : List X) → AllByRecursion (λ x. inside (box x) (hull_of (map box xs)) ≡ true) xs
-  inside-hull_of [] = tt
-  inside-hull_of (x ∷ xs) =
-      let whole = fold hull (box x) (map box xs) in (
-        inside-fold (box x) (map box xs),
-        all_unmapped (λ c. inside c whole ≡ true) xs (all_inside-fold (box x)
-            (map box xs)),
-      )
+hull_of-inside : {X : Type 0} (box : X → Rect) (whole : Rect) (xs : List X) → 0 < length xs
+    → AllByRecursion (λ x. inside (box x) whole ≡ true) xs → inside (hull_of (map box xs)) whole ≡ true
+hull_of-inside box whole =
+    kept-reduced box hull no_box (λ c. inside c whole ≡ true) (λ a b. hull-inside a b whole)
+
+union-HasSome : {X : Type 0} (layers : X → Layers) (xs : List X) → 0 < length xs
+    → AllByRecursion (λ x. HasSome (layers x)) xs → HasSome (union_of (map layers xs))
+union-HasSome layers = kept-reduced layers union no_layers HasSome HasSome-union
+
+-- two facts of each element, as one
+both_of_all : {X : Type 0} (P Q R : X → Type 0) → ((x : X) → P x → Q x → R x) → (xs : List X) → AllByRecursion P xs
+    → AllByRecursion Q xs → AllByRecursion R xs
+both_of_all P Q R f [] a b = tt
+both_of_all P Q R f (x ∷ xs) a b = (f x a.0 b.0, both_of_all P Q R f xs a.1 b.1)
 
 module _ {X : Type 0} (extent : X → Extent) where
-  -- each of a group is part of the extent whose bounds are their hull
-  parts_of-hull : (whole : Extent) (xs : List X) → whole.bounds ≡ hull_of (map (λ x. (extent x).bounds) xs)
+  -- each of a group is part of the extent whose bounds are their hull, and whose layers are their union
+  parts_of-whole : (whole : Extent) (xs : List X) → whole.bounds ≡ hull_of (map (λ x. (extent x).bounds) xs)
+      → whole.layers ≡ union_of (map (λ x. (extent x).layers) xs)
       → AllByRecursion (λ x. IsPart (extent x) whole) xs
-  parts_of-hull whole xs is =
+  parts_of-whole whole xs around of_all =
       let box = λ (x : X). (extent x).bounds in
-      all_map (λ (x : X). inside (box x) whole.bounds ≡ true) (λ x. IsPart (extent x) whole)
-      (λ x h. record { bounds = h }) xs
-      (subst (λ b. AllByRecursion (λ x. inside (box x) b ≡ true) xs) (sym is) (inside-hull_of box xs))
+      let layers = λ (x : X). (extent x).layers in
+      let In = λ (b : Rect) (x : X). inside (box x) b ≡ true in
+      let Among = λ (s : Layers) (x : X). subset (layers x) s ≡ true in
+      both_of_all (In whole.bounds) (Among whole.layers) (λ x. IsPart (extent x) whole)
+      (λ x h k. record { bounds = h; layers = k }) xs
+      (subst (λ b. AllByRecursion (In b) xs) (sym around) (all_unmapped box (λ c. inside c (hull_of (map box xs)) ≡ true)
+      xs (parts-reduced hull inside inside-same inside-trans inside-hull_left inside-hull_right no_box (map box xs))))
+      (subst (λ s. AllByRecursion (Among s) xs) (sym of_all) (all_unmapped layers
+      (λ s. subset s (union_of (map layers xs)) ≡ true) xs
+      (parts-reduced union subset subset-same subset-trans subset-union_left subset-union_right no_layers
+      (map layers xs))))
+
+-- an entry as tables have them
+abbrev pub IsEntry : Entry → Type 0
+IsEntry e = HasBox e × HasLayer e
 
 -- entries that are parts of an extent are boxes inside it
-entries_inside : (whole : Extent) (es : List Entry) → AllByRecursion HasBox es
+entries_inside : (whole : Extent) (es : List Entry) → AllByRecursion IsEntry es
     → AllByRecursion (λ e. IsPart (extent_of_entry e) whole) es
     → AllByRecursion (λ e. IsBoxInside (extent_of_entry e) whole) es
 entries_inside whole [] a p = tt
 entries_inside whole (e ∷ es) a p = (
-  IsBoxInside-part (extent_of_entry e) (extent_of_entry e) whole p.0 (IsBoxInside-entry e a.0),
+  IsBoxInside-part (extent_of_entry e) (extent_of_entry e) whole p.0 (IsBoxInside-entry e a.0.0 a.0.1),
   entries_inside whole es a.1 p.1,
 )
 
 -- ---- what the nodes of a level stand for
 
-pub length-nodes_over : {X : Type 0} (box : X → Rect) (size : X → ℕ) (level first : ℕ) (groups : List (List X))
-    → length (nodes_over box size level first groups) ≡ length groups
-length-nodes_over box size level first [] = refl
-length-nodes_over box size level first (g ∷ gs) = ap (λ n. suc n) (length-nodes_over box size level
+pub length-nodes_over : {X : Type 0} (extent : X → Extent) (size : X → ℕ) (level first : ℕ) (groups : List (List X))
+    → length (nodes_over extent size level first groups) ≡ length groups
+length-nodes_over extent size level first [] = refl
+length-nodes_over extent size level first (g ∷ gs) = ap (λ n. suc n) (length-nodes_over extent size level
     (first + length g) gs)
 
 pub sum_by-ones : {X : Type 0} (xs : List X) → sum_by (λ _. 1) xs ≡ length xs
@@ -150,19 +174,19 @@ module _ (fanout : ℕ) (es : List Entry) where
 
   pub subtree_more : (ns more : List Node) (h : ℕ) (n : Node) → IsSubtree (tree ns) h n
       → IsSubtree (tree (ns ++ more)) h n
-  subtree_more ns more zero n s =
-      record {
-        level = s.level;
-        some = s.some;
-        few = s.few;
-        range = s.range;
-        valid = s.valid;
-        coordinates = s.coordinates;
-        exact =
-            s.exact;
-        within = s.within;
-        size = s.size;
-      }
+  subtree_more ns more zero n s = record {
+    level = s.level;
+    some = s.some;
+    few = s.few;
+    range = s.range;
+    valid = s.valid;
+    coordinates = s.coordinates;
+    layers = s.layers;
+    exact = s.exact;
+    exact_layers = s.exact_layers;
+    within = s.within;
+    size = s.size;
+  }
   subtree_more ns more (suc h) n s =
       let same = sym (children_more ns more n s.range) in
       record {
@@ -174,7 +198,9 @@ module _ (fanout : ℕ) (es : List Entry) where
             (IsSubtree (tree (ns ++ more)) h) (λ k. subtree_more ns more h k) (child_nodes (tree ns) n) s.below);
         valid = s.valid;
         coordinates = s.coordinates;
+        layers = s.layers;
         exact = s.exact ∙ ap (λ ks. hull_of (map (λ (k : Node). k.bounds) ks)) same;
+        exact_layers = s.exact_layers ∙ ap (λ ks. union_of (map (λ (k : Node). k.layers) ks)) same;
         within = subst (AllByRecursion (λ k. IsPart (extent_of_node k) (extent_of_node n))) same s.within;
         size = s.size ∙ ap (sum_by (λ k. k.size)) same;
       }
@@ -206,20 +232,26 @@ module _ (fanout : ℕ) (es : List Entry) where
   subtree_valid t zero n s = s.valid
   subtree_valid t (suc h) n s = s.valid
 
+  subtree_layers : (t : Packed) (h : ℕ) (n : Node) → IsSubtree t h n → HasSome n.layers
+  subtree_layers t zero n s = s.layers
+  subtree_layers t (suc h) n s = s.layers
+
   -- ---- the nodes over groups of entries
 
   pub leaves_sound : (ns : List Node) (gs : List (List Entry)) (front : List Entry) → es ≡ front ++ joined gs
-      → AllByRecursion (IsGroup fanout HasBox) gs
-      → AllByRecursion (IsLeafNode (tree ns)) (nodes_over (λ e. e.bounds) (λ _. 1) 1 (length front) gs)
+      → AllByRecursion (IsGroup fanout IsEntry) gs
+      → AllByRecursion (IsLeafNode (tree ns)) (nodes_over extent_of_entry (λ _. 1) 1 (length front) gs)
   leaves_sound ns [] front is a = tt
   leaves_sound ns (g ∷ gs) front is a =
       let box = λ (e : Entry). e.bounds in
-      let whole = extent_of_node (node_over box (λ _. 1) 1 (length front) g) in
+      let layers = λ (e : Entry). (extent_of_entry e).layers in
+      let whole = extent_of_node (node_over extent_of_entry (λ _. 1) 1 (length front) g) in
       let here : take (length g) (drop (length front) es) ≡ g = ap (λ l. take (length g) (drop
       (length front) l)) is ∙ group_at front g (joined gs) in
       let behind : es ≡ (front ++ g) ++ joined gs = is ∙ sym (append_assoc front g (joined gs)) in
       let total = ap length is in
-      let boxes = all_map HasBox (λ e. IsRect e.bounds) (λ e b. b.box) g a.0.1 in (
+      let boxes = all_map IsEntry (λ e. IsRect e.bounds) (λ e b. b.0.box) g a.0.1 in
+      let some = all_map IsEntry (λ e. HasSome (layers e)) (λ e b. HasSome-only e.layer b.1) g a.0.1 in (
         record {
           level = refl;
           some = a.0.0.0;
@@ -227,24 +259,26 @@ module _ (fanout : ℕ) (es : List Entry) where
           range = omega (arith, total, length-append front (g ++ joined gs), length-append g (joined gs));
           valid = hull-IsRect box g a.0.0.0 boxes;
           coordinates = hull_of-inside box plane g a.0.0.0
-              (all_map HasBox (λ e. inside e.bounds plane ≡ true) (λ e b. b.coordinates) g a.0.1);
+              (all_map IsEntry (λ e. inside e.bounds plane ≡ true) (λ e b. b.0.coordinates) g a.0.1);
+          layers = union-HasSome layers g a.0.0.0 some;
           exact = ap (λ l. hull_of (map box l)) (sym here);
+          exact_layers = ap (λ l. union_of (map layers l)) (sym here);
           within = subst (AllByRecursion (λ e. IsBoxInside (extent_of_entry e) whole)) (sym here)
-              (entries_inside whole g a.0.1 (parts_of-hull extent_of_entry whole g refl));
+              (entries_inside whole g a.0.1 (parts_of-whole extent_of_entry whole g refl refl));
           size = sum_by-ones g;
         },
-        subst (λ n. AllByRecursion (IsLeafNode (tree ns)) (nodes_over box (λ _. 1) 1 n gs)) (length-append front g)
+        subst (λ n. AllByRecursion (IsLeafNode (tree ns)) (nodes_over extent_of_entry (λ _. 1) 1 n gs)) (length-append front g)
             (leaves_sound ns gs (front ++ g) behind a.1),
       )
 
   pub leaves_under : (ns : List Node) (gs : List (List Entry)) (front : List Entry) → es ≡ front ++ joined gs
-      → flat_map (entries_under (tree ns) 0) (nodes_over (λ e. e.bounds) (λ _. 1) 1 (length front) gs) ≡ joined gs
+      → flat_map (entries_under (tree ns) 0) (nodes_over extent_of_entry (λ _. 1) 1 (length front) gs) ≡ joined gs
   leaves_under ns [] front is = refl
   leaves_under ns (g ∷ gs) front is =
       let here : take (length g) (drop (length front) es) ≡ g = ap (λ l. take (length g) (drop
       (length front) l)) is ∙ group_at front g (joined gs) in
       let behind : es ≡ (front ++ g) ++ joined gs = is ∙ sym (append_assoc front g (joined gs)) in
-      let rest = subst (λ n. flat_map (entries_under (tree ns) 0) (nodes_over (λ e. e.bounds)
+      let rest = subst (λ n. flat_map (entries_under (tree ns) 0) (nodes_over extent_of_entry
       (λ _. 1) 1 n gs) ≡ joined gs) (length-append front g) (leaves_under ns gs (front ++ g) behind) in
       rw (here, rest) refl
 
@@ -252,12 +286,13 @@ module _ (fanout : ℕ) (es : List Entry) where
 
   pub over_sound : (ns : List Node) (h : ℕ) (gs : List (List Node)) (front : List Node) → ns ≡ front ++ joined gs
       → AllByRecursion (IsGroup fanout (IsSubtree (tree ns) h)) gs
-      → AllByRecursion (IsSubtree (tree ns) (suc h)) (nodes_over (λ n. n.bounds) (λ n. n.size) (suc (suc h))
+      → AllByRecursion (IsSubtree (tree ns) (suc h)) (nodes_over extent_of_node (λ n. n.size) (suc (suc h))
       (length front) gs)
   over_sound ns h [] front is a = tt
   over_sound ns h (g ∷ gs) front is a =
       let box = λ (n : Node). n.bounds in
-      let whole = extent_of_node (node_over box (λ k. k.size) (suc (suc h)) (length front) g) in
+      let layers = λ (n : Node). n.layers in
+      let whole = extent_of_node (node_over extent_of_node (λ k. k.size) (suc (suc h)) (length front) g) in
       let here : take (length g) (drop (length front) ns) ≡ g = ap (λ l. take (length g) (drop
       (length front) l)) is ∙ group_at front g (joined gs) in
       let behind : ns ≡ (front ++ g) ++ joined gs = is ∙ sym (append_assoc front g (joined gs)) in
@@ -272,24 +307,27 @@ module _ (fanout : ℕ) (es : List Entry) where
               (tree ns) h) g a.0.1);
           coordinates = hull_of-inside box plane g a.0.0.0
               (all_map (IsSubtree (tree ns) h) (λ n. inside n.bounds plane ≡ true) (subtree_coordinates (tree ns) h) g a.0.1);
+          layers = union-HasSome layers g a.0.0.0 (all_map (IsSubtree (tree ns) h) (λ n. HasSome n.layers)
+              (subtree_layers (tree ns) h) g a.0.1);
           exact = ap (λ l. hull_of (map box l)) (sym here);
+          exact_layers = ap (λ l. union_of (map layers l)) (sym here);
           within = subst (AllByRecursion (λ k. IsPart (extent_of_node k) whole)) (sym here)
-              (parts_of-hull extent_of_node whole g refl);
+              (parts_of-whole extent_of_node whole g refl refl);
           size = ap (sum_by (λ k. k.size)) (sym here);
         },
-        subst (λ n. AllByRecursion (IsSubtree (tree ns) (suc h)) (nodes_over box (λ k. k.size) (suc (suc h)) n gs))
+        subst (λ n. AllByRecursion (IsSubtree (tree ns) (suc h)) (nodes_over extent_of_node (λ k. k.size) (suc (suc h)) n gs))
             (length-append front g) (over_sound ns h gs (front ++ g) behind a.1),
       )
 
   pub over_under : (ns : List Node) (h : ℕ) (gs : List (List Node)) (front : List Node) → ns ≡ front ++ joined gs
-      → flat_map (entries_under (tree ns) (suc h)) (nodes_over (λ n. n.bounds) (λ n. n.size) (suc (suc h))
+      → flat_map (entries_under (tree ns) (suc h)) (nodes_over extent_of_node (λ n. n.size) (suc (suc h))
       (length front) gs) ≡ flat_map (entries_under (tree ns) h) (joined gs)
   over_under ns h [] front is = refl
   over_under ns h (g ∷ gs) front is =
       let here : take (length g) (drop (length front) ns) ≡ g = ap (λ l. take (length g) (drop
       (length front) l)) is ∙ group_at front g (joined gs) in
       let behind : ns ≡ (front ++ g) ++ joined gs = is ∙ sym (append_assoc front g (joined gs)) in
-      let rest = subst (λ n. flat_map (entries_under (tree ns) (suc h)) (nodes_over (λ k. k.bounds) (λ k. k.size)
+      let rest = subst (λ n. flat_map (entries_under (tree ns) (suc h)) (nodes_over extent_of_node (λ k. k.size)
       (suc (suc h)) n gs) ≡ flat_map (entries_under (tree ns) h) (joined gs)) (length-append front g)
       (over_under ns h gs (front ++ g) behind) in
       rw (here, rest) (sym (flat_map-append (entries_under (tree ns) h) g (joined gs)))

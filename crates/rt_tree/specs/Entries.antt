@@ -2,7 +2,7 @@
 use Rattle.std.specs.Prelude.{◌≤◌, ℕ, ℤ, Bool, if◌then◌else◌, List, [], ◌∷◌, ◌++◌, length, map, Option, Some, None}
 use Rattle.std.specs.List.{All, IsDistinct, list_any}
 use Rattle.std.specs.Ordering.{int_eq}
-use Rattle.rt_geo.specs.Entries.{HasBox}
+use Rattle.rt_geo.specs.Entries.{HasBox, HasLayer}
 use Rattle.rt_geo.specs.declared.entry.Entry.{Entry}
 
 -- the ids of the entries
@@ -28,8 +28,10 @@ first_repeat entries = repeat_after [] entries
 abbrev pub most_entries : ℕ
 most_entries = 16777216
 
--- the entries of a table: no two have one id, each has its box, and they are no more than the most
+-- the entries of a table: no two have one id, each has its box and a layer that there is, and they are no more than the
+-- most
 pub record IsTable (entries : List Entry) : Type 0 where
   pub distinct : IsDistinct int_eq (ids_of entries)
   pub boxes : All HasBox entries
+  pub layers : All HasLayer entries
   pub few : length entries ≤ most_entries

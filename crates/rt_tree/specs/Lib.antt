@@ -1,5 +1,6 @@
 pub mod Entries
 pub mod Indexes
+pub mod Leaves
 pub mod Levels
 pub mod Packed
 pub mod Packing

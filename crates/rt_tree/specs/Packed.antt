@@ -4,8 +4,10 @@ use Rattle.std.specs.Prelude.{List, [], ◌∷◌, ◌++◌, drop, filter, get_o
 use Rattle.std.specs.List.{All, AllByRecursion, flat_map, fold, sum_by}
 use Rattle.std.specs.List.Sorted.{IsPermutation}
 use Rattle.rt_geo.specs.Boxes.{Rect, IsRect, hull, inside, plane, rect_of}
+use Rattle.rt_geo.specs.Layers.{HasSome, no_layers, union}
 use Rattle.rt_geo.specs.Laws.{Extent, IsBoxInside, IsPart, extent_of_entry}
 use Rattle.rt_geo.specs.declared.entry.Entry.{Entry}
+use Rattle.rt_geo.specs.declared.layers.Layers.{Layers}
 use Rattle.rt_tree.specs.Entries.{IsTable}
 use Rattle.rt_tree.specs.Levels.{level_sizes}
 use Rattle.rt_tree.specs.declared.tree.Node.{Node}
@@ -39,9 +41,13 @@ all_child_nodes t = flat_map (child_nodes t) (filter (λ n. nat_lt 1 n.level) t.
 abbrev pub all_child_entries : Packed → List Entry
 all_child_entries t = flat_map (child_entries t) (filter (λ n. n.level == 1) t.nodes)
 
+-- the box of what has no children
+abbrev pub no_box : Rect
+no_box = rect_of (pos 0) (pos 0) (pos 0) (pos 0)
+
 -- a node that no tree holds
 abbrev pub no_node : Node
-no_node = record { bounds = rect_of (pos 0) (pos 0) (pos 0) (pos 0); level = 0; first = 0; count = 0; size = 0 }
+no_node = record { layers = no_layers; bounds = no_box; first = 0; size = 0; count = 0; level = 0 }
 
 -- the node with a number
 abbrev pub node_at : Packed → ℕ → Node
@@ -57,12 +63,20 @@ height t = (root_of t).level - 1
 
 -- all that a query function is shown of a node
 abbrev pub extent_of_node : Node → Extent
-extent_of_node n = record { bounds = n.bounds }
+extent_of_node n = record { bounds = n.bounds; layers = n.layers }
+
+-- what a function of two elements makes of a list, from the first element on; of an empty list another element
+abbrev pub reduced : {X : Type 0} → (X → X → X) → (none : X) → List X → X
+reduced f none [] = none
+reduced f none (x ∷ xs) = fold f x xs
 
 -- the least box in which boxes lie, of which there is at least one
 abbrev pub hull_of : List Rect → Rect
-hull_of [] = rect_of (pos 0) (pos 0) (pos 0) (pos 0)
-hull_of (b ∷ bs) = fold hull b bs
+hull_of boxes = reduced hull no_box boxes
+
+-- the layers that are in some of the sets
+abbrev pub union_of : List Layers → Layers
+union_of sets = reduced union no_layers sets
 
 -- ---- what holds of each
 
@@ -74,7 +88,9 @@ pub record IsLeafNode (t : Packed) (n : Node) : Type 0 where
   pub range : n.first + n.count ≤ length t.entries
   pub valid : IsRect n.bounds
   pub coordinates : inside n.bounds plane ≡ true
+  pub layers : HasSome n.layers
   pub exact : n.bounds ≡ hull_of (map (λ e. e.bounds) (child_entries t n))
+  pub exact_layers : n.layers ≡ union_of (map (λ e. (extent_of_entry e).layers) (child_entries t n))
   pub within : AllByRecursion (λ e. IsBoxInside (extent_of_entry e) (extent_of_node n)) (child_entries t n)
   pub size : n.size ≡ n.count
 
@@ -87,7 +103,9 @@ pub record IsInnerNode (t : Packed) (levels : ℕ) (Below : Node → Type 0) (n 
   pub below : AllByRecursion Below (child_nodes t n)
   pub valid : IsRect n.bounds
   pub coordinates : inside n.bounds plane ≡ true
+  pub layers : HasSome n.layers
   pub exact : n.bounds ≡ hull_of (map (λ k. k.bounds) (child_nodes t n))
+  pub exact_layers : n.layers ≡ union_of (map (λ k. k.layers) (child_nodes t n))
   pub within : AllByRecursion (λ k. IsPart (extent_of_node k) (extent_of_node n)) (child_nodes t n)
   pub size : n.size ≡ sum_by (λ k. k.size) (child_nodes t n)
 

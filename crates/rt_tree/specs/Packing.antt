@@ -6,8 +6,9 @@ use Rattle.std.specs.Ordering.{int_cmp, nat_cmp, on, then_cmp}
 use Rattle.std.specs.Simd.{first_chunks}
 use Rattle.std.specs.declared.cmp.Ordering.{Ordering}
 use Rattle.rt_geo.specs.Boxes.{Rect}
+use Rattle.rt_geo.specs.Laws.{Extent, extent_of_entry}
 use Rattle.rt_geo.specs.declared.entry.Entry.{Entry}
-use Rattle.rt_tree.specs.Packed.{Packed, hull_of}
+use Rattle.rt_tree.specs.Packed.{Packed, extent_of_node, hull_of, union_of}
 use Rattle.rt_tree.specs.Sorting.{sorted}
 use Rattle.rt_tree.specs.declared.tree.Node.{Node}
 
@@ -52,20 +53,26 @@ abbrev pub joined : {X : Type 0} → List (List X) → List X
 joined = flat_map (λ xs. xs)
 
 -- the node over a group of items, of which the first has this number
-abbrev pub node_over : {X : Type 0} → (box : X → Rect) → (size : X → ℕ) → (level first : ℕ) → List X → Node
-node_over box size level first group =
-    let whole = hull_of (map box group) in
-    record { bounds = whole; level = level; first = first; count = length group; size = sum_by size group }
+abbrev pub node_over : {X : Type 0} → (extent : X → Extent) → (size : X → ℕ) → (level first : ℕ) → List X → Node
+node_over extent size level first group = record {
+  layers = union_of (map (λ x. (extent x).layers) group);
+  bounds = hull_of (map (λ x. (extent x).bounds) group);
+  first = first;
+  size = sum_by size group;
+  count = length group;
+  level = level;
+}
 
 -- a node over each group, the items being numbered on from group to group
-abbrev pub nodes_over : {X : Type 0} → (box : X → Rect) → (size : X → ℕ) → (level first : ℕ) → List (List X) → List Node
-nodes_over box size level first [] = []
-nodes_over box size level first (group ∷ more) =
-    node_over box size level first group ∷ nodes_over box size level (first + length group) more
+abbrev pub nodes_over : {X : Type 0} → (extent : X → Extent) → (size : X → ℕ) → (level first : ℕ) → List (List X)
+    → List Node
+nodes_over extent size level first [] = []
+nodes_over extent size level first (group ∷ more) =
+    node_over extent size level first group ∷ nodes_over extent size level (first + length group) more
 
 -- the nodes of level 1, over groups of entries
 abbrev pub leaf_nodes : List (List Entry) → List Node
-leaf_nodes = nodes_over (λ e. e.bounds) (λ _. 1) 1 0
+leaf_nodes = nodes_over extent_of_entry (λ _. 1) 1 0
 
 -- the nodes of this level, in the order in which the level above is cut, and then those of all levels above, up to one
 -- that has a single node. `first` is the number of the first of them; the fuel is no less than the number of levels
@@ -73,7 +80,7 @@ abbrev pub nodes_from : (fuel fanout level first : ℕ) → List Node → List N
 nodes_from zero fanout level first made = made
 nodes_from (suc fuel) fanout level first made =
     let cut = groups (λ n. n.bounds) fanout made in
-    let above = nodes_over (λ n. n.bounds) (λ n. n.size) (level + 1) first cut in
+    let above = nodes_over extent_of_node (λ n. n.size) (level + 1) first cut in
     if nat_le (length made) 1 then made
     else joined cut ++ nodes_from fuel fanout (level + 1) (first + length made) above
 

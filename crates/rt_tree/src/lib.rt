@@ -12,12 +12,14 @@
 #![tactic(auto)]
 
 mod ids;
+mod leaves;
 mod levels;
 mod packing;
 mod table;
 mod ties;
 mod tree;
 
+pub use leaves::LeafEntry;
 pub use levels::Levels;
 pub use table::{EntriesFault, PushFault, Table};
 pub use tree::{Node, NodeNo, Tree};

@@ -10,13 +10,19 @@ ghost use Rattle.std.specs.List.{All, enumerate_from, flat_map, sum_by};
 ghost use Rattle.std.specs.Ordering.{int_cmp, nat_cmp, on};
 ghost use Rattle.std.specs.declared.cmp.Ordering.{Ordering};
 ghost use Rattle.rt_geo.specs.Boxes.{Rect};
+ghost use Rattle.rt_geo.specs.Entries.{HasLayer};
+ghost use Rattle.rt_geo.specs.Layers.{most_layer};
+ghost use Rattle.rt_geo.specs.Laws.{extent_of_entry};
 ghost use Rattle.rt_tree.specs.Entries.{IsTable, most_entries};
-ghost use Rattle.rt_tree.specs.Packing.{ceil_sqrt, chunks, groups, joined, node_over, nodes_over};
+ghost use Rattle.rt_tree.specs.Leaves.{entries_of};
+ghost use Rattle.rt_tree.specs.Packed.{extent_of_node};
+ghost use Rattle.rt_tree.specs.Packing.{ceil_sqrt, chunks, groups, joined, leaf_nodes, node_over, nodes_over};
 ghost use Rattle.rt_tree.specs.Packing.{twice_middle_x, twice_middle_y};
 ghost use Rattle.rt_tree.specs.SortKeys.{IsRanked, IsRankedAt, by_rank_and_id, by_y, keys_by_x, key_of, place_of, rank};
 ghost use Rattle.rt_tree.specs.SortKeys.{rekeyed, sort_key, told};
 ghost use Rattle.rt_tree.specs.Sorting.{sorted};
 
+use crate::leaves::{LeafEntry, Leaves, hull_over, layers_over};
 use crate::ties::sort_by_rank_and_id;
 use crate::tree::Node;
 use rt_geo::{Bounds, Entry, hull};
@@ -33,19 +39,12 @@ pub(crate) trait Item: Copy + Drop {
     /// Its box.
     ghost rect: { Self → Rect };
 
-    /// How many entries it stands for.
-    ghost weight: { Self → ℕ };
-
     /// The order of the sort keys of such items.
     ghost key_order: { List Self → ℕ → ℕ → Ordering };
 
     /// Its box.
     fn bounds(&self) -> Bounds
         ensures { result ≡ rect self.now };
-
-    /// How many entries it stands for.
-    fn size(&self) -> u32
-        ensures { result ≡ weight self.now };
 
     /// Sorts the keys of items.
     fn sort_keys(keys: &mut [u64], items: &[Self])
@@ -55,16 +54,10 @@ pub(crate) trait Item: Copy + Drop {
 impl Item for Entry {
     ghost rect = { λ e. e.bounds };
 
-    ghost weight = { λ _. 1 };
-
     ghost key_order = { by_rank_and_id };
 
     fn bounds(&self) -> Bounds {
         self.bounds
-    }
-
-    fn size(&self) -> u32 {
-        1
     }
 
     fn sort_keys(keys: &mut [u64], items: &[Entry]) {
@@ -75,16 +68,10 @@ impl Item for Entry {
 impl Item for Node {
     ghost rect = { λ n. n.bounds };
 
-    ghost weight = { λ n. n.size };
-
     ghost key_order = { λ _. nat_cmp };
 
     fn bounds(&self) -> Bounds {
         self.bounds
-    }
-
-    fn size(&self) -> u32 {
-        self.size
     }
 
     fn sort_keys(keys: &mut [u64], _items: &[Node]) {
@@ -140,16 +127,17 @@ pub(crate) fn arranged_entries(
     alloc: Global,
     entries: &[Entry],
     fanout: u8,
-) -> Result<Vec<Entry>, AllocError>
+) -> Result<Leaves, AllocError>
     requires table { IsTable entries.now }
     requires several { 2 ≤ fanout }
-    ensures { IfOk result (λ v. v.items ≡ joined (groups (λ e. e.bounds) fanout
+    ensures { IfOk result (λ leaves. leaves ≡ joined (groups (λ e. e.bounds) fanout
         (sorted (on (λ e. e.id) int_cmp) entries.now))) }
 {
     if entries.is_empty() {
-        return Ok(Vec::new(alloc));
+        return Ok(Leaves::none(alloc));
     }
-    arranged(alloc, entries, fanout)
+    let keys = arranged_keys(alloc, entries, fanout)?;
+    Leaves::gathered(alloc, &keys, entries)
 }
 
 /// Nodes in the order of their tiles, those whose boxes have one middle by place.
@@ -165,17 +153,19 @@ pub(crate) fn arranged_nodes(
     if nodes.is_empty() {
         return Ok(Vec::new(alloc));
     }
-    arranged(alloc, nodes, fanout)
+    let keys = arranged_keys(alloc, nodes, fanout)?;
+    gathered(alloc, &keys, nodes)
 }
 
-// Items in the order of their tiles.
-fn arranged<T: Item>(alloc: Global, items: &[T], fanout: u8) -> Result<Vec<T>, AllocError>
+// The keys of items, in the order of their tiles.
+fn arranged_keys<T: Item>(alloc: Global, items: &[T], fanout: u8) -> Result<Vec<u64>, AllocError>
     requires some { 0 < length items.now }
     requires few { length items.now ≤ most_entries }
     requires several { 2 ≤ fanout }
-    ensures value { IfOk result (λ v. v.items ≡ told items.now (flat_map (by_y (T.key_order items.now) T.rect items.now)
+    ensures value { IfOk result (λ v. v.items ≡ flat_map (by_y (T.key_order items.now) T.rect items.now)
         (chunks (ceil_sqrt (div_ceil (length items.now) fanout) * fanout)
-        (keys_by_x (T.key_order items.now) T.rect items.now)))) }
+        (keys_by_x (T.key_order items.now) T.rect items.now))) }
+    ensures places { IfOk result (λ v. All (λ key. place_of key < length items.now) v.items) }
     ensures ranked_x { IfOk result (λ _. All (λ x. IsRanked (twice_middle_x (T.rect x))) items.now) }
     ensures ranked_y { IfOk result (λ _.
         All (IsRankedAt T.rect twice_middle_y items.now) (keys_by_x (T.key_order items.now) T.rect items.now)) }
@@ -183,7 +173,7 @@ fn arranged<T: Item>(alloc: Global, items: &[T], fanout: u8) -> Result<Vec<T>, A
     let mut keys = keys_of(alloc, items)?;
     T::sort_keys(&mut keys, items);
     sort_slices(&mut keys, items, slice_size(items.len(), fanout));
-    gathered(alloc, &keys, items)
+    Ok(keys)
 }
 
 // How many items a slice has: as many tiles as there are slices.
@@ -250,59 +240,104 @@ fn key_by_y<T: Item>(key: u64, items: &[T]) -> u64
     sort_key(rank_y(items[place].bounds()), place as u64)
 }
 
-// The items that the keys tell.
-fn gathered<T: Item>(alloc: Global, keys: &[u64], items: &[T]) -> Result<Vec<T>, AllocError>
-    requires { All (λ key. place_of key < length items.now) keys.now }
-    ensures { IfOk result (λ v. v.items ≡ told items.now keys.now) }
+// The nodes that keys tell.
+fn gathered(alloc: Global, keys: &[u64], nodes: &[Node]) -> Result<Vec<Node>, AllocError>
+    requires { All (λ key. place_of key < length nodes.now) keys.now }
+    ensures { IfOk result (λ v. v.items ≡ told nodes.now keys.now) }
 {
     let mut gathered = Vec::with_capacity(alloc, keys.len())?;
     for key in keys {
-        gathered.push(items[place_of(*key)])?;
+        gathered.push(nodes[place_of(*key)])?;
     }
     Ok(gathered)
 }
 
-/// A node over each tile of items that stand in the order of their tiles. `first` is the number of the first item.
-pub(crate) fn nodes_over<T: Item>(
+/// A node of level 1 over each tile of entries that stand in the order of their tiles.
+pub(crate) fn leaf_nodes(
     alloc: Global,
-    items: &[T],
+    leaves: &Leaves,
     fanout: u8,
-    level: u8,
-    first: u32,
 ) -> Result<Vec<Node>, AllocError>
     requires several { 2 ≤ fanout }
-    requires few { sum_by T.weight items.now < 2 ^ 32 }
-    requires numbers { first + length items.now < 2 ^ 32 }
-    ensures { IfOk result (λ v. v.items ≡ nodes_over T.rect T.weight level first (chunks fanout items.now)) }
+    requires few { length leaves.now ≤ most_entries }
+    requires layers { All HasLayer leaves.now }
+    ensures { IfOk result (λ v. v.items ≡ leaf_nodes (chunks fanout leaves.now)) }
 {
-    let mut nodes = Vec::with_capacity(alloc, items.len().div_ceil(fanout as usize))?;
+    let entries = leaves.entries();
+    let layers = leaves.layers();
+    let mut nodes = Vec::with_capacity(alloc, entries.len().div_ceil(fanout as usize))?;
     let mut start = 0;
-    while start < items.len() {
-        let end = start + (fanout as usize).min(items.len() - start);
-        nodes.push(node_over(&items[start..end], level, first + start as u32))?;
+    while start < entries.len() {
+        let end = start + (fanout as usize).min(entries.len() - start);
+        nodes.push(leaf_over(&entries[start..end], &layers[start..end], start as u32))?;
         start = end;
     }
     Ok(nodes)
 }
 
+// The node of level 1 over a tile.
+fn leaf_over(entries: &[LeafEntry], layers: &[u8], first: u32) -> Node
+    requires some { 0 < length entries.now }
+    requires few { length entries.now < 2 ^ 8 }
+    requires paired { length entries.now ≡ length layers.now }
+    requires layers { All (λ layer. layer ≤ most_layer) layers.now }
+    ensures { result ≡ node_over extent_of_entry (λ _. 1) 1 first (entries_of entries.now layers.now) }
+{
+    Node {
+        layers: layers_over(layers),
+        bounds: hull_over(entries),
+        first,
+        size: entries.len() as u32,
+        count: entries.len() as u8,
+        level: 1,
+    }
+}
+
+/// A node over each tile of nodes that stand in the order of their tiles. `first` is the number of the first of them.
+pub(crate) fn nodes_over(
+    alloc: Global,
+    nodes: &[Node],
+    fanout: u8,
+    level: u8,
+    first: u32,
+) -> Result<Vec<Node>, AllocError>
+    requires several { 2 ≤ fanout }
+    requires few { sum_by (λ n. n.size) nodes.now < 2 ^ 32 }
+    requires numbers { first + length nodes.now < 2 ^ 32 }
+    ensures { IfOk result (λ v. v.items
+        ≡ nodes_over extent_of_node (λ n. n.size) level first (chunks fanout nodes.now)) }
+{
+    let mut above = Vec::with_capacity(alloc, nodes.len().div_ceil(fanout as usize))?;
+    let mut start = 0;
+    while start < nodes.len() {
+        let end = start + (fanout as usize).min(nodes.len() - start);
+        above.push(node_over(&nodes[start..end], level, first + start as u32))?;
+        start = end;
+    }
+    Ok(above)
+}
+
 // The node over a tile.
-fn node_over<T: Item>(tile: &[T], level: u8, first: u32) -> Node
+fn node_over(tile: &[Node], level: u8, first: u32) -> Node
     requires some { 0 < length tile.now }
     requires few { length tile.now < 2 ^ 8 }
-    requires weight { sum_by T.weight tile.now < 2 ^ 32 }
-    ensures { result ≡ node_over T.rect T.weight level first tile.now }
+    requires weight { sum_by (λ n. n.size) tile.now < 2 ^ 32 }
+    ensures { result ≡ node_over extent_of_node (λ n. n.size) level first tile.now }
 {
-    let mut bounds = tile[0].bounds();
-    let mut size = tile[0].size();
-    for item in &tile[1..] {
-        bounds = hull(bounds, item.bounds());
-        size += item.size();
+    let mut layers = tile[0].layers;
+    let mut bounds = tile[0].bounds;
+    let mut size = tile[0].size;
+    for node in &tile[1..] {
+        layers = layers.union(node.layers);
+        bounds = hull(bounds, node.bounds);
+        size += node.size;
     }
     Node {
+        layers,
         bounds,
-        level,
         first,
-        count: tile.len() as u8,
         size,
+        count: tile.len() as u8,
+        level,
     }
 }

@@ -2,7 +2,8 @@
 
 ghost use Rattle.std.specs.Prelude.{◌≡◌, ◌==◌, ◌<◌, ◌≤◌, ◌++◌, ◌∷◌, ◌↔◌, [], length, slice_get, true, false};
 ghost use Rattle.std.specs.Prelude.{Ok, Err, Some, None, IfOk, IfErr, OnOk, OnErr};
-ghost use Rattle.rt_geo.specs.Entries.{HasBox};
+ghost use Rattle.std.specs.List.{All};
+ghost use Rattle.rt_geo.specs.Entries.{HasBox, HasLayer};
 ghost use Rattle.rt_tree.specs.Entries.{IsTable, first_repeat, has_id, most_entries};
 ghost use Rattle.rt_tree.specs.Repeats.{ExplainsNoTable};
 
@@ -63,10 +64,11 @@ impl Table {
         }
     }
 
-    /// The table of these entries, in their order, in O(n log n) whatever they are. `Repeated` tells the first entry
+    /// The table of these entries, whose layers are at most 63, in their order, in O(n log n) whatever they are. `Repeated` tells the first entry
     /// whose id an earlier one has; `Memory` comes where there was none for the table.
     pub fn of_entries(alloc: Global, entries: Vec<Entry>) -> Result<Table, EntriesFault>
-        requires { length entries.items ≤ most_entries }
+        requires most { length entries.items ≤ most_entries }
+        requires layers { All HasLayer entries.items }
         ensures table { IfOk result (λ t. t ≡ entries.items) }
         ensures once { IfOk result (λ _. first_repeat entries.items ≡ None) }
         ensures fault { IfErr result (λ f. ExplainsNoTable f entries.items) }
@@ -95,6 +97,7 @@ impl Table {
         requires { place < length self.now }
         ensures value { slice_get self.now place ≡ Some result }
         ensures has_box { HasBox result }
+        ensures has_layer { HasLayer result }
     {
         self.entries[place as usize]
     }
@@ -117,10 +120,11 @@ impl Table {
         entries
     }
 
-    /// Adds an entry last. `Repeated` exactly where its id is there, and then no memory is taken; `Memory` where
+    /// Adds an entry last, whose layer is at most 63. `Repeated` exactly where its id is there, and then no memory is taken; `Memory` where
     /// there was none for it. After either the table is as it was.
     pub fn push(&mut self, entry: Entry) -> Result<(), PushFault>
-        requires { length self.old < most_entries }
+        requires most { length self.old < most_entries }
+        requires layer { HasLayer entry }
         ensures ok { OnOk result (self.new ≡ self.old ++ entry ∷ []) }
         ensures new { OnOk result (has_id self.old entry.id ≡ false) }
         ensures repeated { (result ≡ Err PushFault.Repeated) ↔ (has_id self.old entry.id ≡ true) }

@@ -1,22 +1,29 @@
 //! A packed tree of boxes.
 
-ghost use Rattle.std.specs.Prelude.{◌≡◌, ◌==◌, ◌+◌, ◌-◌, ◌<◌, ◌≤◌, ◌↔◌, IfOk, IfSome, IsSome, Some, length, slice_get};
+ghost use Rattle.std.specs.Prelude.{◌≡◌, ◌==◌, ◌+◌, ◌-◌, ◌<◌, ◌≤◌, ◌↔◌, IfOk, IfSome, IsSome, Some, length, map, slice_get};
+ghost use Rattle.std.specs.List.{All};
 ghost use Rattle.std.specs.List.Sorted.{IsPermutation};
+ghost use Rattle.rt_geo.specs.Entries.{HasLayer};
+ghost use Rattle.rt_geo.specs.Laws.{extent_of_entry};
 ghost use Rattle.rt_tree.specs.Entries.{most_entries};
+ghost use Rattle.rt_tree.specs.Leaves.{without_layer};
 ghost use Rattle.rt_tree.specs.Levels.{level_sizes};
 ghost use Rattle.rt_tree.specs.Packed.{IsSound, child_entries, child_nodes, node_at, root_of};
 ghost use Rattle.rt_tree.specs.Packing.{all_nodes, chunks, leaf_nodes, pack_of};
 
+use crate::leaves::{LeafEntry, Leaves};
 use crate::levels::Levels;
-use crate::packing::{arranged_entries, arranged_nodes, nodes_over};
+use crate::packing::{arranged_entries, arranged_nodes, leaf_nodes, nodes_over};
 use crate::table::Table;
-use rt_geo::{Bounds, Entry};
+use rt_geo::{Bounds, Entry, Layers};
 use std::alloc::{AllocError, Global};
 use std::marker::Model;
 
 /// A node: what is known of the entries under it, and where its children are.
 #[derive(Clone, Copy, Debug, PartialEq, Eq)]
 pub struct Node {
+    /// The layers of its children: of all the entries under it.
+    pub layers: Layers,
     /// The least box in which its children lie.
     pub bounds: Bounds,
     /// The place of its first child, which is an entry where the level is 1, and else the number of its first child, a
@@ -61,7 +68,7 @@ impl NodeNo {
 #[derive(Drop)]
 pub struct Tree {
     fanout: u8,
-    entries: Vec<Entry>,
+    leaves: Leaves,
     nodes: Vec<Node>,
     levels: Levels,
 }
@@ -73,10 +80,10 @@ impl Model for Tree {
 
     ghost Value = { Packed };
 
-    ghost view = { λ t. record { fanout = t.fanout; entries = t.entries.items; nodes = t.nodes.items } };
+    ghost view = { λ t. record { fanout = t.fanout; entries = t.leaves; nodes = t.nodes.items } };
 
-    ghost invariant = { λ t. IsSound (record { fanout = t.fanout; entries = t.entries.items; nodes = t.nodes.items })
-        × (t.levels ≡ level_sizes (length t.entries.items) t.fanout) };
+    ghost invariant = { λ t. IsSound (record { fanout = t.fanout; entries = t.leaves; nodes = t.nodes.items })
+        × (t.levels ≡ level_sizes (length t.leaves) t.fanout) };
 }
 
 impl Tree {
@@ -90,12 +97,12 @@ impl Tree {
     {
         let levels = Levels::new(table.len(), fanout);
         let entries = table.into_entries();
-        let tiled = arranged_entries(alloc, &entries, fanout)?;
+        let leaves = arranged_entries(alloc, &entries, fanout)?;
         drop(entries);
-        let nodes = all_nodes(alloc, &tiled, fanout)?;
+        let nodes = all_nodes(alloc, &leaves, fanout)?;
         Ok(Tree {
             fanout,
-            entries: tiled,
+            leaves,
             nodes,
             levels,
         })
@@ -106,14 +113,14 @@ impl Tree {
         ensures value { result ≡ length self.now.entries }
         ensures sound { IsSound self.now }
     {
-        self.entries.len() as u32
+        self.leaves.len() as u32
     }
 
     /// Whether it has no entries.
     pub fn is_empty(&self) -> bool
         ensures { result ≡ (length self.now.entries == 0) }
     {
-        self.entries.is_empty()
+        self.leaves.len() == 0
     }
 
     /// The level of the root; 0 where there is none.
@@ -181,24 +188,26 @@ impl Tree {
         requires { place < length self.now.entries }
         ensures { slice_get self.now.entries place ≡ Some result }
     {
-        self.entries[place as usize]
+        self.leaves.get(place as usize)
     }
 
-    /// The entries, in the order of their places.
-    pub fn entries(&self) -> &[Entry]
-        ensures { result.now ≡ self.now.entries }
-    {
-        self.entries.as_slice()
-    }
-
-    /// The entries under a node of level 1, in the order of their places.
+    /// The layer of the entry at a place, as a set. Where it isn't looked at, nothing is read.
     #[inline(always)]
-    pub fn child_entries(&self, node: Node) -> &[Entry]
+    pub fn layers_at(&self, place: u32) -> Layers
+        requires { place < length self.now.entries }
+        ensures { IfSome (slice_get self.now.entries place) (λ entry. result ≡ (extent_of_entry entry).layers) }
+    {
+        Layers::of(self.leaves.layer(place as usize))
+    }
+
+    /// The entries under a node of level 1, in the order of their places, without their layers.
+    #[inline(always)]
+    pub fn child_entries(&self, node: Node) -> &[LeafEntry]
         requires { node.first + node.count ≤ length self.now.entries }
-        ensures { result.now ≡ child_entries self.now node }
+        ensures { result.now ≡ map without_layer (child_entries self.now node) }
     {
         let first = node.first as usize;
-        &self.entries[first..first + node.count as usize]
+        &self.leaves.entries()[first..first + node.count as usize]
     }
 
     /// The nodes right under a node above level 1, in the order of their numbers.
@@ -220,12 +229,13 @@ impl Tree {
 }
 
 // The nodes of all levels over entries that stand in the order of their tiles.
-fn all_nodes(alloc: Global, entries: &[Entry], fanout: u8) -> Result<Vec<Node>, AllocError>
+fn all_nodes(alloc: Global, leaves: &Leaves, fanout: u8) -> Result<Vec<Node>, AllocError>
     requires several { 2 ≤ fanout }
-    requires few { length entries.now ≤ most_entries }
-    ensures { IfOk result (λ v. v.items ≡ all_nodes fanout (leaf_nodes (chunks fanout entries.now))) }
+    requires few { length leaves.now ≤ most_entries }
+    requires layers { All HasLayer leaves.now }
+    ensures { IfOk result (λ v. v.items ≡ all_nodes fanout (leaf_nodes (chunks fanout leaves.now))) }
 {
-    let mut made = nodes_over(alloc, entries, fanout, 1, 0)?;
+    let mut made = leaf_nodes(alloc, leaves, fanout)?;
     let mut nodes = Vec::new(alloc);
     let mut level = 1;
     'levels: while made.len() > 1 {

@@ -1,5 +1,6 @@
 //! Tables, pushed one by one and made at once.
 
+use crate::layered::layered;
 use rt_geo::{Bounds, Entry};
 use rt_tree::{EntriesFault, PushFault, Table};
 use std::alloc::Global;
@@ -26,7 +27,8 @@ static TABLES: [[(i64, [i32; 4]); 5]; 2] = [
 fn entry(id: i64, sides: [i32; 4]) -> Option<Entry> {
     let [min_x, max_x, min_y, max_y] = sides;
     let bounds = Bounds::new(min_x, max_x, min_y, max_y)?;
-    Some(Entry { id, bounds })
+    let layer = 0;
+    Some(Entry { id, bounds, layer })
 }
 
 // Pushes a box, where it is one and there is room for another.
@@ -70,6 +72,7 @@ fn loaded(alloc: Global, ids: &[i64]) -> Option<Result<Table, EntriesFault>> {
     for id in ids {
         entries.push(entry(*id, [0; 4])?).ok()?;
     }
+    let entries = layered(entries)?;
     if entries.len() > Table::MOST_ENTRIES as usize {
         return None;
     }

@@ -1,6 +1,6 @@
 //! Packed trees, node by node.
 
-use rt_geo::{Bounds, Entry, hull};
+use rt_geo::{Bounds, Entry, Layers, hull};
 use rt_tree::{Node, Table, Tree};
 use std::alloc::Global;
 use std::test::Fail;
@@ -40,6 +40,7 @@ fn push(table: &mut Table, id: i64, sides: Sides) -> Option<()> {
         .push(Entry {
             id,
             bounds: bounds(sides)?,
+            layer: (id.unsigned_abs() % 7) as u8,
         })
         .ok()
 }
@@ -72,39 +73,48 @@ fn strewn(alloc: Global, count: u32) -> Option<Table> {
     Some(table)
 }
 
-// One more box beside others, and how many entries they stand for.
-fn with(others: Option<(Bounds, u32)>, bounds: Bounds, size: u32) -> Option<(Bounds, u32)> {
+// What some children are together: their box, their layers, and how many entries they stand for.
+type Whole = (Bounds, Layers, u32);
+
+// One more child beside others.
+fn with(others: Option<Whole>, bounds: Bounds, layers: Layers, size: u32) -> Option<Whole> {
     match others {
-        None => Some((bounds, size)),
-        Some((all, sum)) => Some((hull(all, bounds), sum.wrapping_add(size))),
+        None => Some((bounds, layers, size)),
+        Some((box_of_all, all, sum)) => Some((
+            hull(box_of_all, bounds),
+            all.union(layers),
+            sum.wrapping_add(size),
+        )),
     }
 }
 
-fn over_entries(entries: &[Entry]) -> Option<(Bounds, u32)> {
+fn over_entries(tree: &Tree, node: &Node) -> Option<Whole> {
     let mut all = None;
-    for entry in entries {
-        all = with(all, entry.bounds, 1);
+    for place in node.first..node.first + node.count as u32 {
+        if place >= tree.len() {
+            return None;
+        }
+        let entry = tree.entry(place);
+        all = with(all, entry.bounds, tree.layers_at(place), 1);
     }
     all
 }
 
-fn over_nodes(nodes: &[Node]) -> Option<(Bounds, u32)> {
+fn over_nodes(nodes: &[Node]) -> Option<Whole> {
     let mut all = None;
     for node in nodes {
-        all = with(all, node.bounds, node.size);
+        all = with(all, node.bounds, node.layers, node.size);
     }
     all
 }
 
 // What the children of a node are together.
-fn over_children(tree: &Tree, node: &Node) -> Option<(Bounds, u32)> {
-    let first = node.first as usize;
-    let end = first + node.count as usize;
+fn over_children(tree: &Tree, node: &Node) -> Option<Whole> {
     if node.level == 1 {
-        over_entries(tree.entries().get(first..end)?)
-    } else {
-        over_nodes(tree.nodes().get(first..end)?)
+        return over_entries(tree, node);
     }
+    let first = node.first as usize;
+    over_nodes(tree.nodes().get(first..first + node.count as usize)?)
 }
 
 // How many nodes are on a level.
@@ -156,8 +166,10 @@ fn equal_boxes_stand_by_id(rt: HostRuntime) {
     ];
     let table = table(rt.alloc(), &boxes).expect(&rt, "the boxes are a table");
     let tree = Tree::pack(rt.alloc(), table, 2).expect(&rt, "there is memory");
-    for (entry, id) in tree.entries().iter().zip(&[1, 2, 3, 4, 5]) {
-        assert_eq!(rt; entry.id, *id);
+    for (place, id) in [1, 2, 3, 4, 5].iter().enumerate() {
+        if (place as u32) < tree.len() {
+            assert_eq!(rt; tree.entry(place as u32).id, *id);
+        }
     }
     let firsts = [(0, 2), (2, 2), (4, 1), (0, 2), (2, 1), (3, 2)];
     for (node, (first, count)) in tree.nodes().iter().zip(&firsts) {
@@ -199,7 +211,9 @@ fn each_node_is_true_of_its_children(rt: HostRuntime) {
             );
             assert_eq!(rt; tree.len(), count);
             for node in tree.nodes() {
-                assert!(rt; over_children(&tree, node) == Some((node.bounds, node.size)));
+                assert!(rt;
+                    over_children(&tree, node) == Some((node.bounds, node.layers, node.size))
+                );
                 assert!(rt; node.count <= fanout);
             }
             let root = tree.root().expect(&rt, "there are entries");

@@ -1,145 +1,146 @@
 //! Whole trees, each told by one number, over tables that a fixed recursion makes. `tests/packing.py` packs the same
 //! tables by a reading of its own, and compares its numbers with these.
 
+use crate::layered::layered;
 use rt_geo::{Bounds, Entry};
 use rt_tree::{Node, Table, Tree};
 use std::alloc::Global;
 
-// How the boxes of a table lie, and what ids they have.
+// How the boxes of a table lie, and what ids and layers they have.
 #[derive(Clone, Copy, Debug, PartialEq, Eq)]
 enum Kind {
-    // Small boxes, with ids in no order.
+    // Small boxes, with ids in no order, on any layer.
     Strewn,
-    // All in one place, with ids that fall.
+    // All in one place, with ids that fall, on one layer.
     OnePlace,
-    // Points on a line, many in one place, with ids at both ends of their range.
+    // Points on a line, many in one place, with ids at both ends of their range and layers that go with the place.
     OneLine,
-    // Boxes as large as the plane, with ids that rise.
+    // Boxes as large as the plane, with ids that rise. One has a layer of its own, the others have three.
     WholePlane,
 }
 
 // The kind, the fanout, how many entries there are, and the number of the tree.
 static TREES: [(Kind, u8, u32, i64); 120] = [
     (Kind::Strewn, 2, 0, 6364136223846793005),
-    (Kind::Strewn, 2, 1, 618737385349200247),
-    (Kind::Strewn, 2, 2, -703406197606974647),
-    (Kind::Strewn, 2, 3, -9606107990778545),
-    (Kind::Strewn, 2, 4, -9063608025114886738),
-    (Kind::Strewn, 2, 5, -709363438332545951),
+    (Kind::Strewn, 2, 1, -7709261710536253118),
+    (Kind::Strewn, 2, 2, 4003503221989816600),
+    (Kind::Strewn, 2, 3, 2376778129717286464),
+    (Kind::Strewn, 2, 4, 6016162902449281930),
+    (Kind::Strewn, 2, 5, -3650387303606142052),
     (Kind::Strewn, 3, 0, 6364136223846793005),
-    (Kind::Strewn, 3, 1, 618737385349200247),
-    (Kind::Strewn, 3, 3, -8166593155738515296),
-    (Kind::Strewn, 3, 4, 259113170584216477),
-    (Kind::Strewn, 3, 9, -5603095837443344830),
-    (Kind::Strewn, 3, 10, 1194962469909858026),
+    (Kind::Strewn, 3, 1, -7709261710536253118),
+    (Kind::Strewn, 3, 3, 3893335845413316350),
+    (Kind::Strewn, 3, 4, 5909914669045482311),
+    (Kind::Strewn, 3, 9, -6651118573993278769),
+    (Kind::Strewn, 3, 10, -3914861259948393797),
     (Kind::Strewn, 4, 0, 6364136223846793005),
-    (Kind::Strewn, 4, 1, 618737385349200247),
-    (Kind::Strewn, 4, 4, -7194067856680944713),
-    (Kind::Strewn, 4, 5, 5765651641327850954),
-    (Kind::Strewn, 4, 16, -2656724787081885582),
-    (Kind::Strewn, 4, 17, -4126098912729530096),
+    (Kind::Strewn, 4, 1, -7709261710536253118),
+    (Kind::Strewn, 4, 4, 8113352617949715031),
+    (Kind::Strewn, 4, 5, 6219951104821880221),
+    (Kind::Strewn, 4, 16, -7584552662724149076),
+    (Kind::Strewn, 4, 17, 609867979320919469),
     (Kind::Strewn, 16, 0, 6364136223846793005),
-    (Kind::Strewn, 16, 1, 618737385349200247),
-    (Kind::Strewn, 16, 16, -5826236949284776617),
-    (Kind::Strewn, 16, 17, 3591716672913225989),
-    (Kind::Strewn, 16, 256, -2989763508396701915),
-    (Kind::Strewn, 16, 257, 2592929468415301646),
+    (Kind::Strewn, 16, 1, -7709261710536253118),
+    (Kind::Strewn, 16, 16, -737927015438416303),
+    (Kind::Strewn, 16, 17, -1275078790454852291),
+    (Kind::Strewn, 16, 256, 5106300750934838186),
+    (Kind::Strewn, 16, 257, -5763486948376274410),
     (Kind::Strewn, 64, 0, 6364136223846793005),
-    (Kind::Strewn, 64, 1, 618737385349200247),
-    (Kind::Strewn, 64, 64, 3018161932007396966),
-    (Kind::Strewn, 64, 65, 2212956936943375959),
-    (Kind::Strewn, 64, 4096, 2374749825272684464),
-    (Kind::Strewn, 64, 4097, -4489149926392486560),
+    (Kind::Strewn, 64, 1, -7709261710536253118),
+    (Kind::Strewn, 64, 64, 7485968545496650676),
+    (Kind::Strewn, 64, 65, -7692755658615494436),
+    (Kind::Strewn, 64, 4096, -3962179801524033811),
+    (Kind::Strewn, 64, 4097, -7615466718307009621),
     (Kind::OnePlace, 2, 0, 6364136223846793005),
-    (Kind::OnePlace, 2, 1, 4339592350690372829),
-    (Kind::OnePlace, 2, 2, 9179111066071986218),
-    (Kind::OnePlace, 2, 3, -6425126212805342288),
-    (Kind::OnePlace, 2, 4, 4262935479122755520),
-    (Kind::OnePlace, 2, 5, 7416513669725261087),
+    (Kind::OnePlace, 2, 1, -1964037168820462334),
+    (Kind::OnePlace, 2, 2, -2603225434938074869),
+    (Kind::OnePlace, 2, 3, 3052785759390588827),
+    (Kind::OnePlace, 2, 4, 7959718745248863867),
+    (Kind::OnePlace, 2, 5, -7929224673573771659),
     (Kind::OnePlace, 3, 0, 6364136223846793005),
-    (Kind::OnePlace, 3, 1, 4339592350690372829),
-    (Kind::OnePlace, 3, 3, 4188528021283597606),
-    (Kind::OnePlace, 3, 4, -8911409371618229075),
-    (Kind::OnePlace, 3, 9, -5865785311118654495),
-    (Kind::OnePlace, 3, 10, 3750447658398501226),
+    (Kind::OnePlace, 3, 1, -1964037168820462334),
+    (Kind::OnePlace, 3, 3, 8762670016042231479),
+    (Kind::OnePlace, 3, 4, -5578832893805717480),
+    (Kind::OnePlace, 3, 9, 4822095657960006201),
+    (Kind::OnePlace, 3, 10, 4122470062491578857),
     (Kind::OnePlace, 4, 0, 6364136223846793005),
-    (Kind::OnePlace, 4, 1, 4339592350690372829),
-    (Kind::OnePlace, 4, 4, -7964520962982472519),
-    (Kind::OnePlace, 4, 5, -2633886670092247291),
-    (Kind::OnePlace, 4, 16, -7926690737597148389),
-    (Kind::OnePlace, 4, 17, -4604234434332813096),
+    (Kind::OnePlace, 4, 1, -1964037168820462334),
+    (Kind::OnePlace, 4, 4, -1419776207686260906),
+    (Kind::OnePlace, 4, 5, -1487510842520277812),
+    (Kind::OnePlace, 4, 16, 4226806445967619636),
+    (Kind::OnePlace, 4, 17, -8214029028221229496),
     (Kind::OnePlace, 16, 0, 6364136223846793005),
-    (Kind::OnePlace, 16, 1, 4339592350690372829),
-    (Kind::OnePlace, 16, 16, -9068247736201231985),
-    (Kind::OnePlace, 16, 17, -8527999167312007089),
-    (Kind::OnePlace, 16, 256, 1025852696587038161),
-    (Kind::OnePlace, 16, 257, -1065856285578501750),
+    (Kind::OnePlace, 16, 1, -1964037168820462334),
+    (Kind::OnePlace, 16, 16, 5461054551603069396),
+    (Kind::OnePlace, 16, 17, 7973554186620663294),
+    (Kind::OnePlace, 16, 256, 5773278845788069470),
+    (Kind::OnePlace, 16, 257, 9012423910645914214),
     (Kind::OnePlace, 64, 0, 6364136223846793005),
-    (Kind::OnePlace, 64, 1, 4339592350690372829),
-    (Kind::OnePlace, 64, 64, 8180287610125625287),
-    (Kind::OnePlace, 64, 65, -1577619983560220969),
-    (Kind::OnePlace, 64, 4096, 1841870800132479369),
-    (Kind::OnePlace, 64, 4097, -4598783464674536590),
+    (Kind::OnePlace, 64, 1, -1964037168820462334),
+    (Kind::OnePlace, 64, 64, 9007943475881979564),
+    (Kind::OnePlace, 64, 65, 6609584435808736294),
+    (Kind::OnePlace, 64, 4096, -7709511882798857242),
+    (Kind::OnePlace, 64, 4097, -1587848958479780482),
     (Kind::OneLine, 2, 0, 6364136223846793005),
-    (Kind::OneLine, 2, 1, 1638393992793468745),
-    (Kind::OneLine, 2, 2, -655718437589149703),
-    (Kind::OneLine, 2, 3, -2143611637934181558),
-    (Kind::OneLine, 2, 4, 1841996700790967177),
-    (Kind::OneLine, 2, 5, -2600463685747184866),
+    (Kind::OneLine, 2, 1, -8629963551433772779),
+    (Kind::OneLine, 2, 2, -1462952435027387861),
+    (Kind::OneLine, 2, 3, -1919422848951358453),
+    (Kind::OneLine, 2, 4, -5248857793998851866),
+    (Kind::OneLine, 2, 5, 911051030043780440),
     (Kind::OneLine, 3, 0, 6364136223846793005),
-    (Kind::OneLine, 3, 1, 1638393992793468745),
-    (Kind::OneLine, 3, 3, 6869005802864513393),
-    (Kind::OneLine, 3, 4, -7015702778727413488),
-    (Kind::OneLine, 3, 9, 7239541811962787469),
-    (Kind::OneLine, 3, 10, -707511122781390365),
+    (Kind::OneLine, 3, 1, -8629963551433772779),
+    (Kind::OneLine, 3, 3, 1548181121904291094),
+    (Kind::OneLine, 3, 4, -7133125856477201347),
+    (Kind::OneLine, 3, 9, 1244644668043411587),
+    (Kind::OneLine, 3, 10, 7903166638192716550),
     (Kind::OneLine, 4, 0, 6364136223846793005),
-    (Kind::OneLine, 4, 1, 1638393992793468745),
-    (Kind::OneLine, 4, 4, 3376336308285787533),
-    (Kind::OneLine, 4, 5, 7067694362726544500),
-    (Kind::OneLine, 4, 16, 6212789743446190189),
-    (Kind::OneLine, 4, 17, 995135494207015455),
+    (Kind::OneLine, 4, 1, -8629963551433772779),
+    (Kind::OneLine, 4, 4, 3390372384676314850),
+    (Kind::OneLine, 4, 5, -2941408798718868282),
+    (Kind::OneLine, 4, 16, -6752625475146175763),
+    (Kind::OneLine, 4, 17, 7858663677475584794),
     (Kind::OneLine, 16, 0, 6364136223846793005),
-    (Kind::OneLine, 16, 1, 1638393992793468745),
-    (Kind::OneLine, 16, 16, -1852953370034212457),
-    (Kind::OneLine, 16, 17, 781233641485431187),
-    (Kind::OneLine, 16, 256, -505812297685361761),
-    (Kind::OneLine, 16, 257, 3490764883881730383),
+    (Kind::OneLine, 16, 1, -8629963551433772779),
+    (Kind::OneLine, 16, 16, 4603255280982548767),
+    (Kind::OneLine, 16, 17, -1236929237721413476),
+    (Kind::OneLine, 16, 256, -5618383831133910225),
+    (Kind::OneLine, 16, 257, -300814011647970683),
     (Kind::OneLine, 64, 0, 6364136223846793005),
-    (Kind::OneLine, 64, 1, 1638393992793468745),
-    (Kind::OneLine, 64, 64, -7778368904945400982),
-    (Kind::OneLine, 64, 65, -1963129996941049005),
-    (Kind::OneLine, 64, 4096, 5420304238963230076),
-    (Kind::OneLine, 64, 4097, 6288545042493858136),
+    (Kind::OneLine, 64, 1, -8629963551433772779),
+    (Kind::OneLine, 64, 64, -5553506104823022999),
+    (Kind::OneLine, 64, 65, 6321332033436530742),
+    (Kind::OneLine, 64, 4096, 797618584068412198),
+    (Kind::OneLine, 64, 4097, 3540039138410788090),
     (Kind::WholePlane, 2, 0, 6364136223846793005),
-    (Kind::WholePlane, 2, 1, 4999770800618337115),
-    (Kind::WholePlane, 2, 2, 688598774037590970),
-    (Kind::WholePlane, 2, 3, -7705810876778367209),
-    (Kind::WholePlane, 2, 4, -985982594001011591),
-    (Kind::WholePlane, 2, 5, 4603456861107363528),
+    (Kind::WholePlane, 2, 1, -5879968459584538418),
+    (Kind::WholePlane, 2, 2, 6309733629157479220),
+    (Kind::WholePlane, 2, 3, 255583477562003145),
+    (Kind::WholePlane, 2, 4, 127299440661422493),
+    (Kind::WholePlane, 2, 5, -7545514965549935982),
     (Kind::WholePlane, 3, 0, 6364136223846793005),
-    (Kind::WholePlane, 3, 1, 4999770800618337115),
-    (Kind::WholePlane, 3, 3, 3884786112011466015),
-    (Kind::WholePlane, 3, 4, 6415762681705454220),
-    (Kind::WholePlane, 3, 9, -2213816739684451504),
-    (Kind::WholePlane, 3, 10, -1505248984681381681),
+    (Kind::WholePlane, 3, 1, -5879968459584538418),
+    (Kind::WholePlane, 3, 3, 4034550649938574011),
+    (Kind::WholePlane, 3, 4, 1145072702461841988),
+    (Kind::WholePlane, 3, 9, -6323796566911149516),
+    (Kind::WholePlane, 3, 10, -682115392088557390),
     (Kind::WholePlane, 4, 0, 6364136223846793005),
-    (Kind::WholePlane, 4, 1, 4999770800618337115),
-    (Kind::WholePlane, 4, 4, 5405437643910462538),
-    (Kind::WholePlane, 4, 5, 8897179325732058667),
-    (Kind::WholePlane, 4, 16, -8726027996318550900),
-    (Kind::WholePlane, 4, 17, 2835529537519869328),
+    (Kind::WholePlane, 4, 1, -5879968459584538418),
+    (Kind::WholePlane, 4, 4, -3241747925557705525),
+    (Kind::WholePlane, 4, 5, -8616436181397688872),
+    (Kind::WholePlane, 4, 16, 7803395392106320804),
+    (Kind::WholePlane, 4, 17, -6850435678727230437),
     (Kind::WholePlane, 16, 0, 6364136223846793005),
-    (Kind::WholePlane, 16, 1, 4999770800618337115),
-    (Kind::WholePlane, 16, 16, -3198371524040162290),
-    (Kind::WholePlane, 16, 17, 556701106516623856),
-    (Kind::WholePlane, 16, 256, -5299367932015237517),
-    (Kind::WholePlane, 16, 257, 7735488455227772537),
+    (Kind::WholePlane, 16, 1, -5879968459584538418),
+    (Kind::WholePlane, 16, 16, 4111999316165505847),
+    (Kind::WholePlane, 16, 17, -389798145581361339),
+    (Kind::WholePlane, 16, 256, 5606332893121826652),
+    (Kind::WholePlane, 16, 257, 5563407320027016648),
     (Kind::WholePlane, 64, 0, 6364136223846793005),
-    (Kind::WholePlane, 64, 1, 4999770800618337115),
-    (Kind::WholePlane, 64, 64, -3612063377466461744),
-    (Kind::WholePlane, 64, 65, 3634805113294401309),
-    (Kind::WholePlane, 64, 4096, 6451715128808915244),
-    (Kind::WholePlane, 64, 4097, -1554738565749737781),
+    (Kind::WholePlane, 64, 1, -5879968459584538418),
+    (Kind::WholePlane, 64, 64, -1419917244732288359),
+    (Kind::WholePlane, 64, 65, -2840755878446415881),
+    (Kind::WholePlane, 64, 4096, -5116054846760108063),
+    (Kind::WholePlane, 64, 4097, 7248410669107778390),
 ];
 
 // Numbers of 16 bits, each made of the one before.
@@ -177,26 +178,29 @@ fn id(kind: Kind, place: u32) -> i64 {
     }
 }
 
-fn bounds(kind: Kind, chance: &mut Chance) -> Option<Bounds> {
+// The box at a place, and its layer.
+fn boxed(kind: Kind, place: u32, chance: &mut Chance) -> Option<(Bounds, u32)> {
     match kind {
         Kind::Strewn => {
             let x = chance.small(1000);
             let y = chance.small(1000).wrapping_sub(500);
             let right = x.wrapping_add(chance.small(16));
             let top = y.wrapping_add(chance.small(32));
-            Bounds::new(x, right, y, top)
+            let bounds = Bounds::new(x, right, y, top)?;
+            Some((bounds, chance.below(64)))
         }
-        Kind::OnePlace => Bounds::new(7, 9, -7, -7),
+        Kind::OnePlace => Some((Bounds::new(7, 9, -7, -7)?, 0)),
         Kind::OneLine => {
             let x = chance.small(50);
-            Bounds::new(x, x, 0, 0)
+            Some((Bounds::new(x, x, 0, 0)?, x.unsigned_abs()))
         }
         Kind::WholePlane => {
             let a = chance.coordinate();
             let b = chance.coordinate();
             let c = chance.coordinate();
             let d = chance.coordinate();
-            Bounds::new(a.min(b), a.max(b), c.min(d), c.max(d))
+            let bounds = Bounds::new(a.min(b), a.max(b), c.min(d), c.max(d))?;
+            Some((bounds, if place == 0 { 63 } else { place % 3 }))
         }
     }
 }
@@ -205,12 +209,15 @@ fn packed(alloc: Global, kind: Kind, fanout: u8, count: u32) -> Option<Tree> {
     let mut chance = Chance { state: 12_345 };
     let mut entries = Vec::new(alloc);
     for place in 0..count {
+        let (bounds, layer) = boxed(kind, place, &mut chance)?;
         let entry = Entry {
             id: id(kind, place),
-            bounds: bounds(kind, &mut chance)?,
+            bounds,
+            layer: u8::try_from(layer).ok()?,
         };
         entries.push(entry).ok()?;
     }
+    let entries = layered(entries)?;
     if entries.len() > Table::MOST_ENTRIES as usize {
         return None;
     }
@@ -242,14 +249,17 @@ fn told_node(so_far: i64, number: u32, node: &Node) -> i64 {
     let so_far = told(so_far, i64::from(node.level));
     let so_far = told(so_far, i64::from(node.first));
     let so_far = told(so_far, i64::from(node.count));
-    told(so_far, i64::from(node.size))
+    let so_far = told(so_far, i64::from(node.size));
+    told(so_far, node.layers.bits() as i64)
 }
 
 // The number of a whole tree: its entries, its nodes, and how many there are on each level.
 fn told_tree(tree: &Tree) -> i64 {
     let mut all = told(0, i64::from(tree.len()));
-    for entry in tree.entries() {
+    for place in 0..tree.len() {
+        let entry = tree.entry(place);
         all = told_box(told(all, entry.id), &entry.bounds);
+        all = told(all, i64::from(entry.layer));
     }
     all = told(all, i64::from(tree.node_len()));
     let mut number: u32 = 0;

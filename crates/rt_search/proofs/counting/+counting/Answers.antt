@@ -1,5 +1,5 @@
 use Rattle.std.proofs.Common.{◌≡◌, ◌<◌, ◌≤◌, ◌+◌, ◌^◌, ◌∙◌, add-one, ap, sym, arith, rules}
-use Rattle.rt_tree.specs.Packed.{node_at}
+use Rattle.rt_tree.specs.Packed.{extent_of_node, node_at}
 use Rattle.rt_search.specs.Counting.{found_in_entries}
 use Rattle.rt_search.specs.Work.{info_of_node, info_under, is_divided, its_children, one_node}
 use Rattle.rt_search.proofs.Children.{child_read, children_count, children_inside, is_high}
@@ -84,7 +84,7 @@ count_under-count_child-requires g t c κs within =
     let lt = read.few in
     let info_is : c.info-info.result ≡ info_of_node tree v (node_at tree child) =
     c.info-info.ensures
-    ∙ ap (λ top. info_under top v c.index-children-i.result.bounds c.index-children-i.result.level) c.requires.top
+    ∙ ap (λ top. info_under top v (extent_of_node c.index-children-i.result) c.index-children-i.result.level) c.requires.top
     ∙ ap (info_of_node tree v) read.is in
     let inv = c.loop-i.invariant in
     let can = can_ask (g.G.Geometry.accepts geometry) (g.G.Geometry.score geometry) (g.G.Geometry.verdict geometry)
@@ -123,7 +123,7 @@ count_under-loop-i-preserved g t c =
     c.index-children-i.is at in
     let info_is : c.info-info.result ≡ info_of_node tree v (node_at tree child) =
     c.info-info.ensures
-    ∙ ap (λ top. info_under top v c.index-children-i.result.bounds c.index-children-i.result.level) c.requires.top
+    ∙ ap (λ top. info_under top v (extent_of_node c.index-children-i.result) c.index-children-i.result.level) c.requires.top
     ∙ ap (info_of_node tree v) read.is in
     let inv = c.loop-i.invariant in
     let e = rw inv.geometry at c.count_child.ensures in

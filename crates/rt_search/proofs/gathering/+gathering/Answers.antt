@@ -1,5 +1,5 @@
 use Rattle.std.proofs.Common.{◌≡◌, ◌<◌, ◌+◌, ◌^◌, ◌∙◌, None, add-one, ap, refl, sym, subst, arith, rules}
-use Rattle.rt_tree.specs.Packed.{node_at}
+use Rattle.rt_tree.specs.Packed.{extent_of_node, node_at}
 use Rattle.rt_search.specs.Gathering.{HasGathered}
 use Rattle.rt_search.specs.Joining.{join_entries}
 use Rattle.rt_search.specs.Work.{info_of_node, info_under, is_reached, its_children, one_node}
@@ -92,7 +92,7 @@ gather_under-gather_child-requires g t c κs within =
     let lt = read.few in
     let info_is : c.info-info.result ≡ info_of_node tree v (node_at tree child) =
     c.info-info.ensures
-    ∙ ap (λ top. info_under top v c.index-children-i.result.bounds c.index-children-i.result.level) c.requires.top
+    ∙ ap (λ top. info_under top v (extent_of_node c.index-children-i.result) c.index-children-i.result.level) c.requires.top
     ∙ ap (info_of_node tree v) read.is in
     let inv = c.loop-i.invariant in
     let can = can_gather (g.G.Geometry.accepts geometry) (g.G.Geometry.score geometry) (g.G.Geometry.verdict geometry)
@@ -135,7 +135,7 @@ gather_under-loop-i-preserved g t c =
     let lt = read.few in
     let info_is : c.info-info.result ≡ info_of_node tree v (node_at tree child) =
     c.info-info.ensures
-    ∙ ap (λ top. info_under top v c.index-children-i.result.bounds c.index-children-i.result.level) c.requires.top
+    ∙ ap (λ top. info_under top v (extent_of_node c.index-children-i.result) c.index-children-i.result.level) c.requires.top
     ∙ ap (info_of_node tree v) read.is in
     let inv = c.loop-i.invariant in
     let e = rw inv.geometry at c.gather_child.ensures in

@@ -1,52 +1,65 @@
-use Rattle.std.proofs.Common.{arith, ap, ◌∙◌, add-one}
-use Rattle.std.proofs.lemmas.List.{get_or_default}
-use Rattle.rt_tree.specs.Packed.{child_entries, extent_of_node}
-use Rattle.rt_search.specs.Joining.{join_entries, no_entry}
+use Rattle.std.proofs.Common.{◌≡◌, ◌+◌, ◌∙◌, FitsSigned, IfSome, add-one, ap, arith, rules, subst, w64}
+use Rattle.std.proofs.lemmas.Int.{to_z-of_z}
+use Rattle.rt_geo.specs.Laws.{extent_of_entry}
+use Rattle.rt_tree.specs.Packed.{extent_of_node}
+use Rattle.rt_search.specs.Joining.{join_entries}
 use Rattle.rt_search.proofs.Children.{entries_count, honest_child, leaf_read}
 use Rattle.rt_search.proofs.Working.{length-join_entries}
 use Rattle.rt_search.proofs.opening.open_leaf.Goals as goal
 
 pub ask_entry-requires-clause-honest : goal.ask_entry-requires-clause-honest
 ask_entry-requires-clause-honest g c =
-    let k = leaf_read c.args.tree.now c.args.node c.loop-entry.entry-index c.entry-item.result
-    c.child_entries-entries.result.now c.requires.tree.table.boxes c.requires.node c.child_entries-entries.ensures
-    c.loop-entry-test.true c.entry-item.is in
-    rw c.loop-entry.invariant.geometry
+    let k = leaf_read c.args.tree.now c.args.node c.loop-i.i c.index-entries-i.result
+    c.child_entries-entries.result.now c.requires.tree.table c.requires.node c.child_entries-entries.ensures
+    c.loop-i-test.true c.index-entries-i.is in
+    let layers = subst (λ o. IfSome o (λ e. c.layers_at-layers.result ≡ (extent_of_entry e).layers)) k.found
+    c.layers_at-layers.ensures in
+    rw c.loop-i.invariant.geometry
     (honest_child (g.G.Geometry.accepts c.args.counted.now.geometry)
     (g.G.Geometry.score c.args.counted.now.geometry) (extent_of_node c.args.node) c.info-info.result
     c.args.parent.verdict c.requires.below (ap (λ i. i.parent_within) c.info-info.ensures)
-    (rw c.info-info.ensures k.within))
+    (rw (c.info-info.ensures, k.is, layers) k.at.within))
 
 pub ask_entry-requires-clause-room : goal.ask_entry-requires-clause-room
 ask_entry-requires-clause-room g c =
     let count = entries_count c.args.tree.now c.args.node c.child_entries-entries.result.now c.requires.node
     c.child_entries-entries.ensures in
     let long = length-join_entries (g.G.Geometry.verdict c.args.counted.now.geometry) c.args.tree.now
-    c.args.parent.verdict c.args.node c.loop-entry.entry-index c.args.frontier.now.items in
+    c.args.parent.verdict c.args.node c.loop-i.i c.args.frontier.now.items in
     let room = c.requires.room in
-    let lt = c.loop-entry-test.true in
-    rw (c.loop-entry.invariant.items, c.loop-entry.invariant.capacity) (omega (arith, long, room, lt, count))
+    let lt = c.loop-i-test.true in
+    rw (c.loop-i.invariant.items, c.loop-i.invariant.capacity) (omega (arith, long, room, lt, count))
 
 pub ask_entry-requires-clause-asked : goal.ask_entry-requires-clause-asked
 ask_entry-requires-clause-asked g c =
     let count = entries_count c.args.tree.now c.args.node c.child_entries-entries.result.now c.requires.node
     c.child_entries-entries.ensures in
-    let lt = c.loop-entry-test.true in
-    let asked = c.loop-entry.invariant.asked in
+    let lt = c.loop-i-test.true in
+    let asked = c.loop-i.invariant.asked in
     let room = c.requires.asked in
     omega (arith, asked, room, lt, count)
 
-pub loop-entry-preserved : goal.loop-entry-preserved
-loop-entry-preserved g c =
-    let e = c.entry-item.result in
-    let i = c.loop-entry.entry-index in
-    let k = leaf_read c.args.tree.now c.args.node i e c.child_entries-entries.result.now c.requires.tree.table.boxes
-    c.requires.node c.child_entries-entries.ensures c.loop-entry-test.true c.entry-item.is in
-    let is = k.is ∙ get_or_default (child_entries c.args.tree.now c.args.node) i e no_entry k.place in
-    let v = c.loop-entry.invariant in
+pub layers_at-layers-requires : goal.layers_at-layers-requires
+layers_at-layers-requires g c =
+    let count = entries_count c.args.tree.now c.args.node c.child_entries-entries.result.now c.requires.node
+    c.child_entries-entries.ensures in
+    let range = c.requires.node.range in
+    let lt = c.loop-i-test.true in
+    omega (arith, range, lt, count)
+
+pub loop-i-preserved : goal.loop-i-preserved
+loop-i-preserved g c =
+    let i = c.loop-i.i in
+    let k = leaf_read c.args.tree.now c.args.node i c.index-entries-i.result c.child_entries-entries.result.now
+    c.requires.tree.table c.requires.node c.child_entries-entries.ensures c.loop-i-test.true c.index-entries-i.is in
+    let layers = subst (λ o. IfSome o (λ e. c.layers_at-layers.result ≡ (extent_of_entry e).layers)) k.found
+    c.layers_at-layers.ensures in
+    let v = c.loop-i.invariant in
     let h = rw (v.geometry, v.items) at c.ask_entry.ensures in
+    let fits : FitsSigned w64 c.index-entries-i.result.id = search rules in
+    let items = simp (to_z-of_z, fits) at h.items in
     record {
-      items = rw add-one (rw is at (rw (c.info-info.ensures, c.requires.top) at h.items));
+      items = rw add-one (rw (k.is, layers) at (rw (c.info-info.ensures, c.requires.top) at items));
       capacity = h.capacity ∙ v.capacity;
       geometry = h.geometry;
       asked = omega arith;
@@ -56,9 +69,9 @@ pub returns-clause-items : goal.returns-clause-items
 returns-clause-items g c =
     let count = entries_count c.args.tree.now c.args.node c.child_entries-entries.result.now c.requires.node
     c.child_entries-entries.ensures in
-    let no = c.loop-entry-test.false in
-    let end = c.loop-entry.auto.entry-index-end in
-    c.loop-entry.invariant.items
+    let no = c.loop-i-test.false in
+    let end = c.loop-i.auto.i-end in
+    c.loop-i.invariant.items
     ∙ ap (λ m. join_entries (g.G.Geometry.verdict c.args.counted.now.geometry) c.args.tree.now
     c.args.parent.verdict c.args.node m c.args.frontier.now.items) (omega (arith, no, end, count))
 
@@ -66,7 +79,7 @@ pub returns-clause-asked : goal.returns-clause-asked
 returns-clause-asked g c =
     let count = entries_count c.args.tree.now c.args.node c.child_entries-entries.result.now c.requires.node
     c.child_entries-entries.ensures in
-    let no = c.loop-entry-test.false in
-    let end = c.loop-entry.auto.entry-index-end in
-    let asked = c.loop-entry.invariant.asked in
+    let no = c.loop-i-test.false in
+    let end = c.loop-i.auto.i-end in
+    let asked = c.loop-i.invariant.asked in
     omega (arith, asked, no, end, count)

@@ -2,12 +2,12 @@ use Rattle.std.proofs.Common.{◌≡◌, ◌+◌}
 use Rattle.rt_search.specs.Joining.{join_entries}
 use Rattle.rt_search.proofs.opening.open_leaf.Given as goal
 
-abbrev pub invariant-loop-entry : goal.invariant-loop-entry
-invariant-loop-entry g l = record {
+abbrev pub invariant-loop-i : goal.invariant-loop-i
+invariant-loop-i g l = record {
   items : l.frontier.items
-      ≡ join_entries (g.G.Geometry.verdict l.initial.counted.geometry) l.tree l.parent.verdict l.fn.node l.entry-index
+      ≡ join_entries (g.G.Geometry.verdict l.initial.counted.geometry) l.tree l.parent.verdict l.fn.node l.i
       l.initial.frontier.items;
   capacity : l.frontier.capacity ≡ l.initial.frontier.capacity;
   geometry : l.counted.geometry ≡ l.initial.counted.geometry;
-  asked : l.counted.asked ≡ l.initial.counted.asked + l.entry-index;
+  asked : l.counted.asked ≡ l.initial.counted.asked + l.i;
 }

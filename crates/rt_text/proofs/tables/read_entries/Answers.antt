@@ -1,6 +1,8 @@
 use Rattle.std.proofs.Common.{◌≡◌, ◌-◌, Bool, true, false, refl, arith, length, rules}
 use Rattle.std.proofs.lemmas.Result.{err_from_is_err_and}
+use Rattle.std.proofs.lemmas.List.Elements.{All-nil}
 use Rattle.csv.specs.Records.{fields_of}
+use Rattle.rt_geo.specs.Entries.{HasLayer}
 use Rattle.rt_text.specs.Loads.{entry_after, first_number}
 use Rattle.rt_text.proofs.TableLemmas.{count-header, number_now}
 use Rattle.rt_text.proofs.TableReads.{is_judged, longer, read-end, read-entry, read-failed, read-header, read-refused, read-start}
@@ -14,6 +16,7 @@ loop-number-init g c = record {
   flexible = search rules;
   count = rw c.requires.none (at_start c.args.header);
   most = rw c.requires.none (omega arith);
+  layers = rw c.requires.none (All-nil HasLayer);
   table = λ bytes h. read-start g.R.Read.remaining c.args.reader c.from_reader-records.result c.args.entries.now.items c.args.header c.args.max bytes
       c.from_reader-records.ensures.source c.from_reader-records.ensures.state c.requires.none h;
 }
@@ -44,6 +47,7 @@ loop-number-preserved-then-number-eq1 g c =
       flexible = c.in_ok-next_record.ensures.flexible;
       count = count-header c.args.header c.loop-number.number (length c.loop-number.entries.items) c.if-header.true c.if-number-eq1.true inv.count;
       most = inv.most;
+      layers = inv.layers;
       table = λ bytes h. read-header c.next_record.new.records (fields_of c.next_record.new.fields) (inv.table bytes h) inv.config read c.if-header.true c.if-number-eq1.true;
     }
 
@@ -73,6 +77,7 @@ loop-number-preserved g c =
       flexible = c.in_ok-next_record.ensures.flexible;
       count = omega (arith, one_more, counted);
       most = c.in_ok-add_entry.ensures.few;
+      layers = c.add_entry.ensures.layers;
       table = λ bytes h. read-entry c.next_record.new.records fields
           c.add_entry.new.entries.items (inv.table bytes h) inv.config read c.loop-number.auto.number judged counted added;
     }

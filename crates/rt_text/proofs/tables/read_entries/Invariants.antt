@@ -1,6 +1,7 @@
-use Rattle.std.proofs.Common.{◌≡◌, ◌-◌, ◌≤◌, ℕ, List, Some, length, true}
+use Rattle.std.proofs.Common.{All, ◌≡◌, ◌-◌, ◌≤◌, ℕ, List, Some, length, true}
 use Rattle.csv.specs.Reading.{Ready, default_config}
 use Rattle.csv.specs.declared.reader.Trim.TheVariants as trim
+use Rattle.rt_geo.specs.Entries.{HasLayer}
 use Rattle.rt_text.specs.Loads.{first_number}
 use Rattle.rt_text.specs.Tables.{table_of}
 use Rattle.rt_text.proofs.TableReads.{ReadUpTo}
@@ -15,6 +16,7 @@ invariant-loop-number g l = record {
   flexible : l.records.flexible ≡ true;
   count : length l.entries.items ≡ l.number - first_number l.fn.header;
   most : length l.entries.items ≤ l.fn.max;
+  layers : All HasLayer l.entries.items;
   table : (bytes : List ℕ) → g.R.Read.remaining l.fn.reader ≡ Some bytes
       → ReadUpTo g.R.Read.remaining l.records l.entries.items l.fn.header l.fn.max l.number (table_of bytes l.fn.header l.fn.max);
 }

@@ -9,5 +9,5 @@ overflow_add-result c =
     let told = rw c.in-Err-Repeated.field-0-is at c.in-Err-Repeated.ensures.fault in
     let there = first_repeat-below c.args.entries.items c.in-Err-Repeated.place told in
     let small = first_number-small c.args.header in
-    let few : length c.args.entries.items ≤ most_entries = c.requires in
+    let few : length c.args.entries.items ≤ most_entries = c.requires.most in
     omega (arith, there, small, few, c.first_number.ensures)

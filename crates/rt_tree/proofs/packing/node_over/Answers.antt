@@ -1,37 +1,34 @@
 use Rattle.std.proofs.Common.{◌∙◌, ◌<◌, ◌-◌, ◌+◌, ap, arith, length}
 use Rattle.std.proofs.lemmas.List.{length-take}
 use Rattle.std.proofs.lemmas.List.Sums.{sum_by-take-le}
-use Rattle.rt_tree.proofs.LoopLemmas.{hull_more, weight_more}
+use Rattle.rt_geo.specs.Boxes.{hull}
+use Rattle.rt_geo.specs.Layers.{no_layers, union}
+use Rattle.rt_tree.specs.Packed.{no_box}
+use Rattle.rt_tree.specs.declared.tree.Node.{Node}
+use Rattle.rt_tree.proofs.LoopLemmas.{reduced_more, weight_more}
 use Rattle.rt_tree.proofs.packing.node_over.Goals as goal
 
 pub overflow_add-size : goal.overflow_add-size
-overflow_add-size g c =
+overflow_add-size c =
     let tile = c.args.tile.now in
-    let i = c.loop-item.item-index in
+    let weight = λ (n : Node). n.size in
+    let i = c.loop-node.node-index in
     let inside : i < length tile - 1 = omega (arith, length-take (length tile - 1) (lib.ListN.drop 1 tile)) in
-    let more = weight_more g.T.Item.weight tile i c.item-item.result inside c.item-item.is in
-    omega (
-      arith,
-      more,
-      sum_by-take-le g.T.Item.weight tile (i + 1 + 1),
-      c.loop-item.invariant.size,
-      c.size-size-in-loop-item.ensures,
-      c.requires.weight,
-    )
+    let more = weight_more weight tile i c.node-item.result inside c.node-item.is in
+    omega (arith, more, sum_by-take-le weight tile (i + 1 + 1), c.loop-node.invariant.size, c.requires.weight)
 
-pub loop-item-preserved : goal.loop-item-preserved
-loop-item-preserved g c =
+pub loop-node-preserved : goal.loop-node-preserved
+loop-node-preserved c =
     let tile = c.args.tile.now in
-    let i = c.loop-item.item-index in
-    let x = c.item-item.result in
+    let i = c.loop-node.node-index in
+    let x = c.node-item.result in
     let inside : i < length tile - 1 = omega (arith, length-take (length tile - 1) (lib.ListN.drop 1 tile)) in
     record {
-      bounds = c.hull-bounds.ensures.value ∙ ap (Rattle.rt_geo.specs.Boxes.hull c.loop-item.bounds) c.bounds.ensures
-          ∙ hull_more g.T.Item.rect tile i x c.loop-item.bounds inside c.item-item.is c.loop-item.invariant.bounds;
-      size = omega (
-        arith,
-        weight_more g.T.Item.weight tile i x inside c.item-item.is,
-        c.loop-item.invariant.size,
-        c.size-size-in-loop-item.ensures,
-      );
+      layers = c.union-layers.ensures.value
+          ∙ reduced_more union no_layers (λ (n : Node). n.layers) tile i x c.loop-node.layers inside c.node-item.is
+          c.loop-node.invariant.layers;
+      bounds = c.hull-bounds.ensures.value
+          ∙ reduced_more hull no_box (λ (n : Node). n.bounds) tile i x c.loop-node.bounds inside c.node-item.is
+          c.loop-node.invariant.bounds;
+      size = omega (arith, weight_more (λ (n : Node). n.size) tile i x inside c.node-item.is, c.loop-node.invariant.size);
     }

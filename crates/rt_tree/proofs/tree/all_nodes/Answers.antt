@@ -1,4 +1,5 @@
 use Rattle.std.proofs.Common.{◌≡◌, ◌<◌, ◌+◌, ◌++◌, ◌∙◌, ap, arith, length}
+use Rattle.rt_tree.specs.Packed.{extent_of_node}
 use Rattle.rt_tree.specs.Packing.{all_nodes, chunks, groups, joined, nodes_over}
 use Rattle.rt_tree.specs.declared.tree.Node.{Node}
 use Rattle.rt_tree.proofs.PackCounts.{course_more, entries_counted, level_counted, level_smaller}
@@ -6,18 +7,15 @@ use Rattle.rt_tree.proofs.PackCounts.{ordered_length, ordered_weight}
 use Rattle.rt_tree.proofs.Soundness.{sum_by-ones}
 use Rattle.rt_tree.proofs.tree.all_nodes.Goals as goal
 
-pub nodes_over-requires-clause-few : goal.nodes_over-requires-clause-few
-nodes_over-requires-clause-few c = omega (arith, sum_by-ones c.args.entries.now, c.requires.few)
-
 pub levels-init : goal.levels-init
 levels-init c = rw c.new-nodes.ensures.items (record {
-  counted = entries_counted c.args.fanout c.requires.several c.args.entries.now c.in_ok-made.made.items
+  counted = entries_counted c.args.fanout c.requires.several c.args.leaves.now c.in_ok-made.made.items
       c.requires.few c.in_ok-made.ensures;
   course = ap (all_nodes c.args.fanout) c.in_ok-made.ensures;
 })
 
-pub nodes_over-requires-in-levels-clause-few : goal.nodes_over-requires-in-levels-clause-few
-nodes_over-requires-in-levels-clause-few c =
+pub nodes_over-requires-clause-few : goal.nodes_over-requires-clause-few
+nodes_over-requires-clause-few c =
     let ordered = c.in_ok-ordered.ensures ∙ ap (λ l. joined (groups (λ
     (n : Node). n.bounds) c.args.fanout l)) c.deref.ensures.value in
     let there : 0 < length c.levels.made.items = omega (arith, c.levels-test.true, c.len.ensures) in
@@ -28,8 +26,8 @@ nodes_over-requires-in-levels-clause-few c =
           c.requires.several c.levels.made.items c.in_ok-ordered.ordered.items there ordered,
     ))
 
-pub nodes_over-requires-in-levels-clause-numbers : goal.nodes_over-requires-in-levels-clause-numbers
-nodes_over-requires-in-levels-clause-numbers c =
+pub nodes_over-requires-clause-numbers : goal.nodes_over-requires-clause-numbers
+nodes_over-requires-clause-numbers c =
     let ordered = c.in_ok-ordered.ensures ∙ ap (λ l. joined (groups (λ
     (n : Node). n.bounds) c.args.fanout l)) c.deref.ensures.value in
     let there : 0 < length c.levels.made.items = omega (arith, c.levels-test.true, c.len.ensures) in
@@ -47,7 +45,7 @@ levels-smaller c =
     let ordered = c.in_ok-ordered.ensures ∙ ap (λ l. joined (groups (λ
     (n : Node). n.bounds) c.args.fanout l)) c.deref.ensures.value in
     let more : 1 < length c.levels.made.items = omega (arith, c.levels-test.true, c.len.ensures) in
-    let new = c.in_ok-made-2.ensures ∙ ap (λ l. nodes_over (λ (n : Node). n.bounds) (λ n. n.size)
+    let new = c.in_ok-made-2.ensures ∙ ap (λ l. nodes_over extent_of_node (λ n. n.size)
     (c.levels.level + 1) c.len-in-levels.result (chunks c.args.fanout l)) c.deref-in-levels.ensures.value in
     level_smaller c.args.fanout c.requires.several c.levels.level c.len-in-levels.result c.levels.made.items
     c.in_ok-ordered.ordered.items c.in_ok-made-2.made.items more ordered new
@@ -63,11 +61,11 @@ levels-preserved c =
     (n : Node). n.bounds) c.args.fanout l)) c.deref.ensures.value in
     let more : 1 < length made = omega (arith, c.levels-test.true, c.len.ensures) in
     let numbered : c.len-in-levels.result ≡ length nodes = omega (arith, c.len-in-levels.ensures) in
-    let new : above ≡ nodes_over (λ n. n.bounds) (λ n. n.size) (c.levels.level + 1) (length nodes)
+    let new : above ≡ nodes_over extent_of_node (λ n. n.size) (c.levels.level + 1) (length nodes)
     (chunks c.args.fanout sorted) =
-    c.in_ok-made-2.ensures ∙ ap (λ l. nodes_over (λ (n : Node). n.bounds) (λ n. n.size)
+    c.in_ok-made-2.ensures ∙ ap (λ l. nodes_over extent_of_node (λ n. n.size)
     (c.levels.level + 1) c.len-in-levels.result (chunks c.args.fanout l)) c.deref-in-levels.ensures.value
-    ∙ ap (λ n. nodes_over (λ (n : Node). n.bounds) (λ n. n.size) (c.levels.level + 1) n
+    ∙ ap (λ n. nodes_over extent_of_node (λ n. n.size) (c.levels.level + 1) n
     (chunks c.args.fanout sorted)) numbered in
     let after : c.extend_from_slice.new.self.items ≡ nodes ++ sorted = c.in_ok-extend_from_slice.ensures.items
     ∙ ap (λ l. nodes ++ l) c.deref-in-levels-2.ensures.value in

@@ -1,5 +1,5 @@
 use Rattle.std.proofs.Common.{◌≡◌, ◌++◌, length}
-use Rattle.rt_tree.specs.Packing.{all_nodes, chunks, nodes_from, nodes_over}
+use Rattle.rt_tree.specs.Packing.{all_nodes, chunks, leaf_nodes, nodes_from}
 use Rattle.rt_tree.proofs.PackCounts.{IsCounted}
 use Rattle.rt_tree.proofs.tree.all_nodes.Given as goal
 
@@ -7,7 +7,7 @@ abbrev pub invariant-levels : goal.invariant-levels
 invariant-levels l = record {
   counted : IsCounted l.level l.nodes.items l.made.items;
   course : l.nodes.items ++ nodes_from (length l.made.items) l.fanout l.level (length l.nodes.items) l.made.items
-      ≡ all_nodes l.fanout (nodes_over (λ e. e.bounds) (λ _. 1) 1 0 (chunks l.fanout l.entries));
+      ≡ all_nodes l.fanout (leaf_nodes (chunks l.fanout l.leaves));
 }
 
 abbrev pub decreases-levels : goal.decreases-levels

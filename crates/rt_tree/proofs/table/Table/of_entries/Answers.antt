@@ -6,7 +6,8 @@ invariant_of-result c = record {
   table = record {
     distinct = distinct-from_once c.args.entries.items (rw c.deref.ensures.value at c.in_ok-ids.ensures.once);
     boxes = rw c.deref.ensures.value at c.in_ok-ids.ensures.boxes;
-    few = c.requires;
+    layers = c.requires.layers;
+    few = c.requires.most;
   };
   ids_are = rw c.deref.ensures.value at c.in_ok-ids.ensures.ids;
 }

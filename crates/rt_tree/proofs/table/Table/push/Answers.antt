@@ -11,10 +11,10 @@ invariant_of-self-in-Ok c =
     let fits : FitsSigned w64 c.args.entry.id = search rules in
     let box : HasBox c.args.entry =
     record { box = c.min_x-least.ensures.valid; coordinates = c.min_x-least.ensures.coordinates } in
-    let room : length c.self.inside.entries.items < most_entries = rw c.self.view_is c.requires in
+    let room : length c.self.inside.entries.items < most_entries = rw c.self.view_is c.requires.most in
     let absent : keeps c.self.inside.ids.loaded.items c.self.inside.ids.pushed c.args.entry.id ≡ false =
     simp (to_z-of_z, fits) at (sym c.has.ensures ∙ c.if-has.false) in
     rw (c.push_reserved.ensures.items, c.reserve.ensures.items)
     (pushed c.self.inside.ids.loaded.items c.add.new.self.loaded.items c.self.inside.ids.pushed c.add.new.self.pushed
-    c.self.inside.entries.items c.args.entry c.self.invariant box absent
+    c.self.inside.entries.items c.args.entry c.self.invariant box c.requires.layer absent
     (simp (to_z-of_z, fits) at c.in-Ok.ensures.added) room)

@@ -8,7 +8,7 @@ overflow_add-result c =
     let sound = c.self.invariant.0 in
     let inside = child_inside (record {
       fanout = c.self.inside.fanout;
-      entries = c.self.inside.entries.items;
+      entries = c.self.inside.leaves;
       nodes =
           c.self.inside.nodes.items;
     }) c.args.no.number c.args.index c.index.result.now sound asked.inside
@@ -21,7 +21,7 @@ returns-clause-inside c =
     rw (← c.self.view_is) (child_inside (record {
       fanout = c.self.inside.fanout;
       entries =
-          c.self.inside.entries.items;
+          c.self.inside.leaves;
       nodes = c.self.inside.nodes.items;
     }) c.args.no.number c.args.index
     c.index.result.now c.self.invariant.0 asked.inside c.index.ensures asked.level asked.index)

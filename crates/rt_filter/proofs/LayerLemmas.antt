@@ -1,0 +1,49 @@
+-- All layers are those of all entries, so a query on all of them is one that asks for none.
+use Rattle.std.proofs.Common.{◌≡◌, ◌∙◌, ap, cond, Bool, true, false, not, List, [], ◌∷◌, ◌&&◌, ℕ, Option, filter, map, refl, sym}
+use Rattle.std.specs.List.{All, AllByRecursion}
+use Rattle.std.proofs.lemmas.List.Elements.{recursion_from_All}
+use Rattle.rt_geo.specs.Entries.{HasLayer}
+use Rattle.rt_geo.specs.Layers.{all_layers, disjoint}
+use Rattle.rt_geo.specs.Laws.{Extent, extent_of_entry}
+use Rattle.rt_geo.specs.Lemmas.Layers.{disjoint-only, has-all}
+use Rattle.rt_geo.specs.OnLayers.{on_layers_accepts}
+use Rattle.rt_geo.specs.declared.entry.Entry.{Entry}
+use Rattle.rt_geo.specs.declared.layers.Layers.{Layers}
+use Rattle.rt_tree.specs.Sorting.{limited, sorted}
+use Rattle.rt_search.specs.Answers.{accepted, answer_cmp, answer_of, answers}
+
+abbrev with_bits : ℕ → Layers
+with_bits n = record { bits = n }
+
+-- a set with all bits
+pub all_from : (layers : Layers) (n : ℕ) → n ≡ layers.bits → n ≡ 18446744073709551615 → layers ≡ all_layers
+all_from layers n is all = ap with_bits (sym is ∙ all)
+
+-- an entry is on some layer
+on_some : (entry : Entry) → HasLayer entry → disjoint (extent_of_entry entry).layers all_layers ≡ false
+on_some entry few = disjoint-only entry.layer all_layers ∙ ap not (has-all entry.layer few)
+
+and_not : (a b : Bool) → b ≡ false → (a && not b) ≡ a
+and_not true b h = ap not h
+and_not false b h = refl
+
+module _ (accepts : Extent → Bool) where
+  same_by_recursion : (entries : List Entry) → AllByRecursion HasLayer entries
+      → accepted entries (on_layers_accepts accepts all_layers) ≡ accepted entries accepts
+  same_by_recursion [] a = refl
+  same_by_recursion (entry ∷ entries) a =
+      let test = and_not (accepts (extent_of_entry entry)) _ (on_some entry a.0) in
+      let rest = same_by_recursion entries a.1 in
+      ap (λ b. cond b (entry ∷ accepted entries (on_layers_accepts accepts all_layers))
+      (accepted entries (on_layers_accepts accepts all_layers))) test
+      ∙ ap (λ l. cond (accepts (extent_of_entry entry)) (entry ∷ l) l) rest
+
+  module _ (entries : List Entry) (few : All HasLayer entries) (layers : Layers) (all : layers ≡ all_layers) where
+    pub accepted-all : accepted entries (on_layers_accepts accepts layers) ≡ accepted entries accepts
+    accepted-all = ap (λ s. accepted entries (on_layers_accepts accepts s)) all
+        ∙ same_by_recursion entries (recursion_from_All HasLayer entries few)
+
+    pub answers-all : (score : Extent → ℕ) (limit : Option ℕ)
+        → answers entries (on_layers_accepts accepts layers) score limit ≡ answers entries accepts score limit
+    answers-all score limit =
+        ap (λ found. limited limit (sorted answer_cmp (map (answer_of score) found))) accepted-all

@@ -1,0 +1,7 @@
+use Rattle.std.proofs.Common.{◌∙◌, sym}
+use Rattle.rt_tree.proofs.LeafLemmas.{entries-alone}
+use Rattle.rt_tree.proofs.leaves.Leaves.entries.Goals as goal
+
+pub returns : goal.returns
+returns c = rw (← c.self.view_is) (c.as_slice.ensures.value
+    ∙ sym (entries-alone c.self.inside.entries.items c.self.inside.layers.items c.self.invariant))

@@ -1,0 +1,24 @@
+use Rattle.std.proofs.Common.{◌≡◌, ◌∙◌, ◌<◌, FitsSigned, ap, arith, get_or, length, rules, sym, w64}
+use Rattle.std.proofs.lemmas.Int.{to_z-of_z}
+use Rattle.rt_tree.proofs.LeafLemmas.{entries_of-at, layers-alone, length-entries_of}
+use Rattle.rt_tree.proofs.leaves.Leaves.get.Goals as goal
+
+pub index-entry-requires : goal.index-entry-requires
+index-entry-requires c =
+    let long = length-entries_of c.self.inside.entries.items c.self.inside.layers.items c.self.invariant in
+    let there = rw (← c.self.view_is) at c.requires in
+    omega (arith, long, there)
+
+pub returns : goal.returns
+returns c =
+    let entries = c.self.inside.entries.items in
+    let layers = c.self.inside.layers.items in
+    let place = c.args.place in
+    let long = length-entries_of entries layers c.self.invariant in
+    let there : place < length entries = omega (arith, long, rw (← c.self.view_is) at c.requires) in
+    let entry = c.index-entry.result.now in
+    let fits : FitsSigned w64 entry.id = search rules in
+    let layer : c.layer.result ≡ get_or layers place 0 = (rw (← c.self.view_is) at c.layer.ensures)
+    ∙ ap (λ l. get_or l place 0) (layers-alone entries layers c.self.invariant) in
+    rw (← c.self.view_is, layer) (simp (to_z-of_z, fits) (entries_of-at entries layers place 0 entry c.self.invariant there
+    c.index-entry.ensures))

@@ -1,0 +1,18 @@
+-- Entries whose layers stand in a list of their own.
+use Rattle.std.specs.Prelude.{◌≡◌, ℕ, List, [], ◌∷◌, length}
+use Rattle.rt_geo.specs.declared.entry.Entry.{Entry}
+use Rattle.rt_tree.specs.declared.leaves.LeafEntry.{LeafEntry}
+
+-- an entry without its layer
+abbrev pub without_layer : Entry → LeafEntry
+without_layer entry = record { id = entry.id; bounds = entry.bounds }
+
+-- an entry with its layer
+abbrev pub with_layer : LeafEntry → (layer : ℕ) → Entry
+with_layer entry layer = record { id = entry.id; bounds = entry.bounds; layer = layer }
+
+-- entries with their layers: the one list beside the other
+abbrev pub entries_of : List LeafEntry → (layers : List ℕ) → List Entry
+entries_of [] layers = []
+entries_of (entry ∷ entries) [] = []
+entries_of (entry ∷ entries) (layer ∷ layers) = with_layer entry layer ∷ entries_of entries layers
