@@ -238,8 +238,9 @@ def digest_of(seed, lie, entries, fanout, layers):
 def cases(text):
     """The cases of random.rt, each with the number that stands there."""
     number = r'([\d_]+)'
-    lie, layers = rf'(?:spread\({number}, {number}\)|Lie::Ends)', rf'(?:any_of\({number}\)|Kinds::ByPlace)'
-    row = re.compile(r'new_case\(\s*' + r',\s*'.join([number, lie, number, number, layers, number]) + r',?\s*\)')
+    lie, kinds = rf'(?:Lie::Spread\({number}, {number}\)|Lie::Ends)', rf'(?:Kinds::AnyOf\({number}\)|Kinds::ByPlace)'
+    fields = {'seed': number, 'lie': lie, 'entries': number, 'fanout': number, 'kinds': kinds, 'digest': number}
+    row = re.compile(r'Case \{\s*' + ''.join(rf'{name}: {value},\s*' for name, value in fields.items()) + r'\}')
     for match in row.finditer(text):
         seed, reach, width, entries, fanout, layers, stored = (part and int(part) for part in match.groups())
         yield (seed, None if reach is None else (reach, width), entries, fanout, layers), stored
@@ -258,7 +259,7 @@ def main():
         else:
             failed += 1
             print(f'seed {case[0]}: {mine:_} is not the number in random.rt, {stored:_}')
-    if len(list(cases(text))) != text.count('new_case(') - 1:
+    if len(list(cases(text))) != len(re.findall(r'seed: \d', text)):
         failed += 1
         print('a case of random.rt was not read')
     print(f'{passed} passed, {failed} failed')

@@ -15,7 +15,7 @@ use std::process::Abort;
 #[derive(Clone, Copy)]
 enum Lie {
     // At most so far from 0, and at most so wide.
-    Spread { reach: u32, width: u32 },
+    Spread(u32, u32),
     // From one of `ENDS` to another.
     Ends,
 }
@@ -36,7 +36,6 @@ struct Case {
     entries: u32,
     fanout: u8,
     kinds: Kinds,
-    // Of all that the searches and counts tell.
     digest: u64,
 }
 
@@ -47,24 +46,73 @@ const QUERIES: u32 = 3;
 
 const MOST_ANSWERS: u64 = 12;
 
-fn spread(reach: u32, width: u32) -> Lie {
-    Lie::Spread { reach, width }
-}
-
-fn any_of(layers: u32) -> Kinds {
-    Kinds::AnyOf(layers)
-}
-
-fn new_case(seed: u64, lie: Lie, entries: u32, fanout: u8, kinds: Kinds, digest: u64) -> Case {
+// The tables, each with the number of all that the searches and counts over it tell.
+static CASES: [Case; 8] = [
     Case {
-        seed,
-        lie,
-        entries,
-        fanout,
-        kinds,
-        digest,
-    }
-}
+        seed: 1,
+        lie: Lie::Spread(1_000, 50),
+        entries: 120,
+        fanout: 4,
+        kinds: Kinds::AnyOf(64),
+        digest: 2_175_116_353_363_919_717,
+    },
+    Case {
+        seed: 2,
+        lie: Lie::Spread(3, 2),
+        entries: 90,
+        fanout: 3,
+        kinds: Kinds::AnyOf(3),
+        digest: 1_630_893_816_778_446_787,
+    },
+    Case {
+        seed: 3,
+        lie: Lie::Spread(1_000_000_000, 100_000_000),
+        entries: 200,
+        fanout: 16,
+        kinds: Kinds::ByPlace,
+        digest: 2_513_138_314_226_199_934,
+    },
+    Case {
+        seed: 4,
+        lie: Lie::Ends,
+        entries: 60,
+        fanout: 2,
+        kinds: Kinds::ByPlace,
+        digest: 1_990_914_365_463_987_160,
+    },
+    Case {
+        seed: 5,
+        lie: Lie::Spread(0, 0),
+        entries: 33,
+        fanout: 2,
+        kinds: Kinds::AnyOf(2),
+        digest: 7_119_055_544_920_242_175,
+    },
+    Case {
+        seed: 6,
+        lie: Lie::Spread(20, 40),
+        entries: 65,
+        fanout: 64,
+        kinds: Kinds::AnyOf(64),
+        digest: 484_666_924_712_425_547,
+    },
+    Case {
+        seed: 7,
+        lie: Lie::Spread(100, 1),
+        entries: 1,
+        fanout: 2,
+        kinds: Kinds::AnyOf(1),
+        digest: 6_352_310_215_311_238_981,
+    },
+    Case {
+        seed: 8,
+        lie: Lie::Spread(100, 1),
+        entries: 0,
+        fanout: 2,
+        kinds: Kinds::AnyOf(64),
+        digest: 11_093_117_819_520_246_301,
+    },
+];
 
 // A row of numbers below 2^31, always the same.
 #[derive(Clone, Copy)]
@@ -88,7 +136,7 @@ impl Row {
     // The low and the high side of a box on an axis.
     fn sides(&mut self, lie: Lie) -> (i32, i32) {
         match lie {
-            Lie::Spread { reach, width } => {
+            Lie::Spread(reach, width) => {
                 let low = self.middle(reach);
                 (low, low.wrapping_add(self.up_to(width)))
             }
@@ -293,59 +341,7 @@ fn digest_of(rt: &impl Abort, alloc: Global, case: Case) -> u64 {
 
 #[test]
 fn random_tables_are_searched_as_by_another_search(rt: HostRuntime) {
-    let cases = [
-        new_case(
-            1,
-            spread(1_000, 50),
-            120,
-            4,
-            any_of(64),
-            2_175_116_353_363_919_717,
-        ),
-        new_case(2, spread(3, 2), 90, 3, any_of(3), 1_630_893_816_778_446_787),
-        new_case(
-            3,
-            spread(1_000_000_000, 100_000_000),
-            200,
-            16,
-            Kinds::ByPlace,
-            2_513_138_314_226_199_934,
-        ),
-        new_case(
-            4,
-            Lie::Ends,
-            60,
-            2,
-            Kinds::ByPlace,
-            1_990_914_365_463_987_160,
-        ),
-        new_case(5, spread(0, 0), 33, 2, any_of(2), 7_119_055_544_920_242_175),
-        new_case(
-            6,
-            spread(20, 40),
-            65,
-            64,
-            any_of(64),
-            484_666_924_712_425_547,
-        ),
-        new_case(
-            7,
-            spread(100, 1),
-            1,
-            2,
-            any_of(1),
-            6_352_310_215_311_238_981,
-        ),
-        new_case(
-            8,
-            spread(100, 1),
-            0,
-            2,
-            any_of(64),
-            11_093_117_819_520_246_301,
-        ),
-    ];
-    for case in cases {
+    for case in CASES {
         let digest = digest_of(&rt, rt.alloc(), case);
         assert_eq!(rt; digest, case.digest, "seed {}", case.seed);
     }

@@ -250,7 +250,7 @@ fn told_node(so_far: i64, number: u32, node: &Node) -> i64 {
     let so_far = told(so_far, i64::from(node.first));
     let so_far = told(so_far, i64::from(node.count));
     let so_far = told(so_far, i64::from(node.size));
-    told(so_far, node.layers.bits() as i64)
+    told(so_far, node.layers.bits().cast_signed())
 }
 
 // The number of a whole tree: its entries, its nodes, and how many there are on each level.
