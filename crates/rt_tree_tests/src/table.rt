@@ -1,5 +1,8 @@
 //! Tables, pushed one by one and made at once.
 
+ghost use Rattle.std.specs.Prelude.{IfSome};
+ghost use Rattle.rt_geo.specs.Entries.{HasLayer};
+
 use crate::layered::layered;
 use rt_geo::{Bounds, Entry};
 use rt_tree::{EntriesFault, PushFault, Table};
@@ -24,7 +27,9 @@ static TABLES: [[(i64, [i32; 4]); 5]; 2] = [
     ],
 ];
 
-fn entry(id: i64, sides: [i32; 4]) -> Option<Entry> {
+fn entry(id: i64, sides: [i32; 4]) -> Option<Entry>
+    ensures { IfSome result HasLayer }
+{
     let [min_x, max_x, min_y, max_y] = sides;
     let bounds = Bounds::new(min_x, max_x, min_y, max_y)?;
     let layer = 0;

@@ -90,7 +90,7 @@ fn with(others: Option<Whole>, bounds: Bounds, layers: Layers, size: u32) -> Opt
 
 fn over_entries(tree: &Tree, node: &Node) -> Option<Whole> {
     let mut all = None;
-    for place in node.first..node.first + node.count as u32 {
+    for place in node.first..node.first.saturating_add(u32::from(node.count)) {
         if place >= tree.len() {
             return None;
         }
