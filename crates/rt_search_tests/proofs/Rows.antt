@@ -9,7 +9,7 @@ use Rattle.rt_search.specs.Work.{opened_by_search}
 use Rattle.rt_search_tests.specs.Uneven.{uneven_accepts, uneven_score, uneven_verdict}
 
 abbrev entry : ℕ → Rect → Entry
-entry id bounds = record { id = pos id; bounds = bounds }
+entry id bounds = record { id = pos id; bounds = bounds; layer = 0 }
 
 -- (of numbers below zero, `negsuc 4` is -5)
 abbrev five_boxes : List Entry

@@ -1,6 +1,9 @@
 //! Searches and counts over random tables. `tests/search.py` makes the same tables, packs and searches them in its own
 //! way, and looks for its own numbers here.
 
+ghost use Rattle.std.specs.Prelude.{◌≤◌};
+ghost use Rattle.rt_geo.specs.Layers.{most_layer};
+
 use crate::tables::push_on;
 use rt_geo::{
     All, Bounds, ById, Circle, Counted, Geometry, Guided, Layers, Near, OnLayers, Point, Rank,
@@ -167,14 +170,18 @@ impl Row {
     }
 
     // One of so many layers.
-    fn layer_of(&mut self, layers: u32) -> u8 {
+    fn layer_of(&mut self, layers: u32) -> u8
+        ensures { result ≤ most_layer }
+    {
         u8::try_from(self.next() % layers.max(1))
             .unwrap_or(0)
             .min(63)
     }
 
     // The layer of a box.
-    fn layer(&mut self, kinds: Kinds, bounds: Bounds) -> u8 {
+    fn layer(&mut self, kinds: Kinds, bounds: Bounds) -> u8
+        ensures { result ≤ most_layer }
+    {
         match kinds {
             Kinds::AnyOf(layers) => self.layer_of(layers),
             Kinds::ByPlace => u8::try_from(bounds.min_x().abs_diff(i32::MIN) / 67_108_864)
