@@ -2,55 +2,29 @@
 
 from collections.abc import Iterable, Iterator
 from fractions import Fraction
-from itertools import islice, pairwise
+from itertools import pairwise
 
 from .answers import Answers
-from .client import Command, Rtfilter
-from .closing import Closing
-from .geojson import Features, line_of, parts_of, whole_by
-from .plane import Piece, distance2, sides_of
+from .batches import batches
+from .geojson import Features, line_of, parts_of
+from .plane import Piece, Sides, distance2, sides_of
 from .queries import nearest_line
-from .tables import Row
+from .shapes import Shapes
 
-BATCH = 1000  # points that are asked at once
 LEAST_ASKED = 8  # boxes: nearly always there is a farther one among them
 
 
-class Lines(Closing):
+class Lines(Shapes[Piece]):
     """Lines that are loaded at once and asked which of them are nearest to a point.
 
-    `features` are GeoJSON: the name of a file, what json has read from one, or any iterable of features, each a LineString
-    or a MultiLineString. An answer names a line by its number: its place among the features, from 0.
-
-    Without `scale`, coordinates are whole numbers of 32 bits, those of points too. With it they may be decimals: each is
-    multiplied by it and the nearest whole number is taken, of two that are equally near the greater one. Nothing else is
-    rounded: what is answered is exact for the lines and the point so rounded.
-
-    Raises `FeatureError` for the first feature that isn't taken, what reading the file raises, and what `Rtfilter` does,
-    whose `program` and `timeout` these are. Questions raise what those of `Rtfilter` do.
+    Each feature is a LineString or a MultiLineString, whose straight pieces are the shapes. An answer names a line by its
+    number: its place among the features, from 0. Arguments, and what they raise, are those of `Shapes`.
     """
 
-    def __init__(
-        self,
-        features: Features,
-        *,
-        scale: float | None = None,
-        program: Command = "rtfilter",
-        timeout: float | None = None,
-    ) -> None:
-        self._whole = whole_by(scale)
-        # A piece has a box of its own, whose id is its place here.
-        self._pieces: list[Piece] = []
-        self._line_of: list[int] = []
-        self._boxes = Rtfilter(self._rows(features), program=program, timeout=timeout)
-
-    def _rows(self, features: Features) -> Iterator[Row]:
-        """The rows of a table, whose pieces are gathered as they go by."""
+    def _cut(self, features: Features) -> Iterator[tuple[int, Piece, Sides]]:
         for line, path in parts_of(features, "LineString", line_of, self._whole):
             for piece in pairwise(path):
-                yield (len(self._pieces), *sides_of(piece))
-                self._pieces.append(piece)
-                self._line_of.append(line)
+                yield line, piece, sides_of(piece)
 
     def nearest(self, k: int, x: float, y: float) -> list[tuple[int, Fraction]]:
         """The k lines nearest to a point, each with the square of its distance, by that and then by number.
@@ -64,7 +38,7 @@ class Lines(Closing):
         if k < 1:
             raise ValueError("at least one line has to be asked for")
         searches = (Search(k, self._whole(x), self._whole(y)) for x, y in points)
-        while batch := list(islice(searches, BATCH)):
+        for batch in batches(searches):
             waiting = batch
             while waiting:
                 found = self._boxes.ask(search.query for search in waiting)
@@ -77,15 +51,8 @@ class Lines(Closing):
     def _look_at(self, search: "Search", answers: Answers) -> None:
         """Takes the pieces whose boxes a search has found, and that it hasn't seen."""
         for at in answers.ids[search.seen:]:
-            search.take(self._line_of[at], distance2(self._pieces[at], search.x, search.y))
+            search.take(self._feature_of[at], distance2(self._shapes[at], search.x, search.y))
         search.end_round(answers)
-
-    def __len__(self) -> int:
-        """How many lines there are."""
-        return self._line_of[-1] + 1 if self._line_of else 0
-
-    def close(self) -> None:
-        self._boxes.close()
 
 
 class Search:

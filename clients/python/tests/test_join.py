@@ -7,7 +7,7 @@ import unittest
 from support import PROGRAM, some_rows
 
 from rtfilter import Pool, QueryError, Rtfilter, join
-from rtfilter.joining import BATCH
+from rtfilter.batches import BATCH
 
 MEET = "a.min_x <= b.max_x AND b.min_x <= a.max_x AND a.min_y <= b.max_y AND b.min_y <= a.max_y"
 

@@ -11,7 +11,8 @@ from support import PROGRAM
 from shapely_runs import told_by_shapely
 
 from rtfilter import FeatureError, QueryError
-from rtfilter.lines import BATCH, LEAST_ASKED, Lines
+from rtfilter.batches import BATCH
+from rtfilter.lines import LEAST_ASKED, Lines
 
 Place = tuple[int, int]
 

@@ -15,8 +15,9 @@ from support import PROGRAM
 from shapely_runs import told_by_shapely
 
 from rtfilter import FeatureError, QueryError
+from rtfilter.batches import BATCH
 from rtfilter.geojson import whole_by
-from rtfilter.zones import BATCH, Zones
+from rtfilter.zones import Zones
 
 Place = tuple[int, int]
 Rings = list[list[Place]]
