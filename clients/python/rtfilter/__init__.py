@@ -17,7 +17,7 @@ from .client import Command, Rtfilter
 from .errors import Ended, FeatureError, QueryError, RtfilterError, TimedOut
 from .joining import join
 from .pool import Pool
-from .queries import All, ById, Circle, Covers, Inside, Near, Order, Polygon, Region, Smallest, Window
+from .queries import All, ById, Circle, Covers, Inside, Layers, Near, Order, Polygon, Region, Smallest, Window
 from .replies import Reply
 from .tables import Row, Table
 
@@ -32,6 +32,7 @@ __all__ = [
     "Ended",
     "FeatureError",
     "Inside",
+    "Layers",
     "Near",
     "Order",
     "Polygon",

@@ -6,7 +6,7 @@ from collections.abc import Iterable
 from .answers import Answers
 from .closing import Closing
 from .errors import QueryError
-from .queries import Order, Region, find_line, nearest_line
+from .queries import Layers, Order, Region, count_line, find_line, nearest_line
 from .replies import Reply
 from .tables import Table
 
@@ -17,7 +17,8 @@ class Boxes(Closing):
     """A table of boxes that answers queries. Threads may share it; used in a `with` statement, it is closed at its end.
 
     Each call that asks may raise `QueryError` for a faulty query, `Ended` where the program has ended, `TimedOut` where it
-    took too long, `ValueError` after `close`, and `TypeError` for a number that isn't whole.
+    took too long, `ValueError` after `close` and for a layer that is out of range, and `TypeError` for a number that isn't
+    whole.
     """
 
     @abc.abstractmethod
@@ -50,20 +51,23 @@ class Boxes(Closing):
             found.append(NO_ANSWERS if reply is None else reply)
         return found
 
-    def find(self, region: Region, order: Order | None = None, first: int | None = None) -> Answers:
+    def find(
+        self, region: Region, order: Order | None = None, first: int | None = None, *, on: Layers | None = None
+    ) -> Answers:
         """The boxes that a region accepts, by score and then id, the least first; the first so many of them.
 
-        Without an order all scores are 0, and a circle's are those of `Near` its centre.
+        Without an order all scores are 0, and a circle's are those of `Near` its centre. With `on`, one layer or an iterable
+        of one or more, each 0 to 63, only boxes of these layers are looked at.
         """
-        return self._answers(find_line(region, order, first))
+        return self._answers(find_line(region, order, first, on))
 
     def nearest(self, k: int, x: int, y: int) -> Answers:
         """The k boxes nearest to a point, by the square of the distance and then id."""
         return self._answers(nearest_line(k, x, y))
 
-    def count(self, region: Region) -> int:
-        """How many boxes a region accepts."""
-        return self._answers(f"count {region}").told
+    def count(self, region: Region, *, on: Layers | None = None) -> int:
+        """How many boxes a region accepts; with `on`, as in `find`, of these layers alone."""
+        return self._answers(count_line(region, on)).told
 
     def levels(self) -> list[tuple[int, int]]:
         """The levels of the tree from the top, each with how many nodes it has; level 0 is that of the boxes."""

@@ -21,9 +21,10 @@ ANSWERED = "find all first 0"
 class Rtfilter(Boxes):
     """A table of boxes that the program `rtfilter` holds, as a process beside this one.
 
-    `table` is the name of a CSV file, or rows, whose numbers are id, min_x, max_x, min_y, max_y. With `header`, the first
-    record of a file is one. `fanout` (2 to 64) and `max_entries` (1 to 16777216) are the program's options. `timeout` is
-    how many seconds each call may wait for the program, the load here too; None sets no limit.
+    `table` is the name of a CSV file, or rows, whose numbers are id, min_x, max_x, min_y, max_y and, for a box that isn't of
+    layer 0, its layer, 0 to 63. With `header`, the first record of a file is one. `fanout` (2 to 64) and `max_entries`
+    (1 to 16777216) are the program's options. `timeout` is how many seconds each call may wait for the program, the load
+    here too; None sets no limit.
 
     The table is loaded when this returns. Raises `Ended` where the program refuses the table or an option, with its status
     and its line, `FileNotFoundError` where there is no such program, and what making the rows raises.

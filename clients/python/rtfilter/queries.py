@@ -1,8 +1,9 @@
-"""Regions and orders as small values. `str` of each gives its words in the query language.
+"""Regions and orders as small values, layers, and query lines. `str` of a region or an order gives its words in the language.
 
 Numbers are whole: `int`, or what Python takes for an index, as numpy's integers are. Any other, a float above all, is
 refused with a `TypeError` when the value is made, and never rounded. Coordinates have the unit of the table; whether
-they lie in their ranges is the program's to judge, when it is asked. Regions are closed: what touches shares a point.
+they lie in their ranges is the program's to judge, when it is asked; layers alone are judged here. Regions are closed: what
+touches shares a point.
 """
 
 from collections.abc import Iterable
@@ -138,19 +139,57 @@ class Smallest:
 Order = Union[ById, Near, Smallest]
 
 
+# ---- layers
+
+
+Layers = Union[int, Iterable[int]]
+"""One layer or some of them, each 0 to 63. Their order, and how often one comes, make no difference."""
+
+GREATEST_LAYER = 63
+
+
+def on_words(layers: Layers | None) -> str:
+    """What follows a region so that boxes of these layers alone are asked for, as ` on 3,7`; nothing for None.
+
+    Raises `ValueError` where a layer is out of range, or there is none, and `TypeError` where one isn't whole, or is a bool.
+    """
+    if layers is None:
+        return ""
+    if isinstance(layers, (bytes, bytearray)):  # whose items are numbers, and not those that it shows
+        raise TypeError(f"layers are whole numbers, and no text: {layers!r:.50}")
+    listed = sorted({_layer(number) for number in (layers if isinstance(layers, Iterable) else [layers])})
+    if not listed:
+        raise ValueError("no layer is named; None asks for boxes of all layers")
+    return f" on {','.join(map(str, listed))}"
+
+
+def _layer(number: int) -> int:
+    if isinstance(number, bool):  # which Python would count as 0 or 1
+        raise TypeError(f"a layer is a whole number, and not {number}")
+    layer = index(number)
+    if not 0 <= layer <= GREATEST_LAYER:
+        raise ValueError(f"a layer is one of 0 to {GREATEST_LAYER}, and not {layer}")
+    return layer
+
+
 # ---- query lines
 
 
-def find_line(region: Region, order: Order | None, first: int | None) -> str:
+def find_line(region: Region, order: Order | None, first: int | None, on: Layers | None = None) -> str:
     """A query for boxes. A circle's boxes come by distance where no order is named, and can't come by id: ValueError."""
     if isinstance(order, ById) and isinstance(region, Circle):
         raise ValueError("the boxes of a circle come by a score: its own, Near or Smallest")
-    words = [f"find {region}"]
+    words = [f"find {region}{on_words(on)}"]
     if order is not None:
         words.append(str(order))
     if first is not None:
         words.append(f"first {index(first):d}")
     return " ".join(words)
+
+
+def count_line(region: Region, on: Layers | None = None) -> str:
+    """A query for the number of boxes."""
+    return f"count {region}{on_words(on)}"
 
 
 def nearest_line(k: int, x: int, y: int) -> str:

@@ -8,7 +8,7 @@ from operator import index
 from typing import Union
 
 Row = Sequence[int]
-"""A box: id, min_x, max_x, min_y, max_y, each a whole number."""
+"""A box: id, min_x, max_x, min_y, max_y, and its layer where that isn't 0, each a whole number."""
 
 File = Union[str, "os.PathLike[str]"]
 """The name of a file."""
@@ -16,14 +16,17 @@ File = Union[str, "os.PathLike[str]"]
 Table = Union[File, Iterable[Row]]
 """The name of a CSV file, or rows."""
 
+RECORD = "%d,%d,%d,%d,%d\n"
+LAYERED_RECORD = "%d,%d,%d,%d,%d,%d\n"
+
 
 @contextlib.contextmanager
 def named(table: Table, header: bool) -> Iterator[str]:
     """The name of a file that has the table, for as long as it takes to load it.
 
     Rows go to a file of their own, in the folder for temporary files, before any program is started: whatever making them
-    raises is raised here, and more than one program may read them. A row that isn't five whole numbers raises `TypeError`,
-    and rows with a header `ValueError`; whether the numbers make a box is the program's to judge.
+    raises is raised here, and more than one program may read them. A row that isn't five or six whole numbers raises
+    `TypeError`, and rows with a header `ValueError`; whether the numbers make a box is the program's to judge.
     """
     if isinstance(table, (str, os.PathLike)):
         yield os.fspath(table)
@@ -31,9 +34,17 @@ def named(table: Table, header: bool) -> Iterator[str]:
     if header:
         raise ValueError("rows have no header")
     with tempfile.NamedTemporaryFile("w", encoding="ascii", prefix="rtfilter-", suffix=".csv") as file:
-        file.writelines("%d,%d,%d,%d,%d\n" % tuple(map(index, row)) for row in table)
+        file.writelines(map(record, table))
         file.flush()
         yield file.name
+
+
+def record(row: Row) -> str:
+    """The record of a row: five fields, or six with the layer."""
+    numbers = tuple(map(index, row))
+    if len(numbers) not in (5, 6):
+        raise TypeError(f"a row has five or six numbers, and not {len(numbers)}")
+    return (RECORD if len(numbers) == 5 else LAYERED_RECORD) % numbers
 
 
 def file_of(table: Table) -> File | None:

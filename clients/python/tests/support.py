@@ -11,6 +11,7 @@ ROOT = Path(__file__).resolve().parents[3]
 PACKAGE = ROOT / "clients/python"
 EXAMPLES = ROOT / "examples"
 BOXES = EXAMPLES / "boxes.csv"
+LAYERS = EXAMPLES / "layers.csv"
 PROGRAM = os.environ["RTFILTER_PROGRAM"]
 
 sys.path[:0] = [str(PACKAGE), str(ROOT / "tests")]
@@ -24,6 +25,13 @@ from rtfilter import QueryError, Reply
 def some_lines(chance: random.Random, count: int) -> list[bytes]:
     """Sound and faulty query lines, and some that are skipped."""
     return [random_runs.some_line(chance) for _ in range(count)]
+
+
+def some_sound_table(chance: random.Random) -> bytes:
+    while True:
+        text: bytes = random_runs.some_table(chance)
+        if not isinstance(reading.boxes(text, False, 2**24), bytes):
+            return text
 
 
 def some_rows(chance: random.Random, count: int, span: int, longest: int) -> list[tuple[int, int, int, int, int]]:

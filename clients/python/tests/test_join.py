@@ -27,8 +27,26 @@ class Joins(unittest.TestCase):
                 self.assertEqual(list(join(boxes, theirs)), wanted)
             self.assertEqual(bool(wanted), count > 0)
 
+    def test_on_layers(self) -> None:
+        """Those of the boxes decide; rows may have a layer or none."""
+        with Rtfilter([(1, 0, 10, 0, 10, 3), (2, 5, 15, 5, 15), (3, 8, 9, 8, 9, 63)], program=PROGRAM) as boxes:
+            rows = [(7, 8, 8, 8, 8, 5), (8, 0, 0, 0, 0), (9, 15, 20, 15, 20, 3)]
+            for on, pairs in (
+                (None, [(1, 7), (2, 7), (3, 7), (1, 8), (2, 9)]),
+                (0, [(2, 7), (2, 9)]),
+                ([63, 3], [(1, 7), (3, 7), (1, 8)]),
+                ({5}, []),
+            ):
+                self.assertEqual(list(join(boxes, rows, on=on)), pairs)
+
     def test_of_what_is_no_row(self) -> None:
         with Pool(2, [(1, 0, 10, 0, 10)], program=PROGRAM) as boxes:
-            for bad, error in (((1, 0, 1, 0), TypeError), ((1, 0, 0.5, 0, 1), TypeError), ((1, 1, 0, 0, 1), QueryError)):
+            for bad, error in (
+                ((1, 0, 1, 0), TypeError), ((1, 0, 1, 0, 1, 2, 3), TypeError), ((1, 0, 0.5, 0, 1), TypeError),
+                ((1, 1, 0, 0, 1), QueryError),
+            ):  # fmt: skip
                 with self.assertRaises(error):
                     list(join(boxes, [bad]))
+            for on, error in ((64, ValueError), ([], ValueError), (True, TypeError)):
+                with self.assertRaises(error):
+                    list(join(boxes, [(1, 0, 1, 0, 1)], on=on))

@@ -1,4 +1,4 @@
-"""The examples of docs/python-client.md show what they give."""
+"""The examples of docs/python-client.md and of the README show what they give."""
 
 import contextlib
 import doctest
@@ -11,16 +11,21 @@ import unittest
 from pathlib import Path
 from unittest import mock
 
-from support import EXAMPLES, PROGRAM, ROOT
+from support import EXAMPLES, PACKAGE, PROGRAM, ROOT
 
 PAGE = ROOT / "docs/python-client.md"
+README = PACKAGE / "README.md"
 BLOCK = re.compile(r"^```pycon\n(.*?)^```$", re.MULTILINE | re.DOTALL)
 
 
 class Page(unittest.TestCase):
     def test_examples(self) -> None:
-        """One session, in a folder with the files of examples/, with the program on the path."""
-        text = PAGE.read_text(encoding="utf-8")
+        self.assertGreater(self.tries(PAGE), 20)
+        self.assertGreater(self.tries(README), 0)
+
+    def tries(self, page: Path) -> int:
+        """How many examples a page has: one session, in a folder with the files of examples/, the program on the path."""
+        text = page.read_text(encoding="utf-8")
         told = io.StringIO()
         runner = doctest.DocTestRunner(optionflags=doctest.REPORT_ONLY_FIRST_FAILURE)
         with tempfile.TemporaryDirectory() as room:
@@ -33,9 +38,9 @@ class Page(unittest.TestCase):
             with contextlib.chdir(folder), on_path:
                 for block in BLOCK.finditer(text):
                     line = text[: block.start(1)].count("\n")
-                    session = doctest.DocTestParser().get_doctest(block[1], names, "example", str(PAGE), line)
+                    session = doctest.DocTestParser().get_doctest(block[1], names, "example", str(page), line)
                     runner.run(session, out=told.write, clear_globs=False)
                     names = session.globs
         self.assertFalse(runner.failures, told.getvalue())
         self.assertEqual(runner.tries, text.count("\n>>> "))
-        self.assertGreater(runner.tries, 20)
+        return runner.tries

@@ -10,18 +10,11 @@ from functools import partial
 from pathlib import Path
 from unittest import mock
 
-from support import BOXES, PROGRAM, random_runs, reading, some_lines, told_by_program, written
+from support import BOXES, PROGRAM, some_lines, some_sound_table, told_by_program, written
 
 from rtfilter import All, Answers, Circle, Covers, Inside, Near, Polygon, QueryError, Rtfilter, Smallest, Window
 
 RUNS = 60
-
-
-def some_sound_table(chance: random.Random) -> bytes:
-    while True:
-        text: bytes = random_runs.some_table(chance)
-        if not isinstance(reading.boxes(text, False, 2**24), bytes):
-            return text
 
 
 class RandomLines(unittest.TestCase):

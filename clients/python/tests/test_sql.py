@@ -4,7 +4,7 @@ import random
 import sqlite3
 import unittest
 
-from support import BOXES, PROGRAM, some_rows
+from support import BOXES, LAYERS, PROGRAM, some_rows
 
 from rtfilter import Rtfilter
 from rtfilter.sql import add_functions
@@ -46,6 +46,13 @@ class Sql(unittest.TestCase):
         with Rtfilter([(id, 0, 1, 0, 1) for id in ids], program=PROGRAM) as boxes:
             add_functions(base, boxes)
             self.assertEqual(base.execute("SELECT value FROM json_each(rtfilter_ids('find all'))").fetchall(), [(id,) for id in ids])
+
+    def test_on_a_layer(self) -> None:
+        base = sqlite3.connect(":memory:")
+        with Rtfilter(LAYERS, program=PROGRAM) as boxes:
+            add_functions(base, boxes)
+            (found,) = base.execute("SELECT rtfilter_ids('find all on 3'), rtfilter_count('count all on 0,63')").fetchall()
+            self.assertEqual(found, ("[1, 3]", 3))
 
     def test_none_and_faults(self) -> None:
         base = sqlite3.connect(":memory:")

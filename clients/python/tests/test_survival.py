@@ -41,6 +41,8 @@ class Ends(unittest.TestCase):
             ([(1, 0, 10, 0, 10), (1, 0, 10, 0, 10)], "rtfilter: table record 2: repeated id"),
             ([(1, 10, 0, 0, 10)], "rtfilter: table record 1: minimum above maximum in x"),
             ([(1, 0, 2**31, 0, 10)], "rtfilter: table record 1: field 3 is out of range"),
+            ([(1, 0, 1, 0, 1), (2, 0, 1, 0, 1, 64)], "rtfilter: table record 2: field 6 is out of range"),
+            ([(1, 0, 1, 0, 1, -1)], "rtfilter: table record 1: field 6 is out of range"),
             (((at, 1, 0, 0, 0) for at in range(100_000)), "rtfilter: table record 1: minimum above maximum in x"),
         ):
             with self.assertRaises(Ended) as raised:
@@ -58,9 +60,13 @@ class Ends(unittest.TestCase):
                 Rtfilter(BOXES, program=PROGRAM, **options)
 
     def test_rows_that_are_none(self) -> None:
-        for rows in ([(1, 0, 0.5, 0, 1)], [(1, 0, 1.0, 0, 1)], [(1, 0, 1, 0)], [(1, 0, 1, 0, 1, 2)], [("1", 0, 1, 0, 1)], [1]):
+        box = (1, 0, 1, 0, 1)
+        for row in ((1, 0, 0.5, 0, 1), (1, 0, 1.0, 0, 1), ("1", 0, 1, 0, 1), (*box, 3.0), (*box, None), (*box, "3"), 1):
             with self.assertRaises(TypeError):
-                Rtfilter(rows, program=PROGRAM)
+                Rtfilter([box, row], program=PROGRAM)
+        for row in ((), box[:4], (*box, 2, 3)):
+            with self.assertRaisesRegex(TypeError, f"^a row has five or six numbers, and not {len(row)}$"):
+                Rtfilter([box, row], program=PROGRAM)
         with self.assertRaises(ValueError):
             Rtfilter([(1, 0, 1, 0, 1)], header=True, program=PROGRAM)
 

@@ -25,7 +25,7 @@ from rtfilter import (
     TimedOut,
     Window,
 )
-from rtfilter.queries import find_line, nearest_line
+from rtfilter.queries import count_line, find_line, nearest_line, on_words
 from rtfilter.replies import cut, may_be_skipped
 
 WORDS = {
@@ -96,6 +96,48 @@ class Regions(unittest.TestCase):
     def test_a_circle_does_not_come_by_id(self) -> None:
         with self.assertRaises(ValueError):
             find_line(Circle(1, 2, 3), ById(), None)
+
+
+class LayersInWords(unittest.TestCase):
+    def test_each_once_and_in_order(self) -> None:
+        for on, words in (
+            (None, ""),
+            (3, " on 3"),
+            (Whole(5), " on 5"),
+            ([7, 3], " on 3,7"),
+            ((3, Whole(3), 0, 3), " on 0,3"),
+            ({63, 0, 12}, " on 0,12,63"),
+            ({5: "roads"}, " on 5"),
+            (iter([2, 1]), " on 1,2"),
+            (range(64), " on " + ",".join(map(str, range(64)))),
+            ([3] * 10_000, " on 3"),
+        ):
+            self.assertEqual(on_words(on), words)
+
+    def test_in_lines(self) -> None:
+        self.assertEqual(find_line(All(), None, None, 0), "find all on 0")
+        self.assertEqual(find_line(Circle(1, 2, 3), Near(5, 6), 7, {9, 8}), "find circle 1 2 3 on 8,9 near 5 6 first 7")
+        self.assertEqual(count_line(Window(1, 2, 3, 4), [3]), "count window 1 2 3 4 on 3")
+        self.assertEqual(count_line(All()), "count all")
+
+    def test_what_is_no_layer(self) -> None:
+        for bad in (True, 1.0, Decimal(1), Fraction(1), "1", 1j, None):
+            for on in (bad, [bad], [0, bad], iter([63, bad])):
+                if on is not None:
+                    with self.assertRaises(TypeError):
+                        on_words(on)
+        for on in ("3,7", b"3", bytearray(b"3"), [[3]], [b"3"], object()):
+            with self.assertRaises(TypeError):
+                on_words(on)
+
+    def test_layers_that_are_none(self) -> None:
+        for bad in (-1, 64, 2**70, Whole(64)):
+            for on in (bad, [bad], [0, bad], iter([63, bad])):
+                with self.assertRaisesRegex(ValueError, "^a layer is one of 0 to 63, and not "):
+                    on_words(on)
+        for on in ([], (), set(), range(0), iter([])):
+            with self.assertRaisesRegex(ValueError, "^no layer is named"):
+                on_words(on)
 
 
 class AnswersAsValues(unittest.TestCase):
