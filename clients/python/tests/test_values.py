@@ -105,6 +105,7 @@ class LayersInWords(unittest.TestCase):
             (3, " on 3"),
             (Whole(5), " on 5"),
             ([7, 3], " on 3,7"),
+            ({56, 1, 8}, " on 1,8,56"),  # which a set has in another order
             ((3, Whole(3), 0, 3), " on 0,3"),
             ({63, 0, 12}, " on 0,12,63"),
             ({5: "roads"}, " on 5"),
