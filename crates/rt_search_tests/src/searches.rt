@@ -5,7 +5,8 @@ use crate::tables::{Sides, boxed, push};
 use crate::uneven::Uneven;
 use crate::watched::Watched;
 use rt_geo::{
-    All, ById, Circle, Counted, Geometry, Guided, Inside, Near, Order, Point, Region, Window,
+    All, ById, Circle, Counted, Geometry, Guided, Inside, Layers, Near, OnLayers, Order, Point,
+    Region, Window,
 };
 use rt_search::{Count, Frontier, FullSearch, Search, count};
 use rt_tree::{Table, Tree};
@@ -232,6 +233,23 @@ fn counts_whole_subtrees(rt: HostRuntime) {
             opened: 1,
         },
     );
+}
+
+#[test]
+fn a_layer_that_no_box_has_counts_nothing(rt: HostRuntime) {
+    let tree = pack(&rt, rt.alloc(), &BOXES);
+    let on_one = Guided {
+        shape: OnLayers {
+            shape: All,
+            layers: Layers::of(1),
+        },
+        rank: ById,
+    };
+    let want = Count {
+        accepted: 0,
+        opened: 1,
+    };
+    expect_count(&rt, rt.alloc(), &tree, &on_one, want);
 }
 
 #[test]

@@ -232,6 +232,7 @@ fn id_of(number: u32, text: &[u8]) -> Result<i64, TableFault>
 }
 
 // A later field.
+#[inline(always)]
 fn coordinate_of(number: u32, field: u8, text: &[u8]) -> Result<i32, TableFault>
     ensures { result ≡ coordinate_of number field text.now }
 {
@@ -245,6 +246,7 @@ fn coordinate_of(number: u32, field: u8, text: &[u8]) -> Result<i32, TableFault>
 }
 
 // The layer of a record.
+#[inline(always)]
 fn layer_in(number: u32, fields: &ByteRecord) -> Result<u8, TableFault>
     requires { fields_without_layer ≤ length (fields_of fields.now) }
     ensures value { result ≡ layer_in number (fields_of fields.now) }
@@ -257,7 +259,8 @@ fn layer_in(number: u32, fields: &ByteRecord) -> Result<u8, TableFault>
     }
 }
 
-// The sixth field.
+// The sixth field. Kept out of line, as most tables have none.
+#[inline(never)]
 fn layer_of(number: u32, text: &[u8]) -> Result<u8, TableFault>
     ensures value { result ≡ layer_of number text.now }
     ensures within { IfOk result (λ layer. layer ≤ most_layer) }
@@ -267,6 +270,7 @@ fn layer_of(number: u32, text: &[u8]) -> Result<u8, TableFault>
 }
 
 // The number of a field, within its range.
+#[inline(always)]
 fn number_of(number: u32, field: u8, text: &[u8], low: i64, high: i64) -> Result<i64, TableFault>
     ensures value { result ≡ map_fault (field_fault number field) (number_in low high text.now) }
     ensures within { IfOk result (λ n. (low ≤ℤ n) × (n ≤ℤ high)) }

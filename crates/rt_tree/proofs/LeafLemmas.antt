@@ -1,5 +1,5 @@
 -- Entries whose layers stand in a list of their own.
-use Rattle.std.proofs.Common.{◌≡◌, ◌<◌, ◌+◌, ℕ, zero, suc, List, [], ◌∷◌, ◌++◌, length, map, take, drop, get_or, slice_get, Some, IfSome}
+use Rattle.std.proofs.Common.{◌≡◌, ◌<◌, ℕ, zero, suc, List, [], ◌∷◌, length, map, take, drop, get_or, slice_get, Some, IfSome}
 use Rattle.std.proofs.Common.{refl, sym, ◌∙◌, ap, arith}
 use Rattle.std.proofs.lemmas.List.{drop-map, length-map, take-map}
 use Rattle.rt_geo.specs.Laws.{extent_of_entry}
@@ -80,19 +80,19 @@ leaf_over-is first entries layers long =
     let whole = entries_of entries layers in
     rw (sum_by-ones whole, length-entries_of entries layers long, boxes entries layers long, sets entries layers long)
     refl
-    where
-      boxes : (entries : List LeafEntry) (layers : List ℕ) → length entries ≡ length layers
-          → map (λ (e : Entry). (extent_of_entry e).bounds) (entries_of entries layers)
-          ≡ map (λ (e : LeafEntry). e.bounds) entries
-      boxes [] layers long = refl
-      boxes (entry ∷ entries) [] long = absurd (omega (arith, long))
-      boxes (entry ∷ entries) (layer ∷ layers) long =
-          ap (λ l. entry.bounds ∷ l) (boxes entries layers (omega (arith, long)))
+  where
+    boxes : (entries : List LeafEntry) (layers : List ℕ) → length entries ≡ length layers
+        → map (λ (e : Entry). (extent_of_entry e).bounds) (entries_of entries layers)
+        ≡ map (λ (e : LeafEntry). e.bounds) entries
+    boxes [] layers long = refl
+    boxes (entry ∷ entries) [] long = absurd (omega (arith, long))
+    boxes (entry ∷ entries) (layer ∷ layers) long =
+        ap (λ l. entry.bounds ∷ l) (boxes entries layers (omega (arith, long)))
 
-      sets : (entries : List LeafEntry) (layers : List ℕ) → length entries ≡ length layers
-          → map (λ (e : Entry). (extent_of_entry e).layers) (entries_of entries layers) ≡ map only layers
-      sets [] [] long = refl
-      sets [] (layer ∷ layers) long = absurd (omega (arith, long))
-      sets (entry ∷ entries) [] long = absurd (omega (arith, long))
-      sets (entry ∷ entries) (layer ∷ layers) long =
-          ap (λ l. only layer ∷ l) (sets entries layers (omega (arith, long)))
+    sets : (entries : List LeafEntry) (layers : List ℕ) → length entries ≡ length layers
+        → map (λ (e : Entry). (extent_of_entry e).layers) (entries_of entries layers) ≡ map only layers
+    sets [] [] long = refl
+    sets [] (layer ∷ layers) long = absurd (omega (arith, long))
+    sets (entry ∷ entries) [] long = absurd (omega (arith, long))
+    sets (entry ∷ entries) (layer ∷ layers) long =
+        ap (λ l. only layer ∷ l) (sets entries layers (omega (arith, long)))

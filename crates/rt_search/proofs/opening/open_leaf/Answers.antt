@@ -1,4 +1,4 @@
-use Rattle.std.proofs.Common.{◌≡◌, ◌+◌, ◌∙◌, FitsSigned, IfSome, add-one, ap, arith, rules, subst, w64}
+use Rattle.std.proofs.Common.{◌≡◌, ◌∙◌, FitsSigned, IfSome, add-one, ap, arith, rules, subst, w64}
 use Rattle.std.proofs.lemmas.Int.{to_z-of_z}
 use Rattle.rt_geo.specs.Laws.{extent_of_entry}
 use Rattle.rt_tree.specs.Packed.{extent_of_node}

@@ -1,7 +1,7 @@
 use Rattle.std.proofs.Common.{◌≡◌, ◌<◌, ◌∙◌, All, ap, length, subst, sym}
 use Rattle.std.specs.List.{flat_map}
-use Rattle.rt_tree.specs.Packing.{chunks, twice_middle_y}
-use Rattle.rt_tree.specs.SortKeys.{IsRankedAt, by_y, keys_by_x, place_of}
+use Rattle.rt_tree.specs.Packing.{chunks}
+use Rattle.rt_tree.specs.SortKeys.{by_y, keys_by_x, place_of}
 use Rattle.rt_tree.specs.Sorting.{sorted}
 use Rattle.rt_tree.proofs.LoopLemmas.{front_of}
 use Rattle.rt_tree.proofs.SortKeyLemmas.{keys_tell, sliced_tell}

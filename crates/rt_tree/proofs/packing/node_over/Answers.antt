@@ -1,4 +1,4 @@
-use Rattle.std.proofs.Common.{◌∙◌, ◌<◌, ◌-◌, ◌+◌, ap, arith, length}
+use Rattle.std.proofs.Common.{◌∙◌, ◌<◌, ◌-◌, ◌+◌, arith, length}
 use Rattle.std.proofs.lemmas.List.{length-take}
 use Rattle.std.proofs.lemmas.List.Sums.{sum_by-take-le}
 use Rattle.rt_geo.specs.Boxes.{hull}

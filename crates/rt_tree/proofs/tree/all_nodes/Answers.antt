@@ -4,7 +4,6 @@ use Rattle.rt_tree.specs.Packing.{all_nodes, chunks, groups, joined, nodes_over}
 use Rattle.rt_tree.specs.declared.tree.Node.{Node}
 use Rattle.rt_tree.proofs.PackCounts.{course_more, entries_counted, level_counted, level_smaller}
 use Rattle.rt_tree.proofs.PackCounts.{ordered_length, ordered_weight}
-use Rattle.rt_tree.proofs.Soundness.{sum_by-ones}
 use Rattle.rt_tree.proofs.tree.all_nodes.Goals as goal
 
 pub levels-init : goal.levels-init
