@@ -241,12 +241,13 @@ fn short_magnitude(digits: &[u8]) -> Result<u64, NumberFault>
     if digits.is_empty() {
         return Err(NumberFault::NotNumber);
     }
-    let mut magnitude: u64 = 0;
-    for digit in digits {
-        if !digit.is_ascii_digit() {
+    let first = leading_group(digits);
+    let mut magnitude = first.number;
+    for at in first.count..digits.len() {
+        if !digits[at].is_ascii_digit() {
             return Err(NumberFault::NotNumber);
         }
-        magnitude = magnitude * 10 + u64::from(*digit - b'0');
+        magnitude = magnitude * 10 + u64::from(digits[at] - b'0');
     }
     Ok(magnitude)
 }
