@@ -9,7 +9,6 @@ mod LoopLemmas
 mod OrderLemmas
 mod PackCounts
 mod PackLemmas
-mod PackSound
 mod Rows
 mod SortKeyLemmas
 mod SquareLemmas
@@ -18,5 +17,7 @@ mod TieLemmas
 mod TieOrders
 mod TileLemmas
 pub mod Permutations
+pub mod PackSound
+pub mod Repacked
 pub mod RepeatLemmas
 pub mod SortingLemmas

@@ -229,10 +229,11 @@ IsTable-IsPermutation xs ys moved t = record {
 }
 
 -- a tree without nodes, and without entries
-sound_empty : (t : Packed) → t.nodes ≡ [] → t.entries ≡ [] → IsTable t.entries → IsSound t
-sound_empty t none nothing table =
+sound_empty : (t : Packed) → 2 ≤ t.fanout → t.nodes ≡ [] → t.entries ≡ [] → IsTable t.entries → IsSound t
+sound_empty t several none nothing table =
     let short : length t.nodes ≡ 0 = ap length none in
     record {
+      several = several;
       table = table;
       some = (λ h. absurd (omega (arith, h, short)), λ h. absurd (omega (arith, h, ap length nothing)));
       root = λ h. absurd (omega (arith, h, short));
@@ -258,6 +259,7 @@ sound_finished fanout several es ns count there is in_levels table f =
     let levels : map (λ n. n.level) ns ≡ level_by_level 1 (drop 1 (level_sizes (length es) fanout)) = in_levels
     ∙ ap (level_by_level 1) (sym (sizes_from_first fanout several (length es) count there is)) in
     record {
+      several = several;
       table = table;
       some = (λ _. there, λ _. f.some);
       root = λ _. f.root;
@@ -345,7 +347,7 @@ pack_of-IsSound fanout entries several table =
     let sorted_same = length_permutation entries in_order (IsPermutation-sorted (on (λ
     (e : Entry). e.id) int_cmp) entries) in
     elim (le_or_lt (length in_order) 0) [
-      | inl none ↦ sound_empty (pack_of fanout entries) (packed-none fanout several in_order
+      | inl none ↦ sound_empty (pack_of fanout entries) several (packed-none fanout several in_order
           (nil_from_length in_order (omega arith))) (nil_from_length (pack_of fanout entries).entries
           (omega arith)) held
       | inr some ↦ packed-some fanout several in_order some held

@@ -122,6 +122,7 @@ level_by_level level (size ∷ sizes) = replicate size level ++ level_by_level (
 -- a tree that a search may rest on: the entries are a table's, each stands once under the root, each node is what its
 -- level asks for, and the nodes stand level by level
 pub record IsSound (t : Packed) : Type 0 where
+  pub several : 2 ≤ t.fanout
   pub table : IsTable t.entries
   pub some : (0 < length t.nodes) ↔ (0 < length t.entries)
   pub root : 0 < length t.nodes → IsSubtree t (height t) (root_of t)

@@ -77,13 +77,14 @@ impl Model for Tree {
     ghost use Rattle.std.specs.Prelude.{◌≡◌, length};
     ghost use Rattle.rt_tree.specs.Levels.{level_sizes};
     ghost use Rattle.rt_tree.specs.Packed.{Packed, IsSound};
+    ghost use Rattle.rt_tree.specs.Packing.{pack_of};
 
     ghost Value = { Packed };
 
     ghost view = { λ t. record { fanout = t.fanout; entries = t.leaves; nodes = t.nodes.items } };
 
-    ghost invariant = { λ t. IsSound (record { fanout = t.fanout; entries = t.leaves; nodes = t.nodes.items })
-        × (t.levels ≡ level_sizes (length t.leaves) t.fanout) };
+    ghost invariant = { λ t. let tree : Packed = record { fanout = t.fanout; entries = t.leaves; nodes = t.nodes.items } in
+        IsSound tree × (tree ≡ pack_of t.fanout t.leaves) × (t.levels ≡ level_sizes (length t.leaves) t.fanout) };
 }
 
 impl Tree {
@@ -112,6 +113,7 @@ impl Tree {
     pub fn len(&self) -> u32
         ensures value { result ≡ length self.now.entries }
         ensures sound { IsSound self.now }
+        ensures packed { self.now ≡ pack_of self.now.fanout self.now.entries }
     {
         self.leaves.len() as u32
     }

@@ -9,6 +9,7 @@ use Rattle.rt_tree.specs.Packing.{groups, joined, pack_of}
 use Rattle.rt_tree.specs.Sorting.{sorted}
 use Rattle.rt_tree.proofs.PackLemmas.{by_id, length-packed, length-tiled, packed_is}
 use Rattle.rt_tree.proofs.PackSound.{IsTable-IsPermutation, entries-IsPermutation, pack_of-IsSound}
+use Rattle.rt_tree.proofs.Repacked.{pack_of-repacked}
 use Rattle.rt_tree.proofs.tree.Tree.pack.Goals as goal
 
 pub arranged_entries-requires-clause-table : goal.arranged_entries-requires-clause-table
@@ -56,5 +57,8 @@ invariant_of-result c =
     (t : Packed). length t.entries) whole ∙ length-packed c.args.fanout c.args.table c.requires.several in (
       subst IsSound (sym whole) (pack_of-IsSound c.args.fanout c.args.table c.requires.several
           c.into_entries-entries.ensures.table),
+      whole ∙ pack_of-repacked c.args.fanout c.args.table c.requires.several
+          c.into_entries-entries.ensures.table.distinct
+          ∙ ap (λ (t : Packed). pack_of c.args.fanout t.entries) (sym whole),
       c.new-levels.ensures.sizes ∙ ap (λ n. level_sizes n c.args.fanout) (c.len.ensures.value ∙ sym long),
     )
