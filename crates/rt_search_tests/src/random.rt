@@ -9,7 +9,7 @@ use rt_geo::{
     All, Bounds, ById, Circle, Counted, Geometry, Guided, Layers, Near, OnLayers, Point, Rank,
     Shape, Smallest, Window,
 };
-use rt_search::{Frontier, Search, count};
+use rt_search::{Frontier, Search, cost, count};
 use rt_tree::{Table, Tree};
 use std::alloc::Global;
 use std::process::Abort;
@@ -224,7 +224,7 @@ fn table_of(rt: &impl Abort, alloc: Global, row: &mut Row, case: Case) -> Table 
     table
 }
 
-// Adds each answer with the nodes opened up to it, and the checks made in the end.
+// Adds each answer with the nodes opened up to it, and the checks made in the end. The cost is how many were opened.
 fn add_search<G: Geometry>(
     rt: &impl Abort,
     tree: &Tree,
@@ -245,8 +245,12 @@ fn add_search<G: Geometry>(
         digest.add((score & 0xffff_ffff_ffff_ffff) as u64);
         digest.add(search.opened());
     }
+    let told = search.opened();
     let (frontier, counted) = search.finish();
     digest.add(counted.asked());
+    assert!(rt; tree.len() <= frontier.capacity(), "there is room");
+    let (opened, frontier) = cost(tree, frontier, Counted::new(geometry), limit);
+    assert_eq!(rt; opened, told);
     frontier
 }
 

@@ -8,7 +8,7 @@ use rt_geo::{
     All, ById, Circle, Counted, Geometry, Guided, Inside, Layers, Near, OnLayers, Order, Point,
     Region, Window,
 };
-use rt_search::{Count, Frontier, FullSearch, Search, count};
+use rt_search::{Count, Frontier, FullSearch, Search, cost, count};
 use rt_tree::{Table, Tree};
 use std::alloc::Global;
 use std::process::Abort;
@@ -72,7 +72,22 @@ fn expect_search<G: Geometry>(
     assert_eq!(rt; frontier.capacity(), tree.len());
 }
 
-// The same of a search for all answers.
+// The nodes that a search for so many answers opens, told without the answers.
+fn expect_cost<G: Geometry>(
+    rt: &impl Abort,
+    alloc: Global,
+    tree: &Tree,
+    geometry: &G,
+    limit: Option<u64>,
+    want: u64,
+) {
+    let frontier = Frontier::new(alloc, tree.len()).expect(rt, "there is memory");
+    let (opened, frontier) = cost(tree, frontier, Counted::new(geometry), limit);
+    assert_eq!(rt; opened, want);
+    assert_eq!(rt; frontier.capacity(), tree.len());
+}
+
+// What a search for all answers gives, one at a time and all at once.
 fn expect_full_search<G: Geometry>(
     rt: &impl Abort,
     alloc: Global,
@@ -153,7 +168,9 @@ fn the_nearest_are_found_with_exact_work(rt: HostRuntime) {
         ),
     ] {
         expect_search(&rt, rt.alloc(), &tree, &geometry, Some(limit), &want);
+        expect_cost(&rt, rt.alloc(), &tree, &geometry, Some(limit), want.opened);
     }
+    expect_cost(&rt, rt.alloc(), &tree, &geometry, None, 6);
 }
 
 #[test]
@@ -261,6 +278,7 @@ fn nothing_is_opened_in_an_empty_tree(rt: HostRuntime) {
         asked: 0,
     };
     expect_full_search(&rt, rt.alloc(), &tree, &all_by_id(), &want);
+    expect_cost(&rt, rt.alloc(), &tree, &all_by_id(), None, 0);
     expect_count(
         &rt,
         rt.alloc(),

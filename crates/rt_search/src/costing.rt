@@ -1,0 +1,30 @@
+//! The cost of a query.
+
+ghost use Rattle.std.specs.Prelude.{◌≡◌, ◌≤◌, length};
+ghost use Rattle.rt_search.specs.Work.{opened_by_search};
+
+use crate::frontier::Frontier;
+use crate::search::Search;
+use rt_geo::{Counted, Geometry};
+use rt_tree::Tree;
+
+/// How many nodes a search opens for so many answers, or for all where there is no limit, and the frontier. What the
+/// frontier held is given up.
+pub fn cost<G: Geometry>(
+    tree: &Tree,
+    frontier: Frontier,
+    counted: Counted<'_, G>,
+    limit: Option<u64>,
+) -> (u64, Frontier)
+    requires capacity { length tree.now.entries ≤ frontier.capacity }
+    requires asked { counted.asked ≡ 0 }
+    ensures opened { let g = counted.entry.geometry in
+        result.0 ≡ opened_by_search (G.accepts g) (G.score g) (G.verdict g) tree.now limit }
+    ensures capacity { result.1.capacity ≡ frontier.capacity }
+{
+    let mut search = Search::start(tree, frontier, counted, limit);
+    while search.next().is_some() {}
+    let opened = search.opened();
+    let (frontier, _) = search.finish();
+    (opened, frontier)
+}
