@@ -8,7 +8,7 @@ use Rattle.rt_geo.specs.declared.region.Region.TheVariants.{All, Circle, Window}
 use Rattle.rt_text.specs.Queries.{inside_of, near, query_of}
 use Rattle.rt_text.specs.ReplyLines.{answer_line, error_line, level_line, ok_line}
 use Rattle.rt_text.specs.declared.query.Parsed.TheVariants.{Fault, Query, Skip}
-use Rattle.rt_text.specs.declared.query.Query.TheVariants.{Count, Find, Levels}
+use Rattle.rt_text.specs.declared.query.Query.TheVariants.{CostCount, CostFind, Count, Find, Levels}
 use Rattle.rt_text.specs.declared.query.QueryFault.TheVariants as fault
 
 -- ---- queries
@@ -60,6 +60,20 @@ row_circle_on = refl
 
 row_circle_on_near : query_of (codes "find circle 0 0 2 on 3 near 4 5 first 1") ≡ Query (Find (Circle (record { centre = record { x = pos 0; y = pos 0 }; radius = 2 })) (near (record { x = pos 4; y = pos 5 })) (Some 1) (only 3))
 row_circle_on_near = refl
+
+-- ---- costs
+
+row_cost_find : query_of (codes "cost find all on 1 first 3") ≡ Query (CostFind (All (record {})) (ById (record {})) (Some 3) (only 1))
+row_cost_find = refl
+
+row_cost_circle : query_of (codes "cost find circle 1 2 3") ≡ Query (CostFind (Circle (record { centre = record { x = pos 1; y = pos 2 }; radius = 3 })) (near (record { x = pos 1; y = pos 2 })) None all_layers)
+row_cost_circle = refl
+
+row_cost_nearest : query_of (codes "cost nearest 2 10 -5") ≡ Query (CostFind (All (record {})) (near (record { x = pos 10; y = negsuc 4 })) (Some 2) all_layers)
+row_cost_nearest = refl
+
+row_cost_count : query_of (codes "\tcost  count window 0 10 0 10 on 1 \r") ≡ Query (CostCount (Window (record { 0 = rect_of (pos 0) (pos 10) (pos 0) (pos 10) })) (only 1))
+row_cost_count = refl
 
 -- ---- faults, from left to right
 
@@ -143,6 +157,38 @@ row_on_nearest = refl
 
 row_on_levels : query_of (codes "levels on 0") ≡ Fault fault.StrayWord
 row_on_levels = refl
+
+row_cost_missing : query_of (codes "cost") ≡ Fault fault.MissingWord
+row_cost_missing = refl
+
+row_cost_capital : query_of (codes "cost Find all") ≡ Fault fault.UnknownVerb
+row_cost_capital = refl
+
+-- levels have no cost, whatever stands behind them
+row_cost_levels : query_of (codes "cost levels x") ≡ Fault fault.UnknownVerb
+row_cost_levels = refl
+
+row_cost_twice : query_of (codes "cost cost find all") ≡ Fault fault.UnknownVerb
+row_cost_twice = refl
+
+row_cost_comment : query_of (codes "cost #find") ≡ Fault fault.UnknownVerb
+row_cost_comment = refl
+
+-- the faults of a line stay the same behind `cost`
+row_cost_find_missing : query_of (codes "cost find") ≡ Fault fault.MissingWord
+row_cost_find_missing = refl
+
+row_cost_not_convex : query_of (codes "cost find polygon 3 0 0 5 5 10 10") ≡ Fault fault.NotConvex
+row_cost_not_convex = refl
+
+row_cost_nearest_stray : query_of (codes "cost nearest 1 0 0 on 0") ≡ Fault fault.StrayWord
+row_cost_nearest_stray = refl
+
+row_cost_count_limit : query_of (codes "cost count all first 1") ≡ Fault fault.StrayWord
+row_cost_count_limit = refl
+
+row_cost_last : query_of (codes "find all cost") ≡ Fault fault.StrayWord
+row_cost_last = refl
 
 -- ---- the lines of a reply
 

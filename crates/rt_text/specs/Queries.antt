@@ -16,14 +16,14 @@ use Rattle.rt_geo.specs.declared.region.Region.{Region}
 use Rattle.rt_geo.specs.declared.region.Region.TheVariants.{All, Circle, Covers, Inside, Polygon, Window}
 use Rattle.rt_geo.specs.declared.shapes.Circle.{Circle as Disc}
 use Rattle.rt_text.specs.Numbers.{number_in}
-use Rattle.rt_text.specs.Steps.{◌>>=◌, map_fault}
+use Rattle.rt_text.specs.Steps.{◌>>=◌, map_fault, map_value}
 use Rattle.rt_text.specs.Words.{words}
 use Rattle.rt_text.specs.declared.numbers.NumberFault.{NumberFault}
 use Rattle.rt_text.specs.declared.numbers.NumberFault.TheVariants as bad
 use Rattle.rt_text.specs.declared.query.Parsed.{Parsed}
 use Rattle.rt_text.specs.declared.query.Parsed.TheVariants as parsed
 use Rattle.rt_text.specs.declared.query.Query.{Query}
-use Rattle.rt_text.specs.declared.query.Query.TheVariants.{Count, Find, Levels}
+use Rattle.rt_text.specs.declared.query.Query.TheVariants.{CostCount, CostFind, Count, Find, Levels}
 use Rattle.rt_text.specs.declared.query.QueryFault.{QueryFault}
 use Rattle.rt_text.specs.declared.query.QueryFault.TheVariants as fault
 
@@ -246,6 +246,21 @@ count words = do
   on ← on_list found.1
   finished (Count found.0 on.0) on.1
 
+-- the query that asks what a find or a count costs, in place of its answer; any other stays as it is
+abbrev pub cost_of : Query → Query
+cost_of (Find found ordered limited on) = CostFind found ordered limited on
+cost_of (Count found on) = CostCount found on
+cost_of other = other
+
+-- the words after `cost`: those of a `find`, `nearest` or `count` line, whose cost is asked and whose faults stay
+abbrev pub cost : List (List ℕ) → Result Query QueryFault
+cost [] = Err fault.MissingWord
+cost (verb ∷ more) =
+    if bytes_eq verb (codes "find") then map_value cost_of (find more)
+    else if bytes_eq verb (codes "nearest") then map_value cost_of (nearest more)
+    else if bytes_eq verb (codes "count") then map_value cost_of (count more)
+    else Err fault.UnknownVerb
+
 -- a query by its first word
 abbrev pub query : List (List ℕ) → Result Query QueryFault
 query [] = Err fault.MissingWord
@@ -254,6 +269,7 @@ query (verb ∷ more) =
     else if bytes_eq verb (codes "nearest") then nearest more
     else if bytes_eq verb (codes "count") then count more
     else if bytes_eq verb (codes "levels") then finished Levels more
+    else if bytes_eq verb (codes "cost") then cost more
     else Err fault.UnknownVerb
 
 -- ---- lines

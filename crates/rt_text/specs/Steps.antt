@@ -7,6 +7,11 @@ abbrev pub ◌>>=◌ : {A B E : Type 0} → Result A E → (A → Result B E) �
 Ok a >>= next = next a
 Err e >>= next = Err e
 
+-- what is made of the value, or the same fault
+abbrev pub map_value : {A B E : Type 0} → (A → B) → Result A E → Result B E
+map_value made_of (Ok a) = Ok (made_of a)
+map_value made_of (Err e) = Err e
+
 -- the same value, or the fault in other words
 abbrev pub map_fault : {A E F : Type 0} → (E → F) → Result A E → Result A F
 map_fault told_as (Ok a) = Ok a

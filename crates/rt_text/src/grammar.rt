@@ -3,11 +3,11 @@
 //! One function for each definition of `specs/Queries.antt`, of the same name: it takes the words that the
 //! definition takes, and answers what it answers.
 
-ghost use Rattle.std.specs.Prelude.{◌≡◌, ◌≤◌, ◌≤ℤ◌, ◌∷◌, [], ℕ, IfErr, IfOk, List, MatchOption, Some, Ok, Err};
+ghost use Rattle.std.specs.Prelude.{◌≡◌, ◌≤◌, ◌≤ℤ◌, ◌∷◌, [], ℕ, IfErr, IfOk, List, MatchOption, OnOk, Some, Ok, Err};
 ghost use Rattle.std.specs.Str.Lines.{strip_carriage_return};
 ghost use Rattle.rt_text.specs.Numbers.{number_text};
 ghost use Rattle.rt_geo.specs.Layers.{most_layer};
-ghost use Rattle.rt_text.specs.Queries.{Takes, circle, coordinate, count, find, finished, is_comma, is_comment, layer_part, layers_of, limit, list_word, natural_word, nearest, number_fault, number_word, on_list, order, point, points, polygon, query, query_of, region, sides, usual_order, vertex_count};
+ghost use Rattle.rt_text.specs.Queries.{Takes, circle, coordinate, cost, cost_of, count, find, finished, is_comma, is_comment, layer_part, layers_of, limit, list_word, natural_word, nearest, number_fault, number_word, on_list, order, point, points, polygon, query, query_of, region, sides, usual_order, vertex_count};
 
 use crate::numbers::{NumberFault, number};
 use crate::query::{Parsed, Query, QueryFault};
@@ -71,7 +71,10 @@ fn query(verb: &[u8], words: &mut Words) -> Result<Query, QueryFault>
     } else if verb == b"count".as_slice() {
         count(words)
     } else if verb == b"levels".as_slice() {
-        finished(Query::Levels, words)
+        finished(words)?;
+        Ok(Query::Levels)
+    } else if verb == b"cost".as_slice() {
+        cost(words)
     } else {
         Err(QueryFault::UnknownVerb)
     }
@@ -85,44 +88,87 @@ fn find(words: &mut Words) -> Result<Query, QueryFault>
     let layers = on_list(words)?;
     let order = order(&region, words)?;
     let limit = limit(words)?;
-    let query = Query::Find {
+    finished(words)?;
+    Ok(Query::Find {
         region,
         order,
         limit,
         layers,
-    };
-    finished(query, words)
+    })
 }
 
+#[inline(always)]
 fn nearest(words: &mut Words) -> Result<Query, QueryFault>
     ensures { result ≡ nearest words.old }
 {
     let limit = natural_word(words, u64::MAX)?;
     let centre = point(words)?;
-    let query = Query::Find {
+    finished(words)?;
+    Ok(Query::Find {
         region: Region::All(All),
         order: Order::Near(Near(centre)),
         limit: Some(limit),
         layers: Layers::all(),
-    };
-    finished(query, words)
+    })
 }
 
+#[inline(always)]
 fn count(words: &mut Words) -> Result<Query, QueryFault>
     ensures { result ≡ count words.old }
 {
     let region = region(words)?;
     let layers = on_list(words)?;
-    finished(Query::Count { region, layers }, words)
+    finished(words)?;
+    Ok(Query::Count { region, layers })
 }
 
-#[inline(always)]
-fn finished(query: Query, words: &mut Words) -> Result<Query, QueryFault>
-    ensures { result ≡ finished query words.old }
+// Kept out of line: only lines with `cost` have need of it.
+#[inline(never)]
+fn cost(words: &mut Words) -> Result<Query, QueryFault>
+    ensures { result ≡ cost words.old }
 {
-    match words.next() {
-        None => Ok(query),
-        Some(_) => Err(QueryFault::StrayWord),
+    let verb = next_word(words)?;
+    if verb == b"find".as_slice() {
+        Ok(cost_of(find(words)?))
+    } else if verb == b"nearest".as_slice() {
+        Ok(cost_of(nearest(words)?))
+    } else if verb == b"count".as_slice() {
+        Ok(cost_of(count(words)?))
+    } else {
+        Err(QueryFault::UnknownVerb)
+    }
+}
+
+fn cost_of(query: Query) -> Query
+    ensures { result ≡ cost_of query }
+{
+    match query {
+        Query::Find {
+            region,
+            order,
+            limit,
+            layers,
+        } => Query::CostFind {
+            region,
+            order,
+            limit,
+            layers,
+        },
+        Query::Count { region, layers } => Query::CostCount { region, layers },
+        other => other,
+    }
+}
+
+// Whether a query may end here, whatever it asks. It isn't passed through, as it is large.
+#[inline(always)]
+fn finished(words: &Words) -> Result<(), QueryFault>
+    ensures ok { OnOk result ((query : Query) → finished query words.now ≡ Ok query) }
+    ensures fault { IfErr result (λ cause. (query : Query) → finished query words.now ≡ Err cause) }
+{
+    if words.is_empty() {
+        Ok(())
+    } else {
+        Err(QueryFault::StrayWord)
     }
 }
 

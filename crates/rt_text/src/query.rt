@@ -19,6 +19,19 @@ pub enum Query {
     },
     /// How many entries or nodes stand on each level of the tree.
     Levels,
+    /// How many nodes a search for what [`Query::Find`] asks opens: up to the last answer where the limit is reached,
+    /// else to its end.
+    CostFind {
+        region: Region,
+        order: Order,
+        limit: Option<u64>,
+        layers: Layers,
+    },
+    /// How many nodes a count of what [`Query::Count`] asks opens.
+    CostCount {
+        region: Region,
+        layers: Layers,
+    },
 }
 
 /// What is wrong with a query line: the first fault from left to right.

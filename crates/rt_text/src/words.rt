@@ -1,6 +1,6 @@
 //! The words of a line.
 
-ghost use Rattle.std.specs.Prelude.{◌≡◌, ◌≤◌, ◌==◌, ℕ, List, [], ◌∷◌, Some, length, not, MatchOption};
+ghost use Rattle.std.specs.Prelude.{◌≡◌, ◌≤◌, ◌==◌, ℕ, List, [], ◌∷◌, ◌↔◌, IsTrue, Some, length, not, MatchOption};
 ghost use Rattle.std.specs.List.{position, position_or_len};
 ghost use Rattle.rt_text.specs.Numbers.{number_text};
 ghost use Rattle.rt_text.specs.Words.{is_blank, words};
@@ -46,6 +46,14 @@ impl<'a> Words<'a> {
         }
         self.rest = rest;
         Some(found.number)
+    }
+
+    /// Whether no word is left.
+    #[inline(always)]
+    pub(crate) fn is_empty(&self) -> bool
+        ensures { IsTrue result ↔ (self.now ≡ []) }
+    {
+        self.rest.is_empty() || first_word(self.rest).is_none()
     }
 
     /// The same words, to look ahead.

@@ -107,6 +107,48 @@ static LAYER_FAULTS: [(&[u8], QueryFault); 37] = [
     (b"find on 3 all", QueryFault::UnknownRegion),
 ];
 
+/// The same of lines with `cost`.
+static COST_FAULTS: [(&[u8], QueryFault); 38] = [
+    (b"cost", QueryFault::MissingWord),
+    (b"cost \t\r", QueryFault::MissingWord),
+    (b"cost find", QueryFault::MissingWord),
+    (b"cost nearest", QueryFault::MissingWord),
+    (b"cost nearest 2", QueryFault::MissingWord),
+    (b"cost nearest 2 12", QueryFault::MissingWord),
+    (b"cost count", QueryFault::MissingWord),
+    (b"cost find window 1", QueryFault::MissingWord),
+    (b"cost find all on", QueryFault::MissingWord),
+    (b"cost find all near 1", QueryFault::MissingWord),
+    (b"cost find all first", QueryFault::MissingWord),
+    (b"cost levels", QueryFault::UnknownVerb),
+    (b"cost levels x", QueryFault::UnknownVerb),
+    (b"cost cost", QueryFault::UnknownVerb),
+    (b"cost cost find all", QueryFault::UnknownVerb),
+    (b"cost cost levels", QueryFault::UnknownVerb),
+    (b"cost all", QueryFault::UnknownVerb),
+    (b"cost on 1", QueryFault::UnknownVerb),
+    (b"cost 1", QueryFault::UnknownVerb),
+    (b"cost # find all", QueryFault::UnknownVerb),
+    (b"Cost find all", QueryFault::UnknownVerb),
+    (b"COST find all", QueryFault::UnknownVerb),
+    (b"cost Find all", QueryFault::UnknownVerb),
+    (b"cost counts all", QueryFault::UnknownVerb),
+    (b"costs find all", QueryFault::UnknownVerb),
+    (b"cos find all", QueryFault::UnknownVerb),
+    (b"cost\rfind all", QueryFault::UnknownVerb),
+    (b"cost find alls", QueryFault::UnknownRegion),
+    (b"cost find cost", QueryFault::UnknownRegion),
+    (b"cost count all on 0,,3", QueryFault::NotNumber),
+    (b"cost find circle 0 0 -1", QueryFault::OutOfRange),
+    (b"cost find window 10 0 0 10 x", QueryFault::MinAboveMax),
+    (b"cost find polygon 2 0 0", QueryFault::VertexCount),
+    (b"cost find polygon 3 0 0 5 5 10 10", QueryFault::NotConvex),
+    (b"cost find all first 1 on 3", QueryFault::StrayWord),
+    (b"cost nearest 1 0 0 on 0", QueryFault::StrayWord),
+    (b"cost count all first 1", QueryFault::StrayWord),
+    (b"find all cost", QueryFault::StrayWord),
+];
+
 #[test]
 fn faults(rt: HostRuntime) {
     for (line, fault) in &FAULTS {
@@ -122,8 +164,23 @@ fn faults_of_layers(rt: HostRuntime) {
 }
 
 #[test]
+fn faults_of_costs(rt: HostRuntime) {
+    for (line, fault) in &COST_FAULTS {
+        assert_eq!(rt; parse(*line), Parsed::Fault(*fault));
+    }
+}
+
+#[test]
 fn skipped_lines(rt: HostRuntime) {
-    let lines: [&[u8]; 6] = [b"", b"\r", b" \t ", b"#", b"  # find all", b"#find\r"];
+    let lines: [&[u8]; 7] = [
+        b"",
+        b"\r",
+        b" \t ",
+        b"#",
+        b"  # find all",
+        b"#find\r",
+        b"#cost find all",
+    ];
     for line in lines {
         assert_eq!(rt; parse(line), Parsed::Skip);
     }
@@ -312,4 +369,116 @@ fn layers_of_a_find(rt: HostRuntime) {
             three
         )
     );
+}
+
+// What `cost find` asks with this region, order, limit and layers.
+fn cost_find(region: Region, order: Order, limit: Option<u64>, layers: Layers) -> Parsed {
+    Parsed::Query(Query::CostFind {
+        region,
+        order,
+        limit,
+        layers,
+    })
+}
+
+#[test]
+fn costs_of_finds(rt: HostRuntime) -> Result<(), Fail> {
+    let by_id = Order::ById(ById);
+    let every = Layers::new(u64::MAX);
+    assert_eq!(rt;
+        parse(b"cost find all"),
+        cost_find(Region::All(All), by_id, None, every)
+    );
+    assert_eq!(rt;
+        parse(b" cost\t find  all \r"),
+        cost_find(Region::All(All), by_id, None, every)
+    );
+    assert_eq!(rt;
+        parse(b"cost find all first 6"),
+        cost_find(Region::All(All), by_id, Some(6), every)
+    );
+    assert_eq!(rt;
+        parse(b"cost find all on 1 first 3"),
+        cost_find(Region::All(All), by_id, Some(3), Layers::of(1))
+    );
+    assert_eq!(rt;
+        parse(b"cost find window 20 30 0 4"),
+        cost_find(
+            Region::Window(Window(Bounds::new(20, 30, 0, 4).ok_or("sides")?)),
+            by_id,
+            None,
+            every
+        )
+    );
+    Ok(())
+}
+
+#[test]
+fn costs_of_finds_in_an_order(rt: HostRuntime) -> Result<(), Fail> {
+    let every = Layers::new(u64::MAX);
+    assert_eq!(rt;
+        parse(b"cost find inside -1 2 -3 4 smallest"),
+        cost_find(
+            Region::Inside(Inside(Bounds::new(-1, 2, -3, 4).ok_or("sides")?)),
+            Order::Smallest(Smallest),
+            None,
+            every
+        )
+    );
+    // A circle is ordered near its centre, where no other order stands.
+    let centre = Point { x: 1, y: 2 };
+    assert_eq!(rt;
+        parse(b"cost find circle 1 2 3 on 0,3"),
+        cost_find(
+            Region::Circle(Circle { centre, radius: 3 }),
+            Order::Near(Near(centre)),
+            None,
+            Layers::new(9)
+        )
+    );
+    assert_eq!(rt;
+        parse(b"cost nearest 2 12 -12"),
+        cost_find(
+            Region::All(All),
+            Order::Near(Near(Point { x: 12, y: -12 })),
+            Some(2),
+            every
+        )
+    );
+    assert_eq!(rt;
+        parse(b"cost nearest 0 12 -12"),
+        cost_find(
+            Region::All(All),
+            Order::Near(Near(Point { x: 12, y: -12 })),
+            Some(0),
+            every
+        )
+    );
+    Ok(())
+}
+
+#[test]
+fn costs_of_counts(rt: HostRuntime) -> Result<(), Fail> {
+    assert_eq!(rt;
+        parse(b"cost count all"),
+        Parsed::Query(Query::CostCount {
+            region: Region::All(All),
+            layers: Layers::new(u64::MAX),
+        })
+    );
+    assert_eq!(rt;
+        parse(b"cost \tcount all on 1\r"),
+        Parsed::Query(Query::CostCount {
+            region: Region::All(All),
+            layers: Layers::of(1),
+        })
+    );
+    assert_eq!(rt;
+        parse(b"cost count window 0 10 0 10"),
+        Parsed::Query(Query::CostCount {
+            region: Region::Window(Window(Bounds::new(0, 10, 0, 10).ok_or("sides")?)),
+            layers: Layers::new(u64::MAX),
+        })
+    );
+    Ok(())
 }
