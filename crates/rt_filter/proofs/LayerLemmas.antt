@@ -1,5 +1,5 @@
 -- All layers are those of all entries, so a query on all of them is one that asks for none.
-use Rattle.std.proofs.Common.{◌≡◌, ◌∙◌, ap, cond, Bool, true, false, not, List, [], ◌∷◌, ◌&&◌, ℕ, Option, filter, map, refl, sym}
+use Rattle.std.proofs.Common.{◌≡◌, ◌∙◌, ap, cond, Bool, true, false, not, List, [], ◌∷◌, ◌&&◌, ℕ, Option, map, refl, sym}
 use Rattle.std.specs.List.{All, AllByRecursion}
 use Rattle.std.proofs.lemmas.List.Elements.{recursion_from_All}
 use Rattle.rt_geo.specs.Entries.{HasLayer}

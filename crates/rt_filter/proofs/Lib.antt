@@ -1,5 +1,6 @@
 mod AnswerLemmas
 mod ConsumedLemmas
+mod CostLemmas
 mod FindLemmas
 mod LayerLemmas
 mod LevelLemmas

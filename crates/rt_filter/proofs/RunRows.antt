@@ -65,6 +65,11 @@ row_levels : answered (line (codes "levels") ++ codes "count window 0 10 0 10") 
 unfolding digits
 row_levels = refl
 
+-- three nodes of six are opened, five, none, and the root alone
+row_costs : answered (line (codes "cost nearest 2 12 12") ++ line (codes "cost count window 0 10 0 10") ++ line (codes "cost nearest 0 12 12") ++ codes "cost count all on 1") ≡ whole_run (line (codes "ok 1 3") ++ line (codes "ok 2 5") ++ line (codes "ok 3 0") ++ line (codes "ok 4 1")) false
+unfolding digits
+row_costs = refl
+
 row_numbers : answered (line [] ++ line (codes "# c") ++ line (codes "find window 1 0 0 0") ++ line (codes "find all first 0")) ≡ whole_run (line (codes "error 3 Q7 minimum above maximum") ++ line (codes "ok 4 0")) true
 unfolding digits
 row_numbers = refl

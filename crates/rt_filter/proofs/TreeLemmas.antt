@@ -1,24 +1,38 @@
--- Entries in another order are answered the same: what a tree holds is what the table held.
-use Rattle.std.proofs.Common.{◌≡◌, ◌∙◌, ◌++◌, ℕ, Bool, true, false, cond, List, [], ◌∷◌, map, Option, refl, ap, ap₂, sym, get_or}
+-- Entries in another order are answered the same: what a tree holds is what was packed.
+use Rattle.std.proofs.Common.{◌≡◌, ◌≤◌, ◌∙◌, ◌++◌, ℕ, Bool, true, false, cond, List, [], ◌∷◌, map, Option, None, Some, refl, ap, ap₂, subst, sym, get_or}
 use Rattle.std.proofs.lemmas.List.Concat.{flat_map-cons}
+use Rattle.std.specs.List.{IsDistinct}
 use Rattle.std.specs.List.Sorted.{IsPermutation}
-use Rattle.std.proofs.lemmas.List.Sorted.{IsPermutation-cons, IsPermutation-map, IsPermutation-middle, IsPermutation-refl, IsPermutation-trans, length_permutation}
+use Rattle.std.specs.Ordering.{int_eq}
+use Rattle.std.proofs.lemmas.List.Sorted.{IsPermutation-cons, IsPermutation-map, IsPermutation-middle, IsPermutation-refl, IsPermutation-sym, IsPermutation-trans, length_permutation}
 use Rattle.rt_geo.specs.Laws.{Extent, extent_of_entry}
 use Rattle.rt_geo.specs.OnLayers.{on_layers_accepts}
-use Rattle.rt_geo.specs.Orders.{order_score}
+use Rattle.rt_geo.specs.Orders.{order_estimate, order_score}
+use Rattle.rt_geo.specs.Ranks.{by_id_estimate}
 use Rattle.rt_geo.specs.Regions.{region_accepts}
 use Rattle.rt_geo.specs.declared.entry.Entry.{Entry}
 use Rattle.rt_tree.proofs.Permutations.{along_permutation}
+use Rattle.rt_tree.proofs.PackSound.{entries-IsPermutation}
+use Rattle.rt_tree.proofs.Repacked.{pack_of-IsPermutation}
 use Rattle.rt_tree.proofs.SortingLemmas.{sorted-IsPermutation}
+use Rattle.rt_tree.specs.Entries.{ids_of}
 use Rattle.rt_tree.specs.Levels.{level_sizes}
+use Rattle.rt_tree.specs.Packed.{IsSound, Packed}
 use Rattle.rt_tree.specs.Sorting.{limited}
 use Rattle.rt_text.specs.ReplyLines.{ok_line}
 use Rattle.rt_text.specs.declared.query.Parsed.{Parsed}
 use Rattle.rt_text.specs.declared.query.Parsed.TheVariants as parsed
 use Rattle.rt_text.specs.declared.query.Query.{Query}
-use Rattle.rt_text.specs.declared.query.Query.TheVariants.{Count, Find, Levels}
+use Rattle.rt_text.specs.declared.query.Query.TheVariants.{CostCount, CostFind, Count, Find, Levels}
 use Rattle.rt_search.specs.Answers.{accepted, answer_cmp, answer_of, answers}
-use Rattle.rt_filter.specs.Replies.{Loaded, find_reply, judged_line, levels_reply, output, query_reply, reply}
+use Rattle.rt_search.specs.Work.{opened_by_count, opened_by_search}
+use Rattle.rt_text.specs.Words.{is_empty}
+use Rattle.rt_filter.specs.Endings.{ServesWith, Told}
+use Rattle.rt_filter.specs.Lines.{numbered_lines}
+use Rattle.rt_filter.specs.Replies.{Loaded, find_reply, judged_line, levels_reply, output, query_reply, reply, tree_of, verdict_of}
+use Rattle.rt_filter.specs.Stages.{loaded_tree}
+use Rattle.rt_filter.specs.declared.serving.ServeFault.{ServeFault}
+use Rattle.rt_filter.specs.declared.serving.ServeFault.TheVariants as serve
 use Rattle.rt_filter.proofs.AnswerLemmas.{answer_cmp_total, tied}
 
 -- ---- which entries are accepted
@@ -59,12 +73,15 @@ answers-IsPermutation xs ys accepts score limit moved =
 
 -- ---- replies
 
-module _ (fanout : ℕ) (xs ys : List Entry) (moved : IsPermutation xs ys) where
+module _ (fanout : ℕ) (xs ys : List Entry) (distinct : IsDistinct int_eq (ids_of ys)) (moved : IsPermutation xs ys) where
   abbrev first : Loaded
   first = record { entries = xs; fanout = fanout }
 
   abbrev other : Loaded
   other = record { entries = ys; fanout = fanout }
+
+  same_tree : tree_of first ≡ tree_of other
+  same_tree = sym (pack_of-IsPermutation fanout ys xs distinct (IsPermutation-sym xs ys moved))
 
   query_same : (line : ℕ) (query : Query) → query_reply first line query ≡ query_reply other line query
   query_same line (Find region order limit layers) = ap (find_reply line)
@@ -72,6 +89,11 @@ module _ (fanout : ℕ) (xs ys : List Entry) (moved : IsPermutation xs ys) where
   query_same line (Count region layers) = ap (ok_line line) (sym (length_permutation _ _
       (IsPermutation-accepted (on_layers_accepts (region_accepts region) layers) xs ys moved)))
   query_same line Levels = ap (λ n. levels_reply line (level_sizes n fanout)) (sym (length_permutation xs ys moved))
+  query_same line (CostFind region order limit layers) = ap (λ tree. ok_line line (opened_by_search
+      (on_layers_accepts (region_accepts region) layers) (order_score order)
+      (verdict_of region layers (order_estimate order)) tree limit)) same_tree
+  query_same line (CostCount region layers) =
+      ap (λ tree. ok_line line (opened_by_count (verdict_of region layers by_id_estimate) tree)) same_tree
 
   reply_same : (line : ℕ) (parsed : Parsed) → reply first line parsed ≡ reply other line parsed
   reply_same line parsed.Skip = refl
@@ -84,3 +106,48 @@ module _ (fanout : ℕ) (xs ys : List Entry) (moved : IsPermutation xs ys) where
       flat_map-cons (λ (l : ℕ × List ℕ). reply first l.0 (judged_line l.1)) line lines
       ∙ ap₂ (λ (x : List ℕ) (y : List ℕ). x ++ y) (reply_same line.0 (judged_line line.1)) (output-IsPermutation lines)
       ∙ sym (flat_map-cons (λ (l : ℕ × List ℕ). reply other l.0 (judged_line l.1)) line lines)
+
+-- ---- what is served over a tree
+
+-- what is replied the same is served the same
+serves_same : (one other : Loaded) (told : Told) (bad : Bool) (cause : Option ServeFault)
+    → ((lines : List (ℕ × List ℕ)) → output other lines ≡ output one lines)
+    → ServesWith one told bad cause → ServesWith other told bad cause
+serves_same one other told bad None same s = record {
+  coming = s.coming;
+  written = rw (same (numbered_lines told.queries true)) s.written;
+  faults = s.faults;
+}
+serves_same one other told bad (Some serve.Read) same s = λ consumed rest c.
+    let r = s consumed rest c in
+    record { written = rw (same (numbered_lines consumed false)) r.written; faults = r.faults }
+serves_same one other told bad (Some serve.Write) same s = record {
+  consumed = s.consumed;
+  rest = s.rest;
+  told_so = s.told_so;
+  written = rw (same (numbered_lines s.consumed (is_empty s.rest))) s.written;
+  faults = s.faults;
+  earlier = s.earlier;
+  last = s.last;
+  is_earlier = s.is_earlier;
+  is_last = s.is_last;
+  answered = rw (same (numbered_lines s.earlier false)) s.answered;
+}
+
+module _ (tree : Packed) (loaded : Loaded) (sound : IsSound tree) (packed : tree ≡ tree_of loaded) where
+  fanout_same : tree.fanout ≡ loaded.fanout
+  fanout_same = ap (λ (t : Packed). t.fanout) packed
+
+  moved : IsPermutation loaded.entries tree.entries
+  moved = subst (λ (t : Packed). IsPermutation loaded.entries t.entries) (sym packed)
+      (entries-IsPermutation loaded.fanout loaded.entries (subst (λ n. 2 ≤ n) fanout_same sound.several))
+
+  output_same : (lines : List (ℕ × List ℕ)) → output loaded lines ≡ output (loaded_tree tree) lines
+  output_same lines =
+      output-IsPermutation loaded.fanout loaded.entries tree.entries sound.table.distinct moved lines
+      ∙ ap (λ fanout. output (record { entries = tree.entries; fanout = fanout }) lines) (sym fanout_same)
+
+  -- what is served over a tree is served over each list of entries whose packed tree it is
+  pub serves_of_tree : (told : Told) (bad : Bool) (cause : Option ServeFault) → ServesWith (loaded_tree tree) told bad cause
+      → ServesWith loaded told bad cause
+  serves_of_tree told bad cause = serves_same (loaded_tree tree) loaded told bad cause output_same

@@ -1,25 +1,38 @@
 -- The bytes that lines are answered with.
 use Rattle.std.specs.Prelude.{ℕ, nat_lt, Bool, true, false, if◌then◌else◌, List, [], ◌++◌, length, flat_map, reverse}
 use Rattle.std.specs.List.{enumerate_from, list_any}
-use Rattle.rt_geo.specs.OnLayers.{on_layers_accepts}
-use Rattle.rt_geo.specs.Orders.{order_score}
-use Rattle.rt_geo.specs.Regions.{region_accepts}
+use Rattle.rt_geo.specs.Laws.{guided_verdict}
+use Rattle.rt_geo.specs.OnLayers.{on_layers_accepts, on_layers_state}
+use Rattle.rt_geo.specs.Orders.{order_estimate, order_score}
+use Rattle.rt_geo.specs.Ranks.{by_id_estimate}
+use Rattle.rt_geo.specs.Regions.{region_accepts, region_state}
 use Rattle.rt_geo.specs.declared.entry.Entry.{Entry}
+use Rattle.rt_geo.specs.declared.geometry.Info.{Info}
+use Rattle.rt_geo.specs.declared.geometry.Verdict.{Verdict}
+use Rattle.rt_geo.specs.declared.layers.Layers.{Layers}
+use Rattle.rt_geo.specs.declared.region.Region.{Region}
 use Rattle.rt_tree.specs.Levels.{level_sizes}
+use Rattle.rt_tree.specs.Packed.{Packed}
+use Rattle.rt_tree.specs.Packing.{pack_of}
 use Rattle.rt_text.specs.Queries.{query_of}
 use Rattle.rt_text.specs.ReplyLines.{answer_line, error_line, level_line, ok_line}
 use Rattle.rt_text.specs.declared.query.Parsed.{Parsed}
 use Rattle.rt_text.specs.declared.query.Parsed.TheVariants as parsed
 use Rattle.rt_text.specs.declared.query.Query.{Query}
-use Rattle.rt_text.specs.declared.query.Query.TheVariants.{Count, Find, Levels}
+use Rattle.rt_text.specs.declared.query.Query.TheVariants.{CostCount, CostFind, Count, Find, Levels}
 use Rattle.rt_text.specs.declared.query.QueryFault.TheVariants as fault
 use Rattle.rt_search.specs.Answers.{Answer, accepted, answers}
+use Rattle.rt_search.specs.Work.{opened_by_count, opened_by_search}
 use Rattle.rt_filter.specs.Lines.{longest_line}
 
 -- what queries are asked of: the entries of a table, and how many children a node of its tree may have
 pub record Loaded : Type 0 where
   pub entries : List Entry
   pub fanout : ℕ
+
+-- the tree that is searched
+abbrev pub tree_of : Loaded → Packed
+tree_of loaded = pack_of loaded.fanout loaded.entries
 
 -- what a line asks, unless it is too long
 abbrev pub judged_line : List ℕ → Parsed
@@ -38,13 +51,22 @@ abbrev pub levels_reply : (line : ℕ) → (sizes : List ℕ) → List ℕ
 levels_reply line sizes =
     flat_map (λ level. level_line level.0 level.1) (reverse (enumerate_from 0 sizes)) ++ ok_line line (length sizes)
 
--- the reply to a query
+-- what is known of the boxes below a node: whether they are in the region and on these layers, and their least score
+abbrev pub verdict_of : Region → Layers → (estimate : Info → ℕ) → Info → Verdict
+verdict_of region layers estimate = guided_verdict (on_layers_state (region_state region) layers) estimate
+
+-- the reply to a query; a cost is how many nodes are opened of the tree
 abbrev pub query_reply : Loaded → (line : ℕ) → Query → List ℕ
 query_reply loaded line (Find region order limit layers) =
     find_reply line (answers loaded.entries (on_layers_accepts (region_accepts region) layers) (order_score order) limit)
 query_reply loaded line (Count region layers) =
     ok_line line (length (accepted loaded.entries (on_layers_accepts (region_accepts region) layers)))
 query_reply loaded line Levels = levels_reply line (level_sizes (length loaded.entries) loaded.fanout)
+query_reply loaded line (CostFind region order limit layers) =
+    ok_line line (opened_by_search (on_layers_accepts (region_accepts region) layers) (order_score order)
+    (verdict_of region layers (order_estimate order)) (tree_of loaded) limit)
+query_reply loaded line (CostCount region layers) =
+    ok_line line (opened_by_count (verdict_of region layers by_id_estimate) (tree_of loaded))
 
 -- the reply to what a line asks
 abbrev pub reply : Loaded → (line : ℕ) → Parsed → List ℕ

@@ -1,7 +1,6 @@
 -- What the private stages of a run promise one another. No public contract cites it.
 use Rattle.std.specs.Prelude.{◌≡◌, ◌+◌, ◌<◌, ℕ, List, [], ◌++◌, length, Bool, true, false, Option, Some, None, IfSome, Ok, ⊤}
 use Rattle.std.specs.List.{AllByRecursion, enumerate_from, slice_split}
-use Rattle.std.specs.List.Sorted.{IsPermutation}
 use Rattle.std.specs.Io.{StartsWith}
 use Rattle.rt_command.specs.Choices.{Choices}
 use Rattle.rt_text.specs.Tables.{MayRefuse}
@@ -12,7 +11,7 @@ use Rattle.rt_text.specs.declared.tables.TableFault.TheVariants as load
 use Rattle.rt_tree.specs.Packed.{Packed}
 use Rattle.rt_filter.specs.Endings.{Consumed, Told, WentPrefix}
 use Rattle.rt_filter.specs.Lines.{is_line_feed, lines_of_parts, longest_line, numbered_lines}
-use Rattle.rt_filter.specs.Replies.{Loaded, any_fault, judged_line, output}
+use Rattle.rt_filter.specs.Replies.{Loaded, any_fault, judged_line, output, tree_of}
 use Rattle.rt_filter.specs.Runs.{loaded_of}
 use Rattle.rt_filter.specs.declared.filter.RunFault.{RunFault}
 use Rattle.rt_filter.specs.declared.filter.RunFault.TheVariants.{Table, Read, Write}
@@ -21,16 +20,15 @@ use Rattle.rt_filter.specs.declared.serving.ServeFault.TheVariants as serve
 
 -- ---- the load
 
--- what queries are asked of, where the table's entries stand in a tree
+-- what a tree holds, in the order of its places
 abbrev pub loaded_tree : Packed → Loaded
 loaded_tree tree = record { entries = tree.entries; fanout = tree.fanout }
 
--- a tree of what is loaded of a table
+-- the tree of what is loaded of a table
 pub record HasLoaded (choices : Choices) (table : List ℕ) (tree : Packed) : Type 0 where
   pub loaded : Loaded
   pub same : loaded_of choices table ≡ Ok loaded
-  pub moved : IsPermutation loaded.entries tree.entries
-  pub fanout : loaded.fanout ≡ tree.fanout
+  pub packed : tree ≡ tree_of loaded
 
 -- a fault that a run may report
 abbrev pub is_told : RunFault → Bool

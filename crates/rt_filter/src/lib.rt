@@ -7,6 +7,7 @@
 //! the command line by [`settings_of`], of `rt_command`.
 #![tactic(auto)]
 
+mod costing;
 mod filter;
 mod finding;
 mod finding_all;

@@ -6,6 +6,7 @@ ghost use Rattle.rt_filter.specs.Pushes.{WasCut, WasPushed};
 ghost use Rattle.rt_filter.specs.Replies.{levels_reply, query_reply, reply};
 ghost use Rattle.rt_filter.specs.Stages.{loaded_tree};
 
+use crate::costing::{push_cost_of_count, push_cost_of_find};
 use crate::finding::{push_count, push_find};
 use crate::pushing::push_line;
 use rt_device::{Sink, WriteFault};
@@ -70,6 +71,15 @@ fn push_query_reply<K: Sink>(
         Query::Levels => {
             push_levels(tree, line, sink)?;
             Ok(frontier)
+        }
+        Query::CostFind {
+            region,
+            order,
+            limit,
+            layers,
+        } => push_cost_of_find(tree, frontier, line, region, order, limit, layers, sink),
+        Query::CostCount { region, layers } => {
+            push_cost_of_count(tree, frontier, line, region, layers, sink)
         }
     }
 }

@@ -6,7 +6,7 @@ ghost use Rattle.rt_device.specs.Devices.{IsUnmoved};
 ghost use Rattle.rt_filter.specs.Endings.{HasConsumed, Serves, ServesAll, ServesWith, is_pull, is_push, told_of};
 ghost use Rattle.rt_filter.specs.Lines.{longest_line, most_pulled, numbered_lines};
 ghost use Rattle.rt_filter.specs.Pushes.{WasCut, WasPushed};
-ghost use Rattle.rt_filter.specs.Replies.{any_fault, is_fault, output, reply};
+ghost use Rattle.rt_filter.specs.Replies.{Loaded, any_fault, is_fault, output, reply, tree_of};
 ghost use Rattle.rt_filter.specs.Stages.{HasNoLineFeed, IsAnswering, IsCut, IsServing, asked_by, loaded_tree};
 
 use crate::reply::push_reply;
@@ -73,8 +73,12 @@ pub fn serve<S: Source, K: Sink>(
     requires room { length tree.now.entries ≤ frontier.capacity }
     requires source_count { S.failed source.old < 2 ^ 64 - 1 }
     requires sink_count { K.failed sink.old < 2 ^ 64 - 1 }
-    ensures ending { (queries before : List ℕ) → S.coming source.old ≡ Some queries → K.written sink.old ≡ Some before
-        → Serves (loaded_tree tree.now) (told_of queries before (S.coming source.new) (K.written sink.new)) result }
+
+    // Over any entries whose packed tree this is: where the two devices tell their bytes, the replies are those over
+    // these entries.
+    ensures ending { (loaded : Loaded) → tree.now ≡ tree_of loaded
+        → (queries before : List ℕ) → S.coming source.old ≡ Some queries → K.written sink.old ≡ Some before
+        → Serves loaded (told_of queries before (S.coming source.new) (K.written sink.new)) result }
 
     // Each failure of a device is told, and no other. A source may also be given up when the turns are used up.
     ensures pushes { K.failed sink.new ≡ K.failed sink.old + (if is_push result.fault then 1 else 0) }
@@ -84,6 +88,31 @@ pub fn serve<S: Source, K: Sink>(
         → HasConsumed turns (S.coming source.old) (S.coming source.new) }
 
     // What was pushed is flushed, unless a push or a flush failed: after any number of turns, so before each pull.
+    ensures flushed { is_push result.fault ≡ false → K.waits sink.old ≡ false → K.waits sink.new ≡ false }
+{
+    // (asked, so that it is known that the tree is the packed one of its own entries)
+    let _most = tree.len();
+    serve_turns(tree, frontier, source, sink, turns)
+}
+
+// The same over the tree's own entries, in the order of their places.
+fn serve_turns<S: Source, K: Sink>(
+    tree: &Tree,
+    frontier: Frontier,
+    source: &mut S,
+    sink: &mut K,
+    turns: u64,
+) -> Served
+    requires room { length tree.now.entries ≤ frontier.capacity }
+    requires source_count { S.failed source.old < 2 ^ 64 - 1 }
+    requires sink_count { K.failed sink.old < 2 ^ 64 - 1 }
+    ensures ending { (queries before : List ℕ) → S.coming source.old ≡ Some queries → K.written sink.old ≡ Some before
+        → Serves (loaded_tree tree.now) (told_of queries before (S.coming source.new) (K.written sink.new)) result }
+    ensures pushes { K.failed sink.new ≡ K.failed sink.old + (if is_push result.fault then 1 else 0) }
+    ensures pulls { (S.failed source.new ≡ S.failed source.old)
+        ⊎ ((S.failed source.new ≡ S.failed source.old + 1) × (is_pull result.fault ≡ true)) }
+    ensures turns { is_pull result.fault ≡ true → S.failed source.new ≡ S.failed source.old
+        → HasConsumed turns (S.coming source.old) (S.coming source.new) }
     ensures flushed { is_push result.fault ≡ false → K.waits sink.old ≡ false → K.waits sink.new ≡ false }
 {
     let mut frontier = frontier;

@@ -61,6 +61,37 @@ fn queries_on_layers_are_answered(rt: HostRuntime) -> Result<(), Fail> {
     Ok(())
 }
 
+// Lines that ask for a cost, over the five boxes with at most two children for each node, with what each is answered.
+static COSTS: [(&[u8], &[u8], u8); 16] = [
+    (b"cost nearest 2 12 12", b"ok 1 3\n", 0),
+    (b"cost nearest 3 12 12", b"ok 1 5\n", 0),
+    (b"cost nearest 0 12 12", b"ok 1 0\n", 0),
+    (b"cost nearest 5 12 12", b"ok 1 6\n", 0),
+    (b"cost find all first 6", b"ok 1 6\n", 0),
+    (b"cost find all", b"ok 1 6\n", 0),
+    (b"cost find window 20 30 0 4", b"ok 1 3\n", 0),
+    (b"cost find all on 1", b"ok 1 1\n", 0),
+    (b"cost count all", b"ok 1 1\n", 0),
+    (b"cost count all on 1", b"ok 1 1\n", 0),
+    (b"cost count window 0 10 0 10", b"ok 1 5\n", 0),
+    (b"cost", b"error 1 Q4 missing word\n", 1),
+    (b"cost levels", b"error 1 Q2 unknown verb\n", 1),
+    (b"cost cost find all", b"error 1 Q2 unknown verb\n", 1),
+    (b"cost find all all", b"error 1 Q10 stray word\n", 1),
+    (b"cost nearest -1 12 12", b"error 1 Q6 out of range\n", 1),
+];
+
+#[test]
+fn costs_are_told(rt: HostRuntime) -> Result<(), Fail> {
+    let two = Given { fanout: 2, ..PLAIN };
+    for (query, reply, status) in &COSTS {
+        two.expect(&rt, BOXES, query, reply, *status, None)?;
+    }
+    PLAIN.expect(&rt, BOXES, b"cost find all", b"ok 1 1\n", 0, None)?;
+    PLAIN.expect(&rt, b"", b"cost count all", b"ok 1 0\n", 0, None)?;
+    PLAIN.expect(&rt, b"", b"cost find all", b"ok 1 0\n", 0, None)
+}
+
 #[test]
 fn serves_empty_tables_and_queries(rt: HostRuntime) -> Result<(), Fail> {
     let nothing: &[u8] = b"find window 0 0 0 0\n";

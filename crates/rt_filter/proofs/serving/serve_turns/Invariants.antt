@@ -2,7 +2,7 @@ use Rattle.std.proofs.Common.{◌≡◌, ◌*◌, ◌<◌, ◌≤◌, false, len
 use Rattle.rt_filter.specs.Endings.{HasConsumed, told_of}
 use Rattle.rt_filter.specs.Lines.{most_pulled}
 use Rattle.rt_filter.specs.Stages.{IsServing, loaded_tree}
-use Rattle.rt_filter.proofs.serving.serve.Given as goal
+use Rattle.rt_filter.proofs.serving.serve_turns.Given as goal
 
 -- no call has failed, each turn gave a byte at least, and what was pulled is answered and flushed
 abbrev pub invariant-loop-turn : goal.invariant-loop-turn
