@@ -321,7 +321,7 @@ def region(name):
     """The picture of a region with the boxes that it accepts and those that it doesn't."""
     asked, boxes = SCENES[name]
     scene = Scene(1, 23, 0, 15)
-    accepts, _ = reading.region(reading.Words(asked.encode()))
+    accepts = reading.region(reading.Words(asked.encode())).accepts
     parts = [scene.box(box, YES if accepts(box) else NO) for box in boxes]
     parts += outline(name, reading.Words(asked.encode()), scene)
     return scene.picture(f"Boxes that {name} accepts are drawn solid, the others dashed", parts)
@@ -331,7 +331,7 @@ def on_layer():
     """The picture of a window on one layer, each box with its layer."""
     asked, layer, boxes = LAYERED
     scene = Scene(1, 23, 0, 15)
-    accepts, _ = reading.asked_boxes(reading.Words(f"{asked} {layer}".encode()))
+    accepts = reading.asked_boxes(reading.Words(f"{asked} {layer}".encode())).accepts
     parts = [scene.box(box, YES if accepts(box) else NO) for box in boxes]
     parts += outline("window", reading.Words(asked.encode()), scene)
     parts += [scene.label((box[0] + box[1]) / 2, (box[2] + box[3]) / 2, box[4]) for box in boxes]
@@ -377,6 +377,37 @@ def packed_points():
     return scene.picture(title, parts)
 
 
+# A window over examples/uneven.csv, whose larger boxes have a layer of their own; its units are drawn so many to one.
+UNEVEN = (30, 34, 30, 34)
+SCALE, FANOUT = 4, 4
+
+
+def uneven():
+    """The picture of the nodes of level 1 over all boxes of examples/uneven.csv and over the small ones alone."""
+    boxes = reading.boxes((ROOT / "examples/uneven.csv").read_bytes(), False, 100)
+    every = [packing.Entry(id, box[:4], box[4]) for id, box in boxes.items()]
+    left, right, bottom, top = (side / SCALE for side in packing.node(every, 1, 0).box)
+    apart = right - left + 3
+    scene = Scene(left, right + apart, bottom, top)
+    parts = [
+        *leaf_nodes(scene, 0, every),
+        *leaf_nodes(scene, apart, [entry for entry in every if entry.layer == 0]),
+    ]
+    return scene.picture("The nodes of level 1 that meet a window are drawn solid, the others dashed", parts)
+
+
+def leaf_nodes(scene, shift, entries):
+    """The drawing of the nodes of level 1 over entries, those that meet the window drawn solid, so far to the right."""
+
+    def drawn(box, look):
+        min_x, max_x, min_y, max_y = (side / SCALE for side in box)
+        return scene.box((min_x + shift, max_x + shift, min_y, max_y), look)
+
+    leaves = [node.box for node in packing.packed(entries, FANOUT)[1] if node.level == 1]
+    parts = [drawn(box, AREA if reading.meet(box, UNEVEN) else NO) for box in leaves]
+    return [*parts, drawn(UNEVEN, YES)]
+
+
 # ---- all of them
 
 
@@ -385,6 +416,7 @@ def pictures():
     yield "boxes.svg", example()
     yield "layers.svg", on_layer()
     yield "packed.svg", packed_points()
+    yield "uneven.svg", uneven()
     for name, tokens in grammar().items():
         yield f"grammar-{name}.svg", diagram(name, choice(tokens))
     for name in SCENES:

@@ -206,6 +206,7 @@ def a_line_that_does_not_end(start):
         held.lines += 1
         held.expect(TOO_LONG_A_LINE % 5)
         held.ask(b"levels")
+        held.ask(b"cost find all near 3 3 first 5")
         held.bad = True
         held.close()
 

@@ -45,10 +45,12 @@ TABLES = {
     "ids in a thousand runs": lambda at, count: (saw(at, count), saw(at, count), 10**9, 0, saw(at, count)),
 }
 
-# One box in the middle of all has a layer of its own, for which so many lines ask in each form.
+# One box in the middle of all has a layer of its own, for which so many lines ask in each form. One node of each level
+# is opened for it.
 RARE = 63
 LINES = 5000
-FORMS = b"count all on %d\nfind window %d %d 0 0 on %d\nfind all on %d near 0 0 first 2\n"
+FORMS = b"count all on %d\nfind window %d %d 0 0 on %d\nfind all on %d near 0 0 first 2\ncost find all on %d\n"
+FANOUT = 16
 
 
 def one_of_all(at, count):
@@ -68,10 +70,12 @@ def write_table(path, record, count):
 
 def rare_lines(count):
     """The lines that ask for the box on the rare layer, and their replies."""
-    box = count // 2
-    asked = FORMS % (RARE, LOW, HIGH, RARE, RARE) * LINES
-    told = (b"ok %d 1\n%d 0\nok %d 1\n%d %d\nok %d 1\n" % (at, box, at + 1, box, box**2, at + 2)
-            for at in range(1, 3 * LINES, 3))
+    box, levels = count // 2, 1
+    while FANOUT**levels < count:
+        levels += 1
+    asked = FORMS % (RARE, LOW, HIGH, RARE, RARE, RARE) * LINES
+    told = (b"ok %d 1\n%d 0\nok %d 1\n%d %d\nok %d 1\nok %d %d\n"
+            % (at, box, at + 1, box, box**2, at + 2, at + 3, levels) for at in range(1, 4 * LINES, 4))
     return asked, b"".join(told)
 
 

@@ -6,8 +6,8 @@ usage: tests/pages.py PROGRAM
 In README.md, docs/*.md and the manual page a console example is a command after `$ `, which may go on over lines, and
 what it prints. One is tried where each of its lines calls `rtfilter` or `cat`, in a folder with the files of examples/.
 A block that names tools behind `console` is a recipe, which tests/recipes tries. A row of a table with the columns `line`
-and `reply` is a run with that line alone over boxes.csv, or over the table that the head of the column names. The last
-line is `N passed, M failed`.
+and `reply` is a run with that line alone over boxes.csv, or over the table that the head of the column names, perhaps with
+options in front of it. The last line is `N passed, M failed`.
 """
 
 import os

@@ -64,6 +64,10 @@ FILES = {
     "layer_wide.csv": b"1,0,0,0,2147483648,x\n",
     "layer_repeated.csv": LAYERED + b"1,0,0,0,0,7\n",
     "seven.csv": LAYERED + b"3,0,0,0,0,0,0\n",
+    "six.csv": BOXES.replace(b"\n", b",0\n"),
+    "all_quoted.csv": b"".join(b'"%b"\n' % line.replace(b",", b'","') for line in BOXES.splitlines()),
+    "lines_and_returns.csv": BOXES.replace(b"\n", b"\r\n"),
+    "header_returns.csv": (HEADER + BOXES).replace(b"\n", b"\r\n"),
     "empty.csv": b"",
     "fields.csv": b"1" + b",1" * (FIELDS - 1) + b"\n",
     "-H": BOXES,
@@ -120,6 +124,64 @@ ON_LAYERS = {
     b"levels on 0": b"error 1 Q10 stray word\n",
 }
 
+# Lines that ask for a cost, each with its reply over boxes.csv and a fanout of 2, where it is line 1.
+COSTS = {
+    b"cost nearest 2 12 12": b"ok 1 3\n",
+    b"cost nearest 3 12 12": b"ok 1 5\n",
+    b"cost nearest 5 12 12": b"ok 1 6\n",
+    b"cost nearest 0 12 12": b"ok 1 0\n",
+    b"cost find all": b"ok 1 6\n",
+    b"cost find all first 0": b"ok 1 0\n",
+    b"cost find all first 1": b"ok 1 6\n",
+    b"cost find all first 18446744073709551615": b"ok 1 6\n",
+    b"cost find all near 12 12 first 2": b"ok 1 3\n",
+    b"cost find all on 0": b"ok 1 6\n",
+    b"cost find all on 1": b"ok 1 1\n",
+    b"cost find window 20 30 0 4": b"ok 1 3\n",
+    b"cost find window 100 100 100 100": b"ok 1 1\n",
+    b"cost find covers 12 12 12 12": b"ok 1 3\n",
+    b"cost find circle 0 0 1": b"ok 1 3\n",
+    b"cost find polygon 3 11 16 16 11 16 16": b"ok 1 3\n",
+    b"cost count all": b"ok 1 1\n",
+    b"cost count all on 1": b"ok 1 1\n",
+    b"cost count all on 0": b"ok 1 1\n",
+    b"cost count window 0 10 0 10": b"ok 1 5\n",
+    b" cost\tcount  all\r": b"ok 1 1\n",
+    b"cost": b"error 1 Q4 missing word\n",
+    b"cost find": b"error 1 Q4 missing word\n",
+    b"cost nearest 2 12": b"error 1 Q4 missing word\n",
+    b"cost levels": b"error 1 Q2 unknown verb\n",
+    b"cost cost": b"error 1 Q2 unknown verb\n",
+    b"cost cost find all": b"error 1 Q2 unknown verb\n",
+    b"cost window 0 1 0 1": b"error 1 Q2 unknown verb\n",
+    b"Cost find all": b"error 1 Q2 unknown verb\n",
+    b"costs find all": b"error 1 Q2 unknown verb\n",
+    b"find cost all": b"error 1 Q3 unknown region\n",
+    b"cost count box": b"error 1 Q3 unknown region\n",
+    b"cost find all first x": b"error 1 Q5 not a number\n",
+    b"cost find circle 0 0 -1": b"error 1 Q6 out of range\n",
+    b"cost find window 10 0 0 10": b"error 1 Q7 minimum above maximum\n",
+    b"cost find polygon 2 0 0": b"error 1 Q8 vertex count\n",
+    b"cost find polygon 3 0 0 5 5 10 10": b"error 1 Q9 polygon not strictly convex\n",
+    b"cost count all first 1": b"error 1 Q10 stray word\n",
+    b"cost find all x": b"error 1 Q10 stray word\n",
+    b"find all cost": b"error 1 Q10 stray word\n",
+    b"cost find all".ljust(4097): b"error 1 Q1 line too long\n",
+}
+
+# The same boxes in other forms of a table.
+COST_QUERIES = b"cost nearest 2 12 12\ncost nearest 3 12 12\ncost nearest 0 12 12\n"
+COST_FORMS = [
+    ["boxes.csv"],
+    ["-H", "header.csv"],
+    ["marked.csv"],
+    ["returns.csv"],
+    ["six.csv"],
+    ["all_quoted.csv"],
+    ["lines_and_returns.csv"],
+    ["--header", "header_returns.csv"],
+]
+
 # Words, standard input, status, standard output, standard error.
 RUNS = [
     (["boxes.csv"], FIND, 0, FOUND, b""),
@@ -143,6 +205,15 @@ RUNS = [
     (["zero_layer.csv"], b"find all on 3\nfind all on 0,3", 0, b"1 0\nok 1 1\n1 0\n2 0\nok 2 2\n", b""),
     (["-H", "layers_header.csv"], b"count all on 3\ncount all on 0", 0, b"ok 1 1\nok 2 1\n", b""),
     (["--fanout", "2", "boxes.csv"], b"count all on 1\ncount all on 0", 0, b"ok 1 0\nok 2 5\n", b""),
+    *((["--fanout", "2", "boxes.csv"], line, int(b"error" in reply), reply, b"") for line, reply in COSTS.items()),
+    *(
+        (["--fanout", "2", *words], COST_QUERIES.replace(b"\n", end), 0, b"ok 1 3\nok 2 5\nok 3 0\n", b"")
+        for words in COST_FORMS
+        for end in (b"\n", b"\r\n")
+    ),
+    (["boxes.csv"], b"cost find all\ncost nearest 2 12 12\ncost count all", 0, b"ok 1 1\nok 2 1\nok 3 1\n", b""),
+    (["empty.csv"], b"cost find all\ncost count all\ncost nearest 1 0 0", 0, b"ok 1 0\nok 2 0\nok 3 0\n", b""),
+    (["boxes.csv"], b"cost\n" + FIND, 1, b"error 1 Q4 missing word\n1 0\n2 0\nok 2 2\n", b""),
     (["boxes.csv"], b"x\n" + FIND, 1, b"error 1 Q2 unknown verb\n1 0\n2 0\nok 2 2\n", b""),
     (["--help"], b"", 0, USAGE, b""),
     (["-h"], b"", 0, USAGE, b""),

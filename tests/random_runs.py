@@ -4,8 +4,9 @@
 usage: tests/random_runs.py PROGRAM [--first SEED] [--seeds N]
 
 `reading.expected` says what a run gives. Each seed is a test of `RUNS` runs, whose tables are mostly sound and whose
-query lines are at fault as often as not. One more test is that the runs meet each form of the language and each fault
-often enough, and faults at least as often as answers. The last line is `N passed, M failed`.
+query lines are at fault as often as not, and of `COST_RUNS` whose lines ask what queries cost, without a limit and with
+limits below, at and above the number of answers. One more test is that the runs meet each form of the language and each
+fault often enough, and faults at least as often as answers. The last line is `N passed, M failed`.
 """
 
 import argparse
@@ -21,8 +22,9 @@ sys.dont_write_bytecode = True
 import reading
 from reading import FAULTS, LONGEST_LINE, MARK
 
-RUNS = 40
+RUNS, COST_RUNS = 40, 8
 MOST_ENTRIES = 16777216
+FANOUTS = [2, 3, 16, 64]
 
 # ---- numbers
 
@@ -69,6 +71,7 @@ def some_number(chance):
 ENDS = [b"\n", b"\r\n", b"\r", b"\n\n"]
 # Some are a power of a fanout, or one more.
 SIZES = [0, 1, 2, 3, 4, 9, 10, 16, 17, 50, 64, 65, 150]
+COST_SIZES = [0, 1, 4, 17, 50, 65, 150, 200]
 QUOTED = [b'""', b'"1"2', b'1"2', b'"1\n"', b'"1,2"', b'"a""b"', b'"']
 
 
@@ -121,6 +124,18 @@ def some_table(chance):
         rows.append(chance.choice([chance.choice(rows), b" ", b'""']))
     text = b"".join(row + (end or chance.choice(ENDS)) for row in rows)
     return MARK * chance.choice([0] * 20 + [1, 2]) + (text if chance.random() < 0.7 else text.rstrip(b"\r\n"))
+
+
+def some_small_boxes(chance):
+    """A sound table whose boxes are small, so that there are nodes in a region and beside it; now and then one is large."""
+    layer, longest = chance.choice([*LAYERS.values()]), chance.choice([0, 2, 8])
+    rows = []
+    for id in chance.sample(range(-1000, 1000), chance.choice(COST_SIZES)):
+        x, y, reach = small(chance), small(chance), 100 if chance.random() < 0.005 else longest
+        sides = x, x + chance.randint(0, reach), y, y + chance.randint(0, reach)
+        on = layer(chance, sides)
+        rows.append([id, *sides, *[on] * (on is not None)])
+    return b"".join(b",".join(map(b"%d".__mod__, row)) + b"\n" for row in rows)
 
 
 # ---- query lines
@@ -200,25 +215,71 @@ def some_point(chance):
     return [written(chance, value) for value in values]
 
 
+def some_boxes(chance):
+    return [*some_region(chance), *chance.choice([[], some_on(chance)])]
+
+
+def some_wide_region(chance):
+    """The words of a region in which whole nodes may lie."""
+    left, right, bottom, top = (side * chance.randint(5, 25) for side in (-1, 1, -1, 1))
+    names = {
+        b"all": [],
+        b"window": [left, right, bottom, top],
+        b"inside": [left, right, bottom, top],
+        b"circle": [small(chance), small(chance), right],
+        b"polygon": [4, left, 0, 0, bottom, right, 0, 0, top],
+    }
+    name = chance.choice([*names])
+    return [name, *(b"%d" % number for number in names[name])]
+
+
+def some_order(chance):
+    return chance.choice([[], [], [b"near", *some_point(chance)], [b"smallest"]])
+
+
 def some_query(chance):
     """The words of a sound query."""
     verb = chance.choice([b"find"] * 5 + [b"nearest", b"count", b"count", b"levels"])
     if verb == b"levels":
         return [verb]
+    words = [b"cost"] * (chance.random() < 0.2) + [verb]
     if verb == b"nearest":
-        return [verb, some_limit(chance), *some_point(chance)]
-    words = [verb, *some_region(chance), *chance.choice([[], some_on(chance)])]
+        return [*words, some_limit(chance), *some_point(chance)]
+    words += some_boxes(chance)
     if verb == b"find":
-        words += chance.choice([[], [], [b"near", *some_point(chance)], [b"smallest"]])
+        words += some_order(chance)
         words += chance.choice([[], [b"first", some_limit(chance)]])
     return words
 
 
-WORDS = [*REGIONS, b"find", b"count", b"nearest", b"levels", b"near", b"smallest", b"first", b"on"]
+def some_costs(chance, boxes):
+    """Lines that ask what queries for the same boxes cost: a count, all of them, and limits about their number."""
+    asked, order = chance.choice([some_boxes, some_wide_region])(chance), some_order(chance)
+    if chance.random() < 0.2:
+        asked, order = [b"all"], [b"near", *some_point(chance)]
+    find = [b"find", *asked, *order]
+    try:
+        question = reading.question(reading.Words(b" ".join(find)))
+    except reading.Fault:  # a polygon that isn't one
+        return some_costs(chance, boxes)
+    count = len(reading.answers(boxes, question.region.accepts, question.score, None))
+    lines = [[b"count", *asked], find]
+    for limit in {0, 1, chance.randint(0, count), max(count - 1, 0), count, count + 1}:
+        lines.append([*find, b"first", b"%d" % limit])
+        if asked == [b"all"] and order[:1] == [b"near"]:
+            lines.append([b"nearest", b"%d" % limit, *order[1:]])
+    return [b" ".join([b"cost", *line]) for line in lines]
+
+
+WORDS = [*REGIONS, b"find", b"count", b"nearest", b"levels", b"near", b"smallest", b"first", b"on", b"cost"]
 WORDS += [b"x", b"#", b"3", b"-1", b"0,3"]
 
 
 # ---- near misses: each changes one thing of the words of a sound query
+
+
+def verb_at(words):
+    return int(words[0] == b"cost")
 
 
 def cut(chance, words):
@@ -264,7 +325,13 @@ def replace(chance, words):
 
 
 def replace_verb(chance, words):
-    words[0] = chance.choice([b"", b"get", b"finds", b"fin", b"find\v", b"cost", MARK + words[0]])
+    at = verb_at(words)
+    words[at] = chance.choice([b"", b"get", b"finds", b"fin", b"find\v", b"cost", MARK + words[at]])
+
+
+def ask_cost(chance, words):
+    """The word in front of a query: of some it can't be asked."""
+    words.insert(0, b"cost")
 
 
 def swap(chance, words):
@@ -273,8 +340,9 @@ def swap(chance, words):
 
 
 def swap_sides(chance, words):
-    if len(words) > 2 and words[1] in (b"window", b"inside", b"covers"):
-        at = chance.choice([2, 4])
+    region = verb_at(words) + 1
+    if words[region:] and words[region] in (b"window", b"inside", b"covers"):
+        at = region + chance.choice([1, 3])
         words[at:at + 2] = reversed(words[at:at + 2])
 
 
@@ -285,7 +353,7 @@ def misstate(chance, words):
 
 
 MISSES = [cut, drop, add, add_last, add_part, add_part, respell, replace, replace_verb, swap, swap_sides]
-MISSES += [misstate] * 4 + [spoil_list] * 3 + [add_on]
+MISSES += [misstate] * 4 + [spoil_list] * 3 + [add_on, ask_cost]
 
 
 def missed(chance, words):
@@ -319,7 +387,8 @@ def some_words(chance):
     if kind < 0.9:
         return missed(chance, some_query(chance))
     if kind < 0.95:
-        return [chance.choice([b"find", b"count"]), b"polygon", *chance.choice(BAD_POLYGONS).split()]
+        verb = chance.choice([[b"find"], [b"count"], [b"cost", b"find"], [b"cost", b"count"]])
+        return [*verb, b"polygon", *chance.choice(BAD_POLYGONS).split()]
     return chance.choice(OTHER_WORDS)
 
 
@@ -345,42 +414,81 @@ def differs(program, folder, chance, met):
     """Makes a run, and tells it where it isn't as expected. The kinds of lines of the output are counted."""
     table, queries = some_table(chance), some_queries(chance)
     header, most = chance.random() < 0.2, chance.choice([MOST_ENTRIES] * 9 + [5, 1])
-    fanout = chance.choice([2, 3, 16, 64])
-    Path(folder, "table").write_bytes(table)
-    words = ["--header"] * header + ["--fanout", str(fanout), "--max-entries", str(most), "table"]
-    done = subprocess.run([program, *words], cwd=folder, input=queries, capture_output=True, timeout=60)
-    found = done.returncode, done.stdout, done.stderr
+    fanout = chance.choice(FANOUTS)
     wanted = reading.expected(table, queries, header, most, fanout)
     met.update(re.findall(r"record \d+: (.*)", wanted[2].decode()))
     for line, text in enumerate(reading.lines_of(queries) if not wanted[2] else [], 1):
         met.update(kinds(line, text, wanted[1]))
+    return difference(program, folder, table, queries, header, most, fanout, wanted)
+
+
+def costs_differ(program, folder, chance, met):
+    """The same of a run whose lines ask what queries cost."""
+    table, fanout = some_small_boxes(chance), chance.choice(FANOUTS)
+    boxes = reading.boxes(table, False, MOST_ENTRIES)
+    lines = [line for _ in range(5) for line in some_costs(chance, boxes)]
+    queries = b"".join(line + b"\n" for line in lines)
+    wanted = reading.expected(table, queries, fanout=fanout)
+    for line, told in zip(lines, re.findall(rb"^ok \d+ (\d+)$", wanted[1], re.MULTILINE), strict=True):
+        met.update(cost_kinds(boxes, fanout, line, int(told)))
+    return difference(program, folder, table, queries, False, MOST_ENTRIES, fanout, wanted)
+
+
+def difference(program, folder, table, queries, header, most, fanout, wanted):
+    """Makes a run, and tells it where it isn't what is wanted."""
+    Path(folder, "table").write_bytes(table)
+    words = ["--header"] * header + ["--fanout", str(fanout), "--max-entries", str(most), "table"]
+    done = subprocess.run([program, *words], cwd=folder, input=queries, capture_output=True, timeout=60)
+    found = done.returncode, done.stdout, done.stderr
     if found == wanted:
         return None
     return f"{' '.join(words)}\n  table    {table}\n  queries  {queries}\n  expected {wanted}\n  found    {found}"
 
 
 def kinds(at, line, output):
-    """What a line is a case of: its fault, or its verb, region, order and limit; with `on` it is told too."""
+    """What a line is a case of: its fault, or its verb, region, order and limit; with `on` or `cost` it is told too."""
     told = re.search(rb"^(ok|error) %d ([^ \n]*)" % at, output, re.MULTILINE)
     if told is None:
         return ["skipped"]
     words = [word.decode(errors="replace") for word in reading.Words(line).left]
     if told[1] == b"error":
         code = told[2].decode()
-        return ["error", code, *[f"{code} of on"] * ("on" in words)]
+        return ["error", code, *(f"{code} of {word}" for word in ("on", "cost") if word in words)]
     kinds = {word for word in words if word.isalpha()}
-    return ["ok", *kinds, *(f"{kind} and on" for kind in kinds if "on" in kinds)]
+    return ["ok", *kinds, *(f"{kind} and {word}" for kind in kinds for word in {"on", "cost"} & kinds)]
+
+
+def cost_kinds(boxes, fanout, line, told):
+    """What a line that asks for a cost is a case of: its limit beside the number of answers, the nodes beside all."""
+    asked = reading.question(reading.Words(line.removeprefix(b"cost")))
+    scores = [score for score, _ in reading.answers(boxes, asked.region.accepts, asked.score, None)]
+    limit, nodes = asked.limit, sum(reading.level_sizes(len(boxes), fanout)[1:])
+    if limit in (None, 0, 1):
+        yield f"a cost with the limit {limit}"
+    elif limit < len(scores):
+        yield "a cost with a limit at a tie" if scores[limit - 1] == scores[limit] else "a cost with a limit below"
+    else:
+        yield "a cost with a limit at the end" if limit == len(scores) else "a cost with a limit beyond"
+    yield "a cost of all nodes" if told == nodes else "a cost of some nodes" if told > 1 else f"a cost of {told}"
+    if asked.verb == b"count" and told < reading.opened(boxes, fanout, asked._replace(verb=b"find")):
+        yield f"a node counted whole of {reading.Words(line).left[2].decode()}"
 
 
 PARTS = {"find", "count", "near", "smallest", "first", *(name.decode() for name in REGIONS)}
 WHOLE = {"skipped", "nearest", "levels", "on", *PARTS, *(f"{part} and on" for part in PARTS), *FAULTS}
+WHOLE |= {"nearest and cost", "on and cost", *(f"{part} and cost" for part in PARTS)}
 WHOLE |= {f"{code} of on" for code in ("Q4", "Q5", "Q6", "Q7", "Q10")}
+WHOLE |= {f"{code} of cost" for code in FAULTS}
+WHOLE |= {f"a cost with the limit {limit}" for limit in (None, 0, 1)}
+WHOLE |= {f"a cost with a limit {place}" for place in ("below", "at a tie", "at the end", "beyond")}
+WHOLE |= {f"a cost of {nodes}" for nodes in (0, 1, "some nodes", "all nodes")}
+WHOLE |= {f"a node counted whole of {name.decode()}" for name in REGIONS if name != b"covers"}
 WHOLE |= {f"field 6 is {fault}" for fault in ("not a number", "out of range")}
 
 
 def lacks(met, seeds):
-    """What the runs of so many seeds met too seldom: less than once in every other seed."""
-    seldom = [f"{kind} ({met[kind]})" for kind in sorted(WHOLE) if met[kind] < seeds // 2]
+    """What the runs of so many seeds met too seldom: less than once in every fourth seed."""
+    seldom = [f"{kind} ({met[kind]})" for kind in sorted(WHOLE) if met[kind] < seeds // 4]
     return seldom + [f"errors ({met['error']}) beside {met['ok']} answered lines"] * (met["error"] < met["ok"])
 
 
@@ -396,6 +504,7 @@ def main():
         for seed in range(args.first, args.first + args.seeds):
             chance = random.Random(seed)
             runs = [differs(program, folder, chance, met) for _ in range(RUNS)]
+            runs += [costs_differ(program, folder, chance, met) for _ in range(COST_RUNS)]
             wrong = next(filter(None, runs), None)
             if wrong:
                 failed += 1

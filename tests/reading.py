@@ -5,13 +5,20 @@ usage: tests/reading.py [-H|--header] [--fanout M] [--max-entries N] TABLE [QUER
 
 Nothing in here is of the program's code or of its definitions. The table is read as docs/table-format.md says, a query
 as docs/query-language.md does, and answers come from a look at every box. A box is its `min_x, max_x, min_y, max_y`,
-and in a table its layer behind them.
+and in a table its layer behind them. The nodes that a `cost` line asks about are counted by a search of the tree that
+`search.py` packs.
 """
 
 import argparse
 import re
 import sys
+from collections.abc import Callable
 from fractions import Fraction
+from typing import NamedTuple
+
+sys.dont_write_bytecode = True
+import search
+from search import FULLY, NOT, PARTLY
 
 LONGEST_LINE = 4096
 MARK = b"\xef\xbb\xbf"
@@ -146,12 +153,12 @@ def is_strictly_convex(vertices):
 
 def cut(vertices, depth):
     """What is left of a convex polygon where `depth`, which goes evenly along each edge, is at least 0."""
-    left = []
-    for a, b in zip(vertices, [*vertices[1:], *vertices[:1]]):
-        if depth(a) >= 0:
+    left, ends = [], [(vertex, depth(vertex)) for vertex in vertices]
+    for (a, depth_a), (b, depth_b) in zip(ends, [*ends[1:], *ends[:1]]):
+        if depth_a >= 0:
             left.append(a)
-        if min(depth(a), depth(b)) < 0 < max(depth(a), depth(b)):
-            part = Fraction(depth(a), depth(a) - depth(b))
+        if min(depth_a, depth_b) < 0 < max(depth_a, depth_b):
+            part = Fraction(depth_a, depth_a - depth_b)
             left.append((a[0] + part * (b[0] - a[0]), a[1] + part * (b[1] - a[1])))
     return left
 
@@ -233,27 +240,59 @@ def near(point):
     return lambda box: near2(point, box)
 
 
+class Region(NamedTuple):
+    """Which boxes a region accepts, the score of a box where no order is named, and what is known of the boxes in a node:
+    all are accepted (FULLY), none (NOT), or perhaps some (PARTLY)."""
+
+    accepts: Callable
+    score: Callable
+    state: Callable
+
+
 def region(words):
-    """Which boxes a region accepts, and the score of a box where no order is named."""
+    """A region by its name."""
     name = words.take()
     if name == b"all":
-        return lambda box: True, by_id
+        return Region(lambda box: True, by_id, search.everything)
     if name == b"window":
         window = words.window()
-        return lambda box: meet(box, window), by_id
+        return Region(lambda box: meet(box, window), by_id, search.in_window(window))
     if name == b"inside":
         window = words.window()
-        return lambda box: lies_in(box, window), by_id
+        return Region(lambda box: lies_in(box, window), by_id, within(window))
     if name == b"covers":
         window = words.window()
-        return lambda box: lies_in(window, box), by_id
+        return Region(lambda box: lies_in(window, box), by_id, covering(window))
     if name == b"circle":
         centre, radius = words.point(), words.number(RADII)
-        return lambda box: near2(centre, box) <= radius**2, near(centre)
+        return Region(lambda box: near2(centre, box) <= radius**2, near(centre), search.in_circle(centre, radius))
     if name == b"polygon":
         vertices = words.polygon()
-        return lambda box: shares_a_point(vertices, box), by_id
+        return Region(lambda box: shares_a_point(vertices, box), by_id, in_polygon(vertices))
     raise Fault("Q3")
+
+
+def within(window):
+    """A node that meets the window may hold a box that lies in it."""
+    meets = search.in_window(window)
+    return lambda item: meets(item) if item.level > 0 else FULLY if lies_in(item.box, window) else NOT
+
+
+def covering(window):
+    """A node in which the window lies may hold a box in which it does, and never is sure to."""
+    return lambda item: PARTLY if lies_in(window, item.box) else NOT
+
+
+def in_polygon(vertices):
+    """A node lies in the polygon where its corners do."""
+
+    def state(item):
+        if not shares_a_point(vertices, item.box):
+            return NOT
+        corners = ((x, x, y, y) for x in item.box[:2] for y in item.box[2:])
+        return FULLY if all(shares_a_point(vertices, corner) for corner in corners) else PARTLY
+
+    return state
 
 
 def layers(words):
@@ -264,10 +303,10 @@ def layers(words):
 
 
 def asked_boxes(words):
-    """Which boxes of a table are asked for, by a region and by layers, and their scores where no order is named."""
-    accepts, score = region(words)
+    """A region on the layers that are asked for: of boxes of a table."""
+    accepts, score, state = region(words)
     asked = layers(words)
-    return lambda box: box[4] in asked and accepts(box), score
+    return Region(lambda box: box[4] in asked and accepts(box), score, search.on_layers(state, asked))
 
 
 def order(words, otherwise):
@@ -290,29 +329,58 @@ def level_sizes(count, fanout):
     return sizes
 
 
+class Question(NamedTuple):
+    """What a `find`, `nearest` or `count` line asks: for which boxes, in which order, and for how many of them."""
+
+    verb: bytes
+    region: Region
+    score: Callable
+    limit: int | None
+
+
+def question(words):
+    """The question that the words of a line ask."""
+    verb, limit = words.take(), None
+    if verb == b"nearest":
+        limit = words.number(LIMITS)
+        asked, score = asked_boxes(Words(b"all")), near(words.point())
+    elif verb in (b"find", b"count"):
+        asked = asked_boxes(words)
+        score = order(words, asked.score) if verb == b"find" else by_id
+        if verb == b"find" and words.takes(b"first"):
+            limit = words.number(LIMITS)
+    else:
+        raise Fault("Q2")
+    words.end()
+    return Question(verb, asked, score, limit)
+
+
+def opened(table, fanout, asked):
+    """How many nodes of the tree over a table are opened to answer a question."""
+    root = search.pack([search.Item(box[:4], 0, None, id, {box[4]}) for id, box in table.items()], fanout)
+    if asked.verb == b"count":
+        return search.count(root, asked.region.state)[1]
+
+    def least(item):
+        """The least score of the boxes in a node: of their areas nothing is known."""
+        return 0 if asked.score is area and item.level > 0 else asked.score(item.box)
+
+    return search.search(root, asked.region.state, least, asked.limit)[1]
+
+
 def query_reply(table, fanout, words):
     """The lines that answer a query before the last, and the number that the last one tells."""
-    verb = words.take()
-    if verb in (b"find", b"nearest"):
-        if verb == b"find":
-            accepts, score = asked_boxes(words)
-            score = order(words, score)
-            limit = words.number(LIMITS) if words.takes(b"first") else None
-        else:
-            limit = words.number(LIMITS)
-            accepts, score = lambda box: True, near(words.point())
-        words.end()
-        found = answers(table, accepts, score, limit)
-        return [b"%d %d" % (id, score) for score, id in found], len(found)
-    if verb == b"count":
-        accepts, _ = asked_boxes(words)
-        words.end()
-        return [], sum(map(accepts, table.values()))
-    if verb == b"levels":
+    if words.takes(b"levels"):
         words.end()
         sizes = level_sizes(len(table), fanout)
         return [b"%d %d" % (level, size) for level, size in reversed([*enumerate(sizes)])], len(sizes)
-    raise Fault("Q2")
+    if words.takes(b"cost"):
+        return [], opened(table, fanout, question(words))
+    asked = question(words)
+    if asked.verb == b"count":
+        return [], sum(map(asked.region.accepts, table.values()))
+    found = answers(table, asked.region.accepts, asked.score, asked.limit)
+    return [b"%d %d" % (id, score) for score, id in found], len(found)
 
 
 def reply(table, fanout, at, line):

@@ -15,7 +15,7 @@ from pathlib import Path
 sys.dont_write_bytecode = True
 import reading
 
-QUERIES = b"find all\nfind all on 3,63\nlevels"
+QUERIES = b"find all\nfind all on 3,63\ncost find all near 0 0 first 1\nlevels"
 MARK = reading.MARK
 
 TABLES = {

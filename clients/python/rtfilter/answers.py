@@ -19,7 +19,8 @@ class Answers:
 
     @property
     def told(self) -> int:
-        """The number that the reply's last line tells: how many answers there are, or what a `count` has counted."""
+        """The number that the reply's last line tells: how many answers there are, what a `count` has counted, or how many
+        nodes a `cost` line tells of."""
         return self._told
 
     @property
@@ -33,7 +34,7 @@ class Answers:
         return [int(word) for word in self._words()[1::2]]
 
     def __len__(self) -> int:
-        """How many answers there are. A `count` has none, whatever it has counted."""
+        """How many answers there are. A `count` has none, whatever it has counted, and neither has a `cost`."""
         return self._text.count(b"\n")
 
     def __iter__(self) -> Iterator[tuple[int, int]]:

@@ -69,6 +69,13 @@ class Boxes(Closing):
         """How many boxes a region accepts; with `on`, as in `find`, of these layers alone."""
         return self._answers(count_line(region, on)).told
 
+    def cost(self, line: str) -> int:
+        """How many nodes of the tree a query opens, by its line: one that begins with `find`, `nearest` or `count`.
+
+        `cost(f"find {Window(0, 10, 0, 10)} first 3")` is the cost of `find(Window(0, 10, 0, 10), first=3)`.
+        """
+        return self._answers("cost " + line).told
+
     def levels(self) -> list[tuple[int, int]]:
         """The levels of the tree from the top, each with how many nodes it has; level 0 is that of the boxes."""
         return list(self._answers("levels"))

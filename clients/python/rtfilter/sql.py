@@ -11,7 +11,8 @@ def add_functions(connection: sqlite3.Connection, boxes: Boxes) -> None:
     """Gives a connection two functions of a query line, which ask a client or a pool. For NULL they are NULL.
 
     `rtfilter_ids(line)` is a JSON array of the ids, in the order of the answers: `json_each` makes rows of it, whose `value`
-    is an id and whose `key` is its place. `rtfilter_count(line)` is how many answers there are, or what a `count` counted.
+    is an id and whose `key` is its place. `rtfilter_count(line)` is how many answers there are, or what a `count` counted, or
+    how many nodes a `cost` line tells of.
 
     Where a line is faulty or the program has ended, the statement raises `sqlite3.OperationalError`, which tells no cause:
     `boxes.ask([line])` does. Scores are left to `ask` too: the whole numbers of SQLite may be too short for them.

@@ -10,9 +10,9 @@ from functools import partial
 from pathlib import Path
 from unittest import mock
 
-from support import BOXES, PROGRAM, some_lines, some_sound_table, told_by_program, written
+from support import BOXES, PROGRAM, random_runs, reading, some_lines, some_sound_table, told_by_program, written
 
-from rtfilter import All, Answers, Circle, Covers, Inside, Near, Polygon, QueryError, Rtfilter, Smallest, Window
+from rtfilter import All, Answers, Circle, Covers, Inside, Near, Polygon, Pool, QueryError, Rtfilter, Smallest, Window
 
 RUNS = 60
 
@@ -65,6 +65,42 @@ class Calls(unittest.TestCase):
             self.assertEqual(boxes.count(Window(0, 10, 0, 10)), 2)
             self.assertEqual(boxes.levels(), [(1, 1), (0, 5)])
             self.assertEqual(len(boxes), 5)
+
+    def test_costs(self) -> None:
+        with Rtfilter(BOXES, fanout=2, program=PROGRAM) as boxes, Pool(2, BOXES, fanout=2, program=PROGRAM) as pool:
+            for line, nodes in (
+                ("nearest 2 12 12", 3),
+                ("nearest 3 12 12", 5),
+                (f"find {All()} {Near(12, 12)} first 3", 5),
+                (f"find {Window(20, 30, 0, 4)}", 3),
+                (f"find {All()} on 1", 1),
+                (f"find {All()} first 0", 0),
+                (f"count {Window(0, 10, 0, 10)}", 5),
+                (f"count {All()}", 1),
+            ):
+                self.assertEqual((boxes.cost(line), pool.cost(line)), (nodes, nodes))
+                self.assertEqual(boxes.ask([f"cost {line}"]), [Answers(b"", nodes)])
+            for line, code in (("", "Q4"), ("# find all", "Q2"), ("levels", "Q2"), ("cost count all", "Q2"), ("find all x", "Q10")):
+                with self.assertRaises(QueryError) as raised:
+                    boxes.cost(line)
+                self.assertEqual((raised.exception.line, raised.exception.code), (f"cost {line}", code))
+            for bad, error in (("find all\n", ValueError), (All(), TypeError), (b"find all", TypeError)):
+                with self.assertRaises(error):
+                    boxes.cost(bad)  # type: ignore[arg-type]
+            self.assertEqual(boxes.count(All()), 5)
+
+    def test_costs_as_a_plain_reading(self) -> None:
+        for seed in range(RUNS):
+            chance = random.Random(seed)
+            text, fanout = random_runs.some_small_boxes(chance), chance.choice([2, 3, 16, 64])
+            held = reading.boxes(text, False, 2**24)
+            lines = random_runs.some_costs(chance, held)
+            wanted = [reading.opened(held, fanout, reading.question(reading.Words(line[len(b"cost "):]))) for line in lines]
+            with self.subTest(seed=seed), tempfile.TemporaryDirectory() as folder:
+                table = Path(folder, "table")
+                table.write_bytes(text)
+                with Rtfilter(table, fanout=fanout, program=PROGRAM) as boxes:
+                    self.assertEqual([boxes.cost(line.decode().removeprefix("cost ")) for line in lines], wanted)
 
     def test_lines_that_are_skipped_have_no_answers(self) -> None:
         with Rtfilter(BOXES, program=PROGRAM, timeout=20) as boxes:
