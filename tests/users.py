@@ -1,5 +1,5 @@
 #!/usr/bin/env python3
-"""Tries what stands in clients/ and packaging/, and the recipes of docs/, with the built program.
+"""Tries what stands in clients/ and packaging/, the recipes of docs/ and examples/tiles, with the built program.
 
 usage: tests/users.py PROGRAM [--need-all]
 
@@ -17,7 +17,12 @@ from pathlib import Path
 
 sys.dont_write_bytecode = True
 ROOT = Path(__file__).resolve().parent.parent
-TESTS = [ROOT / "clients/python/tests", ROOT / "tests/recipes", ROOT / "packaging/tests"]
+TESTS = [
+    ROOT / "clients/python/tests",
+    ROOT / "tests/recipes",
+    ROOT / "packaging/tests",
+    ROOT / "examples/tiles/tests",
+]
 TOO_LONG = 300  # seconds: something waits for ever
 
 

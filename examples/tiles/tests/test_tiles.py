@@ -1,0 +1,188 @@
+"""Tiles and views hold the boxes that the program finds in their windows, and cost little."""
+
+import csv
+import json
+import random
+import re
+import subprocess
+import tempfile
+import unittest
+from pathlib import Path
+
+from tiles_support import HOSTILE_LAYER, HOSTILE_NAME, Mapped, Server, ids_told, make_map, number_told, told, wants
+
+from mercator import DEEPEST, HALF, cells_of, cuts, window_of
+
+MILLION = 1_000_000
+MOST_SECONDS = 0.05  # of processor time, for a view of a million boxes
+VIEWS = 40
+FEATURE = re.compile(r"^OGRFeature\((.*)\):\d+\n((?:.+\n)*)", re.MULTILINE)
+PROPERTY = re.compile(r"^  (\w+) \(\w+\) = (.*)$", re.MULTILINE)
+POLYGON = re.compile(r"^  POLYGON \(\((.*)\)\)$", re.MULTILINE)
+
+
+class TileAddresses(unittest.TestCase):
+    def test_tiles_part_the_world(self) -> None:
+        for z in (0, 1, 2, 5):
+            windows = [window_of(z, x, 0) for x in range(1 << z)]
+            self.assertEqual([windows[0][0], windows[-1][1]], [-HALF, HALF])
+            self.assertTrue(all(one[1] + 1 == other[0] for one, other in zip(windows, windows[1:])))
+            windows = [window_of(z, 0, y) for y in range(1 << z)]
+            self.assertEqual([windows[0][3], windows[-1][2]], [HALF, -HALF])
+            self.assertTrue(all(one[2] - 1 == other[3] for one, other in zip(windows, windows[1:])))
+
+    def test_cells_part_an_interval(self) -> None:
+        chance = random.Random(1)
+        for _ in range(1000):
+            low, parts = chance.randint(-100, 100), chance.randint(1, 20)
+            high = low + chance.randint(-1, 60)
+            numbers = [number for first, last in cuts(low, high, parts) for number in range(first, last + 1)]
+            self.assertEqual(numbers, [*range(low, high + 1)])
+            self.assertEqual(len(cuts(low, high, parts)), min(parts, high - low + 1))
+
+
+class Tiles(Mapped):
+    """Tiles, read by GDAL."""
+
+    @classmethod
+    def setUpClass(cls) -> None:
+        wants("ogrinfo")
+        super().setUpClass()
+        cls.folder = cls.enterClassContext(tempfile.TemporaryDirectory())
+
+    def features(
+        self, z: int, x: int, y: int, query: str = "", server: Server | None = None
+    ) -> list[tuple[str, dict[str, str], list[float]]]:
+        """The features of a tile: the name of the layer, the properties, and the least box in metres."""
+        reply, body = (server or self.server).get(f"/{z}/{x}/{y}.pbf{query}")
+        if reply.status == 204:
+            self.assertEqual(body, b"")
+            return []
+        self.assertEqual((reply.status, reply.headers["Content-Type"]), (200, "application/vnd.mapbox-vector-tile"))
+        file = Path(self.folder, f"{y}.pbf")
+        file.write_bytes(body)
+        options = [word for option in (f"X={x}", f"Y={y}", f"Z={z}", "CLIP=NO") for word in ("-oo", option)]
+        words = ["ogrinfo", "-ro", "-al", *options, f"MVT:{file}"]
+        text = subprocess.run(words, check=True, capture_output=True, text=True, timeout=30).stdout
+        return [(layer, dict(PROPERTY.findall(lines)), box_of(lines)) for layer, lines in FEATURE.findall(text)]
+
+    def some_tiles(self) -> list[tuple[int, int, int]]:
+        """Tiles of each level round the middles of some boxes."""
+        chance = random.Random(2)
+        rows = [[*map(int, line.split(","))] for line in self.table.read_text().splitlines()]
+        found = set()
+        for z in (7, 8, 9, 10, 12, 14, 16, DEEPEST):
+            _, x1, _, y1, _, _ = chance.choice(rows)
+            side = 2 * HALF / 2**z
+            found.add((z, int((x1 + HALF) / side), int((HALF - y1) / side)))
+        return sorted(found)
+
+    def test_a_tile_has_the_boxes_of_its_window(self) -> None:
+        rows = [[*map(int, line.split(","))] for line in self.table.read_text().splitlines()]
+        layers = {0: "towns", 1: "motorways", 2: "main roads", 3: "minor roads", 4: "streets", 5: HOSTILE_LAYER}
+        seen = 0
+        for z, x, y in self.some_tiles():
+            window = window_of(z, x, y)
+            line = "window %d %d %d %d" % window
+            if number_told(self.table, f"count {line}") > 5000:
+                continue
+            features = self.features(z, x, y)
+            self.assertEqual(len(features), number_told(self.table, f"count {line}"), line)
+            ids = [int(properties["id"]) for _, properties, _ in features]
+            self.assertEqual(sorted(ids), ids_told(self.table, f"find {line}"))
+            for id, (layer, _, box) in zip(ids, features):
+                self.assertEqual(layer, layers[rows[id - 1][5]])
+                self.assert_near(box, rows[id - 1][1:5], window)
+            on = [int(properties["id"]) for _, properties, _ in self.features(z, x, y, "?on=3,5")]
+            self.assertEqual(sorted(on), ids_told(self.table, f"find {line} on 3,5"))
+            seen += 1
+        self.assertGreater(seen, 4)
+
+    def assert_near(self, box: list[float], sides: list[int], window: tuple[int, int, int, int]) -> None:
+        """A feature lies where its box does, cut off beside the tile, but for a unit and a half and two centimetres."""
+        unit = (window[1] - window[0] + 1) / 4096
+        for at, (found, side) in enumerate(zip(box, sides)):
+            low, high = (window[0], window[1]) if at < 2 else (window[2], window[3])
+            wanted = min(max(side, low - 64 * unit), high + 64 * unit)
+            self.assertLessEqual(abs(found * 100 - wanted), 1.6 * unit + 2, (box, sides, window))
+
+    def test_a_tile_of_too_many_boxes_has_counts(self) -> None:
+        tiles = [(0, 0, 0), *((6, x, y) for x in (31, 32) for y in (31, 32))]
+        counts = [number_told(self.table, "count window %d %d %d %d" % window_of(*tile)) for tile in tiles]
+        full = [tile for tile, count in zip(tiles, counts) if count > 5000]
+        self.assertGreater(len(full), 1)
+        for z, x, y in full:
+            across, along = (cuts(*interval, 32) for interval in (window_of(z, x, y)[:2], window_of(z, x, y)[2:]))
+            counts = told(self.table, ["count window %d %d %d %d" % cell for cell in cells_of(across, along)])
+            wanted = [count for reply in counts if (count := int(reply[0].split()[2]))]
+            features = self.features(z, x, y)
+            self.assertEqual([int(properties["count"]) for _, properties, _ in features], wanted)
+            self.assertEqual({layer for layer, _, _ in features}, {"density"})
+
+    def test_a_name_and_an_empty_tile(self) -> None:
+        (line,) = (line for line in self.table.read_text().splitlines() if line.startswith("1,"))
+        _, x1, _, y1, _, _ = map(int, line.split(","))
+        side = 2 * HALF / 2**14
+        features = self.features(14, int((x1 + HALF) / side), int((HALF - y1) / side))
+        self.assertIn(HOSTILE_NAME, [properties.get("name") for _, properties, _ in features])
+        self.assertEqual(self.features(9, 0, 0), [])
+
+
+    def test_ids_and_names_of_every_size(self) -> None:
+        names = {-(2**63): "", -1: "\u00e9\U0001f600", 0: "x" * 500, 1: "1", 2**63 - 1: '"'}
+        table, listed = Path(self.folder, "ids.csv"), Path(self.folder, "names.csv")
+        table.write_text("".join(f"{id},0,0,0,0\n" for id in names))
+        with open(listed, "w", encoding="utf-8", newline="") as file:
+            csv.writer(file).writerows(names.items())
+        with Server(table, "--names", str(listed)) as server:
+            for tile in (0, 0, 0), (DEEPEST, 1 << DEEPEST - 1, (1 << DEEPEST - 1) - 1):
+                features = self.features(*tile, server=server)
+                found = {int(properties["id"]): properties["name"] for _, properties, _ in features}
+                self.assertEqual(found, names)
+                self.assertEqual({layer for layer, _, _ in features}, {"layer 0"})
+
+
+def box_of(lines: str) -> list[float]:
+    """The least box round a feature's polygon: x1, x2, y1, y2."""
+    polygon = POLYGON.search(lines)
+    assert polygon is not None, lines
+    xs, ys = zip(*(map(float, corner.split()) for corner in polygon[1].split(",")))
+    return [min(xs), max(xs), min(ys), max(ys)]
+
+
+class Maps(unittest.TestCase):
+    def test_the_same_seed_makes_the_same_map(self) -> None:
+        room = Path(self.enterContext(tempfile.TemporaryDirectory()))
+        for name, seed in ("one", 1), ("again", 1), ("other", 2):
+            make_map(room / name, 2000, seed)
+        for name in ("boxes.csv", "names.csv", "layers.csv"):
+            self.assertEqual((room / "one" / name).read_bytes(), (room / "again" / name).read_bytes())
+        self.assertNotEqual((room / "one/boxes.csv").read_bytes(), (room / "other/boxes.csv").read_bytes())
+        self.assertEqual(number_told(room / "one/boxes.csv", "count all"), 2000)
+
+
+class Cost(unittest.TestCase):
+    def test_a_view_of_a_million_boxes(self) -> None:
+        """Processor time of the server and the program together, by views that are moved a little."""
+        folder = Path(self.enterContext(tempfile.TemporaryDirectory()))
+        make_map(folder, MILLION)
+        with Server(folder / "boxes.csv") as server:
+            _, body = server.get("/about")
+            x1, x2, y1, y2 = json.loads(body)["bounds"]
+            connection = server.connected()
+            self.addCleanup(connection.close)
+            begun = server.seconds()
+            for at in range(VIEWS):
+                connection.request("GET", f"/view?x1={x1 - 1000 * at}&x2={x2 + 999 * at}&y1={y1}&y2={y2}")
+                view = json.loads(connection.getresponse().read())
+                self.assertEqual(view["count"], MILLION)
+                self.assertEqual(len(view["counts"]), len(view["across"]) * len(view["along"]))
+                self.assertGreater(len(view["counts"]), 2000)
+            self.assertLessEqual((server.seconds() - begun) / VIEWS, MOST_SECONDS)
+            cells = cells_of(view["across"], view["along"])
+            counts = told(folder / "boxes.csv", ["count window %d %d %d %d" % cell for cell in cells])
+            self.assertEqual(view["counts"], [int(reply[0].split()[2]) for reply in counts])
+
+
+if __name__ == "__main__":
+    unittest.main()

@@ -1,0 +1,199 @@
+"""What the page shows in a browser is what the program answers to the line that it shows, and it throws nothing."""
+
+import json
+import unittest
+
+from chromium import Chromium
+from tiles_support import BOXES, HOSTILE_LAYER, HOSTILE_NAME, Mapped, ids_told, number_told, told, wants
+
+
+class Page(Mapped):
+    """What the page shows equals what the program answers to the line that the page shows, and it throws nothing."""
+
+    @classmethod
+    def setUpClass(cls) -> None:
+        wants("chromium")
+        super().setUpClass()
+        cls.browser = Chromium(1000, 600)
+        cls.addClassCleanup(cls.browser.close)
+
+    def setUp(self) -> None:
+        self.browser.faults.clear()
+        self.browser.open(self.server.address)
+        self.browser.until("document.getElementById('view-told')?.textContent")
+
+    def tearDown(self) -> None:
+        self.assertEqual(self.browser.faults, [])
+
+    def texts(self, *ids: str) -> list[str]:
+        """What elements show, at one moment."""
+        return self.browser.value(f"{json.dumps(ids)}.map(id => document.getElementById(id).textContent)")
+
+    def text(self, id: str) -> str:
+        return self.texts(id)[0]
+
+    def choose(self, tool: str) -> None:
+        self.browser.value(f"document.querySelector('input[value={tool}]').click()")
+
+    def settled(self, line: str, changed: str) -> None:
+        """Waits until a line of the page isn't what it was, and nothing is asked any more."""
+        self.browser.until(f"document.getElementById('{line}').textContent !== {json.dumps(changed)}")
+
+    def assert_answer(self, begins: str) -> list[str]:
+        """The answer that is shown is the program's; its ids and scores, and that there are some."""
+        line = self.browser.until("document.getElementById('line').value")
+        self.browser.until(f"document.getElementById('told').dataset.line === {json.dumps(line)}")
+        self.assertTrue(line.startswith(begins), line)
+        cells = "[...row.cells].slice(0, 2).map(cell => cell.textContent).join(' ')"
+        rows = self.browser.value(f"[...document.querySelectorAll('#answers tr')].map(row => {cells})")
+        counting = line.replace("find", "count", 1).replace(" first 1000", "")
+        answers, cost, count = told(self.table, [line, f"cost {line}", counting])
+        self.assertEqual(rows, answers[:-1], line)
+        self.assertGreater(len(rows), 0, line)
+        nodes, all_boxes = (reply[-1].split()[2] for reply in (cost, count))
+        self.assertEqual(self.text("told"), f"{len(rows)} of {all_boxes} boxes; the query opens {nodes} nodes")
+        return rows
+
+    def assert_view(self) -> int:
+        """The number of boxes in view that is shown is the program's."""
+        line, text = self.texts("view-line", "view-told")
+        count = number_told(self.table, line)
+        self.assertIn(text, (f"{count} boxes", f"{count} boxes, shown as counts"))
+        return count
+
+    def zoom(self, x: int, y: int, least: int) -> None:
+        """Turns the wheel until boxes show."""
+        for _ in range(least):
+            before = self.text("view-line")
+            self.browser.wheel(x, y, -300)
+            self.settled("view-line", before)
+
+    def test_a_window(self) -> None:
+        self.choose("window")
+        self.browser.drag((200, 150), (420, 360))
+        self.assert_answer("find window ")
+
+    def test_a_circle(self) -> None:
+        self.choose("circle")
+        self.browser.drag((330, 300), (400, 360))
+        self.assert_answer("find circle ")
+
+    def test_a_polygon(self) -> None:
+        self.choose("polygon")
+        for corner in (200, 200), (450, 180), (500, 400):
+            self.browser.click(*corner)
+        self.assert_answer("find polygon 3 ")
+        self.browser.click(250, 450)
+        self.browser.until("document.getElementById('told').dataset.line.startsWith('find polygon 4 ')")
+        self.assert_answer("find polygon 4 ")
+
+    def test_a_polygon_that_is_not_convex(self) -> None:
+        self.choose("polygon")
+        for corner in (200, 200), (450, 200), (300, 250), (300, 500):
+            self.browser.click(*corner)
+        self.browser.until("(document.getElementById('told').dataset.line ?? '').startsWith('find polygon 4 ')")
+        line = self.browser.value("document.getElementById('line').value")
+        self.assertEqual(told(self.table, [line]), [[f"error 1 {self.text('told')}"]])
+
+    def test_layers(self) -> None:
+        before = self.text("view-line")
+        for layer in (0, 4, 5):
+            self.browser.value(f"document.querySelector('#layers input[value=\"{layer}\"]').click()")
+        self.settled("view-line", before)
+        self.browser.until("document.getElementById('view-line').textContent.endsWith(' on 1,2,3')")
+        self.browser.until("document.getElementById('view-told').textContent.split(' ')[0] < 30000")
+        self.assert_view()
+        self.choose("window")
+        self.browser.drag((200, 150), (420, 360))
+        self.assertIn(" on 1,2,3 first 1000", self.browser.until("document.getElementById('line').value"))
+        rows = self.assert_answer("find window ")
+        self.browser.mouse("mouseMoved", 333, 222)
+        self.browser.until("document.getElementById('near-line').textContent.startsWith('find all on 1,2,3 near ')")
+        self.assert_nearest()
+        self.assertTrue(set(rows) < set(told(self.table, ["find all on 1,2,3"])[0]))
+
+    def assert_nearest(self) -> None:
+        """The nearest box that is shown is the program's."""
+        line, text = self.texts("near-line", "near-told")
+        answers, cost = told(self.table, [line, f"cost {line}"])
+        self.assertTrue(text.startswith(answers[0]), text)
+        self.assertTrue(text.endswith(f"; the query opens {cost[0].split()[2]} nodes"), text)
+
+    def test_the_nearest_to_the_pointer_while_it_moves(self) -> None:
+        seen = set()
+        for x, y in (100, 100), (300, 250), (301, 300), (600, 500):
+            before = self.text("near-line")
+            self.browser.mouse("mouseMoved", x, y)
+            self.settled("near-line", before)
+            self.assert_nearest()
+            seen.add(self.text("near-told"))
+        self.assertEqual(len(seen), 4)
+
+    def test_moving_and_zooming_until_boxes_show(self) -> None:
+        self.assertEqual(self.assert_view(), BOXES)
+        self.assertIn("shown as counts", self.text("view-told"))
+        before = self.text("view-line")
+        self.browser.drag((350, 300), (250, 260))
+        self.settled("view-line", before)
+        self.assert_view()
+        self.browser.value("""
+            get("ask", {q: "find all on 0 first 1"}).then(({answers: [{box: [x1, x2, y1, y2]}]}) => {
+              place.x = (x1 + x2) / 2;
+              place.y = (y1 + y2) / 2;
+              return look();
+            })
+        """)
+        for _ in range(30):
+            if "counts" not in self.text("view-told"):
+                break
+            self.zoom(350, 300, 1)
+        self.assertGreater(self.assert_view(), 0)
+        ids = "shown.view.boxes.map(box => box.id)"
+        line, shown = self.browser.value(f"[document.getElementById('view-line').textContent, {ids}]")
+        self.assertEqual([*map(int, shown)], ids_told(self.table, line.replace("count", "find")))
+        self.assert_painted()
+
+    def assert_painted(self) -> None:
+        """Each box in view whose middle is on the canvas has colour there, and the canvas has more colours than one."""
+        painted, colours = self.browser.value("""
+            (() => {
+              const wide = canvas.width, high = canvas.height;
+              const pixels = new Uint32Array(pen.getImageData(0, 0, wide, high).data.buffer);
+              const middle = ({box: [x1, x2, y1, y2]}) => [acrossOf((x1 + x2) / 2), downOf((y1 + y2) / 2)];
+              const seen = shown.view.boxes.map(middle).filter(([x, y]) => x >= 0 && x < wide && y >= 0 && y < high);
+              const colours = seen.map(([x, y]) => pixels[Math.floor(y) * wide + Math.floor(x)]);
+              return [colours.map(colour => colour !== 0), new Set(pixels).size];
+            })()
+        """)
+        self.assertEqual(set(painted), {True})
+        self.assertGreater(colours, 2)
+
+    def typed(self, line: str) -> str:
+        """What the page tells of a line that is typed."""
+        self.browser.value("document.getElementById('line').value = ''; document.getElementById('line').focus()")
+        self.browser.type(line)
+        self.browser.until(f"document.getElementById('told').dataset.line === {json.dumps(line)}")
+        return self.text("told")
+
+    def test_lines_that_are_typed(self) -> None:
+        polygon = "count polygon 3 0 0 9000000 0 0 9000000 on 4"
+        for line in ("count all", "nearest 3 0 0", "cost find all", polygon, "levels"):
+            reply, cost = told(self.table, [line, f"cost {line}"])
+            nodes = f"; the query opens {cost[0].split()[2]} nodes" if cost[0].startswith("ok") else ""
+            self.assertEqual(self.typed(line), f"ok, {reply[-1].split()[2]}{nodes}")
+        for line in ("find window 1 first 1", "<b>x</b>", "find all on 64 first 1", "find circle 0 0 -1 first 1"):
+            self.assertEqual(told(self.table, [line]), [[f"error 1 {self.typed(line)}"]])
+        for line in ("find all", "find all first 1001", "find all first 99999999999999999999", "nearest 1001 0 0"):
+            self.assertIn("at most 1000", self.typed(line))
+
+    def test_what_looks_like_markup_is_text(self) -> None:
+        self.typed(f"find all on 0 first 1 {HOSTILE_NAME}")
+        self.typed("find all on 0 first 1")
+        name = self.browser.value("document.querySelector('#answers tr').cells[2].textContent")
+        layer = self.browser.value("document.querySelector('#layers label:last-child').textContent")
+        self.assertEqual((name, layer), (HOSTILE_NAME, HOSTILE_LAYER))
+        self.assertEqual(self.browser.value("document.querySelectorAll('img, b, script:not([src])').length"), 0)
+
+
+if __name__ == "__main__":
+    unittest.main()

@@ -1,0 +1,170 @@
+"""What isn't asked well is refused; tables of every kind are held as they are; the server ends with the program."""
+
+import json
+import random
+import re
+import signal
+import socket
+import subprocess
+import tempfile
+import time
+import unittest
+from pathlib import Path
+from urllib.parse import quote
+
+from tiles_support import BOXES, LONGEST, Mapped, Server, told
+
+import random_runs
+
+TEXT = "text/plain; charset=utf-8"
+
+
+class Refusals(Mapped):
+    def assert_refused(self, request: bytes, status: int) -> None:
+        reply = self.server.told(request)
+        head, _, body = reply.partition(b"\r\n\r\n")
+        self.assertTrue(head.startswith(b"HTTP/1.1 %d " % status), (request[:80], reply[:200]))
+        for header in (b"Content-Type: text/plain; charset=utf-8", b"X-Content-Type-Options: nosniff"):
+            self.assertIn(header, head)
+        self.assertNotIn(b"<", body)
+
+    def test_requests_that_are_not_answered(self) -> None:
+        host = b"Host: 127.0.0.1:%d\r\n" % self.server.port
+        for method in (b"POST", b"PUT", b"DELETE", b"HEAD", b"OPTIONS", b"TRACE", b"get", b"<b>"):
+            self.assert_refused(method + b" / HTTP/1.1\r\n" + host + b"\r\n", 405)
+        for name in (b"example.org", b"127.0.0.1:1", b"127.0.0.1:%d.example.org" % self.server.port, b"<b>", b""):
+            self.assert_refused(b"GET / HTTP/1.1\r\nHost: " + name + b"\r\n\r\n", 421)
+        self.assert_refused(b"GET / HTTP/1.1\r\n\r\n", 400)
+        self.assert_refused(b"GET / HTTP/1.1\r\n" + host + host + b"\r\n", 400)
+        self.assert_refused(b"GET / HTTP/1.1\r\n" + host + b"Content-Length: 5\r\n\r\nGET /", 400)
+        self.assert_refused(b"GET / HTTP/1.1\r\n" + host + b"Transfer-Encoding: chunked\r\n\r\n0\r\n\r\n", 400)
+        self.assert_refused(b"GET /" + b"x" * 5000 + b" HTTP/1.1\r\n" + host + b"\r\n", 414)
+        self.assert_refused(b"GET /" + b"x" * 70_000 + b" HTTP/1.1\r\n" + host + b"\r\n", 414)
+        self.assert_refused(b"GET / HTTP/1.1\r\n" + host + b"X: y\r\n" * 200 + b"\r\n", 431)
+        self.assert_refused(b"GET http://[/ HTTP/1.1\r\n" + host + b"\r\n", 400)
+        self.assert_refused(b"<script>alert(1)</script> a b\r\n\r\n", 400)
+        self.assert_refused(bytes(range(1, 10)) * 9 + b"\r\n\r\n", 400)
+        self.assertEqual(self.json("/about")["boxes"], BOXES)
+
+    def test_addresses_that_are_none(self) -> None:
+        view = "x1=0&x2=9&y1=0&y2=9"
+        for target in (
+            "/nothing", "/serve.py", "/../serve.py", "/%2e%2e/serve.py", "/page.js/", "/0/0/0", "/00/0/0.pbf",
+            "/-1/0/0.pbf", "/0/1/0.pbf", "/0/0/1.pbf", "/5/32/0.pbf", "/5/0/32.pbf", "/23/0/0.pbf", "/99/0/0.pbf",
+            "/1/1/99999999.pbf", "//127.0.0.1/view", "/1/0/+1.pbf", "/1/0/1.pbf.gz", "/1/0/\u0661.pbf",
+        ):  # fmt: skip
+            reply, _ = self.server.get(quote(target, safe="/%+"))
+            self.assertEqual(reply.status, 404, target)
+        for target in (
+            "/view", "/view?x1=0", f"/view?{view}&x1=0", f"/view?{view}&z=0", f"/view?{view}&on=64",
+            f"/view?{view}&on=", f"/view?{view}&on=1,,2",
+            "/view?x1=9&x2=0&y1=0&y2=9", "/view?x1=0&x2=9999999999&y1=0&y2=9",
+            "/view?x1=0&x2=1e3&y1=0&y2=9", "/view?x1=0&x2=99999999999999999999&y1=0&y2=9", "/ask", "/ask?q=a&q=b",
+            "/ask?q=count+all%0Acount+all", "/ask?" + "&".join(["q="] * 20), "/about?x=1", "/?x=1", "/0/0/0.pbf?on=99",
+            "/0/0/0.pbf?x=1", "http://127.0.0.1/",
+        ):  # fmt: skip
+            reply, body = self.server.get(target)
+            self.assertEqual((reply.status, reply.headers["Content-Type"]), (400, TEXT), (target, body))
+
+    def test_a_page_may_load_nothing_from_elsewhere(self) -> None:
+        for target, kind in (("/", "text/html"), ("/page.js", "text/javascript"), ("/page.css", "text/css")):
+            reply, body = self.server.get(target)
+            self.assertEqual((reply.status, reply.headers["Content-Type"]), (200, f"{kind}; charset=utf-8"))
+            self.assertIn("default-src 'none'; script-src 'self';", reply.headers["Content-Security-Policy"])
+            self.assertNotIn(b"//", re.sub(rb"(?m)(^|\s)// .*$", b"", body))
+            self.assertIsNone(re.search(rb"innerHTML|outerHTML|document\.write|insertAdjacentHTML|eval\(", body))
+
+    def test_many_requests_on_a_connection(self) -> None:
+        connection = self.server.connected()
+        self.addCleanup(connection.close)
+        for number in range(200):
+            connection.request("GET", f"/ask?q=nearest+1+{number}+5")
+            self.assertEqual(len(json.loads(connection.getresponse().read())["answers"]), 1)
+
+    def test_more_connections_than_are_taken(self) -> None:
+        kept = [self.server.connected() for _ in range(64)]
+        for connection in kept:
+            self.addCleanup(connection.close)
+            connection.request("GET", "/about")
+            connection.getresponse().read()
+        with self.assertRaises(OSError):
+            self.server.get("/about")
+        for connection in kept:
+            connection.request("GET", "/about")
+            self.assertEqual(connection.getresponse().status, 200)
+            connection.close()
+
+
+    def test_a_connection_that_is_silent(self) -> None:
+        with Server(self.table, "--idle", "0.3") as server:
+            for sent in (b"", b"GET / HTTP/1.1\r\nHost: "):
+                with socket.create_connection(("127.0.0.1", server.port), LONGEST) as connection:
+                    connection.sendall(sent)
+                    begun = time.monotonic()
+                    self.assertEqual(connection.recv(1), b"")
+                    self.assertLess(time.monotonic() - begun, LONGEST / 2)
+
+    def test_lines_at_random(self) -> None:
+        """Each is answered as the program does, or isn't asked since it may have too many answers."""
+        chance = random.Random(3)
+        asked = refused = 0
+        for _ in range(250):
+            line = random_runs.some_line(chance).decode(errors="ignore")
+            reply, body = self.server.get("/ask?q=" + quote(line))
+            if reply.status != 200:
+                self.assertEqual(reply.status, 414)
+                continue
+            found, wanted = json.loads(body), told(self.table, [line])
+            if found.get("fault", "").startswith(("here ", "a line ")):
+                refused += 1
+                continue
+            rows = [f"{answer['id']} {answer['score']}" for answer in found.get("answers", [])]
+            last = f"ok 1 {found['told']}" if "told" in found else f"error 1 {found['fault']}"
+            self.assertEqual([[*rows, last]], wanted, line)
+            self.assertLessEqual(len(rows), 1000)
+            asked += 1
+        self.assertGreater(min(asked, refused), 20)
+
+
+class Tables(unittest.TestCase):
+    """What is held beside the ids is what the table says, however it says it."""
+
+    def test_ids_and_records_of_every_kind(self) -> None:
+        table = Path(self.enterContext(tempfile.TemporaryDirectory()), "boxes.csv")
+        most, least = 2**63 - 1, -(2**63)
+        boxes = {most: [1, 2, 3, 4, 0], least: [-5, 6, -7, 8, 63], 0: [9, 9, 9, 9, 2], 7: [-2, 0, 0, 0, 0]}
+        records = ["id,a,b,c,d", f'{most},"1",2,+3,004', "", f"{least},-5,6,-7,8,63", "0,9,9,9,9,2", '"7",-2,0,0,0']
+        table.write_bytes(b"\xef\xbb\xbf" + "\r\n".join(records).encode())
+        with Server(table, "--header") as server:
+            _, body = server.get("/ask?q=" + quote("find all first 9"))
+            answers = json.loads(body)["answers"]
+            self.assertEqual([answer["id"] for answer in answers], [str(id) for id in sorted(boxes)])
+            for answer in answers:
+                self.assertEqual([*answer["box"], answer["layer"]], boxes[int(answer["id"])])
+            about = json.loads(server.get("/about")[1])
+            self.assertEqual(about["bounds"], [-5, 9, -7, 9])
+            self.assertEqual([layer["number"] for layer in about["layers"]], [0, 2, 63])
+            self.assertEqual(server.get("/view?x1=2000000000&x2=2000000001&y1=0&y2=0")[1], b'{"count": 0, "boxes": []}')
+
+    def test_a_table_that_the_program_refuses(self) -> None:
+        table = Path(self.enterContext(tempfile.TemporaryDirectory()), "boxes.csv")
+        table.write_text("1,0,1,0,1\n1,0,1,0,1\n")
+        with self.assertRaisesRegex(RuntimeError, "^serve.py: rtfilter: table record 2: repeated id$"):
+            Server(table)
+
+    def test_the_program_ends(self) -> None:
+        table = Path(self.enterContext(tempfile.TemporaryDirectory()), "boxes.csv")
+        table.write_text("1,0,1,0,1\n")
+        with Server(table) as server:
+            kill(server.program())
+            self.assertEqual(server.get("/ask?q=count+all")[0].status, 503)
+            status, errors = server.ended()
+            self.assertEqual((status, errors), (1, "serve.py: the program ended with status -9\n"))
+
+
+def kill(process: int) -> None:
+    subprocess.run(["kill", f"-{int(signal.SIGKILL)}", str(process)], check=True)
+
+
+if __name__ == "__main__":
+    unittest.main()

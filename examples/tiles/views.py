@@ -1,0 +1,121 @@
+"""What is shown of a table: windows of a map, tiles, and the answers to a query line. Each has a bound."""
+
+import math
+import re
+from typing import Any
+
+import mvt
+from mercator import Window as Sides
+from mercator import cells_of, cuts, window_of
+from table import Table
+
+from rtfilter import Boxes, QueryError, Window
+from rtfilter.queries import on_words
+
+MOST_IN_VIEW = 3000  # boxes: where a view has more, it shows counts
+MOST_IN_TILE = 5000
+MOST_ANSWERS = 1000
+MOST_CELLS = 2304  # of a view
+TILE_CELLS = 32  # cells of a tile, on each side
+
+LIMIT = re.compile(r"\+?([0-9]{1,9})")
+WITH_BOXES = ("find", "nearest")
+
+
+class Views:
+    """Views of a table that the program holds, with what is held beside it."""
+
+    def __init__(self, boxes: Boxes, table: Table) -> None:
+        self._boxes = boxes
+        self._table = table
+
+    def about(self) -> dict[str, Any]:
+        """What a page has to know at its start."""
+        layers = [{"number": layer, "name": self._table.layer_name(layer)} for layer in self._table.places.layers()]
+        bounds = self._table.places.bounds()
+        return {"boxes": len(self._boxes), "bounds": bounds, "layers": layers, "answers": MOST_ANSWERS}
+
+    def view(self, window: Sides, on: list[int] | None) -> dict[str, Any]:
+        """The boxes that meet a window, or how many meet each of its cells. `QueryError` where it is no window."""
+        count = self._boxes.count(Window(*window), on=on)
+        if count <= MOST_IN_VIEW:
+            ids = self._boxes.find(Window(*window), on=on).ids
+            return {"count": count, "boxes": [self._shown(id) for id in ids]}
+        columns, rows = grid_of(window)
+        across, along = cuts(*window[:2], columns), cuts(*window[2:], rows)
+        return {"count": count, "across": across, "along": along, "counts": self._counts(cells_of(across, along), on)}
+
+    def _counts(self, cells: list[Sides], on: list[int] | None) -> list[int]:
+        """How many boxes meet each cell. One that lies over a border is counted on both sides of it."""
+        layers = on_words(on)
+        lines = ["count window %d %d %d %d" % cell + layers for cell in cells]
+        return [answers.told for answers in self._boxes.ask(lines)]
+
+    def _shown(self, id: int) -> dict[str, Any]:
+        """A box for a page. Its id is a text: numbers of JavaScript don't hold every id."""
+        places = self._table.places
+        shown = {"id": str(id), "box": places.window(id), "layer": places.layer(id)}
+        return {**shown, "name": self._table.names[id]} if id in self._table.names else shown
+
+    def ask(self, line: str) -> dict[str, Any]:
+        """What the program answers to a line, and how many nodes the query opens. Scores are texts, as ids are."""
+        fault = unbounded(line)
+        if fault:
+            return {"fault": fault}
+        reply, cost = self._boxes.replies([line, f"cost {line}"])
+        if isinstance(reply, QueryError):
+            return {"fault": f"{reply.code} {reply.text}"}
+        if reply is None:
+            return {"fault": "a line that is blank, or a comment, is not answered"}
+        answers = [{"id": str(id), "score": str(score)} for id, score in reply]
+        if line.split()[0] in WITH_BOXES:
+            answers = [{**self._shown(int(answer["id"])), **answer} for answer in answers]
+        nodes = None if cost is None or isinstance(cost, QueryError) else cost.told
+        return {"told": reply.told, "answers": answers, "nodes": nodes}
+
+    def tile(self, z: int, x: int, y: int, on: list[int] | None) -> bytes:
+        """A vector tile: a layer for each layer of boxes that meet it, or one with counts, whose name is `density`."""
+        window = window_of(z, x, y)
+        if self._boxes.count(Window(*window), on=on) > MOST_IN_TILE:
+            return self._density_tile(window, on)
+        layers: dict[int, mvt.Layer] = {}
+        for id in self._boxes.find(Window(*window), on=on).ids:
+            number = self._table.places.layer(id)
+            if number not in layers:
+                layers[number] = mvt.Layer(self._table.layer_name(number), window)
+            layers[number].add(self._table.places.window(id), self._properties(id))
+        return b"".join(layers[number].encoded() for number in sorted(layers))
+
+    def _properties(self, id: int) -> dict[str, mvt.Value]:
+        return {"id": id, "name": self._table.names[id]} if id in self._table.names else {"id": id}
+
+    def _density_tile(self, window: Sides, on: list[int] | None) -> bytes:
+        density = mvt.Layer("density", window)
+        cells = cells_of(cuts(*window[:2], TILE_CELLS), cuts(*window[2:], TILE_CELLS))
+        for cell, count in zip(cells, self._counts(cells, on)):
+            if count:
+                density.add(cell, {"count": count})
+        return density.encoded()
+
+
+def grid_of(window: Sides) -> tuple[int, int]:
+    """How many columns and rows of cells a view has, so that cells are about as wide as high."""
+    x1, x2, y1, y2 = window
+    columns = round(math.sqrt(MOST_CELLS * (x2 - x1 + 1) / (y2 - y1 + 1)))
+    columns = min(max(columns, 1), MOST_CELLS)
+    return columns, MOST_CELLS // columns
+
+
+def unbounded(line: str) -> str | None:
+    """Why a line isn't asked: it may have too many answers. What is faulty otherwise is left to the program."""
+    words = line.split()
+    if words[:1] == ["find"] and not (words[-2:-1] == ["first"] and is_bounded(words[-1])):
+        return f"here a find has to end with first K, where K is at most {MOST_ANSWERS}"
+    if words[:1] == ["nearest"] and not is_bounded("".join(words[1:2])):
+        return f"here nearest K has a K of at most {MOST_ANSWERS}"
+    return None
+
+
+def is_bounded(word: str) -> bool:
+    number = LIMIT.fullmatch(word)
+    return number is not None and int(number[1]) <= MOST_ANSWERS
