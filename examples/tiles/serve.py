@@ -23,7 +23,7 @@ from urllib.parse import parse_qsl, urlsplit
 HERE = Path(__file__).resolve().parent
 sys.path.insert(0, str(HERE.parent.parent / "clients/python"))
 
-from mercator import DEEPEST, Window
+from mercator import DEEPEST
 from table import Places, Table, names_of
 from views import Views
 
@@ -218,7 +218,7 @@ def parameters(query: str, *names: str) -> dict[str, str]:
 
 def about(views: Views, query: str) -> dict[str, Any]:
     parameters(query)
-    return views.about()
+    return views.about
 
 
 def view(views: Views, query: str) -> dict[str, Any]:
@@ -277,6 +277,9 @@ def loaded(args: argparse.Namespace, boxes: Rtfilter) -> Table:
     table = Table(Places(args.table, args.header), names_of(args.names), names_of(args.layers))
     if len(table.places) != len(boxes):
         raise ValueError("the table has changed while it was read")
+    names = [table.layer_name(layer) for layer in table.places.layers()]
+    if len(set(names)) < len(names):
+        raise ValueError("two layers have the same name")
     return table
 
 
@@ -290,7 +293,7 @@ def main() -> int:
                     server.serve_forever()
                 if server.failure is not None:
                     raise server.failure
-    except (Ended, TimedOut, OSError, ValueError) as error:
+    except (Ended, TimedOut, OSError, OverflowError, ValueError) as error:
         print(f"serve.py: {error}", file=sys.stderr)
         return 1
     return 0

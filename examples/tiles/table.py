@@ -69,7 +69,11 @@ def names_of(file_name: str | None) -> dict[int, str]:
     if file_name is None:
         return {}
     with open(file_name, encoding="utf-8", newline="") as file:
-        return {int(number): name for number, name in filter(None, csv.reader(file))}
+        records = csv.reader(file)
+        try:
+            return {int(number): name for number, name in filter(None, records)}
+        except ValueError:
+            raise ValueError(f"{file_name}, line {records.line_num}: a number and a name are wanted") from None
 
 
 class Table(NamedTuple):

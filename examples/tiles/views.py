@@ -28,12 +28,9 @@ class Views:
     def __init__(self, boxes: Boxes, table: Table) -> None:
         self._boxes = boxes
         self._table = table
-
-    def about(self) -> dict[str, Any]:
-        """What a page has to know at its start."""
-        layers = [{"number": layer, "name": self._table.layer_name(layer)} for layer in self._table.places.layers()]
-        bounds = self._table.places.bounds()
-        return {"boxes": len(self._boxes), "bounds": bounds, "layers": layers, "answers": MOST_ANSWERS}
+        layers = [{"number": layer, "name": table.layer_name(layer)} for layer in table.places.layers()]
+        self.about = {"boxes": len(boxes), "bounds": table.places.bounds(), "layers": layers, "answers": MOST_ANSWERS}
+        """What a page has to know at its start. Finding it out looks at all boxes: it is done once."""
 
     def view(self, window: Sides, on: list[int] | None) -> dict[str, Any]:
         """The boxes that meet a window, or how many meet each of its cells. `QueryError` where it is no window."""

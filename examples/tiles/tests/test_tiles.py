@@ -100,6 +100,7 @@ class Tiles(Mapped):
 
     def assert_near(self, box: list[float], sides: list[int], window: tuple[int, int, int, int]) -> None:
         """A feature lies where its box does, cut off beside the tile, but for a unit and a half and two centimetres."""
+        self.assertTrue(box[0] < box[1] and box[2] < box[3], box)
         unit = (window[1] - window[0] + 1) / 4096
         for at, (found, side) in enumerate(zip(box, sides)):
             low, high = (window[0], window[1]) if at < 2 else (window[2], window[3])
@@ -127,7 +128,6 @@ class Tiles(Mapped):
         self.assertIn(HOSTILE_NAME, [properties.get("name") for _, properties, _ in features])
         self.assertEqual(self.features(9, 0, 0), [])
 
-
     def test_ids_and_names_of_every_size(self) -> None:
         names = {-(2**63): "", -1: "\u00e9\U0001f600", 0: "x" * 500, 1: "1", 2**63 - 1: '"'}
         table, listed = Path(self.folder, "ids.csv"), Path(self.folder, "names.csv")
@@ -148,6 +148,34 @@ def box_of(lines: str) -> list[float]:
     assert polygon is not None, lines
     xs, ys = zip(*(map(float, corner.split()) for corner in polygon[1].split(",")))
     return [min(xs), max(xs), min(ys), max(ys)]
+
+
+class SomeViews(Mapped):
+    def test_views_at_random(self) -> None:
+        """Windows with few boxes and with many, on all layers and on some."""
+        chance = random.Random(4)
+        rows = [[*map(int, line.split(","))] for line in self.table.read_text().splitlines()]
+        with_boxes = with_counts = 0
+        for _ in range(60):
+            _, x, _, y, _, _ = chance.choice(rows)
+            reach = int(2 ** chance.uniform(10, 26))
+            window = (x - reach, x + reach, y - reach, y + reach)
+            on = chance.choice(["", "1,2,3", "4", "0,5", "9"])
+            view = self.json("/view?x1=%d&x2=%d&y1=%d&y2=%d" % window + (f"&on={on}" if on else ""))
+            words = f" on {on}" if on else ""
+            line = "window %d %d %d %d" % window + words
+            self.assertEqual(view["count"], number_told(self.table, f"count {line}"))
+            if "boxes" in view:
+                with_boxes += 1
+                shown = [[int(box["id"]), *box["box"], box["layer"]] for box in view["boxes"]]
+                self.assertEqual(shown, [rows[id - 1] for id in ids_told(self.table, f"find {line}")])
+            else:
+                with_counts += 1
+                cells = cells_of(view["across"], view["along"])
+                counts = told(self.table, ["count window %d %d %d %d" % cell + words for cell in cells])
+                self.assertEqual(view["counts"], [int(reply[0].split()[2]) for reply in counts])
+                self.assertEqual((cells[0][0], cells[-1][1], cells[0][2], cells[-1][3]), window)
+        self.assertGreater(min(with_boxes, with_counts), 5)
 
 
 class Maps(unittest.TestCase):

@@ -1,15 +1,15 @@
 """What the page shows in a browser is what the program answers to the line that it shows, and it throws nothing."""
 
 import json
+import math
 import unittest
+from collections.abc import Sequence
 
 from chromium import Chromium
 from tiles_support import BOXES, HOSTILE_LAYER, HOSTILE_NAME, Mapped, ids_told, number_told, told, wants
 
 
 class Page(Mapped):
-    """What the page shows equals what the program answers to the line that the page shows, and it throws nothing."""
-
     @classmethod
     def setUpClass(cls) -> None:
         wants("chromium")
@@ -35,12 +35,34 @@ class Page(Mapped):
     def choose(self, tool: str) -> None:
         self.browser.value(f"document.querySelector('input[value={tool}]').click()")
 
-    def settled(self, line: str, changed: str) -> None:
-        """Waits until a line of the page isn't what it was, and nothing is asked any more."""
-        self.browser.until(f"document.getElementById('{line}').textContent !== {json.dumps(changed)}")
+    def await_change(self, id: str, before: str) -> None:
+        self.browser.until(f"document.getElementById('{id}').textContent !== {json.dumps(before)}")
+
+    def window_seen(self) -> list[int]:
+        """The sides of the view, by its line."""
+        return [*map(int, self.text("view-line").split()[2:6])]
+
+    def place_of(self, across: int, down: int) -> tuple[float, float]:
+        """The place on the map of a pixel, by the line of the view."""
+        x1, x2, y1, y2 = self.window_seen()
+        wide, high = self.browser.value("[canvas.clientWidth, canvas.clientHeight]")
+        return x1 + (x2 - x1) * across / wide, y2 - (y2 - y1) * down / high
+
+    def pixel_of(self, x: float, y: float) -> tuple[int, int]:
+        """The pixel of a place on the map."""
+        x1, x2, y1, y2 = self.window_seen()
+        wide, high = self.browser.value("[canvas.clientWidth, canvas.clientHeight]")
+        return round((x - x1) / (x2 - x1) * wide), round((y2 - y) / (y2 - y1) * high)
+
+    def assert_places(self, numbers: Sequence[str | float], *pixels: tuple[int, int]) -> None:
+        """Coordinates are the places of these pixels, but for rounding."""
+        wanted = [number for pixel in pixels for number in self.place_of(*pixel)]
+        self.assertEqual(len(numbers), len(wanted))
+        for number, place in zip(numbers, wanted):
+            self.assertAlmostEqual(float(number), place, delta=3)
 
     def assert_answer(self, begins: str) -> list[str]:
-        """The answer that is shown is the program's; its ids and scores, and that there are some."""
+        """The answer that is shown is the program's, and isn't empty. Gives the words of its line."""
         line = self.browser.until("document.getElementById('line').value")
         self.browser.until(f"document.getElementById('told').dataset.line === {json.dumps(line)}")
         self.assertTrue(line.startswith(begins), line)
@@ -52,7 +74,7 @@ class Page(Mapped):
         self.assertGreater(len(rows), 0, line)
         nodes, all_boxes = (reply[-1].split()[2] for reply in (cost, count))
         self.assertEqual(self.text("told"), f"{len(rows)} of {all_boxes} boxes; the query opens {nodes} nodes")
-        return rows
+        return line.split()
 
     def assert_view(self) -> int:
         """The number of boxes in view that is shown is the program's."""
@@ -61,31 +83,29 @@ class Page(Mapped):
         self.assertIn(text, (f"{count} boxes", f"{count} boxes, shown as counts"))
         return count
 
-    def zoom(self, x: int, y: int, least: int) -> None:
-        """Turns the wheel until boxes show."""
-        for _ in range(least):
-            before = self.text("view-line")
-            self.browser.wheel(x, y, -300)
-            self.settled("view-line", before)
-
     def test_a_window(self) -> None:
         self.choose("window")
-        self.browser.drag((200, 150), (420, 360))
-        self.assert_answer("find window ")
+        self.browser.drag((420, 150), (200, 360))
+        _, _, x1, x2, y1, y2, *_ = self.assert_answer("find window ")
+        self.assert_places([x1, y1, x2, y2], (200, 360), (420, 150))
 
     def test_a_circle(self) -> None:
         self.choose("circle")
         self.browser.drag((330, 300), (400, 360))
-        self.assert_answer("find circle ")
+        _, _, x, y, radius, *_ = self.assert_answer("find circle ")
+        self.assert_places([x, y], (330, 300))
+        end = self.place_of(400, 360)
+        self.assertAlmostEqual(int(radius), math.dist((int(x), int(y)), end), delta=3)
 
     def test_a_polygon(self) -> None:
         self.choose("polygon")
-        for corner in (200, 200), (450, 180), (500, 400):
+        corners = [(200, 200), (450, 180), (500, 400), (250, 450)]
+        for corner in corners[:3]:
             self.browser.click(*corner)
-        self.assert_answer("find polygon 3 ")
-        self.browser.click(250, 450)
+        self.assert_places(self.assert_answer("find polygon 3 ")[3:-2], *corners[:3])
+        self.browser.click(*corners[3])
         self.browser.until("document.getElementById('told').dataset.line.startsWith('find polygon 4 ')")
-        self.assert_answer("find polygon 4 ")
+        self.assert_places(self.assert_answer("find polygon 4 ")[3:-2], *corners)
 
     def test_a_polygon_that_is_not_convex(self) -> None:
         self.choose("polygon")
@@ -96,25 +116,26 @@ class Page(Mapped):
         self.assertEqual(told(self.table, [line]), [[f"error 1 {self.text('told')}"]])
 
     def test_layers(self) -> None:
-        before = self.text("view-line")
         for layer in (0, 4, 5):
             self.browser.value(f"document.querySelector('#layers input[value=\"{layer}\"]').click()")
-        self.settled("view-line", before)
         self.browser.until("document.getElementById('view-line').textContent.endsWith(' on 1,2,3')")
-        self.browser.until("document.getElementById('view-told').textContent.split(' ')[0] < 30000")
-        self.assert_view()
+        self.assertLess(self.assert_view(), BOXES)
         self.choose("window")
         self.browser.drag((200, 150), (420, 360))
         self.assertIn(" on 1,2,3 first 1000", self.browser.until("document.getElementById('line').value"))
-        rows = self.assert_answer("find window ")
+        self.assert_answer("find window ")
         self.browser.mouse("mouseMoved", 333, 222)
         self.browser.until("document.getElementById('near-line').textContent.startsWith('find all on 1,2,3 near ')")
-        self.assert_nearest()
-        self.assertTrue(set(rows) < set(told(self.table, ["find all on 1,2,3"])[0]))
+        self.assert_nearest(333, 222)
+        for layer in (1, 2, 3):
+            self.browser.value(f"document.querySelector('#layers input[value=\"{layer}\"]').click()")
+        self.browser.until("document.getElementById('view-told').textContent === 'no layer is chosen'")
 
-    def assert_nearest(self) -> None:
-        """The nearest box that is shown is the program's."""
+    def assert_nearest(self, across: int, down: int) -> None:
+        """The nearest box to a pixel that is shown is the program's."""
         line, text = self.texts("near-line", "near-told")
+        words = line.removesuffix(" first 1").split()
+        self.assert_places(words[-2:], (across, down))
         answers, cost = told(self.table, [line, f"cost {line}"])
         self.assertTrue(text.startswith(answers[0]), text)
         self.assertTrue(text.endswith(f"; the query opens {cost[0].split()[2]} nodes"), text)
@@ -124,29 +145,28 @@ class Page(Mapped):
         for x, y in (100, 100), (300, 250), (301, 300), (600, 500):
             before = self.text("near-line")
             self.browser.mouse("mouseMoved", x, y)
-            self.settled("near-line", before)
-            self.assert_nearest()
+            self.await_change("near-line", before)
+            self.assert_nearest(x, y)
             seen.add(self.text("near-told"))
         self.assertEqual(len(seen), 4)
 
     def test_moving_and_zooming_until_boxes_show(self) -> None:
         self.assertEqual(self.assert_view(), BOXES)
         self.assertIn("shown as counts", self.text("view-told"))
-        before = self.text("view-line")
+        before, middle = self.text("view-line"), self.place_of(350, 300)
         self.browser.drag((350, 300), (250, 260))
-        self.settled("view-line", before)
+        self.await_change("view-line", before)
         self.assert_view()
-        self.browser.value("""
-            get("ask", {q: "find all on 0 first 1"}).then(({answers: [{box: [x1, x2, y1, y2]}]}) => {
-              place.x = (x1 + x2) / 2;
-              place.y = (y1 + y2) / 2;
-              return look();
-            })
-        """)
+        self.assert_places(middle, (250, 260))
+        town = self.json("/ask?q=find+all+on+0+first+1")["answers"][0]["box"]
+        across, down = self.pixel_of((town[0] + town[1]) / 2, (town[2] + town[3]) / 2)
         for _ in range(30):
             if "counts" not in self.text("view-told"):
                 break
-            self.zoom(350, 300, 1)
+            before, under = self.text("view-line"), self.place_of(across, down)
+            self.browser.wheel(across, down, -300)
+            self.await_change("view-line", before)
+            self.assert_places(under, (across, down))
         self.assertGreater(self.assert_view(), 0)
         ids = "shown.view.boxes.map(box => box.id)"
         line, shown = self.browser.value(f"[document.getElementById('view-line').textContent, {ids}]")

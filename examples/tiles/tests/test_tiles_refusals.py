@@ -140,6 +140,7 @@ class Tables(unittest.TestCase):
             answers = json.loads(body)["answers"]
             self.assertEqual([answer["id"] for answer in answers], [str(id) for id in sorted(boxes)])
             for answer in answers:
+                self.assertEqual(answer["score"], "0")
                 self.assertEqual([*answer["box"], answer["layer"]], boxes[int(answer["id"])])
             about = json.loads(server.get("/about")[1])
             self.assertEqual(about["bounds"], [-5, 9, -7, 9])
@@ -151,6 +152,20 @@ class Tables(unittest.TestCase):
         table.write_text("1,0,1,0,1\n1,0,1,0,1\n")
         with self.assertRaisesRegex(RuntimeError, "^serve.py: rtfilter: table record 2: repeated id$"):
             Server(table)
+
+    def test_names_that_are_none(self) -> None:
+        room = Path(self.enterContext(tempfile.TemporaryDirectory()))
+        (room / "boxes.csv").write_text("1,0,1,0,1,3\n2,0,1,0,1,4\n")
+        for text, told in (
+            ("3,x\nid,name\n", "names.csv, line 2: a number and a name are wanted\n"),
+            ("3,x\n4\n", "names.csv, line 2: a number and a name are wanted\n"),
+            ("3,x\n4,x\n", "serve.py: two layers have the same name\n"),
+            ("4,layer 3\n", "serve.py: two layers have the same name\n"),
+        ):
+            (room / "names.csv").write_text(text)
+            with self.assertRaises(RuntimeError) as raised:
+                Server(room / "boxes.csv", "--layers", str(room / "names.csv"))
+            self.assertTrue(str(raised.exception).endswith(told), raised.exception)
 
     def test_the_program_ends(self) -> None:
         table = Path(self.enterContext(tempfile.TemporaryDirectory()), "boxes.csv")
