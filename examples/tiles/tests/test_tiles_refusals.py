@@ -82,18 +82,17 @@ class Refusals(Mapped):
             self.assertEqual(len(json.loads(connection.getresponse().read())["answers"]), 1)
 
     def test_more_connections_than_are_taken(self) -> None:
-        kept = [self.server.connected() for _ in range(64)]
-        for connection in kept:
-            self.addCleanup(connection.close)
-            connection.request("GET", "/about")
-            connection.getresponse().read()
-        with self.assertRaises(OSError):
-            self.server.get("/about")
-        for connection in kept:
-            connection.request("GET", "/about")
-            self.assertEqual(connection.getresponse().status, 200)
-            connection.close()
-
+        with Server(self.table) as server:
+            kept = [server.connected() for _ in range(64)]
+            for connection in kept:
+                self.addCleanup(connection.close)
+                connection.request("GET", "/about")
+                connection.getresponse().read()
+            with self.assertRaises(OSError):
+                server.get("/about")
+            for connection in kept:
+                connection.request("GET", "/about")
+                self.assertEqual(connection.getresponse().status, 200)
 
     def test_a_connection_that_is_silent(self) -> None:
         with Server(self.table, "--idle", "0.3") as server:
