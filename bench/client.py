@@ -75,7 +75,7 @@ def in_rtree(rows):
 def of_bytes(client, lines):
     """Asks in batches, and leaves the replies in one piece."""
     for batch in batches(lines):
-        client._program.replies_to("\n".join([*batch, ""]).encode(), len(batch))
+        client._transport.replies_to("\n".join([*batch, ""]).encode(), len(batch))
 
 
 def of_answers(client, lines):

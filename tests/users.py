@@ -1,5 +1,5 @@
 #!/usr/bin/env python3
-"""Tries what stands in clients/ and packaging/, the recipes of docs/ and examples/tiles, with the built program.
+"""Tries what stands in clients/, packaging/ and examples/, and the recipes of docs/, with the built program.
 
 usage: tests/users.py PROGRAM [--need-all]
 
@@ -21,6 +21,7 @@ TESTS = [
     ROOT / "clients/python/tests",
     ROOT / "tests/recipes",
     ROOT / "packaging/tests",
+    ROOT / "examples/service/tests",
     ROOT / "examples/tiles/tests",
 ]
 TOO_LONG = 300  # seconds: something waits for ever

@@ -6,15 +6,17 @@
         for id, score in boxes.find(Window(0, 10, 0, 10)):
             print(id)
 
-A table is held by the program, which runs beside this process (`Rtfilter`). Regions and orders are small values
-(`Window`, `Near` and the like), answers are made into numbers where they are looked at (`Answers`), and errors tell what
-the program told (`QueryError`, `Ended`, `TimedOut`).
+A table is held by the program, which runs beside this process, or behind the address of a service (`Rtfilter`). Regions
+and orders are small values (`Window`, `Near` and the like), answers are made into numbers where they are looked at
+(`Answers`), and errors tell what the program told (`QueryError`, `Ended`) or that no reply comes (`TimedOut`,
+`Disconnected`).
 """
 
 from .answers import Answers
 from .boxes import Boxes
 from .client import Command, Rtfilter
-from .errors import Ended, FeatureError, QueryError, RtfilterError, TimedOut
+from .connection import Address
+from .errors import Disconnected, Ended, FeatureError, QueryError, RtfilterError, TimedOut
 from .joining import join
 from .pool import Pool
 from .queries import All, ById, Circle, Covers, Inside, Layers, Near, Order, Polygon, Region, Smallest, Window
@@ -22,6 +24,7 @@ from .replies import Reply
 from .tables import Row, Table
 
 __all__ = [
+    "Address",
     "All",
     "Answers",
     "Boxes",
@@ -29,6 +32,7 @@ __all__ = [
     "Circle",
     "Command",
     "Covers",
+    "Disconnected",
     "Ended",
     "FeatureError",
     "Inside",

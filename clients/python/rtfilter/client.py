@@ -1,4 +1,4 @@
-"""A table that one program holds."""
+"""A table that one program holds, beside this process or behind a service."""
 
 import os
 import threading
@@ -7,45 +7,63 @@ from operator import index
 from typing import Union
 
 from .boxes import Boxes
-from .program import CLOSED, Program
+from .connection import Address, Connection
+from .program import Program
+from .queries import All
 from .replies import Reply, cut, may_be_skipped
 from .tables import File, Table, again, file_of, named
+from .transport import CLOSED, Transport
 
 Command = Union[File, Sequence[str]]
 """The program: its name or path, or the words of a command, which options and the table's name are to follow."""
+
+PROGRAM = "rtfilter"
 
 ANSWERED = "find all first 0"
 """A line that is always answered, for a text whose last line may have no reply."""
 
 
 class Rtfilter(Boxes):
-    """A table of boxes that the program `rtfilter` holds, as a process beside this one.
+    """A table of boxes that the program `rtfilter` holds, as a process beside this one or behind a service.
 
     `table` is the name of a CSV file, or rows, whose numbers are id, min_x, max_x, min_y, max_y and, for a box that isn't of
     layer 0, its layer, 0 to 63. With `header`, the first record of a file is one. `fanout` (2 to 64) and `max_entries`
     (1 to 16777216) are the program's options. `timeout` is how many seconds each call may wait for the program, the load
     here too; None sets no limit.
 
+    In place of these, `address` is where a service listens that holds a table: the path of a Unix socket, or a host and
+    a port. The service exchanges its table, and `reload` raises `ValueError`.
+
     The table is loaded when this returns. Raises `Ended` where the program refuses the table or an option, with its status
-    and its line, `FileNotFoundError` where there is no such program, and what making the rows raises.
+    and its line, `FileNotFoundError` where there is no such program, what making the rows raises, `OSError` where no
+    service can be reached, `Disconnected` where it takes no more connections, and `ValueError` for a table beside an
+    address.
     """
 
     def __init__(
         self,
-        table: Table,
+        table: Table | None = None,
         *,
+        address: Address | None = None,
         header: bool = False,
         fanout: int | None = None,
         max_entries: int | None = None,
-        program: Command = "rtfilter",
+        program: Command = PROGRAM,
         timeout: float | None = None,
     ) -> None:
+        has_options = (header, fanout, max_entries, program) != (False, None, None, PROGRAM)
+        if (table is None) == (address is None) or (address is not None and has_options):
+            raise ValueError("either a table, with the options of a program, or an address")
         self._file = file_of(table)
         self._header = header
         self._words = command(program, header, fanout, max_entries)
         self._timeout = timeout
         self._lock = threading.Lock()
-        self._program = self._loaded(table)
+        self._transport: Transport
+        if table is not None:
+            self._transport = self._loaded(table)
+        elif address is not None:
+            self._transport = Connection(address, timeout)
 
     def _loaded(self, table: Table) -> Program:
         with named(table, self._header) as name:
@@ -58,28 +76,31 @@ class Rtfilter(Boxes):
         sent = [*asked, ANSWERED] if may_be_skipped(asked[-1]) else asked
         text = "\n".join([*sent, ""]).encode("utf-8", "surrogateescape")
         with self._lock:
-            first = self._program.lines + 1
-            replies = self._program.replies_to(text, len(sent))
+            first = self._transport.lines + 1
+            replies = self._transport.replies_to(text, len(sent))
         return cut(replies, sent, first)[:len(asked)]
 
     def reload(self, table: Table | None = None) -> None:
+        if isinstance(self._transport, Connection):
+            raise ValueError("the service exchanges its table")
         table = again(table, self._file)
-        fresh = self._loaded(table)
+        fresh: Transport = self._loaded(table)
         with self._lock:
-            was_closed = self._program.is_closed
+            was_closed = self._transport.is_closed
             if not was_closed:
-                self._program, fresh = fresh, self._program
+                self._transport, fresh = fresh, self._transport
                 self._file = file_of(table)
         fresh.close()
         if was_closed:
             raise ValueError(CLOSED)
 
     def __len__(self) -> int:
-        return self._program.size
+        # A service may have exchanged its table since.
+        return self.count(All()) if isinstance(self._transport, Connection) else self._transport.size
 
     def close(self) -> None:
         with self._lock:
-            self._program.close()
+            self._transport.close()
 
 
 def command(program: Command, header: bool, fanout: int | None, max_entries: int | None) -> list[str]:

@@ -38,15 +38,24 @@ class Ended(RtfilterError):
         return self.text or f"the program ended with status {self.status}"
 
 
+class Disconnected(RtfilterError, ConnectionError):
+    """The service has closed the connection: it ended, say, or had as many connections as it takes."""
+
+    def __init__(self, text: str) -> None:
+        super().__init__(text)
+        self.text = text
+
+
 class TimedOut(RtfilterError, TimeoutError):
-    """The program had no answer in `seconds`, and was killed: what it would still have told belongs to no query."""
+    """There was no answer in `seconds`, and the program was killed, or the connection to a service was ended: what
+    would still have been told belongs to no query."""
 
     def __init__(self, seconds: float) -> None:
         super().__init__(seconds)
         self.seconds = seconds
 
     def __str__(self) -> str:
-        return f"no answer in {self.seconds} s; the program was killed"
+        return f"no answer in {self.seconds} s"
 
 
 class FeatureError(RtfilterError, ValueError):

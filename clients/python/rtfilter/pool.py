@@ -10,9 +10,9 @@ from itertools import chain
 
 from .boxes import Boxes
 from .client import Command, Rtfilter, query_lines
-from .program import CLOSED
 from .replies import Reply
 from .tables import Table, again, file_of, named
+from .transport import CLOSED
 
 LEAST_PART = 100  # lines: fewer aren't worth a thread
 

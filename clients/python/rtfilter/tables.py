@@ -47,7 +47,7 @@ def record(row: Row) -> str:
     return (RECORD if len(numbers) == 5 else LAYERED_RECORD) % numbers
 
 
-def file_of(table: Table) -> File | None:
+def file_of(table: Table | None) -> File | None:
     """The file that a table is: it can be read again, as rows can't."""
     return table if isinstance(table, (str, os.PathLike)) else None
 
