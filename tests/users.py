@@ -23,6 +23,7 @@ TESTS = [
     ROOT / "packaging/tests",
     ROOT / "examples/service/tests",
     ROOT / "examples/tiles/tests",
+    ROOT / "examples/cluster/tests",
 ]
 TOO_LONG = 300  # seconds: something waits for ever
 
