@@ -18,7 +18,7 @@ use Rattle.rt_tree.specs.Entries.{IsTable}
 use Rattle.rt_tree.specs.Leaves.{without_layer}
 use Rattle.rt_tree.specs.Packed.{Packed, IsInnerNode, IsLeafNode, IsSound, IsSubtree, child_entries, child_nodes}
 use Rattle.rt_tree.specs.Packed.{extent_of_node, no_node, node_at}
-use Rattle.rt_tree.specs.declared.leaves.LeafEntry.{LeafEntry}
+use Rattle.rt_tree.specs.declared.entries.LeafEntry.{LeafEntry}
 use Rattle.rt_tree.specs.declared.tree.Node.{Node}
 use Rattle.rt_search.specs.Joining.{info_of_child, no_entry}
 use Rattle.rt_search.specs.Remaining.{IsBelow, height_at}

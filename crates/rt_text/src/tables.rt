@@ -24,7 +24,7 @@ ghost use Rattle.rt_text.specs.Tables.{field_fault, field_text, fields_without_l
 use crate::numbers::{self, NumberFault};
 use csv::{ByteRecord, Reader, ReaderBuilder};
 use rt_geo::{Bounds, Entry, Layers};
-use rt_tree::{EntriesFault, Table};
+use rt_tree::{Entries, EntriesFault, Table};
 use std::alloc::Global;
 use std::io::Read;
 
@@ -77,7 +77,7 @@ pub fn read_table<R: Read + Drop>(
     ensures fault { IfErr result (λ cause. (bytes : List ℕ)
         → R.remaining reader ≡ Some bytes → MayRefuse cause (table_of bytes header max)) }
 {
-    let mut entries = Vec::new(alloc);
+    let mut entries = Entries::empty(alloc);
     let end = read_entries(alloc, reader, header, max, &mut entries);
     // (an id that comes again is told first: what ended the load stands after it)
     let table = table_of_entries(alloc, header, entries)?;
@@ -93,14 +93,14 @@ fn read_entries<R: Read + Drop>(
     reader: R,
     header: bool,
     max: u32,
-    entries: &mut Vec<Entry>,
+    entries: &mut Entries,
 ) -> Result<(), TableFault>
-    requires none { entries.old.items ≡ [] }
+    requires none { entries.old ≡ [] }
     requires most { max ≤ most_entries }
-    ensures few { length entries.new.items ≤ max }
-    ensures layers { All HasLayer entries.new.items }
+    ensures few { length entries.new ≤ max }
+    ensures layers { All HasLayer entries.new }
     ensures end { (bytes : List ℕ)
-        → R.remaining reader ≡ Some bytes → EndsAt result header entries.new.items (table_of bytes header max) }
+        → R.remaining reader ≡ Some bytes → EndsAt result header entries.new (table_of bytes header max) }
 {
     let mut records = ReaderBuilder::new()
         .flexible(true)
@@ -121,13 +121,13 @@ fn read_entries<R: Read + Drop>(
 }
 
 // The table of the entries that were read, if no id comes again.
-fn table_of_entries(alloc: Global, header: bool, entries: Vec<Entry>) -> Result<Table, TableFault>
-    requires most { length entries.items ≤ most_entries }
-    requires layers { All HasLayer entries.items }
-    ensures table { IfOk result (λ table. table ≡ entries.items) }
-    ensures once { IfOk result (λ _. first_repeat entries.items ≡ None) }
+fn table_of_entries(alloc: Global, header: bool, entries: Entries) -> Result<Table, TableFault>
+    requires most { length entries ≤ most_entries }
+    requires layers { All HasLayer entries }
+    ensures table { IfOk result (λ table. table ≡ entries) }
+    ensures once { IfOk result (λ _. first_repeat entries ≡ None) }
     ensures fault { IfErr result (λ cause. (rest : Result (List Entry) TableFault)
-        → IsRefusal cause (after_ids header entries.items rest)) }
+        → IsRefusal cause (after_ids header entries rest)) }
 {
     match Table::of_entries(alloc, entries) {
         Ok(table) => Ok(table),
@@ -174,16 +174,16 @@ fn add_entry(
     max: u32,
     number: u32,
     fields: &ByteRecord,
-    entries: &mut Vec<Entry>,
+    entries: &mut Entries,
 ) -> Result<(), TableFault>
-    requires { All HasLayer entries.old.items }
-    ensures added { OnOk result (IsOkAnd (entry_after max number entries.old.items (fields_of fields.now))
-        (λ entry. entries.new.items ≡ entries.old.items ++ entry ∷ [])) }
-    ensures few { OnOk result (length entries.new.items ≤ max) }
-    ensures layers { All HasLayer entries.new.items }
+    requires { All HasLayer entries.old }
+    ensures added { OnOk result (IsOkAnd (entry_after max number entries.old (fields_of fields.now))
+        (λ entry. entries.new ≡ entries.old ++ entry ∷ [])) }
+    ensures few { OnOk result (length entries.new ≤ max) }
+    ensures layers { All HasLayer entries.new }
     ensures fault { IfErr result (λ cause.
-        IsRefusal cause (entry_after max number entries.old.items (fields_of fields.now))) }
-    ensures err { OnErr result (entries.new.items ≡ entries.old.items) }
+        IsRefusal cause (entry_after max number entries.old (fields_of fields.now))) }
+    ensures err { OnErr result (entries.new ≡ entries.old) }
 {
     if entries.len() >= max as usize {
         return Err(TableFault::TooMany { number });

@@ -27,7 +27,8 @@ fn gave(loaded: &Result<Table, TableFault>, boxes: &[(i64, [i32; 4])]) -> bool {
     match loaded {
         Ok(table) => {
             table.entries().len() == boxes.len()
-                && table.entries().iter().zip(boxes).all(|(entry, (id, wanted))| entry.id == *id
+                && table.entries().leaves().iter().zip(boxes).all(|(entry, (id, wanted))| entry.id
+                    == *id
                     && sides(&entry.bounds) == *wanted)
         }
         Err(_) => false,
@@ -276,14 +277,7 @@ fn faults_of_layers(rt: HostRuntime) {
 // Whether a load gave entries of just these layers, in this order.
 fn gave_layers(loaded: &Result<Table, TableFault>, layers: &[u8]) -> bool {
     match loaded {
-        Ok(table) => {
-            table.entries().len() == layers.len()
-                && table
-                    .entries()
-                    .iter()
-                    .zip(layers)
-                    .all(|(entry, layer)| entry.layer == *layer)
-        }
+        Ok(table) => { table.entries().layers() == layers }
         Err(_) => false,
     }
 }

@@ -1,10 +1,11 @@
 -- A table with one more entry.
-use Rattle.std.proofs.Common.{◌≡◌, ◌∙◌, ◌<◌, ◌+◌, ℕ, ℤ, get_or, take, Bool, true, false, ◌||◌, cond, List, [], ◌∷◌, ◌++◌, length, refl, sym}
+use Rattle.std.proofs.Common.{◌≡◌, ◌∙◌, ◌<◌, ◌+◌, ◌-◌, ℕ, ℤ, get_or, take, Bool, true, false, ◌||◌, cond, List, [], ◌∷◌, ◌++◌, length, refl, sym}
 use Rattle.std.proofs.Common.{ap, subst, arith, length-append}
 use Rattle.std.specs.BTreeSet.{BTreeSet}
 use Rattle.std.specs.List.{IsDistinct, list_any}
 use Rattle.std.specs.Ordering.{int_cmp, int_eq, is_eq}
 use Rattle.std.proofs.Math.Bool.{or-false}
+use Rattle.std.proofs.Math.Seq.{take-append_seam}
 use Rattle.std.proofs.lemmas.Cmp.{int_eq_equiv}
 use Rattle.std.proofs.lemmas.Int.{ints}
 use Rattle.std.proofs.lemmas.List.{map-append, take_more}
@@ -50,6 +51,13 @@ pushed loaded new_loaded later new_later entries entry kept box few absent added
   table = IsTable-push entries entry kept.table (sym (kept.ids_are entry.id) ∙ absent) box few room;
   ids_are = λ id. added id ∙ ap (λ b. b || int_eq id entry.id) (kept.ids_are id) ∙ sym (has_id-push entries entry id);
 }
+
+-- an entry that was pushed and then taken away again leaves what was there
+pub pushed-popped : (entries : List Entry) (entry : Entry)
+    → take (length (entries ++ entry ∷ []) - 1) (entries ++ entry ∷ []) ≡ entries
+pushed-popped entries entry =
+    ap (λ n. take n (entries ++ entry ∷ [])) (omega (arith, length-append entries (entry ∷ [])))
+    ∙ take-append_seam entries (entry ∷ [])
 
 pub int_eq-sym : (a b : ℤ) → int_eq a b ≡ int_eq b a
 int_eq-sym a b = grind (arith, ints)

@@ -1,5 +1,5 @@
 -- Entries whose layers stand in a list of their own.
-use Rattle.std.proofs.Common.{◌≡◌, ◌<◌, ℕ, zero, suc, List, [], ◌∷◌, length, map, take, drop, get_or, slice_get, Some, IfSome}
+use Rattle.std.proofs.Common.{◌≡◌, ◌<◌, ℕ, zero, suc, List, [], ◌∷◌, ◌++◌, length, map, take, drop, get_or, slice_get, Some, IfSome}
 use Rattle.std.proofs.Common.{refl, sym, ◌∙◌, ap, arith}
 use Rattle.std.proofs.lemmas.List.{drop-map, length-map, take-map}
 use Rattle.rt_geo.specs.Laws.{extent_of_entry}
@@ -9,7 +9,7 @@ use Rattle.rt_geo.specs.declared.layers.Layers.{Layers}
 use Rattle.rt_tree.specs.Leaves.{entries_of, with_layer, without_layer}
 use Rattle.rt_tree.specs.Packed.{hull_of, union_of}
 use Rattle.rt_tree.specs.Packing.{node_over}
-use Rattle.rt_tree.specs.declared.leaves.LeafEntry.{LeafEntry}
+use Rattle.rt_tree.specs.declared.entries.LeafEntry.{LeafEntry}
 use Rattle.rt_tree.proofs.Soundness.{sum_by-ones}
 
 -- the layer of an entry
@@ -41,6 +41,24 @@ pub length-entries_of : (entries : List LeafEntry) (layers : List ℕ) → lengt
     → length (entries_of entries layers) ≡ length entries
 length-entries_of entries layers long =
     sym (length-map (entries_of entries layers) without_layer) ∙ ap length (entries-alone entries layers long)
+
+-- one entry more at the end of both lists
+pub entries_of-more : (entries : List LeafEntry) (layers : List ℕ) (entry : Entry) → length entries ≡ length layers
+    → entries_of (entries ++ without_layer entry ∷ []) (layers ++ entry.layer ∷ []) ≡ entries_of entries layers ++ entry ∷ []
+entries_of-more [] [] entry long = refl
+entries_of-more [] (layer ∷ layers) entry long = absurd (omega (arith, long))
+entries_of-more (e ∷ entries) [] entry long = absurd (omega (arith, long))
+entries_of-more (e ∷ entries) (layer ∷ layers) entry long =
+    ap (λ l. with_layer e layer ∷ l) (entries_of-more entries layers entry (omega (arith, long)))
+
+-- as many of both lists
+pub entries_of-take : (n : ℕ) (entries : List LeafEntry) (layers : List ℕ)
+    → entries_of (take n entries) (take n layers) ≡ take n (entries_of entries layers)
+entries_of-take zero entries layers = refl
+entries_of-take (suc n) [] layers = refl
+entries_of-take (suc n) (entry ∷ entries) [] = refl
+entries_of-take (suc n) (entry ∷ entries) (layer ∷ layers) =
+    ap (λ l. with_layer entry layer ∷ l) (entries_of-take n entries layers)
 
 -- an entry of the two lists
 pub entries_of-at : (entries : List LeafEntry) (layers : List ℕ) (place d : ℕ) (entry : LeafEntry)

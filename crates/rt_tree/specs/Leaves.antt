@@ -1,7 +1,7 @@
 -- Entries whose layers stand in a list of their own.
 use Rattle.std.specs.Prelude.{ℕ, List, [], ◌∷◌}
 use Rattle.rt_geo.specs.declared.entry.Entry.{Entry}
-use Rattle.rt_tree.specs.declared.leaves.LeafEntry.{LeafEntry}
+use Rattle.rt_tree.specs.declared.entries.LeafEntry.{LeafEntry}
 
 -- an entry without its layer
 abbrev pub without_layer : Entry → LeafEntry

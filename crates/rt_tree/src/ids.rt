@@ -9,8 +9,8 @@ ghost use Rattle.rt_tree.specs.Entries.{first_repeat, ids_of, most_entries};
 ghost use Rattle.rt_tree.specs.Indexes.{AreIdsOf, keeps};
 ghost use Rattle.rt_tree.specs.Repeats.{ExplainsNoTable};
 
+use crate::entries::Entries;
 use crate::table::EntriesFault;
-use rt_geo::Entry;
 use std::alloc::{AllocError, Global};
 use std::collections::BTreeSet;
 
@@ -36,7 +36,7 @@ impl Ids {
     }
 
     /// The ids of entries, where no two have one.
-    pub(crate) fn of(alloc: Global, entries: &[Entry]) -> Result<Ids, EntriesFault>
+    pub(crate) fn of(alloc: Global, entries: &Entries) -> Result<Ids, EntriesFault>
         requires { length entries.now ≤ most_entries }
         ensures ids { IfOk result (λ ids. AreIdsOf ids.loaded.items ids.pushed entries.now) }
         ensures once { IfOk result (λ _. first_repeat entries.now ≡ None) }
@@ -59,7 +59,7 @@ impl Ids {
     }
 
     // The same, one id after the other, so that the first that comes again is found.
-    fn one_by_one(alloc: Global, entries: &[Entry]) -> Result<Ids, EntriesFault>
+    fn one_by_one(alloc: Global, entries: &Entries) -> Result<Ids, EntriesFault>
         requires { length entries.now ≤ most_entries }
         ensures ids { IfOk result (λ ids. AreIdsOf ids.loaded.items ids.pushed entries.now) }
         ensures once { IfOk result (λ _. first_repeat entries.now ≡ None) }
@@ -67,7 +67,7 @@ impl Ids {
     {
         let mut ids = Ids::none(alloc);
         for place in 0..entries.len() {
-            let id = entries[place].id;
+            let id = entries.get(place).id;
             if ids.has(id) {
                 return Err(EntriesFault::Repeated {
                     place: place as u32,
@@ -103,12 +103,13 @@ impl Ids {
 }
 
 // The ids of entries, in their order.
-fn ids_of(alloc: Global, entries: &[Entry]) -> Result<Vec<i64>, AllocError>
+fn ids_of(alloc: Global, entries: &Entries) -> Result<Vec<i64>, AllocError>
     ensures ids { IfOk result (λ ids. ids.items ≡ ids_of entries.now) }
     ensures boxes { IfOk result (λ _. All HasBox entries.now) }
 {
     let mut ids = Vec::with_capacity(alloc, entries.len())?;
-    for entry in entries {
+    for place in 0..entries.len() {
+        let entry = entries.get(place);
         // (read, so that its sides are known to be those of a box)
         let _least = entry.bounds.min_x();
         ids.push(entry.id)?;

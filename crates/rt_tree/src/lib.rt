@@ -1,7 +1,7 @@
 //! The entries of a table, and the tree that is packed over them.
 //!
 //! - A [`Table`] is seen as the list of its entries, in the order pushed. No two have one id. [`Table::of_entries`]
-//!   makes one of many entries at once, and quicker than [`Table::push`] one by one.
+//!   makes one of many [`Entries`] at once, and quicker than [`Table::push`] one by one.
 //! - A [`Tree`] is packed over a table by [`Tree::pack`]. It is seen as its fanout and two flat lists: its entries in
 //!   the order of their places, and its [`Node`]s in the order of their numbers, of which a [`NodeNo`] is one.
 //! - [`Levels`] are seen as the sizes of the levels of a tree over so many entries, told without the tree.
@@ -11,15 +11,15 @@
 //! stand in `proofs/Rows.antt`. What `Indexes` and `SortKeys` define is for this crate's code alone.
 #![tactic(auto)]
 
+mod entries;
 mod ids;
-mod leaves;
 mod levels;
 mod packing;
 mod table;
 mod ties;
 mod tree;
 
-pub use leaves::LeafEntry;
+pub use entries::{Entries, LeafEntry};
 pub use levels::Levels;
 pub use table::{EntriesFault, PushFault, Table};
 pub use tree::{Node, NodeNo, Tree};

@@ -4,7 +4,7 @@
 //! slice of them is sorted by y, and the items are moved once, at the end. Of nodes with one middle that at the lesser
 //! place goes first, and of entries that with the lesser id.
 
-ghost use Rattle.std.specs.Prelude.{◌≡◌, ℕ, ◌<◌, ◌≤◌, ◌*◌, ◌+◌, ◌^◌, ◌+ℤ◌, IfOk, List, length, map};
+ghost use Rattle.std.specs.Prelude.{◌≡◌, ℕ, ◌<◌, ◌≤◌, ◌*◌, ◌+◌, ◌^◌, ◌+ℤ◌, IfOk, List, Some, length, map, slice_get};
 ghost use Rattle.std.specs.Int.{div_ceil};
 ghost use Rattle.std.specs.List.{All, enumerate_from, flat_map, sum_by};
 ghost use Rattle.std.specs.Ordering.{int_cmp, nat_cmp, on};
@@ -22,7 +22,7 @@ ghost use Rattle.rt_tree.specs.SortKeys.{IsRanked, IsRankedAt, by_rank_and_id, b
 ghost use Rattle.rt_tree.specs.SortKeys.{rekeyed, sort_key, told};
 ghost use Rattle.rt_tree.specs.Sorting.{sorted};
 
-use crate::leaves::{LeafEntry, Leaves, hull_over, layers_over};
+use crate::entries::{Entries, LeafEntry, hull_over, layers_over};
 use crate::ties::sort_by_rank_and_id;
 use crate::tree::Node;
 use rt_geo::{Bounds, Entry, hull};
@@ -34,47 +34,86 @@ pub(crate) const PLACES: u64 = 16_777_216;
 // Added to the sum of two coordinates, so that it is no longer negative.
 const SUM_OFFSET: i64 = 4_294_967_296;
 
-/// What is packed: entries, and then the nodes of each level.
-pub(crate) trait Item: Copy + Drop {
-    /// Its box.
-    ghost rect: { Self → Rect };
+/// What is packed, in order: entries, and then the nodes of each level.
+pub(crate) trait Items {
+    /// One of them.
+    type Item: Copy + Drop;
+
+    /// They, in order.
+    ghost list: { Self → List Self.Item };
+
+    /// The box of one.
+    ghost rect: { Self.Item → Rect };
 
     /// The order of the sort keys of such items.
-    ghost key_order: { List Self → ℕ → ℕ → Ordering };
+    ghost key_order: { List Self.Item → ℕ → ℕ → Ordering };
 
-    /// Its box.
-    fn bounds(&self) -> Bounds
-        ensures { result ≡ rect self.now };
+    /// How many there are.
+    fn count(&self) -> usize
+        ensures { result ≡ length (list self.now) };
 
-    /// Sorts the keys of items.
-    fn sort_keys(keys: &mut [u64], items: &[Self])
-        ensures { keys.new ≡ sorted (key_order items.now) keys.old };
+    /// The item at a place.
+    fn item(&self, place: usize) -> Self::Item
+        requires { place < length (list self.now) }
+        ensures { slice_get (list self.now) place ≡ Some result };
+
+    /// The box of an item.
+    fn bounds(item: Self::Item) -> Bounds
+        ensures { result ≡ rect item };
+
+    /// Sorts the keys of the items.
+    fn sort_keys(&self, keys: &mut [u64])
+        ensures { keys.new ≡ sorted (key_order (list self.now)) keys.old };
 }
 
-impl Item for Entry {
+impl Items for Entries {
+    type Item = Entry;
+
+    ghost list = { λ entries. entries };
+
     ghost rect = { λ e. e.bounds };
 
     ghost key_order = { by_rank_and_id };
 
-    fn bounds(&self) -> Bounds {
-        self.bounds
+    fn count(&self) -> usize {
+        self.len()
     }
 
-    fn sort_keys(keys: &mut [u64], items: &[Entry]) {
-        sort_by_rank_and_id(keys, items);
+    fn item(&self, place: usize) -> Entry {
+        self.get(place)
+    }
+
+    fn bounds(item: Entry) -> Bounds {
+        item.bounds
+    }
+
+    fn sort_keys(&self, keys: &mut [u64]) {
+        sort_by_rank_and_id(keys, self);
     }
 }
 
-impl Item for Node {
+impl Items for Vec<Node> {
+    type Item = Node;
+
+    ghost list = { λ nodes. nodes.items };
+
     ghost rect = { λ n. n.bounds };
 
     ghost key_order = { λ _. nat_cmp };
 
-    fn bounds(&self) -> Bounds {
-        self.bounds
+    fn count(&self) -> usize {
+        self.len()
     }
 
-    fn sort_keys(keys: &mut [u64], _items: &[Node]) {
+    fn item(&self, place: usize) -> Node {
+        self[place]
+    }
+
+    fn bounds(item: Node) -> Bounds {
+        item.bounds
+    }
+
+    fn sort_keys(&self, keys: &mut [u64]) {
         keys.sort_unstable();
     }
 }
@@ -125,30 +164,30 @@ pub(crate) fn place_of(key: u64) -> usize
 /// Entries in the order of their tiles, those whose boxes have one middle by id.
 pub(crate) fn arranged_entries(
     alloc: Global,
-    entries: &[Entry],
+    entries: &Entries,
     fanout: u8,
-) -> Result<Leaves, AllocError>
+) -> Result<Entries, AllocError>
     requires table { IsTable entries.now }
     requires several { 2 ≤ fanout }
-    ensures { IfOk result (λ leaves. leaves ≡ joined (groups (λ e. e.bounds) fanout
+    ensures { IfOk result (λ arranged. arranged ≡ joined (groups (λ e. e.bounds) fanout
         (sorted (on (λ e. e.id) int_cmp) entries.now))) }
 {
     if entries.is_empty() {
-        return Ok(Leaves::none(alloc));
+        return Ok(Entries::empty(alloc));
     }
     let keys = arranged_keys(alloc, entries, fanout)?;
-    Leaves::gathered(alloc, &keys, entries)
+    Entries::gathered(alloc, &keys, entries)
 }
 
 /// Nodes in the order of their tiles, those whose boxes have one middle by place.
 pub(crate) fn arranged_nodes(
     alloc: Global,
-    nodes: &[Node],
+    nodes: &Vec<Node>,
     fanout: u8,
 ) -> Result<Vec<Node>, AllocError>
-    requires few { length nodes.now ≤ most_entries }
+    requires few { length nodes.now.items ≤ most_entries }
     requires several { 2 ≤ fanout }
-    ensures { IfOk result (λ v. v.items ≡ joined (groups (λ n. n.bounds) fanout nodes.now)) }
+    ensures { IfOk result (λ v. v.items ≡ joined (groups (λ n. n.bounds) fanout nodes.now.items)) }
 {
     if nodes.is_empty() {
         return Ok(Vec::new(alloc));
@@ -158,21 +197,21 @@ pub(crate) fn arranged_nodes(
 }
 
 // The keys of items, in the order of their tiles.
-fn arranged_keys<T: Item>(alloc: Global, items: &[T], fanout: u8) -> Result<Vec<u64>, AllocError>
-    requires some { 0 < length items.now }
-    requires few { length items.now ≤ most_entries }
+fn arranged_keys<T: Items>(alloc: Global, items: &T, fanout: u8) -> Result<Vec<u64>, AllocError>
+    requires some { 0 < length (T.list items.now) }
+    requires few { length (T.list items.now) ≤ most_entries }
     requires several { 2 ≤ fanout }
-    ensures value { IfOk result (λ v. v.items ≡ flat_map (by_y (T.key_order items.now) T.rect items.now)
-        (chunks (ceil_sqrt (div_ceil (length items.now) fanout) * fanout)
-        (keys_by_x (T.key_order items.now) T.rect items.now))) }
-    ensures places { IfOk result (λ v. All (λ key. place_of key < length items.now) v.items) }
-    ensures ranked_x { IfOk result (λ _. All (λ x. IsRanked (twice_middle_x (T.rect x))) items.now) }
+    ensures value { IfOk result (λ v. v.items ≡ flat_map (by_y (T.key_order (T.list items.now)) T.rect (T.list items.now))
+        (chunks (ceil_sqrt (div_ceil (length (T.list items.now)) fanout) * fanout)
+        (keys_by_x (T.key_order (T.list items.now)) T.rect (T.list items.now)))) }
+    ensures places { IfOk result (λ v. All (λ key. place_of key < length (T.list items.now)) v.items) }
+    ensures ranked_x { IfOk result (λ _. All (λ x. IsRanked (twice_middle_x (T.rect x))) (T.list items.now)) }
     ensures ranked_y { IfOk result (λ _.
-        All (IsRankedAt T.rect twice_middle_y items.now) (keys_by_x (T.key_order items.now) T.rect items.now)) }
+        All (IsRankedAt T.rect twice_middle_y (T.list items.now)) (keys_by_x (T.key_order (T.list items.now)) T.rect (T.list items.now))) }
 {
     let mut keys = keys_of(alloc, items)?;
-    T::sort_keys(&mut keys, items);
-    sort_slices(&mut keys, items, slice_size(items.len(), fanout));
+    items.sort_keys(&mut keys);
+    sort_slices(&mut keys, items, slice_size(items.count(), fanout));
     Ok(keys)
 }
 
@@ -188,25 +227,25 @@ fn slice_size(items: usize, fanout: u8) -> usize
 }
 
 // The keys by x of the items, in their order.
-fn keys_of<T: Item>(alloc: Global, items: &[T]) -> Result<Vec<u64>, AllocError>
-    requires { length items.now ≤ most_entries }
-    ensures keys { IfOk result (λ v. v.items ≡ map (key_of T.rect twice_middle_x) (enumerate_from 0 items.now)) }
-    ensures ranked { IfOk result (λ _. All (λ x. IsRanked (twice_middle_x (T.rect x))) items.now) }
+fn keys_of<T: Items>(alloc: Global, items: &T) -> Result<Vec<u64>, AllocError>
+    requires { length (T.list items.now) ≤ most_entries }
+    ensures keys { IfOk result (λ v. v.items ≡ map (key_of T.rect twice_middle_x) (enumerate_from 0 (T.list items.now))) }
+    ensures ranked { IfOk result (λ _. All (λ x. IsRanked (twice_middle_x (T.rect x))) (T.list items.now)) }
 {
-    let mut keys = Vec::with_capacity(alloc, items.len())?;
-    for (place, item) in items.iter().enumerate() {
-        keys.push(sort_key(rank_x(item.bounds()), place as u64))?;
+    let mut keys = Vec::with_capacity(alloc, items.count())?;
+    for place in 0..items.count() {
+        keys.push(sort_key(rank_x(T::bounds(items.item(place))), place as u64))?;
     }
     Ok(keys)
 }
 
 // Sorts each slice of keys by y.
-fn sort_slices<T: Item>(keys: &mut [u64], items: &[T], size: usize)
+fn sort_slices<T: Items>(keys: &mut [u64], items: &T, size: usize)
     requires some { 0 < size }
-    requires few { length items.now ≤ most_entries }
-    requires places { All (λ key. place_of key < length items.now) keys.old }
-    ensures keys { keys.new ≡ flat_map (by_y (T.key_order items.now) T.rect items.now) (chunks size keys.old) }
-    ensures ranked { All (IsRankedAt T.rect twice_middle_y items.now) keys.old }
+    requires few { length (T.list items.now) ≤ most_entries }
+    requires places { All (λ key. place_of key < length (T.list items.now)) keys.old }
+    ensures keys { keys.new ≡ flat_map (by_y (T.key_order (T.list items.now)) T.rect (T.list items.now)) (chunks size keys.old) }
+    ensures ranked { All (IsRankedAt T.rect twice_middle_y (T.list items.now)) keys.old }
 {
     let mut start = 0;
     while start < keys.len() {
@@ -217,27 +256,27 @@ fn sort_slices<T: Item>(keys: &mut [u64], items: &[T], size: usize)
 }
 
 // Sorts the keys of a slice by y.
-fn sort_by_y<T: Item>(keys: &mut [u64], items: &[T])
-    requires few { length items.now ≤ most_entries }
-    requires places { All (λ key. place_of key < length items.now) keys.old }
-    ensures keys { keys.new ≡ by_y (T.key_order items.now) T.rect items.now keys.old }
-    ensures ranked { All (IsRankedAt T.rect twice_middle_y items.now) keys.old }
+fn sort_by_y<T: Items>(keys: &mut [u64], items: &T)
+    requires few { length (T.list items.now) ≤ most_entries }
+    requires places { All (λ key. place_of key < length (T.list items.now)) keys.old }
+    ensures keys { keys.new ≡ by_y (T.key_order (T.list items.now)) T.rect (T.list items.now) keys.old }
+    ensures ranked { All (IsRankedAt T.rect twice_middle_y (T.list items.now)) keys.old }
 {
     for key in keys.iter_mut() {
         *key = key_by_y(*key, items);
     }
-    T::sort_keys(keys, items);
+    items.sort_keys(keys);
 }
 
 // The key by y of the item that a key tells.
-fn key_by_y<T: Item>(key: u64, items: &[T]) -> u64
-    requires few { length items.now ≤ most_entries }
-    requires place { place_of key < length items.now }
-    ensures value { result ≡ rekeyed T.rect twice_middle_y items.now key }
-    ensures ranked { IsRankedAt T.rect twice_middle_y items.now key }
+fn key_by_y<T: Items>(key: u64, items: &T) -> u64
+    requires few { length (T.list items.now) ≤ most_entries }
+    requires place { place_of key < length (T.list items.now) }
+    ensures value { result ≡ rekeyed T.rect twice_middle_y (T.list items.now) key }
+    ensures ranked { IsRankedAt T.rect twice_middle_y (T.list items.now) key }
 {
     let place = place_of(key);
-    sort_key(rank_y(items[place].bounds()), place as u64)
+    sort_key(rank_y(T::bounds(items.item(place))), place as u64)
 }
 
 // The nodes that keys tell.
@@ -255,7 +294,7 @@ fn gathered(alloc: Global, keys: &[u64], nodes: &[Node]) -> Result<Vec<Node>, Al
 /// A node of level 1 over each tile of entries that stand in the order of their tiles.
 pub(crate) fn leaf_nodes(
     alloc: Global,
-    leaves: &Leaves,
+    leaves: &Entries,
     fanout: u8,
 ) -> Result<Vec<Node>, AllocError>
     requires several { 2 ≤ fanout }
@@ -263,7 +302,7 @@ pub(crate) fn leaf_nodes(
     requires layers { All HasLayer leaves.now }
     ensures { IfOk result (λ v. v.items ≡ leaf_nodes (chunks fanout leaves.now)) }
 {
-    let entries = leaves.entries();
+    let entries = leaves.leaves();
     let layers = leaves.layers();
     let mut nodes = Vec::with_capacity(alloc, entries.len().div_ceil(fanout as usize))?;
     let mut start = 0;

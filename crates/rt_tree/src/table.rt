@@ -7,6 +7,7 @@ ghost use Rattle.rt_geo.specs.Entries.{HasBox, HasLayer};
 ghost use Rattle.rt_tree.specs.Entries.{IsTable, first_repeat, has_id, most_entries};
 ghost use Rattle.rt_tree.specs.Repeats.{ExplainsNoTable};
 
+use crate::entries::Entries;
 use crate::ids::Ids;
 use rt_geo::Entry;
 use std::alloc::Global;
@@ -33,7 +34,7 @@ pub enum EntriesFault {
 /// Entries with distinct ids, in the order pushed: at most 16,777,216 of them.
 #[derive(Drop)]
 pub struct Table {
-    entries: Vec<Entry>,
+    entries: Entries,
     // The ids of the entries.
     ids: Ids,
 }
@@ -45,9 +46,9 @@ impl Model for Table {
 
     ghost Value = { List Entry };
 
-    ghost view = { λ t. t.entries.items };
+    ghost view = { λ t. t.entries };
 
-    ghost invariant = { λ t. IsIndexed t.ids.loaded.items t.ids.pushed t.entries.items };
+    ghost invariant = { λ t. IsIndexed t.ids.loaded.items t.ids.pushed t.entries };
 }
 
 impl Table {
@@ -59,19 +60,19 @@ impl Table {
         ensures { result ≡ [] }
     {
         Table {
-            entries: Vec::new(alloc),
+            entries: Entries::empty(alloc),
             ids: Ids::none(alloc),
         }
     }
 
-    /// The table of these entries, whose layers are at most 63, in their order, in O(n log n) whatever they are. `Repeated` tells the first entry
-    /// whose id an earlier one has; `Memory` comes where there was none for the table.
-    pub fn of_entries(alloc: Global, entries: Vec<Entry>) -> Result<Table, EntriesFault>
-        requires most { length entries.items ≤ most_entries }
-        requires layers { All HasLayer entries.items }
-        ensures table { IfOk result (λ t. t ≡ entries.items) }
-        ensures once { IfOk result (λ _. first_repeat entries.items ≡ None) }
-        ensures fault { IfErr result (λ f. ExplainsNoTable f entries.items) }
+    /// The table of these entries, whose layers are at most 63, in their order, in O(n log n) whatever they are.
+    /// `Repeated` tells the first entry whose id an earlier one has; `Memory` comes where there was none for the table.
+    pub fn of_entries(alloc: Global, entries: Entries) -> Result<Table, EntriesFault>
+        requires most { length entries ≤ most_entries }
+        requires layers { All HasLayer entries }
+        ensures table { IfOk result (λ t. t ≡ entries) }
+        ensures once { IfOk result (λ _. first_repeat entries ≡ None) }
+        ensures fault { IfErr result (λ f. ExplainsNoTable f entries) }
     {
         let ids = Ids::of(alloc, &entries)?;
         Ok(Table { entries, ids })
@@ -99,20 +100,20 @@ impl Table {
         ensures has_box { HasBox result }
         ensures has_layer { HasLayer result }
     {
-        self.entries[place as usize]
+        self.entries.get(place as usize)
     }
 
     /// The entries, in the order pushed.
-    pub fn entries(&self) -> &[Entry]
+    pub fn entries(&self) -> &Entries
         ensures value { result.now ≡ self.now }
         ensures table { IsTable self.now }
     {
-        self.entries.as_slice()
+        &self.entries
     }
 
     // The entries alone.
-    pub(crate) fn into_entries(self) -> Vec<Entry>
-        ensures value { result.items ≡ self }
+    pub(crate) fn into_entries(self) -> Entries
+        ensures value { result ≡ self }
         ensures table { IsTable self }
     {
         let Table { entries, ids } = self;
@@ -120,8 +121,8 @@ impl Table {
         entries
     }
 
-    /// Adds an entry last, whose layer is at most 63. `Repeated` exactly where its id is there, and then no memory is taken; `Memory` where
-    /// there was none for it. After either the table is as it was.
+    /// Adds an entry last, whose layer is at most 63. `Repeated` exactly where its id is there, and then no memory is
+    /// taken; `Memory` where there was none for it. After either the table is as it was.
     pub fn push(&mut self, entry: Entry) -> Result<(), PushFault>
         requires most { length self.old < most_entries }
         requires layer { HasLayer entry }
@@ -135,15 +136,16 @@ impl Table {
         if self.ids.has(entry.id) {
             return Err(PushFault::Repeated);
         }
-        if self.entries.reserve(1).is_err() {
-            return Err(PushFault::Memory);
+        match self.entries.push(entry) {
+            Ok(()) => {}
+            Err(_) => return Err(PushFault::Memory),
         }
         match self.ids.add(entry.id) {
-            Ok(()) => {
-                self.entries.push_reserved(entry);
-                Ok(())
+            Ok(()) => Ok(()),
+            Err(_) => {
+                self.entries.pop();
+                Err(PushFault::Memory)
             }
-            Err(_) => Err(PushFault::Memory),
         }
     }
 }

@@ -11,7 +11,7 @@ ghost use Rattle.rt_tree.specs.Levels.{level_sizes};
 ghost use Rattle.rt_tree.specs.Packed.{IsSound, child_entries, child_nodes, node_at, root_of};
 ghost use Rattle.rt_tree.specs.Packing.{all_nodes, chunks, leaf_nodes, pack_of};
 
-use crate::leaves::{LeafEntry, Leaves};
+use crate::entries::{Entries, LeafEntry};
 use crate::levels::Levels;
 use crate::packing::{arranged_entries, arranged_nodes, leaf_nodes, nodes_over};
 use crate::table::Table;
@@ -68,7 +68,7 @@ impl NodeNo {
 #[derive(Drop)]
 pub struct Tree {
     fanout: u8,
-    leaves: Leaves,
+    leaves: Entries,
     nodes: Vec<Node>,
     levels: Levels,
 }
@@ -209,7 +209,7 @@ impl Tree {
         ensures { result.now ≡ map without_layer (child_entries self.now node) }
     {
         let first = node.first as usize;
-        &self.leaves.entries()[first..first + node.count as usize]
+        &self.leaves.leaves()[first..first + node.count as usize]
     }
 
     /// The nodes right under a node above level 1, in the order of their numbers.
@@ -231,7 +231,7 @@ impl Tree {
 }
 
 // The nodes of all levels over entries that stand in the order of their tiles.
-fn all_nodes(alloc: Global, leaves: &Leaves, fanout: u8) -> Result<Vec<Node>, AllocError>
+fn all_nodes(alloc: Global, leaves: &Entries, fanout: u8) -> Result<Vec<Node>, AllocError>
     requires several { 2 ≤ fanout }
     requires few { length leaves.now ≤ most_entries }
     requires layers { All HasLayer leaves.now }

@@ -65,7 +65,7 @@ fn keeps_the_order_and_refuses_an_id_twice(rt: HostRuntime) {
             assert_eq!(rt; Some(table.get(place)), entry(id, sides));
         }
         assert_eq!(rt;
-            table.entries().iter().map(|entry| entry.id).max(),
+            table.entries().leaves().iter().map(|entry| entry.id).max(),
             boxes.iter().map(|(id, _)| *id).max()
         );
     }
@@ -77,7 +77,7 @@ fn loaded(alloc: Global, ids: &[i64]) -> Option<Result<Table, EntriesFault>> {
     for id in ids {
         entries.push(entry(*id, [0; 4])?).ok()?;
     }
-    let entries = layered(entries)?;
+    let entries = layered(alloc, &entries)?;
     if entries.len() > Table::MOST_ENTRIES as usize {
         return None;
     }
@@ -110,7 +110,7 @@ fn entries_at_once_are_a_table_or_tell_the_first_repeat(rt: HostRuntime) {
             Ok(table) => {
                 assert_eq!(rt; *repeat, None);
                 assert_eq!(rt; table.len() as usize, ids.len());
-                for (entry, id) in table.entries().iter().zip(*ids) {
+                for (entry, id) in table.entries().leaves().iter().zip(*ids) {
                     assert_eq!(rt; entry.id, *id);
                 }
             }
@@ -141,7 +141,7 @@ fn entries_are_pushed_after_others_at_once(rt: HostRuntime) {
         assert_eq!(rt; push(&mut table, id, [0; 4]), Some(pushed));
     }
     assert_eq!(rt; table.len(), 5);
-    for (entry, id) in table.entries().iter().zip(&[5, -3, 8, 6, -4]) {
+    for (entry, id) in table.entries().leaves().iter().zip(&[5, -3, 8, 6, -4]) {
         assert_eq!(rt; entry.id, *id);
     }
 }
@@ -156,7 +156,7 @@ fn a_refused_push_changes_nothing(rt: HostRuntime) -> Result<(), Fail> {
         if pushed == Some(Err(PushFault::Memory)) {
             is_refused = true;
             assert_eq!(rt; i64::from(table.len()), id);
-            for (entry, before) in table.entries().iter().zip(0..100) {
+            for (entry, before) in table.entries().leaves().iter().zip(0..100) {
                 assert_eq!(rt; entry.id, before);
             }
             pushed = push(&mut table, id, [0; 4]);

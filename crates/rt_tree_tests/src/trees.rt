@@ -217,7 +217,7 @@ fn packed(alloc: Global, kind: Kind, fanout: u8, count: u32) -> Option<Tree> {
         };
         entries.push(entry).ok()?;
     }
-    let entries = layered(entries)?;
+    let entries = layered(alloc, &entries)?;
     if entries.len() > Table::MOST_ENTRIES as usize {
         return None;
     }

@@ -17,7 +17,7 @@ loop-number-init g c = record {
   count = rw c.requires.none (at_start c.args.header);
   most = rw c.requires.none (omega arith);
   layers = rw c.requires.none (All-nil HasLayer);
-  table = λ bytes h. read-start g.R.Read.remaining c.args.reader c.from_reader-records.result c.args.entries.now.items c.args.header c.args.max bytes
+  table = λ bytes h. read-start g.R.Read.remaining c.args.reader c.from_reader-records.result c.args.entries.now c.args.header c.args.max bytes
       c.from_reader-records.ensures.source c.from_reader-records.ensures.state c.requires.none h;
 }
   where
@@ -45,7 +45,7 @@ loop-number-preserved-then-number-eq1 g c =
       ready = c.in_ok-next_record.ensures.ready;
       config = c.in_ok-next_record.ensures.config;
       flexible = c.in_ok-next_record.ensures.flexible;
-      count = count-header c.args.header c.loop-number.number (length c.loop-number.entries.items) c.if-header.true c.if-number-eq1.true inv.count;
+      count = count-header c.args.header c.loop-number.number (length c.loop-number.entries) c.if-header.true c.if-number-eq1.true inv.count;
       most = inv.most;
       layers = inv.layers;
       table = λ bytes h. read-header c.next_record.new.records (fields_of c.next_record.new.fields) (inv.table bytes h) inv.config read c.if-header.true c.if-number-eq1.true;
@@ -63,13 +63,13 @@ returns-in_err-add_entry-clause-end g c =
 pub loop-number-preserved : goal.loop-number-preserved
 loop-number-preserved g c =
     let inv = c.loop-number.invariant in
-    let so_far = c.loop-number.entries.items in
+    let so_far = c.loop-number.entries in
     let read = rw c.if-not-branch.false at c.in_ok-next_record.ensures.reads in
     let judged = is_judged c.args.header c.loop-number.number c.else-header.either in
     let fields = fields_of c.next_record.new.fields in
     let added = c.in_ok-add_entry.ensures.added in
     let counted = number_now c.args.header c.loop-number.number (length so_far) c.loop-number.auto.number judged inv.count in
-    let one_more = longer (entry_after c.args.max c.loop-number.number so_far fields) so_far c.add_entry.new.entries.items added in
+    let one_more = longer (entry_after c.args.max c.loop-number.number so_far fields) so_far c.add_entry.new.entries added in
     record {
       trim = c.in_ok-next_record.ensures.trim;
       ready = c.in_ok-next_record.ensures.ready;
@@ -79,5 +79,5 @@ loop-number-preserved g c =
       most = c.in_ok-add_entry.ensures.few;
       layers = c.add_entry.ensures.layers;
       table = λ bytes h. read-entry c.next_record.new.records fields
-          c.add_entry.new.entries.items (inv.table bytes h) inv.config read c.loop-number.auto.number judged counted added;
+          c.add_entry.new.entries (inv.table bytes h) inv.config read c.loop-number.auto.number judged counted added;
     }

@@ -14,9 +14,9 @@ invariant-loop-number g l = record {
   ready : Ready l.records;
   config : l.records.config ≡ default_config;
   flexible : l.records.flexible ≡ true;
-  count : length l.entries.items ≡ l.number - first_number l.fn.header;
-  most : length l.entries.items ≤ l.fn.max;
-  layers : All HasLayer l.entries.items;
+  count : length l.entries ≡ l.number - first_number l.fn.header;
+  most : length l.entries ≤ l.fn.max;
+  layers : All HasLayer l.entries;
   table : (bytes : List ℕ) → g.R.Read.remaining l.fn.reader ≡ Some bytes
-      → ReadUpTo g.R.Read.remaining l.records l.entries.items l.fn.header l.fn.max l.number (table_of bytes l.fn.header l.fn.max);
+      → ReadUpTo g.R.Read.remaining l.records l.entries l.fn.header l.fn.max l.number (table_of bytes l.fn.header l.fn.max);
 }

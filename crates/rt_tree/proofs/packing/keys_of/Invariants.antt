@@ -6,6 +6,6 @@ use Rattle.rt_tree.proofs.packing.keys_of.Given as goal
 
 abbrev pub invariant-loop-place : goal.invariant-loop-place
 invariant-loop-place g l = record {
-  keys : l.keys.items ≡ map (key_of g.T.Item.rect twice_middle_x) (enumerate_from 0 (take l.place l.items));
-  ranked : (k : ℕ) (d : g.row.T.Denot) → k < l.place → IsRanked (twice_middle_x (g.T.Item.rect (get_or l.items k d)));
+  keys : l.keys.items ≡ map (key_of g.T.Items.rect twice_middle_x) (enumerate_from 0 (take l.place (g.T.Items.list l.items)));
+  ranked : (k : ℕ) (d : g.row.T-Item.Denot) → k < l.place → IsRanked (twice_middle_x (g.T.Items.rect (get_or (g.T.Items.list l.items) k d)));
 }

@@ -24,11 +24,11 @@ loop-start-preserved c =
     let start = c.loop-start.start in
     let n = c.min.result in
     let k = start + n - start in
-    let long : length c.entries-entries.result.now ≡ length leaves = ap length c.entries-entries.ensures
+    let long : length c.leaves-entries.result.now ≡ length leaves = ap length c.leaves-entries.ensures
     ∙ length-map leaves without_layer in
     let there : start < length leaves = omega (arith, long, c.loop-start-test.true) in
     let tile = ap (λ l. entries_of (take k (drop start l)) (take k (drop start c.layers-layers.result.now)))
-    c.entries-entries.ensures
+    c.leaves-entries.ensures
     ∙ ap (λ l. entries_of (take k (drop start (map without_layer leaves))) (take k (drop start l))) c.layers-layers.ensures
     ∙ tile_of start k leaves in
     let first : start ≡ 0 + start = omega arith in

@@ -5,8 +5,8 @@ use Rattle.rt_tree.proofs.packing.sort_by_y.Given as goal
 
 abbrev pub invariant-loop-key : goal.invariant-loop-key
 invariant-loop-key g l = record {
-  keys : l.keys ≡ map (rekeyed g.T.Item.rect twice_middle_y l.items)
+  keys : l.keys ≡ map (rekeyed g.T.Items.rect twice_middle_y (g.T.Items.list l.items))
       (take l.key-index l.initial.keys) ++ drop l.key-index l.initial.keys;
-  ranked : (k : ℕ) (d : ℕ) → k < l.key-index → IsRankedAt g.T.Item.rect twice_middle_y l.items
+  ranked : (k : ℕ) (d : ℕ) → k < l.key-index → IsRankedAt g.T.Items.rect twice_middle_y (g.T.Items.list l.items)
       (get_or l.initial.keys k d);
 }

@@ -24,12 +24,12 @@ loop-start-preserved g c =
           (drop start keys),
       length-drop start keys,
     ) in
-    let order = by_y (g.T.Item.key_order c.args.items.now) g.T.Item.rect c.args.items.now in
+    let order = by_y (g.T.Items.key_order (g.T.Items.list c.args.items.now)) g.T.Items.rect (g.T.Items.list c.args.items.now) in
     record {
       inside = inside_more start n k keys slice there k_is long;
       later = later_more start n k old keys slice there k_is long later;
       keys = slices_more order c.args.size start n k old keys slice _ c.requires.some there c.loop-start.auto.keys
           c.min.ensures k_is later c.sort_by_y.ensures.keys long c.loop-start.invariant.keys;
-      ranked = all_more (IsRankedAt g.T.Item.rect twice_middle_y c.args.items.now) start n k old keys k_is (omega
+      ranked = all_more (IsRankedAt g.T.Items.rect twice_middle_y (g.T.Items.list c.args.items.now)) start n k old keys k_is (omega
           (arith, c.min.ensures)) later c.loop-start.invariant.ranked c.sort_by_y.ensures.ranked;
     }

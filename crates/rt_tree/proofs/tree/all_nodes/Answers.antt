@@ -1,7 +1,6 @@
 use Rattle.std.proofs.Common.{◌≡◌, ◌<◌, ◌+◌, ◌++◌, ◌∙◌, ap, arith, length}
 use Rattle.rt_tree.specs.Packed.{extent_of_node}
-use Rattle.rt_tree.specs.Packing.{all_nodes, chunks, groups, joined, nodes_over}
-use Rattle.rt_tree.specs.declared.tree.Node.{Node}
+use Rattle.rt_tree.specs.Packing.{all_nodes, chunks, nodes_over}
 use Rattle.rt_tree.proofs.PackCounts.{course_more, entries_counted, level_counted, level_smaller}
 use Rattle.rt_tree.proofs.PackCounts.{ordered_length, ordered_weight}
 use Rattle.rt_tree.proofs.tree.all_nodes.Goals as goal
@@ -15,10 +14,9 @@ levels-init c = rw c.new-nodes.ensures.items (record {
 
 pub nodes_over-requires-clause-few : goal.nodes_over-requires-clause-few
 nodes_over-requires-clause-few c =
-    let ordered = c.in_ok-ordered.ensures ∙ ap (λ l. joined (groups (λ
-    (n : Node). n.bounds) c.args.fanout l)) c.deref.ensures.value in
+    let ordered = c.in_ok-ordered.ensures in
     let there : 0 < length c.levels.made.items = omega (arith, c.levels-test.true, c.len.ensures) in
-    rw c.deref-in-levels.ensures.value (omega (
+    rw c.deref.ensures.value (omega (
       arith,
       c.levels.invariant.counted.weight,
       ordered_weight c.args.fanout
@@ -27,10 +25,9 @@ nodes_over-requires-clause-few c =
 
 pub nodes_over-requires-clause-numbers : goal.nodes_over-requires-clause-numbers
 nodes_over-requires-clause-numbers c =
-    let ordered = c.in_ok-ordered.ensures ∙ ap (λ l. joined (groups (λ
-    (n : Node). n.bounds) c.args.fanout l)) c.deref.ensures.value in
+    let ordered = c.in_ok-ordered.ensures in
     let there : 0 < length c.levels.made.items = omega (arith, c.levels-test.true, c.len.ensures) in
-    rw c.deref-in-levels.ensures.value (omega (
+    rw c.deref.ensures.value (omega (
       arith,
       c.levels.invariant.counted.few_nodes,
       c.levels.invariant.counted.few_levels,
@@ -41,11 +38,10 @@ nodes_over-requires-clause-numbers c =
 
 pub levels-smaller : goal.levels-smaller
 levels-smaller c =
-    let ordered = c.in_ok-ordered.ensures ∙ ap (λ l. joined (groups (λ
-    (n : Node). n.bounds) c.args.fanout l)) c.deref.ensures.value in
+    let ordered = c.in_ok-ordered.ensures in
     let more : 1 < length c.levels.made.items = omega (arith, c.levels-test.true, c.len.ensures) in
     let new = c.in_ok-made-2.ensures ∙ ap (λ l. nodes_over extent_of_node (λ n. n.size)
-    (c.levels.level + 1) c.len-in-levels.result (chunks c.args.fanout l)) c.deref-in-levels.ensures.value in
+    (c.levels.level + 1) c.len-in-levels.result (chunks c.args.fanout l)) c.deref.ensures.value in
     level_smaller c.args.fanout c.requires.several c.levels.level c.len-in-levels.result c.levels.made.items
     c.in_ok-ordered.ordered.items c.in_ok-made-2.made.items more ordered new
 
@@ -56,18 +52,17 @@ levels-preserved c =
     let made = c.levels.made.items in
     let sorted = c.in_ok-ordered.ordered.items in
     let above = c.in_ok-made-2.made.items in
-    let ordered = c.in_ok-ordered.ensures ∙ ap (λ l. joined (groups (λ
-    (n : Node). n.bounds) c.args.fanout l)) c.deref.ensures.value in
+    let ordered = c.in_ok-ordered.ensures in
     let more : 1 < length made = omega (arith, c.levels-test.true, c.len.ensures) in
     let numbered : c.len-in-levels.result ≡ length nodes = omega (arith, c.len-in-levels.ensures) in
     let new : above ≡ nodes_over extent_of_node (λ n. n.size) (c.levels.level + 1) (length nodes)
     (chunks c.args.fanout sorted) =
     c.in_ok-made-2.ensures ∙ ap (λ l. nodes_over extent_of_node (λ n. n.size)
-    (c.levels.level + 1) c.len-in-levels.result (chunks c.args.fanout l)) c.deref-in-levels.ensures.value
+    (c.levels.level + 1) c.len-in-levels.result (chunks c.args.fanout l)) c.deref.ensures.value
     ∙ ap (λ n. nodes_over extent_of_node (λ n. n.size) (c.levels.level + 1) n
     (chunks c.args.fanout sorted)) numbered in
     let after : c.extend_from_slice.new.self.items ≡ nodes ++ sorted = c.in_ok-extend_from_slice.ensures.items
-    ∙ ap (λ l. nodes ++ l) c.deref-in-levels-2.ensures.value in
+    ∙ ap (λ l. nodes ++ l) c.deref-in-levels.ensures.value in
     record {
       counted = level_counted c.args.fanout several c.levels.level nodes made sorted above
           c.extend_from_slice.new.self.items c.levels.invariant.counted more ordered new after;

@@ -8,7 +8,7 @@ returns c =
     let first = c.args.node.first in
     let count = c.args.node.count in
     let same : first + count - first ≡ count = omega arith in
-    rw (← c.self.view_is) (ap (λ l. take (first + count - first) (drop first l)) c.entries.ensures
+    rw (← c.self.view_is) (ap (λ l. take (first + count - first) (drop first l)) c.leaves.ensures
     ∙ ap (λ n. take n (drop first (map without_layer c.self.inside.leaves))) same
     ∙ ap (take count) (drop-map without_layer first c.self.inside.leaves)
     ∙ take-map without_layer count (drop first c.self.inside.leaves))

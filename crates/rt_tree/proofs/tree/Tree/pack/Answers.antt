@@ -13,22 +13,19 @@ use Rattle.rt_tree.proofs.Repacked.{pack_of-repacked}
 use Rattle.rt_tree.proofs.tree.Tree.pack.Goals as goal
 
 pub arranged_entries-requires-clause-table : goal.arranged_entries-requires-clause-table
-arranged_entries-requires-clause-table c = subst IsTable (sym (c.deref.ensures.value
-    ∙ c.into_entries-entries.ensures.value)) c.into_entries-entries.ensures.table
+arranged_entries-requires-clause-table c = subst IsTable (sym c.into_entries-entries.ensures.value) c.into_entries-entries.ensures.table
 
 pub all_nodes-requires-clause-few : goal.all_nodes-requires-clause-few
 all_nodes-requires-clause-few c =
     let entries = c.in_ok-leaves.ensures ∙ ap (λ l. joined (groups (λ
-    (e : Entry). e.bounds) c.args.fanout (sorted by_id l))) (c.deref.ensures.value
-    ∙ c.into_entries-entries.ensures.value) in
+    (e : Entry). e.bounds) c.args.fanout (sorted by_id l))) c.into_entries-entries.ensures.value in
     let long = length-tiled c.args.fanout c.args.table c.in_ok-leaves.leaves c.requires.several entries in
     omega (arith, long, c.into_entries-entries.ensures.table.few)
 
 pub all_nodes-requires-clause-layers : goal.all_nodes-requires-clause-layers
 all_nodes-requires-clause-layers c =
     let entries = c.in_ok-leaves.ensures ∙ ap (λ l. joined (groups (λ
-    (e : Entry). e.bounds) c.args.fanout (sorted by_id l))) (c.deref.ensures.value
-    ∙ c.into_entries-entries.ensures.value) in
+    (e : Entry). e.bounds) c.args.fanout (sorted by_id l))) c.into_entries-entries.ensures.value in
     let table = IsTable-IsPermutation c.args.table (pack_of c.args.fanout c.args.table).entries
     (entries-IsPermutation c.args.fanout c.args.table c.requires.several) c.into_entries-entries.ensures.table in
     subst (All HasLayer) (sym entries) table.layers
@@ -36,8 +33,7 @@ all_nodes-requires-clause-layers c =
 pub returns : goal.returns
 returns c =
     let entries = c.in_ok-leaves.ensures ∙ ap (λ l. joined (groups (λ
-    (e : Entry). e.bounds) c.args.fanout (sorted by_id l))) (c.deref.ensures.value
-    ∙ c.into_entries-entries.ensures.value) in
+    (e : Entry). e.bounds) c.args.fanout (sorted by_id l))) c.into_entries-entries.ensures.value in
     let whole = packed_is c.args.fanout c.args.table c.in_ok-leaves.leaves c.in_ok-nodes.nodes.items
     c.requires.several entries c.in_ok-nodes.ensures in
     record {
@@ -49,8 +45,7 @@ returns c =
 pub invariant_of-result : goal.invariant_of-result
 invariant_of-result c =
     let entries = c.in_ok-leaves.ensures ∙ ap (λ l. joined (groups (λ
-    (e : Entry). e.bounds) c.args.fanout (sorted by_id l))) (c.deref.ensures.value
-    ∙ c.into_entries-entries.ensures.value) in
+    (e : Entry). e.bounds) c.args.fanout (sorted by_id l))) c.into_entries-entries.ensures.value in
     let whole = packed_is c.args.fanout c.args.table c.in_ok-leaves.leaves c.in_ok-nodes.nodes.items
     c.requires.several entries c.in_ok-nodes.ensures in
     let long : length c.in_ok-leaves.leaves ≡ length c.args.table = ap (λ

@@ -1,6 +1,6 @@
 use Rattle.std.proofs.Common.{◌∙◌, sym}
 use Rattle.rt_tree.proofs.LeafLemmas.{layers-alone}
-use Rattle.rt_tree.proofs.leaves.Leaves.layers.Goals as goal
+use Rattle.rt_tree.proofs.entries.Entries.layers.Goals as goal
 
 pub returns : goal.returns
 returns c = rw (← c.self.view_is) (c.as_slice.ensures.value

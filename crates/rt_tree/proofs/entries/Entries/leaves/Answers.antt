@@ -1,6 +1,6 @@
 use Rattle.std.proofs.Common.{◌∙◌, sym}
 use Rattle.rt_tree.proofs.LeafLemmas.{entries-alone}
-use Rattle.rt_tree.proofs.leaves.Leaves.entries.Goals as goal
+use Rattle.rt_tree.proofs.entries.Entries.leaves.Goals as goal
 
 pub returns : goal.returns
 returns c = rw (← c.self.view_is) (c.as_slice.ensures.value

@@ -2,7 +2,7 @@ use Rattle.std.proofs.Common.{◌∙◌, ◌<◌, ◌-◌, ap, arith, drop, get_
 use Rattle.std.proofs.lemmas.List.{get_or_default, length-take}
 use Rattle.rt_geo.specs.Layers.{no_layers, only, union}
 use Rattle.rt_tree.proofs.LoopLemmas.{reduced_more}
-use Rattle.rt_tree.proofs.leaves.layers_over.Goals as goal
+use Rattle.rt_tree.proofs.entries.layers_over.Goals as goal
 
 pub loop-layer-preserved : goal.loop-layer-preserved
 loop-layer-preserved c =

@@ -1,6 +1,6 @@
 use Rattle.std.proofs.Common.{arith}
 use Rattle.rt_tree.proofs.LeafLemmas.{length-entries_of}
-use Rattle.rt_tree.proofs.leaves.Leaves.len.Goals as goal
+use Rattle.rt_tree.proofs.entries.Entries.len.Goals as goal
 
 pub returns : goal.returns
 returns c =

@@ -2,9 +2,9 @@ use Rattle.std.proofs.Common.{◌∙◌, ◌<◌, ◌-◌, arith, length}
 use Rattle.std.proofs.lemmas.List.{length-take}
 use Rattle.rt_geo.specs.Boxes.{hull}
 use Rattle.rt_tree.specs.Packed.{no_box}
-use Rattle.rt_tree.specs.declared.leaves.LeafEntry.{LeafEntry}
+use Rattle.rt_tree.specs.declared.entries.LeafEntry.{LeafEntry}
 use Rattle.rt_tree.proofs.LoopLemmas.{reduced_more}
-use Rattle.rt_tree.proofs.leaves.hull_over.Goals as goal
+use Rattle.rt_tree.proofs.entries.hull_over.Goals as goal
 
 pub loop-entry-preserved : goal.loop-entry-preserved
 loop-entry-preserved c =

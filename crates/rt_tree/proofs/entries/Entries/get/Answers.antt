@@ -1,7 +1,7 @@
 use Rattle.std.proofs.Common.{◌≡◌, ◌∙◌, ◌<◌, FitsSigned, ap, arith, get_or, length, rules, w64}
 use Rattle.std.proofs.lemmas.Int.{to_z-of_z}
 use Rattle.rt_tree.proofs.LeafLemmas.{entries_of-at, layers-alone, length-entries_of}
-use Rattle.rt_tree.proofs.leaves.Leaves.get.Goals as goal
+use Rattle.rt_tree.proofs.entries.Entries.get.Goals as goal
 
 pub index-entry-requires : goal.index-entry-requires
 index-entry-requires c =

@@ -3,7 +3,7 @@ use Rattle.std.specs.List.{filter_map}
 use Rattle.rt_tree.specs.Leaves.{without_layer}
 use Rattle.rt_tree.specs.SortKeys.{place_of}
 use Rattle.rt_tree.proofs.LeafLemmas.{layer_of}
-use Rattle.rt_tree.proofs.leaves.Leaves.gathered.Given as goal
+use Rattle.rt_tree.proofs.entries.Entries.gathered.Given as goal
 
 abbrev pub invariant-loop-key : goal.invariant-loop-key
 invariant-loop-key l = record {

@@ -1,8 +1,8 @@
-//! Entries in the order of their places, their layers in a list of their own.
+//! Entries in order, their layers in a list of their own.
 //!
-//! So a query that asks for no layers reads none, and an entry takes no more room than its id and its box.
+//! So a query that asks for no layers reads none, and an entry takes no more room than its id, its box and one byte.
 
-ghost use Rattle.std.specs.Prelude.{◌≡◌, ◌<◌, ◌≤◌, IfOk, Some, get_or, length, map, slice_get};
+ghost use Rattle.std.specs.Prelude.{◌≡◌, ◌==◌, ◌-◌, ◌<◌, ◌≤◌, ◌++◌, ◌∷◌, [], IfOk, OnErr, OnOk, Some, get_or, length, map, slice_get, take};
 ghost use Rattle.std.specs.List.{All};
 ghost use Rattle.rt_geo.specs.Layers.{most_layer, only};
 ghost use Rattle.rt_tree.specs.Leaves.{entries_of, without_layer};
@@ -23,14 +23,14 @@ pub struct LeafEntry {
     pub bounds: Bounds,
 }
 
-/// Entries in the order of their places.
+/// Entries in order: those that a table is made of, and those of a tree.
 #[derive(Drop)]
-pub(crate) struct Leaves {
+pub struct Entries {
     entries: Vec<LeafEntry>,
     layers: Vec<u8>,
 }
 
-impl Model for Leaves {
+impl Model for Entries {
     ghost use Rattle.std.specs.Prelude.{◌≡◌, List, length};
     ghost use Rattle.rt_geo.specs.declared.entry.Entry.{Entry};
     ghost use Rattle.rt_tree.specs.Leaves.{entries_of};
@@ -42,12 +42,12 @@ impl Model for Leaves {
     ghost invariant = { λ l. length l.entries.items ≡ length l.layers.items };
 }
 
-impl Leaves {
+impl Entries {
     /// No entries. It takes no memory.
-    pub(crate) fn none(alloc: Global) -> Leaves
-        ensures { length result ≡ 0 }
+    pub fn empty(alloc: Global) -> Entries
+        ensures { result ≡ [] }
     {
-        Leaves {
+        Entries {
             entries: Vec::new(alloc),
             layers: Vec::new(alloc),
         }
@@ -57,36 +57,66 @@ impl Leaves {
     pub(crate) fn gathered(
         alloc: Global,
         keys: &[u64],
-        entries: &[Entry],
-    ) -> Result<Leaves, AllocError>
+        entries: &Entries,
+    ) -> Result<Entries, AllocError>
         requires { All (λ key. place_of key < length entries.now) keys.now }
-        ensures { IfOk result (λ leaves. leaves ≡ told entries.now keys.now) }
+        ensures { IfOk result (λ gathered. gathered ≡ told entries.now keys.now) }
     {
         let mut gathered = Vec::with_capacity(alloc, keys.len())?;
         let mut layers = Vec::with_capacity(alloc, keys.len())?;
         for key in keys {
-            let entry = entries[place_of(*key)];
+            let entry = entries.get(place_of(*key));
             gathered.push(LeafEntry {
                 id: entry.id,
                 bounds: entry.bounds,
             })?;
             layers.push(entry.layer)?;
         }
-        Ok(Leaves {
+        Ok(Entries {
             entries: gathered,
             layers,
         })
     }
 
     /// How many there are.
-    pub(crate) fn len(&self) -> usize
+    pub fn len(&self) -> usize
         ensures { result ≡ length self.now }
     {
         self.entries.len()
     }
 
-    /// The entry at a place.
-    pub(crate) fn get(&self, place: usize) -> Entry
+    /// Whether there are none.
+    pub fn is_empty(&self) -> bool
+        ensures { result ≡ (length self.now == 0) }
+    {
+        self.len() == 0
+    }
+
+    /// Adds an entry last. An error means that no memory is left; then the entries are as they were.
+    pub fn push(&mut self, entry: Entry) -> Result<(), AllocError>
+        ensures ok { OnOk result (self.new ≡ self.old ++ entry ∷ []) }
+        ensures err { OnErr result (self.new ≡ self.old) }
+    {
+        self.entries.reserve(1)?;
+        self.layers.push(entry.layer)?;
+        self.entries.push_reserved(LeafEntry {
+            id: entry.id,
+            bounds: entry.bounds,
+        });
+        Ok(())
+    }
+
+    /// Takes the last entry away, if there is one.
+    pub(crate) fn pop(&mut self)
+        ensures { self.new ≡ take (length self.old - 1) self.old }
+    {
+        let len = self.entries.len().saturating_sub(1);
+        self.entries.truncate(len);
+        self.layers.truncate(len);
+    }
+
+    /// The entry at a place, counted from 0.
+    pub fn get(&self, place: usize) -> Entry
         requires { place < length self.now }
         ensures { slice_get self.now place ≡ Some result }
     {
@@ -109,14 +139,14 @@ impl Leaves {
     }
 
     /// The entries without their layers.
-    pub(crate) fn entries(&self) -> &[LeafEntry]
+    pub fn leaves(&self) -> &[LeafEntry]
         ensures { result.now ≡ map without_layer self.now }
     {
         self.entries.as_slice()
     }
 
     /// Their layers.
-    pub(crate) fn layers(&self) -> &[u8]
+    pub fn layers(&self) -> &[u8]
         ensures { result.now ≡ map (λ entry. entry.layer) self.now }
     {
         self.layers.as_slice()

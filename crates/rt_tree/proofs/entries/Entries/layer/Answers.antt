@@ -1,6 +1,6 @@
 use Rattle.std.proofs.Common.{◌∙◌, ap, arith, get_or, sym}
 use Rattle.rt_tree.proofs.LeafLemmas.{layers-alone}
-use Rattle.rt_tree.proofs.leaves.Leaves.layer.Goals as goal
+use Rattle.rt_tree.proofs.entries.Entries.layer.Goals as goal
 
 pub returns-in-Some : goal.returns-in-Some
 returns-in-Some c =
