@@ -2,7 +2,8 @@
 //!
 //! So a query that asks for no layers reads none, and an entry takes no more room than its id, its box and one byte.
 
-ghost use Rattle.std.specs.Prelude.{◌≡◌, ◌==◌, ◌-◌, ◌<◌, ◌≤◌, ◌++◌, ◌∷◌, [], IfOk, OnErr, OnOk, Some, get_or, length, map, slice_get, take};
+ghost use Rattle.std.specs.Prelude.{◌≡◌, ◌==◌, ◌-◌, ◌<◌, ◌≤◌, ◌++◌, ◌∷◌, [], IfOk, OnErr, OnOk, Some, get_or, length};
+ghost use Rattle.std.specs.Prelude.{map, slice_get, take};
 ghost use Rattle.std.specs.List.{All};
 ghost use Rattle.rt_geo.specs.Layers.{most_layer, only};
 ghost use Rattle.rt_tree.specs.Leaves.{entries_of, without_layer};
