@@ -3,19 +3,19 @@ use Rattle.std.specs.Prelude.{◌≡◌, ℕ, Bool, false, nat_lt, List, take, O
 use Rattle.std.specs.Io.KnownBytes.{Appends, Consumes, IsAtEnd}
 
 -- where the bytes are still told after a failure, they are as before
-abbrev pub IsUnmoved : Option (List ℕ) → Option (List ℕ) → Type 0
-IsUnmoved old new = IfSome new (λ after. IfSome old (λ before. after ≡ before))
+abbrev pub IsSameIfTold : Option (List ℕ) → Option (List ℕ) → Type 0
+IsSameIfTold old new = IfSome new (λ after. IfSome old (λ before. after ≡ before))
 
 -- a pull of n bytes: the next n bytes stand in front of the room, none only where none are to come; a failure consumes
 -- nothing, where they are still told
 abbrev pub Pulls : {E : Type 0} → Option (List ℕ) → Option (List ℕ) → Result ℕ E → List ℕ → Type 0
 Pulls old new pulled room =
-    MatchResult pulled (λ n. Consumes old new (take n room) × (n ≡ 0 → IsAtEnd new)) (λ _. IsUnmoved old new)
+    MatchResult pulled (λ n. Consumes old new (take n room) × (n ≡ 0 → IsAtEnd new)) (λ _. IsSameIfTold old new)
 
 -- a push of n bytes: the first n bytes were appended; a failure appends nothing, where they are still told
 abbrev pub Pushes : {E : Type 0} → Option (List ℕ) → Option (List ℕ) → Result ℕ E → List ℕ → Type 0
 Pushes old new pushed piece =
-    MatchResult pushed (λ n. Appends old new (take n piece)) (λ _. IsUnmoved old new)
+    MatchResult pushed (λ n. Appends old new (take n piece)) (λ _. IsSameIfTold old new)
 
 -- a push that took a byte at least
 abbrev pub took_any : {E : Type 0} → Result ℕ E → Bool

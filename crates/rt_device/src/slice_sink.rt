@@ -2,7 +2,7 @@
 
 ghost use Rattle.std.specs.Prelude.{◌≡◌, ◌+◌, ◌-◌, ◌<◌, ◌≤◌, ◌^◌, ◌↔◌, ◌||◌, [], Some, IfOk, IsErr, OnOk, OnErr, length, min, unwrap_or, if◌then◌else◌, true, false};
 ghost use Rattle.std.specs.Io.KnownBytes.{Keeps};
-ghost use Rattle.rt_device.specs.Devices.{IsUnmoved, Pushes, took_any};
+ghost use Rattle.rt_device.specs.Devices.{IsSameIfTold, Pushes, took_any};
 
 use crate::sink::{Sink, WriteFault};
 use std::marker::Model;
@@ -130,7 +130,7 @@ impl Sink for SliceSink<'_> {
         requires { self.old.failures < 2 ^ 64 - 1 }
         ensures bytes { OnOk result (Keeps (Some self.old.bytes) (Some self.new.bytes)) }
         ensures went { OnOk result (self.new.failures ≡ self.old.failures) }
-        ensures lost { OnErr result (IsUnmoved (Some self.old.bytes) (Some self.new.bytes)) }
+        ensures lost { OnErr result (IsSameIfTold (Some self.old.bytes) (Some self.new.bytes)) }
         ensures fails { OnErr result (self.new.failures ≡ self.old.failures + 1) }
         ensures which { IsErr result ↔ (self.old.fails_in ≡ 1) }
         ensures later { (self.new.fails_in ≡ self.old.fails_in - 1) × (self.new.piece ≡ self.old.piece) }

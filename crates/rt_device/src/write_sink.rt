@@ -2,7 +2,7 @@
 
 ghost use Rattle.std.specs.Prelude.{◌≡◌, ◌+◌, ◌-◌, ◌<◌, ◌≤◌, ◌^◌, ◌||◌, IfOk, OnOk, OnErr, false, length};
 ghost use Rattle.std.specs.Io.KnownBytes.{Keeps};
-ghost use Rattle.rt_device.specs.Devices.{IsUnmoved, Pushes, took_any};
+ghost use Rattle.rt_device.specs.Devices.{IsSameIfTold, Pushes, took_any};
 
 use crate::sink::{Sink, WriteFault};
 use std::io::Write;
@@ -80,7 +80,7 @@ impl<W: Write> Sink for WriteSink<W> {
         requires { self.old.failures < 2 ^ 64 - 1 }
         ensures bytes { OnOk result (Keeps (W.contents self.old.device) (W.contents self.new.device)) }
         ensures went { OnOk result (self.new.failures ≡ self.old.failures) }
-        ensures lost { OnErr result (IsUnmoved (W.contents self.old.device) (W.contents self.new.device)) }
+        ensures lost { OnErr result (IsSameIfTold (W.contents self.old.device) (W.contents self.new.device)) }
         ensures fails { OnErr result (self.new.failures ≡ self.old.failures + 1) }
         ensures handed_on { OnOk result (self.new.waits ≡ false) }
         ensures waits { OnErr result (self.new.waits ≡ self.old.waits) }

@@ -14,11 +14,10 @@ use Rattle.std.proofs.Math.Seq.{paste, take-append_seam}
 use Rattle.std.proofs.lemmas.List.{drop-drop, drop-take, length-append, length-drop, take-append-drop}
 use Rattle.memchr.specs.Find.{IsFirstByte, is_byte}
 use Rattle.rt_text.specs.declared.query.Parsed.{Parsed}
-use Rattle.rt_device.specs.Devices.{IsUnmoved}
-use Rattle.rt_filter.specs.Endings.{WentPrefix}
+use Rattle.rt_device.specs.Devices.{IsSameIfTold}
 use Rattle.rt_filter.specs.Lines.{line_feed, longest_line, numbered_lines}
 use Rattle.rt_filter.specs.Replies.{Loaded, any_fault, is_fault, judged_line, output, reply}
-use Rattle.rt_filter.specs.Pushes.{WasCut, WasPushed}
+use Rattle.rt_filter.specs.Pushes.{WasCut, WasPushed, WentPrefix}
 use Rattle.rt_filter.specs.Stages.{HasNoLineFeed, IsAnswering, IsCut, asked_by, lines_from}
 use Rattle.rt_filter.proofs.LineLemmas.{clear-append, found, lines_from-found, lines_from-last, lines_from-none}
 
@@ -112,7 +111,7 @@ if_err (Err y) P e h p = rw h p
 rest_of : (xs front : List ℕ) → StartsWith xs front → xs ≡ front ++ drop (length front) xs
 rest_of xs front h = sym (take-append-drop (length front) xs) ∙ ap (λ zs. zs ++ drop (length front) xs) h
 
-starts : (front back : List ℕ) → StartsWith (front ++ back) front
+pub starts : (front back : List ℕ) → StartsWith (front ++ back) front
 starts front back = take-append_seam front back
 
 pub starts-more : (xs front back : List ℕ) → StartsWith xs front → StartsWith (xs ++ back) front
@@ -168,7 +167,7 @@ prefix_more loaded now (Some written) number line later w = (
       (starts-more (reply loaded number (judged_line line)) w.0 (output loaded later) w.2),
 )
 
-prefix_none : (now : List ℕ) (o : Option (List ℕ)) → IsUnmoved (Some now) o → WentPrefix now o []
+prefix_none : (now : List ℕ) (o : Option (List ℕ)) → IsSameIfTold (Some now) o → WentPrefix now o []
 prefix_none now None h = tt
 prefix_none now (Some written) h = ([], h ∙ sym (append-nil now), refl)
 
@@ -177,7 +176,7 @@ kept xs None h = absurd h
 kept xs (Some ys) h = ap (λ zs. Some zs) h
 
 -- all of the bytes went out, and then nothing more
-whole_prefix : (before bytes : List ℕ) (new : Option (List ℕ)) → IsUnmoved (Some (before ++ bytes)) new → WentPrefix before new bytes
+whole_prefix : (before bytes : List ℕ) (new : Option (List ℕ)) → IsSameIfTold (Some (before ++ bytes)) new → WentPrefix before new bytes
 whole_prefix before bytes None h = tt
 whole_prefix before bytes (Some now) h = (bytes, h, rw append-nil at (starts bytes []))
 
@@ -234,7 +233,7 @@ module _ (loaded : Loaded) (old mid new : Option (List ℕ)) (lines : ℕ) (bad 
       (r.0, kept r.0 new (rw r.1 at k), r.2, r.3)
 
   -- the flush after the last line failed
-  pub steps-lost : HasNoLineFeed rest → IsUnmoved mid new
+  pub steps-lost : HasNoLineFeed rest → IsSameIfTold mid new
       → (all before out : List ℕ) → old ≡ Some out → IsAnswering loaded all before lines bad is_long bytes out
       → IsCut loaded (numbered_lines all false) before out new bad'
   steps-lost clear k all before out o s =
@@ -314,7 +313,7 @@ module _ (loaded : Loaded) (all before out : List ℕ) (lines : ℕ) (bad is_lon
 
   -- it was answered, and the flush failed
   pub end_lost : (old mid new : Option (List ℕ)) (fault : Bool) → old ≡ Some out
-      → WasPushed old mid (reply loaded (lines + 1) (asked_by is_long held)) → IsUnmoved mid new
+      → WasPushed old mid (reply loaded (lines + 1) (asked_by is_long held)) → IsSameIfTold mid new
       → fault ≡ (bad || is_fault (asked_by is_long held)) → IsCut loaded (numbered_lines all true) before out new fault
   end_lost old mid new fault e w u f =
       let answer : List ℕ = reply loaded (lines + 1) (asked_by is_long held) in

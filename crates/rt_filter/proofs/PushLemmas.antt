@@ -5,9 +5,8 @@ use Rattle.std.specs.Io.{StartsWith}
 use Rattle.std.specs.Io.KnownBytes.{Appends}
 use Rattle.std.proofs.Math.Seq.{take-append_seam}
 use Rattle.std.proofs.lemmas.List.{take-append-drop}
-use Rattle.rt_device.specs.Devices.{IsUnmoved}
-use Rattle.rt_filter.specs.Endings.{WentPrefix}
-use Rattle.rt_filter.specs.Pushes.{WasCut, WasPushed}
+use Rattle.rt_device.specs.Devices.{IsSameIfTold}
+use Rattle.rt_filter.specs.Pushes.{WasCut, WasPushed, WentPrefix}
 
 -- a fact at each list that it may be is one at the list that it is
 pub if_some : (P : List ℕ → Type 0) (o : Option (List ℕ)) → ((xs : List ℕ) → o ≡ Some xs → P xs) → IfSome o P
@@ -89,18 +88,18 @@ pushed_cut all next rest old mid new p h = if_some _ old (λ before e.
     let cut : WentPrefix (before ++ q.0) new next = rw q.1 at h in
     later before q.0 next rest all new cut q.2)
 
-unmoved : (old new : Option (List ℕ)) (bytes : List ℕ) → IsUnmoved old new → WasCut old new bytes
+unmoved : (old new : Option (List ℕ)) (bytes : List ℕ) → IsSameIfTold old new → WasCut old new bytes
 unmoved None new bytes h = tt
 unmoved (Some xs) None bytes h = tt
 unmoved (Some xs) (Some ys) bytes h = ([], h ∙ sym (append-nil xs), refl)
 
 -- a push or a flush failed
-pub pushed_prefix : (all : List ℕ) (old mid new : Option (List ℕ)) (rest : List ℕ) → Pushed all old mid rest → IsUnmoved mid new
+pub pushed_prefix : (all : List ℕ) (old mid new : Option (List ℕ)) (rest : List ℕ) → Pushed all old mid rest → IsSameIfTold mid new
     → WasCut old new all
 pushed_prefix all old mid new rest p h =
     pushed_cut all rest [] old mid new (rw (append-nil rest) p) (unmoved mid new rest h)
 
-unmoved_same : (now : Option (List ℕ)) → IsUnmoved now now
+unmoved_same : (now : Option (List ℕ)) → IsSameIfTold now now
 unmoved_same None = tt
 unmoved_same (Some xs) = refl
 

@@ -1,24 +1,26 @@
 -- A run over a table that was loaded, and over one that was refused.
-use Rattle.std.proofs.Common.{◌≡◌, ◌∙◌, ℕ, Bool, true, arith, List, ◌++◌, Option, None, Some, refl, sym, ap, append-nil}
-use Rattle.std.specs.Prelude.{Ok, Result, if◌then◌else◌}
+use Rattle.std.proofs.Common.{◌≡◌, ◌∙◌, ℕ, Bool, true, false, arith, List, [], ◌++◌, Option, None, Some, refl, sym, ap, append-nil}
+use Rattle.std.specs.Prelude.{Ok, Err, Result, if◌then◌else◌}
 use Rattle.rt_command.specs.Choices.{Choices}
 use Rattle.rt_geo.specs.declared.entry.Entry.{Entry}
 use Rattle.rt_text.specs.Steps.{◌>>=◌}
-use Rattle.rt_text.specs.Tables.{MayRefuse, table_of}
+use Rattle.rt_text.specs.Tables.{IsFaultOf, table_of}
 use Rattle.rt_text.specs.declared.tables.TableFault.{TableFault}
 use Rattle.rt_text.specs.declared.tables.TableFault.TheVariants as load
 use Rattle.rt_tree.specs.Packed.{Packed}
 use Rattle.rt_tree.specs.Packing.{pack_of}
-use Rattle.rt_filter.specs.Endings.{EndsWith, ServesWith, Told, is_of_load, told_of}
+use Rattle.rt_filter.specs.Endings.{Ends, EndsAs, EndsEarly, EndsWith, Happened, IsStatusOf, Serves, StillTells, Tells, Told, is_of_load, is_read, is_write, told_of}
 use Rattle.rt_filter.specs.Faults.{run_fault}
 use Rattle.rt_filter.specs.Lines.{numbered_lines}
 use Rattle.rt_filter.specs.Replies.{Loaded, any_fault, output, tree_of}
-use Rattle.rt_filter.specs.Runs.{loaded_of, run_of, run_over, whole_run}
+use Rattle.rt_filter.specs.Runs.{faulty_run, loaded_of, run_of, run_over, whole_run}
 use Rattle.rt_filter.specs.Stages.{HasLoaded, Stops, run_fault_of}
+use Rattle.rt_filter.specs.declared.filter.Outcome.{Outcome}
 use Rattle.rt_filter.specs.declared.filter.RunFault.{RunFault}
 use Rattle.rt_filter.specs.declared.filter.RunFault.TheVariants as run
 use Rattle.rt_filter.specs.declared.serving.ServeFault.{ServeFault}
 use Rattle.rt_filter.specs.declared.serving.ServeFault.TheVariants as serve
+use Rattle.rt_filter.specs.declared.serving.Served.{Served}
 
 -- what is loaded of a table's entries, or of its fault
 abbrev pub loaded_with : Choices → Result (List Entry) TableFault → Result Loaded TableFault
@@ -29,11 +31,11 @@ loaded_with choices table = do
 -- ---- the table was refused
 
 refused : (choices : Choices) (table : List ℕ) (cause : TableFault)
-    → MayRefuse cause (table_of table choices.header choices.max_entries) → Stops choices table (run.Table cause)
+    → IsFaultOf cause (table_of table choices.header choices.max_entries) → Stops choices table (run.Table cause)
 refused choices table cause h = λ tells. ap (loaded_with choices) (h tells)
 
 pub stops_refused : (choices : Choices) (table : List ℕ) (cause : TableFault)
-    → MayRefuse cause (table_of table choices.header choices.max_entries) → Stops choices table (run_fault cause)
+    → IsFaultOf cause (table_of table choices.header choices.max_entries) → Stops choices table (run_fault cause)
 stops_refused choices table load.Memory h = tt
 stops_refused choices table load.Read h = refused choices table load.Read h
 stops_refused choices table (load.TooMany n) h = refused choices table (load.TooMany n) h
@@ -56,31 +58,88 @@ has_loaded choices table entries tree h packed = record {
 
 -- ---- how the run ends
 
-pub ends_early : (choices : Choices) (table queries before : List ℕ) (coming written : Option (List ℕ)) → coming ≡ Some queries → written ≡ Some before
-    → (cause : RunFault) → Stops choices table cause → is_of_load (Some cause) ≡ true → (code : ℕ)
-    → EndsWith (loaded_of choices table) (run_of choices table queries) (told_of queries before coming written) code (Some cause)
-ends_early choices table queries before coming written c w (run.Table cause) h of_load code = record {
-  early = record { coming = c; written = w ∙ ap (λ zs. Some zs) (sym (append-nil before)) };
-  own = h;
-}
-ends_early choices table queries before coming written c w run.Read h of_load code = absurd (grind (arith, of_load))
-ends_early choices table queries before coming written c w run.Write h of_load code = absurd (grind (arith, of_load))
-ends_early choices table queries before coming written c w run.Memory h of_load code = record { coming = c; written = w ∙ ap (λ zs. Some zs) (sym (append-nil before)) }
+-- a run ends so with this fault, if any
+abbrev EndsBy : Choices → (table : List ℕ) → Told → Outcome → Option RunFault → Type 0
+EndsBy choices table told outcome cause =
+    (what : Happened) × Tells told (is_read cause) (is_write cause) what
+    × EndsWith (loaded_of choices table) (run_of choices table told.queries) what outcome cause
 
-pub ends_served : (choices : Choices) (table : List ℕ) (tree : Packed) (told : Told) (bad : Bool) (cause : Option ServeFault) → HasLoaded choices table tree
-    → ((loaded : Loaded) → tree ≡ tree_of loaded → ServesWith loaded told bad cause) → (code : ℕ) → (cause ≡ None → code ≡ (if bad then 1 else 0))
-    → EndsWith (loaded_of choices table) (run_of choices table told.queries) told code (run_fault_of cause)
-ends_served choices table tree told bad None h s code is =
-    let r = s h.loaded h.packed in
-    let lines = numbered_lines told.queries true in
-    let whole : run_of choices table told.queries ≡ whole_run (output h.loaded lines) (any_fault lines) = ap (λ loaded. run_over loaded told.queries) h.same in
+-- a fault of the table's text is the run's own, and so is the status
+text_row : (choices : Choices) (table queries : List ℕ) (what : Happened) (outcome : Outcome) (cause : TableFault) → EndsEarly what
+    → loaded_of choices table ≡ Err cause → outcome.fault ≡ Some (run.Table cause) → outcome.status ≡ 3
+    → EndsEarly what × EndsAs (run_of choices table queries) what outcome
+text_row choices table queries what outcome cause early own fault status =
+    let is : run_of choices table queries ≡ faulty_run cause = ap (λ loaded. run_over loaded queries) own in (
+      early,
+      record {
+        written = early.unwritten ∙ ap (λ run. run.written) (sym is);
+        fault = fault ∙ ap (λ run. run.fault) (sym is);
+        status = status ∙ ap (λ run. run.status) (sym is);
+      },
+    )
+
+module _ (choices : Choices) (table queries before : List ℕ) (outcome : Outcome) where
+  abbrev nothing : Happened
+  nothing = record { consumed = []; rest = queries; out = [] }
+
+  row : (cause : RunFault) → Stops choices table cause → is_of_load (Some cause) ≡ true → outcome.fault ≡ Some cause
+      → IsStatusOf (Some cause) outcome.status
+      → EndsWith (loaded_of choices table) (run_of choices table queries) nothing outcome (Some cause)
+  row (run.Table load.Read) h of_load fault status = record { unread = refl; unwritten = refl }
+  row (run.Table load.Memory) h of_load fault status = absurd status
+  row (run.Table (load.TooMany n)) h of_load fault status = text_row choices table queries nothing outcome (load.TooMany n) (record { unread = refl; unwritten = refl }) (h refl) fault status
+  row (run.Table (load.FieldCount n k)) h of_load fault status = text_row choices table queries nothing outcome (load.FieldCount n k) (record { unread = refl; unwritten = refl }) (h refl) fault status
+  row (run.Table (load.NotNumber n k)) h of_load fault status = text_row choices table queries nothing outcome (load.NotNumber n k) (record { unread = refl; unwritten = refl }) (h refl) fault status
+  row (run.Table (load.OutOfRange n k)) h of_load fault status = text_row choices table queries nothing outcome (load.OutOfRange n k) (record { unread = refl; unwritten = refl }) (h refl) fault status
+  row (run.Table (load.MinAboveMax n k)) h of_load fault status = text_row choices table queries nothing outcome (load.MinAboveMax n k) (record { unread = refl; unwritten = refl }) (h refl) fault status
+  row (run.Table (load.Repeated n)) h of_load fault status = text_row choices table queries nothing outcome (load.Repeated n) (record { unread = refl; unwritten = refl }) (h refl) fault status
+  row run.Read h of_load fault status = absurd (grind (arith, of_load))
+  row run.Write h of_load fault status = absurd (grind (arith, of_load))
+  row run.Memory h of_load fault status = record { unread = refl; unwritten = refl }
+
+  still : (failed : Bool) (now : Option (List ℕ)) (bytes : List ℕ) → now ≡ Some bytes → StillTells failed now bytes
+  still true now bytes h = rw h refl
+  still false now bytes h = h
+
+  pub ends_early : (cause : RunFault) → Stops choices table cause → is_of_load (Some cause) ≡ true → outcome.fault ≡ Some cause
+      → IsStatusOf (Some cause) outcome.status → (coming written : Option (List ℕ)) → coming ≡ Some queries → written ≡ Some before
+      → Ends choices table (told_of queries before coming written) outcome
+  ends_early cause h of_load fault status coming written c w = rw fault (
+    nothing,
     record {
-      coming = r.coming;
-      written = r.written ∙ ap (λ run. Some (told.before ++ run.written)) (sym whole);
-      fault = ap (λ run. run.fault) whole;
-      status = is refl ∙ ap (λ b. if b then 1 else 0) r.faults ∙ ap (λ run. run.status) (sym whole);
-    }
-ends_served choices table tree told bad (Some serve.Read) h s code is =
-    rw h.same (bad, s h.loaded h.packed)
-ends_served choices table tree told bad (Some serve.Write) h s code is =
-    rw h.same (bad, s h.loaded h.packed)
+      queries = refl;
+      coming = still (is_read (Some cause)) coming queries c;
+      written = still (is_write (Some cause)) written (before ++ []) (w ∙ ap (λ zs. Some zs) (sym (append-nil before)));
+    },
+    row cause h of_load fault status,
+  )
+
+served_row : (choices : Choices) (table : List ℕ) (tree : Packed) (told : Told) (bad : Bool) (cause : Option ServeFault) → HasLoaded choices table tree
+    → ((loaded : Loaded) → tree ≡ tree_of loaded → Serves loaded told (record { bad = bad; fault = cause }))
+    → (outcome : Outcome) → outcome.fault ≡ run_fault_of cause → (cause ≡ None → outcome.status ≡ (if bad then 1 else 0))
+    → EndsBy choices table told outcome (run_fault_of cause)
+served_row choices table tree told bad None h s outcome fault status =
+    let r = s h.loaded h.packed in
+    let all : told.queries ≡ r.0.consumed = r.1.queries ∙ ap (λ zs. r.0.consumed ++ zs) r.2.ended ∙ append-nil r.0.consumed in
+    let lines = numbered_lines r.0.consumed true in
+    let whole : run_of choices table told.queries ≡ whole_run (output h.loaded lines) (any_fault lines) =
+    ap (λ loaded. run_over loaded told.queries) h.same ∙ ap (λ zs. run_over (Ok h.loaded) zs) all in (
+      r.0,
+      r.1,
+      (r.2.ended, record {
+        written = r.2.replies ∙ ap (λ run. run.written) (sym whole);
+        fault = fault ∙ ap (λ run. run.fault) (sym whole);
+        status = status refl ∙ ap (λ b. if b then 1 else 0) r.2.faults ∙ ap (λ run. run.status) (sym whole);
+      }),
+    )
+served_row choices table tree told bad (Some serve.Read) h s outcome fault status =
+    let r = s h.loaded h.packed in (r.0, r.1, rw h.same (bad, r.2))
+served_row choices table tree told bad (Some serve.Write) h s outcome fault status =
+    let r = s h.loaded h.packed in (r.0, r.1, rw h.same (bad, r.2))
+
+pub ends_served : (choices : Choices) (table : List ℕ) (tree : Packed) (told : Told) (served : Served) → HasLoaded choices table tree
+    → ((loaded : Loaded) → tree ≡ tree_of loaded → Serves loaded told served)
+    → (outcome : Outcome) → outcome.fault ≡ run_fault_of served.fault → (served.fault ≡ None → outcome.status ≡ (if served.bad then 1 else 0))
+    → Ends choices table told outcome
+ends_served choices table tree told served h s outcome fault status =
+    rw fault (served_row choices table tree told served.bad served.fault h s outcome fault status)

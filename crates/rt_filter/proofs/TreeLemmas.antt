@@ -27,12 +27,13 @@ use Rattle.rt_text.specs.declared.query.Query.TheVariants.{CostCount, CostFind, 
 use Rattle.rt_search.specs.Answers.{accepted, answer_cmp, answer_of, answers}
 use Rattle.rt_search.specs.Work.{opened_by_count, opened_by_search}
 use Rattle.rt_text.specs.Words.{is_empty}
-use Rattle.rt_filter.specs.Endings.{ServesWith, Told}
+use Rattle.rt_filter.specs.Endings.{Happened, Serves, ServesWith, Told}
 use Rattle.rt_filter.specs.Lines.{numbered_lines}
 use Rattle.rt_filter.specs.Replies.{Loaded, find_reply, judged_line, levels_reply, output, query_reply, reply, tree_of, verdict_of}
 use Rattle.rt_filter.specs.Stages.{loaded_tree}
 use Rattle.rt_filter.specs.declared.serving.ServeFault.{ServeFault}
 use Rattle.rt_filter.specs.declared.serving.ServeFault.TheVariants as serve
+use Rattle.rt_filter.specs.declared.serving.Served.{Served}
 use Rattle.rt_filter.proofs.AnswerLemmas.{answer_cmp_total, tied}
 
 -- ---- which entries are accepted
@@ -110,27 +111,20 @@ module _ (fanout : ℕ) (xs ys : List Entry) (distinct : IsDistinct int_eq (ids_
 -- ---- what is served over a tree
 
 -- what is replied the same is served the same
-serves_same : (one other : Loaded) (told : Told) (bad : Bool) (cause : Option ServeFault)
+serves_same : (one other : Loaded) (what : Happened) (bad : Bool) (cause : Option ServeFault)
     → ((lines : List (ℕ × List ℕ)) → output other lines ≡ output one lines)
-    → ServesWith one told bad cause → ServesWith other told bad cause
-serves_same one other told bad None same s = record {
-  coming = s.coming;
-  written = rw (same (numbered_lines told.queries true)) s.written;
-  faults = s.faults;
-}
-serves_same one other told bad (Some serve.Read) same s = λ consumed rest c.
-    let r = s consumed rest c in
-    record { written = rw (same (numbered_lines consumed false)) r.written; faults = r.faults }
-serves_same one other told bad (Some serve.Write) same s = record {
-  consumed = s.consumed;
-  rest = s.rest;
-  told_so = s.told_so;
-  written = rw (same (numbered_lines s.consumed (is_empty s.rest))) s.written;
+    → ServesWith one what bad cause → ServesWith other what bad cause
+serves_same one other what bad None same s =
+    record { ended = s.ended; replies = rw (same (numbered_lines what.consumed true)) s.replies; faults = s.faults }
+serves_same one other what bad (Some serve.Read) same s =
+    record { replies = rw (same (numbered_lines what.consumed false)) s.replies; faults = s.faults }
+serves_same one other what bad (Some serve.Write) same s = record {
+  replies = rw (same (numbered_lines what.consumed (is_empty what.rest))) s.replies;
   faults = s.faults;
   earlier = s.earlier;
   last = s.last;
-  is_earlier = s.is_earlier;
-  is_last = s.is_last;
+  parts = s.parts;
+  one_pull = s.one_pull;
   answered = rw (same (numbered_lines s.earlier false)) s.answered;
 }
 
@@ -148,6 +142,6 @@ module _ (tree : Packed) (loaded : Loaded) (sound : IsSound tree) (packed : tree
       ∙ ap (λ fanout. output (record { entries = tree.entries; fanout = fanout }) lines) (sym fanout_same)
 
   -- what is served over a tree is served over each list of entries whose packed tree it is
-  pub serves_of_tree : (told : Told) (bad : Bool) (cause : Option ServeFault) → ServesWith (loaded_tree tree) told bad cause
-      → ServesWith loaded told bad cause
-  serves_of_tree told bad cause = serves_same (loaded_tree tree) loaded told bad cause output_same
+  pub serves_of_tree : (told : Told) (served : Served) → Serves (loaded_tree tree) told served → Serves loaded told served
+  serves_of_tree told served s =
+      (s.0, s.1, serves_same (loaded_tree tree) loaded s.0 served.bad served.fault output_same s.2)

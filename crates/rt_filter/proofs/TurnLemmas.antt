@@ -1,21 +1,24 @@
 -- One pull, and what it leaves.
 use Rattle.std.proofs.Common.{◌≡◌, ◌∙◌, ◌+◌, ◌-◌, ◌<◌, ◌≤◌, ℕ, Bool, true, false, ◌||◌, List, [], ◌∷◌, ◌++◌, length, take, Option, Some, None, refl, sym, ap, ap₂, arith, append_assoc, append-nil}
-use Rattle.std.specs.Prelude.{if◌then◌else◌, nat_lt}
+use Rattle.std.specs.Prelude.{IfSome, if◌then◌else◌, nat_lt}
+use Rattle.std.specs.Io.{StartsWith}
 use Rattle.std.specs.Io.KnownBytes.{Consumes, IsAtEnd}
 use Rattle.std.specs.List.{enumerate_from, slice_split}
 use Rattle.std.proofs.Math.Seq.{take-append-add}
 use Rattle.std.proofs.lemmas.Bool.{ltb-true}
-use Rattle.std.proofs.lemmas.List.{append_cancel_right, length-append, length-take-le, take-take}
+use Rattle.std.proofs.lemmas.List.{append_cancel_left, length-append, length-take-le, take-take}
 use Rattle.std.proofs.lemmas.Slice.{take-put_mid}
 use borrow.Rule.Slice.PartMut.{put_mid}
-use Rattle.rt_device.specs.Devices.{IsUnmoved}
+use Rattle.rt_device.specs.Devices.{IsSameIfTold}
 use Rattle.rt_text.specs.Words.{is_empty}
-use Rattle.rt_filter.specs.Endings.{Consumed, HasConsumed, ServesAll, ServesLines, ServesPrefix, told_of}
+use Rattle.rt_filter.specs.Endings.{ConsumedAtLeast, Serves, StillTells, told_of}
 use Rattle.rt_filter.specs.Lines.{is_line_feed, lines_of_parts, longest_line, most_pulled, numbered_lines}
 use Rattle.rt_filter.specs.Replies.{Loaded, any_fault, output}
+use Rattle.rt_filter.specs.Pushes.{WentPrefix}
 use Rattle.rt_filter.specs.Stages.{HasNoLineFeed, IsAnswering, IsCut, IsServing, lines_from}
+use Rattle.rt_filter.specs.declared.serving.ServeFault.TheVariants as serve
 use Rattle.rt_filter.proofs.LineLemmas.{clear-append}
-use Rattle.rt_filter.proofs.PieceLemmas.{any_fault-append, no_line, or_first, output-append, starts-more}
+use Rattle.rt_filter.proofs.PieceLemmas.{any_fault-append, no_line, or_first, output-append, starts, starts-more}
 
 -- ---- what fills the room
 
@@ -134,9 +137,34 @@ ended : (rest : List ℕ) (new : Option (List ℕ)) → Consumes (Some rest) new
 ended rest None h e = absurd h
 ended rest (Some ys) h e = (ap (λ zs. Some zs) e, h ∙ e)
 
-pub unmoved_same : (now : Option (List ℕ)) → IsUnmoved now now
+pub unmoved_same : (now : Option (List ℕ)) → IsSameIfTold now now
 unmoved_same None = tt
 unmoved_same (Some xs) = refl
+
+still_told : (now : Option (List ℕ)) (bytes : List ℕ) → IsSameIfTold (Some bytes) now → StillTells true now bytes
+still_told None bytes h = tt
+still_told (Some known) bytes h = h
+
+-- ---- what went out before a failure
+
+-- behind what was there before, a prefix of the whole that has the earlier part
+pub record WentOut (whole earlier before : List ℕ) (now : Option (List ℕ)) : Type 0 where
+  pub out : List ℕ
+  pub told_so : StillTells true now (before ++ out)
+  pub prefix : StartsWith whole out
+  pub answered : StartsWith out earlier
+
+-- a prefix of what stands behind the same bytes
+starts-behind : (before out front : List ℕ) → StartsWith (before ++ out) (before ++ front) → StartsWith out front
+starts-behind before out front h = append_cancel_left before (take (length front) out) front
+    (sym (take-append-add before out (length front)) ∙ ap (λ n. take n (before ++ out)) (sym (length-append before front)) ∙ h)
+
+went_out : (whole earlier before : List ℕ) (now : Option (List ℕ)) → StartsWith whole earlier → WentPrefix before now whole
+    → IfSome now (λ written. StartsWith written (before ++ earlier)) → WentOut whole earlier before now
+went_out whole earlier before None s w a =
+    record { out = earlier; told_so = tt; prefix = s; answered = rw append-nil at (starts earlier []) }
+went_out whole earlier before (Some written) s w a =
+    record { out = w.0; told_so = w.1; prefix = w.2; answered = starts-behind before w.0 earlier (rw w.1 at a) }
 
 -- ---- the queries between two pulls
 
@@ -146,19 +174,28 @@ module _ (loaded : Loaded) (queries before : List ℕ) (coming written : Option 
   complete : numbered_lines s.consumed false ≡ s.answering.answered
   complete = no_line loaded s.consumed before lines bad is_long held s.out s.answering s.clear ∙ append-nil _
 
+  -- the replies to what was consumed are the first of those to more
+  begins_so : (given : List ℕ) (ended : Bool)
+      → StartsWith (output loaded (numbered_lines (s.consumed ++ given) ended)) (output loaded (numbered_lines s.consumed false))
+  begins_so given ended =
+      rw (complete, s.answering.splits given ended, output-append loaded s.answering.answered (lines_from lines (s.answering.dropped ++ (held ++ given)) ended))
+      (starts (output loaded s.answering.answered) (output loaded (lines_from lines (s.answering.dropped ++ (held ++ given)) ended)))
+
   pub out_is : s.out ≡ before ++ output loaded (numbered_lines s.consumed false)
   out_is = s.answering.replies ∙ ap (λ ls. before ++ output loaded ls) (sym complete)
 
   -- a failed pull, or turns that are used up
-  pub serving-stopped : (now : Option (List ℕ)) → IsUnmoved coming now → (front rest : List ℕ) → Consumed (told_of queries before now written) front rest
-      → ServesLines loaded (told_of queries before now written) bad front
-  serving-stopped now u front rest c =
-      let left : rest ≡ s.rest = rw (c.0, s.told_so.0) at u in
-      let same : front ≡ s.consumed = append_cancel_right front s.consumed rest (sym c.1 ∙ s.told_so.1 ∙ ap (λ zs. s.consumed ++ zs) (sym left)) in
+  pub serving-stopped : (now : Option (List ℕ)) → IsSameIfTold coming now
+      → Serves loaded (told_of queries before now written) (record { bad = bad; fault = Some serve.Read })
+  serving-stopped now u = (
+      record { consumed = s.consumed; rest = s.rest; out = output loaded (numbered_lines s.consumed false) },
       record {
-        written = s.written ∙ ap (λ zs. Some zs) (out_is ∙ ap (λ zs. before ++ output loaded (numbered_lines zs false)) (sym same));
-        faults = s.answering.faults ∙ ap any_fault (sym complete) ∙ ap (λ zs. any_fault (numbered_lines zs false)) (sym same);
-      }
+        queries = s.told_so.1;
+        coming = still_told now s.rest (rw s.told_so.0 at u);
+        written = s.written ∙ ap (λ zs. Some zs) out_is;
+      },
+      record { replies = refl; faults = s.answering.faults ∙ ap any_fault (sym complete) },
+  )
 
   -- what a pull gave
   pub taken : (now : Option (List ℕ)) (given : List ℕ) → Consumes coming now given → (rest : List ℕ) × (now ≡ Some rest) × (s.rest ≡ given ++ rest)
@@ -168,38 +205,44 @@ module _ (loaded : Loaded) (queries before : List ℕ) (coming written : Option 
   pub serving-ended : (now out : Option (List ℕ)) (fault : Bool) → Consumes coming now [] → IsAtEnd now
       → ((all before out' : List ℕ) → written ≡ Some out' → IsAnswering loaded all before lines bad is_long held out' → HasNoLineFeed held
       → (out ≡ Some (before ++ output loaded (numbered_lines all true))) × (fault ≡ any_fault (numbered_lines all true)))
-      → ServesAll loaded (told_of queries before now out) fault
+      → Serves loaded (told_of queries before now out) (record { bad = fault; fault = None })
   serving-ended now out fault h at answered =
       let e = ended s.rest now (rw s.told_so.0 at h) at in
-      let all : queries ≡ s.consumed = s.told_so.1 ∙ ap (λ zs. s.consumed ++ zs) e.1 ∙ append-nil s.consumed in
-      let r = answered s.consumed before s.out s.written s.answering s.clear in
-      record {
-        coming = e.0;
-        written = r.0 ∙ ap (λ zs. Some (before ++ output loaded (numbered_lines zs true))) (sym all);
-        faults = r.1 ∙ ap (λ zs. any_fault (numbered_lines zs true)) (sym all);
-      }
+      let r = answered s.consumed before s.out s.written s.answering s.clear in (
+        record { consumed = s.consumed; rest = []; out = output loaded (numbered_lines s.consumed true) },
+        record { queries = s.told_so.1 ∙ ap (λ zs. s.consumed ++ zs) e.1; coming = e.0; written = r.0 },
+        record { ended = refl; replies = refl; faults = r.1 },
+      )
 
   -- a push or a flush failed
   cut_prefix : (now out : Option (List ℕ)) (fault : Bool) (given rest : List ℕ) → now ≡ Some rest → s.rest ≡ given ++ rest → length given ≤ most_pulled
-      → IsCut loaded (numbered_lines (s.consumed ++ given) (is_empty rest)) before s.out out fault → ServesPrefix loaded (told_of queries before now out) fault
-  cut_prefix now out fault given rest is parts few cut = record {
-    consumed = s.consumed ++ given;
-    rest = rest;
-    told_so = (is, s.told_so.1 ∙ ap (λ zs. s.consumed ++ zs) parts ∙ sym (append_assoc s.consumed given rest));
-    written = cut.written;
-    faults = cut.faults;
-    earlier = s.consumed;
-    last = given;
-    is_earlier = refl;
-    is_last = few;
-    answered = rw (← out_is) cut.answered;
-  }
+      → IsCut loaded (numbered_lines (s.consumed ++ given) (is_empty rest)) before s.out out fault
+      → Serves loaded (told_of queries before now out) (record { bad = fault; fault = Some serve.Write })
+  cut_prefix now out fault given rest is parts few cut =
+      let gone = went_out (output loaded (numbered_lines (s.consumed ++ given) (is_empty rest))) (output loaded (numbered_lines s.consumed false)) before out
+          (begins_so given (is_empty rest)) cut.written (rw out_is at cut.answered) in (
+        record { consumed = s.consumed ++ given; rest = rest; out = gone.out },
+        record {
+          queries = s.told_so.1 ∙ ap (λ zs. s.consumed ++ zs) parts ∙ sym (append_assoc s.consumed given rest);
+          coming = is;
+          written = gone.told_so;
+        },
+        record {
+          replies = gone.prefix;
+          faults = cut.faults;
+          earlier = s.consumed;
+          last = given;
+          parts = refl;
+          one_pull = few;
+          answered = gone.answered;
+        },
+      )
 
   -- at the end
   pub serving-cut_at_end : (now out : Option (List ℕ)) (fault : Bool) → Consumes coming now [] → IsAtEnd now
       → ((all before out' : List ℕ) → written ≡ Some out' → IsAnswering loaded all before lines bad is_long held out' → HasNoLineFeed held
       → IsCut loaded (numbered_lines all true) before out' out fault)
-      → ServesPrefix loaded (told_of queries before now out) fault
+      → Serves loaded (told_of queries before now out) (record { bad = fault; fault = Some serve.Write })
   serving-cut_at_end now out fault h at cut =
       let e = ended s.rest now (rw s.told_so.0 at h) at in
       cut_prefix now out fault [] [] e.0 e.1 (omega arith)
@@ -209,7 +252,7 @@ module _ (loaded : Loaded) (queries before : List ℕ) (coming written : Option 
   pub serving-cut : (now out : Option (List ℕ)) (fault : Bool) (given bytes : List ℕ) → Consumes coming now given → length given ≤ most_pulled → bytes ≡ held ++ given
       → ((all before out' : List ℕ) → written ≡ Some out' → IsAnswering loaded all before lines bad is_long bytes out'
       → IsCut loaded (numbered_lines all false) before out' out fault)
-      → ServesPrefix loaded (told_of queries before now out) fault
+      → Serves loaded (told_of queries before now out) (record { bad = fault; fault = Some serve.Write })
   serving-cut now out fault given bytes h few e cut =
       let t = taken now given h in
       let all : List ℕ = s.consumed ++ given in
@@ -239,10 +282,10 @@ module _ (loaded : Loaded) (queries before : List ℕ) (coming written : Option 
 
 -- ---- all turns
 
-pub consumed_none : (old : Option (List ℕ)) → HasConsumed 0 old old
+pub consumed_none : (old : Option (List ℕ)) → ConsumedAtLeast 0 old old
 consumed_none old all e = ([], all, e, refl, omega arith)
 
-pub consumed_more : (count : ℕ) (old mid new : Option (List ℕ)) → HasConsumed count old mid → HasConsumed 1 mid new → HasConsumed (count + 1) old new
+pub consumed_more : (count : ℕ) (old mid new : Option (List ℕ)) → ConsumedAtLeast count old mid → ConsumedAtLeast 1 mid new → ConsumedAtLeast (count + 1) old new
 consumed_more count old mid new h k all e =
     let r = h all e in
     let t = k r.1 r.2 in

@@ -3,14 +3,15 @@ use Rattle.std.specs.Prelude.{◌≡◌, ◌+◌, ◌<◌, ℕ, List, [], ◌++�
 use Rattle.std.specs.List.{AllByRecursion, enumerate_from, slice_split}
 use Rattle.std.specs.Io.{StartsWith}
 use Rattle.rt_command.specs.Choices.{Choices}
-use Rattle.rt_text.specs.Tables.{MayRefuse}
+use Rattle.rt_text.specs.Tables.{IsFaultOf}
 use Rattle.rt_text.specs.declared.query.Parsed.{Parsed}
 use Rattle.rt_text.specs.declared.query.Parsed.TheVariants as parsed
 use Rattle.rt_text.specs.declared.query.QueryFault.TheVariants as fault
 use Rattle.rt_text.specs.declared.tables.TableFault.TheVariants as load
 use Rattle.rt_tree.specs.Packed.{Packed}
-use Rattle.rt_filter.specs.Endings.{Consumed, Told, WentPrefix}
+use Rattle.rt_filter.specs.Endings.{Told}
 use Rattle.rt_filter.specs.Lines.{is_line_feed, lines_of_parts, longest_line, numbered_lines}
+use Rattle.rt_filter.specs.Pushes.{WentPrefix}
 use Rattle.rt_filter.specs.Replies.{Loaded, any_fault, judged_line, output, tree_of}
 use Rattle.rt_filter.specs.Runs.{loaded_of}
 use Rattle.rt_filter.specs.declared.filter.RunFault.{RunFault}
@@ -37,7 +38,7 @@ is_told other = true
 
 -- why nothing was loaded: a fault of the table's text is the one that it has
 abbrev pub Stops : Choices → (table : List ℕ) → RunFault → Type 0
-Stops choices table (Table cause) = MayRefuse cause (loaded_of choices table)
+Stops choices table (Table cause) = IsFaultOf cause (loaded_of choices table)
 Stops choices table other = ⊤
 
 -- what a run tells of a fault of serving
@@ -73,6 +74,10 @@ pub record IsAnswering (loaded : Loaded) (bytes before : List ℕ) (lines : ℕ)
   pub long : is_long ≡ true → longest_line < length dropped
   pub short : is_long ≡ false → dropped ≡ []
   pub clear : HasNoLineFeed dropped
+
+-- these query bytes were consumed, and the rest are still to come
+abbrev pub Consumed : Told → (consumed rest : List ℕ) → Type 0
+Consumed told consumed rest = (told.coming ≡ Some rest) × (told.queries ≡ consumed ++ rest)
 
 -- the queries are answered as far as they were pulled: what is held is the beginning of the next line
 pub record IsServing (loaded : Loaded) (told : Told) (lines : ℕ) (bad is_long : Bool) (held : List ℕ) : Type 0 where

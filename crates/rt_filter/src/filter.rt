@@ -1,7 +1,7 @@
 //! A whole run: a table and queries in, answers out.
 
 ghost use Rattle.std.specs.Prelude.{◌≡◌, ◌+◌, ◌-◌, ◌<◌, ◌≤◌, ◌^◌, ◌⊎◌, ℕ, List, [], Some, None, IfOk, IfErr, OnErr, length, if◌then◌else◌, true, false};
-ghost use Rattle.rt_filter.specs.Endings.{Ends, HasConsumed, IsStatusOf, told_of, is_of_load, is_read, is_write};
+ghost use Rattle.rt_filter.specs.Endings.{Ends, ConsumedAtLeast, IsStatusOf, told_of, is_of_load, is_read, is_write};
 ghost use Rattle.rt_filter.specs.Faults.{run_fault_line};
 ghost use Rattle.rt_filter.specs.Stages.{HasLoaded, Stops, is_told, run_fault_of};
 
@@ -65,7 +65,7 @@ pub fn run<R: Read + Drop, S: Source, K: Sink>(
     ensures pulls { (S.failed source.new ≡ S.failed source.old)
         ⊎ ((S.failed source.new ≡ S.failed source.old + 1) × (is_read result.fault ≡ true)) }
     ensures turns { is_read result.fault ≡ true → S.failed source.new ≡ S.failed source.old
-        → HasConsumed turns (S.coming source.old) (S.coming source.new) }
+        → ConsumedAtLeast turns (S.coming source.old) (S.coming source.new) }
 
     // What was pushed is flushed, unless a push or a flush failed.
     ensures flushed { is_write result.fault ≡ false → K.waits sink.old ≡ false → K.waits sink.new ≡ false }

@@ -2,8 +2,8 @@
 
 ghost use Rattle.std.specs.Prelude.{◌≡◌, ◌+◌, ◌-◌, ◌++◌, ◌||◌, ◌<◌, ◌≤◌, ◌^◌, ◌⊎◌, ℕ, List, [], Some, None, IfOk, IfErr, IfSome, OnOk, OnErr, MatchOption, MatchResult, length, take, drop, nat_lt, if◌then◌else◌, true, false};
 ghost use Rattle.std.specs.Io.KnownBytes.{Keeps};
-ghost use Rattle.rt_device.specs.Devices.{IsUnmoved};
-ghost use Rattle.rt_filter.specs.Endings.{HasConsumed, Serves, ServesAll, ServesWith, is_pull, is_push, told_of};
+ghost use Rattle.rt_device.specs.Devices.{IsSameIfTold};
+ghost use Rattle.rt_filter.specs.Endings.{ConsumedAtLeast, Serves, is_pull, is_push, told_of};
 ghost use Rattle.rt_filter.specs.Lines.{longest_line, most_pulled, numbered_lines};
 ghost use Rattle.rt_filter.specs.Pushes.{WasCut, WasPushed};
 ghost use Rattle.rt_filter.specs.Replies.{Loaded, any_fault, is_fault, output, reply, tree_of};
@@ -85,7 +85,7 @@ pub fn serve<S: Source, K: Sink>(
     ensures pulls { (S.failed source.new ≡ S.failed source.old)
         ⊎ ((S.failed source.new ≡ S.failed source.old + 1) × (is_pull result.fault ≡ true)) }
     ensures turns { is_pull result.fault ≡ true → S.failed source.new ≡ S.failed source.old
-        → HasConsumed turns (S.coming source.old) (S.coming source.new) }
+        → ConsumedAtLeast turns (S.coming source.old) (S.coming source.new) }
 
     // What was pushed is flushed, unless a push or a flush failed: after any number of turns, so before each pull.
     ensures flushed { is_push result.fault ≡ false → K.waits sink.old ≡ false → K.waits sink.new ≡ false }
@@ -112,7 +112,7 @@ fn serve_turns<S: Source, K: Sink>(
     ensures pulls { (S.failed source.new ≡ S.failed source.old)
         ⊎ ((S.failed source.new ≡ S.failed source.old + 1) × (is_pull result.fault ≡ true)) }
     ensures turns { is_pull result.fault ≡ true → S.failed source.new ≡ S.failed source.old
-        → HasConsumed turns (S.coming source.old) (S.coming source.new) }
+        → ConsumedAtLeast turns (S.coming source.old) (S.coming source.new) }
     ensures flushed { is_push result.fault ≡ false → K.waits sink.old ≡ false → K.waits sink.new ≡ false }
 {
     let mut frontier = frontier;
@@ -175,15 +175,15 @@ fn turn<S: Source, K: Sink>(
         → IsServing (loaded_tree tree.now) (told_of queries before (S.coming source.old) (K.written sink.old))
         begun.old.lines begun.old.bad begun.old.is_long (take begun.old.held room.old)
         → let told = told_of queries before (S.coming source.new) (K.written sink.new) in
-        MatchOption left (ServesAll (loaded_tree tree.now) told begun.new.bad)
+        MatchOption left (Serves (loaded_tree tree.now) told (record { bad = begun.new.bad; fault = None }))
         (λ _. IsServing (loaded_tree tree.now) told begun.new.lines begun.new.bad begun.new.is_long
         (take begun.new.held room.new))) }
     ensures ending { IfErr result (λ fault. (queries before : List ℕ)
         → IsServing (loaded_tree tree.now) (told_of queries before (S.coming source.old) (K.written sink.old))
         begun.old.lines begun.old.bad begun.old.is_long (take begun.old.held room.old)
         → let told = told_of queries before (S.coming source.new) (K.written sink.new) in
-        ServesWith (loaded_tree tree.now) told begun.new.bad (Some fault)) }
-    ensures gives { IfOk result (λ left. IfSome left (λ _. HasConsumed 1 (S.coming source.old) (S.coming source.new))) }
+        Serves (loaded_tree tree.now) told (record { bad = begun.new.bad; fault = Some fault })) }
+    ensures gives { IfOk result (λ left. IfSome left (λ _. ConsumedAtLeast 1 (S.coming source.old) (S.coming source.new))) }
     ensures capacity { IfOk result (λ left. IfSome left (λ frontier'. frontier'.capacity ≡ frontier.capacity)) }
     ensures whole { length room.new ≡ most_pulled }
     ensures held { begun.new.held < most_pulled }
@@ -344,7 +344,7 @@ impl Begun {
         ensures went { OnOk result (K.failed sink.new ≡ K.failed sink.old) }
         ensures flushed { OnOk result ((self.old.is_pushed ≡ false → K.waits sink.old ≡ false)
             → K.waits sink.new ≡ false) }
-        ensures lost { OnErr result (IsUnmoved (K.written sink.old) (K.written sink.new)) }
+        ensures lost { OnErr result (IsSameIfTold (K.written sink.old) (K.written sink.new)) }
         ensures fails { OnErr result (K.failed sink.new ≡ K.failed sink.old + 1) }
         ensures lines { self.new.lines ≡ self.old.lines }
         ensures bad { self.new.bad ≡ self.old.bad }

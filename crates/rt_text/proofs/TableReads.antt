@@ -7,7 +7,7 @@ use Rattle.csv.specs.declared.parser.State.TheVariants as st
 use Rattle.csv.specs.declared.reader.Reader.{Reader}
 use Rattle.rt_geo.specs.declared.entry.Entry.{Entry}
 use Rattle.rt_text.specs.Loads.{EndsAt, after_ids, entry_after, first_number}
-use Rattle.rt_text.specs.Tables.{IsRefusal, table_of, tells_text}
+use Rattle.rt_text.specs.Tables.{IsRefusal, table_of, is_of_text}
 use Rattle.rt_text.specs.declared.tables.TableFault.{TableFault}
 use Rattle.rt_text.specs.declared.tables.TableFault.TheVariants as fault
 use Rattle.rt_text.proofs.Records.{records_after, records_after-end, records_after-found}
@@ -95,6 +95,6 @@ read-failed {records} {so_far} {header} {max} {number} f at failed = (
   (λ tells. absurd (never failed tells)),
 )
   where
-    never : (f ≡ fault.Read) ⊎ (f ≡ fault.Memory) → tells_text f ≡ true → ⊥
+    never : (f ≡ fault.Read) ⊎ (f ≡ fault.Memory) → is_of_text f ≡ true → ⊥
     never (inl reader) tells = let no : false ≡ true = rw reader at tells in cc
     never (inr memory) tells = let no : false ≡ true = rw memory at tells in cc

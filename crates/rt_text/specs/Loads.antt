@@ -3,7 +3,7 @@
 use Rattle.std.specs.Prelude.{◌≡◌, ℕ, ◌+◌, nat_le, Bool, if◌then◌else◌, List, length, Option, Some, None, Result, Ok, Err}
 use Rattle.rt_geo.specs.declared.entry.Entry.{Entry}
 use Rattle.rt_tree.specs.Entries.{first_repeat}
-use Rattle.rt_text.specs.Tables.{MayRefuse, entry_of_fields}
+use Rattle.rt_text.specs.Tables.{IsFaultOf, entry_of_fields}
 use Rattle.rt_text.specs.declared.tables.TableFault.{TableFault}
 use Rattle.rt_text.specs.declared.tables.TableFault.TheVariants as fault
 
@@ -29,4 +29,4 @@ after_ids header entries rest = repeat_or header (first_repeat entries) rest
 abbrev pub EndsAt : {U : Type 0} → Result U TableFault → (header : Bool) → List Entry → Result (List Entry) TableFault → Type 0
 EndsAt (Ok _) header entries table = table ≡ after_ids header entries (Ok entries)
 EndsAt (Err cause) header entries table =
-    (rest : Result (List Entry) TableFault) × (table ≡ after_ids header entries rest) × MayRefuse cause rest
+    (rest : Result (List Entry) TableFault) × (table ≡ after_ids header entries rest) × IsFaultOf cause rest

@@ -109,10 +109,10 @@ table_of bytes header max =
     if header then entries_from max 2 [] (drop 1 (records_of bytes)) else entries_from max 1 [] (records_of bytes)
 
 -- whether a fault tells of the table's text; the other two tell of its reader and of memory, and may come at any time
-abbrev pub tells_text : TableFault → Bool
-tells_text fault.Read = false
-tells_text fault.Memory = false
-tells_text other = true
+abbrev pub is_of_text : TableFault → Bool
+is_of_text fault.Read = false
+is_of_text fault.Memory = false
+is_of_text other = true
 
 -- a fault that a step of the load may answer, one that reads nothing, where this is what the step gives: its own
 -- fault, or want of memory
@@ -120,5 +120,5 @@ abbrev pub IsRefusal : {A : Type 0} → TableFault → Result A TableFault → T
 IsRefusal cause step = (cause ≡ fault.Memory) ⊎ (step ≡ Err cause)
 
 -- a fault that a load may answer where this is the table: one that tells of the text is the table's own
-abbrev pub MayRefuse : {A : Type 0} → TableFault → Result A TableFault → Type 0
-MayRefuse cause table = tells_text cause ≡ true → table ≡ Err cause
+abbrev pub IsFaultOf : {A : Type 0} → TableFault → Result A TableFault → Type 0
+IsFaultOf cause table = is_of_text cause ≡ true → table ≡ Err cause

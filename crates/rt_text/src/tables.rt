@@ -18,7 +18,7 @@ ghost use Rattle.rt_tree.specs.Entries.{first_repeat, most_entries};
 ghost use Rattle.rt_text.specs.Loads.{EndsAt, after_ids, entry_after, first_number};
 ghost use Rattle.rt_text.specs.Numbers.{number_in};
 ghost use Rattle.rt_text.specs.Steps.{map_fault};
-ghost use Rattle.rt_text.specs.Tables.{IsRefusal, MayRefuse, coordinate_of, entry_of_fields, entry_of_sides};
+ghost use Rattle.rt_text.specs.Tables.{IsRefusal, IsFaultOf, coordinate_of, entry_of_fields, entry_of_sides};
 ghost use Rattle.rt_text.specs.Tables.{field_fault, field_text, fields_without_layer, id_of, layer_in, layer_of, table_of};
 
 use crate::numbers::{self, NumberFault};
@@ -75,7 +75,7 @@ pub fn read_table<R: Read + Drop>(
     ensures table { IfOk result (λ table. (bytes : List ℕ)
         → R.remaining reader ≡ Some bytes → table_of bytes header max ≡ Ok table) }
     ensures fault { IfErr result (λ cause. (bytes : List ℕ)
-        → R.remaining reader ≡ Some bytes → MayRefuse cause (table_of bytes header max)) }
+        → R.remaining reader ≡ Some bytes → IsFaultOf cause (table_of bytes header max)) }
 {
     let mut entries = Entries::empty(alloc);
     let end = read_entries(alloc, reader, header, max, &mut entries);

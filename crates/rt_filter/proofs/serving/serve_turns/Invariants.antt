@@ -1,5 +1,5 @@
 use Rattle.std.proofs.Common.{◌≡◌, ◌*◌, ◌<◌, ◌≤◌, false, length, take, List, ℕ, Some}
-use Rattle.rt_filter.specs.Endings.{HasConsumed, told_of}
+use Rattle.rt_filter.specs.Endings.{ConsumedAtLeast, told_of}
 use Rattle.rt_filter.specs.Lines.{most_pulled}
 use Rattle.rt_filter.specs.Stages.{IsServing, loaded_tree}
 use Rattle.rt_filter.proofs.serving.serve_turns.Given as goal
@@ -13,7 +13,7 @@ invariant-loop-turn g l = record {
   whole : length l.room ≡ most_pulled;
   held : l.begun.held < most_pulled;
   few : l.begun.lines ≤ l._turn * most_pulled;
-  given : HasConsumed l._turn (g.S.Source.coming l.initial.source) (g.S.Source.coming l.source);
+  given : ConsumedAtLeast l._turn (g.S.Source.coming l.initial.source) (g.S.Source.coming l.source);
   serving : (queries before : List ℕ) → g.S.Source.coming l.initial.source ≡ Some queries → g.K.Sink.written l.initial.sink ≡ Some before
       → IsServing (loaded_tree l.tree) (told_of queries before (g.S.Source.coming l.source) (g.K.Sink.written l.sink))
       l.begun.lines l.begun.bad l.begun.is_long (take l.begun.held l.room);
