@@ -55,6 +55,10 @@ test:
 test-users: build/rtfilter
 	@tests/users.py build/rtfilter $(if $(filter all,$(NEED)),--need-all)
 
+# The greatest table that is allowed: some 1.2 GB of memory, and half a minute. No part of test.
+test-full: build/rtfilter
+	@tests/sizes.py build/rtfilter --full
+
 # What loading costs, and what a query line costs. BOXES: how many there are.
 bench: build/rtfilter
 	@bench/bench.py build/rtfilter $(BOXES)
@@ -77,5 +81,5 @@ uninstall:
 clean:
 	rm -rf build crates/*/out
 
-.PHONY: example check test test-users bench deb install uninstall clean
+.PHONY: example check test test-users test-full bench deb install uninstall clean
 .DEFAULT_GOAL := build/rtfilter

@@ -33,6 +33,10 @@ MANY_LINES = b"# a comment\n" * 6_000_000 + b"find window 1 %d 0 0\n" % COUNT
 MANY_FOUND = b"".join(b"%d 0\n" % n for n in range(1, COUNT + 1)) + b"ok 6000001 %d\n" % COUNT
 LONG_NAME = "boxes" * 40
 
+# A file of queries with a name as long, and paths that are nearly as long as the system takes.
+LONG_QUERIES = "queries" * 30
+LONG_PATH = "./" * 2000
+
 # More fields and more words than a small count holds.
 FIELDS = 70_000
 WORDS = 300
@@ -73,6 +77,7 @@ FILES = {
     "-H": BOXES,
     "-": BOTH,
     "queries": FIND,
+    LONG_QUERIES: FIND,
     LONG_NAME: MANY_BOXES,
     "late.csv": MANY_BOXES + b"1,0,0,0,0\n",
     "lines": MANY_LINES,
@@ -196,6 +201,11 @@ RUNS = [
     (["empty.csv"], FIND, 0, b"ok 1 0\n", b""),
     (["-H", "empty.csv"], FIND, 0, b"ok 1 0\n", b""),
     (["boxes.csv"], b"", 0, b"", b""),
+    (["boxes.csv", LONG_QUERIES], b"", 0, FOUND, b""),
+    ([LONG_PATH + "boxes.csv", LONG_PATH + "queries"], b"", 0, FOUND, b""),
+    (["-H", "--fanout", "2", "--max-entries", "5", "--", "header.csv", "queries"], b"", 0, FOUND, b""),
+    (["a" * 100_000], FIND, 3, b"", b"rtfilter: cannot open table\n"),
+    (["boxes.csv", "a" * 100_000], b"", 4, b"", b"rtfilter: cannot open queries\n"),
     ([LONG_NAME, "lines"], b"", 0, MANY_FOUND, b""),
     ([LONG_NAME], MANY_LINES, 0, MANY_FOUND, b""),
     (["-H", "-"], FIND, 0, b"1 0\nok 1 1\n", b""),
@@ -360,6 +370,24 @@ def through_pipe(program, words, folder, pieces):
     return found
 
 
+def opened_anew(program, words, folder, name):
+    """A run whose standard input is a file that was read to its end."""
+    with open(Path(folder, name), "rb") as read:
+        read.seek(0, os.SEEK_END)
+        return run(program, words, folder, stdin=read, stdout=subprocess.PIPE)
+
+
+def left_open(program, words, folder, text):
+    """A run whose standard input is a pipe that gives this text, and then neither more nor an end."""
+    reads, writes = os.pipe()
+    try:
+        os.write(writes, text)
+        return run(program, words, folder, stdin=reads, stdout=subprocess.PIPE)
+    finally:
+        os.close(reads)
+        os.close(writes)
+
+
 def single(text):
     """The bytes of a text, each a piece."""
     return (text[at:at + 1] for at in range(len(text)))
@@ -415,6 +443,10 @@ def outcomes(program, folder):
     rows = (b"%d,0,0,0,0\n" % n for n in itertools.count())
     endless = through_pipe(program, ["--max-entries", "1000", "/dev/stdin", "queries"], folder, rows)
     yield "a table without an end", (3, b"", b"rtfilter: table record 1001: too many entries\n"), endless
+    one_more = left_open(program, ["--max-entries", "5", "/dev/stdin", "queries"], folder, BOXES + b"6,0,0,0,0\n")
+    yield "one record more, and no end", (3, b"", b"rtfilter: table record 6: too many entries\n"), one_more
+    for words, name in ((["/dev/stdin", "queries"], "boxes.csv"), (["boxes.csv", "/dev/stdin"], "queries")):
+        yield f"{words}, read before", (0, FOUND, b""), opened_anew(program, words, folder, name)
     yield "queries from a terminal", (0, FOUND, b""), in_terminal(program, folder)
 
 

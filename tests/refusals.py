@@ -5,7 +5,8 @@ usage: tests/refusals.py PROGRAM
 
 Whichever growth of memory is refused, and whether those after it are too, the program ends in status 6 with nothing on
 standard output; once the table is loaded there is none. A refused read is one of the table or a pull, a refused write
-leaves a front of the answers.
+leaves a front of the answers. A read or a write that moves a single byte changes nothing, one that tells a fault on
+standard error among them.
 
 Single calls are tests of the crates, which `rt ci` and `rt test` leave in out/: where one of their growths is refused,
 they check that it is told as want of memory, that nothing else changed and that the same call then succeeds, and say
@@ -209,6 +210,17 @@ def long_answers(refuser, program):
         yield f"{name}, long answers", len(found), wrong
 
 
+def short(refuser, program):
+    """Reads and writes that move a single byte: the run is as ever."""
+    for words, stdin, wanted in [*RUNS, (["many.csv"], b"find all\n", reading.expected(MANY, b"find all\n"))]:
+        # (a run with bad words reads nothing)
+        for call in ("read", "write") if wanted[0] != 2 else ("write",):
+            many = FROM_THERE_ON if len(wanted[1]) < 1000 else ONCE
+            found, whole = refuser.each([program, *words], Refusal(call, 0, many), stdin)
+            wrong = differences([*found, whole], [[wanted]] * (len(found) + 1))
+            yield f"single bytes a {call}, {' '.join(words):.50}", len(found), wrong
+
+
 def calls(refuser):
     """The tests of the crates."""
     for crate, names in TESTS.items():
@@ -228,6 +240,7 @@ def outcomes(refuser, program):
     yield from after_the_load(refuser, program)
     yield from devices(refuser, program)
     yield from long_answers(refuser, program)
+    yield from short(refuser, program)
     yield from calls(refuser)
 
 

@@ -1,8 +1,9 @@
 /* Calls that fail, for tests/refusals.py, which loads this before the C library.
  *
  * REFUSE names the calls: memory (malloc and realloc), read or write. Those of the program are counted from 1, and
- * REFUSE_MANY of them, from number REFUSE_AT on, fail with the error REFUSE_AS. Each of these writes one byte to the
- * descriptor REFUSE_TO. All others are those of the C library (glibc).
+ * REFUSE_MANY of them, from number REFUSE_AT on, fail with the error REFUSE_AS; where that is 0, a read or a write moves
+ * one byte of those it could. Each of these writes one byte to the descriptor REFUSE_TO. All others are those of the C
+ * library (glibc).
  */
 
 #include <errno.h>
@@ -59,12 +60,19 @@ void *realloc(void *old, size_t size)
     return is_refused("memory") ? NULL : __libc_realloc(old, size);
 }
 
+static ssize_t move(long call, const char *name, int descriptor, const void *bytes, size_t size)
+{
+    if (!is_refused(name))
+        return syscall(call, descriptor, bytes, size);
+    return error ? -1 : syscall(call, descriptor, bytes, size > 0 ? (size_t)1 : size);
+}
+
 ssize_t read(int from, void *bytes, size_t size)
 {
-    return is_refused("read") ? -1 : syscall(SYS_read, from, bytes, size);
+    return move(SYS_read, "read", from, bytes, size);
 }
 
 ssize_t write(int into, const void *bytes, size_t size)
 {
-    return is_refused("write") ? -1 : syscall(SYS_write, into, bytes, size);
+    return move(SYS_write, "write", into, bytes, size);
 }

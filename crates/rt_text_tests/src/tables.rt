@@ -454,27 +454,36 @@ impl<'a> Read for Broken<'a> {
 
 #[test]
 fn failing_readers(rt: HostRuntime) {
-    let cases: [(&[u8], TableFault); 6] = [
+    let cases: [(&[u8], u32, TableFault); 8] = [
         (
             b"1,0,0,0,0\n1,0,0,0,0\n2,0",
+            ROOM,
             TableFault::Repeated { number: 2 },
         ),
-        (b"", TableFault::Read),
-        (b"1,0,0,0,0\n", TableFault::Read),
-        (b"1,0,0,0,0\n2,0,0", TableFault::Read),
+        (b"", ROOM, TableFault::Read),
+        (b"1,0,0,0,0\n", ROOM, TableFault::Read),
+        (b"1,0,0,0,0\n2,0,0", ROOM, TableFault::Read),
         (
             b"1,5,4,0,0\n2,0,0",
+            ROOM,
             TableFault::MinAboveMax {
                 number: 1,
                 axis: Axis::X,
             },
         ),
-        (b"1,5,4,0,0", TableFault::Read),
+        (b"1,5,4,0,0", ROOM, TableFault::Read),
+        // No more is read once the record after the most entries is there.
+        (
+            b"1,0,0,0,0\n2,0,0,0,0\n",
+            1,
+            TableFault::TooMany { number: 2 },
+        ),
+        (b"1,0,0,0,0\n", 1, TableFault::Read),
     ];
-    for (text, wanted) in cases {
+    for (text, max, wanted) in cases {
         let reader = Broken { text, at: 0 };
         assert_eq!(rt;
-            read_table(rt.alloc(), reader, false, ROOM).err(),
+            read_table(rt.alloc(), reader, false, max).err(),
             Some(wanted)
         );
     }

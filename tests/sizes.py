@@ -1,0 +1,108 @@
+#!/usr/bin/env python3
+"""Runs the built program on tables of many sizes, with each fanout, and compares what it answers.
+
+usage: tests/sizes.py PROGRAM [--full]
+
+Each fanout from 2 to 64 at the sizes around its powers, where a tree gains a level, and each size from 0 to a thousand:
+whatever is made for so many boxes, there is room for it. With --full instead the greatest table that is allowed, of
+16,777,216 boxes, and one of a box more: it takes some 1.2 GB of memory, and half a minute. The last line is `N passed, M
+failed`.
+"""
+
+import subprocess
+import sys
+import tempfile
+from pathlib import Path
+
+FANOUTS = range(2, 65)
+EACH_SIZE = range(1001)
+MOST_ENTRIES = 2**24
+QUERIES = b"levels\ncount all\nnearest 1 1 1\ncost count all\n"
+
+
+def records(sizes):
+    """Records with these ids, each of as many bytes: points on a band."""
+    return b"".join(b"%08d,%08d,%08d,%02d,%02d\n" % (id, id, id, id % 89, id % 89) for id in sizes)
+
+
+WIDTH = len(records([1]))
+
+
+def level_sizes(count, fanout):
+    """How many boxes, and then nodes, there are on each level."""
+    sizes = [count]
+    while count and (len(sizes) == 1 or sizes[-1] > 1):
+        sizes.append(-(-sizes[-1] // fanout))
+    return sizes
+
+
+def expected(count, fanout):
+    """Status, standard output and standard error of a run over so many boxes."""
+    sizes = level_sizes(count, fanout)
+    lines = [f"{level} {size}" for level, size in reversed(list(enumerate(sizes)))]
+    lines += [f"ok 1 {len(sizes)}", f"ok 2 {count}"]
+    lines += ["1 0", "ok 3 1", "ok 4 1"] if count else ["ok 3 0", "ok 4 0"]
+    return 0, "".join(f"{line}\n" for line in lines).encode(), b""
+
+
+def run(program, words, queries, table=None):
+    try:
+        done = subprocess.run([program, *words, queries], input=table, capture_output=True, timeout=300)
+    except subprocess.TimeoutExpired:
+        return "no end", b"", b""
+    return done.returncode, done.stdout, done.stderr
+
+
+def cases():
+    """Fanouts and sizes."""
+    for fanout in FANOUTS:
+        for power in (1, 2, 3):
+            for count in range(fanout**power - 1, fanout**power + 2):
+                yield fanout, count
+    for count in EACH_SIZE:
+        yield FANOUTS[count % len(FANOUTS)], count
+
+
+def usual(program, queries):
+    """What each run is, what is expected of it, and what it did."""
+    all_records = records(range(1, max(count for _, count in cases()) + 1))
+    for fanout, count in cases():
+        table = memoryview(all_records)[: count * WIDTH]
+        found = run(program, ["--fanout", str(fanout), "/dev/stdin"], queries, table)
+        yield f"{count} boxes, fanout {fanout}", expected(count, fanout), found
+
+
+def full(program, queries):
+    folder = Path(queries).parent
+    table = folder / "table.csv"
+    with open(table, "wb") as rows:
+        for start in range(1, MOST_ENTRIES + 1, 2**16):
+            rows.write(records(range(start, start + 2**16)))
+    for fanout in (2, 16):
+        found = run(program, ["--fanout", str(fanout), table], queries)
+        yield f"{MOST_ENTRIES} boxes, fanout {fanout}", expected(MOST_ENTRIES, fanout), found
+    with open(table, "ab") as rows:
+        rows.write(records([MOST_ENTRIES + 1]))
+    refused = 3, b"", b"rtfilter: table record %d: too many entries\n" % (MOST_ENTRIES + 1)
+    yield "a box more", refused, run(program, [table], queries)
+
+
+def main():
+    program = str(Path(sys.argv[1]).resolve())
+    passed = failed = 0
+    with tempfile.TemporaryDirectory() as folder:
+        queries = Path(folder, "queries")
+        queries.write_bytes(QUERIES)
+        outcomes = full if "--full" in sys.argv else usual
+        for name, wanted, found in outcomes(program, queries):
+            if found == wanted:
+                passed += 1
+            else:
+                failed += 1
+                print(f"FAIL {name}\n  expected {wanted!s:.300}\n  found    {found!s:.300}")
+    print(f"{passed} passed, {failed} failed")
+    return int(failed > 0)
+
+
+if __name__ == "__main__":
+    sys.exit(main())
