@@ -1,6 +1,6 @@
 -- Convex polygons: which lists of vertices are one, which boxes one accepts, and what a box shares with one.
 use Rattle.std.specs.List.{count_by, fold, list_all, list_any, slice_get}
-use Rattle.std.specs.Prelude.{◌≡◌, ◌≢◌, ◌<◌, ℕ, ◌+◌, ◌==◌, nat_le, Bool, true, not, ◌&&◌, if◌then◌else◌}
+use Rattle.std.specs.Prelude.{◌≡◌, ◌≢◌, ◌⊎◌, ◌<◌, ℕ, ◌+◌, ◌==◌, nat_le, Bool, true, false, not, ◌&&◌, if◌then◌else◌}
 use Rattle.std.specs.Prelude.{ℤ, pos, ◌-ℤ◌, ◌*ℤ◌, int_le, int_lt}
 use Rattle.std.specs.Prelude.{List, [], ◌∷◌, ◌++◌, length, reverse, Some, Result, Ok, Err}
 use Rattle.rt_geo.specs.Boxes.{Rect, hull, inside, overlaps, rect_of}
@@ -69,6 +69,17 @@ polygon_of vertices =
     if not (has_polygon_count vertices) then Err Count
     else (if is_strictly_convex vertices then Ok vertices
     else (if is_strictly_convex (reverse vertices) then Ok (reverse vertices) else Err NotConvex))
+
+-- the same vertex by vertex, so that no count of vertices has to be believed: a polygon is the list as it stands or its
+-- reverse, and strictly convex. Too few or too many vertices are told as that, and a list of 3 to 16 is refused only
+-- where it is strictly convex neither way round
+abbrev pub IsPolygonOf : List Point → Result (List Point) PolygonFault → Type 0
+IsPolygonOf points (Ok vertices) =
+    (has_polygon_count points ≡ true)
+    × (((vertices ≡ points) ⊎ (vertices ≡ reverse points)) × IsStrictlyConvex vertices)
+IsPolygonOf points (Err Count) = has_polygon_count points ≡ false
+IsPolygonOf points (Err NotConvex) =
+    (has_polygon_count points ≡ true) × ((¬ IsStrictlyConvex points) × (¬ IsStrictlyConvex (reverse points)))
 
 -- the least box around all vertices, of which there is at least one
 abbrev pub bounding_box : List Point → Rect

@@ -4,13 +4,14 @@
 //! four corners of the box for each edge. One corner is enough: the one farthest to the left of the edge tells
 //! whether the box meets the half-plane of the edge, the opposite one whether it lies in it.
 
-ghost use Rattle.std.specs.Prelude.{◌≡◌, ◌<◌, ◌≤◌, ◌^◌, ◌-◌, true, not, ◌&&◌, IfOk};
+ghost use Rattle.std.specs.Prelude.{◌≡◌, ◌<◌, ◌≤◌, ◌^◌, ◌-◌, true, not, ◌&&◌};
 ghost use Rattle.std.specs.Prelude.{IfSome, is_some, ◌-ℤ◌, ◌*ℤ◌, unsigned_abs, ◌∷◌, length, slice_index_or};
 ghost use Rattle.std.specs.List.{count_by, list_all};
 ghost use Rattle.rt_geo.specs.Boxes.{IsRect};
 ghost use Rattle.rt_geo.specs.Lemmas.HalfPlanes.{corner, leftmost_corner, rightmost_corner};
 ghost use Rattle.rt_geo.specs.Polygons.{bounding_box, cross, edges, is_left, lies_in_half_plane, meets_half_plane};
-ghost use Rattle.rt_geo.specs.Polygons.{IsStrictlyConvex, has_polygon_count, is_strictly_convex, polygon_of};
+ghost use Rattle.rt_geo.specs.Polygons.{IsPolygonOf, IsStrictlyConvex, has_polygon_count, is_strictly_convex};
+ghost use Rattle.rt_geo.specs.Polygons.{polygon_of};
 ghost use Rattle.rt_geo.specs.HalfPlanes.{is_narrow};
 ghost use Rattle.rt_geo.specs.Shapes.{state_by};
 
@@ -81,7 +82,7 @@ impl Polygon {
     #[inline(always)]
     pub fn new(points: &[Point]) -> Result<Polygon, PolygonFault>
         ensures value { result ≡ polygon_of points.now }
-        ensures convex { IfOk result IsStrictlyConvex }
+        ensures polygon { IsPolygonOf points.now result }
     {
         if points.len() < FEWEST_VERTICES || points.len() > MOST_VERTICES {
             return Err(PolygonFault::Count);
