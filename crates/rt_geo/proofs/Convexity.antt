@@ -1,7 +1,7 @@
 -- A list is strictly convex by the count of the vertices to the left of its edges exactly where it is so vertex by vertex.
 use Rattle.std.specs.Bool.{Decides}
 use Rattle.std.specs.List.{count_by, list_all}
-use Rattle.std.specs.Prelude.{◌==◌, ◌-ℤ◌, ◌*ℤ◌, cond, if◌then◌else◌, nat_le, not, reverse, Result, Ok, Err}
+use Rattle.std.specs.Prelude.{◌==◌, ◌-ℤ◌, ◌*ℤ◌, cond, if◌then◌else◌, not, reverse, Result, Ok, Err}
 use Rattle.std.proofs.Common.{◌≡◌, ◌≢◌, ◌∙◌, sym, refl, ap, subst, arith, ℕ, zero, suc, ◌+◌, ◌<◌, ◌≤◌, Bool, true, false}
 use Rattle.std.proofs.Common.{List, [], ◌∷◌, ◌++◌, length, get_or, add-one, inl, inr, ℤ, pos}
 use Rattle.std.proofs.Math.IntN.{*ℤ-zero, *ℤ_comm}

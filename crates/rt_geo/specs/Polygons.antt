@@ -123,12 +123,12 @@ polygon_state vertices i = state_by (not (polygon_meets vertices i.bounds)) (pol
 
 -- ---- points in fractions
 
--- where all is taken `d` times as large, the point (x / d, y / d) stands at (x, y), and a point p at `scaled d p`
-abbrev pub scaled : ℕ → Point → Point
-scaled d p = point_at (pos d *ℤ p.x) (pos d *ℤ p.y)
+-- where all is taken `d` times as large, the point (x / d, y / d) stands at (x, y), and a point p at `scaled_point d p`
+abbrev pub scaled_point : ℕ → Point → Point
+scaled_point d p = point_at (pos d *ℤ p.x) (pos d *ℤ p.y)
 
 abbrev pub scaled_edge : ℕ → Edge → Edge
-scaled_edge d edge = record { from = scaled d edge.from; to = scaled d edge.to }
+scaled_edge d edge = record { from = scaled_point d edge.from; to = scaled_point d edge.to }
 
 abbrev pub scaled_box : ℕ → Rect → Rect
 scaled_box d b = rect_of (pos d *ℤ b.min_x) (pos d *ℤ b.max_x) (pos d *ℤ b.min_y) (pos d *ℤ b.max_y)

@@ -39,7 +39,7 @@ impl Disc {
 
     /// A circle and an order in one: it answers what they do as a [`Guided`](crate::Guided). `None` where the order
     /// isn't by the distance from the middle of the circle, and nowhere else.
-    pub fn ordered(circle: &Circle, order: &Order) -> Option<Disc>
+    pub fn from_parts(circle: &Circle, order: &Order) -> Option<Disc>
         ensures when { SomeIff result (order.now ≡ near circle.now.centre) (disc_of circle.now) }
         ensures answers { IfSome result (λ disc. AnswersAs disc circle.now order.now) }
     {
