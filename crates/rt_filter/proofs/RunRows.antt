@@ -4,12 +4,11 @@ use Rattle.std.specs.Prelude.{Ok, Err, Some, None, codes}
 use Rattle.std.specs.Fmt.{digits}
 use Rattle.rt_command.specs.Choices.{Choices, choices_of}
 use Rattle.rt_geo.specs.Layers.{all_layers}
-use Rattle.rt_geo.specs.Orders.{order_score}
+use Rattle.rt_geo.specs.Orders.{near, order_score}
 use Rattle.rt_geo.specs.Shapes.{all_accepts}
 use Rattle.rt_geo.specs.declared.order.Order.TheVariants.{ById}
 use Rattle.rt_geo.specs.declared.region.Region.TheVariants.{Circle}
 use Rattle.rt_text.proofs.Rows.{boxes, boxes_entries, boxes_load, line}
-use Rattle.rt_text.specs.Queries.{near}
 use Rattle.rt_text.specs.declared.query.Query.TheVariants.{Find}
 use Rattle.rt_text.specs.declared.tables.TableFault.TheVariants as fault
 use Rattle.rt_search.specs.Answers.{answers}

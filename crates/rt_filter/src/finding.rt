@@ -98,7 +98,7 @@ fn push_in_region<K: Sink>(
     }
 }
 
-// The same for a polygon, which is asked faster where it is narrow.
+// The same for a polygon, which is asked faster where it can be prepared.
 fn push_in_polygon<K: Sink>(
     tree: &Tree,
     frontier: Frontier,
@@ -118,8 +118,8 @@ fn push_in_polygon<K: Sink>(
     ensures went { OnOk result (K.failed sink.new ≡ K.failed sink.old) }
     ensures fails { OnErr result (K.failed sink.new ≡ K.failed sink.old + 1) }
 {
-    match polygon.narrow() {
-        Some(narrow) => push_ordered(tree, frontier, line, narrow, order, limit, sink),
+    match polygon.prepare() {
+        Some(prepared) => push_ordered(tree, frontier, line, prepared, order, limit, sink),
         None => push_ordered(tree, frontier, line, polygon, order, limit, sink),
     }
 }
@@ -180,7 +180,7 @@ fn push_in_circle<K: Sink>(
     ensures went { OnOk result (K.failed sink.new ≡ K.failed sink.old) }
     ensures fails { OnErr result (K.failed sink.new ≡ K.failed sink.old + 1) }
 {
-    match Disc::ordered(&circle, &order) {
+    match Disc::from_parts(&circle, &order) {
         Some(disc) => push_found(tree, frontier, line, disc, limit, sink),
         None => push_ordered(tree, frontier, line, circle, order, limit, sink),
     }
@@ -329,7 +329,7 @@ fn push_counted_in_region<K: Sink>(
     }
 }
 
-// The same for a polygon, which is asked faster where it is narrow.
+// The same for a polygon, which is asked faster where it can be prepared.
 fn push_counted_in_polygon<K: Sink>(
     tree: &Tree,
     frontier: Frontier,
@@ -347,8 +347,8 @@ fn push_counted_in_polygon<K: Sink>(
     ensures went { OnOk result (K.failed sink.new ≡ K.failed sink.old) }
     ensures fails { OnErr result (K.failed sink.new ≡ K.failed sink.old + 1) }
 {
-    match polygon.narrow() {
-        Some(narrow) => push_counted(tree, frontier, line, narrow, sink),
+    match polygon.prepare() {
+        Some(prepared) => push_counted(tree, frontier, line, prepared, sink),
         None => push_counted(tree, frontier, line, polygon, sink),
     }
 }

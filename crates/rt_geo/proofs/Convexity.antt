@@ -1,19 +1,25 @@
--- A list that is strictly convex by the count of the vertices to the left of its edges is so vertex by vertex.
+-- A list is strictly convex by the count of the vertices to the left of its edges exactly where it is so vertex by vertex.
+use Rattle.std.specs.Bool.{Decides}
 use Rattle.std.specs.List.{count_by, list_all}
-use Rattle.std.specs.Prelude.{◌==◌, ◌-ℤ◌, ◌*ℤ◌, cond}
-use Rattle.std.proofs.Common.{◌≡◌, ◌≢◌, ◌∙◌, sym, refl, ap, arith, ℕ, zero, suc, ◌+◌, ◌<◌, ◌≤◌, Bool, true, false}
+use Rattle.std.specs.Prelude.{◌==◌, ◌-ℤ◌, ◌*ℤ◌, cond, if◌then◌else◌, not, reverse, Result, Ok, Err}
+use Rattle.std.proofs.Common.{◌≡◌, ◌≢◌, ◌∙◌, sym, refl, ap, subst, arith, ℕ, zero, suc, ◌+◌, ◌<◌, ◌≤◌, Bool, true, false}
 use Rattle.std.proofs.Common.{List, [], ◌∷◌, ◌++◌, length, get_or, add-one, inl, inr, ℤ, pos}
 use Rattle.std.proofs.Math.IntN.{*ℤ-zero, *ℤ_comm}
 use Rattle.std.proofs.lemmas.Bool.{cases_lt, eqb-true, true_from_ne_false, true≢false}
-use Rattle.std.proofs.lemmas.Bool.Decides.{nat_tests}
+use Rattle.std.proofs.lemmas.Bool.Decides.{Decides-eqb, nat_tests}
 use Rattle.std.proofs.lemmas.Grind.{common_steps}
 use Rattle.std.proofs.lemmas.Int.{ints}
+use Rattle.std.proofs.lemmas.List.{length-reverse}
+use Rattle.std.proofs.lemmas.List.Elements.{All-from_get_or}
 use Rattle.std.proofs.lemmas.List.Folds.{list_all_at}
-use Rattle.std.proofs.lemmas.List.Sums.{count_by-le-length, sum_by-cons}
-use Rattle.std.proofs.lemmas.Option.{get_or_from_slice_get, slice_get_within}
-use Rattle.rt_geo.specs.Polygons.{IsStrictlyConvex, edges, is_left, is_strictly_convex, next_place, path_from}
+use Rattle.std.proofs.lemmas.List.Sums.{count_by-le-length, list_all-from_AllPass, sum_by-cons}
+use Rattle.std.proofs.lemmas.Option.{get_or_from_slice_get, slice_get-get_or, slice_get_within}
+use Rattle.rt_geo.specs.Polygons.{IsPolygonOf, IsStrictlyConvex, edges, has_polygon_count, is_left}
+use Rattle.rt_geo.specs.Polygons.{is_strictly_convex, next_place, path_from, polygon_of}
 use Rattle.rt_geo.specs.declared.distance.Point.{Point}
 use Rattle.rt_geo.specs.declared.polygon.Edge.{Edge}
+use Rattle.rt_geo.specs.declared.polygon.PolygonFault.{PolygonFault}
+use Rattle.rt_geo.specs.declared.polygon.PolygonFault.TheVariants.{Count, NotConvex}
 
 -- ---- elements that fail a test aren't counted
 
@@ -59,6 +65,46 @@ three_fail f (x ∷ xs) zero (suc j) (suc k) d l m h e g t =
 three_fail f (x ∷ xs) (suc i) (suc j) (suc k) d l m h e g t =
     let more = three_fail f xs i j k d (omega (arith, l)) (omega (arith, m)) (omega (arith, h)) e g t in
     omega (arith, count_by-cons_le f x xs, more)
+
+-- ---- all but a few elements pass a test
+
+count_by-cons_yes : {X : Type 0} (f : X → Bool) (x : X) (xs : List X)
+    → f x ≡ true → count_by f (x ∷ xs) ≡ count_by f xs + 1
+count_by-cons_yes f x xs e =
+    omega (arith, sum_by-cons (λ y. cond (f y) 1 0) x xs, ap {B = ℕ} (λ b. cond b 1 0) e)
+
+count_by-cons_ge : {X : Type 0} (f : X → Bool) (x : X) (xs : List X) → count_by f xs ≤ count_by f (x ∷ xs)
+count_by-cons_ge f x xs = omega (arith, sum_by-cons (λ y. cond (f y) 1 0) x xs)
+
+all_pass : {X : Type 0} (f : X → Bool) (xs : List X) (d : X)
+    → ((j : ℕ) → j < length xs → f (get_or xs j d) ≡ true) → length xs ≤ count_by f xs
+all_pass f [] d h = omega arith
+all_pass f (x ∷ xs) d h =
+    let more = all_pass f xs d (λ j k. h (suc j) (omega (arith, k))) in
+    omega (arith, count_by-cons_yes f x xs (h 0 (omega arith)), more)
+
+all_but_one : {X : Type 0} (f : X → Bool) (xs : List X) (i : ℕ) (d : X)
+    → ((j : ℕ) → j < length xs → j ≢ i → f (get_or xs j d) ≡ true) → length xs ≤ count_by f xs + 1
+all_but_one f [] i d h = omega arith
+all_but_one f (x ∷ xs) zero d h =
+    let more = all_pass f xs d (λ j k. h (suc j) (omega (arith, k)) (omega arith)) in
+    omega (arith, count_by-cons_ge f x xs, more)
+all_but_one f (x ∷ xs) (suc i) d h =
+    let more = all_but_one f xs i d (λ j k m. h (suc j) (omega (arith, k)) (omega (arith, m))) in
+    omega (arith, count_by-cons_yes f x xs (h 0 (omega arith) (omega arith)), more)
+
+all_but_two : {X : Type 0} (f : X → Bool) (xs : List X) (i k : ℕ) (d : X) → i < k
+    → ((j : ℕ) → j < length xs → j ≢ i → j ≢ k → f (get_or xs j d) ≡ true) → length xs ≤ count_by f xs + 2
+all_but_two f [] i k d l h = omega arith
+all_but_two f (x ∷ xs) i zero d l h = absurd (omega (arith, l))
+all_but_two f (x ∷ xs) zero (suc k) d l h =
+    let more = all_but_one f xs k d (λ j m n. h (suc j) (omega (arith, m)) (omega arith) (omega (arith, n))) in
+    omega (arith, count_by-cons_ge f x xs, more)
+all_but_two f (x ∷ xs) (suc i) (suc k) d l h =
+    let more =
+    all_but_two f xs i k d (omega (arith, l))
+    (λ j m n o. h (suc j) (omega (arith, m)) (omega (arith, n)) (omega (arith, o))) in
+    omega (arith, count_by-cons_yes f x xs (h 0 (omega arith) (omega arith) (omega arith)), more)
 
 -- ---- an edge by its place
 
@@ -160,6 +206,33 @@ three_places_fail f vertices i j d h k other not_next e g t = elim (cases_lt (i 
       three_fail f vertices 0 j i d (omega (arith, not_next, next)) (omega (arith, other)) h g' t e
 ]
 
+-- two vertices that follow each other fail a test, and all the others pass it
+two_places_fail : (f : Point → Bool) (vertices : List Point) (i : ℕ) (d : Point)
+    → 2 ≤ length vertices → i < length vertices
+    → f (get_or vertices i d) ≡ false → f (get_or vertices (next_place vertices i) d) ≡ false
+    → ((j : ℕ) → j < length vertices → j ≢ i → j ≢ next_place vertices i → f (get_or vertices j d) ≡ true)
+    → count_by f vertices + 2 ≡ length vertices
+two_places_fail f vertices i d two h e g others = elim (cases_lt (i + 1) (length vertices)) [
+  | inl inner ↦
+      let next = next_place-inner vertices i inner in
+      let g' : f (get_or vertices (i + 1) d) ≡ false = rw (← next) g in
+      let most = two_fail f vertices i (i + 1) d (omega arith) inner e g' in
+      let least =
+      all_but_two f vertices i (i + 1) d (omega arith)
+      (λ j k not_from not_to. others j k not_from (omega (arith, not_to, next))) in
+      omega (arith, most, least)
+  | inr last ↦
+      let next = next_place-last vertices i (omega arith) in
+      let g' : f (get_or vertices 0 d) ≡ false = rw (← next) g in
+      let most = two_fail f vertices 0 i d (omega (arith, two)) h g' e in
+      let least =
+      all_but_two f vertices 0 i d (omega (arith, two))
+      (λ j k not_to not_from. others j k not_from (omega (arith, not_to, next))) in
+      omega (arith, most, least)
+]
+
+-- ---- by the count, and vertex by vertex
+
 -- so each vertex but the two ends of an edge lies strictly to its left
 pub strictly_convex : (vertices : List Point) → is_strictly_convex vertices ≡ true → IsStrictlyConvex vertices
 strictly_convex vertices h i j from to other e f g not_from not_to =
@@ -177,3 +250,66 @@ strictly_convex vertices h i j from to other e f g not_from not_to =
     (ap (is_left edge) from_is ∙ is_left-from edge) (ap (is_left edge) to_is ∙ is_left-to edge)
     (ap (is_left edge) other_is ∙ fails) in
     omega (arith, count, three))
+
+next_place-within : (vertices : List Point) (i : ℕ) → i < length vertices → next_place vertices i < length vertices
+next_place-within vertices i h = grind (arith, nat_tests)
+
+-- the vertices to the left of the edge at a place are all but two
+all_but_its_ends : (vertices : List Point) (i : ℕ) (d : Point) (edge : Edge)
+    → 2 ≤ length vertices → IsStrictlyConvex vertices → i < length vertices
+    → edge ≡ record { from = get_or vertices i d; to = get_or vertices (next_place vertices i) d }
+    → count_by (is_left edge) vertices + 2 ≡ length vertices
+all_but_its_ends vertices i d edge two convex h e =
+    let from = get_or vertices i d in
+    let to = get_or vertices (next_place vertices i) d in
+    rw e (two_places_fail (is_left (record { from = from; to = to })) vertices i d two h
+    (is_left-from (record { from = from; to = to })) (is_left-to (record { from = from; to = to }))
+    (λ j k not_from not_to. convex i j from to (get_or vertices j d) (slice_get-get_or vertices i d h)
+    (slice_get-get_or vertices (next_place vertices i) d (next_place-within vertices i h))
+    (slice_get-get_or vertices j d k) not_from not_to))
+
+-- so all edges pass the test that counts
+pub counted_convex : (vertices : List Point) → 2 ≤ length vertices
+    → IsStrictlyConvex vertices → is_strictly_convex vertices ≡ true
+counted_convex [] two convex = absurd (omega (arith, two))
+counted_convex (x ∷ xs) two convex =
+    let all_but_two = λ (edge : Edge). count_by (is_left edge) (x ∷ xs) + 2 == length (x ∷ xs) in
+    let edge : Edge = record { from = x; to = x } in
+    list_all-from_AllPass all_but_two (edges (x ∷ xs)) (All-from_get_or (λ e. all_but_two e ≡ true) (edges (x ∷ xs)) edge
+    (λ i k.
+    let h : i < length (x ∷ xs) = omega (arith, k, length-edges (x ∷ xs)) in
+    (Decides-eqb _ _).1
+    (all_but_its_ends (x ∷ xs) i x (get_or (edges (x ∷ xs)) i edge) two convex h
+    (get_or-edges (x ∷ xs) i x edge h))))
+
+pub is_strictly_convex-Decides : (vertices : List Point) → 2 ≤ length vertices
+    → Decides (is_strictly_convex vertices) (IsStrictlyConvex vertices)
+is_strictly_convex-Decides vertices two = (strictly_convex vertices, counted_convex vertices two)
+
+-- ---- the polygon of a list
+
+polygon_by : (points : List Point) (count convex turned : Bool)
+    → count ≡ has_polygon_count points
+    → (count ≡ true → Decides convex (IsStrictlyConvex points))
+    → (count ≡ true → Decides turned (IsStrictlyConvex (reverse points)))
+    → IsPolygonOf points (if not count then Err Count
+    else (if convex then Ok points else (if turned then Ok (reverse points) else Err NotConvex)))
+polygon_by points false convex turned c as_it_stands reversed = sym c
+polygon_by points true true turned c as_it_stands reversed = (sym c, (inl refl, (as_it_stands refl).0 refl))
+polygon_by points true false true c as_it_stands reversed = (sym c, (inr refl, (reversed refl).0 refl))
+polygon_by points true false false c as_it_stands reversed =
+    (sym c, (λ h. true≢false (sym ((as_it_stands refl).1 h)), λ h. true≢false (sym ((reversed refl).1 h))))
+
+at_least_two : (points : List Point) → has_polygon_count points ≡ true → 2 ≤ length points
+at_least_two points h = grind (arith, nat_tests)
+
+polygon_of-is : (points : List Point) → IsPolygonOf points (polygon_of points)
+polygon_of-is points =
+    polygon_by points (has_polygon_count points) (is_strictly_convex points) (is_strictly_convex (reverse points)) refl
+    (λ c. is_strictly_convex-Decides points (at_least_two points c))
+    (λ c. is_strictly_convex-Decides (reverse points) (omega (arith, at_least_two points c, length-reverse points)))
+
+-- what a contract that tells `polygon_of` tells of the vertices
+pub polygon_is : (points : List Point) (r : Result (List Point) PolygonFault)
+    → r ≡ polygon_of points → IsPolygonOf points r
+polygon_is points r e = subst (IsPolygonOf points) (sym e) (polygon_of-is points)

@@ -13,7 +13,7 @@ use Rattle.std.proofs.lemmas.List.Sums.{count_by_more_no, count_by_more_yes}
 use Rattle.std.proofs.lemmas.Nat.{mul-le}
 use Rattle.arrayvec.specs.ArrayVec.{ArrayVec}
 use Rattle.rt_geo.specs.Boxes.{Rect, IsRect, inside, overlaps}
-use Rattle.rt_geo.specs.HalfPlanes.{edges_from_last, half_plane_of, half_planes_of, is_narrow, is_short}
+use Rattle.rt_geo.specs.HalfPlanes.{edges_from_last, half_plane_of, half_planes_of, has_short_edges, is_short}
 use Rattle.rt_geo.specs.HalfPlanes.{is_small, is_strictly_left, reaches}
 use Rattle.rt_geo.specs.HalfPlanes.{sides_of, turned_sides_of}
 use Rattle.rt_geo.specs.Lemmas.HalfPlanes.{lies_in_half_plane-rightmost}
@@ -24,7 +24,7 @@ use Rattle.rt_geo.specs.Polygons.{lies_in_half_plane, meets_half_plane, path_fro
 use Rattle.rt_geo.specs.Shapes.{state_by}
 use Rattle.rt_geo.specs.declared.distance.Point.{Point}
 use Rattle.rt_geo.specs.declared.geometry.Info.{Info}
-use Rattle.rt_geo.specs.declared.narrow.HalfPlane.{HalfPlane}
+use Rattle.rt_geo.specs.declared.prepared.HalfPlane.{HalfPlane}
 use Rattle.rt_geo.specs.declared.polygon.Edge.{Edge}
 use Rattle.rt_geo.proofs.Edges.{edges_from_last-is, list_all-edges, list_all-edges_from_last}
 
@@ -273,8 +273,8 @@ half_plane_is edge along_x along_y x y offset side_x side_y f g h k l e p q r o 
 pub coordinate-stored : (m : ℤ) → unsigned_abs m ≤ 2 ^ 31 → FitsSigned w64 m
 coordinate-stored m h = grind (arith, ints)
 
-pub widened_is : (r z : ℤ) → FitsSigned w32 z → r ≡ to_z w32 (of_z w32 z) → r ≡ z
-widened_is r z f e = e ∙ to_z-of_z w32 z f
+pub to_i64_is : (r z : ℤ) → FitsSigned w32 z → r ≡ to_z w32 (of_z w32 z) → r ≡ z
+to_i64_is r z f e = e ∙ to_z-of_z w32 z f
 
 some_of : {X : Type 0} (t : Bool) (x y : X) → Some x ≡ (if t then Some y else None) → (t ≡ true) × (x ≡ y)
 some_of true x y e = (refl, cc)
@@ -289,7 +289,7 @@ some_vertex vertices h = grind (arith, nat_tests)
 
 -- what is known of the half-planes that were made, and of the vertices where none were
 pub record AreMade (vertices : List Point) (made : List HalfPlane) : Type 0 where
-  pub narrow : is_narrow vertices ≡ true
+  pub short : has_short_edges vertices ≡ true
   pub half_planes : made ≡ map half_plane_of (edges_from_last vertices)
 
 pub are_made : (vertices seen : List Point) (last : Point) (v : ArrayVec HalfPlane)
@@ -299,7 +299,7 @@ are_made vertices seen last v h s l e =
     let long = some_vertex vertices h in
     let parts = some_of (list_all is_short (path_from last vertices)) v _ (rw s at e) in
     record {
-      narrow = list_all-edges is_short vertices last long l ∙ parts.0;
+      short = list_all-edges is_short vertices last long l ∙ parts.0;
       half_planes =
           ap (λ (made : ArrayVec HalfPlane). made.items) parts.1
           ∙ ap (map half_plane_of) (sym (edges_from_last-is vertices last long l));
@@ -307,7 +307,7 @@ are_made vertices seen last v h s l e =
 
 pub none_made : (vertices seen : List Point) (last : Point)
     → has_polygon_count vertices ≡ true → seen ≡ vertices → last ≡ get_or vertices (length vertices - 1) last
-    → None ≡ half_planes_of (path_from last seen) → is_narrow vertices ≡ false
+    → None ≡ half_planes_of (path_from last seen) → has_short_edges vertices ≡ false
 none_made vertices seen last h s l e =
     list_all-edges is_short vertices last (some_vertex vertices h) l
     ∙ none_of (list_all is_short (path_from last vertices)) _ (rw s at e)

@@ -4,7 +4,7 @@ use Rattle.std.proofs.Common.{pos, negsuc, int_le, int_lt, ltb, leb, FitsSigned,
 use Rattle.std.specs.Simd.Lanes.{mask_l, top}
 use Rattle.std.proofs.lemmas.Bool.Decides.{leb_tells}
 use Rattle.std.proofs.lemmas.Int.{ints, to_z-of_z}
-use Rattle.rt_geo.specs.Boxes.{IsRect, Rect, flipped, inside, overlaps, plane}
+use Rattle.rt_geo.specs.Boxes.{IsRect, Rect, complement, inside, overlaps, plane}
 use Rattle.rt_geo.proofs.Stored.{stored}
 
 -- a lane of a comparison: all ones, or 0
@@ -42,8 +42,8 @@ not_above (pos m) (negsuc n) = refl
 not_above (negsuc m) (pos n) = refl
 not_above (negsuc m) (negsuc n) = not_less n m
 
-flipped_order : (y z : ℤ) → int_le (flipped z) (flipped y) ≡ int_le y z
-flipped_order y z = grind (arith, ints)
+complement_order : (y z : ℤ) → int_le (complement z) (complement y) ≡ int_le y z
+complement_order y z = grind (arith, ints)
 
 -- a lane that holds z is above one that holds y
 abbrev pub is_above : ℤ → ℤ → Bool
@@ -73,10 +73,10 @@ pub record FitSides (b : Rect) : Type 0 where
   pub right : FitsSigned w32 b.max_x
   pub low : FitsSigned w32 b.min_y
   pub high : FitsSigned w32 b.max_y
-  pub flipped_left : FitsSigned w32 (flipped b.min_x)
-  pub flipped_right : FitsSigned w32 (flipped b.max_x)
-  pub flipped_low : FitsSigned w32 (flipped b.min_y)
-  pub flipped_high : FitsSigned w32 (flipped b.max_y)
+  pub complement_left : FitsSigned w32 (complement b.min_x)
+  pub complement_right : FitsSigned w32 (complement b.max_x)
+  pub complement_low : FitsSigned w32 (complement b.min_y)
+  pub complement_high : FitsSigned w32 (complement b.max_y)
 
 pub sides_fit : (b : Rect) → IsRect b → inside b plane ≡ true → FitSides b
 sides_fit b v h = record {
@@ -84,32 +84,32 @@ sides_fit b v h = record {
   right = grind (arith, ints);
   low = grind (arith, ints);
   high = grind (arith, ints);
-  flipped_left = grind (arith, ints);
-  flipped_right = grind (arith, ints);
-  flipped_low = grind (arith, ints);
-  flipped_high = grind (arith, ints);
+  complement_left = grind (arith, ints);
+  complement_right = grind (arith, ints);
+  complement_low = grind (arith, ints);
+  complement_high = grind (arith, ints);
 }
 
 -- two boxes share a point where none of the one's ends lies beyond what the other faces it with
 pub overlaps_by_lanes : (a b : Rect) → IsRect a → inside a plane ≡ true → IsRect b → inside b plane ≡ true
     → is_empty (is_above a.min_x b.max_x) (is_above a.min_y b.max_y)
-    (is_above (flipped a.max_x) (flipped b.min_x)) (is_above (flipped a.max_y) (flipped b.min_y))
+    (is_above (complement a.max_x) (complement b.min_x)) (is_above (complement a.max_y) (complement b.min_y))
     ≡ overlaps a b
 overlaps_by_lanes a b v h w k =
     let p = sides_fit a v h in
     let q = sides_fit b w k in
-    rw (← flipped_order b.min_x a.max_x, ← flipped_order b.min_y a.max_y)
-    (none_above a.min_x a.min_y (flipped a.max_x) (flipped a.max_y) b.max_x b.max_y (flipped b.min_x) (flipped b.min_y)
-    p.left p.low p.flipped_right p.flipped_high q.right q.high q.flipped_left q.flipped_low)
+    rw (← complement_order b.min_x a.max_x, ← complement_order b.min_y a.max_y)
+    (none_above a.min_x a.min_y (complement a.max_x) (complement a.max_y) b.max_x b.max_y (complement b.min_x) (complement b.min_y)
+    p.left p.low p.complement_right p.complement_high q.right q.high q.complement_left q.complement_low)
 
 -- a box lies in another where none of its ends lies beyond the other's
 pub inside_by_lanes : (a b : Rect) → IsRect a → inside a plane ≡ true → IsRect b → inside b plane ≡ true
     → is_empty (is_above b.min_x a.min_x) (is_above b.min_y a.min_y)
-    (is_above (flipped b.max_x) (flipped a.max_x)) (is_above (flipped b.max_y) (flipped a.max_y))
+    (is_above (complement b.max_x) (complement a.max_x)) (is_above (complement b.max_y) (complement a.max_y))
     ≡ inside a b
 inside_by_lanes a b v h w k =
     let p = sides_fit a v h in
     let q = sides_fit b w k in
-    rw (← flipped_order a.max_x b.max_x, ← flipped_order a.max_y b.max_y)
-    (none_above b.min_x b.min_y (flipped b.max_x) (flipped b.max_y) a.min_x a.min_y (flipped a.max_x) (flipped a.max_y)
-    q.left q.low q.flipped_right q.flipped_high p.left p.low p.flipped_right p.flipped_high)
+    rw (← complement_order a.max_x b.max_x, ← complement_order a.max_y b.max_y)
+    (none_above b.min_x b.min_y (complement b.max_x) (complement b.max_y) a.min_x a.min_y (complement a.max_x) (complement a.max_y)
+    q.left q.low q.complement_right q.complement_high p.left p.low p.complement_right p.complement_high)

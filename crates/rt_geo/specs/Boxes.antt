@@ -11,8 +11,8 @@ abbrev pub greatest_coordinate : ℤ
 greatest_coordinate = pos (2 ^ 31 - 1)
 
 -- a number with all its bits flipped: the greater of two becomes the less
-abbrev pub flipped : ℤ → ℤ
-flipped z = negsuc 0 -ℤ z
+abbrev pub complement : ℤ → ℤ
+complement z = negsuc 0 -ℤ z
 
 -- a box: a minimum and a maximum on each axis
 pub record Rect : Type 0 where

@@ -8,7 +8,7 @@ use Rattle.arrayvec.specs.ArrayVec.{ArrayVec}
 use Rattle.rt_geo.specs.Boxes.{Rect}
 use Rattle.rt_geo.specs.Polygons.{edges, path_from}
 use Rattle.rt_geo.specs.declared.distance.Point.{Point}
-use Rattle.rt_geo.specs.declared.narrow.HalfPlane.{HalfPlane}
+use Rattle.rt_geo.specs.declared.prepared.HalfPlane.{HalfPlane}
 use Rattle.rt_geo.specs.declared.polygon.Edge.{Edge}
 
 -- an edge that leads less than 2 ^ 31 far on each axis
@@ -18,8 +18,8 @@ is_short edge =
     && nat_lt (unsigned_abs (edge.to.y -ℤ edge.from.y)) (2 ^ 31)
 
 -- a polygon each edge of which is short
-abbrev pub is_narrow : List Point → Bool
-is_narrow vertices = list_all is_short (edges vertices)
+abbrev pub has_short_edges : List Point → Bool
+has_short_edges vertices = list_all is_short (edges vertices)
 
 -- the sides of a box, and the same from its other end on each axis
 abbrev pub sides_of : Rect → List ℤ

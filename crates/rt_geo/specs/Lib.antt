@@ -1,5 +1,6 @@
 pub mod Boxes
 pub mod Counted
+pub mod Discs
 pub mod Distances
 pub mod Entries
 pub mod HalfPlanes

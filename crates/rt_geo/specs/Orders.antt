@@ -3,9 +3,14 @@ use Rattle.std.specs.Prelude.{ℕ}
 use Rattle.rt_geo.specs.Laws.{Extent}
 use Rattle.rt_geo.specs.Ranks.{by_id_estimate, near_estimate, smallest_estimate}
 use Rattle.rt_geo.specs.Ranks.{by_id_score, near_score, smallest_score}
+use Rattle.rt_geo.specs.declared.distance.Point.{Point}
 use Rattle.rt_geo.specs.declared.geometry.Info.{Info}
 use Rattle.rt_geo.specs.declared.order.Order.{Order}
 use Rattle.rt_geo.specs.declared.order.Order.TheVariants.{ById, Near, Smallest}
+
+-- the order by the distance from a point, the nearest first
+abbrev pub near : Point → Order
+near point = Near (record { 0 = point })
 
 -- the score that an order gives a box
 abbrev pub order_score : Order → Extent → ℕ

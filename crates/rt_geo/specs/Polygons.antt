@@ -1,6 +1,6 @@
 -- Convex polygons: which lists of vertices are one, which boxes one accepts, and what a box shares with one.
 use Rattle.std.specs.List.{count_by, fold, list_all, list_any, slice_get}
-use Rattle.std.specs.Prelude.{◌≡◌, ◌≢◌, ◌<◌, ℕ, ◌+◌, ◌==◌, nat_le, Bool, true, not, ◌&&◌, if◌then◌else◌}
+use Rattle.std.specs.Prelude.{◌≡◌, ◌≢◌, ◌⊎◌, ◌<◌, ℕ, ◌+◌, ◌==◌, nat_le, Bool, true, false, not, ◌&&◌, if◌then◌else◌}
 use Rattle.std.specs.Prelude.{ℤ, pos, ◌-ℤ◌, ◌*ℤ◌, int_le, int_lt}
 use Rattle.std.specs.Prelude.{List, [], ◌∷◌, ◌++◌, length, reverse, Some, Result, Ok, Err}
 use Rattle.rt_geo.specs.Boxes.{Rect, hull, inside, overlaps, rect_of}
@@ -70,6 +70,17 @@ polygon_of vertices =
     else (if is_strictly_convex vertices then Ok vertices
     else (if is_strictly_convex (reverse vertices) then Ok (reverse vertices) else Err NotConvex))
 
+-- the same vertex by vertex, so that no count of vertices has to be believed: a polygon is the list as it stands or its
+-- reverse, and strictly convex. Too few or too many vertices are told as that, and a list of 3 to 16 is refused only
+-- where it is strictly convex neither way round
+abbrev pub IsPolygonOf : List Point → Result (List Point) PolygonFault → Type 0
+IsPolygonOf points (Ok vertices) =
+    (has_polygon_count points ≡ true)
+    × (((vertices ≡ points) ⊎ (vertices ≡ reverse points)) × IsStrictlyConvex vertices)
+IsPolygonOf points (Err Count) = has_polygon_count points ≡ false
+IsPolygonOf points (Err NotConvex) =
+    (has_polygon_count points ≡ true) × ((¬ IsStrictlyConvex points) × (¬ IsStrictlyConvex (reverse points)))
+
 -- the least box around all vertices, of which there is at least one
 abbrev pub bounding_box : List Point → Rect
 bounding_box [] = rect_of (pos 0) (pos 0) (pos 0) (pos 0)
@@ -112,12 +123,12 @@ polygon_state vertices i = state_by (not (polygon_meets vertices i.bounds)) (pol
 
 -- ---- points in fractions
 
--- where all is taken `d` times as large, the point (x / d, y / d) stands at (x, y), and a point p at `scaled d p`
-abbrev pub scaled : ℕ → Point → Point
-scaled d p = point_at (pos d *ℤ p.x) (pos d *ℤ p.y)
+-- where all is taken `d` times as large, the point (x / d, y / d) stands at (x, y), and a point p at `scaled_point d p`
+abbrev pub scaled_point : ℕ → Point → Point
+scaled_point d p = point_at (pos d *ℤ p.x) (pos d *ℤ p.y)
 
 abbrev pub scaled_edge : ℕ → Edge → Edge
-scaled_edge d edge = record { from = scaled d edge.from; to = scaled d edge.to }
+scaled_edge d edge = record { from = scaled_point d edge.from; to = scaled_point d edge.to }
 
 abbrev pub scaled_box : ℕ → Rect → Rect
 scaled_box d b = rect_of (pos d *ℤ b.min_x) (pos d *ℤ b.max_x) (pos d *ℤ b.min_y) (pos d *ℤ b.max_y)

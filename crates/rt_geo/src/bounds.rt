@@ -3,7 +3,7 @@
 ghost use Rattle.std.specs.Prelude.{◌≡◌, ◌∷◌, [], true};
 ghost use Rattle.std.specs.Option.{SomeIff};
 ghost use Rattle.rt_geo.specs.Boxes.{IsLeastAround, IsRect, rect_of, plane};
-ghost use Rattle.rt_geo.specs.Boxes.{area, flipped, hull, inside, overlaps};
+ghost use Rattle.rt_geo.specs.Boxes.{area, complement, hull, inside, overlaps};
 ghost use Rattle.rt_geo.specs.Distances.{rect_at};
 
 use crate::distance::Point;
@@ -11,7 +11,7 @@ use std::marker::Model;
 use std::simd::prelude::*;
 
 // All bits of the last two lanes.
-const MAXIMUMS: [i32; 4] = [0, 0, -1, -1];
+const MAXIMUM_LANES: [i32; 4] = [0, 0, -1, -1];
 
 /// A closed box: a minimum and a maximum on each axis, each minimum at most its maximum.
 ///
@@ -125,21 +125,21 @@ pub fn inside(a: Bounds, b: Bounds) -> bool
 // all bits flipped. Two boxes are compared in one step by them.
 #[inline(always)]
 fn ends(bounds: Bounds) -> i32x4
-    ensures value { result ≡ bounds.min_x ∷ bounds.min_y ∷ flipped bounds.max_x ∷ flipped bounds.max_y ∷ [] }
+    ensures value { result ≡ bounds.min_x ∷ bounds.min_y ∷ complement bounds.max_x ∷ complement bounds.max_y ∷ [] }
     ensures valid { IsRect bounds }
     ensures coordinates { inside bounds plane ≡ true }
 {
-    sides(bounds) ^ i32x4::from_array(MAXIMUMS)
+    sides(bounds) ^ i32x4::from_array(MAXIMUM_LANES)
 }
 
 // How far a box must reach to the left, down, to the right and up to touch this one.
 #[inline(always)]
 fn facing_ends(bounds: Bounds) -> i32x4
-    ensures value { result ≡ bounds.max_x ∷ bounds.max_y ∷ flipped bounds.min_x ∷ flipped bounds.min_y ∷ [] }
+    ensures value { result ≡ bounds.max_x ∷ bounds.max_y ∷ complement bounds.min_x ∷ complement bounds.min_y ∷ [] }
     ensures valid { IsRect bounds }
     ensures coordinates { inside bounds plane ≡ true }
 {
-    facing_sides(bounds) ^ i32x4::from_array(MAXIMUMS)
+    facing_sides(bounds) ^ i32x4::from_array(MAXIMUM_LANES)
 }
 
 #[inline(always)]

@@ -1,10 +1,11 @@
 //! Discs whose nearest boxes come first.
 
 ghost use Rattle.std.specs.Prelude.{◌≡◌, IfSome, nat_le, nat_lt};
-ghost use Rattle.rt_geo.specs.Distances.{far2, near2, square};
-ghost use Rattle.rt_geo.specs.Orders.{order_score};
-ghost use Rattle.rt_geo.specs.Ranks.{near_score};
-ghost use Rattle.rt_geo.specs.Shapes.{circle_accepts, disc_accepts, state_by};
+ghost use Rattle.std.specs.Option.{SomeIff};
+ghost use Rattle.rt_geo.specs.Discs.{AnswersAs, disc_of};
+ghost use Rattle.rt_geo.specs.Distances.{far2, near2};
+ghost use Rattle.rt_geo.specs.Orders.{near};
+ghost use Rattle.rt_geo.specs.Shapes.{state_by};
 
 use crate::bounds::Bounds;
 use crate::distance::{Point, far2, near2};
@@ -27,8 +28,7 @@ pub struct Disc {
 impl Disc {
     /// The disc of a circle.
     pub fn new(circle: Circle) -> Disc
-        ensures centre { result.centre ≡ circle.centre }
-        ensures radius { result.radius2 ≡ square circle.radius }
+        ensures { result ≡ disc_of circle }
     {
         let radius = circle.radius as u128;
         Disc {
@@ -37,11 +37,11 @@ impl Disc {
         }
     }
 
-    /// A circle and an order in one, where the order is by the distance from the middle of the circle.
-    pub fn ordered(circle: &Circle, order: &Order) -> Option<Disc>
-        ensures accepts { IfSome result
-            (λ d. disc_accepts d.centre d.radius2 ≡ circle_accepts circle.now.centre circle.now.radius) }
-        ensures score { IfSome result (λ d. near_score d.centre ≡ order_score order.now) }
+    /// A circle and an order in one: it answers what they do as a [`Guided`](crate::Guided). `None` where the order
+    /// isn't by the distance from the middle of the circle, and nowhere else.
+    pub fn from_parts(circle: &Circle, order: &Order) -> Option<Disc>
+        ensures when { SomeIff result (order.now ≡ near circle.now.centre) (disc_of circle.now) }
+        ensures answers { IfSome result (λ disc. AnswersAs disc circle.now order.now) }
     {
         match order {
             Order::Near(rank) if circle.is_around(rank.0) => Some(Disc::new(*circle)),

@@ -12,13 +12,13 @@
 //!   a score or a [`Verdict`]; [`Guided`] joins a shape and a rank, [`Disc`] is a circle and the order by distance from
 //!   its middle in one; [`Counted`] counts the checks.
 //! - Shapes: [`All`], [`Window`], [`Inside`], [`Covers`], [`Circle`], [`Polygon`], and the enum [`Region`] of
-//!   these; [`OnLayers`] is one of them on some layers. A [`NarrowPolygon`] is a polygon that is asked faster.
+//!   these; [`OnLayers`] is one of them on some layers. A [`PreparedPolygon`] is a polygon that is asked faster.
 //! - Ranks: [`ById`], [`Near`], [`Smallest`], and the enum [`Order`] of these.
 //!
 //! The definitions that the contracts cite stand in `specs/`: `Boxes`, `Layers`, `Entries`, `Distances`, `Laws`,
-//! `Shapes`, `OnLayers`, `Polygons`, `HalfPlanes`, `Ranks`, `Regions`, `Orders`, `Counted`. They are in whole numbers without
-//! bounds; that each `Bounds` is a box of the plane of 32-bit coordinates is a fact of its own (`HasBox` of an
-//! entry, `IsWellFormed` of an info), which the readers of the sides and [`Entry::info`] tell. What stands below
+//! `Shapes`, `OnLayers`, `Polygons`, `HalfPlanes`, `Ranks`, `Regions`, `Orders`, `Discs`, `Counted`. They are in whole
+//! numbers without bounds; that each `Bounds` is a box of the plane of 32-bit coordinates is a fact of its own (`HasBox`
+//! of an entry, `IsWellFormed` of an info), which the readers of the sides and [`Entry::info`] tell. What stands below
 //! `specs/Lemmas` is proved and has not to be believed.
 #![tactic(auto)]
 
@@ -30,10 +30,10 @@ mod entry;
 mod geometry;
 mod guided;
 mod layers;
-mod narrow;
 mod on_layers;
 mod order;
 mod polygon;
+mod prepared;
 mod ranks;
 mod region;
 mod shapes;
@@ -46,10 +46,10 @@ pub use entry::Entry;
 pub use geometry::{Geometry, Info, Rank, Shape, Verdict, Within};
 pub use guided::Guided;
 pub use layers::Layers;
-pub use narrow::NarrowPolygon;
 pub use on_layers::OnLayers;
 pub use order::Order;
 pub use polygon::{Polygon, PolygonFault};
+pub use prepared::PreparedPolygon;
 pub use ranks::{ById, Near, Smallest};
 pub use region::Region;
 pub use shapes::{All, Circle, Covers, Inside, Window};

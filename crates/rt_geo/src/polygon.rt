@@ -4,20 +4,21 @@
 //! four corners of the box for each edge. One corner is enough: the one farthest to the left of the edge tells
 //! whether the box meets the half-plane of the edge, the opposite one whether it lies in it.
 
-ghost use Rattle.std.specs.Prelude.{◌≡◌, ◌<◌, ◌≤◌, ◌^◌, ◌-◌, true, not, ◌&&◌, IfOk};
+ghost use Rattle.std.specs.Prelude.{◌≡◌, ◌<◌, ◌≤◌, ◌^◌, ◌-◌, true, not, ◌&&◌};
 ghost use Rattle.std.specs.Prelude.{IfSome, is_some, ◌-ℤ◌, ◌*ℤ◌, unsigned_abs, ◌∷◌, length, slice_index_or};
 ghost use Rattle.std.specs.List.{count_by, list_all};
 ghost use Rattle.rt_geo.specs.Boxes.{IsRect};
 ghost use Rattle.rt_geo.specs.Lemmas.HalfPlanes.{corner, leftmost_corner, rightmost_corner};
 ghost use Rattle.rt_geo.specs.Polygons.{bounding_box, cross, edges, is_left, lies_in_half_plane, meets_half_plane};
-ghost use Rattle.rt_geo.specs.Polygons.{IsStrictlyConvex, has_polygon_count, is_strictly_convex, polygon_of};
-ghost use Rattle.rt_geo.specs.HalfPlanes.{is_narrow};
+ghost use Rattle.rt_geo.specs.Polygons.{IsPolygonOf, IsStrictlyConvex, has_polygon_count, is_strictly_convex};
+ghost use Rattle.rt_geo.specs.Polygons.{polygon_of};
+ghost use Rattle.rt_geo.specs.HalfPlanes.{has_short_edges};
 ghost use Rattle.rt_geo.specs.Shapes.{state_by};
 
 use crate::bounds::{Bounds, hull, inside, overlaps};
 use crate::distance::Point;
 use crate::geometry::{Info, Shape, Within};
-use crate::narrow::{NarrowPolygon, is_short, left_of_short, narrow};
+use crate::prepared::{PreparedPolygon, is_short, left_of_short, prepare};
 use arrayvec::ArrayVec;
 use std::marker::Model;
 
@@ -81,12 +82,12 @@ impl Polygon {
     #[inline(always)]
     pub fn new(points: &[Point]) -> Result<Polygon, PolygonFault>
         ensures value { result ≡ polygon_of points.now }
-        ensures convex { IfOk result IsStrictlyConvex }
+        ensures polygon { IsPolygonOf points.now result }
     {
         if points.len() < FEWEST_VERTICES || points.len() > MOST_VERTICES {
             return Err(PolygonFault::Count);
         }
-        let mut vertices = collected(points);
+        let mut vertices = vertices_of(points);
         if is_strictly_convex(&vertices) {
             return Ok(of_convex(vertices));
         }
@@ -100,11 +101,11 @@ impl Polygon {
     /// The same polygon, made ready to be asked about many boxes, where each edge leads less than 2^31 far on each
     /// axis. `None` where one leads farther.
     #[inline(always)]
-    pub fn narrow(&self) -> Option<NarrowPolygon<'_>>
-        ensures when { is_some result ≡ is_narrow self.now }
-        ensures value { IfSome result (λ narrow. narrow ≡ self.now) }
+    pub fn prepare(&self) -> Option<PreparedPolygon<'_>>
+        ensures when { is_some result ≡ has_short_edges self.now }
+        ensures value { IfSome result (λ prepared. prepared ≡ self.now) }
     {
-        narrow(self)
+        prepare(self)
     }
 
     /// The vertices in turn, counterclockwise.
@@ -286,7 +287,7 @@ fn left_of(edge: Edge, points: &[Point]) -> usize
 
 /// The points in a vector of their own.
 #[inline(always)]
-fn collected(points: &[Point]) -> ArrayVec<Point, MOST_VERTICES>
+fn vertices_of(points: &[Point]) -> ArrayVec<Point, MOST_VERTICES>
     requires { length points.now ≤ 16 }
     ensures { result.items ≡ points.now }
 {

@@ -163,6 +163,20 @@ fn a_disc_answers_as_its_circle_and_the_distance(rt: HostRuntime) {
 }
 
 #[test]
+fn a_disc_is_made_where_the_order_is_from_its_middle(rt: HostRuntime) {
+    let circle = Circle {
+        centre: Point { x: 3, y: -4 },
+        radius: 5,
+    };
+    let order = Order::Near(Near(circle.centre));
+    assert_eq!(rt; Disc::from_parts(&circle, &order), Some(Disc::new(circle)));
+
+    let elsewhere = Order::Near(Near(Point { x: 3, y: 4 }));
+    assert!(rt; Disc::from_parts(&circle, &elsewhere).is_none());
+    assert!(rt; Disc::from_parts(&circle, &Order::ById(ById)).is_none());
+}
+
+#[test]
 fn ranks_answer_their_scores(rt: HostRuntime) {
     let square = boxed(&rt, 0, 10, 0, 10);
     let node = boxed(&rt, -5, 30, -5, 10);

@@ -1,7 +1,7 @@
 //! Polygons that were worked out by hand.
 
 use crate::asked::{boxed, state_of};
-use rt_geo::{Bounds, NarrowPolygon, Point, Polygon, PolygonFault, Region, Within};
+use rt_geo::{Bounds, Point, Polygon, PolygonFault, PreparedPolygon, Region, Within};
 use std::process::Abort;
 
 fn at(x: i32, y: i32) -> Point {
@@ -16,8 +16,8 @@ fn triangle(rt: &impl Abort) -> Polygon {
     polygon(rt, &[at(0, 0), at(30, 0), at(0, 30)])
 }
 
-fn narrowed<'a>(rt: &impl Abort, polygon: &'a Polygon) -> NarrowPolygon<'a> {
-    polygon.narrow().expect(rt, "the edges are short")
+fn prepared_polygon<'a>(rt: &impl Abort, polygon: &'a Polygon) -> PreparedPolygon<'a> {
+    polygon.prepare().expect(rt, "the edges are short")
 }
 
 /// The state of an entry's box.
@@ -153,9 +153,9 @@ fn a_region_may_be_a_polygon(rt: HostRuntime) {
 }
 
 #[test]
-fn a_narrow_polygon_tells_what_the_polygon_tells(rt: HostRuntime) {
+fn a_prepared_polygon_tells_what_the_polygon_tells(rt: HostRuntime) {
     let triangle = triangle(&rt);
-    let narrow = narrowed(&rt, &triangle);
+    let prepared = prepared_polygon(&rt, &triangle);
     for (bounds, want) in [
         (boxed(&rt, 0, 10, 0, 10), Within::Fully),
         (boxed(&rt, 20, 30, 0, 10), Within::Partly),
@@ -167,15 +167,15 @@ fn a_narrow_polygon_tells_what_the_polygon_tells(rt: HostRuntime) {
         (boxed(&rt, 0, 10, 0, 21), Within::Partly),
         (boxed(&rt, -1, 10, 0, 20), Within::Partly),
     ] {
-        assert_eq!(rt; state_of(&narrow, bounds, 1), want, "{bounds:?}");
+        assert_eq!(rt; state_of(&prepared, bounds, 1), want, "{bounds:?}");
     }
 }
 
 #[test]
-fn a_narrow_polygon_reaches_the_end_of_the_plane(rt: HostRuntime) {
+fn a_prepared_polygon_reaches_the_end_of_the_plane(rt: HostRuntime) {
     let (low, high) = (i32::MIN, i32::MAX);
     let corner = polygon(&rt, &[at(low, low), at(-1, low), at(-1, -1)]);
-    let corner = narrowed(&rt, &corner);
+    let corner = prepared_polygon(&rt, &corner);
     for (bounds, want) in [
         (boxed(&rt, -30, -20, -50, -40), Within::Fully),
         (boxed(&rt, low, high, low, high), Within::Partly),
@@ -189,10 +189,10 @@ fn a_narrow_polygon_reaches_the_end_of_the_plane(rt: HostRuntime) {
 }
 
 #[test]
-fn a_polygon_with_a_long_edge_is_not_narrow(rt: HostRuntime) {
+fn a_polygon_with_a_long_edge_cannot_be_prepared(rt: HostRuntime) {
     let longest = [at(0, 0), at(i32::MAX, 0), at(0, 1)];
-    assert!(rt; polygon(&rt, &longest).narrow().is_some());
+    assert!(rt; polygon(&rt, &longest).prepare().is_some());
 
     let too_long = [at(-1, 0), at(i32::MAX, 0), at(0, 1)];
-    assert!(rt; polygon(&rt, &too_long).narrow().is_none());
+    assert!(rt; polygon(&rt, &too_long).prepare().is_none());
 }

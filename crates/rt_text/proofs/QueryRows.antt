@@ -3,9 +3,10 @@ use Rattle.std.proofs.Common.{◌≡◌, pos, negsuc, [], None, Some, codes, ref
 use Rattle.std.specs.Fmt.{digits}
 use Rattle.rt_geo.specs.Boxes.{rect_of}
 use Rattle.rt_geo.specs.Layers.{all_layers, only}
+use Rattle.rt_geo.specs.Orders.{near}
 use Rattle.rt_geo.specs.declared.order.Order.TheVariants.{ById, Smallest}
 use Rattle.rt_geo.specs.declared.region.Region.TheVariants.{All, Circle, Window}
-use Rattle.rt_text.specs.Queries.{inside_of, near, query_of}
+use Rattle.rt_text.specs.Queries.{inside_of, query_of}
 use Rattle.rt_text.specs.ReplyLines.{answer_line, error_line, level_line, ok_line}
 use Rattle.rt_text.specs.declared.query.Parsed.TheVariants.{Fault, Query, Skip}
 use Rattle.rt_text.specs.declared.query.Query.TheVariants.{CostCount, CostFind, Count, Find, Levels}

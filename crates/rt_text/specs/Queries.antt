@@ -5,10 +5,11 @@ use Rattle.std.specs.Str.{bytes_eq}
 use Rattle.std.specs.Str.Lines.{strip_carriage_return}
 use Rattle.rt_geo.specs.Boxes.{Rect, greatest_coordinate, least_coordinate, rect_of}
 use Rattle.rt_geo.specs.Layers.{all_layers, most_layer, no_layers, only, union}
+use Rattle.rt_geo.specs.Orders.{near}
 use Rattle.rt_geo.specs.declared.distance.Point.{Point}
 use Rattle.rt_geo.specs.declared.layers.Layers.{Layers}
 use Rattle.rt_geo.specs.declared.order.Order.{Order}
-use Rattle.rt_geo.specs.declared.order.Order.TheVariants.{ById, Near, Smallest}
+use Rattle.rt_geo.specs.declared.order.Order.TheVariants.{ById, Smallest}
 use Rattle.rt_geo.specs.Polygons.{polygon_of}
 use Rattle.rt_geo.specs.declared.polygon.PolygonFault.{PolygonFault}
 use Rattle.rt_geo.specs.declared.polygon.PolygonFault.TheVariants as shape
@@ -187,10 +188,6 @@ on_list (word ∷ more) =
     else Ok (all_layers, word ∷ more)
 
 -- ---- orders and limits
-
--- nearest to a point first
-abbrev pub near : Point → Order
-near point = Near (record { 0 = point })
 
 -- the order where none is asked for: a circle's boxes nearest to its centre first, those of every other region by id
 abbrev pub usual_order : Region → Order

@@ -16,7 +16,7 @@ use Rattle.rt_geo.specs.Lemmas.Shapes.{contrapositive, state_by-leaf, state_by-F
 use Rattle.rt_geo.specs.Polygons.{IsCommonPoint, SharesNoPoint, bounding_box, corners, cross, edges}
 use Rattle.rt_geo.specs.Polygons.{is_in_half_plane, lies_in_half_plane, meets_half_plane}
 use Rattle.rt_geo.specs.Polygons.{polygon_accepts, polygon_holds, polygon_meets, polygon_state}
-use Rattle.rt_geo.specs.Polygons.{scaled, scaled_box, scaled_edge}
+use Rattle.rt_geo.specs.Polygons.{scaled_point, scaled_box, scaled_edge}
 use Rattle.rt_geo.specs.declared.distance.Point.{Point}
 use Rattle.rt_geo.specs.declared.geometry.Info.{Info}
 use Rattle.rt_geo.specs.declared.geometry.Within.TheVariants.{Not, Fully}
@@ -95,7 +95,7 @@ at_least-test : (n : ℤ) → pos 0 ≤ℤ n → int_le (pos 0) n ≡ true
 at_least-test n h = grind (arith, ints)
 
 cross-scaled : (d : ℕ) (edge : Edge) (p : Point)
-    → cross (scaled_edge d edge) (scaled d p) ≡ pos d *ℤ (pos d *ℤ cross edge p)
+    → cross (scaled_edge d edge) (scaled_point d p) ≡ pos d *ℤ (pos d *ℤ cross edge p)
 cross-scaled d edge p =
     rw (
       ← mul-difference (pos d) edge.to.x edge.from.x,
@@ -108,7 +108,7 @@ cross-scaled d edge p =
 
 -- a point is in the half-plane where that holds of all taken several times as large
 is_in_half_plane-scaled : (m : ℕ) (edge : Edge) (p : Point)
-    → is_in_half_plane (scaled_edge (suc m) edge) (scaled (suc m) p) ≡ true → is_in_half_plane edge p ≡ true
+    → is_in_half_plane (scaled_edge (suc m) edge) (scaled_point (suc m) p) ≡ true → is_in_half_plane edge p ≡ true
 is_in_half_plane-scaled m edge p h =
     let n = cross edge p in
     let e = subst (λ z. int_le (pos 0) z ≡ true) (cross-scaled (suc m) edge p) h in
@@ -126,7 +126,7 @@ list_any-scaled f g h less (x ∷ xs) e = elim (or_cases _ _ e) [
 meets_half_plane-fraction : (m : ℕ) (p : Point) (b : Rect) → inside (rect_at p) (scaled_box (suc m) b) ≡ true
     → (edge : Edge) → is_in_half_plane (scaled_edge (suc m) edge) p ≡ true → meets_half_plane b edge ≡ true
 meets_half_plane-fraction m p b h edge e =
-    list_any-scaled (is_in_half_plane (scaled_edge (suc m) edge)) (is_in_half_plane edge) (scaled (suc m))
+    list_any-scaled (is_in_half_plane (scaled_edge (suc m) edge)) (is_in_half_plane edge) (scaled_point (suc m))
     (is_in_half_plane-scaled m edge) (corners b)
     (meets_half_plane-point (scaled_edge (suc m) edge) p (scaled_box (suc m) b) h e)
 

@@ -1,5 +1,5 @@
 use Rattle.rt_geo.proofs.HalfPlanes.{short_product-size, short_product_is}
-use Rattle.rt_geo.proofs.narrow.short_product.Goals as goal
+use Rattle.rt_geo.proofs.prepared.short_product.Goals as goal
 
 pub returns-clause-value : goal.returns-clause-value
 returns-clause-value c =

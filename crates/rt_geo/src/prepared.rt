@@ -7,7 +7,7 @@ ghost use Rattle.std.specs.Prelude.{◌≡◌, ◌<◌, ◌≤◌, ◌^◌, ◌*
 ghost use Rattle.std.specs.Prelude.{unsigned_abs, is_some, IfSome};
 ghost use Rattle.std.specs.List.{count_by, list_all};
 ghost use Rattle.rt_geo.specs.Boxes.{IsRect};
-ghost use Rattle.rt_geo.specs.HalfPlanes.{half_plane_of, half_planes_of, is_coordinate, is_narrow, is_short, is_small};
+ghost use Rattle.rt_geo.specs.HalfPlanes.{half_plane_of, half_planes_of, is_coordinate, has_short_edges, is_short, is_small};
 ghost use Rattle.rt_geo.specs.HalfPlanes.{is_strictly_left, reaches, sides_of, turned_sides_of};
 ghost use Rattle.rt_geo.specs.Polygons.{is_left, path_from};
 ghost use Rattle.rt_geo.specs.Shapes.{state_by};
@@ -19,8 +19,8 @@ use crate::polygon::{Edge, MOST_VERTICES, Polygon, difference, last_vertex};
 use arrayvec::ArrayVec;
 use std::marker::Model;
 
-/// What a short edge leads less far than, on each axis.
-const SHORT: u32 = 1 << 31;
+/// How many steps of the coordinates an edge leads at least, on some axis, if it isn't short.
+const LONG_EDGE_STEPS: u32 = 1 << 31;
 
 /// The half-plane to the left of a short edge: the points (x, y) where `along_x * y - along_y * x` is at least the
 /// offset.
@@ -36,16 +36,16 @@ pub(crate) struct HalfPlane {
 
 /// A borrowed [`Polygon`] each edge of which leads less than 2^31 far on each axis. It is asked faster.
 #[derive(Debug, Drop)]
-pub struct NarrowPolygon<'a> {
+pub struct PreparedPolygon<'a> {
     polygon: &'a Polygon,
     bounds: Bounds,
     half_planes: ArrayVec<HalfPlane, MOST_VERTICES>,
 }
 
-impl<'a> Model for NarrowPolygon<'a> {
+impl<'a> Model for PreparedPolygon<'a> {
     ghost use Rattle.std.specs.Prelude.{◌≡◌, true, List, map};
     ghost use Rattle.std.specs.List.{list_all};
-    ghost use Rattle.rt_geo.specs.HalfPlanes.{edges_from_last, half_plane_of, is_narrow};
+    ghost use Rattle.rt_geo.specs.HalfPlanes.{edges_from_last, half_plane_of, has_short_edges};
     ghost use Rattle.rt_geo.specs.Polygons.{bounding_box};
     ghost use Rattle.rt_geo.specs.declared.distance.Point.{Point};
 
@@ -54,13 +54,13 @@ impl<'a> Model for NarrowPolygon<'a> {
     ghost view = { λ p. p.polygon.now };
 
     ghost invariant = { λ p. record {
-      narrow : is_narrow p.polygon.now ≡ true;
+      short : has_short_edges p.polygon.now ≡ true;
       bounds : p.bounds ≡ bounding_box p.polygon.now;
       half_planes : p.half_planes.items ≡ map half_plane_of (edges_from_last p.polygon.now);
     } };
 }
 
-impl<'a> Shape for NarrowPolygon<'a> {
+impl<'a> Shape for PreparedPolygon<'a> {
     ghost use Rattle.std.specs.Prelude.{◌≡◌};
     ghost use Rattle.rt_geo.specs.Polygons.{SharesNoPoint, polygon_accepts, polygon_state};
     ghost use Rattle.rt_geo.specs.declared.geometry.Within.TheVariants.{Not};
@@ -141,10 +141,10 @@ fn sides(bounds: Bounds) -> [i64; 4]
     ensures valid { IsRect bounds }
 {
     [
-        widened(bounds.min_x()),
-        widened(bounds.max_x()),
-        widened(bounds.min_y()),
-        widened(bounds.max_y()),
+        to_i64(bounds.min_x()),
+        to_i64(bounds.max_x()),
+        to_i64(bounds.min_y()),
+        to_i64(bounds.max_y()),
     ]
 }
 
@@ -154,22 +154,22 @@ fn turned_sides(bounds: Bounds) -> [i64; 4]
     ensures coordinates { list_all is_coordinate result ≡ true }
 {
     [
-        widened(bounds.max_x()),
-        widened(bounds.min_x()),
-        widened(bounds.max_y()),
-        widened(bounds.min_y()),
+        to_i64(bounds.max_x()),
+        to_i64(bounds.min_x()),
+        to_i64(bounds.max_y()),
+        to_i64(bounds.min_y()),
     ]
 }
 
 /// The polygon with the half-planes of its edges. `None` where an edge isn't short.
 #[inline(always)]
-pub(crate) fn narrow(polygon: &Polygon) -> Option<NarrowPolygon<'_>>
-    ensures when { is_some result ≡ is_narrow polygon.now }
-    ensures value { IfSome result (λ narrow. narrow ≡ polygon.now) }
+pub(crate) fn prepare(polygon: &Polygon) -> Option<PreparedPolygon<'_>>
+    ensures when { is_some result ≡ has_short_edges polygon.now }
+    ensures value { IfSome result (λ prepared. prepared ≡ polygon.now) }
 {
     let last = last_vertex(polygon.vertices());
     match half_planes(last, polygon.vertices()) {
-        Some(half_planes) => Some(NarrowPolygon {
+        Some(half_planes) => Some(PreparedPolygon {
             polygon,
             bounds: polygon.bounds(),
             half_planes,
@@ -218,8 +218,8 @@ fn is_strictly_left(half_plane: &HalfPlane, point: Point) -> bool
     requires { is_small half_plane.now ≡ true }
     ensures { result ≡ is_strictly_left half_plane.now point }
 {
-    let x = widened(point.x);
-    let y = widened(point.y);
+    let x = to_i64(point.x);
+    let y = to_i64(point.y);
     to_the_left(half_plane.along_x, half_plane.along_y, x, y) > half_plane.offset
 }
 
@@ -227,7 +227,8 @@ fn is_strictly_left(half_plane: &HalfPlane, point: Point) -> bool
 pub(crate) fn is_short(edge: Edge) -> bool
     ensures { result ≡ is_short edge }
 {
-    edge.to.x.abs_diff(edge.from.x) < SHORT && edge.to.y.abs_diff(edge.from.y) < SHORT
+    edge.to.x.abs_diff(edge.from.x) < LONG_EDGE_STEPS
+        && edge.to.y.abs_diff(edge.from.y) < LONG_EDGE_STEPS
 }
 
 /// The half-plane to the left of a short edge.
@@ -241,7 +242,7 @@ fn half_plane(edge: Edge) -> HalfPlane
     HalfPlane {
         along_x,
         along_y,
-        offset: to_the_left(along_x, along_y, widened(edge.from.x), widened(edge.from.y)),
+        offset: to_the_left(along_x, along_y, to_i64(edge.from.x), to_i64(edge.from.y)),
         side_x: u32::from(along_y < 0),
         side_y: 3 - u32::from(along_x < 0),
     }
@@ -256,7 +257,7 @@ fn short_difference(left: i32, right: i32) -> i32
 }
 
 /// A number in 64 bits.
-fn widened(number: i32) -> i64
+fn to_i64(number: i32) -> i64
     ensures value { result ≡ number }
     ensures size { unsigned_abs result ≤ 2 ^ 31 }
 {
@@ -271,7 +272,7 @@ fn to_the_left(along_x: i32, along_y: i32, x: i64, y: i64) -> i64
     requires y { unsigned_abs y ≤ 2 ^ 31 }
     ensures { result ≡ along_x *ℤ y -ℤ along_y *ℤ x }
 {
-    short_product(widened(along_x), y) - short_product(widened(along_y), x)
+    short_product(to_i64(along_x), y) - short_product(to_i64(along_y), x)
 }
 
 /// The product of a short difference and a coordinate, of up to 63 bits.

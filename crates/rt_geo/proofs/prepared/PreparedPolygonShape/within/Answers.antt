@@ -1,12 +1,12 @@
 use Rattle.std.proofs.Common.{◌∙◌, sym}
 use Rattle.rt_geo.specs.Lemmas.Polygons.{polygon-shares_no_point}
 use Rattle.rt_geo.proofs.HalfPlanes.{all_small-edges, state_is}
-use Rattle.rt_geo.proofs.narrow.NarrowPolygonShape.within.Goals as goal
+use Rattle.rt_geo.proofs.prepared.PreparedPolygonShape.within.Goals as goal
 
 pub state_by_half_planes-requires : goal.state_by_half_planes-requires
 state_by_half_planes-requires c =
     rw (c.deref.ensures.0, c.self.invariant.half_planes)
-    (all_small-edges c.self.inside.polygon.now c.self.invariant.narrow)
+    (all_small-edges c.self.inside.polygon.now c.self.invariant.short)
 
 pub returns-clause-state : goal.returns-clause-state
 returns-clause-state c =

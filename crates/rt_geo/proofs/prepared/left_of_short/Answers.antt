@@ -1,6 +1,6 @@
 use Rattle.std.proofs.Common.{rules}
 use Rattle.rt_geo.proofs.HalfPlanes.{left_counted}
-use Rattle.rt_geo.proofs.narrow.left_of_short.Goals as goal
+use Rattle.rt_geo.proofs.prepared.left_of_short.Goals as goal
 
 pub loop-point-preserved : goal.loop-point-preserved
 loop-point-preserved c =
