@@ -11,9 +11,9 @@ use native.Mathlib.Nat.{add-mul}
 use Rattle.std.proofs.Math.Nat.{zero-div, zero-mod, mul-le-mul_right}
 use Rattle.std.proofs.lemmas.Grind.{div_ceil_times}
 use Rattle.std.proofs.lemmas.List.{append-nil, drop-append-le, drop-map, drop_all, length-append, length-drop}
-use Rattle.std.proofs.lemmas.List.{length-map, length-take, nil_from_length, take-append-drop, take-append-le}
+use Rattle.std.proofs.lemmas.List.{length-map, length-take, take-append-drop, take-append-le}
 use Rattle.std.proofs.lemmas.List.{take-map, take_all}
-use Rattle.rt_tree.specs.Packing.{chunks, joined}
+use Rattle.rt_tree.specs.Packing.{chunks, joined, pieces}
 
 -- ---- how many there are
 
@@ -57,72 +57,97 @@ div_ceil-zero n = rw (zero-div n, zero-mod n) refl
 
 -- ---- one chunk after the other
 
+pieces-first_chunks : {X : Type 0} (most n : ℕ) (xs : List X) → 0 < n → length xs ≤ most
+    → pieces most n xs ≡ first_chunks n (div_ceil (length xs) n) xs
+pieces-first_chunks zero n [] some few = ap (λ k. first_chunks n k []) (sym (div_ceil-zero n))
+pieces-first_chunks zero n (x ∷ xs) some few = absurd (omega (arith, few))
+pieces-first_chunks (suc most) n [] some few = ap (λ k. first_chunks n k []) (sym (div_ceil-zero n))
+pieces-first_chunks (suc most) n (x ∷ xs) some few =
+    let whole = x ∷ xs in
+    let long = length-drop n whole in
+    ap (λ l. take n whole ∷ l) (pieces-first_chunks most n (drop n whole) some (omega (arith, few, long))
+    ∙ ap (λ len. first_chunks n (div_ceil len n) (drop n whole)) long)
+    ∙ ap (λ k. first_chunks n k whole) (sym (div_ceil-step (length whole) n some (omega arith)))
+
+-- by std's word: as many chunks as the quotient, rounded up
+pub chunks-first_chunks : {X : Type 0} (n : ℕ) (xs : List X) → 0 < n
+    → chunks n xs ≡ first_chunks n (div_ceil (length xs) n) xs
+chunks-first_chunks n xs some = pieces-first_chunks (length xs) n xs some (omega arith)
+
 pub chunks-nil : {X : Type 0} (n : ℕ) → chunks {X = X} n [] ≡ []
-chunks-nil n = ap (λ k. first_chunks n k []) (div_ceil-zero n)
+chunks-nil n = refl
 
 pub chunks-step : {X : Type 0} (n : ℕ) (xs : List X) → 0 < n → 0 < length xs
     → chunks n xs ≡ take n xs ∷ chunks n (drop n xs)
 chunks-step n xs some more =
-    ap (λ k. first_chunks n k xs) (div_ceil-step (length xs) n some more)
+    chunks-first_chunks n xs some
+    ∙ ap (λ k. first_chunks n k xs) (div_ceil-step (length xs) n some more)
     ∙ ap (λ len. take n xs ∷ first_chunks n (div_ceil len n) (drop n xs)) (sym (length-drop n xs))
-
--- ---- what the chunks hold
-
-joined-first_chunks : {X : Type 0} (n k : ℕ) (xs : List X) → length xs ≤ k * n → joined (first_chunks n k xs) ≡ xs
-joined-first_chunks n zero [] few = refl
-joined-first_chunks n zero (x ∷ xs) few = absurd (omega (arith, few))
-joined-first_chunks n (suc k) xs few =
-    ap (λ l. take n xs ++ l) (joined-first_chunks n k (drop n xs) (omega (arith, few, length-drop n xs)))
-    ∙ take-append-drop n xs
-
--- all of the list, in its order
-pub joined-chunks : {X : Type 0} (n : ℕ) (xs : List X) → 0 < n → joined (chunks n xs) ≡ xs
-joined-chunks n xs some = joined-first_chunks n (div_ceil (length xs) n) xs (div_ceil_times (length xs) n some).0
-
-first_chunks-size : {X : Type 0} (n k : ℕ) (xs : List X) → 0 < n → k * n < length xs + n
-    → AllByRecursion (λ chunk. (0 < length chunk) × (length chunk ≤ n)) (first_chunks n k xs)
-first_chunks-size n zero xs some few = tt
-first_chunks-size n (suc k) xs some few =
-    let long = length-take n xs in
-    ((omega (arith, few), omega arith), first_chunks-size n k (drop n xs) some (omega (arith, few, length-drop n xs)))
-
--- a chunk has an element, and no more than the size
-pub chunks-size : {X : Type 0} (n : ℕ) (xs : List X) → 0 < n
-    → AllByRecursion (λ chunk. (0 < length chunk) × (length chunk ≤ n)) (chunks n xs)
-chunks-size n xs some = first_chunks-size n (div_ceil (length xs) n) xs some (div_ceil_times (length xs) n some).1
+    ∙ ap (λ l. take n xs ∷ l) (sym (chunks-first_chunks n (drop n xs) some))
 
 length-first_chunks : {X : Type 0} (n k : ℕ) (xs : List X) → length (first_chunks n k xs) ≡ k
 length-first_chunks n zero xs = refl
 length-first_chunks n (suc k) xs = ap (λ l. suc l) (length-first_chunks n k (drop n xs))
 
-pub length-chunks : {X : Type 0} (n : ℕ) (xs : List X) → length (chunks n xs) ≡ div_ceil (length xs) n
-length-chunks n xs = length-first_chunks n (div_ceil (length xs) n) xs
+pub length-chunks : {X : Type 0} (n : ℕ) (xs : List X) → 0 < n → length (chunks n xs) ≡ div_ceil (length xs) n
+length-chunks n xs some = ap length (chunks-first_chunks n xs some) ∙ length-first_chunks n (div_ceil (length xs) n) xs
 
-map-first_chunks : {X Y : Type 0} (f : X → Y) (n k : ℕ) (xs : List X)
-    → first_chunks n k (map f xs) ≡ map (map f) (first_chunks n k xs)
-map-first_chunks f n zero xs = refl
-map-first_chunks f n (suc k) xs = rw (take-map f n xs, drop-map f n xs) (ap (λ l. map f (take n xs) ∷ l)
-    (map-first_chunks f n k (drop n xs)))
+-- ---- what the chunks hold
+
+joined-pieces : {X : Type 0} (most n : ℕ) (xs : List X) → 0 < n → length xs ≤ most → joined (pieces most n xs) ≡ xs
+joined-pieces zero n [] some few = refl
+joined-pieces zero n (x ∷ xs) some few = absurd (omega (arith, few))
+joined-pieces (suc most) n [] some few = refl
+joined-pieces (suc most) n (x ∷ xs) some few =
+    let whole = x ∷ xs in
+    ap (λ l. take n whole ++ l) (joined-pieces most n (drop n whole) some (omega (arith, few, length-drop n whole)))
+    ∙ take-append-drop n whole
+
+-- all of the list, in its order
+pub joined-chunks : {X : Type 0} (n : ℕ) (xs : List X) → 0 < n → joined (chunks n xs) ≡ xs
+joined-chunks n xs some = joined-pieces (length xs) n xs some (omega arith)
+
+pieces-size : {X : Type 0} (most n : ℕ) (xs : List X) → 0 < n
+    → AllByRecursion (λ chunk. (0 < length chunk) × (length chunk ≤ n)) (pieces most n xs)
+pieces-size zero n xs some = tt
+pieces-size (suc most) n [] some = tt
+pieces-size (suc most) n (x ∷ xs) some =
+    let long = length-take n (x ∷ xs) in
+    ((omega (arith, long), omega (arith, long)), pieces-size most n (drop n (x ∷ xs)) some)
+
+-- a chunk has an element, and no more than the size
+pub chunks-size : {X : Type 0} (n : ℕ) (xs : List X) → 0 < n
+    → AllByRecursion (λ chunk. (0 < length chunk) × (length chunk ≤ n)) (chunks n xs)
+chunks-size n xs some = pieces-size (length xs) n xs some
+
+map-pieces : {X Y : Type 0} (f : X → Y) (most n : ℕ) (xs : List X)
+    → pieces most n (map f xs) ≡ map (map f) (pieces most n xs)
+map-pieces f zero n xs = refl
+map-pieces f (suc most) n [] = refl
+map-pieces f (suc most) n (x ∷ xs) = rw (take-map f n (x ∷ xs), drop-map f n (x ∷ xs)) (ap (λ l. map f (take n
+    (x ∷ xs)) ∷ l) (map-pieces f most n (drop n (x ∷ xs))))
 
 pub map-chunks : {X Y : Type 0} (f : X → Y) (n : ℕ) (xs : List X) → chunks n (map f xs) ≡ map (map f) (chunks n xs)
-map-chunks f n xs = ap (λ len. first_chunks n (div_ceil len n) (map f xs)) (length-map xs f)
-    ∙ map-first_chunks f n (div_ceil (length xs) n) xs
+map-chunks f n xs = ap (λ most. pieces most n (map f xs)) (length-map xs f) ∙ map-pieces f (length xs) n xs
 
 -- what holds of each element holds of each element of each chunk
-first_chunks-All : {X : Type 0} (P : X → Type 0) (n k : ℕ) (xs : List X) → All P xs
-    → AllByRecursion (All P) (first_chunks n k xs)
-first_chunks-All P n zero xs a = tt
-first_chunks-All P n (suc k) xs a = (All-take P n xs a, first_chunks-All P n k (drop n xs) (All-drop P n xs a))
+pieces-All : {X : Type 0} (P : X → Type 0) (most n : ℕ) (xs : List X) → All P xs → AllByRecursion (All P) (pieces most n xs)
+pieces-All P zero n xs a = tt
+pieces-All P (suc most) n [] a = tt
+pieces-All P (suc most) n (x ∷ xs) a = (
+  All-take P n (x ∷ xs) a,
+  pieces-All P most n (drop n (x ∷ xs)) (All-drop P n (x ∷ xs) a),
+)
 
 pub chunks-All : {X : Type 0} (P : X → Type 0) (n : ℕ) (xs : List X) → All P xs → AllByRecursion (All P) (chunks n xs)
-chunks-All P n xs = first_chunks-All P n (div_ceil (length xs) n) xs
+chunks-All P n xs = pieces-All P (length xs) n xs
 
 -- ---- the chunks of lists that stand behind one another
 
 -- behind full chunks others begin anew
 pub chunks-append : {X : Type 0} (n k : ℕ) (xs ys : List X) → 0 < n → length xs ≡ k * n
     → chunks n (xs ++ ys) ≡ chunks n xs ++ chunks n ys
-chunks-append n zero [] ys some full = ap (λ l. l ++ chunks n ys) (sym (chunks-nil n))
+chunks-append n zero [] ys some full = refl
 chunks-append n zero (x ∷ xs) ys some full = absurd (omega (arith, full))
 chunks-append n (suc k) xs ys some full =
     let long = length-append xs ys in
@@ -131,45 +156,39 @@ chunks-append n (suc k) xs ys some full =
     (ap (λ l. take n xs ∷ l) (chunks-append n k (drop n xs) ys some (omega (arith, full, length-drop n xs))))
     ∙ ap (λ l. l ++ chunks n ys) (sym (chunks-step n xs some (omega (arith, full))))
 
-flat_map-empty : {X Y : Type 0} (f : List X → List Y) (n k : ℕ) → f [] ≡ [] → flat_map f (first_chunks n k []) ≡ []
-flat_map-empty {X} f n zero e = refl
-flat_map-empty {X} f n (suc k) e = rw (take_nil n, drop_nil n, e) (flat_map-empty f n k e)
-  where
-    take_nil : (n : ℕ) → ◌≡◌ {A = List X} (take n []) []
-    take_nil n = take_all n [] (omega arith)
-
-    drop_nil : (n : ℕ) → ◌≡◌ {A = List X} (drop n []) []
-    drop_nil n = drop_all n [] (omega arith)
+pieces-nil : {X : Type 0} (most n : ℕ) → pieces {X = X} most n [] ≡ []
+pieces-nil zero n = refl
+pieces-nil (suc most) n = refl
 
 -- chunks of chunks whose size is a multiple are chunks of the whole, the elements of each being put into some order
 -- first
 module _ {X : Type 0} (h : List X → List X) (keeps : (s : List X)
     → length (h s) ≡ length s) (side n : ℕ) (some : 0 < n) where
-  none : h [] ≡ []
-  none = nil_from_length (h []) (keeps [])
+  one_more_slice : (most : ℕ) (ys : List X) → (side * n ≤ length ys) ⊎ (length ys < side * n)
+      → flat_map (λ s. chunks n (h s)) (pieces most (side * n) (drop (side * n) ys)) ≡ chunks n (flat_map h
+      (pieces most (side * n) (drop (side * n) ys)))
+      → chunks n (h (take (side * n) ys)) ++ flat_map (λ s. chunks n (h s)) (pieces most (side * n) (drop
+      (side * n) ys)) ≡ chunks n (h (take (side * n) ys) ++ flat_map h (pieces most (side * n) (drop (side * n) ys)))
+  one_more_slice most ys (inl wide) rest =
+      let full : length (h (take (side * n) ys)) ≡ side * n = omega (
+        arith,
+        keeps (take
+            (side * n) ys),
+        length-take (side * n) ys,
+      ) in
+      ap (λ l. chunks n (h (take (side * n) ys)) ++ l) rest
+      ∙ sym (chunks-append n side (h (take (side * n) ys)) (flat_map h (pieces most (side * n) (drop
+      (side * n) ys))) some full)
+  one_more_slice most ys (inr narrow) rest = rw (drop_all (side * n) ys (omega arith), pieces-nil most (side * n))
+      (append-nil (chunks n (h (take (side * n) ys))) ∙ ap (chunks n) (sym (append-nil (h (take (side * n) ys)))))
 
-  first_chunks_of : (k : ℕ) (xs : List X) → flat_map (λ s. chunks n (h s)) (first_chunks (side * n) k xs) ≡ chunks n
-      (flat_map h (first_chunks (side * n) k xs))
-  first_chunks_of zero xs = sym (chunks-nil n)
-  first_chunks_of (suc k) xs = elim (le_or_lt (side * n) (length xs)) [
-    | inl wide ↦
-        let full : length (h (take (side * n) xs)) ≡ side * n = omega (
-          arith,
-          keeps (take
-              (side * n) xs),
-          length-take (side * n) xs,
-        ) in
-        ap (λ l. chunks n (h (take (side * n) xs)) ++ l) (first_chunks_of k (drop (side * n) xs))
-        ∙ sym (chunks-append n side (h (take (side * n) xs)) (flat_map h (first_chunks (side * n) k (drop
-        (side * n) xs))) some full)
-    | inr narrow ↦ rw (drop_all (side * n) xs (omega arith)) (rw (
-      flat_map-empty (λ s. chunks n (h s))
-          (side * n) k (ap (chunks n) none ∙ chunks-nil n),
-      flat_map-empty h (side * n) k none,
-    )
-        (append-nil (chunks n (h (take (side * n) xs))) ∙ ap (chunks n) (sym (append-nil (h (take (side * n) xs))))))
-  ]
+  pieces_of : (most : ℕ) (xs : List X) → flat_map (λ s. chunks n (h s)) (pieces most (side * n) xs) ≡ chunks n
+      (flat_map h (pieces most (side * n) xs))
+  pieces_of zero xs = refl
+  pieces_of (suc most) [] = refl
+  pieces_of (suc most) (x ∷ xs) = one_more_slice most (x ∷ xs) (le_or_lt (side * n) (length (x ∷ xs)))
+      (pieces_of most (drop (side * n) (x ∷ xs)))
 
   pub chunks_of-chunks : (xs : List X) → flat_map (λ s. chunks n (h s)) (chunks (side * n) xs) ≡ chunks n
       (flat_map h (chunks (side * n) xs))
-  chunks_of-chunks xs = first_chunks_of (div_ceil (length xs) (side * n)) xs
+  chunks_of-chunks xs = pieces_of (length xs) xs

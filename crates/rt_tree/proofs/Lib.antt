@@ -6,6 +6,7 @@ mod LeafLemmas
 mod LevelLemmas
 mod LevelOrder
 mod LoopLemmas
+mod Numbering
 mod OrderLemmas
 mod PackCounts
 mod PackLemmas

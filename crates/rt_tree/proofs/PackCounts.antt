@@ -1,7 +1,7 @@
 -- How many nodes a packing makes, level by level.
 use Rattle.std.proofs.Common.{◌≡◌, ◌<◌, ◌≤◌, ◌+◌, ◌-◌, ◌*◌, ◌^◌, ℕ, zero, suc, true, false, nat_le, List, []}
 use Rattle.std.proofs.Common.{◌∷◌, ◌++◌, length, refl, sym, ◌∙◌, ap, subst, arith, append_assoc, inl}
-use Rattle.std.proofs.Common.{inr, length-append}
+use Rattle.std.proofs.Common.{inr, length-append, if◌then◌else◌}
 use Rattle.std.specs.Int.{div_ceil}
 use Rattle.std.specs.List.{sum_by}
 use Rattle.std.proofs.Math.Nat.{eq-or-lt_of_le, pow-succ'}
@@ -12,12 +12,23 @@ use Rattle.rt_geo.specs.Boxes.{Rect}
 use Rattle.rt_geo.specs.Laws.{Extent, extent_of_entry}
 use Rattle.rt_geo.specs.declared.entry.Entry.{Entry}
 use Rattle.rt_tree.specs.Packed.{extent_of_node}
-use Rattle.rt_tree.specs.Packing.{chunks, groups, joined, node_over, nodes_from, nodes_over}
+use Rattle.rt_tree.specs.Packing.{chunks, groups, joined, node_over, nodes_over}
 use Rattle.rt_tree.specs.declared.tree.Node.{Node}
 use Rattle.rt_tree.proofs.ChunkLemmas.{joined-chunks, le_or_lt, length-chunks}
 use Rattle.rt_tree.proofs.LevelLemmas.{div_ceil-halves}
 use Rattle.rt_tree.proofs.Soundness.{length-nodes_over, sum_by-ones}
 use Rattle.rt_tree.proofs.TileLemmas.{groups-IsPermutation, groups-chunks}
+
+-- the nodes of this level, in the order in which the level above is cut, and then those of all levels above, up to one
+-- that has a single node, each numbered as it is made. `first` is the number of the first of them; the fuel is no less
+-- than the number of levels
+abbrev pub nodes_from : (fuel fanout level first : ℕ) → List Node → List Node
+nodes_from zero fanout level first made = made
+nodes_from (suc fuel) fanout level first made =
+    let cut = groups (λ n. n.bounds) fanout made in
+    let above = nodes_over extent_of_node (λ n. n.size) (level + 1) first cut in
+    if nat_le (length made) 1 then made
+    else joined cut ++ nodes_from fuel fanout (level + 1) (first + length made) above
 
 -- ---- one level
 
@@ -26,7 +37,7 @@ pub length-groups : {X : Type 0} (box : X → Rect) (fanout : ℕ) (items : List
     → length (groups box fanout items) ≡ div_ceil (length items) fanout
 length-groups box fanout items several there =
     ap length (groups-chunks box items fanout (omega arith))
-    ∙ length-chunks fanout (joined (groups box fanout items))
+    ∙ length-chunks fanout (joined (groups box fanout items)) (omega arith)
     ∙ ap (λ n. div_ceil n fanout) (length_permutation items (joined (groups box fanout items))
     (groups-IsPermutation box items fanout several there))
 
@@ -252,7 +263,7 @@ module _ (fanout : ℕ) (several : 2 ≤ fanout) where
       → made ≡ nodes_over extent_of_entry (λ _. 1) 1 0 (chunks fanout entries) → IsCounted 1 [] made
   entries_counted entries made few is =
       let count : length made ≡ div_ceil (length entries) fanout = ap length is
-      ∙ length-nodes_over extent_of_entry (λ _. 1) 1 0 (chunks fanout entries) ∙ length-chunks fanout entries in
+      ∙ length-nodes_over extent_of_entry (λ _. 1) 1 0 (chunks fanout entries) ∙ length-chunks fanout entries (omega arith) in
       let weight : sum_by (λ n. n.size) made ≡ length entries =
       ap (sum_by (λ n. n.size)) is ∙ weight-nodes_over extent_of_entry (λ _. 1) 1 0 (chunks fanout entries)
       ∙ sum_by-ones (joined (chunks fanout entries)) ∙ ap length (joined-chunks fanout entries (omega arith)) in

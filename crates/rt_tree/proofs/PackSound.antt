@@ -12,7 +12,7 @@ use Rattle.std.proofs.lemmas.List.Sorted.{IsPermutation-sym, IsPermutation-trans
 use Rattle.rt_geo.specs.declared.entry.Entry.{Entry}
 use Rattle.rt_tree.specs.Packed.{Packed, IsSound, IsSubtree, all_child_entries, all_child_nodes, child_entries}
 use Rattle.rt_tree.specs.Packed.{entries_under, extent_of_node, height, level_by_level, no_node, node_at, root_of}
-use Rattle.rt_tree.specs.Packing.{chunks, groups, joined, nodes_from, nodes_over, pack_of}
+use Rattle.rt_tree.specs.Packing.{all_nodes, chunks, groups, joined, nodes_over, pack_of}
 use Rattle.rt_tree.specs.Entries.{IsTable, ids_of}
 use Rattle.rt_tree.specs.Sorting.{sorted}
 use Rattle.rt_geo.specs.Entries.{HasBox, HasLayer}
@@ -27,7 +27,8 @@ use Rattle.rt_tree.proofs.Children.{once_more}
 use Rattle.rt_tree.proofs.ChunkLemmas.{chunks-size, le_or_lt}
 use Rattle.rt_tree.proofs.OrderLemmas.{all_append, all_moved, flat_map-IsPermutation}
 use Rattle.rt_tree.proofs.PackCounts.{IsCounted, counted_first, counted_more, cut, fewer, length-above, length-groups}
-use Rattle.rt_tree.proofs.PackCounts.{weight-nodes_over, nodes_from-last, nodes_from-more}
+use Rattle.rt_tree.proofs.PackCounts.{weight-nodes_over, nodes_from, nodes_from-last, nodes_from-more}
+use Rattle.rt_tree.proofs.Numbering.{all_nodes-is}
 use Rattle.rt_tree.proofs.LoopLemmas.{get_or_behind}
 use Rattle.rt_tree.proofs.LevelLemmas.{div_ceil-positive}
 use Rattle.rt_tree.proofs.LevelOrder.{last_node-top, nodes_from-levels, nodes_over-AreOn, sizes_from, sizes_from_first}
@@ -308,7 +309,7 @@ module _ (fanout : ℕ) (several : 2 ≤ fanout) (in_order : List Entry) where
             (leaves_under fanout es [] gs [] refl);
       }
 
-  packed-some : 0 < length in_order → IsTable es → IsSound (tree fanout es (nodes_from (length made) fanout 1 0 made))
+  packed-some : 0 < length in_order → IsTable es → IsSound (tree fanout es (all_nodes fanout made))
   packed-some there table =
       let long = length_permutation in_order es moved in
       let count : length made ≡ div_ceil (length es) fanout =
@@ -323,18 +324,18 @@ module _ (fanout : ℕ) (several : 2 ≤ fanout) (in_order : List Entry) where
             (arith, long)),
       ) in
       let on = nodes_over-AreOn extent_of_entry (λ _. 1) 1 0 gs in
-      sound_finished fanout several es (nodes_from (length made) fanout 1 0 made) (length made) (omega
-      (arith, there, long)) count
+      subst (λ ns. IsSound (tree fanout es ns)) (sym (all_nodes-is fanout several made)) (sound_finished fanout several
+      es (nodes_from (length made) fanout 1 0 made) (length made) (omega (arith, there, long)) count
       (nodes_from-levels fanout several (length made) 1 0 made (omega arith) some on) table
       (sound_from fanout several es (length made) 0 [] made (omega arith) some (made-IsBuilt table)
-      (made-first there table))
+      (made-first there table)))
 
 -- without entries there are no nodes
 packed-none : (fanout : ℕ) (several : 2 ≤ fanout) (in_order : List Entry) → in_order ≡ []
-    → nodes_from (length (made fanout several in_order)) fanout 1 0 (made fanout several in_order) ≡ []
+    → all_nodes fanout (made fanout several in_order) ≡ []
 packed-none fanout several in_order none =
-    ap (λ l. nodes_from (length (made fanout several l)) fanout 1 0 (made fanout several l)) none
-    ∙ ap (λ g. let m = nodes_over extent_of_entry (λ _. 1) 1 0 g in nodes_from (length m) fanout 1 0 m)
+    ap (λ l. all_nodes fanout (made fanout several l)) none
+    ∙ ap (λ g. all_nodes fanout (nodes_over extent_of_entry (λ _. 1) 1 0 g))
     (groups-nil (λ (e : Entry). e.bounds) fanout)
 
 pub pack_of-IsSound : (fanout : ℕ) (entries : List Entry) → 2 ≤ fanout → IsTable entries

@@ -7,7 +7,7 @@ use Rattle.rt_geo.specs.declared.entry.Entry.{Entry}
 use Rattle.rt_tree.specs.declared.tree.Node.{Node}
 use Rattle.rt_tree.specs.Entries.{first_repeat}
 use Rattle.rt_tree.specs.Levels.{level_sizes}
-use Rattle.rt_tree.specs.Packing.{ceil_sqrt, pack_of}
+use Rattle.rt_tree.specs.Packing.{ceil_sqrt, chunks, pack_of}
 use Rattle.rt_tree.specs.Sorting.{limited, sorted}
 
 sorted_row : sorted nat_cmp (3 ∷ 1 ∷ 2 ∷ 1 ∷ []) ≡ 1 ∷ 1 ∷ 2 ∷ 3 ∷ []
@@ -32,6 +32,17 @@ one_entry = refl
 
 no_entries : level_sizes 0 16 ≡ 0 ∷ []
 no_entries = refl
+
+-- ---- lists cut into pieces
+
+in_twos : chunks {X = ℕ} 2 (1 ∷ 2 ∷ 3 ∷ 4 ∷ 5 ∷ []) ≡ (1 ∷ 2 ∷ []) ∷ (3 ∷ 4 ∷ []) ∷ (5 ∷ []) ∷ []
+in_twos = refl
+
+in_full_twos : chunks {X = ℕ} 2 (1 ∷ 2 ∷ 3 ∷ 4 ∷ []) ≡ (1 ∷ 2 ∷ []) ∷ (3 ∷ 4 ∷ []) ∷ []
+in_full_twos = refl
+
+nothing_cut : chunks {X = ℕ} 2 [] ≡ []
+nothing_cut = refl
 
 -- ---- the tree over five boxes, two children for each node
 

@@ -79,6 +79,9 @@ abbrev pub union_of : List Layers → Layers
 union_of sets = reduced union no_layers sets
 
 -- ---- what holds of each
+--
+-- All of this follows from the definition of the packed tree, `pack_of` in Packing.antt, and is proved from it: nobody
+-- has to believe it. What counts is the clause `value` of `Tree::pack`, which says that a tree is that packed tree.
 
 -- a node of level 1: its children are entries
 pub record IsLeafNode (t : Packed) (n : Node) : Type 0 where

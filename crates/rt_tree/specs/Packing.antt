@@ -1,9 +1,10 @@
--- Sort-tile-recursive packing (Leutenegger, Lopez and Edgington, 1997).
+-- Sort-tile-recursive packing (Leutenegger, Lopez and Edgington, 1997: STR, a simple and efficient algorithm for R-tree
+-- packing). Items are cut into the groups that become nodes, these nodes are grouped in turn, and so on up to one node.
 use Rattle.std.specs.Prelude.{◌+◌, ◌*◌, ℕ, zero, suc, nat_le, if◌then◌else◌, ℤ, ◌+ℤ◌, List, [], ◌∷◌, ◌++◌, length, map}
+use Rattle.std.specs.Prelude.{take, drop}
 use Rattle.std.specs.Int.{div_ceil}
 use Rattle.std.specs.List.{enumerate_from, flat_map, sum_by}
 use Rattle.std.specs.Ordering.{int_cmp, nat_cmp, on, then_cmp}
-use Rattle.std.specs.Simd.{first_chunks}
 use Rattle.std.specs.declared.cmp.Ordering.{Ordering}
 use Rattle.rt_geo.specs.Boxes.{Rect}
 use Rattle.rt_geo.specs.Laws.{Extent, extent_of_entry}
@@ -19,9 +20,15 @@ abbrev pub ceil_sqrt : ℕ → ℕ
 ceil_sqrt zero = 0
 ceil_sqrt (suc n) = let root = ceil_sqrt n in if nat_le (suc n) (root * root) then root else suc root
 
--- xs cut into pieces of this size, of which the last may be shorter
+-- the first pieces of this size that xs is cut into, at most so many; the last of all may be shorter
+abbrev pub pieces : {X : Type 0} → (most size : ℕ) → List X → List (List X)
+pieces zero size xs = []
+pieces (suc most) size [] = []
+pieces (suc most) size (x ∷ xs) = take size (x ∷ xs) ∷ pieces most size (drop size (x ∷ xs))
+
+-- xs cut into pieces of this size, of which the last may be shorter: there are no more of them than elements
 abbrev pub chunks : {X : Type 0} → (size : ℕ) → List X → List (List X)
-chunks size xs = first_chunks size (div_ceil (length xs) size) xs
+chunks size xs = pieces (length xs) size xs
 
 -- twice the middle of a box on each axis
 abbrev pub twice_middle_x : Rect → ℤ
@@ -52,7 +59,7 @@ groups box fanout items = map (map (λ p. p.1)) (tiles box fanout items)
 abbrev pub joined : {X : Type 0} → List (List X) → List X
 joined = flat_map (λ xs. xs)
 
--- the node over a group of items, of which the first has this number
+-- the node over a group of items, of which the first stands at this place
 abbrev pub node_over : {X : Type 0} → (extent : X → Extent) → (size : X → ℕ) → (level first : ℕ) → List X → Node
 node_over extent size level first group = record {
   layers = union_of (map (λ x. (extent x).layers) group);
@@ -63,7 +70,7 @@ node_over extent size level first group = record {
   level = level;
 }
 
--- a node over each group, the items being numbered on from group to group
+-- a node over each group: the items stand one after the other from this place on, group by group
 abbrev pub nodes_over : {X : Type 0} → (extent : X → Extent) → (size : X → ℕ) → (level first : ℕ) → List (List X)
     → List Node
 nodes_over extent size level first [] = []
@@ -74,19 +81,34 @@ nodes_over extent size level first (group ∷ more) =
 abbrev pub leaf_nodes : List (List Entry) → List Node
 leaf_nodes = nodes_over extent_of_entry (λ _. 1) 1 0
 
--- the nodes of this level, in the order in which the level above is cut, and then those of all levels above, up to one
--- that has a single node. `first` is the number of the first of them; the fuel is no less than the number of levels
-abbrev pub nodes_from : (fuel fanout level first : ℕ) → List Node → List Node
-nodes_from zero fanout level first made = made
-nodes_from (suc fuel) fanout level first made =
-    let cut = groups (λ n. n.bounds) fanout made in
-    let above = nodes_over extent_of_node (λ n. n.size) (level + 1) first cut in
-    if nat_le (length made) 1 then made
-    else joined cut ++ nodes_from fuel fanout (level + 1) (first + length made) above
+-- ---- level by level
 
--- the nodes of all levels, over those of level 1
+-- the levels from these nodes on, up to one that has a single node, but at most so many. The nodes of each stand in the
+-- order in which the level above it is cut, and a node's first child is told by its place on the level below
+abbrev pub levels_from : (most fanout level : ℕ) → List Node → List (List Node)
+levels_from zero fanout level nodes = []
+levels_from (suc most) fanout level nodes =
+    let cut = groups (λ n. n.bounds) fanout nodes in
+    let above = nodes_over extent_of_node (λ n. n.size) (level + 1) 0 cut in
+    if nat_le (length nodes) 1 then nodes ∷ [] else joined cut ∷ levels_from most fanout (level + 1) above
+
+-- a node whose first child's place is counted from this number on
+abbrev pub counted_from : (start : ℕ) → Node → Node
+counted_from start node = record node { first = start + node.first }
+
+-- the nodes of these levels, one level after the other, and numbered on from level to level: those of the first have
+-- their numbers from `number` on, and their children from `children` on
+abbrev pub numbered : (number children : ℕ) → List (List Node) → List Node
+numbered number children [] = []
+numbered number children (level ∷ more) =
+    map (counted_from children) level ++ numbered (number + length level) number more
+
+-- the nodes of all levels, over those of level 1: there are no more levels than such nodes. Numbers begin at 0 with level
+-- 1, and so do the places of its children, the entries
 abbrev pub all_nodes : (fanout : ℕ) → List Node → List Node
-all_nodes fanout made = nodes_from (length made) fanout 1 0 made
+all_nodes fanout nodes = numbered 0 0 (levels_from (length nodes) fanout 1 nodes)
+
+-- ---- the tree
 
 -- the tree over entries: those with equal middles go by id
 abbrev pub pack_of : (fanout : ℕ) → List Entry → Packed

@@ -6,9 +6,10 @@
 //!   the order of their places, and its [`Node`]s in the order of their numbers, of which a [`NodeNo`] is one.
 //! - [`Levels`] are seen as the sizes of the levels of a tree over so many entries, told without the tree.
 //!
-//! The definitions that the contracts cite stand in `specs/`: `Entries`, `Levels`, `Packing` (which tree is packed),
-//! `Packed` (what it holds, and what a search may rest on), and `Sorting`, for the crates above too. Their worked rows
-//! stand in `proofs/Rows.antt`. What `Indexes` and `SortKeys` define is for this crate's code alone.
+//! The definitions that the contracts cite stand in `specs/`: `Entries`, `Repeats` (why entries make no table),
+//! `Leaves` (entries without their layers), `Levels`, `Packing` (which tree is packed), `Packed` (what it holds, and
+//! what a search may rest on), and `Sorting`, for the crates above too. Their worked rows stand in `proofs/Rows.antt`.
+//! What `Indexes` and `SortKeys` define is for this crate's code alone.
 #![tactic(auto)]
 
 mod entries;
