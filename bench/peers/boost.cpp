@@ -1,0 +1,54 @@
+// Boost.Geometry's R-tree, filled by its packing constructor, with 16 children a node.
+#include "peer.hpp"
+#include <boost/geometry.hpp>
+#include <boost/geometry/index/rtree.hpp>
+#include <boost/iterator/function_output_iterator.hpp>
+
+namespace geometry = boost::geometry;
+namespace rtree = boost::geometry::index;
+
+class Boost {
+    using Corner = geometry::model::point<int32_t, 2, geometry::cs::cartesian>;
+    using Rectangle = geometry::model::box<Corner>;
+    using Value = std::pair<Rectangle, uint32_t>;
+
+    const Table &table;
+    rtree::rtree<Value, rtree::rstar<16>> tree;
+
+    static Rectangle rectangle(const Box &b) { return {{b.min_x, b.min_y}, {b.max_x, b.max_y}}; }
+
+    static std::vector<Value> values(const Table &table) {
+        std::vector<Value> values;
+        values.reserve(table.boxes.size());
+        for (size_t at = 0; at < table.boxes.size(); at++) values.emplace_back(rectangle(table.boxes[at]), at);
+        return values;
+    }
+
+public:
+    explicit Boost(const Table &table) : table(table), tree(values(table)) {}
+
+    template <class Visit> void window(const Box &around, Visit visit) const {
+        tree.query(rtree::intersects(rectangle(around)),
+                   boost::make_function_output_iterator([&](const Value &value) { visit(value.second); }));
+    }
+
+    // It measures distances in floating point: so more are asked for until all others are surely farther than the last.
+    std::vector<Hit> nearest(const Query &q) const {
+        using Centre = geometry::model::point<double, 2, geometry::cs::cartesian>;
+        Centre centre(static_cast<double>(q.centre.x), static_cast<double>(q.centre.y));
+        for (uint64_t wanted = q.limit + 4;; wanted *= 2) {
+            std::vector<Hit> hits;
+            tree.query(rtree::nearest(centre, static_cast<unsigned>(std::min<uint64_t>(wanted, tree.size()))),
+                       boost::make_function_output_iterator([&](const Value &value) {
+                           hits.push_back({near2(q.centre, table.boxes[value.second]), table.ids[value.second]});
+                       }));
+            if (hits.size() == tree.size()) return hits;
+            std::vector<u128> scores;
+            for (const Hit &hit : hits) scores.push_back(hit.score);
+            std::sort(scores.begin(), scores.end());
+            if (q.limit == 0 || scores.back() - (scores.back() >> 40) > scores[q.limit - 1]) return hits;
+        }
+    }
+};
+
+int main(int argc, char **argv) { return answer<Boost>(argc, argv); }
