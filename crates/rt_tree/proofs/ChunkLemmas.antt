@@ -12,7 +12,7 @@ use Rattle.std.proofs.Math.Nat.{zero-div, zero-mod, mul-le-mul_right}
 use Rattle.std.proofs.lemmas.Grind.{div_ceil_times}
 use Rattle.std.proofs.lemmas.List.{append-nil, drop-append-le, drop-map, drop_all, length-append, length-drop}
 use Rattle.std.proofs.lemmas.List.{length-map, length-take, take-append-drop, take-append-le}
-use Rattle.std.proofs.lemmas.List.{take-map, take_all}
+use Rattle.std.proofs.lemmas.List.{take-map}
 use Rattle.rt_tree.specs.Packing.{chunks, joined, pieces}
 
 -- ---- how many there are
