@@ -69,6 +69,7 @@ RUNS = [
 NO_MEMORY = (6, b"", b"rtfilter: out of memory\n")
 NO_TABLE = (3, b"", b"rtfilter: cannot read table\n")
 NO_QUERIES = b"rtfilter: cannot read queries\n"
+NOT_OPENED = [(3, b"", b"rtfilter: cannot open table\n"), (4, b"", b"rtfilter: cannot open queries\n")]
 NOT_WRITTEN = b"rtfilter: cannot write answers\n"
 
 # The tests of single calls, by the crates that hold them.
@@ -210,6 +211,14 @@ def long_answers(refuser, program):
         yield f"{name}, long answers", len(found), wrong
 
 
+def opens(refuser, program):
+    """TABLE is opened once, and then QUERIES once, where they are named."""
+    for words, wanted in ((["boxes.csv", "queries.txt"], NOT_OPENED), (["boxes.csv"], NOT_OPENED[:1])):
+        found, whole = refuser.each([program, *words], Refusal("open", errno.EACCES, ONCE), QUERIES)
+        wrong = differences([*found, whole], [*([one] for one in wanted), [(0, ANSWERS, b"")]])
+        yield f"opens, {' '.join(words)}", len(found), wrong
+
+
 def short(refuser, program):
     """Reads and writes that move a single byte: the run is as ever."""
     for words, stdin, wanted in [*RUNS, (["many.csv"], b"find all\n", reading.expected(MANY, b"find all\n"))]:
@@ -240,6 +249,7 @@ def outcomes(refuser, program):
     yield from after_the_load(refuser, program)
     yield from devices(refuser, program)
     yield from long_answers(refuser, program)
+    yield from opens(refuser, program)
     yield from short(refuser, program)
     yield from calls(refuser)
 

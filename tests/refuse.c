@@ -1,12 +1,14 @@
 /* Calls that fail, for tests/refusals.py, which loads this before the C library.
  *
- * REFUSE names the calls: memory (malloc and realloc), read or write. Those of the program are counted from 1, and
- * REFUSE_MANY of them, from number REFUSE_AT on, fail with the error REFUSE_AS; where that is 0, a read or a write moves
- * one byte of those it could. Each of these writes one byte to the descriptor REFUSE_TO. All others are those of the C
- * library (glibc).
+ * REFUSE names the calls: memory (malloc and realloc), open, read or write. Those of the program are counted from 1,
+ * and REFUSE_MANY of them, from number REFUSE_AT on, fail with the error REFUSE_AS; where that is 0, a read or a
+ * write moves one byte of those it could. Each of these writes one byte to the descriptor REFUSE_TO. All others are
+ * those of the C library (glibc).
  */
 
 #include <errno.h>
+#include <fcntl.h>
+#include <stdarg.h>
 #include <stddef.h>
 #include <stdlib.h>
 #include <string.h>
@@ -58,6 +60,15 @@ void *malloc(size_t size)
 void *realloc(void *old, size_t size)
 {
     return is_refused("memory") ? NULL : __libc_realloc(old, size);
+}
+
+int open(const char *path, int flags, ...)
+{
+    va_list more;
+    va_start(more, flags);
+    int mode = flags & O_CREAT ? va_arg(more, int) : 0;
+    va_end(more);
+    return is_refused("open") ? -1 : (int)syscall(SYS_openat, AT_FDCWD, path, flags, mode);
 }
 
 static ssize_t move(long call, const char *name, int descriptor, const void *bytes, size_t size)
