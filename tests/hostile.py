@@ -1,12 +1,14 @@
 #!/usr/bin/env python3
-"""Loads tables that are meant to make loading slow, and answers two lines over each, and then many on a rare layer.
+"""Loads tables that are meant to make loading slow, and answers two lines over each; then lines that make searches slow.
 
 usage: tests/hostile.py PROGRAM [RECORDS]
 
 Loading sorts the ids, the entries by id, and each level of the tree by its middles, which is to take time in
 proportion to n log n whatever the boxes and the ids are. With 1,000,000 records a sort that takes time in proportion
 to n * n would not end within the time that is given here, nor would a search on a layer that one box has, if it looked
-at every other box. The last line is `N passed, M failed`.
+at every other box, one for all boxes, if it sorted them again for each, one for half of them, if it looked at all that
+waits for each, or one for a box alone, if it moved what the query before left behind. The last line is
+`N passed, M failed`.
 """
 
 import subprocess
@@ -57,6 +59,17 @@ def one_of_all(at, count):
     return at, at, at, 0, 0, RARE if at == count // 2 else at % 3
 
 
+# Boxes round one middle, whose sizes stand in no order, so that those of a node differ: who asks for the nearest from
+# outside has opened most nodes when half of the boxes are given, and as many boxes wait.
+STEP = 7919
+
+
+def in_no_order(at, count):
+    """Each size once, as the step has no divisor in common with the count."""
+    size = at * STEP % count
+    return at, -size, size, -size, size
+
+
 def write_table(path, record, count):
     """The least id of the table that is written."""
     least = 2**63
@@ -79,6 +92,16 @@ def rare_lines(count):
     return asked, b"".join(told)
 
 
+def nearest_lines(count):
+    """The lines that ask for all boxes, for half of them, and then again and again for one, and their replies."""
+    at_size, half = pow(STEP, -1, count), count // 2
+    boxes = [b"%d %d\n" % ((count - away) * at_size % count, away**2) for away in range(1, count + 1)]
+    asked = b"find all near %d 0\nnearest %d %d 0\n" % (count, half, count) + b"nearest 1 %d 0\n" % count * LINES
+    told = [*boxes, b"ok 1 %d\n" % count, *boxes[:half], b"ok 2 %d\n" % half]
+    told += (boxes[0] + b"ok %d 1\n" % at for at in range(3, 3 + LINES))
+    return asked, b"".join(told)
+
+
 def answers(program, table, lines):
     """What the program says to lines, and the seconds; nothing where it didn't end."""
     start = time.perf_counter()
@@ -95,11 +118,13 @@ def main():
     passed = failed = 0
     with tempfile.TemporaryDirectory() as folder:
         table = str(Path(folder, "table.csv"))
-        for name, record in [*TABLES.items(), ("a layer of one box", one_of_all)]:
+        for name, record in [*TABLES.items(), ("a layer of one box", one_of_all), ("sizes in no order", in_no_order)]:
             least = write_table(table, record, count)
             lines, told = b"count all\nfind all first 1\n", b"ok 1 %d\n%d 0\nok 2 1\n" % (count, least)
             if record == one_of_all:
                 lines, told = rare_lines(count)
+            if record == in_no_order:
+                lines, told = nearest_lines(count)
             said, seconds = answers(program, table, lines)
             if said == told:
                 passed += 1

@@ -12,7 +12,7 @@ use Rattle.rt_search.specs.Answers.{accepted}
 use Rattle.rt_search.specs.Counting.{IsCountable, accepted_under, found_in_entries, over_children, work_at_child}
 use Rattle.rt_search.specs.Counting.{work_of_child, work_under}
 use Rattle.rt_search.specs.Remaining.{IsBelow, IsOpenable, height_at}
-use Rattle.rt_search.specs.Work.{info_of_node, is_divided, is_partly, its_children, one_node, work_from}
+use Rattle.rt_search.specs.Work.{info_of_node, is_divided, is_partly, its_children, one_node, reached}
 use Rattle.rt_search.proofs.Answering.{all_inside, among, among_none, under_all, under_all-append, under_all-none}
 use Rattle.rt_search.proofs.Answering.{under_all-one, under_all-whole, take_more_at}
 use Rattle.rt_search.proofs.Children.{IsChild, all_children, child_of, height_suc, inner_at, leaf_node, node_question}
@@ -106,7 +106,7 @@ module _ (accepts : Extent → Bool) (score : Extent → ℕ) (verdict : Info �
         → work_under opens cost verdict t v number ≡ cost (node_at t number)
     leaf_work opens cost low =
         let n = node_at t number in
-        ap (λ h. work_from opens cost verdict t h v n) (leaf_node t (height_at t number) n opened.tree low).0
+        ap (λ h. reached opens cost verdict t h v n) (leaf_node t (height_at t number) n opened.tree low).0
 
     pub under_few : accepted_under t accepts number ≤ (node_at t number).size
     under_few = accepted_few number opened.tree
@@ -167,12 +167,12 @@ module _ (accepts : Extent → Bool) (score : Extent → ℕ) (verdict : Info �
           let n = node_at t number in
           let h = height_at t number - 1 in
           let below : Node → ℕ = λ k. (let w = verdict (info_of_node t v k) in
-          cond (opens w) (work_from opens cost verdict t h w k) 0) in
+          cond (opens w) (reached opens cost verdict t h w k) 0) in
           let all = all_sums (work_of_child opens cost verdict t v) below
           (λ i lt. (let k = node_at t (n.first + i) in let w = verdict (info_of_node t v k) in
-          ap (λ m. cond (opens w) (work_from opens cost verdict t m w k) 0) (child i lt).height)) in
+          ap (λ m. cond (opens w) (reached opens cost verdict t m w k) 0) (child i lt).height)) in
           let whole : work_under opens cost verdict t v number ≡ cost n + sum_by below (child_nodes t n) =
-          ap (λ m. work_from opens cost verdict t m v n) (height_suc t number opened.tree high) in
+          ap (λ m. reached opens cost verdict t m v n) (height_suc t number opened.tree high) in
           omega (arith, all, whole)
 
       found_upto : (i : ℕ) → i ≤ (node_at t number).count

@@ -10,7 +10,7 @@ use Rattle.rt_search.specs.Answers.{accepted, answer_cmp}
 use Rattle.rt_search.specs.Counting.{accepted_under, work_under}
 use Rattle.rt_search.specs.Remaining.{IsOpenable}
 use Rattle.rt_search.specs.Work.{asked_by_count, is_divided, its_children, one_node, opened_by_count, root_verdict}
-use Rattle.rt_search.specs.Work.{work}
+use Rattle.rt_search.specs.Work.{reached_from_root}
 use Rattle.rt_search.proofs.Answering.{among, among-IsPermutation}
 use Rattle.rt_search.proofs.CountSteps.{length-among}
 use Rattle.rt_search.proofs.OrderedLists.{length-put_all}
@@ -31,7 +31,7 @@ module _ (accepts : Extent → Bool) (score : Extent → ℕ) (verdict : Info �
       pub asked_is : work_under is_divided its_children verdict t v number ≡ asked_by_count verdict t
 
     whole_work : (cost : Node → ℕ) → 0 < length t.nodes
-        → work_under is_divided cost verdict t root_verdict (length t.nodes - 1) ≡ work is_divided cost verdict t
+        → work_under is_divided cost verdict t root_verdict (length t.nodes - 1) ≡ reached_from_root is_divided cost verdict t
     whole_work cost some = (let none = some_nodes t some in rw none refl)
 
     whole_found : 0 < length t.nodes

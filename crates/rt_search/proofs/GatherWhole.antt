@@ -10,7 +10,7 @@ use Rattle.rt_search.specs.Answers.{answers}
 use Rattle.rt_search.specs.Counting.{work_under}
 use Rattle.rt_search.specs.Gathering.{HasGathered}
 use Rattle.rt_search.specs.Remaining.{IsOpenable, remaining}
-use Rattle.rt_search.specs.Work.{is_reached, its_children, one_node, root_verdict, work}
+use Rattle.rt_search.specs.Work.{is_reached, its_children, one_node, root_verdict, reached_from_root}
 use Rattle.rt_search.specs.declared.item.Item.{Item}
 use Rattle.rt_search.proofs.Sizes.{count_is_fair, one_is_fair, size_under, work_le}
 use Rattle.rt_search.proofs.Starting.{root_answers, root_sound, some_nodes}
@@ -23,15 +23,15 @@ module _ (accepts : Extent → Bool) (score : Extent → ℕ) (verdict : Info �
       pub few : (node_at t number).size ≤ length t.entries
       pub opened_few : work_under (is_reached None) one_node verdict t v number ≤ 2 ^ 32
       pub asked_few : work_under (is_reached None) its_children verdict t v number ≤ 2 ^ 32
-      pub opened_is : work_under (is_reached None) one_node verdict t v number ≡ work (is_reached None) one_node verdict t
+      pub opened_is : work_under (is_reached None) one_node verdict t v number ≡ reached_from_root (is_reached None) one_node verdict t
       pub asked_is : work_under (is_reached None) its_children verdict t v number
-          ≡ work (is_reached None) its_children verdict t
+          ≡ reached_from_root (is_reached None) its_children verdict t
       pub answers_are : (new : List Item) → HasGathered t accepts score number [] new
           → remaining t accepts score new ≡ answers t.entries accepts score None
 
     whole_work : (cost : Node → ℕ) → 0 < length t.nodes
         → work_under (is_reached None) cost verdict t root_verdict (length t.nodes - 1)
-        ≡ work (is_reached None) cost verdict t
+        ≡ reached_from_root (is_reached None) cost verdict t
     whole_work cost some = (let none = some_nodes t some in rw none refl)
 
     root_gatherable : 0 < length t.nodes → IsGatherable (length t.nodes - 1) root_verdict

@@ -14,7 +14,7 @@ use Rattle.rt_tree.specs.declared.tree.Node.{Node}
 use Rattle.rt_search.specs.Answers.{Answer, answer_cmp, answers, scored}
 use Rattle.rt_search.specs.Progress.{IsGiving, IsInLimit, IsSearching}
 use Rattle.rt_search.specs.Remaining.{remaining}
-use Rattle.rt_search.specs.Work.{HasWorked, is_reached, its_children, one_node, search_work, work}
+use Rattle.rt_search.specs.Work.{HasWorked, is_reached, its_children, one_node, search_work, reached_from_root}
 use Rattle.rt_search.specs.declared.item.Item.{Item}
 use Rattle.rt_search.proofs.Answering.{among_accepted, among_refused}
 use Rattle.rt_search.proofs.OrderedLists.{length-put_all, put_all-nil}
@@ -110,20 +110,20 @@ module _ (accepts : Extent → Bool) (score : Extent → ℕ) (verdict : Info �
   -- ---- the work after so many answers
 
   work_after : (cost : Node → ℕ) (g : ℕ) (a : Answer) (rest : List Answer) → drop g all ≡ a ∷ rest
-      → work (is_reached (Some a.1)) cost verdict t ≡ search_work cost accepts score verdict t (Some (suc g))
+      → reached_from_root (is_reached (Some a.1)) cost verdict t ≡ search_work cost accepts score verdict t (Some (suc g))
   work_after cost g a rest h =
       let there : slice_get all (suc g - 1) ≡ Some a = ap (slice_get all) (one_less g) ∙ (drop_step all g a rest h).0 in
-      ap (λ o. work (is_reached (option_map (λ (b : Answer). b.1) o)) cost verdict t) (sym there)
+      ap (λ o. reached_from_root (is_reached (option_map (λ (b : Answer). b.1) o)) cost verdict t) (sym there)
 
   work_in_all : (cost : Node → ℕ) (limit : Option ℕ) (g : ℕ) → IsInLimit limit g → limit ≢ Some g → drop g all ≡ []
-      → work (is_reached None) cost verdict t ≡ search_work cost accepts score verdict t limit
+      → reached_from_root (is_reached None) cost verdict t ≡ search_work cost accepts score verdict t limit
   work_in_all cost None g le n h = refl
   work_in_all cost (Some zero) g le n h = absurd (let lt = below_limit zero g le n in omega (arith, lt))
   work_in_all cost (Some (suc k)) g le n h =
       let lt = below_limit (suc k) g le n in
       let none : slice_get all (suc k - 1) ≡ None =
       ap (slice_get all) (one_less k) ∙ past_end all g k h (omega (arith, lt)) in
-      ap (λ o. work (is_reached (option_map (λ (b : Answer). b.1) o)) cost verdict t) (sym none)
+      ap (λ o. reached_from_root (is_reached (option_map (λ (b : Answer). b.1) o)) cost verdict t) (sym none)
 
   -- ---- the steps
 
@@ -146,8 +146,8 @@ module _ (accepts : Extent → Bool) (score : Extent → ℕ) (verdict : Info �
       → IsGiving accepts score verdict t limit given opened asked capacity items → limit ≢ Some given
       → remaining t accepts score items ≡ a ∷ remaining t accepts score new
       → IsSearching accepts score verdict t opened' asked' capacity' new
-      → opened' ≡ work (is_reached (Some a.1)) one_node verdict t → asked'
-      ≡ work (is_reached (Some a.1)) its_children verdict t
+      → opened' ≡ reached_from_root (is_reached (Some a.1)) one_node verdict t → asked'
+      ≡ reached_from_root (is_reached (Some a.1)) its_children verdict t
       → IsGiven limit given opened' asked' capacity' a new
   give limit given opened asked capacity opened' asked' capacity' a items new going more next state in_nodes in_checks =
       let there : drop given all ≡ a ∷ remaining t accepts score new = sym going.follows ∙ next in
@@ -188,7 +188,7 @@ module _ (accepts : Extent → Bool) (score : Extent → ℕ) (verdict : Info �
       → IsGiving accepts score verdict t limit given opened asked capacity items → limit ≢ Some given
       → remaining t accepts score items ≡ [] → remaining t accepts score new ≡ []
       → IsSearching accepts score verdict t opened' asked' capacity' new
-      → opened' ≡ work (is_reached None) one_node verdict t → asked' ≡ work (is_reached None) its_children verdict t
+      → opened' ≡ reached_from_root (is_reached None) one_node verdict t → asked' ≡ reached_from_root (is_reached None) its_children verdict t
       → IsOver limit given opened' asked' capacity' new
   over limit given opened asked capacity opened' asked' capacity' items new going more none none' state in_nodes
       in_checks =

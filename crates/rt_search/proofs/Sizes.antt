@@ -15,7 +15,7 @@ use Rattle.rt_tree.specs.declared.tree.Node.{Node}
 use Rattle.rt_search.specs.Items.{item_at}
 use Rattle.rt_search.specs.Progress.{held, size_at, work_at, work_left}
 use Rattle.rt_search.specs.Remaining.{AllSound, IsSoundAt, height_at, verdict_on}
-use Rattle.rt_search.specs.Work.{info_of_node, its_children, one_node, root_verdict, work, work_from}
+use Rattle.rt_search.specs.Work.{info_of_node, its_children, one_node, root_verdict, reached_from_root, reached}
 use Rattle.rt_search.specs.declared.item.Item.{Item}
 use Rattle.rt_search.specs.declared.item.Place.{Place}
 use Rattle.rt_search.specs.declared.item.Place.TheVariants as place
@@ -81,30 +81,30 @@ count_is_fair t h n s = (size_counts t h n s).1
 
 module _ (opens : Verdict → Bool) (cost : Node → ℕ) (verdict : Info → Verdict) (t : Packed) (fair : IsFair t cost) where
   each_le : (h : ℕ) → ((k : Node) (v : Verdict) → IsSubtree t h k
-      → work_from opens cost verdict t h v k ≤ (h + 1) * k.size) → (v : Verdict) (ks : List Node)
+      → reached opens cost verdict t h v k ≤ (h + 1) * k.size) → (v : Verdict) (ks : List Node)
       → AllByRecursion (IsSubtree t h) ks
-      → sum_by (λ k. let w = verdict (info_of_node t v k) in cond (opens w) (work_from opens cost verdict t h w k) 0)
+      → sum_by (λ k. let w = verdict (info_of_node t v k) in cond (opens w) (reached opens cost verdict t h w k) 0)
       ks ≤ (h + 1) * sum_by (λ k. k.size) ks
   each_le h f v [] a = omega arith
   each_le h f v (k ∷ ks) a =
       let w = verdict (info_of_node t v k) in
-      let here = cond_le (opens w) (work_from opens cost verdict t h w k) ((h + 1) * k.size) (f k w a.0) in
+      let here = cond_le (opens w) (reached opens cost verdict t h w k) ((h + 1) * k.size) (f k w a.0) in
       let more = sum_by-cons
       (λ (k : Node). let w = verdict (info_of_node t v k) in
-      cond (opens w) (work_from opens cost verdict t h w k) 0) k ks in
+      cond (opens w) (reached opens cost verdict t h w k) 0) k ks in
       let sizes = ap (λ n. (h + 1) * n) (sum_by-cons (λ (k : Node). k.size) k ks) in
       omega (arith, here, more, sizes, each_le h f v ks a.1)
 
   work_from_le : (h : ℕ) (n : Node) (v : Verdict) → IsSubtree t h n
-      → work_from opens cost verdict t h v n ≤ (h + 1) * n.size
+      → reached opens cost verdict t h v n ≤ (h + 1) * n.size
   work_from_le zero n v sub = omega (arith, fair zero n sub)
   work_from_le (suc h) n v sub =
       let sizes = ap (λ m. (h + 1) * m) sub.size in
       omega (arith, fair (suc h) n sub, each_le h (λ k w. work_from_le h k w) v (child_nodes t n) sub.below, sizes)
 
-  pub work_le : IsSound t → work opens cost verdict t ≤ 2 ^ 32
+  pub work_le : IsSound t → reached_from_root opens cost verdict t ≤ 2 ^ 32
   work_le sound =
-      let split : (b : Bool) → (length t.nodes == 0) ≡ b → work opens cost verdict t ≤ 2 ^ 32 = elim [
+      let split : (b : Bool) → (length t.nodes == 0) ≡ b → reached_from_root opens cost verdict t ≤ 2 ^ 32 = elim [
         | true ↦ λ h. rw h (omega arith)
         | false ↦ λ h.
             let some : 0 < length t.nodes = grind (arith, nat_tests) in
@@ -121,7 +121,7 @@ module _ (opens : Verdict → Bool) (cost : Node → ℕ) (verdict : Info → Ve
       ] in
       split (length t.nodes == 0) refl
 
-  cost_le_work : (h : ℕ) (v : Verdict) (n : Node) → cost n ≤ work_from opens cost verdict t h v n
+  cost_le_work : (h : ℕ) (v : Verdict) (n : Node) → cost n ≤ reached opens cost verdict t h v n
   cost_le_work zero v n = omega arith
   cost_le_work (suc h) v n = omega arith
 
@@ -131,12 +131,12 @@ module _ (opens : Verdict → Bool) (cost : Node → ℕ) (verdict : Info → Ve
 
   opened_at : (s : ℕ) (n : WaitingNode) → opens (verdict_on s n) ≡ true
       → work_at opens cost verdict t s (place.Node n)
-      ≡ work_from opens cost verdict t (height_at t n.number.number) (verdict_on s n) (node_at t n.number.number)
+      ≡ reached opens cost verdict t (height_at t n.number.number) (verdict_on s n) (node_at t n.number.number)
   opened_at s n h = rw h refl
 
   -- opening a node that waits keeps the work done small
   pub done_le : IsSound t → (done s : ℕ) (n : WaitingNode) (xs : List Item) → opens (verdict_on s n) ≡ true
-      → done + work_left opens cost verdict t (item_at s (place.Node n) ∷ xs) ≡ work opens cost verdict t
+      → done + work_left opens cost verdict t (item_at s (place.Node n) ∷ xs) ≡ reached_from_root opens cost verdict t
       → done + cost (node_at t n.number.number) ≤ 2 ^ 32
   done_le sound done s n xs open' course =
       let most = work_le sound in

@@ -15,7 +15,7 @@ use Rattle.rt_search.specs.Joining.{root_item, root_items}
 use Rattle.rt_search.specs.Progress.{IsGiving, IsInLimit, IsOnCourse, IsSearching, held, size_at, work_at, work_left}
 use Rattle.rt_search.specs.Remaining.{AllSound, remaining}
 use Rattle.rt_search.specs.Work.{HasWorked, is_reached, is_within_bound, its_children, one_node}
-use Rattle.rt_search.specs.Work.{root_verdict, work, work_from}
+use Rattle.rt_search.specs.Work.{root_verdict, reached_from_root, reached}
 use Rattle.rt_search.specs.declared.item.Item.{Item}
 use Rattle.rt_search.proofs.Answering.{among-IsPermutation}
 use Rattle.rt_search.proofs.OrderedLists.{put_all-nil}
@@ -43,13 +43,13 @@ no_nodes t none = grind (arith, nat_tests)
 
 pub root_work : (opens : Verdict → Bool) (cost : Node → ℕ) (verdict : Info → Verdict) (t : Packed)
     → opens root_verdict ≡ true → 0 < length t.nodes → work_left opens cost verdict t (root_item t ∷ [])
-    ≡ work opens cost verdict t
+    ≡ reached_from_root opens cost verdict t
 root_work opens cost verdict t open' some =
-    let W = work_from opens cost verdict t (height t) root_verdict (root_of t) in
+    let W = reached opens cost verdict t (height t) root_verdict (root_of t) in
     let one = sum_by-cons (λ (x : Item). work_at opens cost verdict t x.score x.place) (root_item t) [] in
     let all : cond (opens root_verdict) W 0 ≡ W = rw open' refl in
     let some' = some_nodes t some in
-    let whole : work opens cost verdict t ≡ W = rw some' refl in
+    let whole : reached_from_root opens cost verdict t ≡ W = rw some' refl in
     omega (arith, one, all, whole)
 
 from_none : {m n : ℕ} → m ≡ n → 0 + m ≡ n
@@ -71,7 +71,7 @@ module _ (accepts : Extent → Bool) (score : Extent → ℕ) (verdict : Info �
     root_course cost some = record {
       in_all = from_none (root_work (is_reached None) cost verdict t refl some);
       at_each = all_each (λ a. 0 + work_left (is_reached (Some a.1)) cost verdict t (root_item t ∷ [])
-          ≡ work (is_reached (Some a.1)) cost verdict t)
+          ≡ reached_from_root (is_reached (Some a.1)) cost verdict t)
           (λ a. from_none (root_work (is_reached (Some a.1)) cost verdict t (reached_zero (Some a.1)) some))
           (remaining t accepts score (root_item t ∷ []));
     }

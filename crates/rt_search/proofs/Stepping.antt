@@ -18,7 +18,7 @@ use Rattle.rt_search.specs.Joining.{join_entries, join_nodes}
 use Rattle.rt_search.specs.Kept.{node_or, taken_entry, taken_item}
 use Rattle.rt_search.specs.Progress.{IsNodeStep, IsOnCourse, IsSearching, IsTaken, held, work_at, work_left}
 use Rattle.rt_search.specs.Remaining.{AllSound, answers_at, height_at, put_all, remaining, verdict_on}
-use Rattle.rt_search.specs.Work.{is_kept, is_reached, is_within_bound, its_children, one_node, work, work_from}
+use Rattle.rt_search.specs.Work.{is_kept, is_reached, is_within_bound, its_children, one_node, reached_from_root, reached}
 use Rattle.rt_search.specs.declared.item.FoundEntry.{FoundEntry}
 use Rattle.rt_search.specs.declared.item.Item.{Item}
 use Rattle.rt_search.specs.declared.item.Place.{Place}
@@ -108,7 +108,7 @@ module _ (accepts : Extent → Bool) (score : Extent → ℕ) (verdict : Info �
   none_at cost i s r (place.Entry j) h = refl
   none_at cost i s r (place.Node n) h =
       left_out (is_reached (Some s) (verdict_on r n))
-      (work_from (is_reached (Some s)) cost verdict t (height_at t n.number.number) (verdict_on r n)
+      (reached (is_reached (Some s)) cost verdict t (height_at t n.number.number) (verdict_on r n)
       (node_at t n.number.number)) 0
       (reached_above s r n (before_node accepts score t i n s r h))
 
@@ -128,24 +128,24 @@ module _ (accepts : Extent → Bool) (score : Extent → ℕ) (verdict : Info �
   entry_course : (cost : Node → ℕ) (i : ℤ) (s : ℕ) (done : ℕ) (xs : List Item)
       → AllByRecursion (λ y. is_gt (item_cmp (item_at s (place.Entry i)) y) ≡ false) xs → AllSound t accepts score xs
       → IsOnCourse accepts score verdict cost t done (item_at s (place.Entry i) ∷ xs)
-      → IsOnCourse accepts score verdict cost t done xs × (done ≡ work (is_reached (Some s)) cost verdict t)
+      → IsOnCourse accepts score verdict cost t done xs × (done ≡ reached_from_root (is_reached (Some s)) cost verdict t)
   entry_course cost i s done xs least sound course =
       let x = item_at s (place.Entry i) in
       let next : remaining t accepts score (x ∷ xs) ≡ (i, s) ∷ remaining t accepts score xs =
       take_entry accepts score t i s xs least sound in
       let each = subst (AllByRecursion
       (λ p. done + work_left (is_reached (Some p.1)) cost verdict t (x ∷ xs)
-      ≡ work (is_reached (Some p.1)) cost verdict t)) next course.at_each in
+      ≡ reached_from_root (is_reached (Some p.1)) cost verdict t)) next course.at_each in
       let head : done + work_left (is_reached (Some s)) cost verdict t (x ∷ xs)
-      ≡ work (is_reached (Some s)) cost verdict t = each.0 in
+      ≡ reached_from_root (is_reached (Some s)) cost verdict t = each.0 in
       let none = no_work cost i s xs least in
       let first = cons_of cost (Some s) x xs in (
         record {
           in_all = (let h = course.in_all in let k = cons_of cost None x xs in omega (arith, h, k));
           at_each = all_two (λ p. done + work_left (is_reached (Some p.1)) cost verdict t (x ∷ xs)
-              ≡ work (is_reached (Some p.1)) cost verdict t) (λ p. Unit {0})
+              ≡ reached_from_root (is_reached (Some p.1)) cost verdict t) (λ p. Unit {0})
               (λ p. done + work_left (is_reached (Some p.1)) cost verdict t xs
-              ≡ work (is_reached (Some p.1)) cost verdict t)
+              ≡ reached_from_root (is_reached (Some p.1)) cost verdict t)
               (λ p h _. let k = cons_of cost (Some p.1) x xs in omega (arith, h, k)) (remaining t accepts score xs)
               each.1 (all_units (remaining t accepts score xs));
         },
@@ -156,8 +156,8 @@ module _ (accepts : Extent → Bool) (score : Extent → ℕ) (verdict : Info �
     where
       pub answer : start ≡ (i, s) ∷ remaining t accepts score xs
       pub state : IsSearching accepts score verdict t opened asked capacity xs
-      pub opened_is : opened ≡ work (is_reached (Some s)) one_node verdict t
-      pub asked_is : asked ≡ work (is_reached (Some s)) its_children verdict t
+      pub opened_is : opened ≡ reached_from_root (is_reached (Some s)) one_node verdict t
+      pub asked_is : asked ≡ reached_from_root (is_reached (Some s)) its_children verdict t
 
   entry_step : (opened asked capacity : ℕ) (i : ℤ) (s : ℕ) (xs : List Item)
       → IsTaken accepts score verdict t opened asked capacity (item_at s (place.Entry i)) xs
@@ -188,14 +188,14 @@ module _ (accepts : Extent → Bool) (score : Extent → ℕ) (verdict : Info �
       → AllSound t accepts score (item_at s (place.Node n) ∷ xs)
       → remaining t accepts score new ≡ remaining t accepts score (item_at s (place.Node n) ∷ xs)
       → ((bound : Option ℕ) → work_left (is_reached bound) cost verdict t new + cost (node_at t n.number.number)
-      ≡ work_left (is_reached bound) cost verdict t xs + work_from (is_reached bound) cost verdict t
+      ≡ work_left (is_reached bound) cost verdict t xs + reached (is_reached bound) cost verdict t
       (height_at t n.number.number) (verdict_on s n) (node_at t n.number.number))
       → IsOnCourse accepts score verdict cost t done (item_at s (place.Node n) ∷ xs)
       → IsOnCourse accepts score verdict cost t (done + cost (node_at t n.number.number)) new
   node_course cost s n done xs new least sound same moves course =
       let x = item_at s (place.Node n) in
       let W : Option ℕ → ℕ =
-      λ bound. work_from (is_reached bound) cost verdict t (height_at t n.number.number) (verdict_on s n)
+      λ bound. reached (is_reached bound) cost verdict t (height_at t n.number.number) (verdict_on s n)
       (node_at t n.number.number) in
       record {
         in_all = (
@@ -207,11 +207,11 @@ module _ (accepts : Extent → Bool) (score : Extent → ℕ) (verdict : Info �
             omega (arith, h, c, j, all));
         at_each = subst (AllByRecursion
             (λ p. (done + cost (node_at t n.number.number)) + work_left (is_reached (Some p.1)) cost verdict t new
-            ≡ work (is_reached (Some p.1)) cost verdict t)) (sym same)
+            ≡ reached_from_root (is_reached (Some p.1)) cost verdict t)) (sym same)
             (all_two (λ p. done + work_left (is_reached (Some p.1)) cost verdict t (x ∷ xs)
-            ≡ work (is_reached (Some p.1)) cost verdict t) (λ p. s ≤ p.1)
+            ≡ reached_from_root (is_reached (Some p.1)) cost verdict t) (λ p. s ≤ p.1)
             (λ p. (done + cost (node_at t n.number.number)) + work_left (is_reached (Some p.1)) cost verdict t new
-            ≡ work (is_reached (Some p.1)) cost verdict t)
+            ≡ reached_from_root (is_reached (Some p.1)) cost verdict t)
             (λ p h le.
             let c = cons_of cost (Some p.1) x xs in
             let j = moves (Some p.1) in
@@ -228,7 +228,7 @@ module _ (accepts : Extent → Bool) (score : Extent → ℕ) (verdict : Info �
       → held t new ≤ held t xs + (node_at t n.number.number).size
       → ((cost : Node → ℕ) (bound : Option ℕ)
       → work_left (is_reached bound) cost verdict t new + cost (node_at t n.number.number)
-      ≡ work_left (is_reached bound) cost verdict t xs + work_from (is_reached bound) cost verdict t
+      ≡ work_left (is_reached bound) cost verdict t xs + reached (is_reached bound) cost verdict t
       (height_at t n.number.number) (verdict_on s n) (node_at t n.number.number))
       → IsNodeStep accepts score verdict t opened asked capacity s n xs new
   node_step opened asked capacity s n xs new k same sound size moves = record {
@@ -263,8 +263,8 @@ module _ (accepts : Extent → Bool) (score : Extent → ℕ) (verdict : Info �
       (let h = held-join_entries verdict t v node node.count xs in let e = leaf.1.size in omega (arith, h, e))
       (λ cost bound.
       let e = work-join_entries verdict t v (is_reached bound) cost node node.count xs in
-      let z : work_from (is_reached bound) cost verdict t (height_at t number) v node ≡ cost node =
-      ap (λ h. work_from (is_reached bound) cost verdict t h v node) flat in
+      let z : reached (is_reached bound) cost verdict t (height_at t number) v node ≡ cost node =
+      ap (λ h. reached (is_reached bound) cost verdict t h v node) flat in
       omega (arith, e, z))
 
   pub inner_step : (opened asked capacity s : ℕ) (n : WaitingNode) (xs : List Item) → s < 2 ^ 128
@@ -365,8 +365,8 @@ module _ (accepts : Extent → Bool) (score : Extent → ℕ) (verdict : Info �
 
   pub record IsDone (opened asked : ℕ) (start : List Answer) : Type 0 where
     pub answer : start ≡ []
-    pub opened_is : opened ≡ work (is_reached None) one_node verdict t
-    pub asked_is : asked ≡ work (is_reached None) its_children verdict t
+    pub opened_is : opened ≡ reached_from_root (is_reached None) one_node verdict t
+    pub asked_is : asked ≡ reached_from_root (is_reached None) its_children verdict t
 
   pub all_done : (opened asked capacity : ℕ) (start : List Answer) (items : List Item)
       → IsSearching accepts score verdict t opened asked capacity items → remaining t accepts score items ≡ start

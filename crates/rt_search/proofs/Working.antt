@@ -13,7 +13,7 @@ use Rattle.rt_search.specs.Items.{item_at, item_cmp}
 use Rattle.rt_search.specs.Joining.{info_of_child, join_entries, join_nodes, no_entry}
 use Rattle.rt_search.specs.Progress.{held, size_at, work_at, work_left}
 use Rattle.rt_search.specs.Remaining.{height_at, waiting_node}
-use Rattle.rt_search.specs.Work.{info_of_node, is_kept, work_from}
+use Rattle.rt_search.specs.Work.{info_of_node, is_kept, reached}
 use Rattle.rt_search.specs.declared.item.Item.{Item}
 use Rattle.rt_search.specs.declared.item.Place.TheVariants as place
 use Rattle.rt_search.proofs.Answering.{take_more_at}
@@ -148,10 +148,10 @@ module _ (verdict : Info → Verdict) (t : Packed) (v : Verdict) where
       module _ (opens : Verdict → Bool) (joining : IsJoining opens joins) (cost : Node → ℕ) where
         -- what a child brings to the work
         abbrev brings : ℕ → Node → ℕ
-        brings h k = let w = verdict (info_of_node t v k) in cond (opens w) (work_from opens cost verdict t h w k) 0
+        brings h k = let w = verdict (info_of_node t v k) in cond (opens w) (reached opens cost verdict t h w k) 0
 
         abbrev under_verdict : ℕ → Verdict → ℕ
-        under_verdict m w = cond (opens w) (work_from opens cost verdict t (height_at t m) w (node_at t m)) 0
+        under_verdict m w = cond (opens w) (reached opens cost verdict t (height_at t m) w (node_at t m)) 0
 
         brought : (m : ℕ) → let w = verdict (info_of_node t v (node_at t m)) in
             cond (joins w.within) (work_at opens cost verdict t w.score (place.Node (waiting_node m w.within))) 0
@@ -193,13 +193,13 @@ module _ (verdict : Info → Verdict) (t : Packed) (v : Verdict) where
         pub work-join_nodes : (xs : List Item)
             → work_left opens cost verdict t
             (join_nodes joins verdict t v (node_at t number) (node_at t number).count xs) + cost (node_at t number)
-            ≡ work_left opens cost verdict t xs + work_from opens cost verdict t (height_at t number) v
+            ≡ work_left opens cost verdict t xs + reached opens cost verdict t (height_at t number) v
             (node_at t number)
         work-join_nodes xs =
             let n = node_at t number in
             let h = height_at t number - 1 in
             let all = ap (sum_by (brings h)) (all_children t number tree high n.count (omega arith)) in
-            let whole : work_from opens cost verdict t (height_at t number) v n
-            ≡ work_from opens cost verdict t (suc h) v n =
-            ap (λ m. work_from opens cost verdict t m v n) (height_suc t number tree high) in
+            let whole : reached opens cost verdict t (height_at t number) v n
+            ≡ reached opens cost verdict t (suc h) v n =
+            ap (λ m. reached opens cost verdict t m v n) (height_suc t number tree high) in
             omega (arith, work_upto xs n.count (omega arith), all, whole)

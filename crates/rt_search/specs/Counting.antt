@@ -8,7 +8,7 @@ use Rattle.rt_tree.specs.declared.tree.Node.{Node}
 use Rattle.rt_search.specs.Answers.{accepted}
 use Rattle.rt_search.specs.Joining.{info_of_child, no_entry}
 use Rattle.rt_search.specs.Remaining.{height_at}
-use Rattle.rt_search.specs.Work.{info_of_node, is_kept, work_from}
+use Rattle.rt_search.specs.Work.{info_of_node, is_kept, reached}
 
 -- an entry counts unless it is NOT
 abbrev pub found_at_entry : Verdict → ℕ
@@ -28,7 +28,7 @@ accepted_under t accepts number = length (accepted (entries_under t (height_at t
 -- what the work under an opened node costs
 abbrev pub work_under : (opens : Verdict → Bool) → (cost : Node → ℕ) → (verdict : Info → Verdict) → Packed → Verdict
     → (number : ℕ) → ℕ
-work_under opens cost verdict t v number = work_from opens cost verdict t (height_at t number) v (node_at t number)
+work_under opens cost verdict t v number = reached opens cost verdict t (height_at t number) v (node_at t number)
 
 -- what it costs under a node that is opened where the test says so of its verdict
 abbrev pub work_at_child : (opens : Verdict → Bool) → (cost : Node → ℕ) → (verdict : Info → Verdict) → Packed

@@ -10,7 +10,7 @@ use Rattle.rt_tree.specs.declared.tree.Node.{Node}
 use Rattle.rt_search.specs.Answers.{answers}
 use Rattle.rt_search.specs.Items.{item_at, item_cmp}
 use Rattle.rt_search.specs.Remaining.{AllSound, height_at, remaining, verdict_on}
-use Rattle.rt_search.specs.Work.{HasWorked, is_reached, its_children, one_node, work, work_from}
+use Rattle.rt_search.specs.Work.{HasWorked, is_reached, its_children, one_node, reached_from_root, reached}
 use Rattle.rt_search.specs.declared.item.Item.{Item}
 use Rattle.rt_search.specs.declared.item.Place.{Place}
 use Rattle.rt_search.specs.declared.item.Place.TheVariants as place
@@ -22,7 +22,7 @@ use Rattle.rt_search.specs.declared.item.WaitingNode.{WaitingNode}
 abbrev pub work_at : (opens : Verdict → Bool) → (cost : Node → ℕ) → (verdict : Info → Verdict) → Packed → ℕ → Place → ℕ
 work_at opens cost verdict t s (place.Node n) =
     if opens (verdict_on s n)
-    then work_from opens cost verdict t (height_at t n.number.number) (verdict_on s n) (node_at t n.number.number)
+    then reached opens cost verdict t (height_at t n.number.number) (verdict_on s n) (node_at t n.number.number)
     else 0
 work_at opens cost verdict t s (place.Entry id) = 0
 
@@ -45,10 +45,10 @@ held t = sum_by (λ x. size_at t x.place)
 -- the work done and the work to come are the work of all, without a bound and up to the score of each answer to come
 pub record IsOnCourse (accepts : Extent → Bool) (score : Extent → ℕ) (verdict : Info → Verdict) (cost : Node → ℕ)
     (t : Packed) (done : ℕ) (items : List Item) : Type 0 where
-  pub in_all : done + work_left (is_reached None) cost verdict t items ≡ work (is_reached None) cost verdict t
+  pub in_all : done + work_left (is_reached None) cost verdict t items ≡ reached_from_root (is_reached None) cost verdict t
   pub at_each : AllByRecursion
       (λ a. done + work_left (is_reached (Some a.1)) cost verdict t items
-      ≡ work (is_reached (Some a.1)) cost verdict t) (remaining t accepts score items)
+      ≡ reached_from_root (is_reached (Some a.1)) cost verdict t) (remaining t accepts score items)
 
 -- what holds between two answers
 pub record IsSearching (accepts : Extent → Bool) (score : Extent → ℕ) (verdict : Info → Verdict) (t : Packed)

@@ -35,19 +35,21 @@ info_of_node t parent n = info_under (root_of t).level parent (extent_of_node n)
 
 -- ---- the nodes that are opened
 
--- the sum of a cost over the nodes that are opened, from one with so many levels of nodes below it and this verdict on it:
--- a child of an opened node is opened where the test says so of the verdict on the child
-abbrev pub work_from : (opens : Verdict → Bool) → (cost : Node → ℕ) → (verdict : Info → Verdict) → Packed
+-- what is reached from a node that is opened, with this verdict on it and so many levels of nodes below it: its cost,
+-- plus the sum of reached over the child nodes whose verdict passes the test. So where each node costs one and the test is
+-- that of a search: one, plus the sum of reached over the child nodes whose verdict isn't NOT and whose score is at most
+-- the bound
+abbrev pub reached : (opens : Verdict → Bool) → (cost : Node → ℕ) → (verdict : Info → Verdict) → Packed
     → (below : ℕ) → Verdict → Node → ℕ
-work_from opens cost verdict t zero of_node n = cost n
-work_from opens cost verdict t (suc below) of_node n =
+reached opens cost verdict t zero of_node n = cost n
+reached opens cost verdict t (suc below) of_node n =
     cost n + sum_by (λ child. let of_child = verdict (info_of_node t of_node child) in
-    if opens of_child then work_from opens cost verdict t below of_child child else 0) (child_nodes t n)
+    if opens of_child then reached opens cost verdict t below of_child child else 0) (child_nodes t n)
 
 -- the same from the root, which is opened where there is one
-abbrev pub work : (opens : Verdict → Bool) → (cost : Node → ℕ) → (verdict : Info → Verdict) → Packed → ℕ
-work opens cost verdict t =
-    if length t.nodes == 0 then 0 else work_from opens cost verdict t (height t) root_verdict (root_of t)
+abbrev pub reached_from_root : (opens : Verdict → Bool) → (cost : Node → ℕ) → (verdict : Info → Verdict) → Packed → ℕ
+reached_from_root opens cost verdict t =
+    if length t.nodes == 0 then 0 else reached opens cost verdict t (height t) root_verdict (root_of t)
 
 -- what opening a node costs in nodes
 abbrev pub one_node : Node → ℕ
@@ -85,8 +87,8 @@ abbrev pub search_work : (cost : Node → ℕ) → (accepts : Extent → Bool) �
     → (verdict : Info → Verdict) → Packed → (limit : Option ℕ) → ℕ
 search_work cost accepts score verdict t (Some zero) = 0
 search_work cost accepts score verdict t (Some (suc more)) =
-    work (is_reached (last_score (answers t.entries accepts score None) (Some (suc more)))) cost verdict t
-search_work cost accepts score verdict t None = work (is_reached None) cost verdict t
+    reached_from_root (is_reached (last_score (answers t.entries accepts score None) (Some (suc more)))) cost verdict t
+search_work cost accepts score verdict t None = reached_from_root (is_reached None) cost verdict t
 
 -- how many nodes a search opens for so many answers
 abbrev pub opened_by_search : (accepts : Extent → Bool) → (score : Extent → ℕ) → (verdict : Info → Verdict) → Packed
@@ -118,8 +120,8 @@ is_divided v = is_partly v.within
 
 -- how many nodes a count opens: the root, and each node that is PARTLY under an opened one
 abbrev pub opened_by_count : (verdict : Info → Verdict) → Packed → ℕ
-opened_by_count = work is_divided one_node
+opened_by_count = reached_from_root is_divided one_node
 
 -- how many checks it makes
 abbrev pub asked_by_count : (verdict : Info → Verdict) → Packed → ℕ
-asked_by_count = work is_divided its_children
+asked_by_count = reached_from_root is_divided its_children

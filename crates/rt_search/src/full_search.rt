@@ -14,8 +14,8 @@ use std::marker::Model;
 /// opens the nodes that a [`Search`](crate::Search) without a limit opens, all of them before the first answer, and
 /// takes less time.
 ///
-/// It is seen as for what is searched, the answers still to come, the nodes opened and the checks made, and the
-/// capacity of its frontier.
+/// It is seen as what is searched, the answers still to come, the nodes opened and the checks made, and the capacity of
+/// its frontier.
 pub struct FullSearch<'a, G: Geometry> {
     tree: &'a Tree,
     frontier: Frontier,
@@ -31,6 +31,7 @@ impl<'a, G: Geometry> Model for FullSearch<'a, G> {
     ghost Value = { FullSearching G };
 
     ghost view = { λ s. let g = s.counted.geometry in record {
+      tree = s.tree.now;
       geometry = g;
       to_come = remaining s.tree.now (G.accepts g) (G.score g) s.frontier.items;
       opened = s.opened;
@@ -53,6 +54,7 @@ impl<'a, G: Geometry> FullSearch<'a, G> {
         ensures worked { let g = counted.entry.geometry in
             HasWorked (G.accepts g) (G.score g) (G.verdict g) tree.now None result.opened result.asked }
 
+        ensures tree { result.tree ≡ tree.now }
         ensures geometry { result.geometry ≡ counted.entry.geometry }
         ensures capacity { result.capacity ≡ frontier.capacity }
     {
@@ -73,6 +75,7 @@ impl<'a, G: Geometry> FullSearch<'a, G> {
         ensures none { IfNone result (self.new.to_come ≡ []) }
         ensures opened { self.new.opened ≡ self.old.opened }
         ensures asked { self.new.asked ≡ self.old.asked }
+        ensures tree { self.new.tree ≡ self.old.tree }
         ensures geometry { self.new.geometry ≡ self.old.geometry }
         ensures capacity { self.new.capacity ≡ self.old.capacity }
     {

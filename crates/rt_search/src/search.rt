@@ -7,7 +7,7 @@ ghost use Rattle.rt_search.specs.declared.item.Place.TheVariants as place;
 ghost use Rattle.rt_search.specs.Answers.{answers};
 ghost use Rattle.rt_search.specs.Progress.{IsNodeStep, IsSearching, IsTaken};
 ghost use Rattle.rt_search.specs.Remaining.{remaining};
-ghost use Rattle.rt_search.specs.Work.{HasWorked, is_reached, its_children, one_node, work};
+ghost use Rattle.rt_search.specs.Work.{HasWorked, is_reached, its_children, one_node, reached_from_root};
 
 use crate::frontier::Frontier;
 use crate::item::ScoredNode;
@@ -69,11 +69,11 @@ fn pull<G: Geometry>(
         IsSearching (G.accepts g) (G.score g) (G.verdict g) tree.now opened.new counted.new.asked
         frontier.new.capacity frontier.new.items }
     ensures opened { let g = counted.old.geometry in
-        MatchOption result (opened.new ≡ work (is_reached None) one_node (G.verdict g) tree.now)
-        (λ a. opened.new ≡ work (is_reached (Some a.1)) one_node (G.verdict g) tree.now) }
+        MatchOption result (opened.new ≡ reached_from_root (is_reached None) one_node (G.verdict g) tree.now)
+        (λ a. opened.new ≡ reached_from_root (is_reached (Some a.1)) one_node (G.verdict g) tree.now) }
     ensures asked { let g = counted.old.geometry in
-        MatchOption result (counted.new.asked ≡ work (is_reached None) its_children (G.verdict g) tree.now)
-        (λ a. counted.new.asked ≡ work (is_reached (Some a.1)) its_children (G.verdict g) tree.now) }
+        MatchOption result (counted.new.asked ≡ reached_from_root (is_reached None) its_children (G.verdict g) tree.now)
+        (λ a. counted.new.asked ≡ reached_from_root (is_reached (Some a.1)) its_children (G.verdict g) tree.now) }
     ensures capacity { frontier.new.capacity ≡ frontier.old.capacity }
     ensures geometry { counted.new.geometry ≡ counted.old.geometry }
 {

@@ -5,8 +5,8 @@ use crate::tables::{Sides, boxed, push};
 use crate::uneven::Uneven;
 use crate::watched::Watched;
 use rt_geo::{
-    All, ById, Circle, Counted, Geometry, Guided, Inside, Layers, Near, OnLayers, Order, Point,
-    Region, Window,
+    All, Bounds, ById, Circle, Counted, Geometry, Guided, Inside, Layers, Near, OnLayers, Order,
+    Point, Region, Window,
 };
 use rt_search::{Count, Frontier, FullSearch, Search, cost, count};
 use rt_tree::{Table, Tree};
@@ -137,6 +137,13 @@ fn all_by_id() -> Guided<All, ById> {
     }
 }
 
+fn in_window(bounds: Bounds) -> Guided<Window, ById> {
+    Guided {
+        shape: Window(bounds),
+        rank: ById,
+    }
+}
+
 #[test]
 fn the_nearest_are_found_with_exact_work(rt: HostRuntime) {
     let tree = pack(&rt, rt.alloc(), &BOXES);
@@ -226,10 +233,7 @@ fn a_node_may_score_above_its_children(rt: HostRuntime) {
 #[test]
 fn counts_whole_subtrees(rt: HostRuntime) {
     let tree = pack(&rt, rt.alloc(), &BOXES);
-    let window = Guided {
-        shape: Window(boxed(&rt, [0, 10, 0, 10])),
-        rank: ById,
-    };
+    let window = in_window(boxed(&rt, [0, 10, 0, 10]));
     expect_count(
         &rt,
         rt.alloc(),
@@ -300,10 +304,7 @@ fn equal_boxes_are_all_opened_for_the_nearest(rt: HostRuntime) {
         asked: 126,
     };
     expect_search(&rt, rt.alloc(), &tree, &near(0, 0), Some(1), &nearest);
-    let window = Guided {
-        shape: Window(boxed(&rt, [1, 1, 1, 1])),
-        rank: ById,
-    };
+    let window = in_window(boxed(&rt, [1, 1, 1, 1]));
     let none = Want {
         answers: &[],
         opened: 1,
@@ -419,6 +420,53 @@ fn nodes_are_opened_by_score_and_number(rt: HostRuntime) {
     // root; e, b; d, a; never c
     let want = [30, 15, 15, 15, 12, 10, 30, -1, 10, 0];
     assert_eq!(rt; by_distance.shown(), want);
+}
+
+// The same of a full search and of a count, which go down to each child in turn. No box is shown twice.
+#[test]
+fn full_searches_and_counts_ask_about_each_child_once(rt: HostRuntime) {
+    let tree = pack(&rt, rt.alloc(), &BOXES);
+    let frontier = Frontier::new(rt.alloc(), tree.len()).expect(&rt, "there is memory");
+    let all = Watched::new(all_by_id());
+    let search = FullSearch::start(&tree, frontier, Counted::new(&all));
+    // d: a, c; e: b
+    let want = [30, 10, -1, 10, 30, 30, 15, 15, 15, 12];
+    assert_eq!(rt; all.shown(), want);
+
+    let (mut frontier, _counted) = search.finish();
+    let window = Watched::new(in_window(boxed(&rt, [0, 10, 0, 10])));
+    let _two = count(&tree, &mut frontier, &mut Counted::new(&window));
+    // d: a, never c; e: b
+    let want = [30, 10, -1, 10, 30, 15, 15, 15, 12, 0];
+    assert_eq!(rt; window.shown(), want);
+}
+
+// A search that is finished early leaves in its frontier what still waited.
+#[test]
+fn a_count_gives_up_what_a_search_left(rt: HostRuntime) {
+    let tree = pack(&rt, rt.alloc(), &BOXES);
+    let frontier = Frontier::new(rt.alloc(), tree.len()).expect(&rt, "there is memory");
+    let nearest = near(12, 12);
+    let mut search = Search::start(&tree, frontier, Counted::new(&nearest), None);
+    assert_eq!(rt; search.next(), Some((2, 0)));
+    let (mut frontier, _counted) = search.finish();
+    assert!(rt; !frontier.is_empty());
+
+    let window = in_window(boxed(&rt, [0, 10, 0, 10]));
+    let mut counted = Counted::new(&window);
+    let want = Count {
+        accepted: 2,
+        opened: 5,
+    };
+    assert_eq!(rt; count(&tree, &mut frontier, &mut counted), want);
+    assert_eq!(rt; counted.asked(), 9);
+    assert!(rt; frontier.is_empty());
+    let mut search = Search::start(&tree, frontier, Counted::new(&window), None);
+    assert_eq!(rt; search.next(), Some((1, 0)));
+    assert_eq!(rt; search.next(), Some((2, 0)));
+    assert_eq!(rt; search.next(), None);
+    assert_eq!(rt; search.opened(), 5);
+    let _end = search.finish();
 }
 
 // Where an allocator refuses one growth, as tests/refusals.py has it, this tells so, and else it passes.
