@@ -1,5 +1,5 @@
 -- A run over a table that was loaded, and over one that was refused.
-use Rattle.std.proofs.Common.{◌≡◌, ◌∙◌, ℕ, Bool, true, false, arith, List, [], ◌++◌, Option, None, Some, refl, sym, ap, append-nil}
+use Rattle.std.proofs.Common.{◌≡◌, ◌∙◌, ℕ, Bool, true, false, arith, List, [], ◌++◌, Option, None, Some, refl, sym, ap, subst, append-nil}
 use Rattle.std.specs.Prelude.{Ok, Err, Result, if◌then◌else◌}
 use Rattle.rt_command.specs.Choices.{Choices}
 use Rattle.rt_geo.specs.declared.entry.Entry.{Entry}
@@ -58,12 +58,6 @@ has_loaded choices table entries tree h packed = record {
 
 -- ---- how the run ends
 
--- a run ends so with this fault, if any
-abbrev EndsBy : Choices → (table : List ℕ) → Told → Outcome → Option RunFault → Type 0
-EndsBy choices table told outcome cause =
-    (what : Happened) × Tells told (is_read cause) (is_write cause) what
-    × EndsWith (loaded_of choices table) (run_of choices table told.queries) what outcome cause
-
 -- a fault of the table's text is the run's own, and so is the status
 text_row : (choices : Choices) (table queries : List ℕ) (what : Happened) (outcome : Outcome) (cause : TableFault) → EndsEarly what
     → loaded_of choices table ≡ Err cause → outcome.fault ≡ Some (run.Table cause) → outcome.status ≡ 3
@@ -78,47 +72,54 @@ text_row choices table queries what outcome cause early own fault status =
       },
     )
 
-module _ (choices : Choices) (table queries before : List ℕ) (outcome : Outcome) where
+module _ (choices : Choices) (table queries before : List ℕ) (status : ℕ) where
   abbrev nothing : Happened
   nothing = record { consumed = []; rest = queries; out = [] }
 
-  row : (cause : RunFault) → Stops choices table cause → is_of_load (Some cause) ≡ true → outcome.fault ≡ Some cause
-      → IsStatusOf (Some cause) outcome.status
-      → EndsWith (loaded_of choices table) (run_of choices table queries) nothing outcome (Some cause)
-  row (run.Table load.Read) h of_load fault status = record { unread = refl; unwritten = refl }
-  row (run.Table load.Memory) h of_load fault status = absurd status
-  row (run.Table (load.TooMany n)) h of_load fault status = text_row choices table queries nothing outcome (load.TooMany n) (record { unread = refl; unwritten = refl }) (h refl) fault status
-  row (run.Table (load.FieldCount n k)) h of_load fault status = text_row choices table queries nothing outcome (load.FieldCount n k) (record { unread = refl; unwritten = refl }) (h refl) fault status
-  row (run.Table (load.NotNumber n k)) h of_load fault status = text_row choices table queries nothing outcome (load.NotNumber n k) (record { unread = refl; unwritten = refl }) (h refl) fault status
-  row (run.Table (load.OutOfRange n k)) h of_load fault status = text_row choices table queries nothing outcome (load.OutOfRange n k) (record { unread = refl; unwritten = refl }) (h refl) fault status
-  row (run.Table (load.MinAboveMax n k)) h of_load fault status = text_row choices table queries nothing outcome (load.MinAboveMax n k) (record { unread = refl; unwritten = refl }) (h refl) fault status
-  row (run.Table (load.Repeated n)) h of_load fault status = text_row choices table queries nothing outcome (load.Repeated n) (record { unread = refl; unwritten = refl }) (h refl) fault status
-  row run.Read h of_load fault status = absurd (grind (arith, of_load))
-  row run.Write h of_load fault status = absurd (grind (arith, of_load))
-  row run.Memory h of_load fault status = record { unread = refl; unwritten = refl }
+  abbrev ended : RunFault → Outcome
+  ended cause = record { status = status; fault = Some cause }
+
+  text : (cause : TableFault) → loaded_of choices table ≡ Err cause → status ≡ 3
+      → EndsEarly nothing × EndsAs (run_of choices table queries) nothing (ended (run.Table cause))
+  text cause own is =
+      text_row choices table queries nothing (ended (run.Table cause)) cause (record { unread = refl; unwritten = refl }) own refl is
+
+  row : (cause : RunFault) → Stops choices table cause → is_of_load (Some cause) ≡ true → IsStatusOf (Some cause) status
+      → EndsWith (loaded_of choices table) (run_of choices table queries) nothing (ended cause) (Some cause)
+  row (run.Table load.Read) h of_load is = record { unread = refl; unwritten = refl }
+  row (run.Table load.Memory) h of_load is = absurd is
+  row (run.Table (load.TooMany n)) h of_load is = text (load.TooMany n) (h refl) is
+  row (run.Table (load.FieldCount n k)) h of_load is = text (load.FieldCount n k) (h refl) is
+  row (run.Table (load.NotNumber n k)) h of_load is = text (load.NotNumber n k) (h refl) is
+  row (run.Table (load.OutOfRange n k)) h of_load is = text (load.OutOfRange n k) (h refl) is
+  row (run.Table (load.MinAboveMax n k)) h of_load is = text (load.MinAboveMax n k) (h refl) is
+  row (run.Table (load.Repeated n)) h of_load is = text (load.Repeated n) (h refl) is
+  row run.Read h of_load is = absurd (grind (arith, of_load))
+  row run.Write h of_load is = absurd (grind (arith, of_load))
+  row run.Memory h of_load is = record { unread = refl; unwritten = refl }
 
   still : (failed : Bool) (now : Option (List ℕ)) (bytes : List ℕ) → now ≡ Some bytes → StillTells failed now bytes
   still true now bytes h = rw h refl
   still false now bytes h = h
 
-  pub ends_early : (cause : RunFault) → Stops choices table cause → is_of_load (Some cause) ≡ true → outcome.fault ≡ Some cause
-      → IsStatusOf (Some cause) outcome.status → (coming written : Option (List ℕ)) → coming ≡ Some queries → written ≡ Some before
-      → Ends choices table (told_of queries before coming written) outcome
-  ends_early cause h of_load fault status coming written c w = rw fault (
+  pub ended_early : (cause : RunFault) → Stops choices table cause → is_of_load (Some cause) ≡ true → IsStatusOf (Some cause) status
+      → (coming written : Option (List ℕ)) → coming ≡ Some queries → written ≡ Some before
+      → Ends choices table (told_of queries before coming written) (ended cause)
+  ended_early cause h of_load is coming written c w = (
     nothing,
     record {
       queries = refl;
       coming = still (is_read (Some cause)) coming queries c;
       written = still (is_write (Some cause)) written (before ++ []) (w ∙ ap (λ zs. Some zs) (sym (append-nil before)));
     },
-    row cause h of_load fault status,
+    row cause h of_load is,
   )
 
 served_row : (choices : Choices) (table : List ℕ) (tree : Packed) (told : Told) (bad : Bool) (cause : Option ServeFault) → HasLoaded choices table tree
     → ((loaded : Loaded) → tree ≡ tree_of loaded → Serves loaded told (record { bad = bad; fault = cause }))
-    → (outcome : Outcome) → outcome.fault ≡ run_fault_of cause → (cause ≡ None → outcome.status ≡ (if bad then 1 else 0))
-    → EndsBy choices table told outcome (run_fault_of cause)
-served_row choices table tree told bad None h s outcome fault status =
+    → (status : ℕ) → (cause ≡ None → status ≡ (if bad then 1 else 0))
+    → Ends choices table told (record { status = status; fault = run_fault_of cause })
+served_row choices table tree told bad None h s status is =
     let r = s h.loaded h.packed in
     let all : told.queries ≡ r.0.consumed = r.1.queries ∙ ap (λ zs. r.0.consumed ++ zs) r.2.ended ∙ append-nil r.0.consumed in
     let lines = numbered_lines r.0.consumed true in
@@ -128,18 +129,34 @@ served_row choices table tree told bad None h s outcome fault status =
       r.1,
       (r.2.ended, record {
         written = r.2.replies ∙ ap (λ run. run.written) (sym whole);
-        fault = fault ∙ ap (λ run. run.fault) (sym whole);
-        status = status refl ∙ ap (λ b. if b then 1 else 0) r.2.faults ∙ ap (λ run. run.status) (sym whole);
+        fault = ap (λ run. run.fault) (sym whole);
+        status = is refl ∙ ap (λ b. if b then 1 else 0) r.2.faults ∙ ap (λ run. run.status) (sym whole);
       }),
     )
-served_row choices table tree told bad (Some serve.Read) h s outcome fault status =
+served_row choices table tree told bad (Some serve.Read) h s status is =
     let r = s h.loaded h.packed in (r.0, r.1, rw h.same (bad, r.2))
-served_row choices table tree told bad (Some serve.Write) h s outcome fault status =
+served_row choices table tree told bad (Some serve.Write) h s status is =
     let r = s h.loaded h.packed in (r.0, r.1, rw h.same (bad, r.2))
+
+-- an outcome is its status and its fault
+pub ends_with : (choices : Choices) (table : List ℕ) (told : Told) (outcome : Outcome) (cause : Option RunFault) → outcome.fault ≡ cause
+    → Ends choices table told (record { status = outcome.status; fault = cause }) → Ends choices table told outcome
+ends_with choices table told outcome cause e h =
+    let P : Option RunFault → Type 0 = λ fault. Ends choices table told (record { status = outcome.status; fault = fault }) in
+    subst P (sym e) h
 
 pub ends_served : (choices : Choices) (table : List ℕ) (tree : Packed) (told : Told) (served : Served) → HasLoaded choices table tree
     → ((loaded : Loaded) → tree ≡ tree_of loaded → Serves loaded told served)
     → (outcome : Outcome) → outcome.fault ≡ run_fault_of served.fault → (served.fault ≡ None → outcome.status ≡ (if served.bad then 1 else 0))
     → Ends choices table told outcome
 ends_served choices table tree told served h s outcome fault status =
-    rw fault (served_row choices table tree told served.bad served.fault h s outcome fault status)
+    ends_with choices table told outcome (run_fault_of served.fault) fault
+    (served_row choices table tree told served.bad served.fault h s outcome.status status)
+
+pub ends_early : (choices : Choices) (table queries before : List ℕ) (outcome : Outcome) (cause : RunFault) → Stops choices table cause
+    → is_of_load (Some cause) ≡ true → outcome.fault ≡ Some cause → IsStatusOf (Some cause) outcome.status
+    → (coming written : Option (List ℕ)) → coming ≡ Some queries → written ≡ Some before
+    → Ends choices table (told_of queries before coming written) outcome
+ends_early choices table queries before outcome cause h of_load fault status coming written c w =
+    ends_with choices table (told_of queries before coming written) outcome (Some cause) fault
+    (ended_early choices table queries before outcome.status cause h of_load status coming written c w)

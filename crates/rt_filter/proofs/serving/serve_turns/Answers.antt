@@ -32,6 +32,16 @@ loop-turn-preserved g c = record {
   flushed = λ e. c.in-Ok-Some.ensures.flushed (c.loop-turn.invariant.flushed e);
 }
 
+pub returns-in-Ok-None-clause-ending : goal.returns-in-Ok-None-clause-ending
+returns-in-Ok-None-clause-ending g c queries before e w =
+    rw (c.served.ensures.bad, c.served.ensures.fault)
+    ((rw c.in-Ok-None.field-0-is at c.in-Ok-None.ensures.serving) queries before (c.loop-turn.invariant.serving queries before e w))
+
+pub returns-in-Err-clause-ending : goal.returns-in-Err-clause-ending
+returns-in-Err-clause-ending g c queries before e w =
+    rw (c.served-in-Err.ensures.bad, c.served-in-Err.ensures.fault)
+    (c.in-Err.ensures.ending queries before (c.loop-turn.invariant.serving queries before e w))
+
 pub returns-clause-ending : goal.returns-clause-ending
 returns-clause-ending g c queries before e w =
     rw (c.served-2.ensures.bad, c.served-2.ensures.fault)
