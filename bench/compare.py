@@ -33,7 +33,7 @@ def built(name):
     newest = max(file.stat().st_mtime for file in (sources / source, sources / "peer.hpp"))
     if not path.exists() or path.stat().st_mtime < newest:
         path.parent.mkdir(parents=True, exist_ok=True)
-        command = ["g++", "-std=c++17", "-O2", "-DNDEBUG", "-w", "-o", path, sources / source, *options]
+        command = ["g++", "-std=c++17", "--optimize=2", "-DNDEBUG", "-w", "-o", path, sources / source, *options]
         subprocess.run(command, check=True)
     return str(path)
 
