@@ -127,11 +127,14 @@ served_row choices table tree told bad None h s status is =
     ap (λ loaded. run_over loaded told.queries) h.same ∙ ap (λ zs. run_over (Ok h.loaded) zs) all in (
       r.0,
       r.1,
-      (r.2.ended, record {
-        written = r.2.replies ∙ ap (λ run. run.written) (sym whole);
-        fault = ap (λ run. run.fault) (sym whole);
-        status = is refl ∙ ap (λ b. if b then 1 else 0) r.2.faults ∙ ap (λ run. run.status) (sym whole);
-      }),
+      (
+        r.2.ended,
+        record {
+          written = r.2.replies ∙ ap (λ run. run.written) (sym whole);
+          fault = ap (λ run. run.fault) (sym whole);
+          status = is refl ∙ ap (λ b. if b then 1 else 0) r.2.faults ∙ ap (λ run. run.status) (sym whole);
+        },
+      ),
     )
 served_row choices table tree told bad (Some serve.Read) h s status is =
     let r = s h.loaded h.packed in (r.0, r.1, rw h.same (bad, r.2))

@@ -188,13 +188,13 @@ module _ (loaded : Loaded) (queries before : List ℕ) (coming written : Option 
   pub serving-stopped : (now : Option (List ℕ)) → IsSameIfTold coming now
       → Serves loaded (told_of queries before now written) (record { bad = bad; fault = Some serve.Read })
   serving-stopped now u = (
-      record { consumed = s.consumed; rest = s.rest; out = output loaded (numbered_lines s.consumed false) },
-      record {
-        queries = s.told_so.1;
-        coming = still_told now s.rest (rw s.told_so.0 at u);
-        written = s.written ∙ ap (λ zs. Some zs) out_is;
-      },
-      record { replies = refl; faults = s.answering.faults ∙ ap any_fault (sym complete) },
+    record { consumed = s.consumed; rest = s.rest; out = output loaded (numbered_lines s.consumed false) },
+    record {
+      queries = s.told_so.1;
+      coming = still_told now s.rest (rw s.told_so.0 at u);
+      written = s.written ∙ ap (λ zs. Some zs) out_is;
+    },
+    record { replies = refl; faults = s.answering.faults ∙ ap any_fault (sym complete) },
   )
 
   -- what a pull gave
@@ -220,7 +220,7 @@ module _ (loaded : Loaded) (queries before : List ℕ) (coming written : Option 
       → Serves loaded (told_of queries before now out) (record { bad = fault; fault = Some serve.Write })
   cut_prefix now out fault given rest is parts few cut =
       let gone = went_out (output loaded (numbered_lines (s.consumed ++ given) (is_empty rest))) (output loaded (numbered_lines s.consumed false)) before out
-          (begins_so given (is_empty rest)) cut.written (rw out_is at cut.answered) in (
+      (begins_so given (is_empty rest)) cut.written (rw out_is at cut.answered) in (
         record { consumed = s.consumed ++ given; rest = rest; out = gone.out },
         record {
           queries = s.told_so.1 ∙ ap (λ zs. s.consumed ++ zs) parts ∙ sym (append_assoc s.consumed given rest);

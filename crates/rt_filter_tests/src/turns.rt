@@ -185,14 +185,7 @@ fn calls_in_turns_are<R: Abort + AllocGlobal>(
         fails_in,
         failures: 0,
     };
-    let outcome = run(
-        rt.alloc(),
-        &settings,
-        BOXES,
-        &mut source,
-        &mut sink,
-        turns,
-    );
+    let outcome = run(rt.alloc(), &settings, BOXES, &mut source, &mut sink, turns);
     let letters = calls.letters.get();
     assert_eq!(rt; letters.get(..calls.len.get()), Some(expected));
     assert_eq!(rt; outcome.fault, fault);
