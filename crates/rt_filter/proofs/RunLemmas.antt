@@ -9,7 +9,7 @@ use Rattle.rt_text.specs.declared.tables.TableFault.{TableFault}
 use Rattle.rt_text.specs.declared.tables.TableFault.TheVariants as load
 use Rattle.rt_tree.specs.Packed.{Packed}
 use Rattle.rt_tree.specs.Packing.{pack_of}
-use Rattle.rt_filter.specs.Endings.{Ends, EndsAs, EndsEarly, EndsWith, Happened, IsStatusOf, Serves, StillTells, Tells, Told, is_of_load, is_read, is_write, told_of}
+use Rattle.rt_filter.specs.Endings.{Ends, EndsAs, EndsEarly, EndsWith, Happened, IsStatusOf, Serves, StillTells, Told, is_of_load, is_read, is_write, told_of}
 use Rattle.rt_filter.specs.Faults.{run_fault}
 use Rattle.rt_filter.specs.Lines.{numbered_lines}
 use Rattle.rt_filter.specs.Replies.{Loaded, any_fault, output, tree_of}

@@ -1,4 +1,3 @@
-use Rattle.std.proofs.Common.{refl}
 use Rattle.rt_filter.specs.Endings.{told_of}
 use Rattle.rt_filter.proofs.RunLemmas.{ends_early, ends_served}
 use Rattle.rt_filter.proofs.filter.run.Goals as goal
