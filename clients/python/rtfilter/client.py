@@ -6,11 +6,12 @@ from collections.abc import Iterable, Sequence
 from operator import index
 from typing import Union
 
+from .answers import Answers
 from .boxes import Boxes
 from .connection import Address, Connection
 from .program import Program
 from .queries import All
-from .replies import Reply, cut, may_be_skipped
+from .replies import Reply, cut, cut_one, may_be_skipped
 from .tables import File, Table, again, file_of, named
 from .transport import CLOSED, Transport
 
@@ -18,6 +19,8 @@ Command = Union[File, Sequence[str]]
 """The program: its name or path, or the words of a command, which options and the table's name are to follow."""
 
 PROGRAM = "rtfilter"
+
+LINE_FEED = "a line feed in a query line: {!r:.200}"
 
 ANSWERED = "find all first 0"
 """A line that is always answered, for a text whose last line may have no reply."""
@@ -80,6 +83,14 @@ class Rtfilter(Boxes):
             replies = self._transport.replies_to(text, len(sent))
         return cut(replies, sent, first)[:len(asked)]
 
+    def _answers(self, line: str) -> Answers:
+        if "\n" in line:
+            raise ValueError(LINE_FEED.format(line))
+        text = f"{line}\n".encode("utf-8", "surrogateescape")
+        with self._lock:
+            reply = self._transport.reply_to(text)
+        return cut_one(reply, line)
+
     def reload(self, table: Table | None = None) -> None:
         if isinstance(self._transport, Connection):
             raise ValueError("the service exchanges its table")
@@ -122,5 +133,5 @@ def query_lines(lines: Iterable[str]) -> list[str]:
     found = list(lines)
     for line in found:
         if "\n" in line:
-            raise ValueError(f"a line feed in a query line: {line!r:.200}")
+            raise ValueError(LINE_FEED.format(line))
     return found

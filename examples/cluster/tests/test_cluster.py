@@ -268,11 +268,13 @@ class CoProcesses(Folders):
                 processes.opened(tables, program)
         with self.assertRaises(ValueError):
             Cluster([])
-        with opened([Path(table)]) as boxes:
-            with self.assertRaises(ValueError):
-                boxes.replies(["count all\n"])
-        with self.assertRaises(ShardError):
-            boxes.replies(["count all"])
+        for count in (1, 2):
+            with opened([Path(table)] * count) as boxes:
+                with self.assertRaises(ValueError):
+                    boxes.replies(["count all\n"])
+            boxes.close()
+            with self.assertRaisesRegex(ValueError, "^the table was closed$"):
+                boxes.replies(["count all"])
 
     def test_another_host(self) -> None:
         """By a command that takes a host and hands its words on to a shell, as ssh does."""
