@@ -32,7 +32,7 @@ class Rtfilter(Boxes):
     `table` is the name of a CSV file, or rows, whose numbers are id, min_x, max_x, min_y, max_y and, for a box that isn't of
     layer 0, its layer, 0 to 63. With `header`, the first record of a file is one. `fanout` (2 to 64) and `max_entries`
     (1 to 16777216) are the program's options. `timeout` is how many seconds each call may wait for the program, the load
-    here too; None sets no limit.
+    here too; None sets no limit, and neither does infinity.
 
     In place of these, `address` is where a service listens that holds a table: the path of a Unix socket, or a host and
     a port. The service exchanges its table, and `reload` raises `ValueError`.
@@ -60,6 +60,8 @@ class Rtfilter(Boxes):
         self._file = file_of(table)
         self._header = header
         self._words = command(program, header, fanout, max_entries)
+        if timeout is not None and not timeout >= 0:
+            raise ValueError(f"a timeout is a number of seconds from 0, and not {timeout}")
         self._timeout = timeout
         self._lock = threading.Lock()
         self._transport: Transport

@@ -7,7 +7,7 @@ from typing import Union
 
 from .errors import Disconnected, TimedOut
 from .tables import File
-from .transport import Text, Transport
+from .transport import LONGEST_WAIT, Text, Transport
 
 Address = Union[File, tuple[str, int]]
 """Where a service listens: the path of a Unix socket, or the host and the port of a TCP socket."""
@@ -44,9 +44,10 @@ class Connection(Transport):
 
 def connected(address: Address, seconds: float | None) -> socket.socket:
     """A socket that is connected. Raises `OSError` where it can't be, and `TimedOut` where that takes too long."""
+    wait = None if seconds is None else min(seconds, LONGEST_WAIT)
     try:
-        found = _tcp(address, seconds) if isinstance(address, tuple) else _unix(address, seconds)
-    except TimeoutError as error:
+        found = _tcp(address, wait) if isinstance(address, tuple) else _unix(address, wait)
+    except (TimeoutError, BlockingIOError) as error:
         if seconds is None:  # the system's own limit
             raise
         raise TimedOut(seconds) from error

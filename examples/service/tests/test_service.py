@@ -3,10 +3,12 @@
 import os
 import random
 import re
+import shutil
 import signal
 import socket
 import stat
 import subprocess
+import sys
 import tempfile
 import threading
 import time
@@ -14,7 +16,7 @@ import unittest
 from pathlib import Path
 from unittest import mock
 
-from served import BOXES, PROGRAM, Served, all_of, read_lines, some_pieces, some_queries, talk, told_by_program, until
+from served import BOXES, PACKAGE, PROGRAM, SERVICE, Served, all_of, read_lines, some_pieces, some_queries, talk, told_by_program, until
 
 from copies import Copies
 
@@ -407,6 +409,32 @@ class Sockets(Case):
             self.assertEqual(talk(socket.create_connection(other.getsockname()), [b"count all"]), b"ok 1 5\n")
             (program,) = service.children
             self.assertEqual(len(os.listdir(f"/proc/{program}/fd")), 3)  # it has none of these sockets
+
+    def test_without_standard_error(self) -> None:
+        """Nobody takes its log, and it goes on."""
+        script = f'exec "$@" --unix {self.folder}/socket {BOXES} 2>&-'
+        command = ["sh", "-c", script, "-", sys.executable, "-B", str(SERVICE), "--program", PROGRAM]
+        process = subprocess.Popen(command, env={**os.environ, "PYTHONPATH": str(PACKAGE)})
+        self.addCleanup(process.kill)
+        until(lambda: os.path.exists(f"{self.folder}/socket"), "the service")
+        for _ in range(2):
+            with socket.socket(socket.AF_UNIX) as asker:
+                asker.connect(f"{self.folder}/socket")
+                self.assertEqual(talk(asker, [b"count all\n"]), b"ok 1 5\n")
+            process.send_signal(signal.SIGHUP)
+        process.terminate()
+        self.assertEqual(process.wait(10), 0)
+
+    def test_units(self) -> None:
+        """systemd finds no fault with them."""
+        if shutil.which("systemd-analyze") is None:
+            self.skipTest("systemd-analyze: not installed")
+        names = [shutil.copy(SERVICE.with_name(name), self.folder) for name in ("rtfilter.socket", "rtfilter.service")]
+        command = ["systemd-analyze", "--man=no", "--recursive-errors=no", "verify", *names]
+        done = subprocess.run(command, stdout=subprocess.PIPE, stderr=subprocess.STDOUT, text=True, timeout=120)
+        # What it says of other units is the machine's affair.
+        self.assertEqual([line for line in done.stdout.splitlines() if "rtfilter" in line], [])
+        self.assertEqual(done.returncode, 0, done.stdout)
 
     def test_nowhere_to_listen(self) -> None:
         service = self.served(BOXES)
