@@ -201,6 +201,41 @@ class Times(unittest.TestCase):
                 boxes.count(All())
 
 
+    def test_interrupts_at_any_moment(self) -> None:
+        """Whatever they meet, no reply is another line's."""
+        chance = random.Random(5)
+        lines = ["find all", "# none", "x", "nearest 2 12 12"]
+
+        class Interrupt(Exception):
+            pass
+
+        def interrupt(*_: object) -> None:
+            raise Interrupt
+
+        with Rtfilter(BOXES, program=PROGRAM, timeout=60) as boxes:
+            wanted = {size: list(written(boxes.replies(lines * size))) for size in (1, 50)}
+            by_itself, met = boxes.find(All()), {Interrupt: 0, Ended: 0}
+            before = signal.signal(signal.SIGALRM, interrupt)
+            try:
+                while min(met.values()) < 20:
+                    try:
+                        try:
+                            signal.setitimer(signal.ITIMER_REAL, chance.uniform(0.00005, 0.002))
+                            while True:
+                                size = chance.choice([1, 50])
+                                self.assertEqual(list(written(boxes.replies(lines * size))), wanted[size])
+                                self.assertEqual(boxes.find(All()), by_itself)
+                        finally:
+                            signal.setitimer(signal.ITIMER_REAL, 0)
+                    except Interrupt:
+                        met[Interrupt] += 1
+                    except Ended:
+                        met[Ended] += 1
+                        boxes.reload()
+            finally:
+                signal.signal(signal.SIGALRM, before)
+
+
 class Crowds(unittest.TestCase):
     def test_many_answers_in_one_call(self) -> None:
         with Rtfilter(BOXES, program=PROGRAM) as boxes:

@@ -1,5 +1,6 @@
 """A connection to the service reads as the program alone would, whatever others do."""
 
+import configparser
 import os
 import random
 import re
@@ -426,15 +427,23 @@ class Sockets(Case):
         self.assertEqual(process.wait(10), 0)
 
     def test_units(self) -> None:
-        """systemd finds no fault with them."""
-        if shutil.which("systemd-analyze") is None:
-            self.skipTest("systemd-analyze: not installed")
-        names = [shutil.copy(SERVICE.with_name(name), self.folder) for name in ("rtfilter.socket", "rtfilter.service")]
-        command = ["systemd-analyze", "--man=no", "--recursive-errors=no", "verify", *names]
-        done = subprocess.run(command, stdout=subprocess.PIPE, stderr=subprocess.STDOUT, text=True, timeout=120)
-        # What it says of other units is the machine's affair.
-        self.assertEqual([line for line in done.stdout.splitlines() if "rtfilter" in line], [])
-        self.assertEqual(done.returncode, 0, done.stdout)
+        """The units of systemd name the service as it is, its socket is its owner's alone; and systemd finds no fault with
+        them, where it is there."""
+        names = [SERVICE.with_name(name) for name in ("rtfilter.socket", "rtfilter.service")]
+        units = [configparser.RawConfigParser(delimiters="=", strict=False) for _ in names]
+        for unit, name in zip(units, names):
+            unit.read(name)
+        self.assertEqual(units[0]["Socket"]["SocketMode"], "0600")
+        self.assertEqual(units[1]["Unit"]["Requires"], "rtfilter.socket")
+        _, script, _ = units[1]["Service"]["ExecStart"].split()
+        self.assertEqual(Path(script).name, SERVICE.name)
+        if shutil.which("systemd-analyze"):
+            copies = [shutil.copy(name, self.folder) for name in names]
+            command = ["systemd-analyze", "--man=no", "--recursive-errors=no", "verify", *copies]
+            done = subprocess.run(command, stdout=subprocess.PIPE, stderr=subprocess.STDOUT, text=True, timeout=120)
+            # What it says of other units is the machine's affair.
+            self.assertEqual([line for line in done.stdout.splitlines() if "rtfilter" in line], [])
+            self.assertEqual(done.returncode, 0, done.stdout)
 
     def test_nowhere_to_listen(self) -> None:
         service = self.served(BOXES)
