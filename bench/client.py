@@ -3,11 +3,12 @@
 
 usage: bench/client.py PROGRAM [BOXES]
 
-Time is that of the wall, the least of some runs in which the cases take turns, so that a noisy moment meets all of them;
-ids are made into numbers unless it says bytes. Each case is told in time and as how many times that of its first row. Who
-has no rtree is told so. Answers to windows are compared; it is no part of the gate.
+Prints the tables of docs/python-client.md. Time is that of the wall, the least of some runs in which the cases take turns,
+so that a noisy moment meets all of them; ids are made into numbers unless it says bytes. Each case is told in time and as
+how many times that of its table's first row. Who has no rtree is told so. Answers are compared; it is no part of the gate.
 """
 
+import os
 import random
 import sqlite3
 import subprocess
@@ -28,12 +29,13 @@ try:
 except ImportError:
     rtree = None
 
-RUNS = 7
-QUERIES = 2_000
+LOADS, RUNS = 5, 25  # of each case
+QUERIES = 500
 BATCH = 1_000
-LINES = 100_000  # for the program on a file
+LINES = 50_000  # for the program on a file
 SIDE, LARGEST = 1_000_000, 1_000
 HITS, NEAREST = 20, 10
+LOAD, NO_LINE = "to load", "program, no line"
 IN_SQL = "SELECT id FROM box WHERE max_x >= ? AND min_x <= ? AND max_y >= ? AND min_y <= ?"
 
 
@@ -91,19 +93,21 @@ def loads(program, table, rows):
     yield "sqlite3, rows", lambda: in_sqlite(rows).close()
 
 
-def windows_asked(client, theirs, base, windows):
+def windows_asked(client, ours, theirs, base, windows):
     lines = [find_line(Window(*it), None, None) for it in windows]
     yield "client, one by one", lambda: [list(client.find(Window(*it)).ids) for it in windows]
-    yield "client, batches", lambda: [list(it.ids) for batch in batches(lines) for it in client.ask(batch)]
+    yield "client, in one call", lambda: [list(it.ids) for batch in batches(lines) for it in client.ask(batch)]
+    yield "client's Index", lambda: [list(ours.intersection(interleaved(it))) for it in windows]
     if rtree:
         yield "rtree", lambda: [list(theirs.intersection(interleaved(it))) for it in windows]
     yield "sqlite3", lambda: [[id for id, in base.execute(IN_SQL, it)] for it in windows]
 
 
-def nearest_asked(client, theirs, points):
+def nearest_asked(client, ours, theirs, points):
     lines = [nearest_line(NEAREST, *it) for it in points]
     yield "client, one by one", lambda: [list(client.nearest(NEAREST, *it).ids) for it in points]
-    yield "client, batches", lambda: [list(it.ids) for batch in batches(lines) for it in client.ask(batch)]
+    yield "client, in one call", lambda: [list(it.ids) for batch in batches(lines) for it in client.ask(batch)]
+    yield "client's Index", lambda: [list(ours.nearest((x, y, x, y), NEAREST)) for x, y in points]
     if rtree:
         yield "rtree", lambda: [list(theirs.nearest((x, y, x, y), NEAREST)) for x, y in points]
 
@@ -115,17 +119,19 @@ def in_lines(client, program, table, path, lines):
     def run(queries):
         subprocess.run([program, table, queries], stdout=subprocess.DEVNULL, check=True)
 
-    yield "program, no line", lambda: run("/dev/null")
+    yield NO_LINE, lambda: run("/dev/null")
     yield "program, a file", lambda: run(path)
-    yield "client, batches up to the bytes", lambda: of_bytes(client, lines)
-    yield "client, batches of Answers", lambda: of_answers(client, lines)
+    yield f"client, calls of {BATCH:,}, up to the bytes", lambda: of_bytes(client, lines)
+    yield f"client, calls of {BATCH:,}, `Answers`", lambda: of_answers(client, lines)
 
 
 def measured(groups):
     """The least seconds of each case of each group."""
     least = {}
-    for _ in range(RUNS):
+    for turn in range(RUNS):
         for group, cases in groups.items():
+            if group == LOAD and turn >= LOADS:
+                continue
             for name, run in cases:
                 begun = time.perf_counter()
                 run()
@@ -135,13 +141,25 @@ def measured(groups):
 
 
 def tell(groups, least, counts):
+    """A table for each group. What the program takes for its file of lines is told without its load."""
     for group, cases in groups.items():
+        print(f"\n| {group} | us | times |\n|---|---|---|")
         first = None
         for name, _ in cases:
-            seconds = least[group, name] - least.get((group, "program, no line"), 0)
-            if seconds > 0:
+            if name != NO_LINE:
+                seconds = least[group, name]
+                if name.startswith("program"):
+                    seconds -= least[group, NO_LINE]
                 first = first or seconds
-                print(f"{group:28} {name:34} {seconds / counts[group] * 1e6:12.1f} us {seconds / first:8.2f}")
+                print(f"| {name} | {seconds / counts[group] * 1e6:,.1f} | {seconds / first:.2f} |")
+
+
+def check(windows, points):
+    """The cases of one group answer the same; of boxes that are as far as the last one rtree gives all."""
+    answers = [[sorted(ids) for ids in run()] for _, run in windows]
+    assert all(it == answers[0] for it in answers), "windows are answered in different ways"
+    ours, *others = [[{*ids} for ids in run()] for _, run in points]
+    assert all(one <= other for it in others for one, other in zip(ours, it)), "the nearest are others"
 
 
 def main():
@@ -155,19 +173,22 @@ def main():
     with tempfile.TemporaryDirectory() as room:
         table = Path(room, "boxes.csv")
         table.write_text("".join("%d,%d,%d,%d,%d\n" % row for row in rows))
-        with Rtfilter(table, program=program) as client:
+        items = ((row[0], interleaved(row[1:])) for row in rows)
+        with Rtfilter(table, program=program) as client, Index(items, program=program) as ours:
             base, theirs = in_sqlite(rows), in_rtree(rows) if rtree else None
             groups = {
-                "load": list(loads(program, table, rows)),
-                f"window of {HITS}": list(windows_asked(client, theirs, base, windows)),
-                f"nearest {NEAREST}": list(nearest_asked(client, theirs, points)),
-                "lines: windows": list(in_lines(client, program, table, Path(room, "windows"), lines)),
-                "lines: windows near": list(in_lines(client, program, table, Path(room, "near"), near)),
+                LOAD: list(loads(program, table, rows)),
+                f"a window of about {HITS} boxes": list(windows_asked(client, ours, theirs, base, windows)),
+                f"the {NEAREST} nearest": list(nearest_asked(client, ours, theirs, points)),
+                "a line: a window": list(in_lines(client, program, table, Path(room, "windows"), lines)),
+                f"a line: a window, the {NEAREST} nearest in it":
+                    list(in_lines(client, program, table, Path(room, "near"), near)),
             }
-            answers = [[sorted(ids) for ids in run()] for _, run in groups[f"window of {HITS}"]]
-            assert all(it == answers[0] for it in answers), "windows are answered in different ways"
-            counts = dict(zip(groups, [1, QUERIES, QUERIES, LINES, LINES]))
-            tell(groups, measured(groups), counts)
+            kinds = [*groups]
+            check(groups[kinds[1]], groups[kinds[2]])
+            load = os.getloadavg()[0]
+            print(f"{boxes:,} boxes, Python {sys.version.split()[0]}, {os.cpu_count()} processors, load {load:.1f}")
+            tell(groups, measured(groups), dict(zip(kinds, [1, QUERIES, QUERIES, LINES, LINES])))
     if not rtree:
         print("rtree isn't installed for this Python")
 

@@ -25,7 +25,7 @@ TESTS = [
     ROOT / "examples/tiles/tests",
     ROOT / "examples/cluster/tests",
 ]
-TOO_LONG = 300  # seconds: something waits for ever
+TOO_LONG = 300  # seconds of one test: something waits for ever
 
 
 class Results(unittest.TestResult):
@@ -37,10 +37,12 @@ class Results(unittest.TestResult):
 
     def startTest(self, test):
         super().startTest(test)
+        faulthandler.dump_traceback_later(TOO_LONG, exit=True)
         self.begun = time.monotonic()
 
     def stopTest(self, test):
         super().stopTest(test)
+        faulthandler.cancel_dump_traceback_later()
         if "TIMES" in os.environ:
             print(f"{time.monotonic() - self.begun:.2f} s {test.id()}")
 
@@ -54,7 +56,6 @@ def main():
     parser.add_argument("program")
     parser.add_argument("--need-all", action="store_true")
     args = parser.parse_args()
-    faulthandler.dump_traceback_later(TOO_LONG, exit=True)
     os.environ["RTFILTER_PROGRAM"] = str(Path(args.program).resolve())
     results = Results()
     for folder in TESTS:

@@ -27,6 +27,8 @@ GRACE = 5.0  # seconds that connections have to end
 
 def log(text: str) -> None:
     """One line, in one write: lines of several threads don't mix. Where nobody takes it, the service goes on."""
+    if sys.stderr is None:  # it was closed before the start
+        return
     with contextlib.suppress(OSError):
         sys.stderr.write(f"{text}\n")
         sys.stderr.flush()

@@ -131,6 +131,8 @@ class Handler(BaseHTTPRequestHandler):
             raise Refused(HTTPStatus.METHOD_NOT_ALLOWED, "GET alone is answered")
         if len(self.path) > LONGEST_TARGET:
             raise Refused(HTTPStatus.REQUEST_URI_TOO_LONG, f"an address has at most {LONGEST_TARGET} bytes")
+        if self.headers.defects:
+            raise Refused(HTTPStatus.BAD_REQUEST, "those are no headers")
         hosts: list[str] = self.headers.get_all("Host", [])
         if len(hosts) != 1:
             raise Refused(HTTPStatus.BAD_REQUEST, "one Host is wanted")

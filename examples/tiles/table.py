@@ -68,7 +68,7 @@ def names_of(file_name: str | None) -> dict[int, str]:
     """Names by number, of a CSV file of both: ids of boxes, or layers. None where there is no file."""
     if file_name is None:
         return {}
-    with open(file_name, encoding="utf-8", newline="") as file:
+    with open(file_name, encoding="utf-8-sig", newline="") as file:
         records = csv.reader(file)
         try:
             return {int(number): name for number, name in filter(None, records)}

@@ -104,8 +104,11 @@ def grid_of(window: Sides) -> tuple[int, int]:
 
 
 def unbounded(line: str) -> str | None:
-    """Why a line isn't asked: it may have too many answers. What is faulty otherwise is left to the program."""
+    """Why a line isn't asked: it may have too many answers, or cost as much as they do. What is faulty otherwise is left to
+    the program."""
     words = line.split()
+    if words[:1] == ["cost"]:
+        del words[0]
     if words[:1] == ["find"] and not (words[-2:-1] == ["first"] and is_bounded(words[-1])):
         return f"here a find has to end with first K, where K is at most {MOST_ANSWERS}"
     if words[:1] == ["nearest"] and not is_bounded("".join(words[1:2])):

@@ -14,6 +14,7 @@ import pages
 from postgres import server
 
 PAGE = ROOT / "docs/recipes.md"
+TOOLS = "awk", "jq", "mawk", "mlr", "ogr2ogr", "parallel", "psql", "sqlite3"
 SECTION = re.compile(r"^## (.*)\n((?:(?!^## ).*\n)*)", re.MULTILINE)
 BLOCK = re.compile(r"^```console (.+)\n((?:.*\n)*?)```$", re.MULTILINE)
 EXAMPLE = re.compile(r"^\$ (.*\n(?:> .*\n|>\n)*)((?:(?!\$ ).*\n)*)", re.MULTILINE)
@@ -49,6 +50,14 @@ class Recipes(unittest.TestCase):
         commands = PAGE.read_text(encoding="utf-8").count("\n$ ")
         self.assertEqual(sum(len(examples) for _, examples in sections().values()), commands)
         self.assertGreater(commands, 30)
+
+    def test_that_tools_are_named(self) -> None:
+        """A section whose commands call a tool that not every machine has names it: it is skipped there."""
+        for title, (tools, examples) in sections().items():
+            text = "\n".join(command for command, _ in examples)
+            for tool in TOOLS:
+                if re.search(rf"(^|[|;&(] *){tool} ", text, re.MULTILINE):
+                    self.assertIn(tool, tools, title)
 
 
 def add_tests() -> None:

@@ -26,12 +26,13 @@ class Answers:
     @property
     def ids(self) -> "array[int]":
         """The ids, in 64 bits each. Made anew by each use."""
-        return array("q", map(int, self._words()[::2]))
+        # A list is taken faster than what is made on the way.
+        return array("q", list(map(int, self._text.split()[::2])))
 
     @property
     def scores(self) -> list[int]:
         """The scores, as whole numbers of any size. Made anew by each use."""
-        return [int(word) for word in self._words()[1::2]]
+        return list(map(int, self._text.split()[1::2]))
 
     def __len__(self) -> int:
         """How many answers there are. A `count` has none, whatever it has counted, and neither has a `cost`."""
@@ -39,12 +40,8 @@ class Answers:
 
     def __iter__(self) -> Iterator[tuple[int, int]]:
         """The ids, each with its score."""
-        numbers = map(int, self._words())
+        numbers = map(int, self._text.split())
         return zip(numbers, numbers)
-
-    def _words(self) -> list[str]:
-        """The ids and scores by turns. `int` takes text faster than bytes, by a third and more."""
-        return self._text.decode("ascii").split()
 
     def __bytes__(self) -> bytes:
         """The lines `ID SCORE` as the program wrote them."""

@@ -6,11 +6,12 @@ from collections.abc import Iterable, Sequence
 from operator import index
 from typing import Union
 
+from .answers import Answers
 from .boxes import Boxes
 from .connection import Address, Connection
 from .program import Program
 from .queries import All
-from .replies import Reply, cut, may_be_skipped
+from .replies import Reply, cut, cut_one, may_be_skipped
 from .tables import File, Table, again, file_of, named
 from .transport import CLOSED, Transport
 
@@ -18,6 +19,8 @@ Command = Union[File, Sequence[str]]
 """The program: its name or path, or the words of a command, which options and the table's name are to follow."""
 
 PROGRAM = "rtfilter"
+
+LINE_FEED = "a line feed in a query line: {!r:.200}"
 
 ANSWERED = "find all first 0"
 """A line that is always answered, for a text whose last line may have no reply."""
@@ -29,7 +32,7 @@ class Rtfilter(Boxes):
     `table` is the name of a CSV file, or rows, whose numbers are id, min_x, max_x, min_y, max_y and, for a box that isn't of
     layer 0, its layer, 0 to 63. With `header`, the first record of a file is one. `fanout` (2 to 64) and `max_entries`
     (1 to 16777216) are the program's options. `timeout` is how many seconds each call may wait for the program, the load
-    here too; None sets no limit.
+    here too; None sets no limit, and neither does infinity.
 
     In place of these, `address` is where a service listens that holds a table: the path of a Unix socket, or a host and
     a port. The service exchanges its table, and `reload` raises `ValueError`.
@@ -57,6 +60,8 @@ class Rtfilter(Boxes):
         self._file = file_of(table)
         self._header = header
         self._words = command(program, header, fanout, max_entries)
+        if timeout is not None and not timeout >= 0:
+            raise ValueError(f"a timeout is a number of seconds from 0, and not {timeout}")
         self._timeout = timeout
         self._lock = threading.Lock()
         self._transport: Transport
@@ -79,6 +84,14 @@ class Rtfilter(Boxes):
             first = self._transport.lines + 1
             replies = self._transport.replies_to(text, len(sent))
         return cut(replies, sent, first)[:len(asked)]
+
+    def _answers(self, line: str) -> Answers:
+        if "\n" in line:
+            raise ValueError(LINE_FEED.format(line))
+        text = f"{line}\n".encode("utf-8", "surrogateescape")
+        with self._lock:
+            reply = self._transport.reply_to(text)
+        return cut_one(reply, line)
 
     def reload(self, table: Table | None = None) -> None:
         if isinstance(self._transport, Connection):
@@ -122,5 +135,5 @@ def query_lines(lines: Iterable[str]) -> list[str]:
     found = list(lines)
     for line in found:
         if "\n" in line:
-            raise ValueError(f"a line feed in a query line: {line!r:.200}")
+            raise ValueError(LINE_FEED.format(line))
     return found

@@ -7,7 +7,7 @@ from typing import Union
 
 from .errors import Disconnected, TimedOut
 from .tables import File
-from .transport import Transport
+from .transport import LONGEST_WAIT, Text, Transport
 
 Address = Union[File, tuple[str, int]]
 """Where a service listens: the path of a Unix socket, or the host and the port of a TCP socket."""
@@ -27,13 +27,13 @@ class Connection(Transport):
     def is_closed(self) -> bool:
         return self._socket.fileno() < 0
 
-    def _write(self, text: memoryview) -> int:
+    def _write(self, text: Text) -> int:
         return self._socket.send(text, socket.MSG_DONTWAIT)
 
     def _ended(self) -> Disconnected:
         return Disconnected("the service closed the connection")
 
-    def abandon(self) -> None:
+    def _end_at_once(self) -> None:
         with contextlib.suppress(OSError):  # where the other side was first
             self._socket.shutdown(socket.SHUT_RDWR)
 
@@ -44,9 +44,10 @@ class Connection(Transport):
 
 def connected(address: Address, seconds: float | None) -> socket.socket:
     """A socket that is connected. Raises `OSError` where it can't be, and `TimedOut` where that takes too long."""
+    wait = None if seconds is None else min(seconds, LONGEST_WAIT)
     try:
-        found = _tcp(address, seconds) if isinstance(address, tuple) else _unix(address, seconds)
-    except TimeoutError as error:
+        found = _tcp(address, wait) if isinstance(address, tuple) else _unix(address, wait)
+    except (TimeoutError, BlockingIOError) as error:
         if seconds is None:  # the system's own limit
             raise
         raise TimedOut(seconds) from error

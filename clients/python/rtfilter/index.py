@@ -41,13 +41,20 @@ class Index(Closing):
 
     def _rows(self, stream: Iterable[Sequence[Any]]) -> Iterator[Row]:
         """The rows of a table, whose hull is gathered as they go by."""
-        min_x, max_x, min_y, max_y = self._hull
+        least_x, greatest_x, least_y, greatest_y = self._hull
         for id, coordinates, *_ in stream:
-            sides = self._sides(coordinates)
-            min_x, max_x = min(min_x, sides[0]), max(max_x, sides[1])
-            min_y, max_y = min(min_y, sides[2]), max(max_y, sides[3])
+            sides = min_x, max_x, min_y, max_y = self._sides(coordinates)
+            # Comparisons take a third of the time of `min` and `max`.
+            if min_x < least_x:
+                least_x = min_x
+            if max_x > greatest_x:
+                greatest_x = max_x
+            if min_y < least_y:
+                least_y = min_y
+            if max_y > greatest_y:
+                greatest_y = max_y
             yield (id, *self._widened(sides))
-        self._hull = min_x, max_x, min_y, max_y
+        self._hull = least_x, greatest_x, least_y, greatest_y
 
     def _sides(self, coordinates: Sequence[float]) -> Sides:
         """Coordinates in the order of a table."""
@@ -93,7 +100,8 @@ class Index(Closing):
             raise ValueError("at least one box has to be asked for")
         if self._scale is not None:
             x, y = round(x * self._scale), round(y * self._scale)
-        asked = num_results + 1  # the one behind the last tells whether more may be as near
+        # The one behind the last tells whether more may be as near.
+        asked = min(num_results, len(self)) + 1
         while True:
             found = self._boxes.nearest(asked, x, y)  # type: ignore[arg-type]  # what isn't whole is refused there
             scores = found.scores

@@ -1,7 +1,6 @@
 """Copies of a table that answer side by side."""
 
 import contextlib
-import queue
 import threading
 from collections.abc import Iterable, Iterator
 from concurrent.futures import ThreadPoolExecutor
@@ -18,21 +17,32 @@ LEAST_PART = 100  # lines: fewer aren't worth a thread
 
 
 class Copies:
-    """Clients that hold the same table. Who asks takes one that is free, or waits for it."""
+    """Clients that hold the same table. Who asks takes the one that was asked last of those that are free, which has its
+    table at hand, or waits for one."""
 
     def __init__(self, clients: list[Rtfilter]) -> None:
         self.clients = clients
         self.users = 0  # calls that hold on to these copies
-        self._free: queue.SimpleQueue[Rtfilter] = queue.SimpleQueue()
-        for client in clients:
-            self._free.put(client)
+        self._free = clients.copy()
+        self._changed = threading.Condition(threading.Lock())
 
     def replies(self, lines: list[str]) -> list[Reply]:
-        client = self._free.get()
+        client = self._take()
         try:
             return client.replies(lines)
         finally:
-            self._free.put(client)
+            self._give_back(client)
+
+    def _take(self) -> Rtfilter:
+        with self._changed:
+            while not self._free:
+                self._changed.wait()
+            return self._free.pop()
+
+    def _give_back(self, client: Rtfilter) -> None:
+        with self._changed:
+            self._free.append(client)
+            self._changed.notify()
 
     def close(self) -> None:
         for client in self.clients:

@@ -1,12 +1,14 @@
 """The program as a process beside this one."""
 
+import contextlib
 import os
+import signal
 import subprocess
 import tempfile
 from collections.abc import Sequence
 
 from .errors import Ended
-from .transport import Transport
+from .transport import Text, Transport
 
 LONGEST_ERROR = 1 << 12  # bytes of standard error that are told
 GRACE = 2.0  # seconds that the program has to end by itself
@@ -37,7 +39,7 @@ class Program(Transport):
     def is_closed(self) -> bool:
         return self._stdin.closed
 
-    def _write(self, text: memoryview) -> int:
+    def _write(self, text: Text) -> int:
         return os.write(self._stdin.fileno(), text)
 
     def _ended(self) -> Ended:
@@ -51,11 +53,15 @@ class Program(Transport):
         try:
             return self._process.wait(GRACE)
         except subprocess.TimeoutExpired:
-            self._process.kill()
+            self._end_at_once()
             return self._process.wait()
 
-    def abandon(self) -> None:
-        self._process.kill()
+    def _end_at_once(self) -> None:
+        """Kills the process, and those that it has started: a command may run the program as another process, which would
+        go on to answer."""
+        if self._process.poll() is None:  # else its number may be another's by now
+            with contextlib.suppress(ProcessLookupError):
+                os.killpg(self._process.pid, signal.SIGKILL)
 
     def close(self) -> None:
         """Ends the program, by ending its input. Its status tells nothing new: 1 is that of a faulty line."""

@@ -11,6 +11,8 @@ from dataclasses import dataclass
 from operator import index
 from typing import ClassVar, Union
 
+_keep = object.__setattr__  # of a value that is frozen once it is made
+
 
 def _check_whole(*numbers: int) -> None:
     for number in numbers:
@@ -28,7 +30,7 @@ class All:
         return "all"
 
 
-@dataclass(frozen=True, slots=True)
+@dataclass(frozen=True, slots=True, init=False)
 class _Sides:
     """A region that is told by the sides of a window: from x1 to x2 and from y1 to y2, the least before the greatest."""
 
@@ -38,11 +40,15 @@ class _Sides:
     y2: int
     _word: ClassVar[str]
 
-    def __post_init__(self) -> None:
-        _check_whole(self.x1, self.x2, self.y1, self.y2)
+    def __init__(self, x1: int, x2: int, y1: int, y2: int) -> None:
+        # A window is asked for by itself and often: this takes two thirds of the time of a check after the fields are set.
+        _keep(self, "x1", index(x1))
+        _keep(self, "x2", index(x2))
+        _keep(self, "y1", index(y1))
+        _keep(self, "y2", index(y2))
 
     def __str__(self) -> str:
-        return f"{self._word} {self.x1:d} {self.x2:d} {self.y1:d} {self.y2:d}"
+        return "%s %d %d %d %d" % (self._word, self.x1, self.x2, self.y1, self.y2)
 
 
 class Window(_Sides):
@@ -94,7 +100,7 @@ class Polygon:
         points = tuple((x, y) for x, y in vertices)
         for x, y in points:
             _check_whole(x, y)
-        object.__setattr__(self, "vertices", points)
+        _keep(self, "vertices", points)
 
     def __str__(self) -> str:
         return " ".join([f"polygon {len(self.vertices)}", *(f"{x:d} {y:d}" for x, y in self.vertices)])
@@ -179,12 +185,10 @@ def find_line(region: Region, order: Order | None, first: int | None, on: Layers
     """A query for boxes. A circle's boxes come by distance where no order is named, and can't come by id: ValueError."""
     if isinstance(order, ById) and isinstance(region, Circle):
         raise ValueError("the boxes of a circle come by a score: its own, Near or Smallest")
-    words = [f"find {region}{on_words(on)}"]
+    line = f"find {region!s}{on_words(on)}"
     if order is not None:
-        words.append(str(order))
-    if first is not None:
-        words.append(f"first {index(first):d}")
-    return " ".join(words)
+        line = f"{line} {order!s}"
+    return line if first is None else f"{line} first {index(first):d}"
 
 
 def count_line(region: Region, on: Layers | None = None) -> str:

@@ -40,3 +40,12 @@ def _cut_by_number(text: bytes | bytearray, lines: list[str], first: int) -> lis
             code, _, text_of_code = told.decode().partition(" ")
             replies[at] = QueryError(lines[at], code, text_of_code)
     return replies
+
+
+def cut_one(text: bytes, line: str) -> Answers:
+    """The reply to one line, which is answered: what `cut` gives, in a third of the time. Raises the fault."""
+    end = text.rfind(b"\n", 0, -1) + 1
+    if text.startswith(b"ok", end):
+        return Answers(text[:end], int(text[text.rfind(b" ") + 1:]))
+    _, _, code, text_of_code = text.decode().rstrip("\n").split(" ", 3)
+    raise QueryError(line, code, text_of_code)

@@ -4,6 +4,7 @@ import contextlib
 import os
 import tempfile
 from collections.abc import Iterable, Iterator, Sequence
+from itertools import chain, islice
 from operator import index
 from typing import Union
 
@@ -16,8 +17,10 @@ File = Union[str, "os.PathLike[str]"]
 Table = Union[File, Iterable[Row]]
 """The name of a CSV file, or rows."""
 
+FIELDS = 5  # of a row without a layer
 RECORD = "%d,%d,%d,%d,%d\n"
 LAYERED_RECORD = "%d,%d,%d,%d,%d,%d\n"
+AT_ONCE = 1000  # rows
 
 
 @contextlib.contextmanager
@@ -34,17 +37,27 @@ def named(table: Table, header: bool) -> Iterator[str]:
     if header:
         raise ValueError("rows have no header")
     with tempfile.NamedTemporaryFile("w", encoding="ascii", prefix="rtfilter-", suffix=".csv") as file:
-        file.writelines(map(record, table))
+        file.writelines(records(table))
         file.flush()
         yield file.name
+
+
+def records(rows: Iterable[Row]) -> Iterator[str]:
+    """The records of rows, many in one text."""
+    remaining: Iterator[Row] = map(tuple, rows)  # of what can be gone through once, too
+    while some := list(islice(remaining, AT_ONCE)):
+        if {*map(len, some)} == {FIELDS}:  # which takes half the time
+            yield RECORD * len(some) % tuple(map(index, chain.from_iterable(some)))
+        else:
+            yield from map(record, some)
 
 
 def record(row: Row) -> str:
     """The record of a row: five fields, or six with the layer."""
     numbers = tuple(map(index, row))
-    if len(numbers) not in (5, 6):
+    if len(numbers) not in (FIELDS, FIELDS + 1):
         raise TypeError(f"a row has five or six numbers, and not {len(numbers)}")
-    return (RECORD if len(numbers) == 5 else LAYERED_RECORD) % numbers
+    return (RECORD if len(numbers) == FIELDS else LAYERED_RECORD) % numbers
 
 
 def file_of(table: Table | None) -> File | None:

@@ -60,3 +60,18 @@ def written(replies: Iterable[Reply]) -> Iterator[bytes]:
 
 def open_files() -> int:
     return len(os.listdir("/proc/self/fd"))
+
+
+def parent_of(process: int) -> int | None:
+    """The process that has started another one; None where that has ended."""
+    try:
+        fields = Path(f"/proc/{process}/stat").read_text().rpartition(")")[2].split()
+    except OSError:
+        return None
+    return None if fields[0] == "Z" else int(fields[1])
+
+
+def children_of(process: int) -> list[int]:
+    """The processes that a process has started."""
+    numbers = [int(name) for name in os.listdir("/proc") if name.isdigit()]
+    return [number for number in numbers if parent_of(number) == process]

@@ -4,6 +4,7 @@ import json
 import math
 import random
 import subprocess
+import sys
 import unittest
 from fractions import Fraction
 from pathlib import Path
@@ -138,7 +139,8 @@ class Ends(unittest.TestCase):
         with Index(((id, (far, far), None) for id in range(1000)), program=PROGRAM) as boxes:
             self.assertEqual(list(boxes.nearest((-far - 1, -far - 1), 3)), list(range(1000)))
             self.assertEqual(list(boxes.nearest((-far - 1, -far - 1), 1000)), list(range(1000)))
-            self.assertEqual(list(boxes.nearest((0, 0), 5000)), list(range(1000)))
+            for many in (1001, 5000, sys.maxsize, 2**64, 10**30):
+                self.assertEqual(list(boxes.nearest((0, 0), many)), list(range(1000)))
             for few in (0, -1):
                 with self.assertRaises(ValueError):
                     boxes.nearest((0, 0), few)

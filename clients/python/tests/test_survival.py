@@ -9,12 +9,13 @@ import tempfile
 import threading
 import time
 import unittest
+from collections.abc import Callable
 from functools import partial
 from itertools import chain
 from pathlib import Path
 from unittest import mock
 
-from support import BOXES, PROGRAM, open_files, some_lines, written
+from support import BOXES, PROGRAM, children_of, open_files, parent_of, some_lines, written
 
 from rtfilter import All, Ended, Rtfilter, TimedOut
 
@@ -132,6 +133,42 @@ class Times(unittest.TestCase):
             self.assertEqual(ended.exception.status, -signal.SIGKILL)
         self.assertLess(time.monotonic() - begun, 5)
 
+    def test_a_command_that_starts_the_program(self) -> None:
+        """Where the program is a process of its own behind the command's, it is ended too; where it lives on, since it has
+        left the group of processes, what it still tells is nobody's reply."""
+        for script, lives_on in (('"$@"; exit 7', False), ('setsid "$@"; exit 7', True)):
+            begun = children_of(os.getpid())
+            with Rtfilter(BOXES, program=["sh", "-c", script, "-", PROGRAM], timeout=SOON) as boxes:
+                (shell,) = {*children_of(os.getpid())} - {*begun}
+                (process,) = children_of(shell)
+                os.kill(process, signal.SIGSTOP)
+                with self.assertRaises(TimedOut):
+                    boxes.ask(["count all", "find all"])
+                self.wait_for(lambda: parent_of(shell) is None)
+                if lives_on:
+                    os.kill(process, signal.SIGCONT)
+                for _ in range(2):
+                    with self.assertRaises(Ended):
+                        boxes.find(All())
+            self.wait_for(lambda: parent_of(process) is None)
+
+    def wait_for(self, is_so: Callable[[], bool]) -> None:
+        until = time.monotonic() + 20
+        while not is_so():
+            self.assertLess(time.monotonic(), until)
+            time.sleep(0.01)
+
+    def test_long_and_short_times(self) -> None:
+        """Longer than the system can wait for at once, and none at all."""
+        for seconds in (2.0**31, 1e12, float("inf")):
+            with Rtfilter(BOXES, program=PROGRAM, timeout=seconds) as boxes:
+                self.assertEqual((boxes.count(All()), len(boxes.ask(["find all"] * 20_000))), (5, 20_000))
+        with self.assertRaises(TimedOut):
+            Rtfilter(BOXES, program=SLEEPING, timeout=0)
+        for seconds in (-1, float("nan"), -float("inf")):
+            with self.assertRaisesRegex(ValueError, "^a timeout is "):
+                Rtfilter(BOXES, program=PROGRAM, timeout=seconds)
+
     def test_no_load(self) -> None:
         with self.assertRaises(TimedOut):
             Rtfilter(BOXES, program=SLEEPING, timeout=0.1)
@@ -162,6 +199,41 @@ class Times(unittest.TestCase):
                 signal.signal(signal.SIGALRM, before)
             with self.assertRaises(Ended):
                 boxes.count(All())
+
+
+    def test_interrupts_at_any_moment(self) -> None:
+        """Whatever they meet, no reply is another line's."""
+        chance = random.Random(5)
+        lines = ["find all", "# none", "x", "nearest 2 12 12"]
+
+        class Interrupt(Exception):
+            pass
+
+        def interrupt(*_: object) -> None:
+            raise Interrupt
+
+        with Rtfilter(BOXES, program=PROGRAM, timeout=60) as boxes:
+            wanted = {size: list(written(boxes.replies(lines * size))) for size in (1, 50)}
+            by_itself, met = boxes.find(All()), {Interrupt: 0, Ended: 0}
+            before = signal.signal(signal.SIGALRM, interrupt)
+            try:
+                while min(met.values()) < 20:
+                    try:
+                        try:
+                            signal.setitimer(signal.ITIMER_REAL, chance.uniform(0.00005, 0.002))
+                            while True:
+                                size = chance.choice([1, 50])
+                                self.assertEqual(list(written(boxes.replies(lines * size))), wanted[size])
+                                self.assertEqual(boxes.find(All()), by_itself)
+                        finally:
+                            signal.setitimer(signal.ITIMER_REAL, 0)
+                    except Interrupt:
+                        met[Interrupt] += 1
+                    except Ended:
+                        met[Ended] += 1
+                        boxes.reload()
+            finally:
+                signal.signal(signal.SIGALRM, before)
 
 
 class Crowds(unittest.TestCase):

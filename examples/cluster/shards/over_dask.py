@@ -19,6 +19,7 @@ PATHS = [str(Path(module).resolve().parents[1]) for module in (__file__, rtfilte
 """The folders of the modules that a worker needs, for its PYTHONPATH."""
 
 GRACE = 5.0  # seconds that processes have to end by themselves
+LONGEST_START = 120  # seconds that workers have to start: some on an idle machine
 
 
 class Actor:
@@ -103,7 +104,7 @@ def local_workers(count: int, folder: str) -> Iterator[Client]:
             words = "--nworkers", "1", "--nthreads", "1", "--no-nanny", "--name", f"shard{number:04}"
             processes.append(_started(folder, f"worker{number}", "dask_worker", *words, "--local-directory", folder))
         with connected(str(file)) as client:
-            client.wait_for_workers(count, timeout=60)
+            client.wait_for_workers(count, timeout=LONGEST_START)
             try:
                 yield client
             finally:
@@ -113,7 +114,9 @@ def local_workers(count: int, folder: str) -> Iterator[Client]:
 
 
 def _started(folder: str, name: str, module: str, *words: str) -> "subprocess.Popen[bytes]":
-    command = [sys.executable, "-m", f"distributed.cli.{module}", "--scheduler-file", f"{folder}/scheduler.json"]
+    # It is killed with this process, however that ends.
+    bound = ["setpriv", "--pdeathsig", "KILL"]
+    command = [*bound, sys.executable, "-m", f"distributed.cli.{module}", "--scheduler-file", f"{folder}/scheduler.json"]
     environment = {**os.environ, "PYTHONPATH": os.pathsep.join(PATHS)}
     with open(Path(folder, f"{name}.log"), "wb") as log:
         return subprocess.Popen(

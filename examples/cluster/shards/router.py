@@ -1,5 +1,6 @@
 """Which shards a line is asked of, and its reply from theirs."""
 
+import contextlib
 from collections.abc import Iterable, Sequence
 from concurrent.futures import ThreadPoolExecutor
 from dataclasses import dataclass, field
@@ -7,6 +8,7 @@ from dataclasses import dataclass, field
 from rtfilter import Answers, QueryError, Reply, RtfilterError
 from rtfilter.client import query_lines
 from rtfilter.closing import Closing
+from rtfilter.transport import CLOSED
 
 from .bounds import Shard, size_and_bounds
 from .merging import last_score, one_reply
@@ -68,6 +70,7 @@ class Cluster(Closing):
             raise ValueError("a cluster has at least one shard")
         self._shards = list(shards)
         self._threads = ThreadPoolExecutor(len(self._shards))
+        self._is_closed = False
         try:
             known = list(self._threads.map(self._known, range(len(self._shards))))
         except BaseException:
@@ -90,8 +93,10 @@ class Cluster(Closing):
     def replies(self, lines: Iterable[str]) -> list[Reply]:
         """The reply to each query line, with faults and skipped lines as values: as `Boxes.replies` of the client.
 
-        Raises `ShardError` where a shard that has to be asked gives no replies.
+        Raises `ShardError` where a shard that has to be asked gives no replies, and `ValueError` after `close`.
         """
+        if self._is_closed:
+            raise ValueError(CLOSED)
         asked = query_lines(lines)
         questions = [question_of(line) for line in asked]
         routes = [self._route(at, question) for at, question in enumerate(questions)]
@@ -148,6 +153,8 @@ class Cluster(Closing):
             raise ShardError(number, str(error)) from error
 
     def close(self) -> None:
+        self._is_closed = True
         self._threads.shutdown()
-        for shard in self._shards:
-            shard.close()
+        with contextlib.ExitStack() as stack:  # one that can't be closed leaves none of the others open
+            for shard in self._shards:
+                stack.callback(shard.close)

@@ -35,6 +35,7 @@ from rtfilter import Ended, Rtfilter
 
 COUNTS = 1, 2, 4, 16  # shards
 LATER = 0.3  # seconds
+LONGEST = 240  # seconds of a run of dask, which takes ten where nobody else is at work
 REFUSED = b"error %d S1 no meaning over shards\n"
 
 
@@ -268,11 +269,13 @@ class CoProcesses(Folders):
                 processes.opened(tables, program)
         with self.assertRaises(ValueError):
             Cluster([])
-        with opened([Path(table)]) as boxes:
-            with self.assertRaises(ValueError):
-                boxes.replies(["count all\n"])
-        with self.assertRaises(ShardError):
-            boxes.replies(["count all"])
+        for count in (1, 2):
+            with opened([Path(table)] * count) as boxes:
+                with self.assertRaises(ValueError):
+                    boxes.replies(["count all\n"])
+            boxes.close()
+            with self.assertRaisesRegex(ValueError, "^the table was closed$"):
+                boxes.replies(["count all"])
 
     def test_another_host(self) -> None:
         """By a command that takes a host and hands its words on to a shell, as ssh does."""
@@ -363,13 +366,26 @@ class Dask(Folders):
         wanted.append(one_run(table, lines))
         asked = {"program": PROGRAM, "folder": str(self.folder), "workers": 4, "runs": runs}
         done = subprocess.run(
-            [DEBIAN, PEER], input=json.dumps(asked), stdout=subprocess.PIPE, check=True, text=True, timeout=60
+            [DEBIAN, PEER], input=json.dumps(asked), stdout=subprocess.PIPE, check=True, text=True, timeout=LONGEST
         )
         for run, bytes_wanted in zip(runs, wanted, strict=True):
             self.assertEqual(Path(run["told"]).read_bytes(), bytes_wanted)
         errors = json.loads(done.stdout)
         self.assertEqual([(number in range(4), gone) for number, gone, _ in errors], [(True, True)] * 3)
         self.assertLess(max(seconds for *_, seconds in errors), 1)
+
+    def test_a_killed_command(self) -> None:
+        """It can't end its workers any more: they end with it."""
+        parts = cut(str(self.table(b"1,0,1,0,1\n2,7,8,7,8\n")), 2, str(self.folder / "parts"))
+        command = [DEBIAN, CLUSTER / "ask.py", "--program", PROGRAM, "--dask", "2", *parts]
+        how = {"bufsize": 0, "stdin": subprocess.PIPE, "stdout": subprocess.PIPE}
+        for number in (signal.SIGTERM, signal.SIGKILL):
+            with subprocess.Popen(command, env={**os.environ, "TMPDIR": str(self.folder)}, **how) as process:
+                process.stdin.write(b"count all\n")
+                self.assertEqual(process.stdout.readline(), b"ok 1 2\n")
+                self.assertGreater(len(running(self.folder)), 3)
+                process.send_signal(number)
+            self.nothing_is_left()
 
     def test_as_a_command(self) -> None:
         """Also that nothing is left of it where a shard can't be loaded."""
@@ -382,7 +398,7 @@ class Dask(Folders):
         ):
             done = subprocess.run(
                 [DEBIAN, CLUSTER / "ask.py", "--program", PROGRAM, "--dask", "2", *tables],
-                input=b"find all\nfind\n", capture_output=True, timeout=60,
+                input=b"find all\nfind\n", capture_output=True, timeout=LONGEST,
                 env={**os.environ, "TMPDIR": str(self.folder)},
             )  # fmt: skip
             self.assertEqual((done.returncode, done.stdout, done.stderr.decode()), (status, told, error))

@@ -1,12 +1,15 @@
 """A connection to the service reads as the program alone would, whatever others do."""
 
+import configparser
 import os
 import random
 import re
+import shutil
 import signal
 import socket
 import stat
 import subprocess
+import sys
 import tempfile
 import threading
 import time
@@ -14,7 +17,7 @@ import unittest
 from pathlib import Path
 from unittest import mock
 
-from served import BOXES, PROGRAM, Served, all_of, read_lines, some_pieces, some_queries, talk, told_by_program, until
+from served import BOXES, PACKAGE, PROGRAM, SERVICE, Served, all_of, read_lines, some_pieces, some_queries, talk, told_by_program, until
 
 from copies import Copies
 
@@ -407,6 +410,40 @@ class Sockets(Case):
             self.assertEqual(talk(socket.create_connection(other.getsockname()), [b"count all"]), b"ok 1 5\n")
             (program,) = service.children
             self.assertEqual(len(os.listdir(f"/proc/{program}/fd")), 3)  # it has none of these sockets
+
+    def test_without_standard_error(self) -> None:
+        """Nobody takes its log, and it goes on."""
+        script = f'exec "$@" --unix {self.folder}/socket {BOXES} 2>&-'
+        command = ["sh", "-c", script, "-", sys.executable, "-B", str(SERVICE), "--program", PROGRAM]
+        process = subprocess.Popen(command, env={**os.environ, "PYTHONPATH": str(PACKAGE)})
+        self.addCleanup(process.kill)
+        until(lambda: os.path.exists(f"{self.folder}/socket"), "the service")
+        for _ in range(2):
+            with socket.socket(socket.AF_UNIX) as asker:
+                asker.connect(f"{self.folder}/socket")
+                self.assertEqual(talk(asker, [b"count all\n"]), b"ok 1 5\n")
+            process.send_signal(signal.SIGHUP)
+        process.terminate()
+        self.assertEqual(process.wait(10), 0)
+
+    def test_units(self) -> None:
+        """The units of systemd name the service as it is, its socket is its owner's alone; and systemd finds no fault with
+        them, where it is there."""
+        names = [SERVICE.with_name(name) for name in ("rtfilter.socket", "rtfilter.service")]
+        units = [configparser.RawConfigParser(delimiters="=", strict=False) for _ in names]
+        for unit, name in zip(units, names):
+            unit.read(name)
+        self.assertEqual(units[0]["Socket"]["SocketMode"], "0600")
+        self.assertEqual(units[1]["Unit"]["Requires"], "rtfilter.socket")
+        _, script, _ = units[1]["Service"]["ExecStart"].split()
+        self.assertEqual(Path(script).name, SERVICE.name)
+        if shutil.which("systemd-analyze"):
+            copies = [shutil.copy(name, self.folder) for name in names]
+            command = ["systemd-analyze", "--man=no", "--recursive-errors=no", "verify", *copies]
+            done = subprocess.run(command, stdout=subprocess.PIPE, stderr=subprocess.STDOUT, text=True, timeout=120)
+            # What it says of other units is the machine's affair.
+            self.assertEqual([line for line in done.stdout.splitlines() if "rtfilter" in line], [])
+            self.assertEqual(done.returncode, 0, done.stdout)
 
     def test_nowhere_to_listen(self) -> None:
         service = self.served(BOXES)

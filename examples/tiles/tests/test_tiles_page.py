@@ -197,13 +197,14 @@ class Page(Mapped):
 
     def test_lines_that_are_typed(self) -> None:
         polygon = "count polygon 3 0 0 9000000 0 0 9000000 on 4"
-        for line in ("count all", "nearest 3 0 0", "cost find all", polygon, "levels"):
+        for line in ("count all", "nearest 3 0 0", "cost find all first 1000", polygon, "levels"):
             reply, cost = told(self.table, [line, f"cost {line}"])
             nodes = f"; the query opens {cost[0].split()[2]} nodes" if cost[0].startswith("ok") else ""
             self.assertEqual(self.typed(line), f"ok, {reply[-1].split()[2]}{nodes}")
         for line in ("find window 1 first 1", "<b>x</b>", "find all on 64 first 1", "find circle 0 0 -1 first 1"):
             self.assertEqual(told(self.table, [line]), [[f"error 1 {self.typed(line)}"]])
-        for line in ("find all", "find all first 1001", "find all first 99999999999999999999", "nearest 1001 0 0"):
+        for line in ("find all", "find all first 1001", "find all first 99999999999999999999", "nearest 1001 0 0",
+                     "cost find all", " cost\tfind all near 0 0 first 1001", "cost nearest 1001 0 0"):
             self.assertIn("at most 1000", self.typed(line))
 
     def test_what_looks_like_markup_is_text(self) -> None:

@@ -32,8 +32,19 @@ class Refusals(Mapped):
         host = b"Host: 127.0.0.1:%d\r\n" % self.server.port
         for method in (b"POST", b"PUT", b"DELETE", b"HEAD", b"OPTIONS", b"TRACE", b"get", b"<b>"):
             self.assert_refused(method + b" / HTTP/1.1\r\n" + host + b"\r\n", 405)
-        for name in (b"example.org", b"127.0.0.1:1", b"127.0.0.1:%d.example.org" % self.server.port, b"<b>", b""):
+        own = b"127.0.0.1:%d" % self.server.port
+        for name in (
+            b"example.org", b"127.0.0.1:1", own + b".example.org", b"<b>", b"", own + b"/", own + b", example.org",
+            own + b"\r\n example.org", b"x@" + own, b"127.1", b"2130706433", b"[::1]", b"localhost.", b"localhost\0.org",
+            b"\xff", b"example.org\r\nX-Forwarded-Host: localhost",
+        ):  # fmt: skip
             self.assert_refused(b"GET / HTTP/1.1\r\nHost: " + name + b"\r\n\r\n", 421)
+            self.assert_refused(b"GET http://localhost/ HTTP/1.1\r\nHost: " + name + b"\r\n\r\n", 421)
+        for headers in (b"Host : localhost", b" Host: localhost", b"Host: localhost\rx", b"Host: localhost\r\nHOST: localhost"):
+            self.assert_refused(b"GET / HTTP/1.1\r\n" + headers + b"\r\n\r\n", 400)
+        for name in (own, b"LocalHost:%d " % self.server.port, b"localhost"):
+            reply = self.server.told(b"GET /about HTTP/1.1\r\nHost: " + name + b"\r\n\r\n")
+            self.assertTrue(reply.startswith(b"HTTP/1.1 200 "), (name, reply[:200]))
         self.assert_refused(b"GET / HTTP/1.1\r\n\r\n", 400)
         self.assert_refused(b"GET / HTTP/1.1\r\n" + host + host + b"\r\n", 400)
         self.assert_refused(b"GET / HTTP/1.1\r\n" + host + b"Content-Length: 5\r\n\r\nGET /", 400)
@@ -165,6 +176,15 @@ class Tables(unittest.TestCase):
             with self.assertRaises(RuntimeError) as raised:
                 Server(room / "boxes.csv", "--layers", str(room / "names.csv"))
             self.assertTrue(str(raised.exception).endswith(told), raised.exception)
+
+    def test_names_as_a_spreadsheet_writes_them(self) -> None:
+        """With a byte order mark, CR LF, and line ends within a name; a number that no box has says nothing."""
+        room = Path(self.enterContext(tempfile.TemporaryDirectory()))
+        (room / "boxes.csv").write_text("1,0,1,0,1\n2,0,1,0,1\n")
+        (room / "names.csv").write_bytes(b'\xef\xbb\xbf1,"a\r\nb"\r\n\r\n99999999999999999999,x\r\n')
+        with Server(room / "boxes.csv", "--names", str(room / "names.csv")) as server:
+            answers = json.loads(server.get("/ask?q=find+all+first+2")[1])["answers"]
+            self.assertEqual([answer.get("name") for answer in answers], ["a\r\nb", None])
 
     def test_the_program_ends(self) -> None:
         table = Path(self.enterContext(tempfile.TemporaryDirectory()), "boxes.csv")
