@@ -37,9 +37,9 @@ try:
 except ImportError:
     over_dask = None
 
-RUNS = 3
+RUNS = 9
 WORKERS = 1, 2, 4
-LINES, BATCH, SINGLE = 4_000, 1_000, 200
+LINES, BATCH, SINGLE = 2_000, 1_000, 100
 SIDE, LARGEST = 10**9, 10**5
 
 
