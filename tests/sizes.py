@@ -3,8 +3,8 @@
 
 usage: tests/sizes.py PROGRAM [--full]
 
-Each fanout from 2 to 64 at the sizes around its powers, where a tree gains a level, and each size from 0 to a thousand:
-whatever is made for so many boxes, there is room for it. With --full instead the greatest table that is allowed, of
+Each fanout from 2 to 64 at the sizes around its powers up to 64 * 64 * 64, where a tree gains a level, and each size from
+0 to a thousand: whatever is made for so many boxes, there is room for it. With --full instead the greatest table that is allowed, of
 16,777,216 boxes, and one of a box more: it takes some 1.2 GB of memory, and half a minute. The last line is `N passed, M
 failed`.
 """
@@ -15,6 +15,7 @@ import tempfile
 from pathlib import Path
 
 FANOUTS = range(2, 65)
+GREATEST_POWER = 64**3
 EACH_SIZE = range(1001)
 MOST_ENTRIES = 2**24
 QUERIES = b"levels\ncount all\nnearest 1 1 1\ncost count all\n"
@@ -56,9 +57,11 @@ def run(program, words, queries, table=None):
 def cases():
     """Fanouts and sizes."""
     for fanout in FANOUTS:
-        for power in (1, 2, 3):
-            for count in range(fanout**power - 1, fanout**power + 2):
+        power = fanout
+        while power <= GREATEST_POWER:
+            for count in range(power - 1, power + 2):
                 yield fanout, count
+            power *= fanout
     for count in EACH_SIZE:
         yield FANOUTS[count % len(FANOUTS)], count
 
