@@ -23,7 +23,8 @@ PEERS = {
     "Boost.Geometry": ("boost.cpp", []),
     "GEOS": ("geos.cpp", ["-DUSE_UNSTABLE_GEOS_CPP_API", "-lgeos"]),
 }
-COMPARED_LINES = 500
+FEWEST_LINES, MOST_LINES = 500, 2**18
+ENOUGH_SECONDS = 0.3
 
 
 def built(name):
@@ -44,15 +45,22 @@ def output(words):
 
 def costs(programs, table, folder, line, boxes, loads):
     """Microseconds a line of each program."""
-    cases, counts = {}, {}
+    cases, counts, first = {}, {}, None
     for at, (name, program) in enumerate(programs.items()):
         words = [program, table, str(Path(folder, f"{at}.queries"))]
-        bench.write_queries(words[-1], 1 if line is bench.LINES["find all"] else COMPARED_LINES, line, boxes)
-        if output(words) != output([next(iter(programs.values())), *words[1:]]):
+        lines = 1 if line is bench.LINES["find all"] else FEWEST_LINES
+        bench.write_queries(words[-1], lines, line, boxes)
+        first = first or output(words)
+        if output(words) != first:
             raise SystemExit(f"{name} answers otherwise: {words}")
-        counts[name], cases[name] = bench.enough_lines(words, line, boxes, loads[name]), words
+        # until the lines take a good part of what the load takes, whose own time varies
+        enough = max(ENOUGH_SECONDS, loads[name] / 2)
+        while lines < MOST_LINES and min(bench.run(words)[0] for _ in range(2)) - loads[name] < enough:
+            lines *= 4
+            bench.write_queries(words[-1], lines, line, boxes)
+        counts[name], cases[name], cases[name, "load"] = lines, words, [*words[:2], "/dev/null"]
     times = bench.by_turns(cases)
-    return {name: max(0.0, times[name][0] - loads[name]) / counts[name] * 1e6 for name in programs}
+    return {name: (times[name][0] - times[name, "load"][0]) / counts[name] * 1e6 for name in programs}
 
 
 def row(cells):
@@ -65,12 +73,10 @@ def main():
     row([f"over {boxes:,} boxes", *programs])
     row(["---"] * (len(programs) + 1))
     with tempfile.TemporaryDirectory() as folder:
-        table, nothing = str(Path(folder, "table.csv")), str(Path(folder, "nothing"))
+        table = str(Path(folder, "table.csv"))
         bench.write_table(table, map(bench.mixed, range(boxes)))
-        Path(nothing).touch()
-        loads = bench.by_turns({name: [program, table, nothing] for name, program in programs.items()})
+        loads = bench.by_turns({name: [program, table, "/dev/null"] for name, program in programs.items()})
         row(["load", *(f"{seconds * 1e3:,.0f} ms" for seconds, _ in loads.values())])
-        row(["memory of the whole process", *(f"{memory / 1e6:.0f} MB" for _, memory in loads.values())])
         loads = {name: seconds for name, (seconds, _) in loads.items()}
         for kind, line in bench.LINES.items():
             found = costs(programs, table, folder, line, boxes, loads)

@@ -1,4 +1,5 @@
-// Boost.Geometry's R-tree, filled by its packing constructor, with 16 children a node.
+// Boost.Geometry's R-tree, filled by its packing constructor, with 16 children a node. Its coordinates are floating point,
+// which holds 32 bits exactly: differences of whole numbers run over in it.
 #include "peer.hpp"
 #include <boost/geometry.hpp>
 #include <boost/geometry/index/rtree.hpp>
@@ -8,14 +9,16 @@ namespace geometry = boost::geometry;
 namespace rtree = boost::geometry::index;
 
 class Boost {
-    using Corner = geometry::model::point<int32_t, 2, geometry::cs::cartesian>;
+    using Corner = geometry::model::point<double, 2, geometry::cs::cartesian>;
     using Rectangle = geometry::model::box<Corner>;
     using Value = std::pair<Rectangle, uint32_t>;
 
     const Table &table;
     rtree::rtree<Value, rtree::rstar<16>> tree;
 
-    static Rectangle rectangle(const Box &b) { return {{b.min_x, b.min_y}, {b.max_x, b.max_y}}; }
+    static Rectangle rectangle(const Box &b) {
+        return {Corner(b.min_x, b.min_y), Corner(b.max_x, b.max_y)};
+    }
 
     static std::vector<Value> values(const Table &table) {
         std::vector<Value> values;
@@ -34,8 +37,7 @@ public:
 
     // It measures distances in floating point: so more are asked for until all others are surely farther than the last.
     std::vector<Hit> nearest(const Query &q) const {
-        using Centre = geometry::model::point<double, 2, geometry::cs::cartesian>;
-        Centre centre(static_cast<double>(q.centre.x), static_cast<double>(q.centre.y));
+        Corner centre(static_cast<double>(q.centre.x), static_cast<double>(q.centre.y));
         for (uint64_t wanted = q.limit + 4;; wanted *= 2) {
             std::vector<Hit> hits;
             tree.query(rtree::nearest(centre, static_cast<unsigned>(std::min<uint64_t>(wanted, tree.size()))),
