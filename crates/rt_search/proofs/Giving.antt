@@ -1,19 +1,19 @@
 -- A search gives its answers one after the other, up to its limit.
 use Rattle.std.proofs.Common.{◌≡◌, ◌≢◌, ◌<◌, ◌≤◌, ◌+◌, ◌-◌, ℕ, zero, suc, Bool, true, false, List, [], ◌∷◌, length}
 use Rattle.std.proofs.Common.{take, drop, Option, Some, None, refl, sym, ◌∙◌, ap, subst, arith, add-one}
-use Rattle.std.specs.Prelude.{slice_get}
+use Rattle.std.specs.Prelude.{IfSome, slice_get}
 use Rattle.std.specs.Option.{option_map}
 use Rattle.std.proofs.lemmas.List.{length-drop}
 use Rattle.rt_geo.specs.Laws.{Extent, extent_of_entry}
 use Rattle.rt_geo.specs.declared.entry.Entry.{Entry}
 use Rattle.rt_geo.specs.declared.geometry.Info.{Info}
 use Rattle.rt_geo.specs.declared.geometry.Verdict.{Verdict}
-use Rattle.rt_tree.specs.Packed.{Packed}
+use Rattle.rt_tree.specs.Packed.{Packed, IsSound}
 use Rattle.rt_tree.specs.Sorting.{limited, sorted}
 use Rattle.rt_tree.specs.declared.tree.Node.{Node}
 use Rattle.rt_search.specs.Answers.{Answer, answer_cmp, answers, scored}
-use Rattle.rt_search.specs.Progress.{IsGiving, IsInLimit, IsSearching}
-use Rattle.rt_search.specs.Remaining.{remaining}
+use Rattle.rt_search.specs.Progress.{IsFound, IsGiving, IsInLimit, IsOver, IsUnderWay}
+use Rattle.rt_search.specs.Limits.{one_less}
 use Rattle.rt_search.specs.Work.{HasWorked, is_reached, its_children, one_node, search_work, reached_from_root}
 use Rattle.rt_search.specs.declared.item.Item.{Item}
 use Rattle.rt_search.proofs.Answering.{among_accepted, among_refused}
@@ -80,8 +80,28 @@ next_in_limit : (limit : Option ℕ) (g : ℕ) → IsInLimit limit g → limit �
 next_in_limit None g le n = tt
 next_in_limit (Some k) g le n = let lt = below_limit k g le n in omega (arith, lt)
 
-one_less : (g : ℕ) → suc g - 1 ≡ g
-one_less g = omega arith
+suc_less : (g : ℕ) → suc g - 1 ≡ g
+suc_less g = omega arith
+
+-- ---- how many are still wanted
+
+some_is : (m n : ℕ) → ◌≡◌ {A = Option ℕ} (Some m) (Some n) → m ≡ n
+some_is m n e = cc
+
+same_number : (g n : ℕ) → n ≡ 0 → g + n ≡ g
+same_number g n e = omega (arith, e)
+
+pub more_wanted : (wanted limit : Option ℕ) (g : ℕ) → limit ≢ Some g → IfSome wanted (λ n. limit ≡ Some (g + n))
+    → wanted ≢ Some 0
+more_wanted None limit g more h = λ e. cc
+more_wanted (Some n) limit g more h =
+    λ e. more (h ∙ ap Some (same_number g n (some_is n 0 e)))
+
+next_still : (wanted limit : Option ℕ) (g : ℕ) → limit ≢ Some g → IfSome wanted (λ n. limit ≡ Some (g + n))
+    → IfSome (one_less wanted) (λ n. limit ≡ Some (suc g + n))
+next_still None limit g more h = tt
+next_still (Some zero) limit g more h = absurd (more (h ∙ ap Some (same_number g 0 refl)))
+next_still (Some (suc n)) limit g more h = h ∙ ap Some (omega arith)
 
 module _ (accepts : Extent → Bool) (score : Extent → ℕ) where
   pub length-scored : (es : List Entry) → length (scored es accepts score) ≤ length es
@@ -112,7 +132,7 @@ module _ (accepts : Extent → Bool) (score : Extent → ℕ) (verdict : Info �
   work_after : (cost : Node → ℕ) (g : ℕ) (a : Answer) (rest : List Answer) → drop g all ≡ a ∷ rest
       → reached_from_root (is_reached (Some a.1)) cost verdict t ≡ search_work cost accepts score verdict t (Some (suc g))
   work_after cost g a rest h =
-      let there : slice_get all (suc g - 1) ≡ Some a = ap (slice_get all) (one_less g) ∙ (drop_step all g a rest h).0 in
+      let there : slice_get all (suc g - 1) ≡ Some a = ap (slice_get all) (suc_less g) ∙ (drop_step all g a rest h).0 in
       ap (λ o. reached_from_root (is_reached (option_map (λ (b : Answer). b.1) o)) cost verdict t) (sym there)
 
   work_in_all : (cost : Node → ℕ) (limit : Option ℕ) (g : ℕ) → IsInLimit limit g → limit ≢ Some g → drop g all ≡ []
@@ -122,84 +142,86 @@ module _ (accepts : Extent → Bool) (score : Extent → ℕ) (verdict : Info �
   work_in_all cost (Some (suc k)) g le n h =
       let lt = below_limit (suc k) g le n in
       let none : slice_get all (suc k - 1) ≡ None =
-      ap (slice_get all) (one_less k) ∙ past_end all g k h (omega (arith, lt)) in
+      ap (slice_get all) (suc_less k) ∙ past_end all g k h (omega (arith, lt)) in
       ap (λ o. reached_from_root (is_reached (option_map (λ (b : Answer). b.1) o)) cost verdict t) (sym none)
 
   -- ---- the steps
 
   -- an answer is given
-  pub record IsGiven (limit : Option ℕ) (given opened asked capacity : ℕ) (a : Answer) (items : List Item) : Type 0
-    where
-      pub going : IsGiving accepts score verdict t limit (given + 1) opened asked capacity items
-      pub answer : drop given (answers t.entries accepts score limit)
-          ≡ a ∷ drop (given + 1) (answers t.entries accepts score limit)
-      pub worked : HasWorked accepts score verdict t (Some (given + 1)) opened asked
+  pub record IsGiven (limit : Option ℕ) (given opened asked capacity : ℕ) (wanted : Option ℕ) (a : Answer)
+      (items : List Item) : Type 0 where
+    pub going : IsGiving accepts score verdict t limit (given + 1) opened asked capacity wanted items
+    pub answer : drop given (answers t.entries accepts score limit)
+        ≡ a ∷ drop (given + 1) (answers t.entries accepts score limit)
+    pub worked : HasWorked accepts score verdict t (Some (given + 1)) opened asked
 
-  abbrev IsGivenAs : (limit : Option ℕ) (given next opened asked capacity : ℕ) (a : Answer) (items : List Item) → Type 0
-  IsGivenAs limit given next opened asked capacity a items =
-      IsGiving accepts score verdict t limit next opened asked capacity items
+  abbrev IsGivenAs : (limit : Option ℕ) (given next opened asked capacity : ℕ) (wanted : Option ℕ) (a : Answer)
+      (items : List Item) → Type 0
+  IsGivenAs limit given next opened asked capacity wanted a items =
+      IsGiving accepts score verdict t limit next opened asked capacity wanted items
       × ((drop given (answers t.entries accepts score limit) ≡ a ∷ drop next (answers t.entries accepts score limit))
       × HasWorked accepts score verdict t (Some next) opened asked)
 
-  pub give : (limit : Option ℕ) (given opened asked capacity opened' asked' capacity' : ℕ) (a : Answer)
-      (items new : List Item)
-      → IsGiving accepts score verdict t limit given opened asked capacity items → limit ≢ Some given
-      → remaining t accepts score items ≡ a ∷ remaining t accepts score new
-      → IsSearching accepts score verdict t opened' asked' capacity' new
-      → opened' ≡ reached_from_root (is_reached (Some a.1)) one_node verdict t → asked'
-      ≡ reached_from_root (is_reached (Some a.1)) its_children verdict t
-      → IsGiven limit given opened' asked' capacity' a new
-  give limit given opened asked capacity opened' asked' capacity' a items new going more next state in_nodes in_checks =
-      let there : drop given all ≡ a ∷ remaining t accepts score new = sym going.follows ∙ next in
+  pub give : (limit : Option ℕ) (given opened asked capacity : ℕ) (wanted : Option ℕ) (opened' asked' capacity' : ℕ)
+      (wanted' : Option ℕ) (a : Answer) (items new : List Item)
+      → IsGiving accepts score verdict t limit given opened asked capacity wanted items → limit ≢ Some given
+      → wanted' ≡ one_less wanted
+      → IsFound accepts score verdict t opened' asked' capacity' wanted' (drop given all) a new
+      → IsGiven limit given opened' asked' capacity' wanted' a new
+  give limit given opened asked capacity wanted opened' asked' capacity' wanted' a items new going more less found =
+      let there : drop given all ≡ a ∷ found.rest = found.first in
       let worked : HasWorked accepts score verdict t (Some (suc given)) opened' asked' = record {
-        in_nodes = in_nodes ∙ work_after one_node given a (remaining t accepts score new) there;
-        in_checks = in_checks ∙ work_after its_children given a (remaining t accepts score new) there;
+        in_nodes = found.reached.nodes ∙ work_after one_node given a found.rest there;
+        in_checks = found.reached.checks ∙ work_after its_children given a found.rest there;
       } in
-      let whole : IsGivenAs limit given (suc given) opened' asked' capacity' a new = (
+      let whole : IsGivenAs limit given (suc given) opened' asked' capacity' wanted' a new = (
         record {
-          state = state;
-          follows = sym (drop_step all given a (remaining t accepts score new) there).1;
+          state = subst (λ l. IsUnderWay accepts score verdict t opened' asked' capacity' wanted' l new)
+              (sym (drop_step all given a found.rest there).1) found.state;
           in_limit = next_in_limit limit given going.in_limit more;
+          still = subst (λ w. IfSome w (λ n. limit ≡ Some (suc given + n))) (sym less)
+              (next_still wanted limit given more going.still);
           stopped = λ e. subst (λ l. HasWorked accepts score verdict t l opened' asked') (sym e) worked;
         },
-        (limited_step limit given all a (remaining t accepts score new) going.in_limit more there, worked),
+        (limited_step limit given all a found.rest going.in_limit more there, worked),
       ) in
-      let moved = subst (λ m. IsGivenAs limit given m opened' asked' capacity' a new) (sym (add-one given)) whole in
+      let moved = subst (λ m. IsGivenAs limit given m opened' asked' capacity' wanted' a new) (sym (add-one given)) whole in
       record { going = moved.0; answer = moved.1.0; worked = moved.1.1 }
 
   -- the numbers stay small
-  pub given_low : (limit : Option ℕ) (given opened asked capacity : ℕ) (a : Answer) (rest : List Answer)
-      (items : List Item) → IsGiving accepts score verdict t limit given opened asked capacity items
-      → remaining t accepts score items ≡ a ∷ rest → given + 1 ≤ 16777216
-  given_low limit given opened asked capacity a rest items going next =
-      let there : drop given all ≡ a ∷ rest = sym going.follows ∙ next in
+  pub given_low : IsSound t → (given : ℕ) (a : Answer) (rest : List Answer) → drop given all ≡ a ∷ rest
+      → given + 1 ≤ 16777216
+  given_low sound given a rest there =
       let long = ap length there in
       let cut = length-drop given all in
-      let few = going.state.tree.table.few in
+      let few = sound.table.few in
       omega (arith, long, cut, few, length-all)
 
   -- no answer is left
-  pub record IsOver (limit : Option ℕ) (given opened asked capacity : ℕ) (items : List Item) : Type 0 where
-    pub going : IsGiving accepts score verdict t limit given opened asked capacity items
+  pub record HasEnded (limit : Option ℕ) (given opened asked capacity : ℕ) (wanted : Option ℕ) (items : List Item)
+      : Type 0 where
+    pub going : IsGiving accepts score verdict t limit given opened asked capacity wanted items
     pub answer : drop given (answers t.entries accepts score limit) ≡ []
     pub worked : HasWorked accepts score verdict t limit opened asked
 
-  pub over : (limit : Option ℕ) (given opened asked capacity opened' asked' capacity' : ℕ) (items new : List Item)
-      → IsGiving accepts score verdict t limit given opened asked capacity items → limit ≢ Some given
-      → remaining t accepts score items ≡ [] → remaining t accepts score new ≡ []
-      → IsSearching accepts score verdict t opened' asked' capacity' new
-      → opened' ≡ reached_from_root (is_reached None) one_node verdict t → asked' ≡ reached_from_root (is_reached None) its_children verdict t
-      → IsOver limit given opened' asked' capacity' new
-  over limit given opened asked capacity opened' asked' capacity' items new going more none none' state in_nodes
-      in_checks =
-      let there : drop given all ≡ [] = sym going.follows ∙ none in
+  pub end : (limit : Option ℕ) (given opened asked capacity : ℕ) (wanted : Option ℕ) (opened' asked' capacity' : ℕ)
+      (wanted' : Option ℕ) (items new : List Item)
+      → IsGiving accepts score verdict t limit given opened asked capacity wanted items → limit ≢ Some given
+      → wanted' ≡ wanted → IsOver accepts score verdict t opened' asked' capacity' wanted' (drop given all) new
+      → HasEnded limit given opened' asked' capacity' wanted' new
+  end limit given opened asked capacity wanted opened' asked' capacity' wanted' items new going more same over =
       let worked : HasWorked accepts score verdict t limit opened' asked' = record {
-        in_nodes = in_nodes ∙ work_in_all one_node limit given going.in_limit more there;
-        in_checks = in_checks ∙ work_in_all its_children limit given going.in_limit more there;
+        in_nodes = over.reached.nodes ∙ work_in_all one_node limit given going.in_limit more over.none;
+        in_checks = over.reached.checks ∙ work_in_all its_children limit given going.in_limit more over.none;
       } in
       record {
-        going = record { state = state; follows = none' ∙ sym there; in_limit = going.in_limit; stopped = λ e. worked };
-        answer = limited_end limit given all there;
+        going = record {
+          state = over.state;
+          in_limit = going.in_limit;
+          still = subst (λ w. IfSome w (λ n. limit ≡ Some (given + n))) (sym same) going.still;
+          stopped = λ e. worked;
+        };
+        answer = limited_end limit given all over.none;
         worked = worked;
       }
 

@@ -1,6 +1,7 @@
 mod Rows
 pub mod Answering
 pub mod Children
+pub mod Chosen
 pub mod CountSteps
 pub mod CountUnder
 pub mod CountWhole
@@ -12,6 +13,7 @@ pub mod GivenAll
 pub mod Giving
 pub mod Heaps
 pub mod Joined
+pub mod Limits
 pub mod Merging
 pub mod Orders
 pub mod PooledItems
@@ -20,6 +22,7 @@ pub mod OrderedLists
 pub mod Sizes
 pub mod Starting
 pub mod Stepping
+pub mod UnderWay
 pub mod Widths
 pub mod Working
 pub mod ZeroScores

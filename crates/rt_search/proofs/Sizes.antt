@@ -134,16 +134,22 @@ module _ (opens : Verdict → Bool) (cost : Node → ℕ) (verdict : Info → Ve
       ≡ reached opens cost verdict t (height_at t n.number.number) (verdict_on s n) (node_at t n.number.number)
   opened_at s n h = rw h refl
 
-  -- opening a node that waits keeps the work done small
+  -- opening a node that waits is part of the work
+  pub done_upto : (done s : ℕ) (n : WaitingNode) (xs : List Item) → opens (verdict_on s n) ≡ true
+      → done + work_left opens cost verdict t (item_at s (place.Node n) ∷ xs) ≡ reached_from_root opens cost verdict t
+      → done + cost (node_at t n.number.number) ≤ reached_from_root opens cost verdict t
+  done_upto done s n xs open' course =
+      let cons = work_cons (item_at s (place.Node n)) xs in
+      let here = opened_at s n open' in
+      let least = cost_le_work (height_at t n.number.number) (verdict_on s n) (node_at t n.number.number) in
+      omega (arith, cons, here, least, course)
+
+  -- and keeps the work done small
   pub done_le : IsSound t → (done s : ℕ) (n : WaitingNode) (xs : List Item) → opens (verdict_on s n) ≡ true
       → done + work_left opens cost verdict t (item_at s (place.Node n) ∷ xs) ≡ reached_from_root opens cost verdict t
       → done + cost (node_at t n.number.number) ≤ 2 ^ 32
   done_le sound done s n xs open' course =
-      let most = work_le sound in
-      let cons = work_cons (item_at s (place.Node n)) xs in
-      let here = opened_at s n open' in
-      let least = cost_le_work (height_at t n.number.number) (verdict_on s n) (node_at t n.number.number) in
-      omega (arith, most, cons, here, least, course)
+      omega (arith, work_le sound, done_upto done s n xs open' course)
 
 -- ---- room
 

@@ -1,6 +1,7 @@
 -- A search begins, and gives its answers one after the other.
 use Rattle.std.proofs.Common.{◌≡◌, ◌<◌, ◌≤◌, ◌+◌, ℕ, zero, suc, Bool, true, false, cond, ◌==◌, List, [], ◌∷◌}
-use Rattle.std.proofs.Common.{length, Option, Some, None, refl, sym, ◌∙◌, subst, arith}
+use Rattle.std.proofs.Common.{length, Option, Some, None, refl, sym, ◌∙◌, ap, subst, arith}
+use Rattle.std.specs.Prelude.{IfSome}
 use Rattle.std.specs.List.{AllByRecursion}
 use Rattle.std.proofs.lemmas.Bool.Decides.{nat_tests}
 use Rattle.std.proofs.lemmas.List.Sorted.{length_permutation}
@@ -12,6 +13,8 @@ use Rattle.rt_tree.specs.Packed.{Packed, IsSound, entries_under, height, root_of
 use Rattle.rt_tree.specs.declared.tree.Node.{Node}
 use Rattle.rt_search.specs.Answers.{answer_cmp, answers, scored}
 use Rattle.rt_search.specs.Joining.{root_item, root_items}
+use Rattle.rt_search.specs.Kept.{IsRising}
+use Rattle.rt_search.specs.Limits.{IsEnough}
 use Rattle.rt_search.specs.Progress.{IsGiving, IsInLimit, IsOnCourse, IsSearching, held, size_at, work_at, work_left}
 use Rattle.rt_search.specs.Remaining.{AllSound, remaining}
 use Rattle.rt_search.specs.Work.{HasWorked, is_reached, is_within_bound, its_children, one_node}
@@ -64,6 +67,11 @@ nat_eq_false h = grind (arith, nat_tests)
 none_given : (limit : Option ℕ) → IsInLimit limit 0
 none_given None = tt
 none_given (Some k) = omega arith
+
+from_first : (wanted limit : Option ℕ) → IfSome wanted (λ n. limit ≡ Some n)
+    → IfSome wanted (λ n. limit ≡ Some (0 + n))
+from_first None limit h = tt
+from_first (Some n) limit h = h ∙ ap Some (omega arith)
 
 module _ (accepts : Extent → Bool) (score : Extent → ℕ) (verdict : Info → Verdict) (t : Packed) (sound : IsSound t)
   where
@@ -161,14 +169,27 @@ module _ (accepts : Extent → Bool) (score : Extent → ℕ) (verdict : Info �
         ] in
         split (length t.nodes == 0) refl
 
+    root_rising : IsRising (root_items t)
+    root_rising =
+        elim (length t.nodes == 0) as (λ b. IsRising (cond b [] (root_item t ∷ []))) [
+          | true ↦ tt
+          | false ↦ (tt, tt)
+        ]
+
     -- a search has begun
-    pub started : (limit : Option ℕ) (capacity : ℕ) (items : List Item) → length t.entries ≤ capacity → items
-        ≡ root_items t → IsGiving accepts score verdict t limit 0 0 0 capacity items
-    started limit capacity items room is =
-        subst (IsGiving accepts score verdict t limit 0 0 0 capacity) (sym is) (record {
-          state = start_state capacity room;
-          follows = start_answers;
-          in_limit = none_given limit;
-          stopped = λ e. subst (λ l. HasWorked accepts score verdict t l 0 0) (sym e)
-              (record { in_nodes = refl; in_checks = refl });
-        })
+    pub started : (limit : Option ℕ) (capacity : ℕ) (wanted : Option ℕ) (items : List Item)
+        → length t.entries ≤ capacity → IfSome wanted (λ n. limit ≡ Some n) → IsEnough wanted items (root_items t)
+        → IsGiving accepts score verdict t limit 0 0 0 capacity wanted items
+    started limit capacity wanted items room first enough = record {
+      state = record {
+        all = root_items t;
+        state = start_state capacity room;
+        rising = root_rising;
+        follows = start_answers;
+        enough = enough;
+      };
+      in_limit = none_given limit;
+      still = from_first wanted limit first;
+      stopped = λ e. subst (λ l. HasWorked accepts score verdict t l 0 0) (sym e)
+          (record { in_nodes = refl; in_checks = refl });
+    }

@@ -159,7 +159,7 @@ module _ (accepts : Extent → Bool) (score : Extent → ℕ) (verdict : Info �
       pub opened_is : opened ≡ reached_from_root (is_reached (Some s)) one_node verdict t
       pub asked_is : asked ≡ reached_from_root (is_reached (Some s)) its_children verdict t
 
-  entry_step : (opened asked capacity : ℕ) (i : ℤ) (s : ℕ) (xs : List Item)
+  pub entry_step : (opened asked capacity : ℕ) (i : ℤ) (s : ℕ) (xs : List Item)
       → IsTaken accepts score verdict t opened asked capacity (item_at s (place.Entry i)) xs
       → IsEntryStep opened asked capacity i s (remaining t accepts score (item_at s (place.Entry i) ∷ xs)) xs
   entry_step opened asked capacity i s xs k =
@@ -284,103 +284,6 @@ module _ (accepts : Extent → Bool) (score : Extent → ℕ) (verdict : Info �
       (held-join_nodes verdict t v is_kept number here.tree high xs)
       (λ cost bound. work-join_nodes verdict t v is_kept number here.tree high (is_reached bound) (joining bound) cost
       xs)
-
-  -- ---- the same, as a caller has them
-
-  -- the least item was taken out
-  pub taken_out : (opened asked capacity capacity' : ℕ) (items xs : List Item) (x : Item)
-      → IsSearching accepts score verdict t opened asked capacity items → items ≡ x ∷ xs
-      → AllByRecursion (λ y. is_gt (item_cmp x y) ≡ false) xs → capacity' ≡ capacity
-      → IsTaken accepts score verdict t opened asked capacity' x xs
-  taken_out opened asked capacity capacity' items xs x state is least same = record {
-    least = least;
-    state = subst (λ n. IsSearching accepts score verdict t opened asked n (x ∷ xs)) (sym same)
-        (subst (IsSearching accepts score verdict t opened asked capacity) is state);
-  }
-
-  entry_pulled : (opened asked capacity capacity' : ℕ) (i : ℤ) (start : List Answer) (items xs : List Item)
-      (x : Item) → x.place ≡ place.Entry i → IsSearching accepts score verdict t opened asked capacity items
-      → remaining t accepts score items ≡ start → items ≡ x ∷ xs
-      → AllByRecursion (λ y. is_gt (item_cmp x y) ≡ false) xs → capacity' ≡ capacity
-      → IsEntryStep opened asked capacity' i x.score start xs
-  entry_pulled opened asked capacity capacity' i start items xs x at state so_far is least same =
-      let k = subst (λ p. IsTaken accepts score verdict t opened asked capacity' (item_at x.score p) xs) at
-      (taken_out opened asked capacity capacity' items xs x state is least same) in
-      let e = entry_step opened asked capacity' i x.score xs k in
-      record {
-        answer = sym so_far ∙ ap (remaining t accepts score) is
-            ∙ ap (λ p. remaining t accepts score (item_at x.score p ∷ xs)) at ∙ e.answer;
-        state = e.state;
-        opened_is = e.opened_is;
-        asked_is = e.asked_is;
-      }
-
-  -- the same of what a frontier hands out: an entry, and no node
-  pub entry_given : (opened asked capacity capacity' : ℕ) (out : Taken) (e : FoundEntry) (start : List Answer)
-      (items xs : List Item) → out.node ≡ None → out.entry ≡ Some e
-      → IsSearching accepts score verdict t opened asked capacity items → remaining t accepts score items ≡ start
-      → MatchOption (taken_item out) (items ≡ []) (λ x. items ≡ x ∷ xs)
-      → IfSome (taken_item out) (λ x. AllByRecursion (λ y. is_gt (item_cmp x y) ≡ false) xs) → capacity' ≡ capacity
-      → IsEntryStep opened asked capacity' e.id e.score start xs
-  entry_given opened asked capacity capacity' out e start items xs no_node some state so_far is least same =
-      let given : taken_item out ≡ Some (item_at e.score (place.Entry e.id)) =
-      ap (λ n. node_or n (taken_entry out.entry)) no_node ∙ ap taken_entry some in
-      entry_pulled opened asked capacity capacity' e.id start items xs (item_at e.score (place.Entry e.id)) refl state
-      so_far (subst (λ o. MatchOption o (items ≡ []) (λ x. items ≡ x ∷ xs)) given is)
-      (subst (λ o. IfSome o (λ x. AllByRecursion (λ y. is_gt (item_cmp x y) ≡ false) xs)) given least) same
-
-  pub leaf_opened : (opened asked capacity s : ℕ) (w : WaitingNode) (xs new : List Item) (n : Node) (v : Verdict)
-      → s < 2 ^ 128 → n.level ≡ 1 → n ≡ node_at t w.number.number → v ≡ verdict_on s w → new
-      ≡ join_entries verdict t v n n.count xs
-      → IsTaken accepts score verdict t opened asked capacity (item_at s (place.Node w)) xs
-      → IsNodeStep accepts score verdict t opened asked capacity s w xs new
-  leaf_opened opened asked capacity s w xs new n v small low is told left k =
-      subst (λ ys. IsNodeStep accepts score verdict t opened asked capacity s w xs ys)
-      (sym (left ∙ ap (λ u. join_entries verdict t u n n.count xs) told
-      ∙ ap (λ m. join_entries verdict t (verdict_on s w) m m.count xs) is))
-      (leaf_step opened asked capacity s w xs small (sym (ap (λ (m : Node). m.level) is) ∙ low) k)
-
-  pub inner_opened : (opened asked capacity s : ℕ) (w : WaitingNode) (xs new : List Item) (n : Node) (v : Verdict)
-      → s < 2 ^ 128 → n.level ≢ 1 → n ≡ node_at t w.number.number → v ≡ verdict_on s w
-      → (let m = node_at t w.number.number in new ≡ join_nodes is_kept verdict t v m m.count xs)
-      → IsTaken accepts score verdict t opened asked capacity (item_at s (place.Node w)) xs
-      → IsNodeStep accepts score verdict t opened asked capacity s w xs new
-  inner_opened opened asked capacity s w xs new n v small low is told left k =
-      let level = subtree_level t (height_at t w.number.number) (node_at t w.number.number) k.state.sound.0.tree in
-      let same : n.level ≡ (node_at t w.number.number).level = ap (λ (m : Node). m.level) is in
-      let high : 2 ≤ (node_at t w.number.number).level = omega (arith, level, same, low) in
-      subst (λ ys. IsNodeStep accepts score verdict t opened asked capacity s w xs ys)
-      (sym (left ∙ ap (λ u. let m = node_at t w.number.number in join_nodes is_kept verdict t u m m.count xs) told))
-      (inner_step opened asked capacity s w xs small high k)
-
-  -- the work that waits falls with each node that is opened
-  pub falls : (opened asked asked' capacity capacity' : ℕ) (items new : List Item)
-      → IsSearching accepts score verdict t opened asked capacity items
-      → IsSearching accepts score verdict t (opened + 1) asked' capacity' new
-      → work_left (is_reached None) one_node verdict t new < work_left (is_reached None) one_node verdict t items
-  falls opened asked asked' capacity capacity' items new before after =
-      let b = before.opening.in_all in
-      let a = after.opening.in_all in
-      omega (arith, a, b)
-
-  pub record IsDone (opened asked : ℕ) (start : List Answer) : Type 0 where
-    pub answer : start ≡ []
-    pub opened_is : opened ≡ reached_from_root (is_reached None) one_node verdict t
-    pub asked_is : asked ≡ reached_from_root (is_reached None) its_children verdict t
-
-  pub all_done : (opened asked capacity : ℕ) (start : List Answer) (items : List Item)
-      → IsSearching accepts score verdict t opened asked capacity items → remaining t accepts score items ≡ start
-      → items ≡ [] → IsDone opened asked start
-  all_done opened asked capacity start items state so_far none =
-      let o = state.opening.in_all in
-      let a = state.asking.in_all in
-      let wo = ap (work_left (is_reached None) one_node verdict t) none in
-      let wa = ap (work_left (is_reached None) its_children verdict t) none in
-      record {
-        answer = sym so_far ∙ ap (remaining t accepts score) none;
-        opened_is = omega (arith, o, wo);
-        asked_is = omega (arith, a, wa);
-      }
 
   -- there is room to open a node that was taken out, and the counters stay small
   pub record CanOpen (opened asked capacity number : ℕ) (xs : List Item) : Type 0 where

@@ -1,10 +1,10 @@
 -- Items whose score is one word, and others, which come after them.
 use Rattle.std.proofs.Common.{◌≡◌, ◌<◌, ◌≤◌, ◌^◌, Bool, true, false, Option, Some, None, List, [], ◌∷◌, sym, subst}
-use Rattle.std.specs.Prelude.{IfNone, MatchOption}
+use Rattle.std.specs.Prelude.{IfNone, IfSome, MatchOption}
 use Rattle.std.specs.List.{AllByRecursion}
 use Rattle.std.proofs.lemmas.Bool.{false≢true}
 use Rattle.rt_search.specs.Items.{item_cmp}
-use Rattle.rt_search.specs.Kept.{IsAhead, offered}
+use Rattle.rt_search.specs.Kept.{IsAhead, IsLeast, offered}
 use Rattle.rt_search.specs.declared.item.Item.{Item}
 use Rattle.rt_search.proofs.Merging.{lower_least}
 use Rattle.rt_search.proofs.OrderedLists.{put-all}
@@ -12,12 +12,21 @@ use Rattle.rt_search.proofs.Orders.{item_order}
 
 -- where one was taken from the narrow items, these are ahead
 pub narrow_ahead : (r : Option Item) (old new wide : List Item) → MatchOption r (true ≡ false) (λ _. true ≡ true)
-    → MatchOption r (old ≡ []) (λ x. old ≡ x ∷ new) → AllByRecursion (λ x. x.score < 2 ^ 64) old
+    → MatchOption r (old ≡ []) (λ x. old ≡ x ∷ new) → IfSome r (λ x. x.score < 2 ^ 64)
     → AllByRecursion (λ y. 2 ^ 64 ≤ y.score) wide → IsAhead old wide
 narrow_ahead None old new wide some e low high = absurd (false≢true (sym some))
 narrow_ahead (Some x) old new wide some e low high =
-    subst (λ l. IsAhead l wide) (sym e)
-    (lower_least x wide (2 ^ 64) (subst (AllByRecursion (λ y. y.score < 2 ^ 64)) e low).0 high)
+    subst (λ l. IsAhead l wide) (sym e) (lower_least x wide (2 ^ 64) low high)
+
+-- where there was none, the wide items are
+pub wide_ahead : (narrow wide : List Item) → narrow ≡ [] → IsAhead wide narrow
+wide_ahead narrow [] e = e
+wide_ahead narrow (x ∷ wide) e = subst (IsLeast x) (sym e) tt
+
+pub none_taken : (r : Option Item) (old new : List Item) → MatchOption r (false ≡ false) (λ _. false ≡ true)
+    → MatchOption r (old ≡ []) (λ x. old ≡ x ∷ new) → IfNone r (new ≡ []) → (old ≡ []) × (new ≡ [])
+none_taken None old new none e n = (e, n)
+none_taken (Some x) old new none e n = absurd (false≢true none)
 
 -- ---- what holds of each item
 

@@ -1,5 +1,5 @@
--- What waits in a frontier, and in which order it is taken out.
-use Rattle.std.specs.Prelude.{ℕ, List}
+-- What waits in a frontier, and in which order it is taken out. Public calls speak of `Limited` alone.
+use Rattle.std.specs.Prelude.{ℕ, Option, List}
 use Rattle.std.specs.Ordering.{bool_cmp, int_cmp, nat_cmp, on, then_cmp}
 use Rattle.std.specs.declared.cmp.Ordering.{Ordering}
 use Rattle.std.specs.declared.cmp.Ordering.TheVariants.{Less, Greater}
@@ -26,7 +26,14 @@ place_cmp (Entry i) (Entry j) = int_cmp i j
 abbrev pub item_cmp : Item → Item → Ordering
 item_cmp = then_cmp (on (λ x. x.score) nat_cmp) (on (λ x. x.place) place_cmp)
 
--- a frontier: what waits, in the order in which it is taken out, and how many items have room
+-- a frontier: what waits, in the order in which it is taken out, how many entries are still wanted, where what comes
+-- behind so many isn't kept, and how many items have room
+pub record Limited : Type 0 where
+  pub items : List Item
+  pub wanted : Option ℕ
+  pub capacity : ℕ
+
+-- a part of it, which keeps all
 pub record Waiting : Type 0 where
   pub items : List Item
   pub capacity : ℕ

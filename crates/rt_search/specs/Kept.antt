@@ -105,10 +105,9 @@ pub record IsMerged (first second : Waiting) (capacity : ℕ) : Type 0 where
   pub few : length (put_all item_cmp first.items second.items) ≤ capacity
   pub narrow : capacity < 2 ^ 32
 
--- items whose score is one word, and others
+-- items whose score is one word, and others, whose score isn't
 pub record IsSplit (narrow wide : Waiting) (capacity : ℕ) : Type 0 where
-  pub merged : IsMerged narrow wide capacity
-  pub low : AllByRecursion (λ x. x.score < 2 ^ 64) narrow.items
+  pub merged : IsMerged wide narrow capacity
   pub high : AllByRecursion (λ x. 2 ^ 64 ≤ x.score) wide.items
 
 -- entries of score 0, and others of higher scores

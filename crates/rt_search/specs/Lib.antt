@@ -4,6 +4,7 @@ pub mod Gathering
 pub mod Items
 pub mod Joining
 pub mod Kept
+pub mod Limits
 pub mod Pooling
 pub mod Progress
 pub mod Remaining

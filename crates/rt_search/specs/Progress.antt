@@ -1,5 +1,6 @@
 -- What holds of a search between two answers. Nothing that a public call promises speaks of this.
-use Rattle.std.specs.Prelude.{◌≡◌, ◌+◌, ◌≤◌, ℕ, Bool, false, if◌then◌else◌, Option, Some, None, List, ◌∷◌, drop}
+use Rattle.std.specs.Prelude.{◌≡◌, ◌+◌, ◌≤◌, ◌==◌, ℕ, Bool, false, if◌then◌else◌, Option, Some, None, List, [], ◌∷◌, drop}
+use Rattle.std.specs.Prelude.{IfSome}
 use Rattle.std.specs.List.{AllByRecursion, sum_by}
 use Rattle.std.specs.Ordering.{is_gt}
 use Rattle.rt_geo.specs.Laws.{Extent}
@@ -7,10 +8,13 @@ use Rattle.rt_geo.specs.declared.geometry.Info.{Info}
 use Rattle.rt_geo.specs.declared.geometry.Verdict.{Verdict}
 use Rattle.rt_tree.specs.Packed.{Packed, IsSound, node_at}
 use Rattle.rt_tree.specs.declared.tree.Node.{Node}
-use Rattle.rt_search.specs.Answers.{answers}
+use Rattle.rt_search.specs.Answers.{Answer, answers}
 use Rattle.rt_search.specs.Items.{item_at, item_cmp}
+use Rattle.rt_search.specs.Joining.{join_entries, join_nodes}
+use Rattle.rt_search.specs.Kept.{IsRising}
+use Rattle.rt_search.specs.Limits.{IsEnough}
 use Rattle.rt_search.specs.Remaining.{AllSound, height_at, remaining, verdict_on}
-use Rattle.rt_search.specs.Work.{HasWorked, is_reached, its_children, one_node, reached_from_root, reached}
+use Rattle.rt_search.specs.Work.{HasWorked, is_kept, is_reached, its_children, one_node, reached_from_root, reached}
 use Rattle.rt_search.specs.declared.item.Item.{Item}
 use Rattle.rt_search.specs.declared.item.Place.{Place}
 use Rattle.rt_search.specs.declared.item.Place.TheVariants as place
@@ -59,6 +63,14 @@ pub record IsSearching (accepts : Extent → Bool) (score : Extent → ℕ) (ver
   pub opening : IsOnCourse accepts score verdict one_node t opened items
   pub asking : IsOnCourse accepts score verdict its_children t asked items
 
+-- the children of a node join
+abbrev pub join_children : (verdict : Info → Verdict) → Packed → (score : ℕ) → WaitingNode → List Item → List Item
+join_children verdict t s n items =
+    let m = node_at t n.number.number in
+    if m.level == 1
+    then join_entries verdict t (verdict_on s n) m m.count items
+    else join_nodes is_kept verdict t (verdict_on s n) m m.count items
+
 -- what holds after a node was opened
 pub record IsNodeStep (accepts : Extent → Bool) (score : Extent → ℕ) (verdict : Info → Verdict) (t : Packed)
     (opened asked capacity : ℕ) (s : ℕ) (n : WaitingNode) (items new : List Item) : Type 0 where
@@ -71,15 +83,47 @@ pub record IsTaken (accepts : Extent → Bool) (score : Extent → ℕ) (verdict
   pub least : AllByRecursion (λ y. is_gt (item_cmp x y) ≡ false) items
   pub state : IsSearching accepts score verdict t opened asked capacity (x ∷ items)
 
+-- a search that keeps no more than its limit makes necessary: what waits is enough of what would wait without a limit,
+-- and that stands for the answers to come
+pub record IsUnderWay (accepts : Extent → Bool) (score : Extent → ℕ) (verdict : Info → Verdict) (t : Packed)
+    (opened asked capacity : ℕ) (wanted : Option ℕ) (to_come : List Answer) (items : List Item) : Type 0 where
+  pub all : List Item
+  pub state : IsSearching accepts score verdict t opened asked capacity all
+  pub rising : IsRising all
+  pub follows : remaining t accepts score all ≡ to_come
+  pub enough : IsEnough wanted items all
+
+-- it opened as many nodes and made as many checks as a bound makes necessary
+pub record HasReached (verdict : Info → Verdict) (t : Packed) (bound : Option ℕ) (opened asked : ℕ) : Type 0 where
+  pub nodes : opened ≡ reached_from_root (is_reached bound) one_node verdict t
+  pub checks : asked ≡ reached_from_root (is_reached bound) its_children verdict t
+
+-- an answer was found, the first of those to come
+pub record IsFound (accepts : Extent → Bool) (score : Extent → ℕ) (verdict : Info → Verdict) (t : Packed)
+    (opened asked capacity : ℕ) (wanted : Option ℕ) (to_come : List Answer) (a : Answer) (items : List Item) : Type 0
+  where
+    pub rest : List Answer
+    pub first : to_come ≡ a ∷ rest
+    pub state : IsUnderWay accepts score verdict t opened asked capacity wanted rest items
+    pub reached : HasReached verdict t (Some a.1) opened asked
+
+-- none is to come
+pub record IsOver (accepts : Extent → Bool) (score : Extent → ℕ) (verdict : Info → Verdict) (t : Packed)
+    (opened asked capacity : ℕ) (wanted : Option ℕ) (to_come : List Answer) (items : List Item) : Type 0 where
+  pub none : to_come ≡ []
+  pub state : IsUnderWay accepts score verdict t opened asked capacity wanted to_come items
+  pub reached : HasReached verdict t None opened asked
+
 -- no more answers were given than are wanted
 abbrev pub IsInLimit : (limit : Option ℕ) → (given : ℕ) → Type 0
 IsInLimit None given = Unit {0}
 IsInLimit (Some limit) given = given ≤ limit
 
--- what holds of a search: what waits stands for the answers that weren't given
+-- what holds of a search
 pub record IsGiving (accepts : Extent → Bool) (score : Extent → ℕ) (verdict : Info → Verdict) (t : Packed)
-    (limit : Option ℕ) (given opened asked capacity : ℕ) (items : List Item) : Type 0 where
-  pub state : IsSearching accepts score verdict t opened asked capacity items
-  pub follows : remaining t accepts score items ≡ drop given (answers t.entries accepts score None)
+    (limit : Option ℕ) (given opened asked capacity : ℕ) (wanted : Option ℕ) (items : List Item) : Type 0 where
+  pub state : IsUnderWay accepts score verdict t opened asked capacity wanted
+      (drop given (answers t.entries accepts score None)) items
   pub in_limit : IsInLimit limit given
+  pub still : IfSome wanted (λ n. limit ≡ Some (given + n))
   pub stopped : limit ≡ Some given → HasWorked accepts score verdict t limit opened asked

@@ -153,7 +153,7 @@ pub fn count<G: Geometry>(
     ensures geometry { counted.new.geometry ≡ counted.old.geometry }
 {
     // (a count goes down level by level, and lets no node wait)
-    frontier.clear();
+    frontier.clear(None);
     let mut count = Count {
         accepted: 0,
         opened: 0,

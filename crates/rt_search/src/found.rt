@@ -1,13 +1,13 @@
 //! The entries of a frontier.
 
-ghost use Rattle.std.specs.Prelude.{◌≡◌, ◌<◌, ◌≤◌, [], ◌∷◌, IfNone, IfOk, IfSome, MatchOption, length};
+ghost use Rattle.std.specs.Prelude.{◌≡◌, ◌<◌, ◌≤◌, ◌^◌, [], ◌∷◌, IfNone, IfOk, IfSome, MatchOption, length};
 ghost use Rattle.std.specs.List.{AllByRecursion};
 ghost use Rattle.rt_search.specs.declared.item.Place.TheVariants as place;
 ghost use Rattle.rt_search.specs.Items.{item_at};
 ghost use Rattle.rt_search.specs.Kept.{IsEntry, IsFirstScore, IsLeast, offered, taken_entry};
 
+use crate::gathered::Gathered;
 use crate::item::FoundEntry;
-use crate::scored::Scored;
 use crate::zeros::Zeros;
 use std::alloc::{AllocError, Global};
 use std::marker::Model;
@@ -19,7 +19,7 @@ use std::marker::Model;
 #[derive(Drop)]
 pub struct Found {
     zeros: Zeros,
-    scored: Scored,
+    gathered: Gathered,
     capacity: u32,
 }
 
@@ -30,9 +30,9 @@ impl Model for Found {
 
     ghost Value = { Waiting };
 
-    ghost view = { λ f. record { items = put_all item_cmp f.zeros.items f.scored.items; capacity = f.capacity } };
+    ghost view = { λ f. record { items = put_all item_cmp f.zeros.items f.gathered.items; capacity = f.capacity } };
 
-    ghost invariant = { λ f. IsFound f.zeros f.scored f.capacity };
+    ghost invariant = { λ f. IsFound f.zeros f.gathered f.capacity };
 }
 
 impl Found {
@@ -41,10 +41,10 @@ impl Found {
         ensures capacity { IfOk result (λ f. f.capacity ≡ capacity) }
     {
         let zeros = Zeros::new(alloc, capacity)?;
-        let scored = Scored::new(alloc, capacity)?;
+        let gathered = Gathered::new(alloc, capacity)?;
         Ok(Found {
             zeros,
-            scored,
+            gathered,
             capacity,
         })
     }
@@ -53,7 +53,7 @@ impl Found {
         ensures value { result ≡ length self.now.items }
         ensures room { length self.now.items ≤ self.now.capacity }
     {
-        self.zeros.len() + self.scored.len()
+        self.zeros.len() + self.gathered.len()
     }
 
     pub fn clear(&mut self)
@@ -61,7 +61,7 @@ impl Found {
         ensures capacity { self.new.capacity ≡ self.old.capacity }
     {
         self.zeros.clear();
-        self.scored.clear();
+        self.gathered.clear();
     }
 
     /// Puts an entry in where it is wanted.
@@ -76,7 +76,7 @@ impl Found {
             return;
         }
         if is_wanted {
-            self.scored.put(score, id);
+            self.gathered.put(score, id);
         }
     }
 
@@ -86,7 +86,7 @@ impl Found {
         ensures entries { AllByRecursion (λ x. IsEntry x.place) self.now.items }
     {
         if self.zeros.is_empty() {
-            return self.scored.first_score();
+            return self.gathered.first_score();
         }
         Some(0)
     }
@@ -97,10 +97,11 @@ impl Found {
             (λ x. self.old.items ≡ x ∷ self.new.items) }
         ensures none { IfNone (taken_entry result) (self.new.items ≡ []) }
         ensures least { IfSome (taken_entry result) (λ x. IsLeast x self.new.items) }
+        ensures low { IfSome result (λ e. e.score < 2 ^ 64) }
         ensures capacity { self.new.capacity ≡ self.old.capacity }
     {
         if self.zeros.is_empty() {
-            return self.scored.take();
+            return self.gathered.take();
         }
         self.zeros.take()
     }

@@ -1,11 +1,13 @@
 //! What waits to be taken out, least first.
 
 ghost use Rattle.std.specs.Prelude.{◌≡◌, ◌==◌, ◌<◌, ◌≤◌, [], ◌∷◌, false, length, IfNone, IfOk, IfSome, MatchOption};
+ghost use Rattle.std.specs.Prelude.{None, Some};
 ghost use Rattle.std.specs.List.{AllByRecursion};
 ghost use Rattle.std.specs.Ordering.{is_gt};
 ghost use Rattle.rt_search.specs.declared.item.Place.TheVariants as place;
 ghost use Rattle.rt_search.specs.Items.{item_at, item_cmp};
 ghost use Rattle.rt_search.specs.Kept.{offered, taken_item};
+ghost use Rattle.rt_search.specs.Limits.{IsEnough, wanted_after};
 ghost use Rattle.rt_tree.specs.Sorting.{put};
 
 use crate::item::{Taken, WaitingNode};
@@ -15,17 +17,17 @@ use std::marker::Model;
 
 /// The room in which searches and counts work, one after the other. It is made once, and never grows.
 ///
-/// It is seen as the items that wait in it, in the order in which they are taken out, and its capacity. It is one
-/// pointer to them, as it is handed on with each query.
+/// It is seen as the items that wait in it, in the order in which they are taken out, how many entries are wanted, where
+/// no more are kept, and its capacity. It is one pointer to them, as it is handed on with each query.
 #[derive(Drop)]
 pub struct Frontier {
     waiting: Box<Split>,
 }
 
 impl Model for Frontier {
-    ghost use Rattle.rt_search.specs.Items.{Waiting};
+    ghost use Rattle.rt_search.specs.Items.{Limited};
 
-    ghost Value = { Waiting };
+    ghost Value = { Limited };
 
     ghost view = { λ f. f.waiting.value };
 }
@@ -63,16 +65,29 @@ impl Frontier {
         self.len() == 0
     }
 
-    pub(crate) fn clear(&mut self)
+    // For a search up to a limit, if there is one. Where the limit is low, no more is kept than it makes necessary.
+    pub(crate) fn clear(&mut self, limit: Option<u64>)
         ensures items { self.new.items ≡ [] }
+        ensures wanted { IfSome self.new.wanted (λ n. limit ≡ Some n) }
         ensures capacity { self.new.capacity ≡ self.old.capacity }
     {
-        self.waiting.clear();
+        self.waiting.clear(limit);
+    }
+
+    // For a full search, which keeps all, and sorts them once.
+    pub(crate) fn clear_for_all(&mut self)
+        ensures items { self.new.items ≡ [] }
+        ensures wanted { self.new.wanted ≡ None }
+        ensures capacity { self.new.capacity ≡ self.old.capacity }
+    {
+        self.waiting.clear_for_all();
     }
 
     pub(crate) fn put_node(&mut self, score: u128, node: WaitingNode)
         requires { length self.old.items < self.old.capacity }
-        ensures items { self.new.items ≡ put item_cmp (item_at score (place.Node node)) self.old.items }
+        ensures items { IsEnough self.old.wanted self.new.items
+            (put item_cmp (item_at score (place.Node node)) self.old.items) }
+        ensures wanted { self.new.wanted ≡ self.old.wanted }
         ensures capacity { self.new.capacity ≡ self.old.capacity }
     {
         self.waiting.put_node(score, node);
@@ -81,7 +96,9 @@ impl Frontier {
     #[inline(always)]
     pub(crate) fn offer_entry(&mut self, is_wanted: bool, score: u128, id: i64)
         requires { length self.old.items < self.old.capacity }
-        ensures items { self.new.items ≡ offered is_wanted (item_at score (place.Entry id)) self.old.items }
+        ensures items { IsEnough self.old.wanted self.new.items
+            (offered is_wanted (item_at score (place.Entry id)) self.old.items) }
+        ensures wanted { self.new.wanted ≡ self.old.wanted }
         ensures capacity { self.new.capacity ≡ self.old.capacity }
     {
         self.waiting.offer_entry(is_wanted, score, id);
@@ -94,6 +111,7 @@ impl Frontier {
         ensures none { IfNone (taken_item result) (self.new.items ≡ []) }
         ensures least { IfSome (taken_item result)
             (λ x. AllByRecursion (λ y. is_gt (item_cmp x y) ≡ false) self.new.items) }
+        ensures wanted { self.new.wanted ≡ wanted_after (taken_item result) self.old.wanted }
         ensures capacity { self.new.capacity ≡ self.old.capacity }
     {
         self.waiting.take()

@@ -28,6 +28,7 @@ fn gather_under<G: Geometry>(
     requires top { parent.top ≡ (root_of tree.now).level }
     requires node { let g = counted.old.geometry in
         IsOpenable tree.now (G.accepts g) (G.score g) number.number parent.verdict }
+    requires unlimited { frontier.old.wanted ≡ None }
     requires room { length frontier.old.items + (node_at tree.now number.number).size ≤ frontier.old.capacity }
     requires opened { opened.old + work_under (is_reached None) one_node (G.verdict counted.old.geometry) tree.now
         parent.verdict number.number ≤ 2 ^ 32 }
@@ -39,6 +40,7 @@ fn gather_under<G: Geometry>(
         (G.verdict counted.old.geometry) tree.now parent.verdict number.number }
     ensures asked { counted.new.asked ≡ counted.old.asked + work_under (is_reached None) its_children
         (G.verdict counted.old.geometry) tree.now parent.verdict number.number }
+    ensures unlimited { frontier.new.wanted ≡ None }
     ensures capacity { frontier.new.capacity ≡ frontier.old.capacity }
     ensures geometry { counted.new.geometry ≡ counted.old.geometry }
 {
@@ -70,6 +72,7 @@ fn gather_child<G: Geometry>(
     requires tree { IsSound tree.now }
     requires top { info.now.top ≡ (root_of tree.now).level }
     requires node { IsCountable tree.now (G.accepts counted.old.geometry) number.number info.now }
+    requires unlimited { frontier.old.wanted ≡ None }
     requires room { length frontier.old.items + (node_at tree.now number.number).size ≤ frontier.old.capacity }
     requires opened { let g = counted.old.geometry in opened.old + work_at_child (is_reached None) one_node
         (G.verdict g) tree.now (G.verdict g info.now) number.number ≤ 2 ^ 32 }
@@ -81,6 +84,7 @@ fn gather_child<G: Geometry>(
         one_node (G.verdict g) tree.now (G.verdict g info.now) number.number }
     ensures asked { let g = counted.old.geometry in counted.new.asked ≡ counted.old.asked + 1
         + work_at_child (is_reached None) its_children (G.verdict g) tree.now (G.verdict g info.now) number.number }
+    ensures unlimited { frontier.new.wanted ≡ None }
     ensures capacity { frontier.new.capacity ≡ frontier.old.capacity }
     ensures geometry { counted.new.geometry ≡ counted.old.geometry }
 {
@@ -119,7 +123,7 @@ pub(crate) fn gather<G: Geometry>(
     ensures capacity { frontier.new.capacity ≡ frontier.old.capacity }
     ensures geometry { counted.new.geometry ≡ counted.old.geometry }
 {
-    frontier.clear();
+    frontier.clear_for_all();
     let mut opened = 0;
     let Some(number) = tree.root() else {
         return opened;

@@ -1,7 +1,8 @@
 //! What waits in a frontier.
 
-ghost use Rattle.std.specs.Prelude.{◌≡◌, MatchOption, false, true};
+ghost use Rattle.std.specs.Prelude.{◌≡◌, MatchOption, false, true, ℕ, Option, if◌then◌else◌};
 ghost use Rattle.rt_search.specs.Kept.{taken_item};
+ghost use Rattle.rt_search.specs.Limits.{one_less, wanted_after};
 
 use rt_tree::NodeNo;
 
@@ -83,6 +84,13 @@ impl Taken {
                 entry: Some(FoundEntry { score, id }),
             },
         }
+    }
+
+    /// Whether it is an entry.
+    pub fn is_entry(self) -> bool
+        ensures { (w : Option ℕ) → wanted_after (taken_item self) w ≡ (if result then one_less w else w) }
+    {
+        self.node.is_none() && self.entry.is_some()
     }
 
     /// Whether anything was taken out.

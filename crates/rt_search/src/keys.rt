@@ -3,7 +3,7 @@
 //! A key holds the score, and below it a tail of one word. So keys of entries stand in the order of these, and so do
 //! those of nodes, and each is moved and compared at once.
 
-ghost use Rattle.std.specs.Prelude.{◌≡◌, ◌/◌, ◌^◌};
+ghost use Rattle.std.specs.Prelude.{◌≡◌, ◌<◌, ◌/◌, ◌^◌};
 ghost use Rattle.rt_search.specs.declared.item.Place.TheVariants as place;
 ghost use Rattle.rt_search.specs.Items.{item_at};
 ghost use Rattle.rt_search.specs.Kept.{entry_item, lesser, node_item};
@@ -37,7 +37,8 @@ pub fn entry_key(score: u64, id: i64) -> u128
 /// The entry of a key.
 #[inline(always)]
 pub fn entry_of(key: u128) -> FoundEntry
-    ensures { item_at result.score (place.Entry result.id) ≡ entry_item (record { 0 = key }) }
+    ensures item { item_at result.score (place.Entry result.id) ≡ entry_item (record { 0 = key }) }
+    ensures low { result.score < 2 ^ 64 }
 {
     FoundEntry {
         score: key / TAILS,
@@ -57,7 +58,8 @@ pub fn node_key(score: u64, node: WaitingNode) -> u128
 /// The node of a key.
 #[inline(always)]
 pub fn node_of(key: u128) -> ScoredNode
-    ensures { item_at result.score (place.Node result.node) ≡ node_item (record { 0 = key }) }
+    ensures item { item_at result.score (place.Node result.node) ≡ node_item (record { 0 = key }) }
+    ensures low { result.score < 2 ^ 64 }
 {
     let tail = (key % TAILS) as u64;
     ScoredNode {

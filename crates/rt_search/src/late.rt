@@ -1,6 +1,6 @@
 //! The entries that are found after the first was taken out.
 
-ghost use Rattle.std.specs.Prelude.{◌≡◌, ◌<◌, ◌≤◌, [], ◌∷◌, IfNone, IfOk, IfSome, MatchOption, length};
+ghost use Rattle.std.specs.Prelude.{◌≡◌, ◌<◌, ◌≤◌, ◌^◌, [], ◌∷◌, IfNone, IfOk, IfSome, MatchOption, length};
 ghost use Rattle.std.specs.List.{AllByRecursion};
 ghost use Rattle.rt_search.specs.declared.item.Place.TheVariants as place;
 ghost use Rattle.rt_search.specs.Items.{item_at, item_cmp};
@@ -87,6 +87,7 @@ impl Late {
             (λ x. self.old.items ≡ x ∷ self.new.items) }
         ensures none { IfNone (taken_entry result) (self.new.items ≡ []) }
         ensures least { IfSome (taken_entry result) (λ x. IsLeast x self.new.items) }
+        ensures low { IfSome result (λ e. e.score < 2 ^ 64) }
         ensures capacity { self.new.capacity ≡ self.old.capacity }
     {
         let key = self.pool.take()?;

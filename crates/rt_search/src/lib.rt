@@ -11,9 +11,11 @@
 //! the checks that are made. Their worked rows stand in `proofs/Rows.antt`.
 #![tactic(auto)]
 
+mod best;
 mod costing;
 mod counting;
 mod counts;
+mod entries;
 mod found;
 mod frontier;
 mod full_search;
@@ -26,7 +28,6 @@ mod narrow;
 mod nodes;
 mod opening;
 mod pool;
-mod scored;
 mod search;
 mod split;
 mod wide;

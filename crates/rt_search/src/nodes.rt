@@ -1,6 +1,6 @@
 //! The nodes of a frontier.
 
-ghost use Rattle.std.specs.Prelude.{◌≡◌, ◌<◌, ◌≤◌, [], ◌∷◌, IfNone, IfOk, IfSome, MatchOption, length};
+ghost use Rattle.std.specs.Prelude.{◌≡◌, ◌<◌, ◌≤◌, ◌^◌, [], ◌∷◌, IfNone, IfOk, IfSome, MatchOption, length};
 ghost use Rattle.std.specs.List.{AllByRecursion};
 ghost use Rattle.rt_search.specs.declared.item.Place.TheVariants as place;
 ghost use Rattle.rt_search.specs.Items.{item_at, item_cmp};
@@ -75,6 +75,7 @@ impl Nodes {
             (λ x. self.old.items ≡ x ∷ self.new.items) }
         ensures none { IfNone (taken_node result) (self.new.items ≡ []) }
         ensures least { IfSome (taken_node result) (λ x. IsLeast x self.new.items) }
+        ensures low { IfSome result (λ n. n.score < 2 ^ 64) }
         ensures capacity { self.new.capacity ≡ self.old.capacity }
     {
         let key = self.pool.take()?;

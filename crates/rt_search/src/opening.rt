@@ -4,6 +4,7 @@ ghost use Rattle.std.specs.Prelude.{◌≡◌, ◌+◌, ◌-◌, ◌<◌, ◌≤
 ghost use Rattle.rt_geo.specs.Laws.{Extent, IsHonest};
 ghost use Rattle.rt_tree.specs.Packed.{IsLeafNode, IsSound, extent_of_node, node_at, root_of};
 ghost use Rattle.rt_search.specs.Joining.{join_entries, join_entry, join_node, join_nodes, root_items};
+ghost use Rattle.rt_search.specs.Limits.{IsEnough};
 ghost use Rattle.rt_search.specs.Remaining.{IsBelow, IsOpenable, verdict_on};
 ghost use Rattle.rt_search.specs.Work.{info_under, is_kept};
 
@@ -59,7 +60,8 @@ pub(crate) fn put_root(tree: &Tree, frontier: &mut Frontier) -> u8
     requires empty { frontier.old.items ≡ [] }
     requires capacity { length tree.now.entries ≤ frontier.old.capacity }
     ensures sound { IsSound tree.now }
-    ensures items { frontier.new.items ≡ root_items tree.now }
+    ensures items { IsEnough frontier.old.wanted frontier.new.items (root_items tree.now) }
+    ensures wanted { frontier.new.wanted ≡ frontier.old.wanted }
     ensures top { result ≡ (root_of tree.now).level }
     ensures capacity { frontier.new.capacity ≡ frontier.old.capacity }
 {
@@ -92,7 +94,9 @@ fn ask_entry<G: Geometry>(
     requires honest { IsHonest (G.accepts counted.old.geometry) info.now }
     requires room { length frontier.old.items < frontier.old.capacity }
     requires asked { counted.old.asked < 2 ^ 64 - 1 }
-    ensures items { frontier.new.items ≡ join_entry (G.verdict counted.old.geometry info.now) id frontier.old.items }
+    ensures items { IsEnough frontier.old.wanted frontier.new.items
+        (join_entry (G.verdict counted.old.geometry info.now) id frontier.old.items) }
+    ensures wanted { frontier.new.wanted ≡ frontier.old.wanted }
     ensures capacity { frontier.new.capacity ≡ frontier.old.capacity }
     ensures geometry { counted.new.geometry ≡ counted.old.geometry }
     ensures asked { counted.new.asked ≡ counted.old.asked + 1 }
@@ -110,8 +114,9 @@ fn ask_node<G: Geometry>(
     requires honest { IsHonest (G.accepts counted.old.geometry) info.now }
     requires room { length frontier.old.items < frontier.old.capacity }
     requires asked { counted.old.asked < 2 ^ 64 - 1 }
-    ensures items { frontier.new.items
-        ≡ join_node is_kept (G.verdict counted.old.geometry info.now) number.number frontier.old.items }
+    ensures items { IsEnough frontier.old.wanted frontier.new.items
+        (join_node is_kept (G.verdict counted.old.geometry info.now) number.number frontier.old.items) }
+    ensures wanted { frontier.new.wanted ≡ frontier.old.wanted }
     ensures capacity { frontier.new.capacity ≡ frontier.old.capacity }
     ensures geometry { counted.new.geometry ≡ counted.old.geometry }
     ensures asked { counted.new.asked ≡ counted.old.asked + 1 }
@@ -139,8 +144,9 @@ pub(crate) fn open_leaf<G: Geometry>(
         IsBelow (G.accepts g) (G.score g) (extent_of_node node) parent.verdict }
     requires room { length frontier.old.items + node.count ≤ frontier.old.capacity }
     requires asked { counted.old.asked + node.count ≤ 2 ^ 64 - 1 }
-    ensures items { frontier.new.items
-        ≡ join_entries (G.verdict counted.old.geometry) tree.now parent.verdict node node.count frontier.old.items }
+    ensures items { IsEnough frontier.old.wanted frontier.new.items
+        (join_entries (G.verdict counted.old.geometry) tree.now parent.verdict node node.count frontier.old.items) }
+    ensures wanted { frontier.new.wanted ≡ frontier.old.wanted }
     ensures capacity { frontier.new.capacity ≡ frontier.old.capacity }
     ensures geometry { counted.new.geometry ≡ counted.old.geometry }
     ensures asked { counted.new.asked ≡ counted.old.asked + node.count }
@@ -170,8 +176,9 @@ pub(crate) fn open_inner<G: Geometry>(
     requires room { length frontier.old.items + (node_at tree.now number.number).count ≤ frontier.old.capacity }
     requires asked { counted.old.asked + (node_at tree.now number.number).count ≤ 2 ^ 64 - 1 }
     ensures items { let n = node_at tree.now number.number in
-        frontier.new.items ≡ join_nodes is_kept (G.verdict counted.old.geometry) tree.now parent.verdict n n.count
-        frontier.old.items }
+        IsEnough frontier.old.wanted frontier.new.items
+        (join_nodes is_kept (G.verdict counted.old.geometry) tree.now parent.verdict n n.count frontier.old.items) }
+    ensures wanted { frontier.new.wanted ≡ frontier.old.wanted }
     ensures capacity { frontier.new.capacity ≡ frontier.old.capacity }
     ensures geometry { counted.new.geometry ≡ counted.old.geometry }
     ensures asked { counted.new.asked ≡ counted.old.asked + (node_at tree.now number.number).count }

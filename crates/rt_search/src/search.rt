@@ -1,13 +1,13 @@
 //! Best-first search.
 
-ghost use Rattle.std.specs.Prelude.{◌≡◌, ◌+◌, ◌≤◌, [], ◌∷◌, None, Some, IfNone, IfSome, MatchOption, length};
-ghost use Rattle.rt_tree.specs.Packed.{node_at, root_of};
-ghost use Rattle.rt_search.specs.Items.{item_at};
-ghost use Rattle.rt_search.specs.declared.item.Place.TheVariants as place;
-ghost use Rattle.rt_search.specs.Answers.{answers};
-ghost use Rattle.rt_search.specs.Progress.{IsNodeStep, IsSearching, IsTaken};
-ghost use Rattle.rt_search.specs.Remaining.{remaining};
-ghost use Rattle.rt_search.specs.Work.{HasWorked, is_reached, its_children, one_node, reached_from_root};
+ghost use Rattle.std.specs.Prelude.{◌≡◌, ◌≢◌, ◌+◌, ◌<◌, ◌≤◌, ◌^◌, [], ◌∷◌, List, None, Some, IfNone, IfSome, MatchOption};
+ghost use Rattle.std.specs.Prelude.{length};
+ghost use Rattle.rt_tree.specs.Packed.{IsSound, node_at, root_of};
+ghost use Rattle.rt_search.specs.Answers.{Answer, answers};
+ghost use Rattle.rt_search.specs.Limits.{IsEnough, one_less};
+ghost use Rattle.rt_search.specs.Progress.{IsFound, IsOver, IsUnderWay, join_children};
+ghost use Rattle.rt_search.specs.Remaining.{IsOpenable, verdict_on};
+ghost use Rattle.rt_search.specs.Work.{HasWorked};
 
 use crate::frontier::Frontier;
 use crate::item::ScoredNode;
@@ -25,15 +25,19 @@ fn open_node<G: Geometry>(
     top: u8,
     taken: ScoredNode,
 )
+    requires tree { IsSound tree.now }
     requires top { top ≡ (root_of tree.now).level }
-    requires taken { let g = counted.old.geometry in
-        IsTaken (G.accepts g) (G.score g) (G.verdict g) tree.now opened.old counted.old.asked frontier.old.capacity
-        (item_at taken.score (place.Node taken.node)) frontier.old.items }
-    ensures step { let g = counted.old.geometry in
-        IsNodeStep (G.accepts g) (G.score g) (G.verdict g) tree.now opened.old counted.old.asked frontier.old.capacity
-        taken.score taken.node frontier.old.items frontier.new.items }
+    requires node { let g = counted.old.geometry in
+        IsOpenable tree.now (G.accepts g) (G.score g) taken.node.number.number (verdict_on taken.score taken.node) }
+    requires room { length frontier.old.items + (node_at tree.now taken.node.number.number).count
+        ≤ frontier.old.capacity }
+    requires opened { opened.old < 2 ^ 32 }
+    requires asked { counted.old.asked + (node_at tree.now taken.node.number.number).count ≤ 2 ^ 32 }
+    ensures items { IsEnough frontier.old.wanted frontier.new.items
+        (join_children (G.verdict counted.old.geometry) tree.now taken.score taken.node frontier.old.items) }
     ensures opened { opened.new ≡ opened.old + 1 }
     ensures asked { counted.new.asked ≡ counted.old.asked + (node_at tree.now taken.node.number.number).count }
+    ensures wanted { frontier.new.wanted ≡ frontier.old.wanted }
     ensures capacity { frontier.new.capacity ≡ frontier.old.capacity }
     ensures geometry { counted.new.geometry ≡ counted.old.geometry }
 {
@@ -56,24 +60,19 @@ fn pull<G: Geometry>(
     top: u8,
 ) -> Option<(i64, u128)>
     requires top { top ≡ (root_of tree.now).level }
-    requires state { let g = counted.old.geometry in
-        IsSearching (G.accepts g) (G.score g) (G.verdict g) tree.now opened.old counted.old.asked
-        frontier.old.capacity frontier.old.items }
-    ensures answer { let g = counted.old.geometry in
-        MatchOption result (remaining tree.now (G.accepts g) (G.score g) frontier.old.items ≡ [])
-        (λ a. remaining tree.now (G.accepts g) (G.score g) frontier.old.items
-        ≡ a ∷ remaining tree.now (G.accepts g) (G.score g) frontier.new.items) }
-    ensures none { let g = counted.old.geometry in
-        IfNone result (remaining tree.now (G.accepts g) (G.score g) frontier.new.items ≡ []) }
-    ensures state { let g = counted.old.geometry in
-        IsSearching (G.accepts g) (G.score g) (G.verdict g) tree.now opened.new counted.new.asked
-        frontier.new.capacity frontier.new.items }
-    ensures opened { let g = counted.old.geometry in
-        MatchOption result (opened.new ≡ reached_from_root (is_reached None) one_node (G.verdict g) tree.now)
-        (λ a. opened.new ≡ reached_from_root (is_reached (Some a.1)) one_node (G.verdict g) tree.now) }
-    ensures asked { let g = counted.old.geometry in
-        MatchOption result (counted.new.asked ≡ reached_from_root (is_reached None) its_children (G.verdict g) tree.now)
-        (λ a. counted.new.asked ≡ reached_from_root (is_reached (Some a.1)) its_children (G.verdict g) tree.now) }
+    requires more { frontier.old.wanted ≢ Some 0 }
+    requires state { let g = counted.old.geometry in (to_come : List Answer) ×
+        IsUnderWay (G.accepts g) (G.score g) (G.verdict g) tree.now opened.old counted.old.asked
+        frontier.old.capacity frontier.old.wanted to_come frontier.old.items }
+    ensures step { let g = counted.old.geometry in (to_come : List Answer) →
+        IsUnderWay (G.accepts g) (G.score g) (G.verdict g) tree.now opened.old counted.old.asked
+        frontier.old.capacity frontier.old.wanted to_come frontier.old.items → MatchOption result
+        (IsOver (G.accepts g) (G.score g) (G.verdict g) tree.now opened.new counted.new.asked frontier.new.capacity
+        frontier.new.wanted to_come frontier.new.items)
+        (λ a. IsFound (G.accepts g) (G.score g) (G.verdict g) tree.now opened.new counted.new.asked
+        frontier.new.capacity frontier.new.wanted to_come a frontier.new.items) }
+    ensures wanted { MatchOption result (frontier.new.wanted ≡ frontier.old.wanted)
+        (λ _. frontier.new.wanted ≡ one_less frontier.old.wanted) }
     ensures capacity { frontier.new.capacity ≡ frontier.old.capacity }
     ensures geometry { counted.new.geometry ≡ counted.old.geometry }
 {
@@ -123,7 +122,7 @@ impl<'a, G: Geometry> Model for Search<'a, G> {
 
     ghost invariant = { λ s. let g = s.counted.geometry in
         IsGiving (G.accepts g) (G.score g) (G.verdict g) s.tree.now s.limit s.given s.opened s.counted.asked
-        s.frontier.capacity s.frontier.items × (s.top ≡ (root_of s.tree.now).level) };
+        s.frontier.capacity s.frontier.wanted s.frontier.items × (s.top ≡ (root_of s.tree.now).level) };
 }
 
 impl<'a, G: Geometry> Search<'a, G> {
@@ -149,7 +148,7 @@ impl<'a, G: Geometry> Search<'a, G> {
         ensures capacity { result.capacity ≡ frontier.capacity }
     {
         let mut frontier = frontier;
-        frontier.clear();
+        frontier.clear(limit);
         let top = put_root(tree, &mut frontier);
         Search {
             tree,

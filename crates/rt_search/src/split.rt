@@ -1,9 +1,10 @@
 //! The items of a frontier, by the width of their scores.
 
-ghost use Rattle.std.specs.Prelude.{◌≡◌, ◌<◌, ◌≤◌, [], ◌∷◌, length, IfNone, IfOk, IfSome, MatchOption};
+ghost use Rattle.std.specs.Prelude.{◌≡◌, ◌<◌, ◌≤◌, [], ◌∷◌, length, IfNone, IfOk, IfSome, MatchOption, None, Some};
 ghost use Rattle.rt_search.specs.declared.item.Place.TheVariants as place;
 ghost use Rattle.rt_search.specs.Items.{item_at, item_cmp};
 ghost use Rattle.rt_search.specs.Kept.{IsLeast, offered, taken_item};
+ghost use Rattle.rt_search.specs.Limits.{IsEnough, wanted_after};
 ghost use Rattle.rt_tree.specs.Sorting.{put};
 
 use crate::item::{Item, Place, Taken, WaitingNode};
@@ -18,7 +19,8 @@ const WIDE: u128 = 1 << 64;
 /// The items whose score is one word, and the others, which come after them. Squares of distances reach one bit beyond
 /// a word, so that these are rare.
 ///
-/// It is seen as the items that they are, in order, and its capacity, which is that of both.
+/// It is seen as the items that they are, in order, how many entries are wanted where no more are kept, and its
+/// capacity, which is that of both.
 #[derive(Drop)]
 pub struct Split {
     narrow: Narrow,
@@ -27,15 +29,20 @@ pub struct Split {
 }
 
 impl Model for Split {
-    ghost use Rattle.rt_search.specs.Items.{Waiting, item_cmp};
+    ghost use Rattle.rt_search.specs.Items.{Limited, item_cmp};
     ghost use Rattle.rt_search.specs.Kept.{IsSplit};
+    ghost use Rattle.rt_search.specs.Limits.{unlimited};
     ghost use Rattle.rt_search.specs.Remaining.{put_all};
 
-    ghost Value = { Waiting };
+    ghost Value = { Limited };
 
-    ghost view = { λ s. record { items = put_all item_cmp s.narrow.items s.wide.items; capacity = s.capacity } };
+    ghost view = { λ s. record {
+      items = put_all item_cmp s.wide.items s.narrow.items;
+      wanted = s.narrow.wanted;
+      capacity = s.capacity;
+    } };
 
-    ghost invariant = { λ s. IsSplit s.narrow s.wide s.capacity };
+    ghost invariant = { λ s. IsSplit (unlimited s.narrow) s.wide s.capacity };
 }
 
 impl Split {
@@ -65,20 +72,35 @@ impl Split {
         (self.narrow.len() + self.wide.len()) as u32
     }
 
-    pub fn clear(&mut self)
+    pub fn clear(&mut self, limit: Option<u64>)
         ensures items { self.new.items ≡ [] }
+        ensures wanted { IfSome self.new.wanted (λ n. limit ≡ Some n) }
         ensures capacity { self.new.capacity ≡ self.old.capacity }
     {
-        self.narrow.clear();
+        self.narrow.clear(limit);
+        self.wide.clear();
+    }
+
+    pub fn clear_for_all(&mut self)
+        ensures items { self.new.items ≡ [] }
+        ensures wanted { self.new.wanted ≡ None }
+        ensures capacity { self.new.capacity ≡ self.old.capacity }
+    {
+        self.narrow.clear_for_all();
         self.wide.clear();
     }
 
     #[inline(always)]
     pub fn put_node(&mut self, score: u128, node: WaitingNode)
         requires { length self.old.items < self.old.capacity }
-        ensures items { self.new.items ≡ put item_cmp (item_at score (place.Node node)) self.old.items }
+        ensures items { IsEnough self.old.wanted self.new.items
+            (put item_cmp (item_at score (place.Node node)) self.old.items) }
+        ensures wanted { self.new.wanted ≡ self.old.wanted }
         ensures capacity { self.new.capacity ≡ self.old.capacity }
     {
+        if self.narrow.is_beyond(score) {
+            return;
+        }
         if WIDE <= score {
             let place = Place::Node(node);
             self.wide.put(Item { score, place });
@@ -90,10 +112,15 @@ impl Split {
     #[inline(always)]
     pub fn offer_entry(&mut self, is_wanted: bool, score: u128, id: i64)
         requires { length self.old.items < self.old.capacity }
-        ensures items { self.new.items ≡ offered is_wanted (item_at score (place.Entry id)) self.old.items }
+        ensures items { IsEnough self.old.wanted self.new.items
+            (offered is_wanted (item_at score (place.Entry id)) self.old.items) }
+        ensures wanted { self.new.wanted ≡ self.old.wanted }
         ensures capacity { self.new.capacity ≡ self.old.capacity }
     {
         if WIDE <= score {
+            if self.narrow.is_beyond(score) {
+                return;
+            }
             offer_wide(&mut self.wide, is_wanted, score, id);
             return;
         }
@@ -106,13 +133,14 @@ impl Split {
             (λ x. self.old.items ≡ x ∷ self.new.items) }
         ensures none { IfNone (taken_item result) (self.new.items ≡ []) }
         ensures least { IfSome (taken_item result) (λ x. IsLeast x self.new.items) }
+        ensures wanted { self.new.wanted ≡ wanted_after (taken_item result) self.old.wanted }
         ensures capacity { self.new.capacity ≡ self.old.capacity }
     {
         let taken = self.narrow.take();
         if taken.is_any() {
             return taken;
         }
-        take_wide(&mut self.wide)
+        take_wide(&mut self.narrow, &mut self.wide)
     }
 }
 
@@ -131,11 +159,19 @@ fn offer_wide(wide: &mut Wide, is_wanted: bool, score: u128, id: i64)
 
 // Inlined, so that the room for what `Wide::take` returns is made only where that is called.
 #[inline(always)]
-fn take_wide(wide: &mut Wide) -> Taken
+fn take_wide(narrow: &mut Narrow, wide: &mut Wide) -> Taken
+    requires { narrow.old.items ≡ [] }
     ensures items { MatchOption (taken_item result) (wide.old.items ≡ []) (λ x. wide.old.items ≡ x ∷ wide.new.items) }
     ensures none { IfNone (taken_item result) (wide.new.items ≡ []) }
     ensures least { IfSome (taken_item result) (λ x. IsLeast x wide.new.items) }
     ensures capacity { wide.new.capacity ≡ wide.old.capacity }
+    ensures narrow { narrow.new.items ≡ [] }
+    ensures wanted { narrow.new.wanted ≡ wanted_after (taken_item result) narrow.old.wanted }
+    ensures narrow_capacity { narrow.new.capacity ≡ narrow.old.capacity }
 {
-    Taken::of(wide.take())
+    let taken = Taken::of(wide.take());
+    if taken.is_entry() {
+        narrow.want_one_less();
+    }
+    taken
 }

@@ -7,6 +7,7 @@ use Rattle.rt_search.proofs.Children.{child_read, children_count, children_insid
 use Rattle.rt_search.proofs.CountUnder.{inner_work}
 use Rattle.rt_search.proofs.Gathers.{can_enter, can_gather, leaf_gathered, not_gathered, upto_all, upto_more}
 use Rattle.rt_search.proofs.Gathers.{upto_none}
+use Rattle.rt_search.proofs.Limits.{all_kept}
 use Rattle.rt_search.proofs.gathering.+gathering.Goals as goal
 
 pub gather_child-returns-in-Not-clause-gathered : goal.gather_child-returns-in-Not-clause-gathered
@@ -31,7 +32,7 @@ gather_child-gather_under-requires g t c κs within =
           c.requires.tree,
           (
             c.requires.top,
-            rw e.geometry (can.node, (c.requires.room, (can.opened_few, can.asked_few))),
+            rw e.geometry (can.node, (c.requires.unlimited, (c.requires.room, (can.opened_few, can.asked_few)))),
           ),
         ),
       ),
@@ -47,7 +48,8 @@ gather_under-returns-then-node-eq1-clause-gathered g t c =
     let is = c.node-node.ensures in
     let old = c.args.frontier.now.items in
     subst (HasGathered tree (g.G.Geometry.accepts geometry) (g.G.Geometry.score geometry) c.args.number.number old)
-    (sym (c.open_leaf.ensures.items ∙ ap (λ n. join_entries verdict tree v n n.count old) is))
+    (sym (all_kept c.args.frontier.now.wanted _ _ c.requires.unlimited c.open_leaf.ensures.items
+    ∙ ap (λ n. join_entries verdict tree v n n.count old) is))
     (leaf_gathered (g.G.Geometry.accepts geometry) (g.G.Geometry.score geometry) verdict
     (g.met.G.Geometry.lawful geometry) tree c.requires.tree v small c.args.number.number c.requires.node
     (sym (ap (λ n. n.level) is) ∙ c.if-node-eq1.true) old)
@@ -66,6 +68,7 @@ gather_under-loop-i-init g t c =
     record {
       gathered = upto_none (g.G.Geometry.accepts geometry) (g.G.Geometry.score geometry) (g.G.Geometry.verdict geometry)
           (g.met.G.Geometry.lawful geometry) c.args.tree.now c.args.number.number c.args.frontier.now.items;
+      unlimited = c.requires.unlimited;
       opened = omega arith;
       asked = omega arith;
       capacity = refl;
@@ -109,7 +112,7 @@ gather_under-gather_child-requires g t c κs within =
           c.requires.tree,
           (
             top ∙ c.requires.top,
-            rw (inv.geometry, inv.capacity) (can.node, (can.room, (can.opened_few, can.asked_few))),
+            rw (inv.geometry, inv.capacity) (can.node, (inv.unlimited, (can.room, (can.opened_few, can.asked_few)))),
           ),
         ),
       ),
@@ -148,6 +151,7 @@ gather_under-loop-i-preserved g t c =
           (g.G.Geometry.verdict geometry) law tree c.requires.tree v small number c.requires.node high c.loop-i.i
           c.args.frontier.now.items c.loop-i.frontier.items c.gather_child.new.frontier.items lt inv.gathered
           (rw at at e.gathered));
+      unlimited = e.unlimited;
       opened = rw (add-one c.loop-i.i) (omega (arith, opened, before));
       asked = rw (add-one c.loop-i.i) (omega (arith, asked, asked_before));
       capacity = e.capacity ∙ inv.capacity;

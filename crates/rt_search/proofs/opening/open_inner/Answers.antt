@@ -1,8 +1,10 @@
-use Rattle.std.proofs.Common.{◌≡◌, ◌+◌, ◌∙◌, ap, arith, add-one}
+use Rattle.std.proofs.Common.{◌≡◌, ◌+◌, ◌∙◌, ap, subst, arith, add-one}
 use Rattle.rt_tree.specs.Packed.{extent_of_node, node_at}
 use Rattle.rt_search.specs.Joining.{join_nodes}
+use Rattle.rt_search.specs.Limits.{IsEnough}
 use Rattle.rt_search.specs.Work.{is_kept}
 use Rattle.rt_search.proofs.Children.{child_read, children_count, honest_child}
+use Rattle.rt_search.proofs.Limits.{enough_node}
 use Rattle.rt_search.proofs.Working.{length-join_nodes}
 use Rattle.rt_search.proofs.opening.open_inner.Goals as goal
 
@@ -33,7 +35,8 @@ ask_node-requires-clause-room g c =
     c.args.parent.verdict is_kept (node_at c.args.tree.now c.args.number.number) c.loop-i.i
     c.args.frontier.now.items in
     let room = c.requires.room in
-    rw (c.loop-i.invariant.items, c.loop-i.invariant.capacity) (omega (arith, long, room, lt, count))
+    let few = c.loop-i.invariant.items.few in
+    rw c.loop-i.invariant.capacity (omega (arith, few, long, room, lt, count))
 
 pub loop-i-preserved : goal.loop-i-preserved
 loop-i-preserved g c =
@@ -46,10 +49,11 @@ loop-i-preserved g c =
     c.requires.level c.node-node.ensures c.child_nodes-children.ensures c.loop-i-test.true c.index-children-i.is
     number in
     let v = c.loop-i.invariant in
-    let h = rw (v.geometry, v.items) at c.ask_node.ensures in
+    let h = rw (v.geometry, v.wanted) at c.ask_node.ensures in
     record {
-      items = rw add-one (rw number at
-          (rw k.is at (rw (c.info-info.ensures, c.requires.top) at h.items)));
+      items = rw add-one (enough_node c.args.frontier.now.wanted _ _ _ _ _ v.items
+          (rw number at (rw k.is at (rw (c.info-info.ensures, c.requires.top) at h.items))));
+      wanted = h.wanted;
       capacity = h.capacity ∙ v.capacity;
       geometry = h.geometry;
       asked = omega arith;
@@ -63,9 +67,9 @@ returns-clause-items g c =
     let n = node_at c.args.tree.now c.args.number.number in
     let no = c.loop-i-test.false in
     let end = c.loop-i.auto.i-end in
-    c.loop-i.invariant.items
-    ∙ ap (λ m. join_nodes is_kept (g.G.Geometry.verdict c.args.counted.now.geometry) c.args.tree.now
-    c.args.parent.verdict n m c.args.frontier.now.items) (omega (arith, no, end, count))
+    subst (λ m. IsEnough c.args.frontier.now.wanted c.loop-i.frontier.items
+    (join_nodes is_kept (g.G.Geometry.verdict c.args.counted.now.geometry) c.args.tree.now c.args.parent.verdict n m
+    c.args.frontier.now.items)) (omega (arith, no, end, count)) c.loop-i.invariant.items
 
 pub returns-clause-asked : goal.returns-clause-asked
 returns-clause-asked g c =

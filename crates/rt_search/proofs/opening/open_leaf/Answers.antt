@@ -3,7 +3,9 @@ use Rattle.std.proofs.lemmas.Int.{to_z-of_z}
 use Rattle.rt_geo.specs.Laws.{extent_of_entry}
 use Rattle.rt_tree.specs.Packed.{extent_of_node}
 use Rattle.rt_search.specs.Joining.{join_entries}
+use Rattle.rt_search.specs.Limits.{IsEnough}
 use Rattle.rt_search.proofs.Children.{entries_count, honest_child, leaf_read}
+use Rattle.rt_search.proofs.Limits.{enough_entry}
 use Rattle.rt_search.proofs.Working.{length-join_entries}
 use Rattle.rt_search.proofs.opening.open_leaf.Goals as goal
 
@@ -28,7 +30,8 @@ ask_entry-requires-clause-room g c =
     c.args.parent.verdict c.args.node c.loop-i.i c.args.frontier.now.items in
     let room = c.requires.room in
     let lt = c.loop-i-test.true in
-    rw (c.loop-i.invariant.items, c.loop-i.invariant.capacity) (omega (arith, long, room, lt, count))
+    let few = c.loop-i.invariant.items.few in
+    rw c.loop-i.invariant.capacity (omega (arith, few, long, room, lt, count))
 
 pub ask_entry-requires-clause-asked : goal.ask_entry-requires-clause-asked
 ask_entry-requires-clause-asked g c =
@@ -55,11 +58,13 @@ loop-i-preserved g c =
     let layers = subst (λ o. IfSome o (λ e. c.layers_at-layers.result ≡ (extent_of_entry e).layers)) k.found
     c.layers_at-layers.ensures in
     let v = c.loop-i.invariant in
-    let h = rw (v.geometry, v.items) at c.ask_entry.ensures in
+    let h = rw (v.geometry, v.wanted) at c.ask_entry.ensures in
     let fits : FitsSigned w64 c.index-entries-i.result.id = search rules in
     let items = simp (to_z-of_z, fits) at h.items in
     record {
-      items = rw add-one (rw (k.is, layers) at (rw (c.info-info.ensures, c.requires.top) at items));
+      items = rw add-one (enough_entry c.args.frontier.now.wanted _ _ _ _ _ v.items
+          (rw (k.is, layers) at (rw (c.info-info.ensures, c.requires.top) at items)));
+      wanted = h.wanted;
       capacity = h.capacity ∙ v.capacity;
       geometry = h.geometry;
       asked = omega arith;
@@ -71,9 +76,9 @@ returns-clause-items g c =
     c.child_entries-entries.ensures in
     let no = c.loop-i-test.false in
     let end = c.loop-i.auto.i-end in
-    c.loop-i.invariant.items
-    ∙ ap (λ m. join_entries (g.G.Geometry.verdict c.args.counted.now.geometry) c.args.tree.now
-    c.args.parent.verdict c.args.node m c.args.frontier.now.items) (omega (arith, no, end, count))
+    subst (λ m. IsEnough c.args.frontier.now.wanted c.loop-i.frontier.items
+    (join_entries (g.G.Geometry.verdict c.args.counted.now.geometry) c.args.tree.now c.args.parent.verdict c.args.node m
+    c.args.frontier.now.items)) (omega (arith, no, end, count)) c.loop-i.invariant.items
 
 pub returns-clause-asked : goal.returns-clause-asked
 returns-clause-asked g c =

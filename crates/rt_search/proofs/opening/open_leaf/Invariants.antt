@@ -1,12 +1,14 @@
 use Rattle.std.proofs.Common.{◌≡◌, ◌+◌}
 use Rattle.rt_search.specs.Joining.{join_entries}
+use Rattle.rt_search.specs.Limits.{IsEnough}
 use Rattle.rt_search.proofs.opening.open_leaf.Given as goal
 
 abbrev pub invariant-loop-i : goal.invariant-loop-i
 invariant-loop-i g l = record {
-  items : l.frontier.items
-      ≡ join_entries (g.G.Geometry.verdict l.initial.counted.geometry) l.tree l.parent.verdict l.fn.node l.i
-      l.initial.frontier.items;
+  items : IsEnough l.initial.frontier.wanted l.frontier.items
+      (join_entries (g.G.Geometry.verdict l.initial.counted.geometry) l.tree l.parent.verdict l.fn.node l.i
+      l.initial.frontier.items);
+  wanted : l.frontier.wanted ≡ l.initial.frontier.wanted;
   capacity : l.frontier.capacity ≡ l.initial.frontier.capacity;
   geometry : l.counted.geometry ≡ l.initial.counted.geometry;
   asked : l.counted.asked ≡ l.initial.counted.asked + l.i;

@@ -1,7 +1,7 @@
-use Rattle.std.proofs.Common.{◌≡◌, None}
-use Rattle.rt_search.specs.Progress.{IsSearching, work_left}
-use Rattle.rt_search.specs.Remaining.{remaining}
-use Rattle.rt_search.specs.Work.{is_reached, one_node}
+use Rattle.std.proofs.Common.{◌≡◌, ◌-◌, List, None}
+use Rattle.rt_search.specs.Answers.{Answer}
+use Rattle.rt_search.specs.Progress.{IsUnderWay}
+use Rattle.rt_search.specs.Work.{is_reached, one_node, reached_from_root}
 use Rattle.rt_search.proofs.search.pull.Given as goal
 
 abbrev pub invariant-loop-node : goal.invariant-loop-node
@@ -10,12 +10,15 @@ invariant-loop-node g l =
     let score = g.G.Geometry.score l.initial.counted.geometry in
     let verdict = g.G.Geometry.verdict l.initial.counted.geometry in
     record {
-      state : IsSearching accepts score verdict l.tree l.opened l.counted.asked l.frontier.capacity l.frontier.items;
-      same : remaining l.tree accepts score l.frontier.items ≡ remaining l.tree accepts score l.initial.frontier.items;
+      state : (to_come : List Answer) → IsUnderWay accepts score verdict l.tree l.initial.opened l.initial.counted.asked
+          l.initial.frontier.capacity l.initial.frontier.wanted to_come l.initial.frontier.items
+          → IsUnderWay accepts score verdict l.tree l.opened l.counted.asked l.frontier.capacity l.frontier.wanted
+          to_come l.frontier.items;
+      wanted : l.frontier.wanted ≡ l.initial.frontier.wanted;
       capacity : l.frontier.capacity ≡ l.initial.frontier.capacity;
       geometry : l.counted.geometry ≡ l.initial.counted.geometry;
     }
 
 abbrev pub decreases-loop-node : goal.decreases-loop-node
 decreases-loop-node g l =
-    work_left (is_reached None) one_node (g.G.Geometry.verdict l.initial.counted.geometry) l.tree l.frontier.items
+    reached_from_root (is_reached None) one_node (g.G.Geometry.verdict l.initial.counted.geometry) l.tree - l.opened

@@ -12,12 +12,12 @@ invariant_of-self-2 c =
     let e = c.take-2.ensures in
     let k = c.self.invariant in
     let old = c.self.inside.zeros.items in
-    let scored = c.self.inside.scored.items in
+    let gathered = c.self.inside.gathered.items in
     record {
       merged = record {
         first_room = e.capacity ∙ k.merged.first_room;
         second_room = k.merged.second_room;
-        few = fewer_left (taken_entry c.take-2.result) old c.take-2.new.self.items scored _ e.items e.none k.merged.few;
+        few = fewer_left (taken_entry c.take-2.result) old c.take-2.new.self.items gathered _ e.items e.none k.merged.few;
         narrow = k.merged.narrow;
       };
       entries = k.entries;
@@ -29,11 +29,11 @@ returns-clause-items c =
     let e = c.take-2.ensures in
     let old = c.self.inside.zeros.items in
     let new = c.take-2.new.self.items in
-    let scored = c.self.inside.scored.items in
-    subst (λ l. MatchOption (taken_entry c.take-2.result) (l ≡ []) (λ x. l ≡ x ∷ put_all item_cmp new scored))
+    let gathered = c.self.inside.gathered.items in
+    subst (λ l. MatchOption (taken_entry c.take-2.result) (l ≡ []) (λ x. l ≡ x ∷ put_all item_cmp new gathered))
     (ap (λ w. w.items) c.self.view_is)
-    (taken_left (taken_entry c.take-2.result) old new scored e.items e.least
-    (zeros_ahead old scored c.if-is_empty.ensures.first c.self.invariant.above))
+    (taken_left (taken_entry c.take-2.result) old new gathered e.items e.least
+    (zeros_ahead old gathered c.if-is_empty.ensures.first c.self.invariant.above))
 
 pub returns-clause-least : goal.returns-clause-least
 returns-clause-least c =

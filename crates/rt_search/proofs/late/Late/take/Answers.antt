@@ -11,10 +11,10 @@ returns-clause-items c =
     sym (ap (λ w. w.items) c.self.view_is)
     ∙ popped entry_item (record { 0 = c.in_ok-key.key }) (keys_in c.self.inside.pool) new e.keys
     (entries_after c.in_ok-key.key new e.least)
-    ∙ ap (λ x. x ∷ in_order entry_item new) (sym c.entry_of.ensures)
+    ∙ ap (λ x. x ∷ in_order entry_item new) (sym c.entry_of.ensures.item)
 
 pub returns-clause-least : goal.returns-clause-least
 returns-clause-least c =
     let new = keys_in c.take.new.self in
-    subst (λ x. IsLeast x (in_order entry_item new)) (sym c.entry_of.ensures)
+    subst (λ x. IsLeast x (in_order entry_item new)) (sym c.entry_of.ensures.item)
     (popped_least entry_item (record { 0 = c.in_ok-key.key }) new (entries_after c.in_ok-key.key new c.in_ok-key.ensures.least))

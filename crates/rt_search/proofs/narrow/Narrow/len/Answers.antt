@@ -4,7 +4,7 @@ use Rattle.rt_search.proofs.narrow.Narrow.len.Goals as goal
 
 pub overflow_add-result : goal.overflow_add-result
 overflow_add-result c =
-    let n = length-merged c.self.inside.nodes.items c.self.inside.found.items in
+    let n = length-merged c.self.inside.nodes.items c.self.inside.entries.items in
     let k = c.self.invariant in
     let a = c.len.ensures.value in
     let b = c.len-2.ensures.value in
@@ -12,7 +12,7 @@ overflow_add-result c =
 
 pub returns-clause-value : goal.returns-clause-value
 returns-clause-value c =
-    let n = length-merged c.self.inside.nodes.items c.self.inside.found.items in
+    let n = length-merged c.self.inside.nodes.items c.self.inside.entries.items in
     let a = c.len.ensures.value in
     let b = c.len-2.ensures.value in
     rw (← c.self.view_is) (omega (arith, n, a, b))

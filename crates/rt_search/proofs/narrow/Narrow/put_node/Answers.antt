@@ -10,14 +10,14 @@ use Rattle.rt_search.proofs.narrow.Narrow.put_node.Goals as goal
 pub put-requires : goal.put-requires
 put-requires c =
     let h = rw (← c.self.view_is) at c.requires in
-    let fits = left_fits c.self.inside.nodes.items c.self.inside.found.items c.self.inside.capacity h in
+    let fits = left_fits c.self.inside.nodes.items c.self.inside.entries.items c.self.inside.capacity h in
     rw c.self.invariant.first_room fits
 
 pub invariant_of-self : goal.invariant_of-self
 invariant_of-self c =
     let h = rw (← c.self.view_is) at c.requires in
     let k = c.self.invariant in
-    let found = c.self.inside.found.items in
+    let found = c.self.inside.entries.items in
     let same = ap (λ xs. put_all item_cmp xs found) c.put.ensures.items
     ∙ put-put_all item_cmp item_order _ c.self.inside.nodes.items found in
     record {
@@ -29,7 +29,7 @@ invariant_of-self c =
 
 pub returns-clause-items : goal.returns-clause-items
 returns-clause-items c =
-    let found = c.self.inside.found.items in
+    let found = c.self.inside.entries.items in
     ap (λ xs. put_all item_cmp xs found) c.put.ensures.items
     ∙ put-put_all item_cmp item_order _ c.self.inside.nodes.items found
     ∙ ap (λ w. put item_cmp (item_at c.args.score (place.Node c.args.node)) w.items) c.self.view_is

@@ -12,7 +12,7 @@ invariant_of-self c =
     let e = c.take.ensures in
     let k = c.self.invariant in
     let left = c.self.inside.nodes.items in
-    let right = c.self.inside.found.items in
+    let right = c.self.inside.entries.items in
     record {
       first_room = e.capacity ∙ k.first_room;
       second_room = k.second_room;
@@ -26,7 +26,7 @@ invariant_of-self-2 c =
     let e = c.take-2.ensures in
     let k = c.self.invariant in
     let left = c.self.inside.nodes.items in
-    let right = c.self.inside.found.items in
+    let right = c.self.inside.entries.items in
     record {
       first_room = k.first_room;
       second_room = e.capacity ∙ k.second_room;
@@ -38,7 +38,7 @@ invariant_of-self-2 c =
 pub returns-then-is_node_next-clause-items : goal.returns-then-is_node_next-clause-items
 returns-then-is_node_next-clause-items c =
     let left = c.self.inside.nodes.items in
-    let right = c.self.inside.found.items in
+    let right = c.self.inside.entries.items in
     let new = c.take.new.self.items in
     let e = c.take.ensures in
     subst (λ l. MatchOption (taken_node c.take.result) (l ≡ []) (λ x. l ≡ x ∷ put_all item_cmp new right))
@@ -58,7 +58,7 @@ returns-then-is_node_next-clause-none c =
 pub returns-clause-items : goal.returns-clause-items
 returns-clause-items c =
     let left = c.self.inside.nodes.items in
-    let right = c.self.inside.found.items in
+    let right = c.self.inside.entries.items in
     let new = c.take-2.new.self.items in
     let e = c.take-2.ensures in
     subst (λ l. MatchOption (taken_entry c.take-2.result) (l ≡ []) (λ x. l ≡ x ∷ put_all item_cmp left new))

@@ -11,10 +11,10 @@ returns-clause-items c =
     sym (ap (λ w. w.items) c.self.view_is)
     ∙ popped node_item (record { 0 = c.in_ok-key.key }) (keys_in c.self.inside.pool) new e.keys
     (nodes_after c.in_ok-key.key new e.least)
-    ∙ ap (λ x. x ∷ in_order node_item new) (sym c.node_of.ensures)
+    ∙ ap (λ x. x ∷ in_order node_item new) (sym c.node_of.ensures.item)
 
 pub returns-clause-least : goal.returns-clause-least
 returns-clause-least c =
     let new = keys_in c.take.new.self in
-    subst (λ x. IsLeast x (in_order node_item new)) (sym c.node_of.ensures)
+    subst (λ x. IsLeast x (in_order node_item new)) (sym c.node_of.ensures.item)
     (popped_least node_item (record { 0 = c.in_ok-key.key }) new (nodes_after c.in_ok-key.key new c.in_ok-key.ensures.least))

@@ -1,6 +1,6 @@
 use Rattle.std.proofs.Common.{◌≡◌, ◌≢◌, Option, Some, None, rules}
 use Rattle.std.specs.Prelude.{IfNone, MatchOption}
-use Rattle.rt_search.proofs.Giving.{give, given_low, over}
+use Rattle.rt_search.proofs.Giving.{end, give, given_low, more_wanted}
 use Rattle.rt_search.proofs.search.Search.next.Goals as goal
 
 -- what holds in any case holds where there is none
@@ -12,12 +12,18 @@ none_given : {X P : Type 0} (Q : X → Type 0) (o : Option X) → o ≡ None →
 none_given Q None e p = p
 none_given Q (Some x) e p = cc
 
+pub pull-requires-clause-more : goal.pull-requires-clause-more
+pull-requires-clause-more g c =
+    let more : c.self.inside.limit ≢ Some c.self.inside.given = search rules in
+    more_wanted _ _ c.self.inside.given more c.self.invariant.0.still
+
 pub overflow_add-self : goal.overflow_add-self
 overflow_add-self g c =
     let geometry = c.self.inside.counted.geometry in
+    let found = c.in_ok-answer.ensures.step _ c.self.invariant.0.state in
     let low = given_low (g.G.Geometry.accepts geometry) (g.G.Geometry.score geometry) (g.G.Geometry.verdict geometry)
-    c.self.inside.tree.now c.self.inside.limit c.self.inside.given _ _ _ c.in_ok-answer.answer _ _
-    c.self.invariant.0 c.in_ok-answer.ensures.answer in
+    c.self.inside.tree.now c.self.invariant.0.state.state.tree c.self.inside.given c.in_ok-answer.answer found.rest
+    found.first in
     search (rules, low)
 
 pub invariant_of-self-2 : goal.invariant_of-self-2
@@ -25,9 +31,10 @@ invariant_of-self-2 g c =
     let geometry = c.self.inside.counted.geometry in
     let e = c.in_ok-answer.ensures in
     let more : c.self.inside.limit ≢ Some c.self.inside.given = search rules in
+    let going = c.self.invariant.0 in
     let k = give (g.G.Geometry.accepts geometry) (g.G.Geometry.score geometry) (g.G.Geometry.verdict geometry)
-    c.self.inside.tree.now c.self.inside.limit c.self.inside.given _ _ _ _ _ _ c.in_ok-answer.answer _ _
-    c.self.invariant.0 more e.answer e.state e.opened e.asked in
+    c.self.inside.tree.now c.self.inside.limit c.self.inside.given _ _ _ _ _ _ _ _ c.in_ok-answer.answer _ _
+    going more e.wanted (e.step _ going.state) in
     rw c.pull.ensures.geometry (k.going, c.self.invariant.1)
 
 pub returns-clause-answer : goal.returns-clause-answer
@@ -35,9 +42,10 @@ returns-clause-answer g c =
     let geometry = c.self.inside.counted.geometry in
     let e = c.in_ok-answer.ensures in
     let more : c.self.inside.limit ≢ Some c.self.inside.given = search rules in
+    let going = c.self.invariant.0 in
     let k = give (g.G.Geometry.accepts geometry) (g.G.Geometry.score geometry) (g.G.Geometry.verdict geometry)
-    c.self.inside.tree.now c.self.inside.limit c.self.inside.given _ _ _ _ _ _ c.in_ok-answer.answer _ _
-    c.self.invariant.0 more e.answer e.state e.opened e.asked in
+    c.self.inside.tree.now c.self.inside.limit c.self.inside.given _ _ _ _ _ _ _ _ c.in_ok-answer.answer _ _
+    going more e.wanted (e.step _ going.state) in
     rw (c.pull.ensures.geometry, ← c.self.view_is) k.answer
 
 pub returns-clause-worked : goal.returns-clause-worked
@@ -45,9 +53,10 @@ returns-clause-worked g c =
     let geometry = c.self.inside.counted.geometry in
     let e = c.in_ok-answer.ensures in
     let more : c.self.inside.limit ≢ Some c.self.inside.given = search rules in
+    let going = c.self.invariant.0 in
     let k = give (g.G.Geometry.accepts geometry) (g.G.Geometry.score geometry) (g.G.Geometry.verdict geometry)
-    c.self.inside.tree.now c.self.inside.limit c.self.inside.given _ _ _ _ _ _ c.in_ok-answer.answer _ _
-    c.self.invariant.0 more e.answer e.state e.opened e.asked in
+    c.self.inside.tree.now c.self.inside.limit c.self.inside.given _ _ _ _ _ _ _ _ c.in_ok-answer.answer _ _
+    going more e.wanted (e.step _ going.state) in
     rw (← c.self.view_is) k.worked
 
 pub returns-in_err-answer-clause-answer : goal.returns-in_err-answer-clause-answer
@@ -55,9 +64,10 @@ returns-in_err-answer-clause-answer g c =
     let geometry = c.self.inside.counted.geometry in
     let e = c.in_err-answer.ensures in
     let more : c.self.inside.limit ≢ Some c.self.inside.given = search rules in
-    let k = over (g.G.Geometry.accepts geometry) (g.G.Geometry.score geometry) (g.G.Geometry.verdict geometry)
-    c.self.inside.tree.now c.self.inside.limit c.self.inside.given _ _ _ _ _ _ _ _ c.self.invariant.0 more
-    e.answer e.none e.state e.opened e.asked in
+    let going = c.self.invariant.0 in
+    let k = end (g.G.Geometry.accepts geometry) (g.G.Geometry.score geometry) (g.G.Geometry.verdict geometry)
+    c.self.inside.tree.now c.self.inside.limit c.self.inside.given _ _ _ _ _ _ _ _ _ _ going more e.wanted
+    (e.step _ going.state) in
     none_given _ c.from_residual.result (search rules) (rw (← c.self.view_is) k.answer)
 
 pub returns-in_err-answer-clause-none : goal.returns-in_err-answer-clause-none
@@ -65,9 +75,10 @@ returns-in_err-answer-clause-none g c =
     let geometry = c.self.inside.counted.geometry in
     let e = c.in_err-answer.ensures in
     let more : c.self.inside.limit ≢ Some c.self.inside.given = search rules in
-    let k = over (g.G.Geometry.accepts geometry) (g.G.Geometry.score geometry) (g.G.Geometry.verdict geometry)
-    c.self.inside.tree.now c.self.inside.limit c.self.inside.given _ _ _ _ _ _ _ _ c.self.invariant.0 more
-    e.answer e.none e.state e.opened e.asked in
+    let going = c.self.invariant.0 in
+    let k = end (g.G.Geometry.accepts geometry) (g.G.Geometry.score geometry) (g.G.Geometry.verdict geometry)
+    c.self.inside.tree.now c.self.inside.limit c.self.inside.given _ _ _ _ _ _ _ _ _ _ going more e.wanted
+    (e.step _ going.state) in
     if_none c.from_residual.result (rw c.pull.ensures.geometry k.answer)
 
 pub returns-in_err-answer-clause-worked_in_all : goal.returns-in_err-answer-clause-worked_in_all
@@ -75,7 +86,8 @@ returns-in_err-answer-clause-worked_in_all g c =
     let geometry = c.self.inside.counted.geometry in
     let e = c.in_err-answer.ensures in
     let more : c.self.inside.limit ≢ Some c.self.inside.given = search rules in
-    let k = over (g.G.Geometry.accepts geometry) (g.G.Geometry.score geometry) (g.G.Geometry.verdict geometry)
-    c.self.inside.tree.now c.self.inside.limit c.self.inside.given _ _ _ _ _ _ _ _ c.self.invariant.0 more
-    e.answer e.none e.state e.opened e.asked in
+    let going = c.self.invariant.0 in
+    let k = end (g.G.Geometry.accepts geometry) (g.G.Geometry.score geometry) (g.G.Geometry.verdict geometry)
+    c.self.inside.tree.now c.self.inside.limit c.self.inside.given _ _ _ _ _ _ _ _ _ _ going more e.wanted
+    (e.step _ going.state) in
     if_none c.from_residual.result (rw (← c.self.view_is) k.worked)

@@ -1,4 +1,5 @@
-use Rattle.std.proofs.Common.{◌≤◌, length}
+use Rattle.std.proofs.Common.{◌≡◌, ◌≤◌, Some, length}
+use Rattle.std.specs.Prelude.{IfSome}
 use Rattle.rt_search.proofs.Starting.{started}
 use Rattle.rt_search.proofs.search.Search.start.Goals as goal
 
@@ -9,6 +10,6 @@ invariant_of-result g c =
     rw (put.capacity, c.clear.ensures.capacity) c.requires.capacity in
     let geometry = c.args.counted.geometry in
     let begun = started (g.G.Geometry.accepts geometry) (g.G.Geometry.score geometry) (g.G.Geometry.verdict geometry)
-    c.args.tree.now put.sound c.args.limit c.put_root-top.new.frontier.capacity c.put_root-top.new.frontier.items
-    room put.items in
+    c.args.tree.now put.sound c.args.limit c.put_root-top.new.frontier.capacity c.put_root-top.new.frontier.wanted
+    c.put_root-top.new.frontier.items room (rw put.wanted c.clear.ensures.wanted) (rw put.wanted put.items) in
     (rw c.requires.asked begun, put.top)

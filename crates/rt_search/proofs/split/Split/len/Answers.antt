@@ -4,7 +4,7 @@ use Rattle.rt_search.proofs.split.Split.len.Goals as goal
 
 pub overflow_cast-result : goal.overflow_cast-result
 overflow_cast-result c =
-    let n = length-merged c.self.inside.narrow.items c.self.inside.wide.items in
+    let n = length-merged c.self.inside.wide.items c.self.inside.narrow.items in
     let k = c.self.invariant.merged in
     let a = c.len.ensures.value in
     let b = c.len-2.ensures.value in
@@ -12,7 +12,7 @@ overflow_cast-result c =
 
 pub returns-clause-value : goal.returns-clause-value
 returns-clause-value c =
-    let n = length-merged c.self.inside.narrow.items c.self.inside.wide.items in
+    let n = length-merged c.self.inside.wide.items c.self.inside.narrow.items in
     let a = c.len.ensures.value in
     let b = c.len-2.ensures.value in
     rw (← c.self.view_is) (omega (arith, n, a, b))

@@ -1,0 +1,316 @@
+-- What may be left out where a limit is known.
+use Rattle.std.proofs.Common.{◌≡◌, ◌≢◌, ◌≤◌, ◌<◌, ◌+◌, ◌-◌, ℕ, ℤ, zero, suc, Bool, true, false, cond, Option, Some, None, List}
+use Rattle.std.proofs.Common.{[], ◌∷◌, ◌++◌, length, get_or, refl, sym, ◌∙◌, ap, subst, arith}
+use Rattle.std.specs.Ordering.{is_gt}
+use Rattle.rt_geo.specs.declared.geometry.Info.{Info}
+use Rattle.rt_geo.specs.declared.geometry.Verdict.{Verdict}
+use Rattle.rt_tree.specs.Packed.{Packed, child_entries, node_at}
+use Rattle.rt_tree.specs.Sorting.{put}
+use Rattle.rt_tree.specs.declared.tree.Node as node
+use Rattle.rt_search.specs.Items.{item_at, item_cmp}
+use Rattle.rt_search.specs.Joining.{info_of_child, join_entries, join_entry, join_node, join_nodes, no_entry}
+use Rattle.rt_search.specs.Kept.{IsRising, offered}
+use Rattle.rt_search.specs.Limits.{IsBehind, IsEnough, entries_at, entries_before, front, front_of, less_at, one_less}
+use Rattle.rt_search.specs.Remaining.{put_all, waiting_node}
+use Rattle.rt_search.specs.Work.{info_of_node, is_kept}
+use Rattle.rt_search.specs.declared.item.Item.{Item}
+use Rattle.rt_search.specs.declared.item.Place.{Place}
+use Rattle.rt_search.specs.declared.item.Place.TheVariants.{Node, Entry}
+use Rattle.rt_search.proofs.Falling.{rising_put}
+use Rattle.rt_search.proofs.Merging.{offered_right}
+use Rattle.rt_search.proofs.OrderedLists.{length-put, length-put_all}
+use Rattle.rt_search.proofs.Orders.{item_order}
+
+-- ---- the front of a list
+
+front_nil : (n : ℕ) → front [] n ≡ []
+front_nil n = refl
+
+front_zero : (xs : List Item) → front xs 0 ≡ []
+front_zero [] = refl
+front_zero (x ∷ xs) = refl
+
+-- a longer front has the same front
+front-front : (xs : List Item) (m n : ℕ) → m ≤ n → front (front xs n) m ≡ front xs m
+front-front [] m n h = refl
+front-front (x ∷ xs) zero zero h = refl
+front-front (x ∷ xs) zero (suc n) h = refl
+front-front (x ∷ xs) (suc m) zero h = absurd (omega (arith, h))
+front-front (x ∷ xs) (suc m) (suc n) h =
+    ap (λ l. x ∷ l) (front-front xs (suc m - entries_at x.place) (suc n - entries_at x.place) (omega (arith, h)))
+
+-- what joins the front joins the list
+front-put : (x : Item) (xs : List Item) (n : ℕ) → front (put item_cmp x (front xs n)) n ≡ front (put item_cmp x xs) n
+front-put x [] n = refl
+front-put x (y ∷ ys) zero = front_zero (put item_cmp x []) ∙ sym (front_zero (put item_cmp x (y ∷ ys)))
+front-put x (y ∷ ys) (suc n) =
+    let m = suc n - entries_at y.place in
+    elim (is_gt (item_cmp x y)) as
+    (λ b. front (cond b (y ∷ put item_cmp x (front ys m)) (x ∷ y ∷ front ys m)) (suc n)
+    ≡ front (cond b (y ∷ put item_cmp x ys) (x ∷ y ∷ ys)) (suc n)) [
+      | true ↦ ap (λ l. y ∷ l) (front-put x ys m)
+      | false ↦ ap (λ l. x ∷ l) (front-front (y ∷ ys) (suc n - entries_at x.place) (suc n) (omega arith))
+    ]
+
+-- so that lists with the same front stay so where x joins
+same_put : (x : Item) (xs ys : List Item) (wanted : Option ℕ) → front_of wanted xs ≡ front_of wanted ys
+    → front_of wanted (put item_cmp x xs) ≡ front_of wanted (put item_cmp x ys)
+same_put x xs ys None h = ap (put item_cmp x) h
+same_put x xs ys (Some n) h =
+    sym (front-put x xs n) ∙ ap (λ l. front (put item_cmp x l) n) h ∙ front-put x ys n
+
+-- ---- what is behind the front
+
+-- an item joins behind the front, or is left out
+pub left_out_behind : (x : Item) (xs : List Item) (n : ℕ) → n ≤ entries_before x xs
+    → front xs n ≡ front (put item_cmp x xs) n
+left_out_behind x [] zero h = refl
+left_out_behind x [] (suc n) h = absurd (omega (arith, h))
+left_out_behind x (y ∷ ys) zero h = sym (front_zero (put item_cmp x (y ∷ ys)))
+left_out_behind x (y ∷ ys) (suc n) h =
+    let split : (b : Bool) → suc n ≤ cond b (entries_at y.place + entries_before x ys) 0
+    → front (y ∷ ys) (suc n) ≡ front (cond b (y ∷ put item_cmp x ys) (x ∷ y ∷ ys)) (suc n) = elim [
+      | true ↦ λ k. ap (λ l. y ∷ l) (left_out_behind x ys (suc n - entries_at y.place) (omega (arith, k)))
+      | false ↦ λ k. absurd (omega (arith, k))
+    ] in
+    split (is_gt (item_cmp x y)) h
+
+-- ---- how many entries stand before an item
+
+abbrev pub here : Item → Item → ℕ
+here x z = cond (is_gt (item_cmp x z)) (entries_at z.place) 0
+
+here_none : (x z : Item) → is_gt (item_cmp x z) ≡ false → here x z ≡ 0
+here_none x z h = rw h refl
+
+here_one : (x z : Item) → is_gt (item_cmp x z) ≡ true → here x z ≡ entries_at z.place
+here_one x z h = rw h refl
+
+before_some : (x y : Item) (ys : List Item) → is_gt (item_cmp x y) ≡ true
+    → entries_before x (y ∷ ys) ≡ entries_at y.place + entries_before x ys
+before_some x y ys h = rw h refl
+
+before_none : (x y : Item) (ys : List Item) → is_gt (item_cmp x y) ≡ false → entries_before x (y ∷ ys) ≡ 0
+before_none x y ys h = rw h refl
+
+-- z joins behind y
+before_behind : (x z y : Item) (ys zs : List Item) → is_gt (item_cmp z y) ≡ true
+    → entries_before x zs ≡ here x z + entries_before x ys
+    → entries_before x (y ∷ zs) ≡ here x z + entries_before x (y ∷ ys)
+before_behind x z y ys zs e h =
+    let split : (b : Bool) → is_gt (item_cmp x y) ≡ b
+    → entries_before x (y ∷ zs) ≡ here x z + entries_before x (y ∷ ys) = elim [
+      | true ↦ λ k. omega (arith, h, before_some x y zs k, before_some x y ys k)
+      | false ↦ λ k.
+          let none = here_none x z (item_order.trans x y z k (item_order.one_way z y e)) in
+          omega (arith, none, before_none x y zs k, before_none x y ys k)
+    ] in
+    split (is_gt (item_cmp x y)) refl
+
+-- z joins before y
+before_ahead : (x z y : Item) (ys : List Item) → is_gt (item_cmp z y) ≡ false
+    → entries_before x (z ∷ y ∷ ys) ≡ here x z + entries_before x (y ∷ ys)
+before_ahead x z y ys e =
+    let split : (b : Bool) → is_gt (item_cmp x z) ≡ b
+    → entries_before x (z ∷ y ∷ ys) ≡ here x z + entries_before x (y ∷ ys) = elim [
+      | true ↦ λ k. omega (arith, before_some x z (y ∷ ys) k, here_one x z k)
+      | false ↦ λ k.
+          let none = before_none x y ys (item_order.trans x z y k e) in
+          omega (arith, none, before_none x z (y ∷ ys) k, here_none x z k)
+    ] in
+    split (is_gt (item_cmp x z)) refl
+
+before_only : (x z : Item) → entries_before x (z ∷ []) ≡ here x z + 0
+before_only x z =
+    let split : (b : Bool) → is_gt (item_cmp x z) ≡ b → entries_before x (z ∷ []) ≡ here x z + 0 = elim [
+      | true ↦ λ k. omega (arith, before_some x z [] k, here_one x z k)
+      | false ↦ λ k. omega (arith, before_none x z [] k, here_none x z k)
+    ] in
+    split (is_gt (item_cmp x z)) refl
+
+pub entries_before-put : (x z : Item) (ys : List Item) → entries_before x (put item_cmp z ys)
+    ≡ here x z + entries_before x ys
+entries_before-put x z [] = before_only x z
+entries_before-put x z (y ∷ ys) =
+    let split : (b : Bool) → is_gt (item_cmp z y) ≡ b → entries_before x (cond b (y ∷ put item_cmp z ys) (z ∷ y ∷ ys))
+    ≡ here x z + entries_before x (y ∷ ys) = elim [
+      | true ↦ λ e. before_behind x z y ys (put item_cmp z ys) e (entries_before-put x z ys)
+      | false ↦ λ e. before_ahead x z y ys e
+    ] in
+    split (is_gt (item_cmp z y)) refl
+
+-- those in either of two lists stand before it in both
+pub before_right : (x : Item) (xs ys : List Item) → entries_before x ys ≤ entries_before x (put_all item_cmp xs ys)
+before_right x [] ys = omega arith
+before_right x (z ∷ xs) ys =
+    omega (arith, entries_before-put x z (put_all item_cmp xs ys), before_right x xs ys)
+
+pub behind_right : (wanted : Option ℕ) (x : Item) (xs ys : List Item) → IsBehind wanted x ys
+    → IsBehind wanted x (put_all item_cmp xs ys)
+behind_right None x xs ys h = h
+behind_right (Some n) x xs ys h = omega (arith, h, before_right x xs ys)
+
+-- ---- enough is kept
+
+pub enough_itself : (wanted : Option ℕ) (xs : List Item) → IsEnough wanted xs xs
+enough_itself wanted xs = record { same = refl; few = omega arith }
+
+pub enough_trans : (wanted : Option ℕ) (xs ys zs : List Item) → IsEnough wanted xs ys → IsEnough wanted ys zs
+    → IsEnough wanted xs zs
+enough_trans wanted xs ys zs h k =
+    let a = h.few in
+    let b = k.few in
+    record { same = h.same ∙ k.same; few = omega (arith, a, b) }
+
+pub enough_put : (wanted : Option ℕ) (x : Item) (xs ys : List Item) → IsEnough wanted xs ys
+    → IsEnough wanted (put item_cmp x xs) (put item_cmp x ys)
+enough_put wanted x xs ys h =
+    let few = h.few in
+    record {
+      same = same_put x xs ys wanted h.same;
+      few = omega (arith, few, length-put item_cmp item_order x xs, length-put item_cmp item_order x ys);
+    }
+
+pub enough_put_all : (wanted : Option ℕ) (zs xs ys : List Item) → IsEnough wanted xs ys
+    → IsEnough wanted (put_all item_cmp zs xs) (put_all item_cmp zs ys)
+enough_put_all wanted [] xs ys h = h
+enough_put_all wanted (z ∷ zs) xs ys h =
+    enough_put wanted z (put_all item_cmp zs xs) (put_all item_cmp zs ys) (enough_put_all wanted zs xs ys h)
+
+pub enough_without : (wanted : Option ℕ) (x : Item) (xs : List Item) → IsBehind wanted x xs
+    → IsEnough wanted xs (put item_cmp x xs)
+enough_without None x xs h = absurd h
+enough_without (Some n) x xs h = record {
+  same = left_out_behind x xs n h;
+  few = omega (arith, length-put item_cmp item_order x xs);
+}
+
+pub enough_same : (wanted : Option ℕ) (xs ys : List Item) → xs ≡ ys → IsEnough wanted xs ys
+enough_same wanted xs ys e = subst (IsEnough wanted xs) e (enough_itself wanted xs)
+
+-- an entry joins one list, and so both
+pub enough_offered : (wanted : Option ℕ) (b : Bool) (x : Item) (zs old new : List Item)
+    → IsEnough wanted new (offered b x old)
+    → IsEnough wanted (put_all item_cmp zs new) (offered b x (put_all item_cmp zs old))
+enough_offered wanted b x zs old new h =
+    subst (IsEnough wanted (put_all item_cmp zs new)) (offered_right b x zs old)
+    (enough_put_all wanted zs new (offered b x old) h)
+
+length-offered : (b : Bool) (x : Item) (xs : List Item) → length (offered b x xs) ≤ length xs + 1
+length-offered true x xs = omega (arith, length-put item_cmp item_order x xs)
+length-offered false x xs = omega arith
+
+pub enough_fits : (wanted : Option ℕ) (b : Bool) (x : Item) (old new : List Item) (capacity : ℕ)
+    → IsEnough wanted new (offered b x old) → length old < capacity → length new ≤ capacity
+enough_fits wanted b x old new capacity h lt =
+    let few = h.few in
+    omega (arith, few, lt, length-offered b x old)
+
+-- where no limit is known all is kept
+pub all_kept : (wanted : Option ℕ) (xs ys : List Item) → wanted ≡ None → IsEnough wanted xs ys → xs ≡ ys
+all_kept wanted xs ys e h = (subst (λ w. IsEnough w xs ys) e h).same
+
+-- of an empty list and another neither has any
+pub none_merged : (xs ys : List Item) → put_all item_cmp xs ys ≡ [] → ys ≡ []
+none_merged xs [] h = refl
+none_merged xs (y ∷ ys) h = absurd (let n = ap length h in omega (arith, n, length-put_all item_cmp item_order xs (y ∷ ys)))
+
+-- what may be left out may also not be wanted
+pub offered_or_not : (b : Bool) (x : Item) (xs : List Item) (wanted : Option ℕ) → IsEnough wanted xs (put item_cmp x xs)
+    → IsEnough wanted xs (offered b x xs)
+offered_or_not true x xs wanted h = h
+offered_or_not false x xs wanted h = enough_itself wanted xs
+
+-- ---- the children of a node join
+
+enough_one : (b : Bool) (wanted : Option ℕ) (x : Item) (xs ys : List Item) → IsEnough wanted xs ys
+    → IsEnough wanted (cond b (put item_cmp x xs) xs) (cond b (put item_cmp x ys) ys)
+enough_one true wanted x xs ys h = enough_put wanted x xs ys h
+enough_one false wanted x xs ys h = h
+
+rising_one : (b : Bool) (x : Item) (xs : List Item) → IsRising xs → IsRising (cond b (put item_cmp x xs) xs)
+rising_one true x xs h = rising_put x xs h
+rising_one false x xs h = h
+
+pub enough_entry : (wanted : Option ℕ) (v : Verdict) (id : ℤ) (new xs ys : List Item) → IsEnough wanted xs ys
+    → IsEnough wanted new (join_entry v id xs) → IsEnough wanted new (join_entry v id ys)
+enough_entry wanted v id new xs ys h k =
+    enough_trans wanted new (join_entry v id xs) (join_entry v id ys) k
+    (enough_one (is_kept v.within) wanted (item_at v.score (Entry id)) xs ys h)
+
+pub enough_node : (wanted : Option ℕ) (v : Verdict) (number : ℕ) (new xs ys : List Item) → IsEnough wanted xs ys
+    → IsEnough wanted new (join_node is_kept v number xs) → IsEnough wanted new (join_node is_kept v number ys)
+enough_node wanted v number new xs ys h k =
+    enough_trans wanted new (join_node is_kept v number xs) (join_node is_kept v number ys) k
+    (enough_one (is_kept v.within) wanted (item_at v.score (Node (waiting_node number v.within))) xs ys h)
+
+module _ (verdict : Info → Verdict) (t : Packed) (v : Verdict) (n : node.Node) (wanted : Option ℕ) where
+  pub enough_entries : (i : ℕ) (xs ys : List Item) → IsEnough wanted xs ys
+      → IsEnough wanted (join_entries verdict t v n i xs) (join_entries verdict t v n i ys)
+  enough_entries zero xs ys h = h
+  enough_entries (suc i) xs ys h =
+      let e = get_or (child_entries t n) i no_entry in
+      enough_one (is_kept (verdict (info_of_child t v e)).within) wanted
+      (item_at (verdict (info_of_child t v e)).score (Entry e.id)) _ _ (enough_entries i xs ys h)
+
+  pub enough_nodes : (i : ℕ) (xs ys : List Item) → IsEnough wanted xs ys
+      → IsEnough wanted (join_nodes is_kept verdict t v n i xs) (join_nodes is_kept verdict t v n i ys)
+  enough_nodes zero xs ys h = h
+  enough_nodes (suc i) xs ys h =
+      let w = verdict (info_of_node t v (node_at t (n.first + i))) in
+      enough_one (is_kept w.within) wanted (item_at w.score (Node (waiting_node (n.first + i) w.within))) _ _
+      (enough_nodes i xs ys h)
+
+  pub rising_entries : (i : ℕ) (xs : List Item) → IsRising xs → IsRising (join_entries verdict t v n i xs)
+  rising_entries zero xs h = h
+  rising_entries (suc i) xs h =
+      let e = get_or (child_entries t n) i no_entry in
+      rising_one (is_kept (verdict (info_of_child t v e)).within)
+      (item_at (verdict (info_of_child t v e)).score (Entry e.id)) _ (rising_entries i xs h)
+
+  pub rising_nodes : (i : ℕ) (xs : List Item) → IsRising xs → IsRising (join_nodes is_kept verdict t v n i xs)
+  rising_nodes zero xs h = h
+  rising_nodes (suc i) xs h =
+      let w = verdict (info_of_node t v (node_at t (n.first + i))) in
+      rising_one (is_kept w.within) (item_at w.score (Node (waiting_node (n.first + i) w.within))) _
+      (rising_nodes i xs h)
+
+-- ---- the first is taken out
+
+nil_is_not_cons : (x : Item) (xs : List Item) → ◌≡◌ {A = List Item} [] (x ∷ xs) → ⊥
+nil_is_not_cons x xs h = cc
+
+less_none : (p : Place) → less_at p None ≡ None
+less_none (Node w) = refl
+less_none (Entry id) = refl
+
+pub none_left : (wanted : Option ℕ) (all : List Item) → wanted ≢ Some 0 → IsEnough wanted [] all → all ≡ []
+none_left None all more h = sym h.same
+none_left (Some zero) all more h = absurd (more refl)
+none_left (Some (suc n)) [] more h = refl
+none_left (Some (suc n)) (x ∷ all) more h = absurd (nil_is_not_cons _ _ h.same)
+
+less_entries : (p : Place) (n : ℕ) → less_at p (Some n) ≡ Some (n - entries_at p)
+less_entries (Node w) n = ap Some (omega arith)
+less_entries (Entry id) n = refl
+
+same_rest : (x y : Item) (xs ys : List Item) (n : ℕ) → front (x ∷ xs) (suc n) ≡ front (y ∷ ys) (suc n)
+    → (x ≡ y) × (front xs (suc n - entries_at x.place) ≡ front ys (suc n - entries_at y.place))
+same_rest x y xs ys n h = (cc, cc)
+
+pub first_kept : (wanted : Option ℕ) (x : Item) (xs all : List Item) → wanted ≢ Some 0 → IsEnough wanted (x ∷ xs) all
+    → (ys : List Item) × ((all ≡ x ∷ ys) × IsEnough (less_at x.place wanted) xs ys)
+first_kept None x xs all more h =
+    (xs, (sym h.same, subst (λ w. IsEnough w xs xs) (sym (less_none x.place)) (enough_itself None xs)))
+first_kept (Some zero) x xs all more h = absurd (more refl)
+first_kept (Some (suc n)) x xs [] more h = absurd (nil_is_not_cons _ _ (sym h.same))
+first_kept (Some (suc n)) x xs (y ∷ ys) more h =
+    let k = same_rest x y xs ys n h.same in
+    let few = h.few in
+    (ys, (
+      ap (λ z. z ∷ ys) (sym k.0),
+      subst (λ w. IsEnough w xs ys) (sym (less_entries x.place (suc n))) (record {
+        same = k.1 ∙ ap (λ (z : Item). front ys (suc n - entries_at z.place)) (sym k.0);
+        few = omega (arith, few);
+      }),
+    ))

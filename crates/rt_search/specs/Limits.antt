@@ -1,0 +1,96 @@
+-- What has to wait where a limit is known. Nothing that a public call promises speaks of this.
+use Rattle.std.specs.Prelude.{◌≡◌, ◌+◌, ◌-◌, ◌≤◌, ◌<◌, ℕ, zero, suc, if◌then◌else◌, Option, Some, None, List, [], ◌∷◌}
+use Rattle.std.specs.Prelude.{length, vec_capacity}
+use Rattle.std.specs.Ordering.{is_gt}
+use Rattle.std.specs.declared.cmp.Reverse.{Reverse}
+use Rattle.std.specs.declared.vec.Vec.{Vec}
+use Rattle.rt_search.specs.Items.{Limited, Waiting, item_cmp}
+use Rattle.rt_search.specs.Kept.{IsFalling, entry_item}
+use Rattle.rt_search.specs.declared.entries.Keeping.{Keeping}
+use Rattle.rt_search.specs.declared.entries.Keeping.TheVariants.{Best, Pooled, Hits}
+use Rattle.rt_search.specs.declared.item.Item.{Item}
+use Rattle.rt_search.specs.declared.item.Place.{Place}
+use Rattle.rt_search.specs.declared.item.Place.TheVariants.{Node, Entry}
+
+-- how many entries an item is
+abbrev pub entries_at : Place → ℕ
+entries_at (Node n) = 0
+entries_at (Entry id) = 1
+
+-- the items up to the entry of this number
+abbrev pub front : List Item → (entries : ℕ) → List Item
+front [] n = []
+front (x ∷ xs) zero = []
+front (x ∷ xs) (suc n) = x ∷ front xs (suc n - entries_at x.place)
+
+-- those up to the last entry that is wanted: all where no number is known
+abbrev pub front_of : (wanted : Option ℕ) → List Item → List Item
+front_of None items = items
+front_of (Some n) items = front items n
+
+-- the same as all, as far as is wanted, and no more
+pub record IsEnough (wanted : Option ℕ) (items all : List Item) : Type 0 where
+  pub same : front_of wanted items ≡ front_of wanted all
+  pub few : length items ≤ length all
+
+-- how many entries stand before the place of x
+abbrev pub entries_before : Item → List Item → ℕ
+entries_before x [] = 0
+entries_before x (y ∷ ys) = if is_gt (item_cmp x y) then entries_at y.place + entries_before x ys else 0
+
+-- all entries that are wanted stand before the place of x
+abbrev pub IsBehind : (wanted : Option ℕ) → Item → List Item → Type 0
+IsBehind None x items = ⊥
+IsBehind (Some n) x items = n ≤ entries_before x items
+
+-- how many are wanted once an entry was taken out
+abbrev pub one_less : (wanted : Option ℕ) → Option ℕ
+one_less None = None
+one_less (Some n) = Some (n - 1)
+
+abbrev pub less_at : Place → (wanted : Option ℕ) → Option ℕ
+less_at (Node n) wanted = wanted
+less_at (Entry id) wanted = one_less wanted
+
+-- and once an item was, or none
+abbrev pub wanted_after : Option Item → (wanted : Option ℕ) → Option ℕ
+wanted_after None wanted = wanted
+wanted_after (Some x) wanted = less_at x.place wanted
+
+-- ---- the entries that come first among those found
+
+-- these, and how many are wanted
+pub record Chosen : Type 0 where
+  pub items : List Item
+  pub wanted : ℕ
+
+-- keys in order, no more than are wanted, and there is room for as many as can be wanted
+pub record IsChosen {A : Type 0} (keys : Vec (Reverse ℕ) A) (wanted : ℕ) : Type 0 where
+  pub falling : IsFalling entry_item keys.items
+  pub few : length keys.items ≤ wanted
+  pub low : wanted ≤ 128
+  pub room : 128 ≤ vec_capacity keys
+
+-- ---- in one of three ways
+
+-- what is kept
+abbrev pub entries_kept : Keeping → (best : Chosen) → (pooled hits : Waiting) → List Item
+entries_kept Best best pooled hits = best.items
+entries_kept Pooled best pooled hits = pooled.items
+entries_kept Hits best pooled hits = hits.items
+
+-- and how many are wanted, where no more are kept
+abbrev pub wanted_kept : Keeping → (best : Chosen) → Option ℕ
+wanted_kept Best best = Some best.wanted
+wanted_kept Pooled best = None
+wanted_kept Hits best = None
+
+-- each has room for so many, and what is kept fits
+pub record HasEntries (keeping : Keeping) (best : Chosen) (pooled hits : Waiting) (capacity : ℕ) : Type 0 where
+  pub pooled_room : pooled.capacity ≡ capacity
+  pub hits_room : hits.capacity ≡ capacity
+  pub few : length (entries_kept keeping best pooled hits) ≤ capacity
+
+-- without the limit
+abbrev pub unlimited : Limited → Waiting
+unlimited l = record { items = l.items; capacity = l.capacity }
