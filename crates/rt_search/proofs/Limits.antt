@@ -1,6 +1,6 @@
 -- What may be left out where a limit is known.
 use Rattle.std.proofs.Common.{◌≡◌, ◌≢◌, ◌≤◌, ◌<◌, ◌+◌, ◌-◌, ℕ, ℤ, zero, suc, Bool, true, false, cond, Option, Some, None, List}
-use Rattle.std.proofs.Common.{[], ◌∷◌, ◌++◌, length, get_or, refl, sym, ◌∙◌, ap, subst, arith}
+use Rattle.std.proofs.Common.{[], ◌∷◌, length, get_or, refl, sym, ◌∙◌, ap, subst, arith}
 use Rattle.std.specs.Ordering.{is_gt}
 use Rattle.rt_geo.specs.declared.geometry.Info.{Info}
 use Rattle.rt_geo.specs.declared.geometry.Verdict.{Verdict}
@@ -10,7 +10,7 @@ use Rattle.rt_tree.specs.declared.tree.Node as node
 use Rattle.rt_search.specs.Items.{item_at, item_cmp}
 use Rattle.rt_search.specs.Joining.{info_of_child, join_entries, join_entry, join_node, join_nodes, no_entry}
 use Rattle.rt_search.specs.Kept.{IsRising, offered}
-use Rattle.rt_search.specs.Limits.{IsBehind, IsEnough, entries_at, entries_before, front, front_of, less_at, one_less}
+use Rattle.rt_search.specs.Limits.{IsBehind, IsEnough, entries_at, entries_before, front, front_of, less_at}
 use Rattle.rt_search.specs.Remaining.{put_all, waiting_node}
 use Rattle.rt_search.specs.Work.{info_of_node, is_kept}
 use Rattle.rt_search.specs.declared.item.Item.{Item}
@@ -306,11 +306,13 @@ first_kept (Some zero) x xs all more h = absurd (more refl)
 first_kept (Some (suc n)) x xs [] more h = absurd (nil_is_not_cons _ _ (sym h.same))
 first_kept (Some (suc n)) x xs (y ∷ ys) more h =
     let k = same_rest x y xs ys n h.same in
-    let few = h.few in
-    (ys, (
-      ap (λ z. z ∷ ys) (sym k.0),
-      subst (λ w. IsEnough w xs ys) (sym (less_entries x.place (suc n))) (record {
-        same = k.1 ∙ ap (λ (z : Item). front ys (suc n - entries_at z.place)) (sym k.0);
-        few = omega (arith, few);
-      }),
-    ))
+    let few = h.few in (
+      ys,
+      (
+        ap (λ z. z ∷ ys) (sym k.0),
+        subst (λ w. IsEnough w xs ys) (sym (less_entries x.place (suc n))) (record {
+          same = k.1 ∙ ap (λ (z : Item). front ys (suc n - entries_at z.place)) (sym k.0);
+          few = omega (arith, few);
+        }),
+      ),
+    )

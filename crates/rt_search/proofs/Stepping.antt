@@ -1,7 +1,6 @@
 -- A search goes on: an entry is taken out, or a node is opened.
-use Rattle.std.proofs.Common.{◌≡◌, ◌≢◌, ◌<◌, ◌≤◌, ◌+◌, ◌^◌, ℕ, ℤ, Bool, true, false, cond}
+use Rattle.std.proofs.Common.{◌≡◌, ◌<◌, ◌≤◌, ◌+◌, ◌^◌, ℕ, ℤ, Bool, true, false, cond}
 use Rattle.std.proofs.Common.{List, [], ◌∷◌, length, Option, Some, None, refl, sym, ◌∙◌, ap, subst, arith}
-use Rattle.std.specs.Prelude.{IfSome, MatchOption}
 use Rattle.std.specs.List.{AllByRecursion}
 use Rattle.std.specs.Ordering.{is_gt}
 use Rattle.std.proofs.lemmas.Bool.Decides.{nat_tests}
@@ -15,18 +14,15 @@ use Rattle.rt_tree.specs.declared.tree.Node.{Node}
 use Rattle.rt_search.specs.Answers.{Answer, answer_cmp}
 use Rattle.rt_search.specs.Items.{item_at, item_cmp}
 use Rattle.rt_search.specs.Joining.{join_entries, join_nodes}
-use Rattle.rt_search.specs.Kept.{node_or, taken_entry, taken_item}
 use Rattle.rt_search.specs.Progress.{IsNodeStep, IsOnCourse, IsSearching, IsTaken, held, work_at, work_left}
 use Rattle.rt_search.specs.Remaining.{AllSound, answers_at, height_at, put_all, remaining, verdict_on}
 use Rattle.rt_search.specs.Work.{is_kept, is_reached, is_within_bound, its_children, one_node, reached_from_root, reached}
-use Rattle.rt_search.specs.declared.item.FoundEntry.{FoundEntry}
 use Rattle.rt_search.specs.declared.item.Item.{Item}
 use Rattle.rt_search.specs.declared.item.Place.{Place}
 use Rattle.rt_search.specs.declared.item.Place.TheVariants as place
-use Rattle.rt_search.specs.declared.item.Taken.{Taken}
 use Rattle.rt_search.specs.declared.item.WaitingNode.{WaitingNode}
 use Rattle.rt_search.proofs.Answering.{among, at_above, before_node, take_entry}
-use Rattle.rt_search.proofs.Children.{leaf_node, subtree_level}
+use Rattle.rt_search.proofs.Children.{leaf_node}
 use Rattle.rt_search.proofs.Joined.{entries_joined, entries_sound, left_out, nodes_joined, nodes_sound, taken}
 use Rattle.rt_search.proofs.OrderedLists.{put_all-all}
 use Rattle.rt_search.proofs.Orders.{answer_order, score_upto}

@@ -23,7 +23,7 @@ use Rattle.rt_search.specs.declared.item.ScoredNode.{ScoredNode}
 use Rattle.rt_search.specs.declared.item.Taken.{Taken}
 use Rattle.rt_search.specs.declared.item.WaitingNode.{WaitingNode}
 use Rattle.rt_search.proofs.Children.{subtree_level}
-use Rattle.rt_search.proofs.Limits.{enough_entries, enough_itself, enough_nodes, enough_trans, first_kept, none_left}
+use Rattle.rt_search.proofs.Limits.{enough_entries, enough_nodes, enough_trans, first_kept, none_left}
 use Rattle.rt_search.proofs.Limits.{rising_entries, rising_nodes}
 use Rattle.rt_search.proofs.Sizes.{done_upto, one_is_fair}
 use Rattle.rt_search.proofs.Stepping.{can_open, entry_step, inner_step, leaf_step, reached_is}

@@ -1,5 +1,4 @@
-use Rattle.std.proofs.Common.{◌≡◌, ◌<◌, ◌+◌, ◌^◌, Some, ◌∙◌, subst, arith, rules, FitsSigned, w64}
-use Rattle.std.specs.Prelude.{MatchOption}
+use Rattle.std.proofs.Common.{◌<◌, ◌^◌, ◌∙◌, subst, arith, rules, FitsSigned, w64}
 use Rattle.std.proofs.lemmas.Int.{to_z-of_z}
 use Rattle.rt_search.specs.Limits.{IsEnough}
 use Rattle.rt_search.specs.Progress.{join_children}
@@ -123,8 +122,11 @@ returns-in_default-clause-step g c = λ to_come u.
     let t = c.take-taken.ensures in
     let e = c.in_ok-entry.entry in
     let fits : FitsSigned w64 e.id = search rules in
-    rw (to_z-of_z w64 e.id fits, t.capacity,
-    entry_wanted c.take-taken.result e _ _ c.in_default.is c.in_ok-entry.was t.wanted)
+    rw (
+      to_z-of_z w64 e.id fits,
+      t.capacity,
+      entry_wanted c.take-taken.result e _ _ c.in_default.is c.in_ok-entry.was t.wanted,
+    )
     (found (g.G.Geometry.accepts geometry) (g.G.Geometry.score geometry) (g.G.Geometry.verdict geometry)
     (g.met.G.Geometry.lawful geometry) c.args.tree.now c.loop-node.opened c.loop-node.counted.asked
     c.loop-node.frontier.capacity c.loop-node.frontier.wanted to_come e.id e.score c.loop-node.frontier.items

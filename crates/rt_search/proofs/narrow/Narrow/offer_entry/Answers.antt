@@ -1,4 +1,4 @@
-use Rattle.std.proofs.Common.{ℤ, ◌∙◌, ap, rules, subst, FitsSigned, w64}
+use Rattle.std.proofs.Common.{ℤ, ◌∙◌, rules, subst, FitsSigned, w64}
 use Rattle.std.proofs.lemmas.Int.{to_z-of_z}
 use Rattle.rt_search.specs.Items.{item_at, item_cmp}
 use Rattle.rt_search.specs.Kept.{offered}

@@ -1,5 +1,4 @@
-use Rattle.std.proofs.Common.{◌≡◌, ◌≤◌, Some, length}
-use Rattle.std.specs.Prelude.{IfSome}
+use Rattle.std.proofs.Common.{◌≤◌, length}
 use Rattle.rt_search.proofs.Starting.{started}
 use Rattle.rt_search.proofs.search.Search.start.Goals as goal
 

@@ -1,4 +1,4 @@
-use Rattle.std.proofs.Common.{ℤ, ◌<◌, ◌≤◌, ◌^◌, refl, sym, ◌∙◌, ap, subst, arith, rules, FitsSigned, w64}
+use Rattle.std.proofs.Common.{ℤ, ◌≤◌, ◌^◌, refl, sym, ◌∙◌, ap, subst, arith, rules, FitsSigned, w64}
 use Rattle.std.specs.List.{AllByRecursion}
 use Rattle.std.proofs.lemmas.Int.{to_z-of_z}
 use Rattle.rt_search.specs.Items.{item_at, item_cmp}

@@ -1,4 +1,4 @@
-use Rattle.std.proofs.Common.{◌≡◌, ◌<◌, ◌^◌, [], ◌∷◌, ◌∙◌, ap, sym, subst, length, ◌≤◌, arith}
+use Rattle.std.proofs.Common.{◌≡◌, ◌^◌, [], ◌∷◌, ◌∙◌, ap, sym, subst, length, ◌≤◌}
 use Rattle.std.specs.Prelude.{MatchOption}
 use Rattle.rt_search.specs.Items.{item_cmp}
 use Rattle.rt_search.specs.Kept.{taken_item}
