@@ -1,5 +1,5 @@
 -- What pushes add up to. No public contract cites it.
-use Rattle.std.specs.Prelude.{◌≡◌, ℕ, List, ◌++◌, Option, Some, IfSome}
+use Rattle.std.specs.Prelude.{◌≡◌, ◌+◌, ℕ, List, ◌++◌, Option, IfSome, Some, Result, MatchResult}
 use Rattle.std.specs.Io.{StartsWith}
 
 -- where the sink still tells its bytes, those that came out after `before` are a prefix of these
@@ -14,3 +14,11 @@ WasPushed old new bytes = IfSome old (λ before. new ≡ Some (before ++ bytes))
 -- a push was cut short: what went out is a prefix of the bytes
 abbrev pub WasCut : (old new : Option (List ℕ)) → List ℕ → Type 0
 WasCut old new bytes = IfSome old (λ before. WentPrefix before new bytes)
+
+-- what a call that pushes these bytes does to a sink, of which `written` and `failed` are the bytes written and the number
+-- of failures: a success pushes all of them, and none of its pushes fails; a failure pushes a prefix, and is one failure
+abbrev pub Pushed : {T E K : Type 0} → (written : K → Option (List ℕ)) → (failed : K → ℕ) → (old new : K) → Result T E → List ℕ
+    → Type 0
+Pushed written failed old new result bytes = MatchResult result
+    (λ _. WasPushed (written old) (written new) bytes × (failed new ≡ failed old))
+    (λ _. WasCut (written old) (written new) bytes × (failed new ≡ failed old + 1))

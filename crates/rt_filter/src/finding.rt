@@ -1,150 +1,116 @@
 //! The replies to searches and counts.
 //!
-//! The region and the order of a query are told apart once, so that what is asked about each box is known to the
-//! compiler.
+//! The region and the order of a query are matched once, so that the check of each box is compiled for them.
 
-ghost use Rattle.std.specs.Prelude.{◌≡◌, ◌+◌, ◌-◌, ◌<◌, ◌≤◌, ◌^◌, Some, IfOk, OnOk, OnErr, length};
+ghost use Rattle.std.specs.Prelude.{◌≡◌, ◌+◌, ◌-◌, ◌<◌, ◌≤◌, ◌^◌, ℕ, List, [], ◌∷◌, IfNone, IfOk, MatchOption, length};
 ghost use Rattle.rt_geo.specs.OnLayers.{on_layers_accepts};
-ghost use Rattle.rt_geo.specs.Orders.{order_score};
-ghost use Rattle.rt_geo.specs.Polygons.{polygon_accepts};
 ghost use Rattle.rt_geo.specs.Regions.{region_accepts};
-ghost use Rattle.rt_geo.specs.Shapes.{circle_accepts};
 ghost use Rattle.rt_text.specs.ReplyLines.{ok_line};
-ghost use Rattle.rt_search.specs.Answers.{accepted, answers};
-ghost use Rattle.rt_filter.specs.Pushes.{WasCut, WasPushed};
+ghost use Rattle.rt_search.specs.Answers.{Answer, accepted, answers};
+ghost use Rattle.rt_filter.specs.Pushes.{Pushed};
 ghost use Rattle.rt_filter.specs.Replies.{answer_lines, find_reply};
+ghost use Rattle.rt_filter.specs.Reports.{report_on};
 
-use crate::finding_all::push_all;
 use crate::pushing::push_line;
 use rt_device::{Sink, WriteFault};
-use rt_geo::{
-    ById, Circle, Counted, Disc, Geometry, Guided, Layers, OnLayers, Order, Polygon, Region, Shape,
-};
-use rt_search::{Frontier, Search, count};
+use rt_geo::{ById, Counted, Disc, Geometry, Guided, Layers, OnLayers, Order, Region, Shape};
+use rt_search::{Frontier, FullSearch, Search, count};
 use rt_text::{Line, ok_line, set_answer_line, set_ok_line};
 use rt_tree::Tree;
 
-/// Pushes a line for each answer on these layers, the first so many where there is a limit, and then their number.
-pub(crate) fn push_find<K: Sink>(
+/// What is reported of the boxes that a query accepts.
+#[derive(Clone, Copy)]
+pub(crate) enum Report {
+    /// A line for each in this order, of the first so many where there is a limit, and then their number.
+    Answers { order: Order, limit: Option<u64> },
+    /// Their number.
+    Count,
+}
+
+/// Pushes the report on the boxes of a region that are on these layers.
+pub(crate) fn push_report<K: Sink>(
     tree: &Tree,
     frontier: Frontier,
     line: u128,
     region: Region,
-    order: Order,
-    limit: Option<u64>,
     layers: Layers,
+    report: Report,
     sink: &mut K,
 ) -> Result<Frontier, WriteFault>
     requires room { length tree.now.entries ≤ frontier.capacity }
     requires count { K.failed sink.old < 2 ^ 64 - 1 }
-    ensures written { OnOk result (WasPushed (K.written sink.old) (K.written sink.new)
-        (find_reply line (answers tree.now.entries (on_layers_accepts (region_accepts region) layers)
-        (order_score order) limit))) }
-    ensures cut { OnErr result (WasCut (K.written sink.old) (K.written sink.new)
-        (find_reply line (answers tree.now.entries (on_layers_accepts (region_accepts region) layers)
-        (order_score order) limit))) }
-    ensures capacity { IfOk result (λ frontier'. frontier'.capacity ≡ frontier.capacity) }
-    ensures went { OnOk result (K.failed sink.new ≡ K.failed sink.old) }
-    ensures fails { OnErr result (K.failed sink.new ≡ K.failed sink.old + 1) }
+    ensures pushed { Pushed K.written K.failed sink.old sink.new result
+        (report_on tree.now.entries (on_layers_accepts (region_accepts region) layers) line report) }
+    ensures capacity { IfOk result (λ left. left.capacity ≡ frontier.capacity) }
 {
-    // (asked, so that it is known which layers the entries have)
+    // (called, so that it is known which layers the entries have)
     let _most = tree.len();
     if layers.bits() == u64::MAX {
-        return push_in_region(tree, frontier, line, region, order, limit, sink);
+        return push_in_region(tree, frontier, line, region, report, sink);
     }
     let shape = OnLayers {
         shape: region,
         layers,
     };
-    push_found(
-        tree,
-        frontier,
-        line,
-        Guided { shape, rank: order },
-        limit,
-        sink,
-    )
+    push_in_shape(tree, frontier, line, shape, report, sink)
 }
 
-// The same on all layers, which are those of all entries: none is asked for.
+// The same on all layers, which are those of all entries: none is checked. A polygon is prepared where it can be, and a
+// circle whose order is by the distance from its centre takes one distance for both.
 fn push_in_region<K: Sink>(
     tree: &Tree,
     frontier: Frontier,
     line: u128,
     region: Region,
-    order: Order,
-    limit: Option<u64>,
+    report: Report,
     sink: &mut K,
 ) -> Result<Frontier, WriteFault>
     requires room { length tree.now.entries ≤ frontier.capacity }
     requires count { K.failed sink.old < 2 ^ 64 - 1 }
-    ensures written { OnOk result (WasPushed (K.written sink.old) (K.written sink.new)
-        (find_reply line (answers tree.now.entries (region_accepts region) (order_score order) limit))) }
-    ensures cut { OnErr result (WasCut (K.written sink.old) (K.written sink.new)
-        (find_reply line (answers tree.now.entries (region_accepts region) (order_score order) limit))) }
-    ensures capacity { IfOk result (λ frontier'. frontier'.capacity ≡ frontier.capacity) }
-    ensures went { OnOk result (K.failed sink.new ≡ K.failed sink.old) }
-    ensures fails { OnErr result (K.failed sink.new ≡ K.failed sink.old + 1) }
+    ensures pushed { Pushed K.written K.failed sink.old sink.new result
+        (report_on tree.now.entries (region_accepts region) line report) }
+    ensures capacity { IfOk result (λ left. left.capacity ≡ frontier.capacity) }
 {
     match region {
-        Region::All(shape) => push_ordered(tree, frontier, line, shape, order, limit, sink),
-        Region::Window(shape) => push_ordered(tree, frontier, line, shape, order, limit, sink),
-        Region::Inside(shape) => push_ordered(tree, frontier, line, shape, order, limit, sink),
-        Region::Covers(shape) => push_ordered(tree, frontier, line, shape, order, limit, sink),
-        Region::Circle(shape) => push_in_circle(tree, frontier, line, shape, order, limit, sink),
-        Region::Polygon(shape) => {
-            push_in_polygon(tree, frontier, line, shape, order, limit, sink)
+        Region::All(shape) => push_in_shape(tree, frontier, line, shape, report, sink),
+        Region::Window(shape) => push_in_shape(tree, frontier, line, shape, report, sink),
+        Region::Inside(shape) => push_in_shape(tree, frontier, line, shape, report, sink),
+        Region::Covers(shape) => push_in_shape(tree, frontier, line, shape, report, sink),
+        Region::Circle(circle) => {
+            if let Report::Answers { order, limit } = report {
+                if let Some(disc) = Disc::from_parts(&circle, &order) {
+                    return push_found(tree, frontier, line, disc, limit, sink);
+                }
+            }
+            push_in_shape(tree, frontier, line, circle, report, sink)
         }
-    }
-}
-
-// The same for a polygon, which is asked faster where it can be prepared.
-fn push_in_polygon<K: Sink>(
-    tree: &Tree,
-    frontier: Frontier,
-    line: u128,
-    polygon: Polygon,
-    order: Order,
-    limit: Option<u64>,
-    sink: &mut K,
-) -> Result<Frontier, WriteFault>
-    requires room { length tree.now.entries ≤ frontier.capacity }
-    requires count { K.failed sink.old < 2 ^ 64 - 1 }
-    ensures written { OnOk result (WasPushed (K.written sink.old) (K.written sink.new)
-        (find_reply line (answers tree.now.entries (polygon_accepts polygon) (order_score order) limit))) }
-    ensures cut { OnErr result (WasCut (K.written sink.old) (K.written sink.new)
-        (find_reply line (answers tree.now.entries (polygon_accepts polygon) (order_score order) limit))) }
-    ensures capacity { IfOk result (λ frontier'. frontier'.capacity ≡ frontier.capacity) }
-    ensures went { OnOk result (K.failed sink.new ≡ K.failed sink.old) }
-    ensures fails { OnErr result (K.failed sink.new ≡ K.failed sink.old + 1) }
-{
-    match polygon.prepare() {
-        Some(prepared) => push_ordered(tree, frontier, line, prepared, order, limit, sink),
-        None => push_ordered(tree, frontier, line, polygon, order, limit, sink),
+        Region::Polygon(polygon) => match polygon.prepare() {
+            Some(prepared) => push_in_shape(tree, frontier, line, prepared, report, sink),
+            None => push_in_shape(tree, frontier, line, polygon, report, sink),
+        },
     }
 }
 
 // The same for one shape.
 #[inline(never)]
-fn push_ordered<S: Shape + Drop, K: Sink>(
+fn push_in_shape<S: Shape + Drop, K: Sink>(
     tree: &Tree,
     frontier: Frontier,
     line: u128,
     shape: S,
-    order: Order,
-    limit: Option<u64>,
+    report: Report,
     sink: &mut K,
 ) -> Result<Frontier, WriteFault>
     requires room { length tree.now.entries ≤ frontier.capacity }
     requires count { K.failed sink.old < 2 ^ 64 - 1 }
-    ensures written { OnOk result (WasPushed (K.written sink.old) (K.written sink.new)
-        (find_reply line (answers tree.now.entries (S.accepts shape) (order_score order) limit))) }
-    ensures cut { OnErr result (WasCut (K.written sink.old) (K.written sink.new)
-        (find_reply line (answers tree.now.entries (S.accepts shape) (order_score order) limit))) }
-    ensures capacity { IfOk result (λ frontier'. frontier'.capacity ≡ frontier.capacity) }
-    ensures went { OnOk result (K.failed sink.new ≡ K.failed sink.old) }
-    ensures fails { OnErr result (K.failed sink.new ≡ K.failed sink.old + 1) }
+    ensures pushed { Pushed K.written K.failed sink.old sink.new result
+        (report_on tree.now.entries (S.accepts shape) line report) }
+    ensures capacity { IfOk result (λ left. left.capacity ≡ frontier.capacity) }
 {
+    let (order, limit) = match report {
+        Report::Answers { order, limit } => (order, limit),
+        Report::Count => return push_count(tree, frontier, line, shape, sink),
+    };
     match order {
         Order::ById(rank) => {
             push_found(tree, frontier, line, Guided { shape, rank }, limit, sink)
@@ -158,35 +124,29 @@ fn push_ordered<S: Shape + Drop, K: Sink>(
     }
 }
 
-// The same for a circle. Where the order is by the distance from its middle, one distance tells both.
-fn push_in_circle<K: Sink>(
+// Pushes the number of the boxes that a shape accepts.
+#[inline(never)]
+fn push_count<S: Shape + Drop, K: Sink>(
     tree: &Tree,
     frontier: Frontier,
     line: u128,
-    circle: Circle,
-    order: Order,
-    limit: Option<u64>,
+    shape: S,
     sink: &mut K,
 ) -> Result<Frontier, WriteFault>
     requires room { length tree.now.entries ≤ frontier.capacity }
     requires count { K.failed sink.old < 2 ^ 64 - 1 }
-    ensures written { let accepts = circle_accepts circle.centre circle.radius in
-        OnOk result (WasPushed (K.written sink.old) (K.written sink.new)
-        (find_reply line (answers tree.now.entries accepts (order_score order) limit))) }
-    ensures cut { let accepts = circle_accepts circle.centre circle.radius in
-        OnErr result (WasCut (K.written sink.old) (K.written sink.new)
-        (find_reply line (answers tree.now.entries accepts (order_score order) limit))) }
-    ensures capacity { IfOk result (λ frontier'. frontier'.capacity ≡ frontier.capacity) }
-    ensures went { OnOk result (K.failed sink.new ≡ K.failed sink.old) }
-    ensures fails { OnErr result (K.failed sink.new ≡ K.failed sink.old + 1) }
+    ensures pushed { Pushed K.written K.failed sink.old sink.new result
+        (ok_line line (length (accepted tree.now.entries (S.accepts shape)))) }
+    ensures capacity { IfOk result (λ left. left.capacity ≡ frontier.capacity) }
 {
-    match Disc::from_parts(&circle, &order) {
-        Some(disc) => push_found(tree, frontier, line, disc, limit, sink),
-        None => push_ordered(tree, frontier, line, circle, order, limit, sink),
-    }
+    let geometry = Guided { shape, rank: ById };
+    let mut frontier = frontier;
+    let counted = count(tree, &mut frontier, &mut Counted::new(&geometry));
+    push_line(&ok_line(line, counted.accepted), sink)?;
+    Ok(frontier)
 }
 
-// The same for one geometry. Where all answers are wanted, all are found first.
+// Pushes a line for each answer of one geometry, and then their number. Where all are wanted, all are found first.
 fn push_found<G: Geometry + Drop, K: Sink>(
     tree: &Tree,
     frontier: Frontier,
@@ -197,70 +157,57 @@ fn push_found<G: Geometry + Drop, K: Sink>(
 ) -> Result<Frontier, WriteFault>
     requires room { length tree.now.entries ≤ frontier.capacity }
     requires count { K.failed sink.old < 2 ^ 64 - 1 }
-    ensures written { OnOk result (WasPushed (K.written sink.old) (K.written sink.new)
-        (find_reply line (answers tree.now.entries (G.accepts geometry) (G.score geometry) limit))) }
-    ensures cut { OnErr result (WasCut (K.written sink.old) (K.written sink.new)
-        (find_reply line (answers tree.now.entries (G.accepts geometry) (G.score geometry) limit))) }
-    ensures capacity { IfOk result (λ frontier'. frontier'.capacity ≡ frontier.capacity) }
-    ensures went { OnOk result (K.failed sink.new ≡ K.failed sink.old) }
-    ensures fails { OnErr result (K.failed sink.new ≡ K.failed sink.old + 1) }
+    ensures pushed { Pushed K.written K.failed sink.old sink.new result
+        (find_reply line (answers tree.now.entries (G.accepts geometry) (G.score geometry) limit)) }
+    ensures capacity { IfOk result (λ left. left.capacity ≡ frontier.capacity) }
 {
+    // (called, so that it is known that the number of answers fits)
+    let _most = tree.len();
+    let counted = Counted::new(&geometry);
     match limit {
-        Some(limit) => push_first(tree, frontier, line, geometry, limit, sink),
-        None => push_all(tree, frontier, line, geometry, sink),
+        Some(limit) => {
+            let search = Search::start(tree, frontier, counted, Some(limit));
+            push_search(search, line, sink)
+        }
+        None => push_search(FullSearch::start(tree, frontier, counted), line, sink),
     }
 }
 
-// The same for the first so many.
-fn push_first<G: Geometry + Drop, K: Sink>(
-    tree: &Tree,
-    frontier: Frontier,
+// Pushes a line for each answer that a search is still to give, and then their number.
+fn push_search<A: Answering, K: Sink>(
+    search: A,
     line: u128,
-    geometry: G,
-    limit: u64,
     sink: &mut K,
 ) -> Result<Frontier, WriteFault>
-    requires room { length tree.now.entries ≤ frontier.capacity }
+    requires few { length (A.to_come search) < 2 ^ 32 }
     requires count { K.failed sink.old < 2 ^ 64 - 1 }
-    ensures written { OnOk result (WasPushed (K.written sink.old) (K.written sink.new)
-        (find_reply line (answers tree.now.entries (G.accepts geometry) (G.score geometry) (Some limit)))) }
-    ensures cut { OnErr result (WasCut (K.written sink.old) (K.written sink.new)
-        (find_reply line (answers tree.now.entries (G.accepts geometry) (G.score geometry) (Some limit)))) }
-    ensures capacity { IfOk result (λ frontier'. frontier'.capacity ≡ frontier.capacity) }
-    ensures went { OnOk result (K.failed sink.new ≡ K.failed sink.old) }
-    ensures fails { OnErr result (K.failed sink.new ≡ K.failed sink.old + 1) }
+    ensures pushed { Pushed K.written K.failed sink.old sink.new result (find_reply line (A.to_come search)) }
+    ensures capacity { IfOk result (λ left. left.capacity ≡ A.capacity search) }
 {
-    // (asked, so that it is known that the number of answers fits)
-    let _most = tree.len();
-    let mut search = Search::start(tree, frontier, Counted::new(&geometry), Some(limit));
+    let mut search = search;
     let mut text = Line::new(b"");
     let pushed = push_answers(&mut search, &mut text, sink);
-    let (frontier, _counted) = search.finish();
+    let frontier = search.finished();
     set_ok_line(&mut text, line, pushed?);
     push_line(&text, sink)?;
     Ok(frontier)
 }
 
-// Pushes a line for each answer that is still to come, as it is found, and tells how many there were. All are put
-// together in one place.
-fn push_answers<G: Geometry, K: Sink>(
-    search: &mut Search<'_, G>,
+// Pushes a line for each of these answers, as it is found, and returns how many there were. All are put together in one
+// place.
+fn push_answers<A: Answering, K: Sink>(
+    search: &mut A,
     text: &mut Line,
     sink: &mut K,
 ) -> Result<u64, WriteFault>
-    requires few { length search.old.to_come < 2 ^ 32 }
+    requires few { length (A.to_come search.old) < 2 ^ 32 }
     requires count { K.failed sink.old < 2 ^ 64 - 1 }
-    ensures written { OnOk result (WasPushed (K.written sink.old) (K.written sink.new)
-        (answer_lines search.old.to_come)) }
-    ensures cut { OnErr result (WasCut (K.written sink.old) (K.written sink.new)
-        (answer_lines search.old.to_come)) }
-    ensures many { IfOk result (λ found. found ≡ length search.old.to_come) }
-    ensures capacity { search.new.capacity ≡ search.old.capacity }
-    ensures went { OnOk result (K.failed sink.new ≡ K.failed sink.old) }
-    ensures fails { OnErr result (K.failed sink.new ≡ K.failed sink.old + 1) }
+    ensures pushed { Pushed K.written K.failed sink.old sink.new result (answer_lines (A.to_come search.old)) }
+    ensures many { IfOk result (λ found. found ≡ length (A.to_come search.old)) }
+    ensures capacity { A.capacity search.new ≡ A.capacity search.old }
 {
     let mut found: u64 = 0;
-    while let Some((id, score)) = search.next() {
+    while let Some((id, score)) = search.next_answer() {
         set_answer_line(text, id, score);
         push_line(text, sink)?;
         found += 1;
@@ -268,113 +215,50 @@ fn push_answers<G: Geometry, K: Sink>(
     Ok(found)
 }
 
-/// Pushes the number of the boxes on these layers that the region accepts.
-pub(crate) fn push_count<K: Sink>(
-    tree: &Tree,
-    frontier: Frontier,
-    line: u128,
-    region: Region,
-    layers: Layers,
-    sink: &mut K,
-) -> Result<Frontier, WriteFault>
-    requires room { length tree.now.entries ≤ frontier.capacity }
-    requires count { K.failed sink.old < 2 ^ 64 - 1 }
-    ensures written { OnOk result (WasPushed (K.written sink.old) (K.written sink.new)
-        (ok_line line (length (accepted tree.now.entries
-        (on_layers_accepts (region_accepts region) layers))))) }
-    ensures cut { OnErr result (WasCut (K.written sink.old) (K.written sink.new)
-        (ok_line line (length (accepted tree.now.entries
-        (on_layers_accepts (region_accepts region) layers))))) }
-    ensures capacity { IfOk result (λ frontier'. frontier'.capacity ≡ frontier.capacity) }
-    ensures went { OnOk result (K.failed sink.new ≡ K.failed sink.old) }
-    ensures fails { OnErr result (K.failed sink.new ≡ K.failed sink.old + 1) }
-{
-    // (asked, so that it is known which layers the entries have)
-    let _most = tree.len();
-    if layers.bits() == u64::MAX {
-        return push_counted_in_region(tree, frontier, line, region, sink);
-    }
-    let shape = OnLayers {
-        shape: region,
-        layers,
-    };
-    push_counted(tree, frontier, line, shape, sink)
+// A search that gives its answers one at a time.
+trait Answering {
+    // The answers that are still to come.
+    ghost to_come: { Self → List Answer };
+
+    // How much room its frontier has.
+    ghost capacity: { Self → ℕ };
+
+    fn next_answer(&mut self) -> Option<(i64, u128)>
+        ensures answer { MatchOption result (to_come self.old ≡ []) (λ a. to_come self.old ≡ a ∷ to_come self.new) }
+        ensures capacity { capacity self.new ≡ capacity self.old };
+
+    fn finished(self) -> Frontier
+        ensures { result.capacity ≡ capacity self };
 }
 
-// The same on all layers.
-fn push_counted_in_region<K: Sink>(
-    tree: &Tree,
-    frontier: Frontier,
-    line: u128,
-    region: Region,
-    sink: &mut K,
-) -> Result<Frontier, WriteFault>
-    requires room { length tree.now.entries ≤ frontier.capacity }
-    requires count { K.failed sink.old < 2 ^ 64 - 1 }
-    ensures written { OnOk result (WasPushed (K.written sink.old) (K.written sink.new)
-        (ok_line line (length (accepted tree.now.entries (region_accepts region))))) }
-    ensures cut { OnErr result (WasCut (K.written sink.old) (K.written sink.new)
-        (ok_line line (length (accepted tree.now.entries (region_accepts region))))) }
-    ensures capacity { IfOk result (λ frontier'. frontier'.capacity ≡ frontier.capacity) }
-    ensures went { OnOk result (K.failed sink.new ≡ K.failed sink.old) }
-    ensures fails { OnErr result (K.failed sink.new ≡ K.failed sink.old + 1) }
-{
-    match region {
-        Region::All(shape) => push_counted(tree, frontier, line, shape, sink),
-        Region::Window(shape) => push_counted(tree, frontier, line, shape, sink),
-        Region::Inside(shape) => push_counted(tree, frontier, line, shape, sink),
-        Region::Covers(shape) => push_counted(tree, frontier, line, shape, sink),
-        Region::Circle(shape) => push_counted(tree, frontier, line, shape, sink),
-        Region::Polygon(shape) => push_counted_in_polygon(tree, frontier, line, shape, sink),
+impl<'a, G: Geometry> Answering for Search<'a, G> {
+    ghost to_come = { λ s. s.to_come };
+
+    ghost capacity = { λ s. s.capacity };
+
+    #[inline(always)]
+    fn next_answer(&mut self) -> Option<(i64, u128)> {
+        self.next()
+    }
+
+    #[inline(always)]
+    fn finished(self) -> Frontier {
+        self.finish().0
     }
 }
 
-// The same for a polygon, which is asked faster where it can be prepared.
-fn push_counted_in_polygon<K: Sink>(
-    tree: &Tree,
-    frontier: Frontier,
-    line: u128,
-    polygon: Polygon,
-    sink: &mut K,
-) -> Result<Frontier, WriteFault>
-    requires room { length tree.now.entries ≤ frontier.capacity }
-    requires count { K.failed sink.old < 2 ^ 64 - 1 }
-    ensures written { OnOk result (WasPushed (K.written sink.old) (K.written sink.new)
-        (ok_line line (length (accepted tree.now.entries (polygon_accepts polygon))))) }
-    ensures cut { OnErr result (WasCut (K.written sink.old) (K.written sink.new)
-        (ok_line line (length (accepted tree.now.entries (polygon_accepts polygon))))) }
-    ensures capacity { IfOk result (λ frontier'. frontier'.capacity ≡ frontier.capacity) }
-    ensures went { OnOk result (K.failed sink.new ≡ K.failed sink.old) }
-    ensures fails { OnErr result (K.failed sink.new ≡ K.failed sink.old + 1) }
-{
-    match polygon.prepare() {
-        Some(prepared) => push_counted(tree, frontier, line, prepared, sink),
-        None => push_counted(tree, frontier, line, polygon, sink),
-    }
-}
+impl<'a, G: Geometry> Answering for FullSearch<'a, G> {
+    ghost to_come = { λ s. s.to_come };
 
-// The same for one shape.
-#[inline(never)]
-fn push_counted<S: Shape + Drop, K: Sink>(
-    tree: &Tree,
-    frontier: Frontier,
-    line: u128,
-    shape: S,
-    sink: &mut K,
-) -> Result<Frontier, WriteFault>
-    requires room { length tree.now.entries ≤ frontier.capacity }
-    requires count { K.failed sink.old < 2 ^ 64 - 1 }
-    ensures written { OnOk result (WasPushed (K.written sink.old) (K.written sink.new)
-        (ok_line line (length (accepted tree.now.entries (S.accepts shape))))) }
-    ensures cut { OnErr result (WasCut (K.written sink.old) (K.written sink.new)
-        (ok_line line (length (accepted tree.now.entries (S.accepts shape))))) }
-    ensures capacity { IfOk result (λ frontier'. frontier'.capacity ≡ frontier.capacity) }
-    ensures went { OnOk result (K.failed sink.new ≡ K.failed sink.old) }
-    ensures fails { OnErr result (K.failed sink.new ≡ K.failed sink.old + 1) }
-{
-    let geometry = Guided { shape, rank: ById };
-    let mut frontier = frontier;
-    let counted = count(tree, &mut frontier, &mut Counted::new(&geometry));
-    push_line(&ok_line(line, counted.accepted), sink)?;
-    Ok(frontier)
+    ghost capacity = { λ s. s.capacity };
+
+    #[inline(always)]
+    fn next_answer(&mut self) -> Option<(i64, u128)> {
+        self.next()
+    }
+
+    #[inline(always)]
+    fn finished(self) -> Frontier {
+        self.finish().0
+    }
 }

@@ -1,7 +1,7 @@
 //! Pushing a line.
 
-ghost use Rattle.std.specs.Prelude.{◌≡◌, ◌+◌, ◌-◌, ◌<◌, ◌^◌, OnOk, OnErr};
-ghost use Rattle.rt_filter.specs.Pushes.{WasCut, WasPushed};
+ghost use Rattle.std.specs.Prelude.{◌-◌, ◌<◌, ◌^◌};
+ghost use Rattle.rt_filter.specs.Pushes.{Pushed};
 
 use rt_device::{Sink, WriteFault};
 use rt_text::Line;
@@ -9,10 +9,7 @@ use rt_text::Line;
 /// Pushes a line until all of it is taken, each time on from where the sink stopped. It isn't flushed.
 pub(crate) fn push_line<K: Sink>(line: &Line, sink: &mut K) -> Result<(), WriteFault>
     requires count { K.failed sink.old < 2 ^ 64 - 1 }
-    ensures written { OnOk result (WasPushed (K.written sink.old) (K.written sink.new) line.now) }
-    ensures cut { OnErr result (WasCut (K.written sink.old) (K.written sink.new) line.now) }
-    ensures went { OnOk result (K.failed sink.new ≡ K.failed sink.old) }
-    ensures fails { OnErr result (K.failed sink.new ≡ K.failed sink.old + 1) }
+    ensures pushed { Pushed K.written K.failed sink.old sink.new result line.now }
 {
     let mut rest = line.bytes();
     while !rest.is_empty() {

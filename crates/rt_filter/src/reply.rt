@@ -1,49 +1,22 @@
-//! The reply to a query line.
+//! The replies to queries.
 
-ghost use Rattle.std.specs.Prelude.{◌≡◌, ◌+◌, ◌-◌, ◌++◌, ◌<◌, ◌≤◌, ◌^◌, Some, IfOk, IfSome, OnOk, OnErr, length};
+ghost use Rattle.std.specs.Prelude.{◌≡◌, ◌+◌, ◌-◌, ◌<◌, ◌≤◌, ◌^◌, IfOk, length};
 ghost use Rattle.rt_tree.specs.Levels.{level_sizes};
-ghost use Rattle.rt_filter.specs.Pushes.{WasCut, WasPushed};
-ghost use Rattle.rt_filter.specs.Replies.{levels_reply, query_reply, reply};
+ghost use Rattle.rt_text.specs.declared.query.Query.TheVariants as query;
+ghost use Rattle.rt_filter.specs.Pushes.{Pushed};
+ghost use Rattle.rt_filter.specs.Replies.{levels_reply, query_reply};
 ghost use Rattle.rt_filter.specs.Stages.{loaded_tree};
 
-use crate::costing::{push_cost_of_count, push_cost_of_find};
-use crate::finding::{push_count, push_find};
+use crate::finding::{Report, push_report};
 use crate::pushing::push_line;
 use rt_device::{Sink, WriteFault};
-use rt_search::Frontier;
-use rt_text::{Parsed, Query, error_line, level_line, ok_line};
+use rt_geo::{ById, Counted, Guided, Layers, OnLayers, Order, Region};
+use rt_search::{Frontier, cost, count};
+use rt_text::{Query, level_line, ok_line};
 use rt_tree::Tree;
 
-/// Pushes the reply to one line.
+/// Pushes the reply to a query.
 pub(crate) fn push_reply<K: Sink>(
-    tree: &Tree,
-    frontier: Frontier,
-    line: u128,
-    asked: Parsed,
-    sink: &mut K,
-) -> Result<Frontier, WriteFault>
-    requires room { length tree.now.entries ≤ frontier.capacity }
-    requires count { K.failed sink.old < 2 ^ 64 - 1 }
-    ensures written { OnOk result (WasPushed (K.written sink.old) (K.written sink.new)
-        (reply (loaded_tree tree.now) line asked)) }
-    ensures cut { OnErr result (WasCut (K.written sink.old) (K.written sink.new)
-        (reply (loaded_tree tree.now) line asked)) }
-    ensures capacity { IfOk result (λ frontier'. frontier'.capacity ≡ frontier.capacity) }
-    ensures went { OnOk result (K.failed sink.new ≡ K.failed sink.old) }
-    ensures fails { OnErr result (K.failed sink.new ≡ K.failed sink.old + 1) }
-{
-    match asked {
-        Parsed::Skip => Ok(frontier),
-        Parsed::Query(query) => push_query_reply(tree, frontier, line, query, sink),
-        Parsed::Fault(fault) => {
-            push_line(&error_line(line, fault), sink)?;
-            Ok(frontier)
-        }
-    }
-}
-
-// Pushes the reply to a query.
-fn push_query_reply<K: Sink>(
     tree: &Tree,
     frontier: Frontier,
     line: u128,
@@ -52,13 +25,9 @@ fn push_query_reply<K: Sink>(
 ) -> Result<Frontier, WriteFault>
     requires room { length tree.now.entries ≤ frontier.capacity }
     requires count { K.failed sink.old < 2 ^ 64 - 1 }
-    ensures written { OnOk result (WasPushed (K.written sink.old) (K.written sink.new)
-        (query_reply (loaded_tree tree.now) line query)) }
-    ensures cut { OnErr result (WasCut (K.written sink.old) (K.written sink.new)
-        (query_reply (loaded_tree tree.now) line query)) }
-    ensures capacity { IfOk result (λ frontier'. frontier'.capacity ≡ frontier.capacity) }
-    ensures went { OnOk result (K.failed sink.new ≡ K.failed sink.old) }
-    ensures fails { OnErr result (K.failed sink.new ≡ K.failed sink.old + 1) }
+    ensures pushed { Pushed K.written K.failed sink.old sink.new result
+        (query_reply (loaded_tree tree.now) line query) }
+    ensures capacity { IfOk result (λ left. left.capacity ≡ frontier.capacity) }
 {
     match query {
         Query::Find {
@@ -66,8 +35,13 @@ fn push_query_reply<K: Sink>(
             order,
             limit,
             layers,
-        } => push_find(tree, frontier, line, region, order, limit, layers, sink),
-        Query::Count { region, layers } => push_count(tree, frontier, line, region, layers, sink),
+        } => {
+            let report = Report::Answers { order, limit };
+            push_report(tree, frontier, line, region, layers, report, sink)
+        }
+        Query::Count { region, layers } => {
+            push_report(tree, frontier, line, region, layers, Report::Count, sink)
+        }
         Query::Levels => {
             push_levels(tree, line, sink)?;
             Ok(frontier)
@@ -87,12 +61,8 @@ fn push_query_reply<K: Sink>(
 // Pushes a line for each level, from the top down, and then their number.
 fn push_levels<K: Sink>(tree: &Tree, line: u128, sink: &mut K) -> Result<(), WriteFault>
     requires count { K.failed sink.old < 2 ^ 64 - 1 }
-    ensures written { let sizes = level_sizes (length tree.now.entries) tree.now.fanout in
-        OnOk result (WasPushed (K.written sink.old) (K.written sink.new) (levels_reply line sizes)) }
-    ensures cut { let sizes = level_sizes (length tree.now.entries) tree.now.fanout in
-        OnErr result (WasCut (K.written sink.old) (K.written sink.new) (levels_reply line sizes)) }
-    ensures went { OnOk result (K.failed sink.new ≡ K.failed sink.old) }
-    ensures fails { OnErr result (K.failed sink.new ≡ K.failed sink.old + 1) }
+    ensures pushed { let sizes = level_sizes (length tree.now.entries) tree.now.fanout in
+        Pushed K.written K.failed sink.old sink.new result (levels_reply line sizes) }
 {
     let count = tree.top() + 1;
     for above in 0..count {
@@ -100,4 +70,61 @@ fn push_levels<K: Sink>(tree: &Tree, line: u128, sink: &mut K) -> Result<(), Wri
         push_line(&level_line(level, tree.level_len(level)), sink)?;
     }
     push_line(&ok_line(line, u64::from(count)), sink)
+}
+
+// Pushes how many nodes a search for the boxes on these layers opens.
+fn push_cost_of_find<K: Sink>(
+    tree: &Tree,
+    frontier: Frontier,
+    line: u128,
+    region: Region,
+    order: Order,
+    limit: Option<u64>,
+    layers: Layers,
+    sink: &mut K,
+) -> Result<Frontier, WriteFault>
+    requires room { length tree.now.entries ≤ frontier.capacity }
+    requires count { K.failed sink.old < 2 ^ 64 - 1 }
+    ensures pushed { Pushed K.written K.failed sink.old sink.new result
+        (query_reply (loaded_tree tree.now) line (query.CostFind region order limit layers)) }
+    ensures capacity { IfOk result (λ left. left.capacity ≡ frontier.capacity) }
+{
+    // (called, so that it is known that the tree is the packed one of its own entries)
+    let _most = tree.len();
+    let shape = OnLayers {
+        shape: region,
+        layers,
+    };
+    let geometry = Guided { shape, rank: order };
+    let (opened, frontier) = cost(tree, frontier, Counted::new(&geometry), limit);
+    push_line(&ok_line(line, opened), sink)?;
+    Ok(frontier)
+}
+
+// Pushes how many nodes a count of the boxes on these layers opens.
+fn push_cost_of_count<K: Sink>(
+    tree: &Tree,
+    frontier: Frontier,
+    line: u128,
+    region: Region,
+    layers: Layers,
+    sink: &mut K,
+) -> Result<Frontier, WriteFault>
+    requires room { length tree.now.entries ≤ frontier.capacity }
+    requires count { K.failed sink.old < 2 ^ 64 - 1 }
+    ensures pushed { Pushed K.written K.failed sink.old sink.new result
+        (query_reply (loaded_tree tree.now) line (query.CostCount region layers)) }
+    ensures capacity { IfOk result (λ left. left.capacity ≡ frontier.capacity) }
+{
+    // (called, so that it is known that the tree is the packed one of its own entries)
+    let _most = tree.len();
+    let shape = OnLayers {
+        shape: region,
+        layers,
+    };
+    let geometry = Guided { shape, rank: ById };
+    let mut frontier = frontier;
+    let counted = count(tree, &mut frontier, &mut Counted::new(&geometry));
+    push_line(&ok_line(line, counted.opened), sink)?;
+    Ok(frontier)
 }

@@ -5,15 +5,16 @@ ghost use Rattle.std.specs.Io.KnownBytes.{Keeps};
 ghost use Rattle.rt_device.specs.Devices.{IsSameIfTold};
 ghost use Rattle.rt_filter.specs.Endings.{ConsumedAtLeast, Serves, is_pull, is_push, told_of};
 ghost use Rattle.rt_filter.specs.Lines.{longest_line, most_pulled, numbered_lines};
-ghost use Rattle.rt_filter.specs.Pushes.{WasCut, WasPushed};
+ghost use Rattle.rt_filter.specs.Pushes.{Pushed};
 ghost use Rattle.rt_filter.specs.Replies.{Loaded, any_fault, is_fault, output, reply, tree_of};
 ghost use Rattle.rt_filter.specs.Stages.{HasNoLineFeed, IsAnswering, IsCut, IsServing, asked_by, loaded_tree};
 
+use crate::pushing::push_line;
 use crate::reply::push_reply;
 use memchr::memchr;
 use rt_device::{Sink, Source, WriteFault};
 use rt_search::Frontier;
-use rt_text::{Parsed, QueryFault, parse};
+use rt_text::{Parsed, QueryFault, error_line, parse};
 use rt_tree::Tree;
 
 /// The most bytes of a query line, a carriage return included and the line feed not.
@@ -299,31 +300,31 @@ fn answer<K: Sink>(
     requires capacity { length tree.now.entries ≤ frontier.capacity }
     requires count { K.failed sink.old < 2 ^ 64 - 1 }
     requires few { begun.old.lines + 1 < 2 ^ 128 }
-    ensures written { let asked = asked_by begun.old.is_long line.now in
-        let answered = reply (loaded_tree tree.now) (begun.old.lines + 1) asked in
-        OnOk result (WasPushed (K.written sink.old) (K.written sink.new) answered) }
-    ensures cut { let asked = asked_by begun.old.is_long line.now in
-        let answered = reply (loaded_tree tree.now) (begun.old.lines + 1) asked in
-        OnErr result (WasCut (K.written sink.old) (K.written sink.new) answered) }
+    ensures pushed { Pushed K.written K.failed sink.old sink.new result
+        (reply (loaded_tree tree.now) (begun.old.lines + 1) (asked_by begun.old.is_long line.now)) }
     ensures lines { begun.new.lines ≡ begun.old.lines + 1 }
     ensures bad { begun.new.bad ≡ (begun.old.bad || is_fault (asked_by begun.old.is_long line.now)) }
     ensures is_long { begun.new.is_long ≡ false }
     ensures held { begun.new.held ≡ begun.old.held }
     ensures capacity { IfOk result (λ frontier'. frontier'.capacity ≡ frontier.capacity) }
-    ensures went { OnOk result (K.failed sink.new ≡ K.failed sink.old) }
-    ensures fails { OnErr result (K.failed sink.new ≡ K.failed sink.old + 1) }
     ensures untouched { begun.new.is_pushed ≡ false → (begun.old.is_pushed ≡ false) × (sink.new ≡ sink.old) }
 {
-    let asked = asked_by(begun.is_long, line);
+    let parsed = asked_by(begun.is_long, line);
     begun.lines += 1;
     begun.is_long = false;
-    match &asked {
-        Parsed::Skip => return Ok(frontier),
-        Parsed::Query(_) => {}
-        Parsed::Fault(_) => begun.bad = true,
+    match parsed {
+        Parsed::Skip => Ok(frontier),
+        Parsed::Query(query) => {
+            begun.is_pushed = true;
+            push_reply(tree, frontier, begun.lines, query, sink)
+        }
+        Parsed::Fault(fault) => {
+            begun.is_pushed = true;
+            begun.bad = true;
+            push_line(&error_line(begun.lines, fault), sink)?;
+            Ok(frontier)
+        }
     }
-    begun.is_pushed = true;
-    push_reply(tree, frontier, begun.lines, asked, sink)
 }
 
 // What a line asks whose beginning was dropped where it is too long.

@@ -1,13 +1,16 @@
-use Rattle.std.proofs.Common.{◌≡◌, rules}
+use Rattle.std.proofs.Common.{◌≡◌, ◌∙◌, ◌+◌, ap, rules}
 use Rattle.rt_text.specs.ReplyLines.{answer_line}
 use Rattle.rt_filter.specs.Replies.{answer_lines}
 use Rattle.rt_filter.proofs.FindLemmas.{answer_cut}
-use Rattle.rt_filter.proofs.PushLemmas.{at_error}
+use Rattle.rt_filter.proofs.PushLemmas.{as_failed}
 use Rattle.rt_filter.proofs.finding.push_answers.Goals as goal
 
-pub returns-in_err-push_line-clause-cut : goal.returns-in_err-push_line-clause-cut
-returns-in_err-push_line-clause-cut g c =
+pub returns-in_err-push_line-clause-pushed : goal.returns-in_err-push_line-clause-pushed
+returns-in_err-push_line-clause-pushed g c =
     let line : c.set_answer_line.new.text ≡ answer_line c.in-Some.id c.in-Some.score = search rules in
-    at_error c.from_residual.result (answer_cut (answer_lines c.args.search.now.to_come) (g.K.Sink.written c.args.sink.now) (g.K.Sink.written c.loop-id.sink) (g.K.Sink.written c.push_line.new.sink)
-    c.in-Some.id c.in-Some.score c.loop-id.search.to_come c.next.new.self.to_come
-    c.in-Some.ensures.answer c.loop-id.invariant.pushed (rw line at c.in_err-push_line.ensures.cut))
+    let all = answer_lines (g.A.Answering.to_come c.args.search.now) in
+    let cut = rw line at c.in_err-push_line.ensures.pushed in
+    as_failed g.K.Sink.written g.K.Sink.failed _ c.loop-id.sink _ c.from_residual.result _ all c.from_residual.ensures.1 (
+      answer_cut all _ _ _ c.in-Some.id c.in-Some.score _ _ c.in-Some.ensures.answer c.loop-id.invariant.pushed cut.0,
+      cut.1 ∙ ap (λ n. n + 1) c.loop-id.invariant.count,
+    )

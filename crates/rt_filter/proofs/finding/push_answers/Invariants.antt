@@ -1,5 +1,5 @@
 use Rattle.std.proofs.Common.{◌≡◌, ◌+◌, length}
-use Rattle.rt_filter.proofs.PushLemmas.{Pushed}
+use Rattle.rt_filter.proofs.PushLemmas.{AllBut}
 use Rattle.rt_filter.specs.Replies.{answer_lines}
 use Rattle.rt_filter.proofs.finding.push_answers.Given as goal
 
@@ -7,10 +7,10 @@ use Rattle.rt_filter.proofs.finding.push_answers.Given as goal
 abbrev pub invariant-loop-id : goal.invariant-loop-id
 invariant-loop-id g l = record {
   count : g.K.Sink.failed l.sink ≡ g.K.Sink.failed l.initial.sink;
-  capacity : l.search.capacity ≡ l.initial.search.capacity;
-  many : l.found + length l.search.to_come ≡ length l.initial.search.to_come;
-  pushed : Pushed (answer_lines l.initial.search.to_come) (g.K.Sink.written l.initial.sink) (g.K.Sink.written l.sink) (answer_lines l.search.to_come);
+  capacity : g.A.Answering.capacity l.search ≡ g.A.Answering.capacity l.initial.search;
+  many : l.found + length (g.A.Answering.to_come l.search) ≡ length (g.A.Answering.to_come l.initial.search);
+  pushed : AllBut (answer_lines (g.A.Answering.to_come l.initial.search)) (g.K.Sink.written l.initial.sink) (g.K.Sink.written l.sink) (answer_lines (g.A.Answering.to_come l.search));
 }
 
 abbrev pub decreases-loop-id : goal.decreases-loop-id
-decreases-loop-id g l = length l.search.to_come
+decreases-loop-id g l = length (g.A.Answering.to_come l.search)

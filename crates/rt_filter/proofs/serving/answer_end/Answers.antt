@@ -14,18 +14,18 @@ pub returns-in_err-_frontier-clause-cut : goal.returns-in_err-_frontier-clause-c
 returns-in_err-_frontier-clause-cut g c =
     at_error c.from_residual.result
     (λ all before out e s clear. end_cut (loaded_tree c.args.tree.now) all before out c.args.begun.now.lines c.args.begun.now.bad c.args.begun.now.is_long c.args.held.now s
-    (record { clear = clear; some = c.if-not-is_line.ensures.some refl }) (g.K.Sink.written c.args.sink.now) (g.K.Sink.written c.answer.new.sink) c.answer.new.begun.bad e c.in_err-_frontier.ensures.cut c.answer.ensures.bad)
+    (record { clear = clear; some = c.if-not-is_line.ensures.some refl }) (g.K.Sink.written c.args.sink.now) (g.K.Sink.written c.answer.new.sink) c.answer.new.begun.bad e c.in_err-_frontier.ensures.pushed.0 c.answer.ensures.bad)
 
 pub returns-clause-state : goal.returns-clause-state
 returns-clause-state g c =
     on_ok_weaker c.flush.result
     (λ k all before out e s clear. rw c.flush.ensures.bad (end_answered (loaded_tree c.args.tree.now) all before out c.args.begun.now.lines c.args.begun.now.bad c.args.begun.now.is_long c.args.held.now s
     (record { clear = clear; some = c.if-not-is_line.ensures.some refl }) (g.K.Sink.written c.args.sink.now) (g.K.Sink.written c.answer.new.sink) (g.K.Sink.written c.flush.new.sink) c.answer.new.begun.bad
-    e c.in_ok-_frontier.ensures.written c.answer.ensures.bad k)) c.flush.ensures.bytes
+    e c.in_ok-_frontier.ensures.pushed.0 c.answer.ensures.bad k)) c.flush.ensures.bytes
 
 pub returns-clause-cut : goal.returns-clause-cut
 returns-clause-cut g c =
     on_err_weaker c.flush.result
     (λ k all before out e s clear. rw c.flush.ensures.bad (end_lost (loaded_tree c.args.tree.now) all before out c.args.begun.now.lines c.args.begun.now.bad c.args.begun.now.is_long c.args.held.now s
     (record { clear = clear; some = c.if-not-is_line.ensures.some refl }) (g.K.Sink.written c.args.sink.now) (g.K.Sink.written c.answer.new.sink) (g.K.Sink.written c.flush.new.sink) c.answer.new.begun.bad
-    e c.in_ok-_frontier.ensures.written k c.answer.ensures.bad)) c.flush.ensures.lost
+    e c.in_ok-_frontier.ensures.pushed.0 k c.answer.ensures.bad)) c.flush.ensures.lost

@@ -11,7 +11,7 @@ pub returns-in_err-frontier-clause-cut : goal.returns-in_err-frontier-clause-cut
 returns-in_err-frontier-clause-cut g c = at_error c.from_residual.result
     (steps-cut (loaded_tree c.args.tree.now) (g.K.Sink.written c.args.sink.now) (g.K.Sink.written c.loop-end.sink) (g.K.Sink.written c.answer.new.sink)
     c.args.begun.now.lines c.args.begun.now.bad c.args.begun.now.is_long c.args.bytes.now c.loop-end.begun.lines c.loop-end.begun.bad c.loop-end.begun.is_long c.loop-end.rest.now
-    c.loop-end.invariant.steps c.in-Some.end c.answer.new.begun.bad c.in-Some.ensures c.in_err-frontier.ensures.cut c.answer.ensures.bad)
+    c.loop-end.invariant.steps c.in-Some.end c.answer.new.begun.bad c.in-Some.ensures c.in_err-frontier.ensures.pushed.0 c.answer.ensures.bad)
 
 pub loop-end-preserved : goal.loop-end-preserved
 loop-end-preserved g c =
@@ -28,7 +28,7 @@ loop-end-preserved g c =
       back = rest_back c.args.bytes.now c.loop-end.rest.now left (c.in-Some.end + 1) c.loop-end.invariant.short c.loop-end.invariant.back is fits;
       steps = steps-more (loaded_tree c.args.tree.now) (g.K.Sink.written c.args.sink.now) (g.K.Sink.written c.loop-end.sink) (g.K.Sink.written c.answer.new.sink)
           c.args.begun.now.lines c.args.begun.now.bad c.args.begun.now.is_long c.args.bytes.now c.loop-end.begun.lines c.loop-end.begun.bad c.loop-end.begun.is_long c.loop-end.rest.now
-          c.loop-end.invariant.steps left c.in-Some.end c.answer.new.begun.lines c.answer.new.begun.bad c.answer.new.begun.is_long c.in-Some.ensures is c.in_ok-frontier.ensures.written
+          c.loop-end.invariant.steps left c.in-Some.end c.answer.new.begun.lines c.answer.new.begun.bad c.answer.new.begun.is_long c.in-Some.ensures is c.in_ok-frontier.ensures.pushed.0
           c.answer.ensures.lines c.answer.ensures.bad c.answer.ensures.is_long;
       flushed = λ e. ap g.K.Sink.waits (c.answer.ensures.untouched e).1 ∙ c.loop-end.invariant.flushed (c.answer.ensures.untouched e).0;
     }

@@ -1,0 +1,15 @@
+-- What is reported of the boxes that a query accepts. No public contract cites it.
+use Rattle.std.specs.Prelude.{ℕ, Bool, List, length}
+use Rattle.rt_geo.specs.Laws.{Extent}
+use Rattle.rt_geo.specs.Orders.{order_score}
+use Rattle.rt_geo.specs.declared.entry.Entry.{Entry}
+use Rattle.rt_text.specs.ReplyLines.{ok_line}
+use Rattle.rt_search.specs.Answers.{accepted, answers}
+use Rattle.rt_filter.specs.Replies.{find_reply}
+use Rattle.rt_filter.specs.declared.finding.Report.{Report}
+use Rattle.rt_filter.specs.declared.finding.Report.TheVariants.{Answers, Count}
+
+-- the report on the entries that are accepted
+abbrev pub report_on : List Entry → (accepts : Extent → Bool) → (line : ℕ) → Report → List ℕ
+report_on entries accepts line (Answers order limit) = find_reply line (answers entries accepts (order_score order) limit)
+report_on entries accepts line Count = ok_line line (length (accepted entries accepts))
