@@ -34,19 +34,20 @@ filled_with held k n room given low size whole few =
 
 -- what fills the room after a pull of n bytes behind those that are held
 abbrev pub filling : (held n : ℕ) (room given : List ℕ) → List ℕ
-filling held n room given = take (held + n) (put_mid held (length room - held) room given)
+filling held n room given = take (held + n) (put_mid held (most_pulled - held) room given)
 
 pub record IsFilled (held n : ℕ) (room given : List ℕ) : Type 0 where
   pub parts : filling held n room given ≡ take held room ++ take n given
   pub none : n ≡ 0 → (take n given ≡ []) × (filling held n room given ≡ take held room)
   pub few : length (take n given) ≤ most_pulled
   pub size : length (filling held n room given) ≡ held + n
+  pub fits : held + n ≤ most_pulled
 
-pub room_filled : (held n : ℕ) (room given : List ℕ) → held < most_pulled → length room ≡ most_pulled → length given ≡ length room - held → n ≤ length given
+pub room_filled : (held n : ℕ) (room given : List ℕ) → held < most_pulled → length room ≡ most_pulled → length given ≡ most_pulled - held → n ≤ length given
     → IsFilled held n room given
 room_filled held n room given begun whole rest bound =
     let low : held ≤ length room = omega (arith, begun, whole) in
-    let parts = filled_with held (length room - held) n room given low refl rest bound in
+    let parts = filled_with held (most_pulled - held) n room given low (omega (arith, whole)) rest bound in
     let nothing : n ≡ 0 → take n given ≡ [] = λ z. ap (λ k. take k given) z in
     record {
       parts = parts;
@@ -54,6 +55,7 @@ room_filled held n room given begun whole rest bound =
       few = omega (arith, length-take-le n given bound, bound, rest, whole);
       size = ap length parts ∙ length-append (take held room) (take n given)
           ∙ ap₂ (λ (i : ℕ) (j : ℕ). i + j) (length-take-le held room low) (length-take-le n given bound);
+      fits = omega (arith, begun, rest, bound);
     }
 
 -- ---- lines of bytes that go on, and that have ended

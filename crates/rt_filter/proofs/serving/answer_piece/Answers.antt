@@ -22,7 +22,6 @@ loop-end-preserved g c =
     record {
       count = search rules;
       capacity = search rules;
-      held = search rules;
       few = omega (arith, long, fits, c.loop-end.invariant.few, c.answer.ensures.lines);
       short = omega (arith, long, c.loop-end.invariant.short);
       back = rest_back c.args.bytes.now c.loop-end.rest.now left (c.in-Some.end + 1) c.loop-end.invariant.short c.loop-end.invariant.back is fits;

@@ -8,7 +8,6 @@ abbrev pub invariant-loop-end : goal.invariant-loop-end
 invariant-loop-end g l = record {
   count : g.K.Sink.failed l.sink ≡ g.K.Sink.failed l.initial.sink;
   capacity : l.frontier.capacity ≡ l.initial.frontier.capacity;
-  held : l.begun.held ≡ l.initial.begun.held;
   few : l.begun.lines + length l.rest ≤ l.initial.begun.lines + length l.bytes;
   short : length l.rest ≤ length l.bytes;
   back : l.rest ≡ drop (length l.bytes - length l.rest) l.bytes;

@@ -1,10 +1,101 @@
+use Rattle.std.proofs.Common.{rules, ◌≡◌, ◌∙◌, ap, ◌-◌, List, ℕ, None, Some, take, drop, length, refl, arith}
+use Rattle.std.proofs.lemmas.List.{length-drop}
 use Rattle.rt_filter.specs.Endings.{told_of}
+use Rattle.rt_filter.specs.Stages.{loaded_tree}
+use Rattle.rt_filter.specs.declared.serving.ServeFault.TheVariants as serve
+use Rattle.rt_filter.proofs.ConsumedLemmas.{consumed_some}
 use Rattle.rt_filter.proofs.TreeLemmas.{serves_of_tree}
+use Rattle.rt_filter.proofs.TurnLemmas.{consumed_more, consumed_none, filling, room_filled, serving-cut, serving-cut_at_end, serving-ended, serving-more, serving-stopped, serving_first, unmoved_same}
 use Rattle.rt_filter.proofs.serving.serve.Goals as goal
+
+pub loop-turn-init : goal.loop-turn-init
+loop-turn-init g c = record {
+  capacity = c.requires.room;
+  source_count = refl;
+  sink_count = refl;
+  whole = refl;
+  begun = omega arith;
+  few = rw c.new-begun.ensures.lines (omega arith);
+  given = consumed_none (g.S.Source.coming c.args.source.now);
+  serving = λ queries before e w.
+      rw (c.new-begun.ensures.lines, c.new-begun.ensures.bad, c.new-begun.ensures.is_long)
+      (serving_first (loaded_tree c.args.tree.now) queries before (g.S.Source.coming c.args.source.now) (g.K.Sink.written c.args.sink.now) e w);
+  flushed = λ e. e;
+}
+
+pub returns-in_default-clause-ending : goal.returns-in_default-clause-ending
+returns-in_default-clause-ending g c loaded packed queries before is_queries is_before =
+    let s = c.loop-turn.invariant.serving queries before is_queries is_before in
+    serves_of_tree c.args.tree.now loaded c.len-most.ensures.sound packed
+    (told_of queries before (g.S.Source.coming c.pull.new.self) (g.K.Sink.written c.loop-turn.sink)) _ (Some serve.Read) c.served.result c.served.ensures.bad c.served.ensures.fault
+    (serving-stopped (loaded_tree c.args.tree.now) queries before (g.S.Source.coming c.loop-turn.source) (g.K.Sink.written c.loop-turn.sink)
+    c.loop-turn.begun.lines c.loop-turn.begun.bad c.loop-turn.begun.is_long (take c.loop-turn.held c.loop-turn.room) s (g.S.Source.coming c.pull.new.self) c.in_default.ensures.bytes)
+
+pub returns-in-Ok-answer_end-clause-ending : goal.returns-in-Ok-answer_end-clause-ending
+returns-in-Ok-answer_end-clause-ending g c loaded packed queries before is_queries is_before =
+    let s = c.loop-turn.invariant.serving queries before is_queries is_before in
+    let none : c.in-Ok.n ≡ 0 = search rules in
+    let filled = (room_filled c.loop-turn.held c.in-Ok.n c.loop-turn.room c.pull.new.room c.loop-turn.invariant.begun c.loop-turn.invariant.whole (search rules) c.in-Ok.ensures.bound).none none in
+    serves_of_tree c.args.tree.now loaded c.len-most.ensures.sound packed
+    (told_of queries before (g.S.Source.coming c.pull.new.self) (g.K.Sink.written c.answer_end.new.sink)) _ None c.served-in-Ok-answer_end.result c.served-in-Ok-answer_end.ensures.bad c.served-in-Ok-answer_end.ensures.fault
+    (serving-ended (loaded_tree c.args.tree.now) queries before (g.S.Source.coming c.loop-turn.source) (g.K.Sink.written c.loop-turn.sink)
+    c.loop-turn.begun.lines c.loop-turn.begun.bad c.loop-turn.begun.is_long (take c.loop-turn.held c.loop-turn.room) s
+    (g.S.Source.coming c.pull.new.self) (g.K.Sink.written c.answer_end.new.sink) c.answer_end.new.begun.bad
+    (rw filled.0 at c.in-Ok.ensures.bytes.0) (c.in-Ok.ensures.bytes.1 none) (rw filled.1 at c.in-Ok-answer_end.ensures.state))
+
+pub returns-in-Err-clause-ending : goal.returns-in-Err-clause-ending
+returns-in-Err-clause-ending g c loaded packed queries before is_queries is_before =
+    let s = c.loop-turn.invariant.serving queries before is_queries is_before in
+    let none : c.in-Ok.n ≡ 0 = search rules in
+    let filled = (room_filled c.loop-turn.held c.in-Ok.n c.loop-turn.room c.pull.new.room c.loop-turn.invariant.begun c.loop-turn.invariant.whole (search rules) c.in-Ok.ensures.bound).none none in
+    serves_of_tree c.args.tree.now loaded c.len-most.ensures.sound packed
+    (told_of queries before (g.S.Source.coming c.pull.new.self) (g.K.Sink.written c.answer_end.new.sink)) _ (Some serve.Write) c.served-in-Err.result c.served-in-Err.ensures.bad (c.served-in-Err.ensures.fault ∙ ap (λ f. Some f) c.into.ensures)
+    (serving-cut_at_end (loaded_tree c.args.tree.now) queries before (g.S.Source.coming c.loop-turn.source) (g.K.Sink.written c.loop-turn.sink)
+    c.loop-turn.begun.lines c.loop-turn.begun.bad c.loop-turn.begun.is_long (take c.loop-turn.held c.loop-turn.room) s
+    (g.S.Source.coming c.pull.new.self) (g.K.Sink.written c.answer_end.new.sink) c.answer_end.new.begun.bad
+    (rw filled.0 at c.in-Ok.ensures.bytes.0) (c.in-Ok.ensures.bytes.1 none) (rw filled.1 at c.in-Err.ensures.cut))
+
+pub returns-in-Err-answer_piece-clause-ending : goal.returns-in-Err-answer_piece-clause-ending
+returns-in-Err-answer_piece-clause-ending g c loaded packed queries before is_queries is_before =
+    let s = c.loop-turn.invariant.serving queries before is_queries is_before in
+    let filled = room_filled c.loop-turn.held c.in-Ok.n c.loop-turn.room c.pull.new.room c.loop-turn.invariant.begun c.loop-turn.invariant.whole (search rules) c.in-Ok.ensures.bound in
+    serves_of_tree c.args.tree.now loaded c.len-most.ensures.sound packed
+    (told_of queries before (g.S.Source.coming c.pull.new.self) (g.K.Sink.written c.answer_piece.new.sink)) _ (Some serve.Write) c.served-in-Err-answer_piece.result c.served-in-Err-answer_piece.ensures.bad (c.served-in-Err-answer_piece.ensures.fault ∙ ap (λ f. Some f) c.into-in-Err-answer_piece.ensures)
+    (serving-cut (loaded_tree c.args.tree.now) queries before (g.S.Source.coming c.loop-turn.source) (g.K.Sink.written c.loop-turn.sink)
+    c.loop-turn.begun.lines c.loop-turn.begun.bad c.loop-turn.begun.is_long (take c.loop-turn.held c.loop-turn.room) s
+    (g.S.Source.coming c.pull.new.self) (g.K.Sink.written c.answer_piece.new.sink) c.answer_piece.new.begun.bad (take c.in-Ok.n c.pull.new.room)
+    (filling c.loop-turn.held c.in-Ok.n c.loop-turn.room c.pull.new.room) c.in-Ok.ensures.bytes.0 filled.few filled.parts c.in-Err-answer_piece.ensures.cut)
+
+pub loop-turn-preserved : goal.loop-turn-preserved
+loop-turn-preserved g c =
+    let some = c.if-n-eq0.false in
+    let filled = room_filled c.loop-turn.held c.in-Ok.n c.loop-turn.room c.pull.new.room c.loop-turn.invariant.begun c.loop-turn.invariant.whole (search rules) c.in-Ok.ensures.bound in
+    let bytes : List ℕ = filling c.loop-turn.held c.in-Ok.n c.loop-turn.room c.pull.new.room in
+    let rest : List ℕ = drop (length bytes - c.in-Ok-answer_piece.rest) bytes in
+    let long : length rest ≡ c.in-Ok-answer_piece.rest = omega (arith, length-drop (length bytes - c.in-Ok-answer_piece.rest) bytes, c.in-Ok-answer_piece.ensures.rest.0) in record {
+      capacity = rw c.in-Ok-answer_piece.ensures.capacity c.loop-turn.invariant.capacity;
+      source_count = c.in-Ok.ensures.went ∙ c.loop-turn.invariant.source_count;
+      sink_count = c.in-Ok-answer_piece.ensures.failures ∙ c.loop-turn.invariant.sink_count;
+      whole = search rules;
+      begun = search rules;
+      few = omega (arith, c.hold-held.ensures.lines, c.answer_piece.ensures.few, filled.size, filled.fits, c.loop-turn.invariant.few);
+      given = consumed_more c.loop-turn._turn (g.S.Source.coming c.args.source.now) (g.S.Source.coming c.loop-turn.source) (g.S.Source.coming c.pull.new.self)
+          c.loop-turn.invariant.given (consumed_some _ _ c.in-Ok.n c.pull.new.room (omega (arith, some)) c.in-Ok.ensures.bound c.in-Ok.ensures.bytes.0);
+      serving = λ queries before e w.
+          let s = c.loop-turn.invariant.serving queries before e w in
+          rw (c.hold-held.ensures.lines, c.hold-held.ensures.bad) (serving-more (loaded_tree c.args.tree.now) queries before (g.S.Source.coming c.loop-turn.source) (g.K.Sink.written c.loop-turn.sink)
+          c.loop-turn.begun.lines c.loop-turn.begun.bad c.loop-turn.begun.is_long (take c.loop-turn.held c.loop-turn.room) s
+          (g.S.Source.coming c.pull.new.self) (g.K.Sink.written c.answer_piece.new.sink) (take c.in-Ok.n c.pull.new.room) bytes rest (take c.hold-held.result c.hold-held.new.room)
+          c.answer_piece.new.begun.lines c.answer_piece.new.begun.bad c.answer_piece.new.begun.is_long c.hold-held.new.self.is_long
+          c.in-Ok.ensures.bytes.0 filled.parts c.in-Ok-answer_piece.ensures.state c.in-Ok-answer_piece.ensures.rest.1
+          (rw long c.hold-held.ensures.is_long) (rw filled.size c.hold-held.ensures.kept));
+      flushed = λ e. c.in-Ok-answer_piece.ensures.flushed (c.loop-turn.invariant.flushed e);
+    }
 
 pub returns-clause-ending : goal.returns-clause-ending
 returns-clause-ending g c loaded packed queries before is_queries is_before =
+    let s = c.loop-turn.invariant.serving queries before is_queries is_before in
     serves_of_tree c.args.tree.now loaded c.len-most.ensures.sound packed
-    (told_of queries before (g.S.Source.coming c.serve_turns.new.source) (g.K.Sink.written c.serve_turns.new.sink))
-    c.serve_turns.result
-    (c.serve_turns.ensures.ending queries before is_queries is_before)
+    (told_of queries before (g.S.Source.coming c.loop-turn.source) (g.K.Sink.written c.loop-turn.sink)) _ (Some serve.Read) c.served-2.result c.served-2.ensures.bad c.served-2.ensures.fault
+    (serving-stopped (loaded_tree c.args.tree.now) queries before (g.S.Source.coming c.loop-turn.source) (g.K.Sink.written c.loop-turn.sink)
+    c.loop-turn.begun.lines c.loop-turn.begun.bad c.loop-turn.begun.is_long (take c.loop-turn.held c.loop-turn.room) s (g.S.Source.coming c.loop-turn.source) (unmoved_same (g.S.Source.coming c.loop-turn.source)))

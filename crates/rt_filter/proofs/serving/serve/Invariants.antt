@@ -2,7 +2,7 @@ use Rattle.std.proofs.Common.{◌≡◌, ◌*◌, ◌<◌, ◌≤◌, false, len
 use Rattle.rt_filter.specs.Endings.{ConsumedAtLeast, told_of}
 use Rattle.rt_filter.specs.Lines.{most_pulled}
 use Rattle.rt_filter.specs.Stages.{IsServing, loaded_tree}
-use Rattle.rt_filter.proofs.serving.serve_turns.Given as goal
+use Rattle.rt_filter.proofs.serving.serve.Given as goal
 
 -- no call has failed, each turn gave a byte at least, and what was pulled is answered and flushed
 abbrev pub invariant-loop-turn : goal.invariant-loop-turn
@@ -11,11 +11,11 @@ invariant-loop-turn g l = record {
   source_count : g.S.Source.failed l.source ≡ g.S.Source.failed l.initial.source;
   sink_count : g.K.Sink.failed l.sink ≡ g.K.Sink.failed l.initial.sink;
   whole : length l.room ≡ most_pulled;
-  held : l.begun.held < most_pulled;
+  begun : l.held < most_pulled;
   few : l.begun.lines ≤ l._turn * most_pulled;
   given : ConsumedAtLeast l._turn (g.S.Source.coming l.initial.source) (g.S.Source.coming l.source);
   serving : (queries before : List ℕ) → g.S.Source.coming l.initial.source ≡ Some queries → g.K.Sink.written l.initial.sink ≡ Some before
       → IsServing (loaded_tree l.tree) (told_of queries before (g.S.Source.coming l.source) (g.K.Sink.written l.sink))
-      l.begun.lines l.begun.bad l.begun.is_long (take l.begun.held l.room);
+      l.begun.lines l.begun.bad l.begun.is_long (take l.held l.room);
   flushed : g.K.Sink.waits l.initial.sink ≡ false → g.K.Sink.waits l.sink ≡ false;
 }
