@@ -92,7 +92,12 @@ pub fn serve<S: Source, K: Sink>(
     // (called, so that it is known that the tree is the packed one of its own entries)
     let _most = tree.len();
     let mut frontier = frontier;
-    let mut begun = Begun::new();
+    let mut begun = Begun {
+        lines: 0,
+        bad: false,
+        is_pushed: false,
+        is_long: false,
+    };
     let mut room = [0u8; MOST_PULLED];
     // (so many bytes in front of the room are the beginning of the next line)
     let mut held = 0;
@@ -116,32 +121,6 @@ pub fn serve<S: Source, K: Sink>(
         }
     }
     begun.served(Some(ServeFault::Read))
-}
-
-impl Begun {
-    // No line was begun.
-    fn new() -> Begun
-        ensures lines { result.lines ≡ 0 }
-        ensures bad { result.bad ≡ false }
-        ensures is_long { result.is_long ≡ false }
-    {
-        Begun {
-            lines: 0,
-            bad: false,
-            is_pushed: false,
-            is_long: false,
-        }
-    }
-
-    fn served(&self, fault: Option<ServeFault>) -> Served
-        ensures bad { result.bad ≡ self.now.bad }
-        ensures fault { result.fault ≡ fault }
-    {
-        Served {
-            bad: self.bad,
-            fault,
-        }
-    }
 }
 
 // Answers the lines that end in these bytes, those that are held and those of a pull, and flushes. Tells how many bytes
@@ -267,6 +246,17 @@ fn parse_line(is_long: bool, line: &[u8]) -> Parsed
 }
 
 impl Begun {
+    // How serving ends.
+    fn served(&self, fault: Option<ServeFault>) -> Served
+        ensures bad { result.bad ≡ self.now.bad }
+        ensures fault { result.fault ≡ fault }
+    {
+        Served {
+            bad: self.bad,
+            fault,
+        }
+    }
+
     // Hands on what was pushed, if anything was.
     fn flush<K: Sink>(&mut self, sink: &mut K) -> Result<(), WriteFault>
         requires { K.failed sink.old < 2 ^ 64 - 1 }

@@ -15,11 +15,10 @@ loop-turn-init g c = record {
   sink_count = refl;
   whole = refl;
   begun = omega arith;
-  few = rw c.new-begun.ensures.lines (omega arith);
+  few = omega arith;
   given = consumed_none (g.S.Source.coming c.args.source.now);
   serving = λ queries before e w.
-      rw (c.new-begun.ensures.lines, c.new-begun.ensures.bad, c.new-begun.ensures.is_long)
-      (serving_first (loaded_tree c.args.tree.now) queries before (g.S.Source.coming c.args.source.now) (g.K.Sink.written c.args.sink.now) e w);
+      serving_first (loaded_tree c.args.tree.now) queries before (g.S.Source.coming c.args.source.now) (g.K.Sink.written c.args.sink.now) e w;
   flushed = λ e. e;
 }
 
