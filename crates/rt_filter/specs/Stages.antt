@@ -79,15 +79,15 @@ pub record IsAnswering (loaded : Loaded) (bytes before : List ℕ) (lines : ℕ)
 abbrev pub Consumed : Told → (consumed rest : List ℕ) → Type 0
 Consumed told consumed rest = (told.coming ≡ Some rest) × (told.queries ≡ consumed ++ rest)
 
--- the queries are answered as far as they were pulled: what is held is the beginning of the next line
-pub record IsServing (loaded : Loaded) (told : Told) (lines : ℕ) (bad is_long : Bool) (held : List ℕ) : Type 0 where
+-- the queries are answered as far as they were pulled: what is kept is the beginning of the next line
+pub record IsServing (loaded : Loaded) (told : Told) (lines : ℕ) (bad is_long : Bool) (partial : List ℕ) : Type 0 where
   pub consumed : List ℕ
   pub rest : List ℕ
   pub told_so : Consumed told consumed rest
   pub out : List ℕ
   pub written : told.written ≡ Some out
-  pub answering : IsAnswering loaded consumed told.before lines bad is_long held out
-  pub clear : HasNoLineFeed held
+  pub answering : IsAnswering loaded consumed told.before lines bad is_long partial out
+  pub clear : HasNoLineFeed partial
 
 -- a push or a flush failed on the way: what went out is a prefix of the answers to the lines of these bytes, and begins
 -- with what had gone out

@@ -174,7 +174,7 @@ fn push_found<G: Geometry + Drop, K: Sink>(
 }
 
 // Pushes a line for each answer that a search is still to give, and then their number.
-fn push_search<A: Answering, K: Sink>(
+fn push_search<A: AnswerStream, K: Sink>(
     search: A,
     line: u128,
     sink: &mut K,
@@ -187,7 +187,7 @@ fn push_search<A: Answering, K: Sink>(
     let mut search = search;
     let mut text = Line::new(b"");
     let pushed = push_answers(&mut search, &mut text, sink);
-    let frontier = search.finished();
+    let frontier = search.into_frontier();
     set_ok_line(&mut text, line, pushed?);
     push_line(&text, sink)?;
     Ok(frontier)
@@ -195,7 +195,7 @@ fn push_search<A: Answering, K: Sink>(
 
 // Pushes a line for each of these answers, as it is found, and returns how many there were. All are put together in one
 // place.
-fn push_answers<A: Answering, K: Sink>(
+fn push_answers<A: AnswerStream, K: Sink>(
     search: &mut A,
     text: &mut Line,
     sink: &mut K,
@@ -216,7 +216,7 @@ fn push_answers<A: Answering, K: Sink>(
 }
 
 // A search that gives its answers one at a time.
-trait Answering {
+trait AnswerStream {
     // The answers that are still to come.
     ghost to_come: { Self → List Answer };
 
@@ -227,11 +227,11 @@ trait Answering {
         ensures answer { MatchOption result (to_come self.old ≡ []) (λ a. to_come self.old ≡ a ∷ to_come self.new) }
         ensures capacity { capacity self.new ≡ capacity self.old };
 
-    fn finished(self) -> Frontier
+    fn into_frontier(self) -> Frontier
         ensures { result.capacity ≡ capacity self };
 }
 
-impl<'a, G: Geometry> Answering for Search<'a, G> {
+impl<'a, G: Geometry> AnswerStream for Search<'a, G> {
     ghost to_come = { λ s. s.to_come };
 
     ghost capacity = { λ s. s.capacity };
@@ -241,13 +241,12 @@ impl<'a, G: Geometry> Answering for Search<'a, G> {
         self.next()
     }
 
-    #[inline(always)]
-    fn finished(self) -> Frontier {
+    fn into_frontier(self) -> Frontier {
         self.finish().0
     }
 }
 
-impl<'a, G: Geometry> Answering for FullSearch<'a, G> {
+impl<'a, G: Geometry> AnswerStream for FullSearch<'a, G> {
     ghost to_come = { λ s. s.to_come };
 
     ghost capacity = { λ s. s.capacity };
@@ -257,8 +256,7 @@ impl<'a, G: Geometry> Answering for FullSearch<'a, G> {
         self.next()
     }
 
-    #[inline(always)]
-    fn finished(self) -> Frontier {
+    fn into_frontier(self) -> Frontier {
         self.finish().0
     }
 }

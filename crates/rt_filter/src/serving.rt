@@ -44,9 +44,9 @@ pub struct Served {
     pub fault: Option<ServeFault>,
 }
 
-// What is kept from one pull to the next.
+// How far the lines are answered.
 #[derive(Clone, Copy)]
-struct Begun {
+struct Progress {
     // How many lines were answered.
     lines: u128,
     // Whether one of them is faulty.
@@ -60,7 +60,7 @@ struct Begun {
 /// Answers the query lines that a source gives, and pushes the answers to a sink, each line by itself.
 ///
 /// At most `turns` pulls are made. Before each all lines that are complete are answered, and what was pushed is
-/// flushed, so that who waits for an answer before the next line has it. No memory is taken: a line is held in 4,097
+/// flushed, so that who waits for an answer before the next line has it. No memory is taken: a line is kept in 4,097
 /// bytes, and one of more than 4,096 is reported as too long.
 pub fn serve<S: Source, K: Sink>(
     tree: &Tree,
@@ -92,7 +92,7 @@ pub fn serve<S: Source, K: Sink>(
     // (called, so that it is known that the tree is the packed one of its own entries)
     let _most = tree.len();
     let mut frontier = frontier;
-    let mut begun = Begun {
+    let mut progress = Progress {
         lines: 0,
         bad: false,
         is_pushed: false,
@@ -100,63 +100,63 @@ pub fn serve<S: Source, K: Sink>(
     };
     let mut room = [0u8; MOST_PULLED];
     // (so many bytes in front of the room are the beginning of the next line)
-    let mut held = 0;
+    let mut partial = 0;
     for _turn in 0..turns {
-        let Ok(n) = source.pull(&mut room[held..]) else {
-            return begun.served(Some(ServeFault::Read));
+        let Ok(n) = source.pull(&mut room[partial..]) else {
+            return progress.served(Some(ServeFault::Read));
         };
-        let filled = held + n;
+        let filled = partial + n;
         if n == 0 {
-            return match answer_end(tree, frontier, &mut begun, &room[..filled], sink) {
-                Ok(()) => begun.served(None),
-                Err(fault) => begun.served(Some(fault.into())),
+            return match answer_end(tree, frontier, &mut progress, &room[..filled], sink) {
+                Ok(()) => progress.served(None),
+                Err(fault) => progress.served(Some(fault.into())),
             };
         }
-        match answer_piece(tree, frontier, &mut begun, &room[..filled], sink) {
+        match answer_piece(tree, frontier, &mut progress, &room[..filled], sink) {
             Ok((left, rest)) => {
                 frontier = left;
-                held = begun.hold(&mut room, filled, rest);
+                partial = progress.keep(&mut room, filled, rest);
             }
-            Err(fault) => return begun.served(Some(fault.into())),
+            Err(fault) => return progress.served(Some(fault.into())),
         }
     }
-    begun.served(Some(ServeFault::Read))
+    progress.served(Some(ServeFault::Read))
 }
 
-// Answers the lines that end in these bytes, those that are held and those of a pull, and flushes. Tells how many bytes
+// Answers the lines that end in these bytes, those that were kept and those of a pull, and flushes. Returns how many bytes
 // stand behind the last line feed.
 fn answer_piece<K: Sink>(
     tree: &Tree,
     frontier: Frontier,
-    begun: &mut Begun,
+    progress: &mut Progress,
     bytes: &[u8],
     sink: &mut K,
 ) -> Result<(Frontier, usize), WriteFault>
     requires capacity { length tree.now.entries ≤ frontier.capacity }
     requires count { K.failed sink.old < 2 ^ 64 - 1 }
-    requires few { begun.old.lines + length bytes.now < 2 ^ 128 }
+    requires few { progress.old.lines + length bytes.now < 2 ^ 128 }
     ensures state { IfOk result (λ left. (all before out : List ℕ) → K.written sink.old ≡ Some out
-        → IsAnswering (loaded_tree tree.now) all before begun.old.lines begun.old.bad begun.old.is_long bytes.now out
+        → IsAnswering (loaded_tree tree.now) all before progress.old.lines progress.old.bad progress.old.is_long bytes.now out
         → (now : List ℕ) × (K.written sink.new ≡ Some now)
-        × IsAnswering (loaded_tree tree.now) all before begun.new.lines begun.new.bad begun.new.is_long
+        × IsAnswering (loaded_tree tree.now) all before progress.new.lines progress.new.bad progress.new.is_long
         (drop (length bytes.now - left.1) bytes.now) now) }
     ensures cut { OnErr result ((all before out : List ℕ) → K.written sink.old ≡ Some out
-        → IsAnswering (loaded_tree tree.now) all before begun.old.lines begun.old.bad begun.old.is_long bytes.now out
-        → IsCut (loaded_tree tree.now) (numbered_lines all false) before out (K.written sink.new) begun.new.bad) }
+        → IsAnswering (loaded_tree tree.now) all before progress.old.lines progress.old.bad progress.old.is_long bytes.now out
+        → IsCut (loaded_tree tree.now) (numbered_lines all false) before out (K.written sink.new) progress.new.bad) }
     ensures rest { IfOk result (λ left. (left.1 ≤ length bytes.now)
         × HasNoLineFeed (drop (length bytes.now - left.1) bytes.now)) }
     ensures capacity { IfOk result (λ left. left.0.capacity ≡ frontier.capacity) }
-    ensures few { begun.new.lines ≤ begun.old.lines + length bytes.now }
+    ensures few { progress.new.lines ≤ progress.old.lines + length bytes.now }
     ensures failures { CountsFailure result (K.failed sink.old) (K.failed sink.new) }
     ensures flushed { OnOk result (K.waits sink.old ≡ false → K.waits sink.new ≡ false) }
 {
     let mut frontier = frontier;
     let mut rest = bytes;
     while let Some(end) = memchr(LINE_FEED, rest) {
-        frontier = answer(tree, frontier, begun, &rest[..end], sink)?;
+        frontier = answer(tree, frontier, progress, &rest[..end], sink)?;
         rest = &rest[end + 1..];
     }
-    begun.flush(sink)?;
+    progress.flush(sink)?;
     Ok((frontier, rest.len()))
 }
 
@@ -164,72 +164,72 @@ fn answer_piece<K: Sink>(
 fn answer_end<K: Sink>(
     tree: &Tree,
     frontier: Frontier,
-    begun: &mut Begun,
-    held: &[u8],
+    progress: &mut Progress,
+    last: &[u8],
     sink: &mut K,
 ) -> Result<(), WriteFault>
     requires capacity { length tree.now.entries ≤ frontier.capacity }
     requires count { K.failed sink.old < 2 ^ 64 - 1 }
-    requires few { begun.old.lines + 1 < 2 ^ 128 }
+    requires few { progress.old.lines + 1 < 2 ^ 128 }
     ensures state { OnOk result ((all before out : List ℕ) → K.written sink.old ≡ Some out
-        → IsAnswering (loaded_tree tree.now) all before begun.old.lines begun.old.bad begun.old.is_long held.now out
-        → HasNoLineFeed held.now
+        → IsAnswering (loaded_tree tree.now) all before progress.old.lines progress.old.bad progress.old.is_long last.now out
+        → HasNoLineFeed last.now
         → (K.written sink.new ≡ Some (before ++ output (loaded_tree tree.now) (numbered_lines all true)))
-        × (begun.new.bad ≡ any_fault (numbered_lines all true))) }
+        × (progress.new.bad ≡ any_fault (numbered_lines all true))) }
     ensures cut { OnErr result ((all before out : List ℕ) → K.written sink.old ≡ Some out
-        → IsAnswering (loaded_tree tree.now) all before begun.old.lines begun.old.bad begun.old.is_long held.now out
-        → HasNoLineFeed held.now
-        → IsCut (loaded_tree tree.now) (numbered_lines all true) before out (K.written sink.new) begun.new.bad) }
+        → IsAnswering (loaded_tree tree.now) all before progress.old.lines progress.old.bad progress.old.is_long last.now out
+        → HasNoLineFeed last.now
+        → IsCut (loaded_tree tree.now) (numbered_lines all true) before out (K.written sink.new) progress.new.bad) }
     ensures failures { CountsFailure result (K.failed sink.old) (K.failed sink.new) }
     ensures flushed { OnOk result (K.waits sink.old ≡ false → K.waits sink.new ≡ false) }
 {
-    if !is_line(begun.is_long, held) {
+    if !is_line(progress.is_long, last) {
         return Ok(());
     }
-    let _frontier = answer(tree, frontier, begun, held, sink)?;
-    begun.flush(sink)
+    let _frontier = answer(tree, frontier, progress, last, sink)?;
+    progress.flush(sink)
 }
 
 // Whether what stands behind the last line feed is a line at the end.
-fn is_line(is_long: bool, held: &[u8]) -> bool
-    ensures some { result ≡ true → (is_long ≡ true) ⊎ (0 < length held.now) }
-    ensures none { result ≡ false → (is_long ≡ false) × (length held.now ≡ 0) }
+fn is_line(is_long: bool, last: &[u8]) -> bool
+    ensures some { result ≡ true → (is_long ≡ true) ⊎ (0 < length last.now) }
+    ensures none { result ≡ false → (is_long ≡ false) × (length last.now ≡ 0) }
 {
-    is_long || !held.is_empty()
+    is_long || !last.is_empty()
 }
 
 // Answers one line. Where nothing is pushed, the sink is left alone.
 fn answer<K: Sink>(
     tree: &Tree,
     frontier: Frontier,
-    begun: &mut Begun,
+    progress: &mut Progress,
     line: &[u8],
     sink: &mut K,
 ) -> Result<Frontier, WriteFault>
     requires capacity { length tree.now.entries ≤ frontier.capacity }
     requires count { K.failed sink.old < 2 ^ 64 - 1 }
-    requires few { begun.old.lines + 1 < 2 ^ 128 }
+    requires few { progress.old.lines + 1 < 2 ^ 128 }
     ensures pushed { Pushed K.written K.failed sink.old sink.new result
-        (reply (loaded_tree tree.now) (begun.old.lines + 1) (parsed_line begun.old.is_long line.now)) }
-    ensures lines { begun.new.lines ≡ begun.old.lines + 1 }
-    ensures bad { begun.new.bad ≡ (begun.old.bad || is_fault (parsed_line begun.old.is_long line.now)) }
-    ensures is_long { begun.new.is_long ≡ false }
+        (reply (loaded_tree tree.now) (progress.old.lines + 1) (parsed_line progress.old.is_long line.now)) }
+    ensures lines { progress.new.lines ≡ progress.old.lines + 1 }
+    ensures bad { progress.new.bad ≡ (progress.old.bad || is_fault (parsed_line progress.old.is_long line.now)) }
+    ensures is_long { progress.new.is_long ≡ false }
     ensures capacity { IfOk result (λ frontier'. frontier'.capacity ≡ frontier.capacity) }
-    ensures untouched { begun.new.is_pushed ≡ false → (begun.old.is_pushed ≡ false) × (sink.new ≡ sink.old) }
+    ensures untouched { progress.new.is_pushed ≡ false → (progress.old.is_pushed ≡ false) × (sink.new ≡ sink.old) }
 {
-    let parsed = parse_line(begun.is_long, line);
-    begun.lines += 1;
-    begun.is_long = false;
+    let parsed = parse_line(progress.is_long, line);
+    progress.lines += 1;
+    progress.is_long = false;
     match parsed {
         Parsed::Skip => Ok(frontier),
         Parsed::Query(query) => {
-            begun.is_pushed = true;
-            push_reply(tree, frontier, begun.lines, query, sink)
+            progress.is_pushed = true;
+            push_reply(tree, frontier, progress.lines, query, sink)
         }
         Parsed::Fault(fault) => {
-            begun.is_pushed = true;
-            begun.bad = true;
-            push_line(&error_line(begun.lines, fault), sink)?;
+            progress.is_pushed = true;
+            progress.bad = true;
+            push_line(&error_line(progress.lines, fault), sink)?;
             Ok(frontier)
         }
     }
@@ -245,7 +245,7 @@ fn parse_line(is_long: bool, line: &[u8]) -> Parsed
     parse(line)
 }
 
-impl Begun {
+impl Progress {
     // How serving ends.
     fn served(&self, fault: Option<ServeFault>) -> Served
         ensures bad { result.bad ≡ self.now.bad }
@@ -276,14 +276,14 @@ impl Begun {
         Ok(())
     }
 
-    // Holds the last so many of the bytes that fill the room, the beginning of a line: moves them to its front, and returns
+    // Keeps the last so many of the bytes that fill the room, the beginning of a line: moves them to its front, and returns
     // how many they are. Where they are too many for a line, they are dropped.
-    fn hold(&mut self, room: &mut [u8], filled: usize, rest: usize) -> usize
+    fn keep(&mut self, room: &mut [u8], filled: usize, rest: usize) -> usize
         requires filled { filled ≤ length room.old }
         requires rest { rest ≤ filled }
         ensures is_long { self.new.is_long ≡ (self.old.is_long || nat_lt longest_line rest) }
-        ensures held { result ≡ (if self.new.is_long then 0 else rest) }
-        ensures kept { take result room.new
+        ensures size { result ≡ (if self.new.is_long then 0 else rest) }
+        ensures bytes { take result room.new
             ≡ (if self.new.is_long then [] else drop (filled - rest) (take filled room.old)) }
         ensures whole { length room.new ≡ length room.old }
         ensures lines { self.new.lines ≡ self.old.lines }

@@ -8,7 +8,7 @@ use Rattle.rt_filter.proofs.finding.push_answers.Goals as goal
 pub returns-in_err-push_line-clause-pushed : goal.returns-in_err-push_line-clause-pushed
 returns-in_err-push_line-clause-pushed g c =
     let line : c.set_answer_line.new.text ≡ answer_line c.in-Some.id c.in-Some.score = search rules in
-    let all = answer_lines (g.A.Answering.to_come c.args.search.now) in
+    let all = answer_lines (g.A.AnswerStream.to_come c.args.search.now) in
     let cut = rw line at c.in_err-push_line.ensures.pushed in
     as_failed g.K.Sink.written g.K.Sink.failed _ c.loop-id.sink _ c.from_residual.result _ all c.from_residual.ensures.1 (
       answer_cut all _ _ _ c.in-Some.id c.in-Some.score _ _ c.in-Some.ensures.answer c.loop-id.invariant.pushed cut.0,

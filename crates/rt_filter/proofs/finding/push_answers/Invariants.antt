@@ -7,10 +7,10 @@ use Rattle.rt_filter.proofs.finding.push_answers.Given as goal
 abbrev pub invariant-loop-id : goal.invariant-loop-id
 invariant-loop-id g l = record {
   count : g.K.Sink.failed l.sink ≡ g.K.Sink.failed l.initial.sink;
-  capacity : g.A.Answering.capacity l.search ≡ g.A.Answering.capacity l.initial.search;
-  many : l.found + length (g.A.Answering.to_come l.search) ≡ length (g.A.Answering.to_come l.initial.search);
-  pushed : AllBut (answer_lines (g.A.Answering.to_come l.initial.search)) (g.K.Sink.written l.initial.sink) (g.K.Sink.written l.sink) (answer_lines (g.A.Answering.to_come l.search));
+  capacity : g.A.AnswerStream.capacity l.search ≡ g.A.AnswerStream.capacity l.initial.search;
+  many : l.found + length (g.A.AnswerStream.to_come l.search) ≡ length (g.A.AnswerStream.to_come l.initial.search);
+  pushed : AllBut (answer_lines (g.A.AnswerStream.to_come l.initial.search)) (g.K.Sink.written l.initial.sink) (g.K.Sink.written l.sink) (answer_lines (g.A.AnswerStream.to_come l.search));
 }
 
 abbrev pub decreases-loop-id : goal.decreases-loop-id
-decreases-loop-id g l = length (g.A.Answering.to_come l.search)
+decreases-loop-id g l = length (g.A.AnswerStream.to_come l.search)

@@ -6,7 +6,7 @@ use Rattle.rt_filter.proofs.finding.push_search.Goals as goal
 
 pub returns-in_err-push_line-clause-pushed : goal.returns-in_err-push_line-clause-pushed
 returns-in_err-push_line-clause-pushed g c =
-    let found = g.A.Answering.to_come c.args.search in
+    let found = g.A.AnswerStream.to_come c.args.search in
     let text = c.set_ok_line.ensures ∙ ap (ok_line c.args.line) c.in_ok-pushed.ensures.many in
     let result = c.from_residual-in_err-push_line.result in
     pushed_after g.K.Sink.written g.K.Sink.failed _ c.push_answers-pushed.new.sink _ (answer_lines found) (ok_line c.args.line (length found)) result c.in_ok-pushed.ensures.pushed

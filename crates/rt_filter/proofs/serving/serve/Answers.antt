@@ -14,7 +14,7 @@ loop-turn-init g c = record {
   source_count = refl;
   sink_count = refl;
   whole = refl;
-  begun = omega arith;
+  short = omega arith;
   few = omega arith;
   given = consumed_none (g.S.Source.coming c.args.source.now);
   serving = λ queries before e w.
@@ -28,66 +28,66 @@ returns-in_default-clause-ending g c loaded packed queries before is_queries is_
     serves_of_tree c.args.tree.now loaded c.len-most.ensures.sound packed
     (told_of queries before (g.S.Source.coming c.pull.new.self) (g.K.Sink.written c.loop-turn.sink)) _ (Some serve.Read) c.served.result c.served.ensures.bad c.served.ensures.fault
     (serving-stopped (loaded_tree c.args.tree.now) queries before (g.S.Source.coming c.loop-turn.source) (g.K.Sink.written c.loop-turn.sink)
-    c.loop-turn.begun.lines c.loop-turn.begun.bad c.loop-turn.begun.is_long (take c.loop-turn.held c.loop-turn.room) s (g.S.Source.coming c.pull.new.self) c.in_default.ensures.bytes)
+    c.loop-turn.progress.lines c.loop-turn.progress.bad c.loop-turn.progress.is_long (take c.loop-turn.partial c.loop-turn.room) s (g.S.Source.coming c.pull.new.self) c.in_default.ensures.bytes)
 
 pub returns-in-Ok-answer_end-clause-ending : goal.returns-in-Ok-answer_end-clause-ending
 returns-in-Ok-answer_end-clause-ending g c loaded packed queries before is_queries is_before =
     let s = c.loop-turn.invariant.serving queries before is_queries is_before in
     let none : c.in-Ok.n ≡ 0 = search rules in
-    let filled = (room_filled c.loop-turn.held c.in-Ok.n c.loop-turn.room c.pull.new.room c.loop-turn.invariant.begun c.loop-turn.invariant.whole (search rules) c.in-Ok.ensures.bound).none none in
+    let filled = (room_filled c.loop-turn.partial c.in-Ok.n c.loop-turn.room c.pull.new.room c.loop-turn.invariant.short c.loop-turn.invariant.whole (search rules) c.in-Ok.ensures.bound).none none in
     serves_of_tree c.args.tree.now loaded c.len-most.ensures.sound packed
     (told_of queries before (g.S.Source.coming c.pull.new.self) (g.K.Sink.written c.answer_end.new.sink)) _ None c.served-in-Ok-answer_end.result c.served-in-Ok-answer_end.ensures.bad c.served-in-Ok-answer_end.ensures.fault
     (serving-ended (loaded_tree c.args.tree.now) queries before (g.S.Source.coming c.loop-turn.source) (g.K.Sink.written c.loop-turn.sink)
-    c.loop-turn.begun.lines c.loop-turn.begun.bad c.loop-turn.begun.is_long (take c.loop-turn.held c.loop-turn.room) s
-    (g.S.Source.coming c.pull.new.self) (g.K.Sink.written c.answer_end.new.sink) c.answer_end.new.begun.bad
+    c.loop-turn.progress.lines c.loop-turn.progress.bad c.loop-turn.progress.is_long (take c.loop-turn.partial c.loop-turn.room) s
+    (g.S.Source.coming c.pull.new.self) (g.K.Sink.written c.answer_end.new.sink) c.answer_end.new.progress.bad
     (rw filled.0 at c.in-Ok.ensures.bytes.0) (c.in-Ok.ensures.bytes.1 none) (rw filled.1 at c.in-Ok-answer_end.ensures.state))
 
 pub returns-in-Err-clause-ending : goal.returns-in-Err-clause-ending
 returns-in-Err-clause-ending g c loaded packed queries before is_queries is_before =
     let s = c.loop-turn.invariant.serving queries before is_queries is_before in
     let none : c.in-Ok.n ≡ 0 = search rules in
-    let filled = (room_filled c.loop-turn.held c.in-Ok.n c.loop-turn.room c.pull.new.room c.loop-turn.invariant.begun c.loop-turn.invariant.whole (search rules) c.in-Ok.ensures.bound).none none in
+    let filled = (room_filled c.loop-turn.partial c.in-Ok.n c.loop-turn.room c.pull.new.room c.loop-turn.invariant.short c.loop-turn.invariant.whole (search rules) c.in-Ok.ensures.bound).none none in
     serves_of_tree c.args.tree.now loaded c.len-most.ensures.sound packed
     (told_of queries before (g.S.Source.coming c.pull.new.self) (g.K.Sink.written c.answer_end.new.sink)) _ (Some serve.Write) c.served-in-Err.result c.served-in-Err.ensures.bad (c.served-in-Err.ensures.fault ∙ ap (λ f. Some f) c.into.ensures)
     (serving-cut_at_end (loaded_tree c.args.tree.now) queries before (g.S.Source.coming c.loop-turn.source) (g.K.Sink.written c.loop-turn.sink)
-    c.loop-turn.begun.lines c.loop-turn.begun.bad c.loop-turn.begun.is_long (take c.loop-turn.held c.loop-turn.room) s
-    (g.S.Source.coming c.pull.new.self) (g.K.Sink.written c.answer_end.new.sink) c.answer_end.new.begun.bad
+    c.loop-turn.progress.lines c.loop-turn.progress.bad c.loop-turn.progress.is_long (take c.loop-turn.partial c.loop-turn.room) s
+    (g.S.Source.coming c.pull.new.self) (g.K.Sink.written c.answer_end.new.sink) c.answer_end.new.progress.bad
     (rw filled.0 at c.in-Ok.ensures.bytes.0) (c.in-Ok.ensures.bytes.1 none) (rw filled.1 at c.in-Err.ensures.cut))
 
 pub returns-in-Err-answer_piece-clause-ending : goal.returns-in-Err-answer_piece-clause-ending
 returns-in-Err-answer_piece-clause-ending g c loaded packed queries before is_queries is_before =
     let s = c.loop-turn.invariant.serving queries before is_queries is_before in
-    let filled = room_filled c.loop-turn.held c.in-Ok.n c.loop-turn.room c.pull.new.room c.loop-turn.invariant.begun c.loop-turn.invariant.whole (search rules) c.in-Ok.ensures.bound in
+    let filled = room_filled c.loop-turn.partial c.in-Ok.n c.loop-turn.room c.pull.new.room c.loop-turn.invariant.short c.loop-turn.invariant.whole (search rules) c.in-Ok.ensures.bound in
     serves_of_tree c.args.tree.now loaded c.len-most.ensures.sound packed
     (told_of queries before (g.S.Source.coming c.pull.new.self) (g.K.Sink.written c.answer_piece.new.sink)) _ (Some serve.Write) c.served-in-Err-answer_piece.result c.served-in-Err-answer_piece.ensures.bad (c.served-in-Err-answer_piece.ensures.fault ∙ ap (λ f. Some f) c.into-in-Err-answer_piece.ensures)
     (serving-cut (loaded_tree c.args.tree.now) queries before (g.S.Source.coming c.loop-turn.source) (g.K.Sink.written c.loop-turn.sink)
-    c.loop-turn.begun.lines c.loop-turn.begun.bad c.loop-turn.begun.is_long (take c.loop-turn.held c.loop-turn.room) s
-    (g.S.Source.coming c.pull.new.self) (g.K.Sink.written c.answer_piece.new.sink) c.answer_piece.new.begun.bad (take c.in-Ok.n c.pull.new.room)
-    (filling c.loop-turn.held c.in-Ok.n c.loop-turn.room c.pull.new.room) c.in-Ok.ensures.bytes.0 filled.few filled.parts c.in-Err-answer_piece.ensures.cut)
+    c.loop-turn.progress.lines c.loop-turn.progress.bad c.loop-turn.progress.is_long (take c.loop-turn.partial c.loop-turn.room) s
+    (g.S.Source.coming c.pull.new.self) (g.K.Sink.written c.answer_piece.new.sink) c.answer_piece.new.progress.bad (take c.in-Ok.n c.pull.new.room)
+    (filling c.loop-turn.partial c.in-Ok.n c.loop-turn.room c.pull.new.room) c.in-Ok.ensures.bytes.0 filled.few filled.parts c.in-Err-answer_piece.ensures.cut)
 
 pub loop-turn-preserved : goal.loop-turn-preserved
 loop-turn-preserved g c =
     let some = c.if-n-eq0.false in
-    let filled = room_filled c.loop-turn.held c.in-Ok.n c.loop-turn.room c.pull.new.room c.loop-turn.invariant.begun c.loop-turn.invariant.whole (search rules) c.in-Ok.ensures.bound in
-    let bytes : List ℕ = filling c.loop-turn.held c.in-Ok.n c.loop-turn.room c.pull.new.room in
+    let filled = room_filled c.loop-turn.partial c.in-Ok.n c.loop-turn.room c.pull.new.room c.loop-turn.invariant.short c.loop-turn.invariant.whole (search rules) c.in-Ok.ensures.bound in
+    let bytes : List ℕ = filling c.loop-turn.partial c.in-Ok.n c.loop-turn.room c.pull.new.room in
     let rest : List ℕ = drop (length bytes - c.in-Ok-answer_piece.rest) bytes in
     let long : length rest ≡ c.in-Ok-answer_piece.rest = omega (arith, length-drop (length bytes - c.in-Ok-answer_piece.rest) bytes, c.in-Ok-answer_piece.ensures.rest.0) in record {
       capacity = rw c.in-Ok-answer_piece.ensures.capacity c.loop-turn.invariant.capacity;
       source_count = c.in-Ok.ensures.went ∙ c.loop-turn.invariant.source_count;
       sink_count = c.in-Ok-answer_piece.ensures.failures ∙ c.loop-turn.invariant.sink_count;
       whole = search rules;
-      begun = search rules;
-      few = omega (arith, c.hold-held.ensures.lines, c.answer_piece.ensures.few, filled.size, filled.fits, c.loop-turn.invariant.few);
+      short = search rules;
+      few = omega (arith, c.keep-partial.ensures.lines, c.answer_piece.ensures.few, filled.size, filled.fits, c.loop-turn.invariant.few);
       given = consumed_more c.loop-turn._turn (g.S.Source.coming c.args.source.now) (g.S.Source.coming c.loop-turn.source) (g.S.Source.coming c.pull.new.self)
           c.loop-turn.invariant.given (consumed_some _ _ c.in-Ok.n c.pull.new.room (omega (arith, some)) c.in-Ok.ensures.bound c.in-Ok.ensures.bytes.0);
       serving = λ queries before e w.
           let s = c.loop-turn.invariant.serving queries before e w in
-          rw (c.hold-held.ensures.lines, c.hold-held.ensures.bad) (serving-more (loaded_tree c.args.tree.now) queries before (g.S.Source.coming c.loop-turn.source) (g.K.Sink.written c.loop-turn.sink)
-          c.loop-turn.begun.lines c.loop-turn.begun.bad c.loop-turn.begun.is_long (take c.loop-turn.held c.loop-turn.room) s
-          (g.S.Source.coming c.pull.new.self) (g.K.Sink.written c.answer_piece.new.sink) (take c.in-Ok.n c.pull.new.room) bytes rest (take c.hold-held.result c.hold-held.new.room)
-          c.answer_piece.new.begun.lines c.answer_piece.new.begun.bad c.answer_piece.new.begun.is_long c.hold-held.new.self.is_long
+          rw (c.keep-partial.ensures.lines, c.keep-partial.ensures.bad) (serving-more (loaded_tree c.args.tree.now) queries before (g.S.Source.coming c.loop-turn.source) (g.K.Sink.written c.loop-turn.sink)
+          c.loop-turn.progress.lines c.loop-turn.progress.bad c.loop-turn.progress.is_long (take c.loop-turn.partial c.loop-turn.room) s
+          (g.S.Source.coming c.pull.new.self) (g.K.Sink.written c.answer_piece.new.sink) (take c.in-Ok.n c.pull.new.room) bytes rest (take c.keep-partial.result c.keep-partial.new.room)
+          c.answer_piece.new.progress.lines c.answer_piece.new.progress.bad c.answer_piece.new.progress.is_long c.keep-partial.new.self.is_long
           c.in-Ok.ensures.bytes.0 filled.parts c.in-Ok-answer_piece.ensures.state c.in-Ok-answer_piece.ensures.rest.1
-          (rw long c.hold-held.ensures.is_long) (rw filled.size c.hold-held.ensures.kept));
+          (rw long c.keep-partial.ensures.is_long) (rw filled.size c.keep-partial.ensures.bytes));
       flushed = λ e. c.in-Ok-answer_piece.ensures.flushed (c.loop-turn.invariant.flushed e);
     }
 
@@ -97,4 +97,4 @@ returns-clause-ending g c loaded packed queries before is_queries is_before =
     serves_of_tree c.args.tree.now loaded c.len-most.ensures.sound packed
     (told_of queries before (g.S.Source.coming c.loop-turn.source) (g.K.Sink.written c.loop-turn.sink)) _ (Some serve.Read) c.served-2.result c.served-2.ensures.bad c.served-2.ensures.fault
     (serving-stopped (loaded_tree c.args.tree.now) queries before (g.S.Source.coming c.loop-turn.source) (g.K.Sink.written c.loop-turn.sink)
-    c.loop-turn.begun.lines c.loop-turn.begun.bad c.loop-turn.begun.is_long (take c.loop-turn.held c.loop-turn.room) s (g.S.Source.coming c.loop-turn.source) (unmoved_same (g.S.Source.coming c.loop-turn.source)))
+    c.loop-turn.progress.lines c.loop-turn.progress.bad c.loop-turn.progress.is_long (take c.loop-turn.partial c.loop-turn.room) s (g.S.Source.coming c.loop-turn.source) (unmoved_same (g.S.Source.coming c.loop-turn.source)))
