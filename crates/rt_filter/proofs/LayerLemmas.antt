@@ -13,8 +13,8 @@ use Rattle.rt_geo.specs.Orders.{order_score}
 use Rattle.rt_text.specs.ReplyLines.{ok_line}
 use Rattle.rt_filter.specs.Replies.{find_reply}
 use Rattle.rt_filter.specs.Reports.{report_on}
-use Rattle.rt_filter.specs.declared.finding.Report.{Report}
-use Rattle.rt_filter.specs.declared.finding.Report.TheVariants.{Answers, Count}
+use Rattle.rt_filter.specs.declared.query.Report.{Report}
+use Rattle.rt_filter.specs.declared.query.Report.TheVariants.{Answers, Count}
 use Rattle.rt_tree.specs.Sorting.{limited, sorted}
 use Rattle.rt_search.specs.Answers.{accepted, answer_cmp, answer_of, answers}
 

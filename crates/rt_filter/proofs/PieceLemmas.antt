@@ -11,7 +11,7 @@ use Rattle.std.proofs.lemmas.Grind.{flat_map-append}
 use Rattle.std.proofs.lemmas.List.Concat.{flat_map-cons}
 use Rattle.std.proofs.lemmas.List.Folds.{list_any-append}
 use Rattle.std.proofs.Math.Seq.{paste, take-append_seam}
-use Rattle.std.proofs.lemmas.List.{drop-drop, drop-take, length-append, length-drop, take-append-drop}
+use Rattle.std.proofs.lemmas.List.{drop-drop, drop-take, length-append, length-drop}
 use Rattle.memchr.specs.Find.{IsFirstByte, is_byte}
 use Rattle.rt_text.specs.declared.query.Parsed.{Parsed}
 use Rattle.rt_device.specs.Devices.{IsSameIfTold}
@@ -19,6 +19,7 @@ use Rattle.rt_filter.specs.Lines.{line_feed, longest_line, numbered_lines}
 use Rattle.rt_filter.specs.Replies.{Loaded, any_fault, is_fault, judged_line, output, reply}
 use Rattle.rt_filter.specs.Pushes.{WasCut, WasPushed, WentPrefix}
 use Rattle.rt_filter.specs.Stages.{HasNoLineFeed, IsAnswering, IsCut, parsed_line, lines_from}
+use Rattle.rt_filter.proofs.PushLemmas.{behind, unmoved}
 use Rattle.rt_filter.proofs.LineLemmas.{clear-append, found, lines_from-found, lines_from-last, lines_from-none}
 
 -- ---- replies to some lines and then others
@@ -102,20 +103,17 @@ module _ (loaded : Loaded) (bytes before : List ℕ) where
 
 -- ---- prefixes
 
-rest_of : (xs front : List ℕ) → StartsWith xs front → xs ≡ front ++ drop (length front) xs
-rest_of xs front h = sym (take-append-drop (length front) xs) ∙ ap (λ zs. zs ++ drop (length front) xs) h
-
 pub starts : (front back : List ℕ) → StartsWith (front ++ back) front
 starts front back = take-append_seam front back
 
 pub starts-more : (xs front back : List ℕ) → StartsWith xs front → StartsWith (xs ++ back) front
 starts-more xs front back h =
-    rw (rest_of xs front h, append_assoc front (drop (length front) xs) back) (starts front (drop (length front) xs ++ back))
+    rw (behind xs front h, append_assoc front (drop (length front) xs) back) (starts front (drop (length front) xs ++ back))
 
 starts-between : (before xs front back : List ℕ) → StartsWith xs front → StartsWith (before ++ (xs ++ back)) (before ++ front)
 starts-between before xs front back h =
     let whole : before ++ (xs ++ back) ≡ (before ++ front) ++ (drop (length front) xs ++ back) =
-    ap (λ zs. before ++ (zs ++ back)) (rest_of xs front h) ∙ ap (λ zs. before ++ zs) (append_assoc front (drop (length front) xs) back)
+    ap (λ zs. before ++ (zs ++ back)) (behind xs front h) ∙ ap (λ zs. before ++ zs) (append_assoc front (drop (length front) xs) back)
     ∙ sym (append_assoc before front (drop (length front) xs ++ back)) in
     rw whole (starts (before ++ front) (drop (length front) xs ++ back))
 
@@ -160,10 +158,6 @@ prefix_more loaded now (Some written) number line later w = (
   rw (flat_map-cons (λ (l : ℕ × List ℕ). reply loaded l.0 (judged_line l.1)) (number, line) later)
       (starts-more (reply loaded number (judged_line line)) w.0 (output loaded later) w.2),
 )
-
-prefix_none : (now : List ℕ) (o : Option (List ℕ)) → IsSameIfTold (Some now) o → WentPrefix now o []
-prefix_none now None h = tt
-prefix_none now (Some written) h = ([], h ∙ sym (append-nil now), refl)
 
 kept : (xs : List ℕ) (new : Option (List ℕ)) → Keeps (Some xs) new → new ≡ Some xs
 kept xs None h = absurd h
@@ -233,7 +227,7 @@ module _ (loaded : Loaded) (old mid new : Option (List ℕ)) (lines : ℕ) (bad 
   steps-lost clear k all before out o s =
       let r = h all before out o s in
       cut-later loaded all before lines' bad' is_long' rest out r.0 [] (numbered_lines all false) r.3
-      (no_line loaded all before lines' bad' is_long' rest r.0 r.3 clear) r.2 new (prefix_none r.0 new (rw r.1 at k)) bad' (λ is. or_first bad' false is)
+      (no_line loaded all before lines' bad' is_long' rest r.0 r.3 clear) r.2 new (unmoved (Some r.0) new [] (rw r.1 at k)) bad' (λ is. or_first bad' false is)
 
 -- ---- what is kept
 

@@ -65,7 +65,7 @@ prefix : (out rest all : List ℕ) → all ≡ out ++ rest → StartsWith all ou
 prefix out rest all e = rw e (take-append_seam out rest)
 
 -- what stands behind a prefix
-behind : (xs out : List ℕ) → StartsWith xs out → xs ≡ out ++ drop (length out) xs
+pub behind : (xs out : List ℕ) → StartsWith xs out → xs ≡ out ++ drop (length out) xs
 behind xs out h = sym (take-append-drop (length out) xs) ∙ ap (λ zs. zs ++ drop (length out) xs) h
 
 -- some bytes are there, and of what follows a prefix
@@ -88,7 +88,7 @@ pushed_cut all next rest old mid new p h = if_some _ old (λ before e.
     let cut : WentPrefix (before ++ q.0) new next = rw q.1 at h in
     later before q.0 next rest all new cut q.2)
 
-unmoved : (old new : Option (List ℕ)) (bytes : List ℕ) → IsSameIfTold old new → WasCut old new bytes
+pub unmoved : (old new : Option (List ℕ)) (bytes : List ℕ) → IsSameIfTold old new → WasCut old new bytes
 unmoved None new bytes h = tt
 unmoved (Some xs) None bytes h = tt
 unmoved (Some xs) (Some ys) bytes h = ([], h ∙ sym (append-nil xs), refl)
@@ -99,7 +99,7 @@ pub pushed_prefix : (all : List ℕ) (old mid new : Option (List ℕ)) (rest : L
 pushed_prefix all old mid new rest p h =
     pushed_cut all rest [] old mid new (rw (append-nil rest) p) (unmoved mid new rest h)
 
-unmoved_same : (now : Option (List ℕ)) → IsSameIfTold now now
+pub unmoved_same : (now : Option (List ℕ)) → IsSameIfTold now now
 unmoved_same None = tt
 unmoved_same (Some xs) = refl
 

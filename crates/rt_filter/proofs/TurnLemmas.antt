@@ -139,10 +139,6 @@ ended : (rest : List ℕ) (new : Option (List ℕ)) → Consumes (Some rest) new
 ended rest None h e = absurd h
 ended rest (Some ys) h e = (ap (λ zs. Some zs) e, h ∙ e)
 
-pub unmoved_same : (now : Option (List ℕ)) → IsSameIfTold now now
-unmoved_same None = tt
-unmoved_same (Some xs) = refl
-
 still_told : (now : Option (List ℕ)) (bytes : List ℕ) → IsSameIfTold (Some bytes) now → StillTells true now bytes
 still_told None bytes h = tt
 still_told (Some known) bytes h = h

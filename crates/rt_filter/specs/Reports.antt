@@ -10,8 +10,8 @@ use Rattle.rt_text.specs.declared.query.Query.{Query}
 use Rattle.rt_text.specs.declared.query.Query.TheVariants.{CostCount, CostFind}
 use Rattle.rt_search.specs.Answers.{accepted, answers}
 use Rattle.rt_filter.specs.Replies.{find_reply}
-use Rattle.rt_filter.specs.declared.finding.Report.{Report}
-use Rattle.rt_filter.specs.declared.finding.Report.TheVariants.{Answers, Count}
+use Rattle.rt_filter.specs.declared.query.Report.{Report}
+use Rattle.rt_filter.specs.declared.query.Report.TheVariants.{Answers, Count}
 
 -- the report on the entries that are accepted
 abbrev pub report_on : List Entry → (accepts : Extent → Bool) → (line : ℕ) → Report → List ℕ

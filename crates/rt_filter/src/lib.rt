@@ -8,8 +8,7 @@
 #![tactic(auto)]
 
 mod filter;
-mod finding;
-mod pushing;
+mod query;
 mod reply;
 mod serving;
 

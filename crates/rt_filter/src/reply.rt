@@ -1,115 +1,115 @@
-//! The replies to queries.
+//! Lines of replies, pushed.
 
-ghost use Rattle.std.specs.Prelude.{◌≡◌, ◌+◌, ◌-◌, ◌<◌, ◌≤◌, ◌^◌, IfOk, length};
-ghost use Rattle.rt_tree.specs.Levels.{level_sizes};
+ghost use Rattle.std.specs.Prelude.{◌≡◌, ◌-◌, ◌<◌, ◌^◌, ℕ, List, [], ◌∷◌, IfOk, MatchOption, length};
+ghost use Rattle.rt_search.specs.Answers.{Answer};
 ghost use Rattle.rt_filter.specs.Pushes.{Pushed};
-ghost use Rattle.rt_filter.specs.Replies.{levels_reply, query_reply};
-ghost use Rattle.rt_filter.specs.Reports.{cost_query};
-ghost use Rattle.rt_filter.specs.Stages.{loaded_tree};
+ghost use Rattle.rt_filter.specs.Replies.{answer_lines, find_reply};
 
-use crate::finding::{Report, push_report};
-use crate::pushing::push_line;
 use rt_device::{Sink, WriteFault};
-use rt_geo::{ById, Counted, Guided, Layers, OnLayers, Region};
-use rt_search::{Frontier, cost, count};
-use rt_text::{Query, level_line, ok_line};
-use rt_tree::Tree;
+use rt_geo::Geometry;
+use rt_search::{Frontier, FullSearch, Search};
+use rt_text::{Line, set_answer_line, set_ok_line};
 
-/// Pushes the reply to a query.
-pub(crate) fn push_reply<K: Sink>(
-    tree: &Tree,
-    frontier: Frontier,
+/// Pushes a line until all of it is taken, each time on from where the sink stopped. It isn't flushed.
+pub(crate) fn push_line<K: Sink>(line: &Line, sink: &mut K) -> Result<(), WriteFault>
+    requires count { K.failed sink.old < 2 ^ 64 - 1 }
+    ensures pushed { Pushed K.written K.failed sink.old sink.new result line.now }
+{
+    let mut rest = line.bytes();
+    while !rest.is_empty() {
+        let n = sink.push(rest)?;
+        if n == 0 {
+            return Err(WriteFault);
+        }
+        rest = &rest[n..];
+    }
+    Ok(())
+}
+
+/// Pushes a line for each answer that a search is still to give, and then their number.
+pub(crate) fn push_search<A: AnswerStream, K: Sink>(
+    search: A,
     line: u128,
-    query: Query,
     sink: &mut K,
 ) -> Result<Frontier, WriteFault>
-    requires room { length tree.now.entries ≤ frontier.capacity }
+    requires few { length (A.to_come search) < 2 ^ 32 }
     requires count { K.failed sink.old < 2 ^ 64 - 1 }
-    ensures pushed { Pushed K.written K.failed sink.old sink.new result
-        (query_reply (loaded_tree tree.now) line query) }
-    ensures capacity { IfOk result (λ left. left.capacity ≡ frontier.capacity) }
+    ensures pushed { Pushed K.written K.failed sink.old sink.new result (find_reply line (A.to_come search)) }
+    ensures capacity { IfOk result (λ left. left.capacity ≡ A.capacity search) }
 {
-    match query {
-        Query::Find {
-            region,
-            order,
-            limit,
-            layers,
-        } => {
-            let report = Report::Answers { order, limit };
-            push_report(tree, frontier, line, region, layers, report, sink)
-        }
-        Query::Count { region, layers } => {
-            push_report(tree, frontier, line, region, layers, Report::Count, sink)
-        }
-        Query::Levels => {
-            push_levels(tree, line, sink)?;
-            Ok(frontier)
-        }
-        Query::CostFind {
-            region,
-            order,
-            limit,
-            layers,
-        } => {
-            let report = Report::Answers { order, limit };
-            push_cost(tree, frontier, line, region, layers, report, sink)
-        }
-        Query::CostCount { region, layers } => {
-            push_cost(tree, frontier, line, region, layers, Report::Count, sink)
-        }
+    let mut search = search;
+    let mut text = Line::new(b"");
+    let pushed = push_answers(&mut search, &mut text, sink);
+    let frontier = search.into_frontier();
+    set_ok_line(&mut text, line, pushed?);
+    push_line(&text, sink)?;
+    Ok(frontier)
+}
+
+// Pushes a line for each of these answers, as it is found, and returns how many there were. All are put together in one
+// place.
+fn push_answers<A: AnswerStream, K: Sink>(
+    search: &mut A,
+    text: &mut Line,
+    sink: &mut K,
+) -> Result<u64, WriteFault>
+    requires few { length (A.to_come search.old) < 2 ^ 32 }
+    requires count { K.failed sink.old < 2 ^ 64 - 1 }
+    ensures pushed { Pushed K.written K.failed sink.old sink.new result (answer_lines (A.to_come search.old)) }
+    ensures many { IfOk result (λ found. found ≡ length (A.to_come search.old)) }
+    ensures capacity { A.capacity search.new ≡ A.capacity search.old }
+{
+    let mut found: u64 = 0;
+    while let Some((id, score)) = search.next_answer() {
+        set_answer_line(text, id, score);
+        push_line(text, sink)?;
+        found += 1;
+    }
+    Ok(found)
+}
+
+/// A search that gives its answers one at a time.
+pub(crate) trait AnswerStream {
+    // The answers that are still to come.
+    ghost to_come: { Self → List Answer };
+
+    // How much room its frontier has.
+    ghost capacity: { Self → ℕ };
+
+    fn next_answer(&mut self) -> Option<(i64, u128)>
+        ensures answer { MatchOption result (to_come self.old ≡ []) (λ a. to_come self.old ≡ a ∷ to_come self.new) }
+        ensures capacity { capacity self.new ≡ capacity self.old };
+
+    fn into_frontier(self) -> Frontier
+        ensures { result.capacity ≡ capacity self };
+}
+
+impl<'a, G: Geometry> AnswerStream for Search<'a, G> {
+    ghost to_come = { λ s. s.to_come };
+
+    ghost capacity = { λ s. s.capacity };
+
+    #[inline(always)]
+    fn next_answer(&mut self) -> Option<(i64, u128)> {
+        self.next()
+    }
+
+    fn into_frontier(self) -> Frontier {
+        self.finish().0
     }
 }
 
-// Pushes a line for each level, from the top down, and then their number.
-fn push_levels<K: Sink>(tree: &Tree, line: u128, sink: &mut K) -> Result<(), WriteFault>
-    requires count { K.failed sink.old < 2 ^ 64 - 1 }
-    ensures pushed { let sizes = level_sizes (length tree.now.entries) tree.now.fanout in
-        Pushed K.written K.failed sink.old sink.new result (levels_reply line sizes) }
-{
-    let count = tree.top() + 1;
-    for above in 0..count {
-        let level = count - 1 - above;
-        push_line(&level_line(level, tree.level_len(level)), sink)?;
-    }
-    push_line(&ok_line(line, u64::from(count)), sink)
-}
+impl<'a, G: Geometry> AnswerStream for FullSearch<'a, G> {
+    ghost to_come = { λ s. s.to_come };
 
-// Pushes how many nodes a report on the boxes of a region that are on these layers opens.
-fn push_cost<K: Sink>(
-    tree: &Tree,
-    frontier: Frontier,
-    line: u128,
-    region: Region,
-    layers: Layers,
-    report: Report,
-    sink: &mut K,
-) -> Result<Frontier, WriteFault>
-    requires room { length tree.now.entries ≤ frontier.capacity }
-    requires count { K.failed sink.old < 2 ^ 64 - 1 }
-    ensures pushed { Pushed K.written K.failed sink.old sink.new result
-        (query_reply (loaded_tree tree.now) line (cost_query region layers report)) }
-    ensures capacity { IfOk result (λ left. left.capacity ≡ frontier.capacity) }
-{
-    // (called, so that it is known that the tree is the packed one of its own entries)
-    let _most = tree.len();
-    let shape = OnLayers {
-        shape: region,
-        layers,
-    };
-    match report {
-        Report::Answers { order, limit } => {
-            let geometry = Guided { shape, rank: order };
-            let (opened, frontier) = cost(tree, frontier, Counted::new(&geometry), limit);
-            push_line(&ok_line(line, opened), sink)?;
-            Ok(frontier)
-        }
-        Report::Count => {
-            let geometry = Guided { shape, rank: ById };
-            let mut frontier = frontier;
-            let counted = count(tree, &mut frontier, &mut Counted::new(&geometry));
-            push_line(&ok_line(line, counted.opened), sink)?;
-            Ok(frontier)
-        }
+    ghost capacity = { λ s. s.capacity };
+
+    #[inline(always)]
+    fn next_answer(&mut self) -> Option<(i64, u128)> {
+        self.next()
+    }
+
+    fn into_frontier(self) -> Frontier {
+        self.finish().0
     }
 }

@@ -9,8 +9,8 @@ ghost use Rattle.rt_filter.specs.Pushes.{CountsFailure, Pushed};
 ghost use Rattle.rt_filter.specs.Replies.{Loaded, any_fault, is_fault, output, reply, tree_of};
 ghost use Rattle.rt_filter.specs.Stages.{HasNoLineFeed, IsAnswering, IsCut, IsServing, parsed_line, loaded_tree};
 
-use crate::pushing::push_line;
-use crate::reply::push_reply;
+use crate::query::push_reply;
+use crate::reply::push_line;
 use memchr::memchr;
 use rt_device::{Sink, Source, WriteFault};
 use rt_search::Frontier;

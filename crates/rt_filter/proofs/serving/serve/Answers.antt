@@ -4,8 +4,9 @@ use Rattle.rt_filter.specs.Endings.{told_of}
 use Rattle.rt_filter.specs.Stages.{loaded_tree}
 use Rattle.rt_filter.specs.declared.serving.ServeFault.TheVariants as serve
 use Rattle.rt_filter.proofs.ConsumedLemmas.{consumed_some}
+use Rattle.rt_filter.proofs.PushLemmas.{unmoved_same}
 use Rattle.rt_filter.proofs.TreeLemmas.{serves_of_tree}
-use Rattle.rt_filter.proofs.TurnLemmas.{consumed_more, consumed_none, filling, room_filled, serving-cut, serving-cut_at_end, serving-ended, serving-more, serving-stopped, serving_first, unmoved_same}
+use Rattle.rt_filter.proofs.TurnLemmas.{consumed_more, consumed_none, filling, room_filled, serving-cut, serving-cut_at_end, serving-ended, serving-more, serving-stopped, serving_first}
 use Rattle.rt_filter.proofs.serving.serve.Goals as goal
 
 pub loop-turn-init : goal.loop-turn-init

@@ -1,6 +1,6 @@
 use Rattle.std.proofs.Common.{◌≡◌, length}
 use Rattle.rt_filter.proofs.PushLemmas.{AllBut}
-use Rattle.rt_filter.proofs.pushing.push_line.Given as goal
+use Rattle.rt_filter.proofs.reply.push_line.Given as goal
 
 -- no call has failed, and what isn't left has gone out
 abbrev pub invariant-loop-rest : goal.invariant-loop-rest

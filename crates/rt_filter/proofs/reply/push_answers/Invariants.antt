@@ -1,7 +1,7 @@
 use Rattle.std.proofs.Common.{◌≡◌, ◌+◌, length}
 use Rattle.rt_filter.proofs.PushLemmas.{AllBut}
 use Rattle.rt_filter.specs.Replies.{answer_lines}
-use Rattle.rt_filter.proofs.finding.push_answers.Given as goal
+use Rattle.rt_filter.proofs.reply.push_answers.Given as goal
 
 -- the lines of the answers so far have gone out
 abbrev pub invariant-loop-id : goal.invariant-loop-id

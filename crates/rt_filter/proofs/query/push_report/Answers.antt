@@ -1,6 +1,6 @@
 use Rattle.rt_geo.specs.Regions.{region_accepts}
 use Rattle.rt_filter.proofs.LayerLemmas.{all_from, report_on-all}
-use Rattle.rt_filter.proofs.finding.push_report.Goals as goal
+use Rattle.rt_filter.proofs.query.push_report.Goals as goal
 
 pub returns-then-bits-eq18446744073709551615-clause-pushed :
     goal.returns-then-bits-eq18446744073709551615-clause-pushed

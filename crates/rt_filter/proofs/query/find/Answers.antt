@@ -1,6 +1,6 @@
 use Rattle.std.proofs.Common.{None, Some}
 use Rattle.rt_filter.proofs.FindLemmas.{few_answers}
-use Rattle.rt_filter.proofs.finding.push_found.Goals as goal
+use Rattle.rt_filter.proofs.query.find.Goals as goal
 
 pub push_search-requires-clause-few : goal.push_search-requires-clause-few
 push_search-requires-clause-few g c =

@@ -2,7 +2,7 @@ use Rattle.std.proofs.Common.{◌∙◌, ap, length}
 use Rattle.rt_text.specs.ReplyLines.{ok_line}
 use Rattle.rt_filter.specs.Replies.{answer_lines}
 use Rattle.rt_filter.proofs.PushLemmas.{as_failed, pushed_after}
-use Rattle.rt_filter.proofs.finding.push_search.Goals as goal
+use Rattle.rt_filter.proofs.reply.push_search.Goals as goal
 
 pub returns-in_err-push_line-clause-pushed : goal.returns-in_err-push_line-clause-pushed
 returns-in_err-push_line-clause-pushed g c =

@@ -1,34 +1,96 @@
-//! The replies to searches and counts.
+//! What each query is answered.
 //!
 //! The region and the order of a query are matched once, so that the check of each box is compiled for them.
 
-ghost use Rattle.std.specs.Prelude.{◌≡◌, ◌+◌, ◌-◌, ◌<◌, ◌≤◌, ◌^◌, ℕ, List, [], ◌∷◌, IfNone, IfOk, MatchOption, length};
+ghost use Rattle.std.specs.Prelude.{◌≡◌, ◌-◌, ◌<◌, ◌≤◌, ◌^◌, IfOk, length};
 ghost use Rattle.rt_geo.specs.OnLayers.{on_layers_accepts};
 ghost use Rattle.rt_geo.specs.Regions.{region_accepts};
+ghost use Rattle.rt_tree.specs.Levels.{level_sizes};
 ghost use Rattle.rt_text.specs.ReplyLines.{ok_line};
-ghost use Rattle.rt_search.specs.Answers.{Answer, accepted, answers};
+ghost use Rattle.rt_search.specs.Answers.{accepted, answers};
 ghost use Rattle.rt_filter.specs.Pushes.{Pushed};
-ghost use Rattle.rt_filter.specs.Replies.{answer_lines, find_reply};
-ghost use Rattle.rt_filter.specs.Reports.{report_on};
+ghost use Rattle.rt_filter.specs.Replies.{find_reply, levels_reply, query_reply};
+ghost use Rattle.rt_filter.specs.Reports.{cost_query, report_on};
+ghost use Rattle.rt_filter.specs.Stages.{loaded_tree};
 
-use crate::pushing::push_line;
+use crate::reply::{push_line, push_search};
 use rt_device::{Sink, WriteFault};
 use rt_geo::{ById, Counted, Disc, Geometry, Guided, Layers, OnLayers, Order, Region, Shape};
-use rt_search::{Frontier, FullSearch, Search, count};
-use rt_text::{Line, ok_line, set_answer_line, set_ok_line};
+use rt_search::{Frontier, FullSearch, Search, cost, count};
+use rt_text::{Query, level_line, ok_line};
 use rt_tree::Tree;
 
-/// What is reported of the boxes that a query accepts.
+// What is reported of the boxes that a query accepts.
 #[derive(Clone, Copy)]
-pub(crate) enum Report {
-    /// A line for each in this order, of the first so many where there is a limit, and then their number.
+enum Report {
+    // A line for each in this order, of the first so many where there is a limit, and then their number.
     Answers { order: Order, limit: Option<u64> },
-    /// Their number.
+    // Their number.
     Count,
 }
 
-/// Pushes the report on the boxes of a region that are on these layers.
-pub(crate) fn push_report<K: Sink>(
+/// Pushes the reply to a query.
+pub(crate) fn push_reply<K: Sink>(
+    tree: &Tree,
+    frontier: Frontier,
+    line: u128,
+    query: Query,
+    sink: &mut K,
+) -> Result<Frontier, WriteFault>
+    requires room { length tree.now.entries ≤ frontier.capacity }
+    requires count { K.failed sink.old < 2 ^ 64 - 1 }
+    ensures pushed { Pushed K.written K.failed sink.old sink.new result
+        (query_reply (loaded_tree tree.now) line query) }
+    ensures capacity { IfOk result (λ left. left.capacity ≡ frontier.capacity) }
+{
+    match query {
+        Query::Find {
+            region,
+            order,
+            limit,
+            layers,
+        } => {
+            let report = Report::Answers { order, limit };
+            push_report(tree, frontier, line, region, layers, report, sink)
+        }
+        Query::Count { region, layers } => {
+            push_report(tree, frontier, line, region, layers, Report::Count, sink)
+        }
+        Query::Levels => {
+            push_levels(tree, line, sink)?;
+            Ok(frontier)
+        }
+        Query::CostFind {
+            region,
+            order,
+            limit,
+            layers,
+        } => {
+            let report = Report::Answers { order, limit };
+            push_cost(tree, frontier, line, region, layers, report, sink)
+        }
+        Query::CostCount { region, layers } => {
+            push_cost(tree, frontier, line, region, layers, Report::Count, sink)
+        }
+    }
+}
+
+// Pushes a line for each level, from the top down, and then their number.
+fn push_levels<K: Sink>(tree: &Tree, line: u128, sink: &mut K) -> Result<(), WriteFault>
+    requires count { K.failed sink.old < 2 ^ 64 - 1 }
+    ensures pushed { let sizes = level_sizes (length tree.now.entries) tree.now.fanout in
+        Pushed K.written K.failed sink.old sink.new result (levels_reply line sizes) }
+{
+    let count = tree.top() + 1;
+    for above in 0..count {
+        let level = count - 1 - above;
+        push_line(&level_line(level, tree.level_len(level)), sink)?;
+    }
+    push_line(&ok_line(line, u64::from(count)), sink)
+}
+
+// Pushes the report on the boxes of a region that are on these layers.
+fn push_report<K: Sink>(
     tree: &Tree,
     frontier: Frontier,
     line: u128,
@@ -79,7 +141,7 @@ fn push_in_region<K: Sink>(
         Region::Circle(circle) => {
             if let Report::Answers { order, limit } = report {
                 if let Some(disc) = Disc::from_parts(&circle, &order) {
-                    return push_found(tree, frontier, line, disc, limit, sink);
+                    return find(tree, frontier, line, disc, limit, sink);
                 }
             }
             push_in_shape(tree, frontier, line, circle, report, sink)
@@ -112,15 +174,9 @@ fn push_in_shape<S: Shape + Drop, K: Sink>(
         Report::Count => return push_count(tree, frontier, line, shape, sink),
     };
     match order {
-        Order::ById(rank) => {
-            push_found(tree, frontier, line, Guided { shape, rank }, limit, sink)
-        }
-        Order::Near(rank) => {
-            push_found(tree, frontier, line, Guided { shape, rank }, limit, sink)
-        }
-        Order::Smallest(rank) => {
-            push_found(tree, frontier, line, Guided { shape, rank }, limit, sink)
-        }
+        Order::ById(rank) => find(tree, frontier, line, Guided { shape, rank }, limit, sink),
+        Order::Near(rank) => find(tree, frontier, line, Guided { shape, rank }, limit, sink),
+        Order::Smallest(rank) => find(tree, frontier, line, Guided { shape, rank }, limit, sink),
     }
 }
 
@@ -147,7 +203,7 @@ fn push_count<S: Shape + Drop, K: Sink>(
 }
 
 // Pushes a line for each answer of one geometry, and then their number. Where all are wanted, all are found first.
-fn push_found<G: Geometry + Drop, K: Sink>(
+fn find<G: Geometry + Drop, K: Sink>(
     tree: &Tree,
     frontier: Frontier,
     line: u128,
@@ -173,90 +229,41 @@ fn push_found<G: Geometry + Drop, K: Sink>(
     }
 }
 
-// Pushes a line for each answer that a search is still to give, and then their number.
-fn push_search<A: AnswerStream, K: Sink>(
-    search: A,
+// Pushes how many nodes a report on the boxes of a region that are on these layers opens.
+fn push_cost<K: Sink>(
+    tree: &Tree,
+    frontier: Frontier,
     line: u128,
+    region: Region,
+    layers: Layers,
+    report: Report,
     sink: &mut K,
 ) -> Result<Frontier, WriteFault>
-    requires few { length (A.to_come search) < 2 ^ 32 }
+    requires room { length tree.now.entries ≤ frontier.capacity }
     requires count { K.failed sink.old < 2 ^ 64 - 1 }
-    ensures pushed { Pushed K.written K.failed sink.old sink.new result (find_reply line (A.to_come search)) }
-    ensures capacity { IfOk result (λ left. left.capacity ≡ A.capacity search) }
+    ensures pushed { Pushed K.written K.failed sink.old sink.new result
+        (query_reply (loaded_tree tree.now) line (cost_query region layers report)) }
+    ensures capacity { IfOk result (λ left. left.capacity ≡ frontier.capacity) }
 {
-    let mut search = search;
-    let mut text = Line::new(b"");
-    let pushed = push_answers(&mut search, &mut text, sink);
-    let frontier = search.into_frontier();
-    set_ok_line(&mut text, line, pushed?);
-    push_line(&text, sink)?;
-    Ok(frontier)
-}
-
-// Pushes a line for each of these answers, as it is found, and returns how many there were. All are put together in one
-// place.
-fn push_answers<A: AnswerStream, K: Sink>(
-    search: &mut A,
-    text: &mut Line,
-    sink: &mut K,
-) -> Result<u64, WriteFault>
-    requires few { length (A.to_come search.old) < 2 ^ 32 }
-    requires count { K.failed sink.old < 2 ^ 64 - 1 }
-    ensures pushed { Pushed K.written K.failed sink.old sink.new result (answer_lines (A.to_come search.old)) }
-    ensures many { IfOk result (λ found. found ≡ length (A.to_come search.old)) }
-    ensures capacity { A.capacity search.new ≡ A.capacity search.old }
-{
-    let mut found: u64 = 0;
-    while let Some((id, score)) = search.next_answer() {
-        set_answer_line(text, id, score);
-        push_line(text, sink)?;
-        found += 1;
-    }
-    Ok(found)
-}
-
-// A search that gives its answers one at a time.
-trait AnswerStream {
-    // The answers that are still to come.
-    ghost to_come: { Self → List Answer };
-
-    // How much room its frontier has.
-    ghost capacity: { Self → ℕ };
-
-    fn next_answer(&mut self) -> Option<(i64, u128)>
-        ensures answer { MatchOption result (to_come self.old ≡ []) (λ a. to_come self.old ≡ a ∷ to_come self.new) }
-        ensures capacity { capacity self.new ≡ capacity self.old };
-
-    fn into_frontier(self) -> Frontier
-        ensures { result.capacity ≡ capacity self };
-}
-
-impl<'a, G: Geometry> AnswerStream for Search<'a, G> {
-    ghost to_come = { λ s. s.to_come };
-
-    ghost capacity = { λ s. s.capacity };
-
-    #[inline(always)]
-    fn next_answer(&mut self) -> Option<(i64, u128)> {
-        self.next()
-    }
-
-    fn into_frontier(self) -> Frontier {
-        self.finish().0
-    }
-}
-
-impl<'a, G: Geometry> AnswerStream for FullSearch<'a, G> {
-    ghost to_come = { λ s. s.to_come };
-
-    ghost capacity = { λ s. s.capacity };
-
-    #[inline(always)]
-    fn next_answer(&mut self) -> Option<(i64, u128)> {
-        self.next()
-    }
-
-    fn into_frontier(self) -> Frontier {
-        self.finish().0
+    // (called, so that it is known that the tree is the packed one of its own entries)
+    let _most = tree.len();
+    let shape = OnLayers {
+        shape: region,
+        layers,
+    };
+    match report {
+        Report::Answers { order, limit } => {
+            let geometry = Guided { shape, rank: order };
+            let (opened, frontier) = cost(tree, frontier, Counted::new(&geometry), limit);
+            push_line(&ok_line(line, opened), sink)?;
+            Ok(frontier)
+        }
+        Report::Count => {
+            let geometry = Guided { shape, rank: ById };
+            let mut frontier = frontier;
+            let counted = count(tree, &mut frontier, &mut Counted::new(&geometry));
+            push_line(&ok_line(line, counted.opened), sink)?;
+            Ok(frontier)
+        }
     }
 }

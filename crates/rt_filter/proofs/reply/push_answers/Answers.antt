@@ -3,7 +3,7 @@ use Rattle.rt_text.specs.ReplyLines.{answer_line}
 use Rattle.rt_filter.specs.Replies.{answer_lines}
 use Rattle.rt_filter.proofs.FindLemmas.{answer_cut}
 use Rattle.rt_filter.proofs.PushLemmas.{as_failed}
-use Rattle.rt_filter.proofs.finding.push_answers.Goals as goal
+use Rattle.rt_filter.proofs.reply.push_answers.Goals as goal
 
 pub returns-in_err-push_line-clause-pushed : goal.returns-in_err-push_line-clause-pushed
 returns-in_err-push_line-clause-pushed g c =

@@ -1,4 +1,0 @@
-use Rattle.rt_filter.proofs.finding.push_in_shape.Goals as goal
-
-pub returns-in-Near-clause-pushed : goal.returns-in-Near-clause-pushed
-returns-in-Near-clause-pushed g c = rw (c.in-Answers.is, c.in-Near.is) c.push_found-in-Near.ensures.pushed
