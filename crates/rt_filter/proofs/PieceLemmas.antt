@@ -255,58 +255,28 @@ end_nothing loaded all before out lines bad is_long [] s short none =
     (s.replies ∙ ap (λ ls. before ++ output loaded ls) (sym lines_all), s.faults ∙ ap any_fault (sym lines_all))
 end_nothing loaded all before out lines bad is_long (x ∷ partial) s short none = absurd (omega (arith, none))
 
--- the last line ends in none, and isn't empty
-pub record IsLast (is_long : Bool) (partial : List ℕ) : Type 0 where
-  pub clear : HasNoLineFeed partial
-  pub some : (is_long ≡ true) ⊎ (0 < length partial)
-
 some_dropped : (is_long : Bool) (dropped partial : List ℕ) → (is_long ≡ true → longest_line < length dropped) → (is_long ≡ true) ⊎ (0 < length partial)
     → 0 < length (dropped ++ partial)
 some_dropped is_long dropped partial long (inl h) = omega (arith, length-append dropped partial, long h)
 some_dropped is_long dropped partial long (inr h) = omega (arith, length-append dropped partial, h)
 
 module _ (loaded : Loaded) (all before out : List ℕ) (lines : ℕ) (bad is_long : Bool) (partial : List ℕ)
-    (s : IsAnswering loaded all before lines bad is_long partial out) (last : IsLast is_long partial) where
-  abbrev answered : ℕ × List ℕ
-  answered = (lines + 1, s.dropped ++ partial)
+    (s : IsAnswering loaded all before lines bad is_long partial out) (clear : HasNoLineFeed partial) where
+  -- all lines that end in a line feed are answered
+  pub all_answered : (out ≡ before ++ output loaded (numbered_lines all false)) × (bad ≡ any_fault (numbered_lines all false))
+  all_answered =
+      let same = no_line loaded all before lines bad is_long partial out s clear ∙ append-nil s.answered in
+      (s.replies ∙ ap (λ ls. before ++ output loaded ls) (sym same), s.faults ∙ ap any_fault (sym same))
 
-  lines_all : numbered_lines all true ≡ s.answered ++ answered ∷ []
-  lines_all = last_line loaded all before lines bad is_long partial out s last.clear (some_dropped is_long s.dropped partial s.long last.some)
-
-  asked : parsed_line is_long partial ≡ judged_line (s.dropped ++ partial)
-  asked = asked_whole is_long s.dropped partial s.long s.short
-
-  -- it was answered, and the answers were handed on
-  pub end_answered : (old mid new : Option (List ℕ)) (fault : Bool) → old ≡ Some out
-      → WasPushed old mid (reply loaded (lines + 1) (parsed_line is_long partial)) → fault ≡ (bad || is_fault (parsed_line is_long partial))
-      → Keeps mid new → (new ≡ Some (before ++ output loaded (numbered_lines all true))) × (fault ≡ any_fault (numbered_lines all true))
-  end_answered old mid new fault e w f k =
-      let gone : mid ≡ Some (out ++ reply loaded (lines + 1) (parsed_line is_long partial)) = told (λ now. mid ≡ Some (now ++ reply loaded (lines + 1) (parsed_line is_long partial))) old out e w in
-      let whole : out ++ reply loaded (lines + 1) (parsed_line is_long partial) ≡ before ++ output loaded (numbered_lines all true) =
-      ap₂ (λ (x : List ℕ) (y : Parsed). x ++ reply loaded (lines + 1) y) s.replies asked
-      ∙ append_assoc before (output loaded s.answered) (reply loaded (lines + 1) (judged_line (s.dropped ++ partial)))
-      ∙ ap (λ zs. before ++ (output loaded s.answered ++ zs)) (sym (append-nil _))
-      ∙ ap (λ zs. before ++ zs) (sym (output-append loaded s.answered (answered ∷ []))) ∙ ap (λ ls. before ++ output loaded ls) (sym lines_all) in (
-        kept (out ++ reply loaded (lines + 1) (parsed_line is_long partial)) new (rw gone at k) ∙ ap (λ zs. Some zs) whole,
-        f ∙ ap₂ (λ (x : Bool) (y : Bool). x || y) s.faults (ap is_fault asked ∙ sym (or-false _)) ∙ sym (any_fault-append s.answered (answered ∷ [])) ∙ ap any_fault (sym lines_all),
-      )
-
-  -- it couldn't be answered
-  pub end_cut : (old new : Option (List ℕ)) (fault : Bool) → old ≡ Some out → WasCut old new (reply loaded (lines + 1) (parsed_line is_long partial))
-      → fault ≡ (bad || is_fault (parsed_line is_long partial)) → IsCut loaded (numbered_lines all true) before out new fault
-  end_cut old new fault e w f =
-      cut-later loaded all before lines bad is_long partial out out (answered ∷ []) (numbered_lines all true) s lines_all (rw append-nil at (starts out [])) new
-      (prefix_more loaded out new (lines + 1) (s.dropped ++ partial) [] (rw asked at (told (λ now. WentPrefix now new (reply loaded (lines + 1) (parsed_line is_long partial))) old out e w)))
-      fault (λ is. or_more bad (is_fault (judged_line (s.dropped ++ partial))) false (sym (f ∙ ap (λ x. bad || is_fault x) asked) ∙ is))
-
-  -- it was answered, and the flush failed
-  pub end_lost : (old mid new : Option (List ℕ)) (fault : Bool) → old ≡ Some out
-      → WasPushed old mid (reply loaded (lines + 1) (parsed_line is_long partial)) → IsSameIfTold mid new
-      → fault ≡ (bad || is_fault (parsed_line is_long partial)) → IsCut loaded (numbered_lines all true) before out new fault
-  end_lost old mid new fault e w u f =
-      let answer : List ℕ = reply loaded (lines + 1) (parsed_line is_long partial) in
-      let gone : mid ≡ Some (out ++ answer) = told (λ now. mid ≡ Some (now ++ answer)) old out e w in
-      end_cut old new fault e (rw e (whole_prefix out answer new (rw gone at u))) f
+  -- the last line, unless it is empty, is one as if a line feed ended it
+  pub ended_lines : (is_long ≡ true) ⊎ (0 < length partial)
+      → numbered_lines (all ++ line_feed ∷ []) false ≡ numbered_lines all true
+  ended_lines some =
+      s.splits (line_feed ∷ []) false
+      ∙ ap (λ zs. s.answered ++ lines_from lines zs false) (sym (append_assoc s.dropped partial (line_feed ∷ [])))
+      ∙ ap (λ ls. s.answered ++ ls) (lines_from-found lines (s.dropped ++ partial) [] false (clear-append s.dropped partial s.clear clear)
+      ∙ ap (λ ls. (lines + 1, s.dropped ++ partial) ∷ ls) (lines_from-none (lines + 1) [] tt))
+      ∙ sym (last_line loaded all before lines bad is_long partial out s clear (some_dropped is_long s.dropped partial s.long some))
 
 -- ---- the last so many of some bytes
 

@@ -1,24 +1,25 @@
 -- One pull, and what it leaves.
-use Rattle.std.proofs.Common.{◌≡◌, ◌∙◌, ◌+◌, ◌-◌, ◌<◌, ◌≤◌, ℕ, Bool, true, false, ◌||◌, List, [], ◌∷◌, ◌++◌, length, take, Option, Some, None, refl, sym, ap, ap₂, arith, append_assoc, append-nil}
+use Rattle.std.proofs.Common.{◌≡◌, ◌∙◌, ◌+◌, ◌-◌, ◌<◌, ◌≤◌, ℕ, Bool, true, false, ◌||◌, ◌⊎◌, List, [], ◌∷◌, ◌++◌, length, take, Option, Some, None, refl, sym, subst, ap, ap₂, arith, append_assoc, append-nil}
 use Rattle.std.specs.Prelude.{IfSome, if◌then◌else◌, nat_lt}
 use Rattle.std.specs.Io.{StartsWith}
 use Rattle.std.specs.Io.KnownBytes.{Consumes, IsAtEnd}
 use Rattle.std.specs.List.{enumerate_from, slice_split}
 use Rattle.std.proofs.Math.Seq.{take-append-add}
 use Rattle.std.proofs.lemmas.Bool.{ltb-true}
-use Rattle.std.proofs.lemmas.List.{append_cancel_left, length-append, length-take-le, take-take}
-use Rattle.std.proofs.lemmas.Slice.{take-put_mid}
+use Rattle.std.proofs.lemmas.List.{append_cancel_left, length-append, length-take, length-take-le, take-take, take_more_set}
+use Rattle.std.proofs.lemmas.Slice.{take-put_mid, take-put_mid_below}
 use borrow.Rule.Slice.PartMut.{put_mid}
+use lib.ListN.{set}
 use Rattle.rt_device.specs.Devices.{IsSameIfTold}
 use Rattle.rt_text.specs.Words.{is_empty}
 use Rattle.rt_filter.specs.Endings.{ConsumedAtLeast, Serves, StillTells, told_of}
-use Rattle.rt_filter.specs.Lines.{is_line_feed, lines_of_parts, longest_line, most_pulled, numbered_lines}
+use Rattle.rt_filter.specs.Lines.{is_line_feed, line_feed, lines_of_parts, longest_line, most_pulled, numbered_lines}
 use Rattle.rt_filter.specs.Replies.{Loaded, any_fault, output}
 use Rattle.rt_filter.specs.Pushes.{WentPrefix}
 use Rattle.rt_filter.specs.Stages.{HasNoLineFeed, IsAnswering, IsCut, IsServing, lines_from}
 use Rattle.rt_filter.specs.declared.serving.ServeFault.TheVariants as serve
 use Rattle.rt_filter.proofs.LineLemmas.{clear-append}
-use Rattle.rt_filter.proofs.PieceLemmas.{any_fault-append, no_line, or_first, output-append, starts, starts-more}
+use Rattle.rt_filter.proofs.PieceLemmas.{all_answered, any_fault-append, ended_lines, no_line, or_first, output-append, starts, starts-more}
 
 -- ---- what fills the room
 
@@ -57,6 +58,17 @@ room_filled partial n room given begun whole rest bound =
           ∙ ap₂ (λ (i : ℕ) (j : ℕ). i + j) (length-take-le partial room low) (length-take-le n given bound);
       fits = omega (arith, begun, rest, bound);
     }
+
+-- a line feed was put behind what is kept
+pub room_ended : (partial : ℕ) (room given : List ℕ) → partial < most_pulled → length room ≡ most_pulled → length given ≡ most_pulled - partial
+    → take (partial + 1) (set (put_mid partial (most_pulled - partial) room given) partial line_feed) ≡ take partial room ++ line_feed ∷ []
+room_ended partial room given short whole rest =
+    let new : List ℕ = put_mid partial (most_pulled - partial) room given in
+    let low : partial ≤ length room = omega (arith, short, whole) in
+    let all = ap length (take-put_mid partial (most_pulled - partial) room given most_pulled (omega (arith, rest, short)) low) in
+    let long : partial < length new = omega (arith, all, short, rest, length-append (take partial room) given, length-take most_pulled new, length-take-le partial room low) in
+    take_more_set new partial line_feed long
+    ∙ ap (λ zs. zs ++ line_feed ∷ []) (take-put_mid_below partial (most_pulled - partial) room given partial (omega arith) low)
 
 -- ---- lines of bytes that go on, and that have ended
 
@@ -245,6 +257,26 @@ module _ (loaded : Loaded) (queries before : List ℕ) (coming written : Option 
       let e = ended s.rest now (rw s.told_so.0 at h) at in
       cut_prefix now out fault [] [] e.0 e.1 (omega arith)
       (rw (append-nil s.consumed) (cut s.consumed before s.out s.written s.answering s.clear))
+
+  -- the last line is answered as if a line feed ended it
+  module _ (now out : Option (List ℕ)) (bytes : List ℕ) (bad' : Bool) (h : Consumes coming now []) (at : IsAtEnd now)
+      (some : (is_long ≡ true) ⊎ (0 < length partial)) (is : bytes ≡ partial ++ line_feed ∷ []) where
+    pub serving-ended_so : (lines' : ℕ) (is_long' : Bool) (rest : List ℕ)
+        → ((all before out' : List ℕ) → written ≡ Some out' → IsAnswering loaded all before lines bad is_long bytes out'
+        → (gone : List ℕ) × (out ≡ Some gone) × IsAnswering loaded all before lines' bad' is_long' rest gone)
+        → HasNoLineFeed rest → Serves loaded (told_of queries before now out) (record { bad = bad'; fault = None })
+    serving-ended_so lines' is_long' rest answered none = serving-ended now out bad' h at (λ all before out' e a clear.
+        let r = answered (all ++ line_feed ∷ []) before out' e (rw is (answering-taken loaded all before lines bad is_long partial out' (line_feed ∷ []) a)) in
+        let t = all_answered loaded (all ++ line_feed ∷ []) before r.0 lines' bad' is_long' rest r.2 none in
+        subst (λ ls. (out ≡ Some (before ++ output loaded ls)) × (bad' ≡ any_fault ls)) (ended_lines loaded all before out' lines bad is_long partial a clear some)
+        (r.1 ∙ ap (λ zs. Some zs) t.0, t.1))
+
+    pub serving-cut_so : ((all before out' : List ℕ) → written ≡ Some out' → IsAnswering loaded all before lines bad is_long bytes out'
+        → IsCut loaded (numbered_lines all false) before out' out bad')
+        → Serves loaded (told_of queries before now out) (record { bad = bad'; fault = Some serve.Write })
+    serving-cut_so cut = serving-cut_at_end now out bad' h at (λ all before out' e a clear.
+        subst (λ ls. IsCut loaded ls before out' out bad') (ended_lines loaded all before out' lines bad is_long partial a clear some)
+        (cut (all ++ line_feed ∷ []) before out' e (rw is (answering-taken loaded all before lines bad is_long partial out' (line_feed ∷ []) a))))
 
   -- before it
   pub serving-cut : (now out : Option (List ℕ)) (fault : Bool) (given bytes : List ℕ) → Consumes coming now given → length given ≤ most_pulled → bytes ≡ partial ++ given

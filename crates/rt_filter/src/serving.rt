@@ -105,13 +105,18 @@ pub fn serve<S: Source, K: Sink>(
         let Ok(n) = source.pull(&mut room[partial..]) else {
             return progress.served(Some(ServeFault::Read));
         };
-        let filled = partial + n;
         if n == 0 {
-            return match answer_end(tree, frontier, &mut progress, &room[..filled], sink) {
-                Ok(()) => progress.served(None),
-                Err(fault) => progress.served(Some(fault.into())),
-            };
+            if !is_line(progress.is_long, partial) {
+                return progress.served(None);
+            }
+            // (the last line is answered as if a line feed ended it)
+            room[partial] = LINE_FEED;
+            match answer_piece(tree, frontier, &mut progress, &room[..=partial], sink) {
+                Ok(_) => return progress.served(None),
+                Err(fault) => return progress.served(Some(fault.into())),
+            }
         }
+        let filled = partial + n;
         match answer_piece(tree, frontier, &mut progress, &room[..filled], sink) {
             Ok((left, rest)) => {
                 frontier = left;
@@ -160,42 +165,12 @@ fn answer_piece<K: Sink>(
     Ok((frontier, rest.len()))
 }
 
-// Answers what stands behind the last line feed, where anything does and no more is to come, and flushes.
-fn answer_end<K: Sink>(
-    tree: &Tree,
-    frontier: Frontier,
-    progress: &mut Progress,
-    last: &[u8],
-    sink: &mut K,
-) -> Result<(), WriteFault>
-    requires capacity { length tree.now.entries ≤ frontier.capacity }
-    requires count { K.failed sink.old < 2 ^ 64 - 1 }
-    requires few { progress.old.lines + 1 < 2 ^ 128 }
-    ensures state { OnOk result ((all before out : List ℕ) → K.written sink.old ≡ Some out
-        → IsAnswering (loaded_tree tree.now) all before progress.old.lines progress.old.bad progress.old.is_long last.now out
-        → HasNoLineFeed last.now
-        → (K.written sink.new ≡ Some (before ++ output (loaded_tree tree.now) (numbered_lines all true)))
-        × (progress.new.bad ≡ any_fault (numbered_lines all true))) }
-    ensures cut { OnErr result ((all before out : List ℕ) → K.written sink.old ≡ Some out
-        → IsAnswering (loaded_tree tree.now) all before progress.old.lines progress.old.bad progress.old.is_long last.now out
-        → HasNoLineFeed last.now
-        → IsCut (loaded_tree tree.now) (numbered_lines all true) before out (K.written sink.new) progress.new.bad) }
-    ensures failures { CountsFailure result (K.failed sink.old) (K.failed sink.new) }
-    ensures flushed { OnOk result (K.waits sink.old ≡ false → K.waits sink.new ≡ false) }
+// Whether so many bytes behind the last line feed are a line at the end.
+fn is_line(is_long: bool, partial: usize) -> bool
+    ensures some { result ≡ true → (is_long ≡ true) ⊎ (0 < partial) }
+    ensures none { result ≡ false → (is_long ≡ false) × (partial ≡ 0) }
 {
-    if !is_line(progress.is_long, last) {
-        return Ok(());
-    }
-    let _frontier = answer(tree, frontier, progress, last, sink)?;
-    progress.flush(sink)
-}
-
-// Whether what stands behind the last line feed is a line at the end.
-fn is_line(is_long: bool, last: &[u8]) -> bool
-    ensures some { result ≡ true → (is_long ≡ true) ⊎ (0 < length last.now) }
-    ensures none { result ≡ false → (is_long ≡ false) × (length last.now ≡ 0) }
-{
-    is_long || !last.is_empty()
+    is_long || partial > 0
 }
 
 // Answers one line. Where nothing is pushed, the sink is left alone.

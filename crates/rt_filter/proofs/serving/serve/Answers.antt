@@ -1,12 +1,13 @@
 use Rattle.std.proofs.Common.{rules, ◌≡◌, ◌∙◌, ap, ◌-◌, List, ℕ, None, Some, take, drop, length, refl, arith}
-use Rattle.std.proofs.lemmas.List.{length-drop}
+use Rattle.std.proofs.lemmas.List.{length-drop, length-take}
 use Rattle.rt_filter.specs.Endings.{told_of}
 use Rattle.rt_filter.specs.Stages.{loaded_tree}
 use Rattle.rt_filter.specs.declared.serving.ServeFault.TheVariants as serve
 use Rattle.rt_filter.proofs.ConsumedLemmas.{consumed_some}
+use Rattle.rt_filter.proofs.PieceLemmas.{end_nothing}
 use Rattle.rt_filter.proofs.PushLemmas.{unmoved_same}
 use Rattle.rt_filter.proofs.TreeLemmas.{serves_of_tree}
-use Rattle.rt_filter.proofs.TurnLemmas.{consumed_more, consumed_none, filling, room_filled, serving-cut, serving-cut_at_end, serving-ended, serving-more, serving-stopped, serving_first}
+use Rattle.rt_filter.proofs.TurnLemmas.{consumed_more, consumed_none, filling, room_ended, room_filled, serving-cut, serving-cut_so, serving-ended, serving-ended_so, serving-more, serving-stopped, serving_first}
 use Rattle.rt_filter.proofs.serving.serve.Goals as goal
 
 pub loop-turn-init : goal.loop-turn-init
@@ -31,39 +32,61 @@ returns-in_default-clause-ending g c loaded packed queries before is_queries is_
     (serving-stopped (loaded_tree c.args.tree.now) queries before (g.S.Source.coming c.loop-turn.source) (g.K.Sink.written c.loop-turn.sink)
     c.loop-turn.progress.lines c.loop-turn.progress.bad c.loop-turn.progress.is_long (take c.loop-turn.partial c.loop-turn.room) s (g.S.Source.coming c.pull.new.self) c.in_default.ensures.bytes)
 
-pub returns-in-Ok-answer_end-clause-ending : goal.returns-in-Ok-answer_end-clause-ending
-returns-in-Ok-answer_end-clause-ending g c loaded packed queries before is_queries is_before =
+pub returns-then-not-is_line-clause-ending : goal.returns-then-not-is_line-clause-ending
+returns-then-not-is_line-clause-ending g c loaded packed queries before is_queries is_before =
     let s = c.loop-turn.invariant.serving queries before is_queries is_before in
     let none : c.in-Ok.n ≡ 0 = search rules in
     let filled = (room_filled c.loop-turn.partial c.in-Ok.n c.loop-turn.room c.pull.new.room c.loop-turn.invariant.short c.loop-turn.invariant.whole (search rules) c.in-Ok.ensures.bound).none none in
+    let empty = c.if-not-is_line.ensures.none refl in
+    let size : length (take c.loop-turn.partial c.loop-turn.room) ≡ 0 = omega (arith, empty.1, length-take c.loop-turn.partial c.loop-turn.room) in
     serves_of_tree c.args.tree.now loaded c.len-most.ensures.sound packed
-    (told_of queries before (g.S.Source.coming c.pull.new.self) (g.K.Sink.written c.answer_end.new.sink)) _ None c.served-in-Ok-answer_end.result c.served-in-Ok-answer_end.ensures.bad c.served-in-Ok-answer_end.ensures.fault
+    (told_of queries before (g.S.Source.coming c.pull.new.self) (g.K.Sink.written c.loop-turn.sink)) _ None c.served-then-not-is_line.result c.served-then-not-is_line.ensures.bad c.served-then-not-is_line.ensures.fault
     (serving-ended (loaded_tree c.args.tree.now) queries before (g.S.Source.coming c.loop-turn.source) (g.K.Sink.written c.loop-turn.sink)
     c.loop-turn.progress.lines c.loop-turn.progress.bad c.loop-turn.progress.is_long (take c.loop-turn.partial c.loop-turn.room) s
-    (g.S.Source.coming c.pull.new.self) (g.K.Sink.written c.answer_end.new.sink) c.answer_end.new.progress.bad
-    (rw filled.0 at c.in-Ok.ensures.bytes.0) (c.in-Ok.ensures.bytes.1 none) (rw filled.1 at c.in-Ok-answer_end.ensures.state))
+    (g.S.Source.coming c.pull.new.self) (g.K.Sink.written c.loop-turn.sink) c.loop-turn.progress.bad
+    (rw filled.0 at c.in-Ok.ensures.bytes.0) (c.in-Ok.ensures.bytes.1 none) (λ all front out e a clear.
+    let r = end_nothing (loaded_tree c.args.tree.now) all front out c.loop-turn.progress.lines c.loop-turn.progress.bad c.loop-turn.progress.is_long (take c.loop-turn.partial c.loop-turn.room) a empty.0 size in
+    (rw (← r.0) e, r.1)))
+
+pub returns-in-Ok-answer_piece-clause-ending : goal.returns-in-Ok-answer_piece-clause-ending
+returns-in-Ok-answer_piece-clause-ending g c loaded packed queries before is_queries is_before =
+    let s = c.loop-turn.invariant.serving queries before is_queries is_before in
+    let none : c.in-Ok.n ≡ 0 = search rules in
+    let filled = (room_filled c.loop-turn.partial c.in-Ok.n c.loop-turn.room c.pull.new.room c.loop-turn.invariant.short c.loop-turn.invariant.whole (search rules) c.in-Ok.ensures.bound).none none in
+    let ended = room_ended c.loop-turn.partial c.loop-turn.room c.pull.new.room c.loop-turn.invariant.short c.loop-turn.invariant.whole (search rules) in
+    let size : length (take c.loop-turn.partial c.loop-turn.room) ≡ c.loop-turn.partial = omega (arith, length-take c.loop-turn.partial c.loop-turn.room, c.loop-turn.invariant.short, c.loop-turn.invariant.whole) in
+    serves_of_tree c.args.tree.now loaded c.len-most.ensures.sound packed
+    (told_of queries before (g.S.Source.coming c.pull.new.self) (g.K.Sink.written c.answer_piece.new.sink)) _ None c.served-in-Ok-answer_piece.result c.served-in-Ok-answer_piece.ensures.bad c.served-in-Ok-answer_piece.ensures.fault
+    (serving-ended_so (loaded_tree c.args.tree.now) queries before (g.S.Source.coming c.loop-turn.source) (g.K.Sink.written c.loop-turn.sink)
+    c.loop-turn.progress.lines c.loop-turn.progress.bad c.loop-turn.progress.is_long (take c.loop-turn.partial c.loop-turn.room) s
+    (g.S.Source.coming c.pull.new.self) (g.K.Sink.written c.answer_piece.new.sink) _ c.answer_piece.new.progress.bad
+    (rw filled.0 at c.in-Ok.ensures.bytes.0) (c.in-Ok.ensures.bytes.1 none) (rw size (c.if-not-is_line.ensures.some refl)) ended
+    c.answer_piece.new.progress.lines c.answer_piece.new.progress.is_long _ c.in-Ok-answer_piece.ensures.state c.in-Ok-answer_piece.ensures.rest.1)
 
 pub returns-in-Err-clause-ending : goal.returns-in-Err-clause-ending
 returns-in-Err-clause-ending g c loaded packed queries before is_queries is_before =
     let s = c.loop-turn.invariant.serving queries before is_queries is_before in
     let none : c.in-Ok.n ≡ 0 = search rules in
     let filled = (room_filled c.loop-turn.partial c.in-Ok.n c.loop-turn.room c.pull.new.room c.loop-turn.invariant.short c.loop-turn.invariant.whole (search rules) c.in-Ok.ensures.bound).none none in
+    let ended = room_ended c.loop-turn.partial c.loop-turn.room c.pull.new.room c.loop-turn.invariant.short c.loop-turn.invariant.whole (search rules) in
+    let size : length (take c.loop-turn.partial c.loop-turn.room) ≡ c.loop-turn.partial = omega (arith, length-take c.loop-turn.partial c.loop-turn.room, c.loop-turn.invariant.short, c.loop-turn.invariant.whole) in
     serves_of_tree c.args.tree.now loaded c.len-most.ensures.sound packed
-    (told_of queries before (g.S.Source.coming c.pull.new.self) (g.K.Sink.written c.answer_end.new.sink)) _ (Some serve.Write) c.served-in-Err.result c.served-in-Err.ensures.bad (c.served-in-Err.ensures.fault ∙ ap (λ f. Some f) c.into.ensures)
-    (serving-cut_at_end (loaded_tree c.args.tree.now) queries before (g.S.Source.coming c.loop-turn.source) (g.K.Sink.written c.loop-turn.sink)
+    (told_of queries before (g.S.Source.coming c.pull.new.self) (g.K.Sink.written c.answer_piece.new.sink)) _ (Some serve.Write) c.served-in-Err.result c.served-in-Err.ensures.bad (c.served-in-Err.ensures.fault ∙ ap (λ f. Some f) c.into.ensures)
+    (serving-cut_so (loaded_tree c.args.tree.now) queries before (g.S.Source.coming c.loop-turn.source) (g.K.Sink.written c.loop-turn.sink)
     c.loop-turn.progress.lines c.loop-turn.progress.bad c.loop-turn.progress.is_long (take c.loop-turn.partial c.loop-turn.room) s
-    (g.S.Source.coming c.pull.new.self) (g.K.Sink.written c.answer_end.new.sink) c.answer_end.new.progress.bad
-    (rw filled.0 at c.in-Ok.ensures.bytes.0) (c.in-Ok.ensures.bytes.1 none) (rw filled.1 at c.in-Err.ensures.cut))
+    (g.S.Source.coming c.pull.new.self) (g.K.Sink.written c.answer_piece.new.sink) _ c.answer_piece.new.progress.bad
+    (rw filled.0 at c.in-Ok.ensures.bytes.0) (c.in-Ok.ensures.bytes.1 none) (rw size (c.if-not-is_line.ensures.some refl)) ended
+    c.in-Err.ensures.cut)
 
 pub returns-in-Err-answer_piece-clause-ending : goal.returns-in-Err-answer_piece-clause-ending
 returns-in-Err-answer_piece-clause-ending g c loaded packed queries before is_queries is_before =
     let s = c.loop-turn.invariant.serving queries before is_queries is_before in
     let filled = room_filled c.loop-turn.partial c.in-Ok.n c.loop-turn.room c.pull.new.room c.loop-turn.invariant.short c.loop-turn.invariant.whole (search rules) c.in-Ok.ensures.bound in
     serves_of_tree c.args.tree.now loaded c.len-most.ensures.sound packed
-    (told_of queries before (g.S.Source.coming c.pull.new.self) (g.K.Sink.written c.answer_piece.new.sink)) _ (Some serve.Write) c.served-in-Err-answer_piece.result c.served-in-Err-answer_piece.ensures.bad (c.served-in-Err-answer_piece.ensures.fault ∙ ap (λ f. Some f) c.into-in-Err-answer_piece.ensures)
+    (told_of queries before (g.S.Source.coming c.pull.new.self) (g.K.Sink.written c.answer_piece-in-loop-turn.new.sink)) _ (Some serve.Write) c.served-in-Err-answer_piece.result c.served-in-Err-answer_piece.ensures.bad (c.served-in-Err-answer_piece.ensures.fault ∙ ap (λ f. Some f) c.into-in-Err-answer_piece.ensures)
     (serving-cut (loaded_tree c.args.tree.now) queries before (g.S.Source.coming c.loop-turn.source) (g.K.Sink.written c.loop-turn.sink)
     c.loop-turn.progress.lines c.loop-turn.progress.bad c.loop-turn.progress.is_long (take c.loop-turn.partial c.loop-turn.room) s
-    (g.S.Source.coming c.pull.new.self) (g.K.Sink.written c.answer_piece.new.sink) c.answer_piece.new.progress.bad (take c.in-Ok.n c.pull.new.room)
+    (g.S.Source.coming c.pull.new.self) (g.K.Sink.written c.answer_piece-in-loop-turn.new.sink) c.answer_piece-in-loop-turn.new.progress.bad (take c.in-Ok.n c.pull.new.room)
     (filling c.loop-turn.partial c.in-Ok.n c.loop-turn.room c.pull.new.room) c.in-Ok.ensures.bytes.0 filled.few filled.parts c.in-Err-answer_piece.ensures.cut)
 
 pub loop-turn-preserved : goal.loop-turn-preserved
@@ -71,25 +94,25 @@ loop-turn-preserved g c =
     let some = c.if-n-eq0.false in
     let filled = room_filled c.loop-turn.partial c.in-Ok.n c.loop-turn.room c.pull.new.room c.loop-turn.invariant.short c.loop-turn.invariant.whole (search rules) c.in-Ok.ensures.bound in
     let bytes : List ℕ = filling c.loop-turn.partial c.in-Ok.n c.loop-turn.room c.pull.new.room in
-    let rest : List ℕ = drop (length bytes - c.in-Ok-answer_piece.rest) bytes in
-    let long : length rest ≡ c.in-Ok-answer_piece.rest = omega (arith, length-drop (length bytes - c.in-Ok-answer_piece.rest) bytes, c.in-Ok-answer_piece.ensures.rest.0) in record {
-      capacity = rw c.in-Ok-answer_piece.ensures.capacity c.loop-turn.invariant.capacity;
+    let rest : List ℕ = drop (length bytes - c.in-Ok-answer_piece-2.rest) bytes in
+    let long : length rest ≡ c.in-Ok-answer_piece-2.rest = omega (arith, length-drop (length bytes - c.in-Ok-answer_piece-2.rest) bytes, c.in-Ok-answer_piece-2.ensures.rest.0) in record {
+      capacity = rw c.in-Ok-answer_piece-2.ensures.capacity c.loop-turn.invariant.capacity;
       source_count = c.in-Ok.ensures.went ∙ c.loop-turn.invariant.source_count;
-      sink_count = c.in-Ok-answer_piece.ensures.failures ∙ c.loop-turn.invariant.sink_count;
+      sink_count = c.in-Ok-answer_piece-2.ensures.failures ∙ c.loop-turn.invariant.sink_count;
       whole = search rules;
       short = search rules;
-      few = omega (arith, c.keep-partial.ensures.lines, c.answer_piece.ensures.few, filled.size, filled.fits, c.loop-turn.invariant.few);
+      few = omega (arith, c.keep-partial.ensures.lines, c.answer_piece-in-loop-turn.ensures.few, filled.size, filled.fits, c.loop-turn.invariant.few);
       given = consumed_more c.loop-turn._turn (g.S.Source.coming c.args.source.now) (g.S.Source.coming c.loop-turn.source) (g.S.Source.coming c.pull.new.self)
           c.loop-turn.invariant.given (consumed_some _ _ c.in-Ok.n c.pull.new.room (omega (arith, some)) c.in-Ok.ensures.bound c.in-Ok.ensures.bytes.0);
       serving = λ queries before e w.
           let s = c.loop-turn.invariant.serving queries before e w in
           rw (c.keep-partial.ensures.lines, c.keep-partial.ensures.bad) (serving-more (loaded_tree c.args.tree.now) queries before (g.S.Source.coming c.loop-turn.source) (g.K.Sink.written c.loop-turn.sink)
           c.loop-turn.progress.lines c.loop-turn.progress.bad c.loop-turn.progress.is_long (take c.loop-turn.partial c.loop-turn.room) s
-          (g.S.Source.coming c.pull.new.self) (g.K.Sink.written c.answer_piece.new.sink) (take c.in-Ok.n c.pull.new.room) bytes rest (take c.keep-partial.result c.keep-partial.new.room)
-          c.answer_piece.new.progress.lines c.answer_piece.new.progress.bad c.answer_piece.new.progress.is_long c.keep-partial.new.self.is_long
-          c.in-Ok.ensures.bytes.0 filled.parts c.in-Ok-answer_piece.ensures.state c.in-Ok-answer_piece.ensures.rest.1
+          (g.S.Source.coming c.pull.new.self) (g.K.Sink.written c.answer_piece-in-loop-turn.new.sink) (take c.in-Ok.n c.pull.new.room) bytes rest (take c.keep-partial.result c.keep-partial.new.room)
+          c.answer_piece-in-loop-turn.new.progress.lines c.answer_piece-in-loop-turn.new.progress.bad c.answer_piece-in-loop-turn.new.progress.is_long c.keep-partial.new.self.is_long
+          c.in-Ok.ensures.bytes.0 filled.parts c.in-Ok-answer_piece-2.ensures.state c.in-Ok-answer_piece-2.ensures.rest.1
           (rw long c.keep-partial.ensures.is_long) (rw filled.size c.keep-partial.ensures.bytes));
-      flushed = λ e. c.in-Ok-answer_piece.ensures.flushed (c.loop-turn.invariant.flushed e);
+      flushed = λ e. c.in-Ok-answer_piece-2.ensures.flushed (c.loop-turn.invariant.flushed e);
     }
 
 pub returns-clause-ending : goal.returns-clause-ending
