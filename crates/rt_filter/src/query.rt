@@ -234,7 +234,7 @@ fn push_cost<K: Sink>(
     tree: &Tree,
     frontier: Frontier,
     line: u128,
-    region: Region,
+    shape: Region,
     layers: Layers,
     report: Report,
     sink: &mut K,
@@ -242,15 +242,12 @@ fn push_cost<K: Sink>(
     requires room { length tree.now.entries ≤ frontier.capacity }
     requires count { K.failed sink.old < 2 ^ 64 - 1 }
     ensures pushed { Pushed K.written K.failed sink.old sink.new result
-        (query_reply (loaded_tree tree.now) line (cost_query region layers report)) }
+        (query_reply (loaded_tree tree.now) line (cost_query shape layers report)) }
     ensures capacity { IfOk result (λ left. left.capacity ≡ frontier.capacity) }
 {
     // (called, so that it is known that the tree is the packed one of its own entries)
     let _most = tree.len();
-    let shape = OnLayers {
-        shape: region,
-        layers,
-    };
+    let shape = OnLayers { shape, layers };
     match report {
         Report::Answers { order, limit } => {
             let geometry = Guided { shape, rank: order };

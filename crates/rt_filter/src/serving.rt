@@ -106,7 +106,7 @@ pub fn serve<S: Source, K: Sink>(
             return progress.served(Some(ServeFault::Read));
         };
         if n == 0 {
-            if !is_line(progress.is_long, partial) {
+            if partial == 0 && !progress.is_long {
                 return progress.served(None);
             }
             // (the last line is answered as if a line feed ended it)
@@ -163,14 +163,6 @@ fn answer_piece<K: Sink>(
     }
     progress.flush(sink)?;
     Ok((frontier, rest.len()))
-}
-
-// Whether so many bytes behind the last line feed are a line at the end.
-fn is_line(is_long: bool, partial: usize) -> bool
-    ensures some { result ≡ true → (is_long ≡ true) ⊎ (0 < partial) }
-    ensures none { result ≡ false → (is_long ≡ false) × (partial ≡ 0) }
-{
-    is_long || partial > 0
 }
 
 // Answers one line. Where nothing is pushed, the sink is left alone.

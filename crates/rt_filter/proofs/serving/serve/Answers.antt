@@ -1,4 +1,4 @@
-use Rattle.std.proofs.Common.{rules, ◌≡◌, ◌∙◌, ap, ◌-◌, List, ℕ, None, Some, take, drop, length, refl, arith}
+use Rattle.std.proofs.Common.{rules, ◌<◌, ◌⊎◌, inl, inr, true, ◌≡◌, ◌∙◌, ap, ◌-◌, List, ℕ, None, Some, take, drop, length, refl, arith}
 use Rattle.std.proofs.lemmas.List.{length-drop, length-take}
 use Rattle.rt_filter.specs.Endings.{told_of}
 use Rattle.rt_filter.specs.Stages.{loaded_tree}
@@ -9,6 +9,7 @@ use Rattle.rt_filter.proofs.PushLemmas.{unmoved_same}
 use Rattle.rt_filter.proofs.TreeLemmas.{serves_of_tree}
 use Rattle.rt_filter.proofs.TurnLemmas.{consumed_more, consumed_none, filling, room_ended, room_filled, serving-cut, serving-cut_so, serving-ended, serving-ended_so, serving-more, serving-stopped, serving_first}
 use Rattle.rt_filter.proofs.serving.serve.Goals as goal
+use Rattle.rt_filter.proofs.serving.serve.Goals.{else-partial-eq0-via-then-partial-eq0+else-not-progress, else-partial-eq0-via-else-partial-eq0}
 
 pub loop-turn-init : goal.loop-turn-init
 loop-turn-init g c = record {
@@ -32,20 +33,19 @@ returns-in_default-clause-ending g c loaded packed queries before is_queries is_
     (serving-stopped (loaded_tree c.args.tree.now) queries before (g.S.Source.coming c.loop-turn.source) (g.K.Sink.written c.loop-turn.sink)
     c.loop-turn.progress.lines c.loop-turn.progress.bad c.loop-turn.progress.is_long (take c.loop-turn.partial c.loop-turn.room) s (g.S.Source.coming c.pull.new.self) c.in_default.ensures.bytes)
 
-pub returns-then-not-is_line-clause-ending : goal.returns-then-not-is_line-clause-ending
-returns-then-not-is_line-clause-ending g c loaded packed queries before is_queries is_before =
+pub returns-then-not-progress-clause-ending : goal.returns-then-not-progress-clause-ending
+returns-then-not-progress-clause-ending g c loaded packed queries before is_queries is_before =
     let s = c.loop-turn.invariant.serving queries before is_queries is_before in
     let none : c.in-Ok.n ≡ 0 = search rules in
     let filled = (room_filled c.loop-turn.partial c.in-Ok.n c.loop-turn.room c.pull.new.room c.loop-turn.invariant.short c.loop-turn.invariant.whole (search rules) c.in-Ok.ensures.bound).none none in
-    let empty = c.if-not-is_line.ensures.none refl in
-    let size : length (take c.loop-turn.partial c.loop-turn.room) ≡ 0 = omega (arith, empty.1, length-take c.loop-turn.partial c.loop-turn.room) in
+    let size : length (take c.loop-turn.partial c.loop-turn.room) ≡ 0 = omega (arith, c.if-partial-eq0.true, length-take c.loop-turn.partial c.loop-turn.room) in
     serves_of_tree c.args.tree.now loaded c.len-most.ensures.sound packed
-    (told_of queries before (g.S.Source.coming c.pull.new.self) (g.K.Sink.written c.loop-turn.sink)) _ None c.served-then-not-is_line.result c.served-then-not-is_line.ensures.bad c.served-then-not-is_line.ensures.fault
+    (told_of queries before (g.S.Source.coming c.pull.new.self) (g.K.Sink.written c.loop-turn.sink)) _ None c.served-then-not-progress.result c.served-then-not-progress.ensures.bad c.served-then-not-progress.ensures.fault
     (serving-ended (loaded_tree c.args.tree.now) queries before (g.S.Source.coming c.loop-turn.source) (g.K.Sink.written c.loop-turn.sink)
     c.loop-turn.progress.lines c.loop-turn.progress.bad c.loop-turn.progress.is_long (take c.loop-turn.partial c.loop-turn.room) s
     (g.S.Source.coming c.pull.new.self) (g.K.Sink.written c.loop-turn.sink) c.loop-turn.progress.bad
     (rw filled.0 at c.in-Ok.ensures.bytes.0) (c.in-Ok.ensures.bytes.1 none) (λ all front out e a clear.
-    let r = end_nothing (loaded_tree c.args.tree.now) all front out c.loop-turn.progress.lines c.loop-turn.progress.bad c.loop-turn.progress.is_long (take c.loop-turn.partial c.loop-turn.room) a empty.0 size in
+    let r = end_nothing (loaded_tree c.args.tree.now) all front out c.loop-turn.progress.lines c.loop-turn.progress.bad c.loop-turn.progress.is_long (take c.loop-turn.partial c.loop-turn.room) a c.if-not-progress.true size in
     (rw (← r.0) e, r.1)))
 
 pub returns-in-Ok-answer_piece-clause-ending : goal.returns-in-Ok-answer_piece-clause-ending
@@ -55,12 +55,16 @@ returns-in-Ok-answer_piece-clause-ending g c loaded packed queries before is_que
     let filled = (room_filled c.loop-turn.partial c.in-Ok.n c.loop-turn.room c.pull.new.room c.loop-turn.invariant.short c.loop-turn.invariant.whole (search rules) c.in-Ok.ensures.bound).none none in
     let ended = room_ended c.loop-turn.partial c.loop-turn.room c.pull.new.room c.loop-turn.invariant.short c.loop-turn.invariant.whole (search rules) in
     let size : length (take c.loop-turn.partial c.loop-turn.room) ≡ c.loop-turn.partial = omega (arith, length-take c.loop-turn.partial c.loop-turn.room, c.loop-turn.invariant.short, c.loop-turn.invariant.whole) in
+    let some : (c.loop-turn.progress.is_long ≡ true) ⊎ (0 < length (take c.loop-turn.partial c.loop-turn.room)) = elim c.else-partial-eq0.branch [
+      | else-partial-eq0-via-then-partial-eq0+else-not-progress w ↦ inl w.if-not-progress.false
+      | else-partial-eq0-via-else-partial-eq0 w ↦ inr (omega (arith, size, w.if-partial-eq0.false))
+    ] in
     serves_of_tree c.args.tree.now loaded c.len-most.ensures.sound packed
     (told_of queries before (g.S.Source.coming c.pull.new.self) (g.K.Sink.written c.answer_piece.new.sink)) _ None c.served-in-Ok-answer_piece.result c.served-in-Ok-answer_piece.ensures.bad c.served-in-Ok-answer_piece.ensures.fault
     (serving-ended_so (loaded_tree c.args.tree.now) queries before (g.S.Source.coming c.loop-turn.source) (g.K.Sink.written c.loop-turn.sink)
     c.loop-turn.progress.lines c.loop-turn.progress.bad c.loop-turn.progress.is_long (take c.loop-turn.partial c.loop-turn.room) s
     (g.S.Source.coming c.pull.new.self) (g.K.Sink.written c.answer_piece.new.sink) _ c.answer_piece.new.progress.bad
-    (rw filled.0 at c.in-Ok.ensures.bytes.0) (c.in-Ok.ensures.bytes.1 none) (rw size (c.if-not-is_line.ensures.some refl)) ended
+    (rw filled.0 at c.in-Ok.ensures.bytes.0) (c.in-Ok.ensures.bytes.1 none) some ended
     c.answer_piece.new.progress.lines c.answer_piece.new.progress.is_long _ c.in-Ok-answer_piece.ensures.state c.in-Ok-answer_piece.ensures.rest.1)
 
 pub returns-in-Err-clause-ending : goal.returns-in-Err-clause-ending
@@ -70,12 +74,16 @@ returns-in-Err-clause-ending g c loaded packed queries before is_queries is_befo
     let filled = (room_filled c.loop-turn.partial c.in-Ok.n c.loop-turn.room c.pull.new.room c.loop-turn.invariant.short c.loop-turn.invariant.whole (search rules) c.in-Ok.ensures.bound).none none in
     let ended = room_ended c.loop-turn.partial c.loop-turn.room c.pull.new.room c.loop-turn.invariant.short c.loop-turn.invariant.whole (search rules) in
     let size : length (take c.loop-turn.partial c.loop-turn.room) ≡ c.loop-turn.partial = omega (arith, length-take c.loop-turn.partial c.loop-turn.room, c.loop-turn.invariant.short, c.loop-turn.invariant.whole) in
+    let some : (c.loop-turn.progress.is_long ≡ true) ⊎ (0 < length (take c.loop-turn.partial c.loop-turn.room)) = elim c.else-partial-eq0.branch [
+      | else-partial-eq0-via-then-partial-eq0+else-not-progress w ↦ inl w.if-not-progress.false
+      | else-partial-eq0-via-else-partial-eq0 w ↦ inr (omega (arith, size, w.if-partial-eq0.false))
+    ] in
     serves_of_tree c.args.tree.now loaded c.len-most.ensures.sound packed
     (told_of queries before (g.S.Source.coming c.pull.new.self) (g.K.Sink.written c.answer_piece.new.sink)) _ (Some serve.Write) c.served-in-Err.result c.served-in-Err.ensures.bad (c.served-in-Err.ensures.fault ∙ ap (λ f. Some f) c.into.ensures)
     (serving-cut_so (loaded_tree c.args.tree.now) queries before (g.S.Source.coming c.loop-turn.source) (g.K.Sink.written c.loop-turn.sink)
     c.loop-turn.progress.lines c.loop-turn.progress.bad c.loop-turn.progress.is_long (take c.loop-turn.partial c.loop-turn.room) s
     (g.S.Source.coming c.pull.new.self) (g.K.Sink.written c.answer_piece.new.sink) _ c.answer_piece.new.progress.bad
-    (rw filled.0 at c.in-Ok.ensures.bytes.0) (c.in-Ok.ensures.bytes.1 none) (rw size (c.if-not-is_line.ensures.some refl)) ended
+    (rw filled.0 at c.in-Ok.ensures.bytes.0) (c.in-Ok.ensures.bytes.1 none) some ended
     c.in-Err.ensures.cut)
 
 pub returns-in-Err-answer_piece-clause-ending : goal.returns-in-Err-answer_piece-clause-ending
