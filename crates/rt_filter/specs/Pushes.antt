@@ -19,10 +19,10 @@ WasCut old new bytes = IfSome old (λ before. WentPrefix before new bytes)
 abbrev pub CountsFailure : {T E : Type 0} → Result T E → (old new : ℕ) → Type 0
 CountsFailure result old new = MatchResult result (λ _. new ≡ old) (λ _. new ≡ old + 1)
 
--- what a call that pushes these bytes does to a sink, of which `written` and `failed` are the bytes written and the number
--- of failures: a success pushes all of them, and none of its pushes fails; a failure pushes a prefix, and is one failure
-abbrev pub Pushed : {T E K : Type 0} → (written : K → Option (List ℕ)) → (failed : K → ℕ) → (old new : K) → Result T E → List ℕ
-    → Type 0
+-- what a call that pushes these bytes does to a sink, of which `written` and `failed` are the bytes written and the
+-- number of failures: a success pushes all of them, and none of its pushes fails; a failure pushes a prefix, and is one
+abbrev pub Pushed : {T E K : Type 0} → (written : K → Option (List ℕ)) → (failed : K → ℕ) → (old new : K)
+    → Result T E → List ℕ → Type 0
 Pushed written failed old new result bytes = MatchResult result
     (λ _. WasPushed (written old) (written new) bytes × (failed new ≡ failed old))
     (λ _. WasCut (written old) (written new) bytes × (failed new ≡ failed old + 1))

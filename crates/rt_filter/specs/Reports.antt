@@ -15,7 +15,8 @@ use Rattle.rt_filter.specs.declared.query.Report.TheVariants.{Answers, Count}
 
 -- the report on the entries that are accepted
 abbrev pub report_on : List Entry → (accepts : Extent → Bool) → (line : ℕ) → Report → List ℕ
-report_on entries accepts line (Answers order limit) = find_reply line (answers entries accepts (order_score order) limit)
+report_on entries accepts line (Answers order limit) =
+    find_reply line (answers entries accepts (order_score order) limit)
 report_on entries accepts line Count = ok_line line (length (accepted entries accepts))
 
 -- the query for the number of nodes that a report opens

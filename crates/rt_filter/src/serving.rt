@@ -128,8 +128,8 @@ pub fn serve<S: Source, K: Sink>(
     progress.served(Some(ServeFault::Read))
 }
 
-// Answers the lines that end in these bytes, those that were kept and those of a pull, and flushes. Returns how many bytes
-// stand behind the last line feed.
+// Answers the lines that end in these bytes, those that were kept and those of a pull, and flushes. Returns how many
+// bytes stand behind the last line feed.
 fn answer_piece<K: Sink>(
     tree: &Tree,
     frontier: Frontier,
@@ -243,8 +243,8 @@ impl Progress {
         Ok(())
     }
 
-    // Keeps the last so many of the bytes that fill the room, the beginning of a line: moves them to its front, and returns
-    // how many they are. Where they are too many for a line, they are dropped.
+    // Keeps the last so many of the bytes that fill the room, the beginning of a line: moves them to its front, and
+    // returns how many they are. Where they are too many for a line, they are dropped.
     fn keep(&mut self, room: &mut [u8], filled: usize, rest: usize) -> usize
         requires filled { filled ≤ length room.old }
         requires rest { rest ≤ filled }
