@@ -1,5 +1,5 @@
 -- The lines of the answers, one after the other.
-use Rattle.std.proofs.Common.{◌≡◌, ◌∙◌, ◌<◌, ◌≤◌, ℕ, ℤ, Bool, List, ◌∷◌, ◌++◌, length, Option, Some, None, ap, arith}
+use Rattle.std.proofs.Common.{◌≡◌, ◌<◌, ◌≤◌, ℕ, ℤ, Bool, List, ◌∷◌, ◌++◌, length, Option, Some, None, ap, arith}
 use Rattle.std.proofs.lemmas.List.Concat.{flat_map-cons}
 use Rattle.std.proofs.lemmas.List.{length-take}
 use Rattle.std.proofs.lemmas.List.Sorted.{length_permutation}
@@ -7,12 +7,12 @@ use Rattle.rt_geo.specs.Laws.{Extent}
 use Rattle.rt_geo.specs.declared.entry.Entry.{Entry}
 use Rattle.rt_tree.specs.Sorting.{limited, sorted}
 use Rattle.rt_tree.proofs.SortingLemmas.{IsPermutation-sorted}
-use Rattle.rt_text.specs.ReplyLines.{answer_line, ok_line}
+use Rattle.rt_text.specs.ReplyLines.{answer_line}
 use Rattle.rt_search.specs.Answers.{Answer, answer_cmp, answers, scored}
 use Rattle.rt_search.proofs.Giving.{length-scored}
 use Rattle.rt_filter.specs.Pushes.{WasCut, WasPushed}
-use Rattle.rt_filter.specs.Replies.{answer_lines, find_reply}
-use Rattle.rt_filter.proofs.PushLemmas.{Pushed, cut_in_first, cut_in_last, pushed_both, pushed_cut, pushed_next}
+use Rattle.rt_filter.specs.Replies.{answer_lines}
+use Rattle.rt_filter.proofs.PushLemmas.{AllBut, pushed_cut, pushed_next}
 
 length-limited : {X : Type 0} (limit : Option ℕ) (xs : List X) → length (limited limit xs) ≤ length xs
 length-limited None xs = omega arith
@@ -32,36 +32,19 @@ few_answers entries accepts score limit found n most is size few =
     omega (arith, ap length is, size, few, length-answers entries accepts score limit)
 
 module _ (all : List ℕ) (old mid new : Option (List ℕ)) (id : ℤ) (score : ℕ) (found more : List Answer) where
-  first : found ≡ (id, score) ∷ more → Pushed all old mid (answer_lines found)
-      → Pushed all old mid (answer_line id score ++ answer_lines more)
+  first : found ≡ (id, score) ∷ more → AllBut all old mid (answer_lines found)
+      → AllBut all old mid (answer_line id score ++ answer_lines more)
   first is p = rw (is, flat_map-cons (λ (answer : Answer). answer_line answer.0 answer.1) (id, score) more) at p
 
   -- the line of the next answer was pushed
-  pub answer_pushed : found ≡ (id, score) ∷ more → Pushed all old mid (answer_lines found) → WasPushed mid new (answer_line id score)
-      → Pushed all old new (answer_lines more)
+  pub answer_pushed : found ≡ (id, score) ∷ more → AllBut all old mid (answer_lines found) → WasPushed mid new (answer_line id score)
+      → AllBut all old new (answer_lines more)
   answer_pushed is p h = pushed_next all (answer_line id score) (answer_lines more) old mid new (first is p) h
 
   -- it was cut short
-  pub answer_cut : found ≡ (id, score) ∷ more → Pushed all old mid (answer_lines found) → WasCut mid new (answer_line id score)
+  pub answer_cut : found ≡ (id, score) ∷ more → AllBut all old mid (answer_lines found) → WasCut mid new (answer_line id score)
       → WasCut old new all
   answer_cut is p h = pushed_cut all (answer_line id score) (answer_lines more) old mid new (first is p) h
-
-module _ (line : ℕ) (wanted found : List Answer) (is : found ≡ wanted) (old mid new : Option (List ℕ)) where
-  -- one of the answers was cut short
-  pub found_cut : WasCut old new (answer_lines found) → WasCut old new (find_reply line wanted)
-  found_cut h = rw is at (cut_in_first (answer_lines found) (ok_line line (length found)) old new new h)
-
-  module _ (n : ℕ) (text : List ℕ) (many : n ≡ length found) (ok : text ≡ ok_line line n) where
-    last : text ≡ ok_line line (length found)
-    last = ok ∙ ap (ok_line line) many
-
-    -- the answers were pushed, and their number was cut short
-    pub found_cut_at_end : WasPushed old mid (answer_lines found) → WasCut mid new text → WasCut old new (find_reply line wanted)
-    found_cut_at_end h k = rw is at (cut_in_last (answer_lines found) (ok_line line (length found)) old mid new h (rw last at k))
-
-    -- all was pushed
-    pub found_pushed : WasPushed old mid (answer_lines found) → WasPushed mid new text → WasPushed old new (find_reply line wanted)
-    found_pushed h k = rw is at (pushed_both (answer_lines found) (ok_line line (length found)) old mid new h (rw last at k))
 
 -- what holds of an acceptance and a score holds of the same ones under other names
 pub renamed : (P : (Extent → Bool) → (Extent → ℕ) → Type 0) (a b : Extent → Bool) (s t : Extent → ℕ)

@@ -1,5 +1,5 @@
 -- All layers are those of all entries, so a query on all of them is one that asks for none.
-use Rattle.std.proofs.Common.{◌≡◌, ◌∙◌, ap, cond, Bool, true, false, not, List, [], ◌∷◌, ◌&&◌, ℕ, Option, map, refl, sym}
+use Rattle.std.proofs.Common.{◌≡◌, ◌∙◌, ap, cond, Bool, true, false, not, List, [], ◌∷◌, ◌&&◌, ℕ, Option, length, map, refl, sym}
 use Rattle.std.specs.List.{All, AllByRecursion}
 use Rattle.std.proofs.lemmas.List.Elements.{recursion_from_All}
 use Rattle.rt_geo.specs.Entries.{HasLayer}
@@ -9,6 +9,12 @@ use Rattle.rt_geo.specs.Lemmas.Layers.{disjoint-only, has-all}
 use Rattle.rt_geo.specs.OnLayers.{on_layers_accepts}
 use Rattle.rt_geo.specs.declared.entry.Entry.{Entry}
 use Rattle.rt_geo.specs.declared.layers.Layers.{Layers}
+use Rattle.rt_geo.specs.Orders.{order_score}
+use Rattle.rt_text.specs.ReplyLines.{ok_line}
+use Rattle.rt_filter.specs.Replies.{find_reply}
+use Rattle.rt_filter.specs.Reports.{report_on}
+use Rattle.rt_filter.specs.declared.query.Report.{Report}
+use Rattle.rt_filter.specs.declared.query.Report.TheVariants.{Answers, Count}
 use Rattle.rt_tree.specs.Sorting.{limited, sorted}
 use Rattle.rt_search.specs.Answers.{accepted, answer_cmp, answer_of, answers}
 
@@ -39,11 +45,16 @@ module _ (accepts : Extent → Bool) where
       ∙ ap (λ l. cond (accepts (extent_of_entry entry)) (entry ∷ l) l) rest
 
   module _ (entries : List Entry) (few : All HasLayer entries) (layers : Layers) (all : layers ≡ all_layers) where
-    pub accepted-all : accepted entries (on_layers_accepts accepts layers) ≡ accepted entries accepts
+    accepted-all : accepted entries (on_layers_accepts accepts layers) ≡ accepted entries accepts
     accepted-all = ap (λ s. accepted entries (on_layers_accepts accepts s)) all
         ∙ same_by_recursion entries (recursion_from_All HasLayer entries few)
 
-    pub answers-all : (score : Extent → ℕ) (limit : Option ℕ)
+    answers-all : (score : Extent → ℕ) (limit : Option ℕ)
         → answers entries (on_layers_accepts accepts layers) score limit ≡ answers entries accepts score limit
     answers-all score limit =
         ap (λ found. limited limit (sorted answer_cmp (map (answer_of score) found))) accepted-all
+
+    pub report_on-all : (line : ℕ) (report : Report)
+        → report_on entries (on_layers_accepts accepts layers) line report ≡ report_on entries accepts line report
+    report_on-all line (Answers order limit) = ap (find_reply line) (answers-all (order_score order) limit)
+    report_on-all line Count = ap (λ found. ok_line line (length found)) accepted-all

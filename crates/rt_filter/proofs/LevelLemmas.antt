@@ -1,16 +1,14 @@
 -- The lines of the levels, from the top down.
-use Rattle.std.proofs.Common.{◌≡◌, ◌∙◌, ◌+◌, ◌-◌, ◌<◌, ◌≤◌, ℕ, List, [], ◌∷◌, ◌++◌, length, take, drop, get_or, Option, Some, refl, sym, ap, ap₂, zero-add, arith, append_assoc, append-nil}
+use Rattle.std.proofs.Common.{◌≡◌, ◌∙◌, ◌+◌, ◌-◌, ◌<◌, ◌≤◌, ℕ, List, ◌∷◌, ◌++◌, length, drop, get_or, Option, Some, ap, ap₂, zero-add, arith, append_assoc}
 use Rattle.std.specs.Prelude.{flat_map, reverse, slice_get}
 use Rattle.std.specs.List.{enumerate_from}
-use Rattle.std.proofs.Math.Seq.{take-length}
-use Rattle.std.proofs.lemmas.Grind.{flat_map-append}
-use Rattle.std.proofs.lemmas.List.{drop_all, drop_more, get_or-reverse, length-reverse, take_more}
+use Rattle.std.proofs.lemmas.List.{drop_all, drop_more, get_or-reverse, length-reverse}
 use Rattle.std.proofs.lemmas.List.Concat.{flat_map-cons}
 use Rattle.std.proofs.lemmas.List.FromFn.{get_or-enumerate_from, length-enumerate_from}
 use Rattle.std.proofs.lemmas.Option.{get_or_from_slice_get}
 use Rattle.rt_text.specs.ReplyLines.{level_line, ok_line}
 use Rattle.rt_filter.specs.Pushes.{WasCut, WasPushed}
-use Rattle.rt_filter.proofs.PushLemmas.{Pushed, pushed_cut, pushed_next, pushed_whole}
+use Rattle.rt_filter.proofs.PushLemmas.{AllBut, pushed_cut, pushed_next}
 
 abbrev pub level_lines : List (ℕ × ℕ) → List ℕ
 level_lines levels = flat_map (λ level. level_line level.0 level.1) levels
@@ -33,24 +31,6 @@ at_downwards sizes k size h at =
     ∙ get_or-enumerate_from 0 sizes (length sizes - 1 - k) (0, size) below
     ∙ ap₂ (λ (i : ℕ) (s : ℕ). (i, s)) (zero-add (length sizes - 1 - k)) (get_or_from_slice_get sizes (length sizes - 1 - k) size size at)
 
--- one more line was put
-pub lines-more : (sizes before out new : List ℕ) (k size : ℕ) → k < length sizes → slice_get sizes (length sizes - 1 - k) ≡ Some size
-    → out ≡ before ++ level_lines (take k (downwards sizes)) → new ≡ out ++ level_line (length sizes - 1 - k) size
-    → new ≡ before ++ level_lines (take (k + 1) (downwards sizes))
-lines-more sizes before out new k size h at so_far put =
-    let inside : k < length (downwards sizes) = omega (arith, length-downwards sizes) in
-    let more = take_more (downwards sizes) k (0, size) inside ∙ ap (λ x. take k (downwards sizes) ++ x ∷ []) (at_downwards sizes k size h at) in
-    let text : level_lines (take (k + 1) (downwards sizes)) ≡ level_lines (take k (downwards sizes)) ++ level_line (length sizes - 1 - k) size =
-    ap level_lines more ∙ flat_map-append (λ (level : ℕ × ℕ). level_line level.0 level.1) (take k (downwards sizes)) ((length sizes - 1 - k, size) ∷ [])
-    ∙ ap (λ x. level_lines (take k (downwards sizes)) ++ x) (append-nil (level_line (length sizes - 1 - k) size)) in
-    put ∙ ap (λ x. x ++ level_line (length sizes - 1 - k) size) so_far
-    ∙ append_assoc before (level_lines (take k (downwards sizes))) (level_line (length sizes - 1 - k) size) ∙ ap (λ x. before ++ x) (sym text)
-
--- all lines were put
-pub lines-all : (sizes before out : List ℕ) → out ≡ before ++ level_lines (take (length sizes) (downwards sizes)) → out ≡ before ++ level_lines (downwards sizes)
-lines-all sizes before out so_far =
-    so_far ∙ ap (λ n. before ++ level_lines (take n (downwards sizes))) (sym (length-downwards sizes)) ∙ ap (λ x. before ++ level_lines x) (take-length (downwards sizes))
-
 -- ---- what is left of a reply
 
 -- the lines of the levels after so many, and their number
@@ -72,27 +52,19 @@ levels_left-end line sizes k h =
     let none : length (downwards sizes) ≤ k = omega (arith, length-downwards sizes) in
     ap (λ levels. level_lines levels ++ ok_line line (length sizes)) (drop_all k (downwards sizes) none)
 
-module _ (line : ℕ) (sizes all : List ℕ) (old mid new : Option (List ℕ)) (k : ℕ) (text : List ℕ) (left : Pushed all old mid (levels_left line sizes k)) where
+module _ (line : ℕ) (sizes all : List ℕ) (old mid new : Option (List ℕ)) (k : ℕ) (text : List ℕ) (left : AllBut all old mid (levels_left line sizes k)) where
   module _ (size : ℕ) (h : k < length sizes) (at : slice_get sizes (length sizes - 1 - k) ≡ Some size) (is : text ≡ level_line (length sizes - 1 - k) size) where
-    next : Pushed all old mid (text ++ levels_left line sizes (k + 1))
+    next : AllBut all old mid (text ++ levels_left line sizes (k + 1))
     next = rw is (rw (levels_left-next line sizes k size h at) at left)
 
     -- the line of the next level was pushed
-    pub level_pushed : WasPushed mid new text → Pushed all old new (levels_left line sizes (k + 1))
+    pub level_pushed : WasPushed mid new text → AllBut all old new (levels_left line sizes (k + 1))
     level_pushed h = pushed_next all text (levels_left line sizes (k + 1)) old mid new next h
 
     -- it was cut short
     pub level_cut : WasCut mid new text → WasCut old new all
     level_cut h = pushed_cut all text (levels_left line sizes (k + 1)) old mid new next h
 
-  module _ (end : length sizes ≤ k) (is : text ≡ ok_line line (length sizes)) where
-    last : Pushed all old mid (text ++ [])
-    last = rw (is, append-nil (ok_line line (length sizes))) (rw (levels_left-end line sizes k end) at left)
-
-    -- all levels were pushed, and so was their number
-    pub levels_pushed : WasPushed mid new text → WasPushed old new all
-    levels_pushed h = pushed_whole all old new [] (pushed_next all text [] old mid new last h) refl
-
-    -- their number was cut short
-    pub levels_cut : WasCut mid new text → WasCut old new all
-    levels_cut h = pushed_cut all text [] old mid new last h
+  -- their number alone is left
+  pub levels_end : length sizes ≤ k → text ≡ ok_line line (length sizes) → AllBut all old mid text
+  levels_end end is = rw is (rw (levels_left-end line sizes k end) at left)

@@ -1,6 +1,5 @@
 mod AnswerLemmas
 mod ConsumedLemmas
-mod CostLemmas
 mod FindLemmas
 mod LayerLemmas
 mod LevelLemmas

@@ -1,6 +1,6 @@
 -- Lines that come in pieces: what was answered, and what the next line begins with.
 use Rattle.std.proofs.Common.{◌≡◌, ◌∙◌, ◌+◌, ◌-◌, ◌<◌, ◌≤◌, ℕ, Bool, true, false, ◌||◌, ◌⊎◌, List, [], ◌∷◌, ◌++◌, length, take, drop, Option, Some, None, refl, sym, ap, ap₂, arith, append_assoc, append-nil, inl, inr}
-use Rattle.std.specs.Prelude.{Err, IfErr, IfSome, IsErrAnd, Ok, Result, nat_lt}
+use Rattle.std.specs.Prelude.{IfSome, nat_lt}
 use Rattle.std.specs.List.{copy_within}
 use Rattle.std.proofs.lemmas.List.Edits.{take-paste}
 use Rattle.std.specs.Io.{StartsWith}
@@ -11,14 +11,15 @@ use Rattle.std.proofs.lemmas.Grind.{flat_map-append}
 use Rattle.std.proofs.lemmas.List.Concat.{flat_map-cons}
 use Rattle.std.proofs.lemmas.List.Folds.{list_any-append}
 use Rattle.std.proofs.Math.Seq.{paste, take-append_seam}
-use Rattle.std.proofs.lemmas.List.{drop-drop, drop-take, length-append, length-drop, take-append-drop}
+use Rattle.std.proofs.lemmas.List.{drop-drop, drop-take, length-append, length-drop}
 use Rattle.memchr.specs.Find.{IsFirstByte, is_byte}
 use Rattle.rt_text.specs.declared.query.Parsed.{Parsed}
 use Rattle.rt_device.specs.Devices.{IsSameIfTold}
 use Rattle.rt_filter.specs.Lines.{line_feed, longest_line, numbered_lines}
 use Rattle.rt_filter.specs.Replies.{Loaded, any_fault, is_fault, judged_line, output, reply}
 use Rattle.rt_filter.specs.Pushes.{WasCut, WasPushed, WentPrefix}
-use Rattle.rt_filter.specs.Stages.{HasNoLineFeed, IsAnswering, IsCut, asked_by, lines_from}
+use Rattle.rt_filter.specs.Stages.{HasNoLineFeed, IsAnswering, IsCut, parsed_line, lines_from}
+use Rattle.rt_filter.proofs.PushLemmas.{behind, unmoved}
 use Rattle.rt_filter.proofs.LineLemmas.{clear-append, found, lines_from-found, lines_from-last, lines_from-none}
 
 -- ---- replies to some lines and then others
@@ -31,7 +32,7 @@ any_fault-append xs ys = list_any-append (λ (line : ℕ × List ℕ). is_fault 
 
 -- what a line asks, its beginning with it
 asked_whole : (is_long : Bool) (dropped line : List ℕ) → (is_long ≡ true → longest_line < length dropped) → (is_long ≡ false → dropped ≡ [])
-    → asked_by is_long line ≡ judged_line (dropped ++ line)
+    → parsed_line is_long line ≡ judged_line (dropped ++ line)
 asked_whole true dropped line long short =
     let over : nat_lt longest_line (length (dropped ++ line)) ≡ true = lt-ltb longest_line (length (dropped ++ line)) (omega (arith, length-append dropped line, long refl)) in
     rw over refl
@@ -75,11 +76,11 @@ module _ (loaded : Loaded) (bytes before : List ℕ) where
   -- a line that ends in a line feed was answered
   pub answering-more : (lines : ℕ) (bad fault is_long : Bool) (rest left out now : List ℕ) (n : ℕ)
       → IsAnswering loaded bytes before lines bad is_long rest out → IsFirstByte (is_byte line_feed) rest (Some n) → left ≡ drop (n + 1) rest
-      → now ≡ out ++ reply loaded (lines + 1) (asked_by is_long (take n rest)) → fault ≡ is_fault (asked_by is_long (take n rest))
+      → now ≡ out ++ reply loaded (lines + 1) (parsed_line is_long (take n rest)) → fault ≡ is_fault (parsed_line is_long (take n rest))
       → IsAnswering loaded bytes before (lines + 1) (bad || fault) false left now
   answering-more lines bad fault is_long rest left out now n s h l o f =
       let line : List ℕ = s.dropped ++ take n rest in
-      let asked : asked_by is_long (take n rest) ≡ judged_line line = asked_whole is_long s.dropped (take n rest) s.long s.short in
+      let asked : parsed_line is_long (take n rest) ≡ judged_line line = asked_whole is_long s.dropped (take n rest) s.long s.short in
       record {
         answered = s.answered ++ (lines + 1, line) ∷ [];
         dropped = [];
@@ -100,28 +101,19 @@ module _ (loaded : Loaded) (bytes before : List ℕ) where
       no : false ≡ true → ⊥
       no e = grind (arith, e)
 
--- ---- results
-
-pub if_err : {A E : Type 0} (r : Result A E) (P : E → Type 0) (e : E) → IsErrAnd r (λ y. y ≡ e) → P e → IfErr r P
-if_err (Ok a) P e h p = tt
-if_err (Err y) P e h p = rw h p
-
 -- ---- prefixes
-
-rest_of : (xs front : List ℕ) → StartsWith xs front → xs ≡ front ++ drop (length front) xs
-rest_of xs front h = sym (take-append-drop (length front) xs) ∙ ap (λ zs. zs ++ drop (length front) xs) h
 
 pub starts : (front back : List ℕ) → StartsWith (front ++ back) front
 starts front back = take-append_seam front back
 
 pub starts-more : (xs front back : List ℕ) → StartsWith xs front → StartsWith (xs ++ back) front
 starts-more xs front back h =
-    rw (rest_of xs front h, append_assoc front (drop (length front) xs) back) (starts front (drop (length front) xs ++ back))
+    rw (behind xs front h, append_assoc front (drop (length front) xs) back) (starts front (drop (length front) xs ++ back))
 
 starts-between : (before xs front back : List ℕ) → StartsWith xs front → StartsWith (before ++ (xs ++ back)) (before ++ front)
 starts-between before xs front back h =
     let whole : before ++ (xs ++ back) ≡ (before ++ front) ++ (drop (length front) xs ++ back) =
-    ap (λ zs. before ++ (zs ++ back)) (rest_of xs front h) ∙ ap (λ zs. before ++ zs) (append_assoc front (drop (length front) xs) back)
+    ap (λ zs. before ++ (zs ++ back)) (behind xs front h) ∙ ap (λ zs. before ++ zs) (append_assoc front (drop (length front) xs) back)
     ∙ sym (append_assoc before front (drop (length front) xs ++ back)) in
     rw whole (starts (before ++ front) (drop (length front) xs ++ back))
 
@@ -167,10 +159,6 @@ prefix_more loaded now (Some written) number line later w = (
       (starts-more (reply loaded number (judged_line line)) w.0 (output loaded later) w.2),
 )
 
-prefix_none : (now : List ℕ) (o : Option (List ℕ)) → IsSameIfTold (Some now) o → WentPrefix now o []
-prefix_none now None h = tt
-prefix_none now (Some written) h = ([], h ∙ sym (append-nil now), refl)
-
 kept : (xs : List ℕ) (new : Option (List ℕ)) → Keeps (Some xs) new → new ≡ Some xs
 kept xs None h = absurd h
 kept xs (Some ys) h = ap (λ zs. Some zs) h
@@ -198,13 +186,13 @@ module _ (loaded : Loaded) (old mid new : Option (List ℕ)) (lines : ℕ) (bad 
     (h : Steps loaded old mid lines bad is_long bytes lines' bad' is_long' rest) where
   -- a line was answered
   pub steps-more : (left : List ℕ) (n : ℕ) (next : ℕ) (fault is : Bool) → IsFirstByte (is_byte line_feed) rest (Some n) → left ≡ drop (n + 1) rest
-      → WasPushed mid new (reply loaded (lines' + 1) (asked_by is_long' (take n rest)))
-      → next ≡ lines' + 1 → fault ≡ (bad' || is_fault (asked_by is_long' (take n rest))) → is ≡ false
+      → WasPushed mid new (reply loaded (lines' + 1) (parsed_line is_long' (take n rest)))
+      → next ≡ lines' + 1 → fault ≡ (bad' || is_fault (parsed_line is_long' (take n rest))) → is ≡ false
       → Steps loaded old new lines bad is_long bytes next fault is left
   steps-more left n next fault is at l w e f i all before out o s =
       let r = h all before out o s in
-      let answer : List ℕ = reply loaded (lines' + 1) (asked_by is_long' (take n rest)) in
-      let more = answering-more loaded all before lines' bad' (is_fault (asked_by is_long' (take n rest))) is_long' rest left r.0 (r.0 ++ answer) n r.3 at l refl refl in (
+      let answer : List ℕ = reply loaded (lines' + 1) (parsed_line is_long' (take n rest)) in
+      let more = answering-more loaded all before lines' bad' (is_fault (parsed_line is_long' (take n rest))) is_long' rest left r.0 (r.0 ++ answer) n r.3 at l refl refl in (
         r.0 ++ answer,
         told (λ now. new ≡ Some (now ++ answer)) mid r.0 r.1 w,
         starts-more r.0 out answer r.2,
@@ -213,17 +201,17 @@ module _ (loaded : Loaded) (old mid new : Option (List ℕ)) (lines : ℕ) (bad 
 
   -- a line couldn't be answered
   pub steps-cut : (n : ℕ) (fault : Bool) → IsFirstByte (is_byte line_feed) rest (Some n)
-      → WasCut mid new (reply loaded (lines' + 1) (asked_by is_long' (take n rest))) → fault ≡ (bad' || is_fault (asked_by is_long' (take n rest)))
+      → WasCut mid new (reply loaded (lines' + 1) (parsed_line is_long' (take n rest))) → fault ≡ (bad' || is_fault (parsed_line is_long' (take n rest)))
       → (all before out : List ℕ) → old ≡ Some out → IsAnswering loaded all before lines bad is_long bytes out
       → IsCut loaded (numbered_lines all false) before out new fault
   steps-cut n fault at w f all before out o s =
       let r = h all before out o s in
       let line : List ℕ = r.3.dropped ++ take n rest in
-      let asked : asked_by is_long' (take n rest) ≡ judged_line line = asked_whole is_long' r.3.dropped (take n rest) r.3.long r.3.short in
+      let asked : parsed_line is_long' (take n rest) ≡ judged_line line = asked_whole is_long' r.3.dropped (take n rest) r.3.long r.3.short in
       let later : List (ℕ × List ℕ) = lines_from (lines' + 1) (drop (n + 1) rest ++ []) false in
       let lines_all = sym (ap (λ zs. numbered_lines zs false) (append-nil all)) ∙ next_line loaded all before lines' bad' is_long' rest r.0 r.3 n at [] false in
       cut-later loaded all before lines' bad' is_long' rest out r.0 ((lines' + 1, line) ∷ later) (numbered_lines all false) r.3 lines_all r.2 new
-      (prefix_more loaded r.0 new (lines' + 1) line later (rw asked at (told (λ now. WentPrefix now new (reply loaded (lines' + 1) (asked_by is_long' (take n rest)))) mid r.0 r.1 w)))
+      (prefix_more loaded r.0 new (lines' + 1) line later (rw asked at (told (λ now. WentPrefix now new (reply loaded (lines' + 1) (parsed_line is_long' (take n rest)))) mid r.0 r.1 w)))
       fault (λ is. or_more bad' (is_fault (judged_line line)) (any_fault later) (sym (f ∙ ap (λ x. bad' || is_fault x) asked) ∙ is))
 
   -- nothing more went out
@@ -239,14 +227,14 @@ module _ (loaded : Loaded) (old mid new : Option (List ℕ)) (lines : ℕ) (bad 
   steps-lost clear k all before out o s =
       let r = h all before out o s in
       cut-later loaded all before lines' bad' is_long' rest out r.0 [] (numbered_lines all false) r.3
-      (no_line loaded all before lines' bad' is_long' rest r.0 r.3 clear) r.2 new (prefix_none r.0 new (rw r.1 at k)) bad' (λ is. or_first bad' false is)
+      (no_line loaded all before lines' bad' is_long' rest r.0 r.3 clear) r.2 new (unmoved (Some r.0) new [] (rw r.1 at k)) bad' (λ is. or_first bad' false is)
 
--- ---- what is held
+-- ---- what is kept
 
 -- the last bytes of those that fill the room, moved to its front
-pub held_front : (room new : List ℕ) (filled rest : ℕ) → filled ≤ length room → rest ≤ filled → new ≡ copy_within room (filled - rest) filled 0
+pub kept_front : (room new : List ℕ) (filled rest : ℕ) → filled ≤ length room → rest ≤ filled → new ≡ copy_within room (filled - rest) filled 0
     → take rest new ≡ drop (filled - rest) (take filled room)
-held_front room new filled rest fits few e =
+kept_front room new filled rest fits few e =
     let back : filled - (filled - rest) ≡ rest = omega (arith, few) in
     let whole : filled - rest + rest ≡ filled = omega (arith, few) in
     let none : rest ≡ 0 + rest = omega arith in
@@ -257,68 +245,38 @@ held_front room new filled rest fits few e =
 -- ---- at the end of the queries
 
 -- they end in a line feed, or there are none
-pub end_nothing : (loaded : Loaded) (all before out : List ℕ) (lines : ℕ) (bad is_long : Bool) (held : List ℕ)
-    → IsAnswering loaded all before lines bad is_long held out → is_long ≡ false → length held ≡ 0
+pub end_nothing : (loaded : Loaded) (all before out : List ℕ) (lines : ℕ) (bad is_long : Bool) (partial : List ℕ)
+    → IsAnswering loaded all before lines bad is_long partial out → is_long ≡ false → length partial ≡ 0
     → (out ≡ before ++ output loaded (numbered_lines all true)) × (bad ≡ any_fault (numbered_lines all true))
 end_nothing loaded all before out lines bad is_long [] s short none =
     let lines_all : numbered_lines all true ≡ s.answered =
     sym (ap (λ zs. numbered_lines zs true) (append-nil all)) ∙ s.splits [] true ∙ ap (λ zs. s.answered ++ lines_from lines (zs ++ ([] ++ [])) true) (s.short short)
     ∙ append-nil s.answered in
     (s.replies ∙ ap (λ ls. before ++ output loaded ls) (sym lines_all), s.faults ∙ ap any_fault (sym lines_all))
-end_nothing loaded all before out lines bad is_long (x ∷ held) s short none = absurd (omega (arith, none))
+end_nothing loaded all before out lines bad is_long (x ∷ partial) s short none = absurd (omega (arith, none))
 
--- the last line ends in none, and isn't empty
-pub record IsLast (is_long : Bool) (held : List ℕ) : Type 0 where
-  pub clear : HasNoLineFeed held
-  pub some : (is_long ≡ true) ⊎ (0 < length held)
+some_dropped : (is_long : Bool) (dropped partial : List ℕ) → (is_long ≡ true → longest_line < length dropped) → (is_long ≡ true) ⊎ (0 < length partial)
+    → 0 < length (dropped ++ partial)
+some_dropped is_long dropped partial long (inl h) = omega (arith, length-append dropped partial, long h)
+some_dropped is_long dropped partial long (inr h) = omega (arith, length-append dropped partial, h)
 
-some_dropped : (is_long : Bool) (dropped held : List ℕ) → (is_long ≡ true → longest_line < length dropped) → (is_long ≡ true) ⊎ (0 < length held)
-    → 0 < length (dropped ++ held)
-some_dropped is_long dropped held long (inl h) = omega (arith, length-append dropped held, long h)
-some_dropped is_long dropped held long (inr h) = omega (arith, length-append dropped held, h)
+module _ (loaded : Loaded) (all before out : List ℕ) (lines : ℕ) (bad is_long : Bool) (partial : List ℕ)
+    (s : IsAnswering loaded all before lines bad is_long partial out) (clear : HasNoLineFeed partial) where
+  -- all lines that end in a line feed are answered
+  pub all_answered : (out ≡ before ++ output loaded (numbered_lines all false)) × (bad ≡ any_fault (numbered_lines all false))
+  all_answered =
+      let same = no_line loaded all before lines bad is_long partial out s clear ∙ append-nil s.answered in
+      (s.replies ∙ ap (λ ls. before ++ output loaded ls) (sym same), s.faults ∙ ap any_fault (sym same))
 
-module _ (loaded : Loaded) (all before out : List ℕ) (lines : ℕ) (bad is_long : Bool) (held : List ℕ)
-    (s : IsAnswering loaded all before lines bad is_long held out) (last : IsLast is_long held) where
-  abbrev answered : ℕ × List ℕ
-  answered = (lines + 1, s.dropped ++ held)
-
-  lines_all : numbered_lines all true ≡ s.answered ++ answered ∷ []
-  lines_all = last_line loaded all before lines bad is_long held out s last.clear (some_dropped is_long s.dropped held s.long last.some)
-
-  asked : asked_by is_long held ≡ judged_line (s.dropped ++ held)
-  asked = asked_whole is_long s.dropped held s.long s.short
-
-  -- it was answered, and the answers were handed on
-  pub end_answered : (old mid new : Option (List ℕ)) (fault : Bool) → old ≡ Some out
-      → WasPushed old mid (reply loaded (lines + 1) (asked_by is_long held)) → fault ≡ (bad || is_fault (asked_by is_long held))
-      → Keeps mid new → (new ≡ Some (before ++ output loaded (numbered_lines all true))) × (fault ≡ any_fault (numbered_lines all true))
-  end_answered old mid new fault e w f k =
-      let gone : mid ≡ Some (out ++ reply loaded (lines + 1) (asked_by is_long held)) = told (λ now. mid ≡ Some (now ++ reply loaded (lines + 1) (asked_by is_long held))) old out e w in
-      let whole : out ++ reply loaded (lines + 1) (asked_by is_long held) ≡ before ++ output loaded (numbered_lines all true) =
-      ap₂ (λ (x : List ℕ) (y : Parsed). x ++ reply loaded (lines + 1) y) s.replies asked
-      ∙ append_assoc before (output loaded s.answered) (reply loaded (lines + 1) (judged_line (s.dropped ++ held)))
-      ∙ ap (λ zs. before ++ (output loaded s.answered ++ zs)) (sym (append-nil _))
-      ∙ ap (λ zs. before ++ zs) (sym (output-append loaded s.answered (answered ∷ []))) ∙ ap (λ ls. before ++ output loaded ls) (sym lines_all) in (
-        kept (out ++ reply loaded (lines + 1) (asked_by is_long held)) new (rw gone at k) ∙ ap (λ zs. Some zs) whole,
-        f ∙ ap₂ (λ (x : Bool) (y : Bool). x || y) s.faults (ap is_fault asked ∙ sym (or-false _)) ∙ sym (any_fault-append s.answered (answered ∷ [])) ∙ ap any_fault (sym lines_all),
-      )
-
-  -- it couldn't be answered
-  pub end_cut : (old new : Option (List ℕ)) (fault : Bool) → old ≡ Some out → WasCut old new (reply loaded (lines + 1) (asked_by is_long held))
-      → fault ≡ (bad || is_fault (asked_by is_long held)) → IsCut loaded (numbered_lines all true) before out new fault
-  end_cut old new fault e w f =
-      cut-later loaded all before lines bad is_long held out out (answered ∷ []) (numbered_lines all true) s lines_all (rw append-nil at (starts out [])) new
-      (prefix_more loaded out new (lines + 1) (s.dropped ++ held) [] (rw asked at (told (λ now. WentPrefix now new (reply loaded (lines + 1) (asked_by is_long held))) old out e w)))
-      fault (λ is. or_more bad (is_fault (judged_line (s.dropped ++ held))) false (sym (f ∙ ap (λ x. bad || is_fault x) asked) ∙ is))
-
-  -- it was answered, and the flush failed
-  pub end_lost : (old mid new : Option (List ℕ)) (fault : Bool) → old ≡ Some out
-      → WasPushed old mid (reply loaded (lines + 1) (asked_by is_long held)) → IsSameIfTold mid new
-      → fault ≡ (bad || is_fault (asked_by is_long held)) → IsCut loaded (numbered_lines all true) before out new fault
-  end_lost old mid new fault e w u f =
-      let answer : List ℕ = reply loaded (lines + 1) (asked_by is_long held) in
-      let gone : mid ≡ Some (out ++ answer) = told (λ now. mid ≡ Some (now ++ answer)) old out e w in
-      end_cut old new fault e (rw e (whole_prefix out answer new (rw gone at u))) f
+  -- the last line, unless it is empty, is one as if a line feed ended it
+  pub ended_lines : (is_long ≡ true) ⊎ (0 < length partial)
+      → numbered_lines (all ++ line_feed ∷ []) false ≡ numbered_lines all true
+  ended_lines some =
+      s.splits (line_feed ∷ []) false
+      ∙ ap (λ zs. s.answered ++ lines_from lines zs false) (sym (append_assoc s.dropped partial (line_feed ∷ [])))
+      ∙ ap (λ ls. s.answered ++ ls) (lines_from-found lines (s.dropped ++ partial) [] false (clear-append s.dropped partial s.clear clear)
+      ∙ ap (λ ls. (lines + 1, s.dropped ++ partial) ∷ ls) (lines_from-none (lines + 1) [] tt))
+      ∙ sym (last_line loaded all before lines bad is_long partial out s clear (some_dropped is_long s.dropped partial s.long some))
 
 -- ---- the last so many of some bytes
 

@@ -1,12 +1,12 @@
 -- What pushes add up to.
-use Rattle.std.proofs.Common.{◌≡◌, ◌∙◌, ℕ, List, [], ◌∷◌, ◌++◌, length, take, drop, Option, Some, None, refl, sym, ap, arith, append_assoc, append-nil}
-use Rattle.std.specs.Prelude.{IfSome, OnErr, Result, Ok, Err}
+use Rattle.std.proofs.Common.{◌≡◌, ◌∙◌, ◌+◌, ℕ, List, [], ◌∷◌, ◌++◌, length, take, drop, Option, Some, None, refl, sym, ap, arith, append_assoc, append-nil}
+use Rattle.std.specs.Prelude.{IfSome, IsErrAnd, OnErr, Result, Ok, Err}
 use Rattle.std.specs.Io.{StartsWith}
 use Rattle.std.specs.Io.KnownBytes.{Appends}
 use Rattle.std.proofs.Math.Seq.{take-append_seam}
 use Rattle.std.proofs.lemmas.List.{take-append-drop}
 use Rattle.rt_device.specs.Devices.{IsSameIfTold}
-use Rattle.rt_filter.specs.Pushes.{WasCut, WasPushed, WentPrefix}
+use Rattle.rt_filter.specs.Pushes.{Pushed, WasCut, WasPushed, WentPrefix}
 
 -- a fact at each list that it may be is one at the list that it is
 pub if_some : (P : List ℕ → Type 0) (o : Option (List ℕ)) → ((xs : List ℕ) → o ≡ Some xs → P xs) → IfSome o P
@@ -19,22 +19,22 @@ at_error (Ok x) h = tt
 at_error (Err e) h = h
 
 -- of all bytes, what isn't left was pushed
-pub record Pushed (all : List ℕ) (old now : Option (List ℕ)) (rest : List ℕ) : Type 0 where
+pub record AllBut (all : List ℕ) (old now : Option (List ℕ)) (rest : List ℕ) : Type 0 where
   pub out : (before : List ℕ) → old ≡ Some before → (out : List ℕ) × (now ≡ Some (before ++ out)) × (all ≡ out ++ rest)
 
-pub pushed_none : (all : List ℕ) (old : Option (List ℕ)) → Pushed all old old all
+pub pushed_none : (all : List ℕ) (old : Option (List ℕ)) → AllBut all old old all
 pushed_none all old = record { out = λ before e. ([], e ∙ ap (λ xs. Some xs) (sym (append-nil before)), refl) }
 
 -- nothing is left
-pub pushed_whole : (all : List ℕ) (old now : Option (List ℕ)) (rest : List ℕ) → Pushed all old now rest → length rest ≡ 0
+pub pushed_whole : (all : List ℕ) (old now : Option (List ℕ)) (rest : List ℕ) → AllBut all old now rest → length rest ≡ 0
     → WasPushed old now all
 pushed_whole all old now [] p z =
     if_some _ old (λ before e. let q = p.out before e in q.1 ∙ ap (λ xs. Some (before ++ xs)) (sym (q.2 ∙ append-nil q.0)))
 pushed_whole all old now (c ∷ rest) p z = absurd (omega (arith, z))
 
 -- the next bytes were pushed too
-pub pushed_next : (all next rest : List ℕ) (old mid new : Option (List ℕ)) → Pushed all old mid (next ++ rest) → WasPushed mid new next
-    → Pushed all old new rest
+pub pushed_next : (all next rest : List ℕ) (old mid new : Option (List ℕ)) → AllBut all old mid (next ++ rest) → WasPushed mid new next
+    → AllBut all old new rest
 pushed_next all next rest old mid new p h = record {
   out = λ before e.
       let q = p.out before e in
@@ -52,10 +52,10 @@ appended None new bytes h = tt
 appended (Some xs) None bytes h = absurd h
 appended (Some xs) (Some ys) bytes h = ap (λ zs. Some zs) h
 
-pub pushed_more : (all : List ℕ) (old mid new : Option (List ℕ)) (rest left : List ℕ) (n : ℕ) → Pushed all old mid rest
-    → Appends mid new (take n rest) → left ≡ drop n rest → Pushed all old new left
+pub pushed_more : (all : List ℕ) (old mid new : Option (List ℕ)) (rest left : List ℕ) (n : ℕ) → AllBut all old mid rest
+    → Appends mid new (take n rest) → left ≡ drop n rest → AllBut all old new left
 pushed_more all old mid new rest left n p h l =
-    let parts : Pushed all old mid (take n rest ++ drop n rest) = rw (take-append-drop n rest) p in
+    let parts : AllBut all old mid (take n rest ++ drop n rest) = rw (take-append-drop n rest) p in
     rw l (pushed_next all (take n rest) (drop n rest) old mid new parts (appended mid new (take n rest) h))
 
 -- ---- what was cut short
@@ -65,7 +65,7 @@ prefix : (out rest all : List ℕ) → all ≡ out ++ rest → StartsWith all ou
 prefix out rest all e = rw e (take-append_seam out rest)
 
 -- what stands behind a prefix
-behind : (xs out : List ℕ) → StartsWith xs out → xs ≡ out ++ drop (length out) xs
+pub behind : (xs out : List ℕ) → StartsWith xs out → xs ≡ out ++ drop (length out) xs
 behind xs out h = sym (take-append-drop (length out) xs) ∙ ap (λ zs. zs ++ drop (length out) xs) h
 
 -- some bytes are there, and of what follows a prefix
@@ -81,47 +81,58 @@ later before out next rest all (Some ys) h e =
     (out ++ h.0, h.1 ∙ append_assoc before out h.0, prefix (out ++ h.0) (more ++ rest) all whole)
 
 -- of the next bytes a prefix was pushed
-pub pushed_cut : (all next rest : List ℕ) (old mid new : Option (List ℕ)) → Pushed all old mid (next ++ rest) → WasCut mid new next
+pub pushed_cut : (all next rest : List ℕ) (old mid new : Option (List ℕ)) → AllBut all old mid (next ++ rest) → WasCut mid new next
     → WasCut old new all
 pushed_cut all next rest old mid new p h = if_some _ old (λ before e.
     let q = p.out before e in
     let cut : WentPrefix (before ++ q.0) new next = rw q.1 at h in
     later before q.0 next rest all new cut q.2)
 
-unmoved : (old new : Option (List ℕ)) (bytes : List ℕ) → IsSameIfTold old new → WasCut old new bytes
+pub unmoved : (old new : Option (List ℕ)) (bytes : List ℕ) → IsSameIfTold old new → WasCut old new bytes
 unmoved None new bytes h = tt
 unmoved (Some xs) None bytes h = tt
 unmoved (Some xs) (Some ys) bytes h = ([], h ∙ sym (append-nil xs), refl)
 
 -- a push or a flush failed
-pub pushed_prefix : (all : List ℕ) (old mid new : Option (List ℕ)) (rest : List ℕ) → Pushed all old mid rest → IsSameIfTold mid new
+pub pushed_prefix : (all : List ℕ) (old mid new : Option (List ℕ)) (rest : List ℕ) → AllBut all old mid rest → IsSameIfTold mid new
     → WasCut old new all
 pushed_prefix all old mid new rest p h =
     pushed_cut all rest [] old mid new (rw (append-nil rest) p) (unmoved mid new rest h)
 
-unmoved_same : (now : Option (List ℕ)) → IsSameIfTold now now
+pub unmoved_same : (now : Option (List ℕ)) → IsSameIfTold now now
 unmoved_same None = tt
 unmoved_same (Some xs) = refl
 
 -- a push took nothing
-pub pushed_nothing : (all : List ℕ) (old mid new : Option (List ℕ)) (rest : List ℕ) (n : ℕ) → Pushed all old mid rest
+pub pushed_nothing : (all : List ℕ) (old mid new : Option (List ℕ)) (rest : List ℕ) (n : ℕ) → AllBut all old mid rest
     → Appends mid new (take n rest) → WasCut old new all
 pushed_nothing all old mid new rest n p h =
     pushed_prefix all old new new (drop n rest) (pushed_more all old mid new rest (drop n rest) n p h refl) (unmoved_same new)
 
--- ---- two pushes, one after the other
+-- ---- calls that push
 
-module _ (first last : List ℕ) (old mid new : Option (List ℕ)) where
-  one_left : WasPushed old mid first → Pushed (first ++ last) old mid (last ++ [])
-  one_left h =
-      rw (append-nil last) (pushed_next (first ++ last) first last old old mid (pushed_none (first ++ last) old) h)
+module _ {T E K : Type 0} (written : K → Option (List ℕ)) (failed : K → ℕ) (old mid new : K) where
+  -- a failure is one at each type
+  pub as_failed : (r : Result T E) (P : E → Type 0) (bytes : List ℕ) → IsErrAnd r P
+      → WasCut (written old) (written new) bytes × (failed new ≡ failed old + 1) → Pushed written failed old new r bytes
+  as_failed (Ok x) P bytes is h = absurd is
+  as_failed (Err e) P bytes is h = h
 
-  pub pushed_both : WasPushed old mid first → WasPushed mid new last → WasPushed old new (first ++ last)
-  pushed_both h k =
-      pushed_whole (first ++ last) old new [] (pushed_next (first ++ last) last [] old mid new (one_left h) k) refl
+  -- what was left was pushed
+  pub pushed_last : (all last : List ℕ) (r : Result T E) → AllBut all (written old) (written mid) last → failed mid ≡ failed old
+      → Pushed written failed mid new r last → Pushed written failed old new r all
+  pushed_last all last (Ok x) p count h = (
+    pushed_whole all _ _ [] (pushed_next all last [] _ _ _ (rw append-nil p) h.0) refl,
+    h.1 ∙ count,
+  )
+  pushed_last all last (Err e) p count h = (
+    pushed_cut all last [] _ _ _ (rw append-nil p) h.0,
+    h.1 ∙ ap (λ n. n + 1) count,
+  )
 
-  pub cut_in_first : WasCut old new first → WasCut old new (first ++ last)
-  cut_in_first h = pushed_cut (first ++ last) first last old old new (pushed_none (first ++ last) old) h
-
-  pub cut_in_last : WasPushed old mid first → WasCut mid new last → WasCut old new (first ++ last)
-  cut_in_last h k = pushed_cut (first ++ last) last [] old mid new (one_left h) k
+  -- one push after the other
+  pub pushed_after : (first last : List ℕ) (r : Result T E)
+      → WasPushed (written old) (written mid) first × (failed mid ≡ failed old)
+      → Pushed written failed mid new r last → Pushed written failed old new r (first ++ last)
+  pushed_after first last r h k = pushed_last (first ++ last) last r
+      (pushed_next (first ++ last) first last _ _ _ (pushed_none (first ++ last) (written old)) h.0) h.1 k

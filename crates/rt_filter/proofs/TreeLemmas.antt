@@ -142,6 +142,8 @@ module _ (tree : Packed) (loaded : Loaded) (sound : IsSound tree) (packed : tree
       ∙ ap (λ fanout. output (record { entries = tree.entries; fanout = fanout }) lines) (sym fanout_same)
 
   -- what is served over a tree is served over each list of entries whose packed tree it is
-  pub serves_of_tree : (told : Told) (served : Served) → Serves (loaded_tree tree) told served → Serves loaded told served
-  serves_of_tree told served s =
-      (s.0, s.1, serves_same (loaded_tree tree) loaded s.0 served.bad served.fault output_same s.2)
+  pub serves_of_tree : (told : Told) (bad : Bool) (fault : Option ServeFault) (served : Served)
+      → served.bad ≡ bad → served.fault ≡ fault
+      → Serves (loaded_tree tree) told (record { bad = bad; fault = fault }) → Serves loaded told served
+  serves_of_tree told bad fault served b f s =
+      rw (b, f) (s.0, s.1, serves_same (loaded_tree tree) loaded s.0 bad fault output_same s.2)

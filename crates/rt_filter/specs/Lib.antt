@@ -3,6 +3,7 @@ pub mod Faults
 pub mod Lines
 pub mod Pushes
 pub mod Replies
+pub mod Reports
 pub mod Runs
 pub mod Stages
 pub use Rattle.rt_command.specs.Choices

@@ -1,16 +1,28 @@
 -- What pushes add up to. No public contract cites it.
-use Rattle.std.specs.Prelude.{◌≡◌, ℕ, List, ◌++◌, Option, Some, IfSome}
+use Rattle.std.specs.Prelude.{◌≡◌, ◌+◌, ℕ, List, ◌++◌, Option, IfSome, Some, Result, MatchResult}
 use Rattle.std.specs.Io.{StartsWith}
 
--- where the sink still tells its bytes, those that came out after `before` are a prefix of these
+-- where the bytes written are still known, those that came out after `before` are a prefix of these
 abbrev pub WentPrefix : (before : List ℕ) → (now : Option (List ℕ)) → List ℕ → Type 0
 WentPrefix before now bytes =
     IfSome now (λ written. (out : List ℕ) × (written ≡ before ++ out) × StartsWith bytes out)
 
--- all of these bytes were pushed: where the sink told its bytes, they stand after those
+-- all of these bytes were pushed: where the bytes written are known, they stand behind those
 abbrev pub WasPushed : (old new : Option (List ℕ)) → List ℕ → Type 0
 WasPushed old new bytes = IfSome old (λ before. new ≡ Some (before ++ bytes))
 
 -- a push was cut short: what went out is a prefix of the bytes
 abbrev pub WasCut : (old new : Option (List ℕ)) → List ℕ → Type 0
 WasCut old new bytes = IfSome old (λ before. WentPrefix before new bytes)
+
+-- a success leaves the number of failures, and a failure is one more
+abbrev pub CountsFailure : {T E : Type 0} → Result T E → (old new : ℕ) → Type 0
+CountsFailure result old new = MatchResult result (λ _. new ≡ old) (λ _. new ≡ old + 1)
+
+-- what a call that pushes these bytes does to a sink, of which `written` and `failed` are the bytes written and the
+-- number of failures: a success pushes all of them, and none of its pushes fails; a failure pushes a prefix, and is one
+abbrev pub Pushed : {T E K : Type 0} → (written : K → Option (List ℕ)) → (failed : K → ℕ) → (old new : K)
+    → Result T E → List ℕ → Type 0
+Pushed written failed old new result bytes = MatchResult result
+    (λ _. WasPushed (written old) (written new) bytes × (failed new ≡ failed old))
+    (λ _. WasCut (written old) (written new) bytes × (failed new ≡ failed old + 1))

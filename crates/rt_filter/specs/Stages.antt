@@ -32,9 +32,9 @@ pub record HasLoaded (choices : Choices) (table : List ℕ) (tree : Packed) : Ty
   pub packed : tree ≡ tree_of loaded
 
 -- a fault that a run may report
-abbrev pub is_told : RunFault → Bool
-is_told (Table load.Memory) = false
-is_told other = true
+abbrev pub is_reported : RunFault → Bool
+is_reported (Table load.Memory) = false
+is_reported other = true
 
 -- why nothing was loaded: a fault of the table's text is the one that it has
 abbrev pub Stops : Choices → (table : List ℕ) → RunFault → Type 0
@@ -57,9 +57,9 @@ abbrev pub HasNoLineFeed : List ℕ → Type 0
 HasNoLineFeed = AllByRecursion (λ c. is_line_feed c ≡ false)
 
 -- what a line asks whose beginning was dropped where it is too long
-abbrev pub asked_by : (is_long : Bool) → List ℕ → Parsed
-asked_by true line = parsed.Fault fault.LineTooLong
-asked_by false line = judged_line line
+abbrev pub parsed_line : (is_long : Bool) → List ℕ → Parsed
+parsed_line true line = parsed.Fault fault.LineTooLong
+parsed_line false line = judged_line line
 
 -- of these bytes so many lines were answered, and `bad` tells whether one of them is faulty. What stands after them is the
 -- rest, before which bytes were dropped where it is too long for a line
@@ -79,15 +79,15 @@ pub record IsAnswering (loaded : Loaded) (bytes before : List ℕ) (lines : ℕ)
 abbrev pub Consumed : Told → (consumed rest : List ℕ) → Type 0
 Consumed told consumed rest = (told.coming ≡ Some rest) × (told.queries ≡ consumed ++ rest)
 
--- the queries are answered as far as they were pulled: what is held is the beginning of the next line
-pub record IsServing (loaded : Loaded) (told : Told) (lines : ℕ) (bad is_long : Bool) (held : List ℕ) : Type 0 where
+-- the queries are answered as far as they were pulled: what is kept is the beginning of the next line
+pub record IsServing (loaded : Loaded) (told : Told) (lines : ℕ) (bad is_long : Bool) (partial : List ℕ) : Type 0 where
   pub consumed : List ℕ
   pub rest : List ℕ
   pub told_so : Consumed told consumed rest
   pub out : List ℕ
   pub written : told.written ≡ Some out
-  pub answering : IsAnswering loaded consumed told.before lines bad is_long held out
-  pub clear : HasNoLineFeed held
+  pub answering : IsAnswering loaded consumed told.before lines bad is_long partial out
+  pub clear : HasNoLineFeed partial
 
 -- a push or a flush failed on the way: what went out is a prefix of the answers to the lines of these bytes, and begins
 -- with what had gone out

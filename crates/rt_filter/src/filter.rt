@@ -3,7 +3,7 @@
 ghost use Rattle.std.specs.Prelude.{◌≡◌, ◌+◌, ◌-◌, ◌<◌, ◌≤◌, ◌^◌, ◌⊎◌, ℕ, List, [], Some, None, IfOk, IfErr, OnErr, length, if◌then◌else◌, true, false};
 ghost use Rattle.rt_filter.specs.Endings.{Ends, ConsumedAtLeast, IsStatusOf, told_of, is_of_load, is_read, is_write};
 ghost use Rattle.rt_filter.specs.Faults.{run_fault_line};
-ghost use Rattle.rt_filter.specs.Stages.{HasLoaded, Stops, is_told, run_fault_of};
+ghost use Rattle.rt_filter.specs.Stages.{HasLoaded, Stops, is_reported, run_fault_of};
 
 use crate::serving::{ServeFault, Served, serve};
 use rt_command::Settings;
@@ -60,7 +60,7 @@ pub fn run<R: Read + Drop, S: Source, K: Sink>(
         → Ends settings.now table (told_of queries before (S.coming source.new) (K.written sink.new)) result }
     ensures status { IsStatusOf result.fault result.status }
 
-    // Each failure of a device is told, and no other. A source may also be given up when the turns are used up.
+    // Each failure of a device is reported, and no other. A source may also be given up when the turns are used up.
     ensures pushes { K.failed sink.new ≡ K.failed sink.old + (if is_write result.fault then 1 else 0) }
     ensures pulls { (S.failed source.new ≡ S.failed source.old)
         ⊎ ((S.failed source.new ≡ S.failed source.old + 1) × (is_read result.fault ≡ true)) }
@@ -91,7 +91,7 @@ fn load<R: Read + Drop>(
     ensures room { IfOk result (λ loaded. length loaded.0.entries ≤ loaded.1.capacity) }
     ensures stops { IfErr result (λ fault. (table : List ℕ)
         → R.remaining reader ≡ Some table → Stops settings.now table fault) }
-    ensures told { IfErr result (λ fault. (is_told fault ≡ true) × (is_of_load (Some fault) ≡ true)) }
+    ensures reported { IfErr result (λ fault. (is_reported fault ≡ true) × (is_of_load (Some fault) ≡ true)) }
 {
     let table = read_table(alloc, reader, settings.header(), settings.max_entries())?;
     let tree = Tree::pack(alloc, table, settings.fanout())?;
@@ -120,7 +120,7 @@ impl Served {
 impl RunFault {
     // How a run ends that ends early.
     fn outcome(self) -> Outcome
-        requires { is_told self ≡ true }
+        requires { is_reported self ≡ true }
         ensures fault { result.fault ≡ Some self }
         ensures status { IsStatusOf (Some self) result.status }
     {

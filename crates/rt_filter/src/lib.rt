@@ -7,11 +7,8 @@
 //! the command line by [`settings_of`], of `rt_command`.
 #![tactic(auto)]
 
-mod costing;
 mod filter;
-mod finding;
-mod finding_all;
-mod pushing;
+mod query;
 mod reply;
 mod serving;
 

@@ -1,103 +1,115 @@
-//! The reply to a query line.
+//! Lines of replies, pushed.
 
-ghost use Rattle.std.specs.Prelude.{◌≡◌, ◌+◌, ◌-◌, ◌++◌, ◌<◌, ◌≤◌, ◌^◌, Some, IfOk, IfSome, OnOk, OnErr, length};
-ghost use Rattle.rt_tree.specs.Levels.{level_sizes};
-ghost use Rattle.rt_filter.specs.Pushes.{WasCut, WasPushed};
-ghost use Rattle.rt_filter.specs.Replies.{levels_reply, query_reply, reply};
-ghost use Rattle.rt_filter.specs.Stages.{loaded_tree};
+ghost use Rattle.std.specs.Prelude.{◌≡◌, ◌-◌, ◌<◌, ◌^◌, ℕ, List, [], ◌∷◌, IfOk, MatchOption, length};
+ghost use Rattle.rt_search.specs.Answers.{Answer};
+ghost use Rattle.rt_filter.specs.Pushes.{Pushed};
+ghost use Rattle.rt_filter.specs.Replies.{answer_lines, find_reply};
 
-use crate::costing::{push_cost_of_count, push_cost_of_find};
-use crate::finding::{push_count, push_find};
-use crate::pushing::push_line;
 use rt_device::{Sink, WriteFault};
-use rt_search::Frontier;
-use rt_text::{Parsed, Query, error_line, level_line, ok_line};
-use rt_tree::Tree;
+use rt_geo::Geometry;
+use rt_search::{Frontier, FullSearch, Search};
+use rt_text::{Line, set_answer_line, set_ok_line};
 
-/// Pushes the reply to one line.
-pub(crate) fn push_reply<K: Sink>(
-    tree: &Tree,
-    frontier: Frontier,
+/// Pushes a line until all of it is taken, each time on from where the sink stopped. It isn't flushed.
+pub(crate) fn push_line<K: Sink>(line: &Line, sink: &mut K) -> Result<(), WriteFault>
+    requires count { K.failed sink.old < 2 ^ 64 - 1 }
+    ensures pushed { Pushed K.written K.failed sink.old sink.new result line.now }
+{
+    let mut rest = line.bytes();
+    while !rest.is_empty() {
+        let n = sink.push(rest)?;
+        if n == 0 {
+            return Err(WriteFault);
+        }
+        rest = &rest[n..];
+    }
+    Ok(())
+}
+
+/// Pushes a line for each answer that a search is still to give, and then their number.
+pub(crate) fn push_search<A: AnswerStream, K: Sink>(
+    search: A,
     line: u128,
-    asked: Parsed,
     sink: &mut K,
 ) -> Result<Frontier, WriteFault>
-    requires room { length tree.now.entries ≤ frontier.capacity }
+    requires few { length (A.to_come search) < 2 ^ 32 }
     requires count { K.failed sink.old < 2 ^ 64 - 1 }
-    ensures written { OnOk result (WasPushed (K.written sink.old) (K.written sink.new)
-        (reply (loaded_tree tree.now) line asked)) }
-    ensures cut { OnErr result (WasCut (K.written sink.old) (K.written sink.new)
-        (reply (loaded_tree tree.now) line asked)) }
-    ensures capacity { IfOk result (λ frontier'. frontier'.capacity ≡ frontier.capacity) }
-    ensures went { OnOk result (K.failed sink.new ≡ K.failed sink.old) }
-    ensures fails { OnErr result (K.failed sink.new ≡ K.failed sink.old + 1) }
+    ensures pushed { Pushed K.written K.failed sink.old sink.new result (find_reply line (A.to_come search)) }
+    ensures capacity { IfOk result (λ left. left.capacity ≡ A.capacity search) }
 {
-    match asked {
-        Parsed::Skip => Ok(frontier),
-        Parsed::Query(query) => push_query_reply(tree, frontier, line, query, sink),
-        Parsed::Fault(fault) => {
-            push_line(&error_line(line, fault), sink)?;
-            Ok(frontier)
-        }
+    let mut search = search;
+    let mut text = Line::new(b"");
+    let pushed = push_answers(&mut search, &mut text, sink);
+    let frontier = search.into_frontier();
+    set_ok_line(&mut text, line, pushed?);
+    push_line(&text, sink)?;
+    Ok(frontier)
+}
+
+// Pushes a line for each of these answers, as it is found, and returns how many there were. All are put together in one
+// place.
+fn push_answers<A: AnswerStream, K: Sink>(
+    search: &mut A,
+    text: &mut Line,
+    sink: &mut K,
+) -> Result<u64, WriteFault>
+    requires few { length (A.to_come search.old) < 2 ^ 32 }
+    requires count { K.failed sink.old < 2 ^ 64 - 1 }
+    ensures pushed { Pushed K.written K.failed sink.old sink.new result (answer_lines (A.to_come search.old)) }
+    ensures many { IfOk result (λ found. found ≡ length (A.to_come search.old)) }
+    ensures capacity { A.capacity search.new ≡ A.capacity search.old }
+{
+    let mut found: u64 = 0;
+    while let Some((id, score)) = search.next_answer() {
+        set_answer_line(text, id, score);
+        push_line(text, sink)?;
+        found += 1;
+    }
+    Ok(found)
+}
+
+/// A search that gives its answers one at a time.
+pub(crate) trait AnswerStream {
+    // The answers that are still to come.
+    ghost to_come: { Self → List Answer };
+
+    // How much room its frontier has.
+    ghost capacity: { Self → ℕ };
+
+    fn next_answer(&mut self) -> Option<(i64, u128)>
+        ensures answer { MatchOption result (to_come self.old ≡ []) (λ a. to_come self.old ≡ a ∷ to_come self.new) }
+        ensures capacity { capacity self.new ≡ capacity self.old };
+
+    fn into_frontier(self) -> Frontier
+        ensures { result.capacity ≡ capacity self };
+}
+
+impl<'a, G: Geometry> AnswerStream for Search<'a, G> {
+    ghost to_come = { λ s. s.to_come };
+
+    ghost capacity = { λ s. s.capacity };
+
+    #[inline(always)]
+    fn next_answer(&mut self) -> Option<(i64, u128)> {
+        self.next()
+    }
+
+    fn into_frontier(self) -> Frontier {
+        self.finish().0
     }
 }
 
-// Pushes the reply to a query.
-fn push_query_reply<K: Sink>(
-    tree: &Tree,
-    frontier: Frontier,
-    line: u128,
-    query: Query,
-    sink: &mut K,
-) -> Result<Frontier, WriteFault>
-    requires room { length tree.now.entries ≤ frontier.capacity }
-    requires count { K.failed sink.old < 2 ^ 64 - 1 }
-    ensures written { OnOk result (WasPushed (K.written sink.old) (K.written sink.new)
-        (query_reply (loaded_tree tree.now) line query)) }
-    ensures cut { OnErr result (WasCut (K.written sink.old) (K.written sink.new)
-        (query_reply (loaded_tree tree.now) line query)) }
-    ensures capacity { IfOk result (λ frontier'. frontier'.capacity ≡ frontier.capacity) }
-    ensures went { OnOk result (K.failed sink.new ≡ K.failed sink.old) }
-    ensures fails { OnErr result (K.failed sink.new ≡ K.failed sink.old + 1) }
-{
-    match query {
-        Query::Find {
-            region,
-            order,
-            limit,
-            layers,
-        } => push_find(tree, frontier, line, region, order, limit, layers, sink),
-        Query::Count { region, layers } => push_count(tree, frontier, line, region, layers, sink),
-        Query::Levels => {
-            push_levels(tree, line, sink)?;
-            Ok(frontier)
-        }
-        Query::CostFind {
-            region,
-            order,
-            limit,
-            layers,
-        } => push_cost_of_find(tree, frontier, line, region, order, limit, layers, sink),
-        Query::CostCount { region, layers } => {
-            push_cost_of_count(tree, frontier, line, region, layers, sink)
-        }
-    }
-}
+impl<'a, G: Geometry> AnswerStream for FullSearch<'a, G> {
+    ghost to_come = { λ s. s.to_come };
 
-// Pushes a line for each level, from the top down, and then their number.
-fn push_levels<K: Sink>(tree: &Tree, line: u128, sink: &mut K) -> Result<(), WriteFault>
-    requires count { K.failed sink.old < 2 ^ 64 - 1 }
-    ensures written { let sizes = level_sizes (length tree.now.entries) tree.now.fanout in
-        OnOk result (WasPushed (K.written sink.old) (K.written sink.new) (levels_reply line sizes)) }
-    ensures cut { let sizes = level_sizes (length tree.now.entries) tree.now.fanout in
-        OnErr result (WasCut (K.written sink.old) (K.written sink.new) (levels_reply line sizes)) }
-    ensures went { OnOk result (K.failed sink.new ≡ K.failed sink.old) }
-    ensures fails { OnErr result (K.failed sink.new ≡ K.failed sink.old + 1) }
-{
-    let count = tree.top() + 1;
-    for above in 0..count {
-        let level = count - 1 - above;
-        push_line(&level_line(level, tree.level_len(level)), sink)?;
+    ghost capacity = { λ s. s.capacity };
+
+    #[inline(always)]
+    fn next_answer(&mut self) -> Option<(i64, u128)> {
+        self.next()
     }
-    push_line(&ok_line(line, u64::from(count)), sink)
+
+    fn into_frontier(self) -> Frontier {
+        self.finish().0
+    }
 }

@@ -5,15 +5,16 @@ ghost use Rattle.std.specs.Io.KnownBytes.{Keeps};
 ghost use Rattle.rt_device.specs.Devices.{IsSameIfTold};
 ghost use Rattle.rt_filter.specs.Endings.{ConsumedAtLeast, Serves, is_pull, is_push, told_of};
 ghost use Rattle.rt_filter.specs.Lines.{longest_line, most_pulled, numbered_lines};
-ghost use Rattle.rt_filter.specs.Pushes.{WasCut, WasPushed};
+ghost use Rattle.rt_filter.specs.Pushes.{CountsFailure, Pushed};
 ghost use Rattle.rt_filter.specs.Replies.{Loaded, any_fault, is_fault, output, reply, tree_of};
-ghost use Rattle.rt_filter.specs.Stages.{HasNoLineFeed, IsAnswering, IsCut, IsServing, asked_by, loaded_tree};
+ghost use Rattle.rt_filter.specs.Stages.{HasNoLineFeed, IsAnswering, IsCut, IsServing, parsed_line, loaded_tree};
 
-use crate::reply::push_reply;
+use crate::query::push_reply;
+use crate::reply::push_line;
 use memchr::memchr;
 use rt_device::{Sink, Source, WriteFault};
 use rt_search::Frontier;
-use rt_text::{Parsed, QueryFault, parse};
+use rt_text::{Parsed, QueryFault, error_line, parse};
 use rt_tree::Tree;
 
 /// The most bytes of a query line, a carriage return included and the line feed not.
@@ -43,9 +44,9 @@ pub struct Served {
     pub fault: Option<ServeFault>,
 }
 
-// What is kept from one pull to the next.
+// How far the lines are answered.
 #[derive(Clone, Copy)]
-struct Begun {
+struct Progress {
     // How many lines were answered.
     lines: u128,
     // Whether one of them is faulty.
@@ -54,15 +55,13 @@ struct Begun {
     is_pushed: bool,
     // Whether the next line is too long already: what was read of it is dropped.
     is_long: bool,
-    // How many bytes of it stand in front of the room.
-    held: usize,
 }
 
 /// Answers the query lines that a source gives, and pushes the answers to a sink, each line by itself.
 ///
 /// At most `turns` pulls are made. Before each all lines that are complete are answered, and what was pushed is
-/// flushed, so that who waits for an answer before the next line has it. No memory is taken: a line is held in 4,097
-/// bytes, and one of more than 4,096 is told as too long.
+/// flushed, so that who waits for an answer before the next line has it. No memory is taken: a line is kept in 4,097
+/// bytes, and one of more than 4,096 is reported as too long.
 pub fn serve<S: Source, K: Sink>(
     tree: &Tree,
     frontier: Frontier,
@@ -80,7 +79,7 @@ pub fn serve<S: Source, K: Sink>(
         → (queries before : List ℕ) → S.coming source.old ≡ Some queries → K.written sink.old ≡ Some before
         → Serves loaded (told_of queries before (S.coming source.new) (K.written sink.new)) result }
 
-    // Each failure of a device is told, and no other. A source may also be given up when the turns are used up.
+    // Each failure of a device is reported, and no other. A source may also be given up when the turns are used up.
     ensures pushes { K.failed sink.new ≡ K.failed sink.old + (if is_push result.fault then 1 else 0) }
     ensures pulls { (S.failed source.new ≡ S.failed source.old)
         ⊎ ((S.failed source.new ≡ S.failed source.old + 1) × (is_pull result.fault ≡ true)) }
@@ -90,61 +89,131 @@ pub fn serve<S: Source, K: Sink>(
     // What was pushed is flushed, unless a push or a flush failed: after any number of turns, so before each pull.
     ensures flushed { is_push result.fault ≡ false → K.waits sink.old ≡ false → K.waits sink.new ≡ false }
 {
-    // (asked, so that it is known that the tree is the packed one of its own entries)
+    // (called, so that it is known that the tree is the packed one of its own entries)
     let _most = tree.len();
-    serve_turns(tree, frontier, source, sink, turns)
+    let mut frontier = frontier;
+    let mut progress = Progress {
+        lines: 0,
+        bad: false,
+        is_pushed: false,
+        is_long: false,
+    };
+    let mut room = [0u8; MOST_PULLED];
+    // (so many bytes in front of the room are the beginning of the next line)
+    let mut partial = 0;
+    for _turn in 0..turns {
+        let Ok(n) = source.pull(&mut room[partial..]) else {
+            return progress.served(Some(ServeFault::Read));
+        };
+        if n == 0 {
+            if partial == 0 && !progress.is_long {
+                return progress.served(None);
+            }
+            // (the last line is answered as if a line feed ended it)
+            room[partial] = LINE_FEED;
+            match answer_piece(tree, frontier, &mut progress, &room[..=partial], sink) {
+                Ok(_) => return progress.served(None),
+                Err(fault) => return progress.served(Some(fault.into())),
+            }
+        }
+        let filled = partial + n;
+        match answer_piece(tree, frontier, &mut progress, &room[..filled], sink) {
+            Ok((left, rest)) => {
+                frontier = left;
+                partial = progress.keep(&mut room, filled, rest);
+            }
+            Err(fault) => return progress.served(Some(fault.into())),
+        }
+    }
+    progress.served(Some(ServeFault::Read))
 }
 
-// The same over the tree's own entries, in the order of their places.
-fn serve_turns<S: Source, K: Sink>(
+// Answers the lines that end in these bytes, those that were kept and those of a pull, and flushes. Returns how many
+// bytes stand behind the last line feed.
+fn answer_piece<K: Sink>(
     tree: &Tree,
     frontier: Frontier,
-    source: &mut S,
+    progress: &mut Progress,
+    bytes: &[u8],
     sink: &mut K,
-    turns: u64,
-) -> Served
-    requires room { length tree.now.entries ≤ frontier.capacity }
-    requires source_count { S.failed source.old < 2 ^ 64 - 1 }
-    requires sink_count { K.failed sink.old < 2 ^ 64 - 1 }
-    ensures ending { (queries before : List ℕ) → S.coming source.old ≡ Some queries → K.written sink.old ≡ Some before
-        → Serves (loaded_tree tree.now) (told_of queries before (S.coming source.new) (K.written sink.new)) result }
-    ensures pushes { K.failed sink.new ≡ K.failed sink.old + (if is_push result.fault then 1 else 0) }
-    ensures pulls { (S.failed source.new ≡ S.failed source.old)
-        ⊎ ((S.failed source.new ≡ S.failed source.old + 1) × (is_pull result.fault ≡ true)) }
-    ensures turns { is_pull result.fault ≡ true → S.failed source.new ≡ S.failed source.old
-        → ConsumedAtLeast turns (S.coming source.old) (S.coming source.new) }
-    ensures flushed { is_push result.fault ≡ false → K.waits sink.old ≡ false → K.waits sink.new ≡ false }
+) -> Result<(Frontier, usize), WriteFault>
+    requires capacity { length tree.now.entries ≤ frontier.capacity }
+    requires count { K.failed sink.old < 2 ^ 64 - 1 }
+    requires few { progress.old.lines + length bytes.now < 2 ^ 128 }
+    ensures state { IfOk result (λ left. (all before out : List ℕ) → K.written sink.old ≡ Some out
+        → IsAnswering (loaded_tree tree.now) all before progress.old.lines progress.old.bad progress.old.is_long bytes.now out
+        → (now : List ℕ) × (K.written sink.new ≡ Some now)
+        × IsAnswering (loaded_tree tree.now) all before progress.new.lines progress.new.bad progress.new.is_long
+        (drop (length bytes.now - left.1) bytes.now) now) }
+    ensures cut { OnErr result ((all before out : List ℕ) → K.written sink.old ≡ Some out
+        → IsAnswering (loaded_tree tree.now) all before progress.old.lines progress.old.bad progress.old.is_long bytes.now out
+        → IsCut (loaded_tree tree.now) (numbered_lines all false) before out (K.written sink.new) progress.new.bad) }
+    ensures rest { IfOk result (λ left. (left.1 ≤ length bytes.now)
+        × HasNoLineFeed (drop (length bytes.now - left.1) bytes.now)) }
+    ensures capacity { IfOk result (λ left. left.0.capacity ≡ frontier.capacity) }
+    ensures few { progress.new.lines ≤ progress.old.lines + length bytes.now }
+    ensures failures { CountsFailure result (K.failed sink.old) (K.failed sink.new) }
+    ensures flushed { OnOk result (K.waits sink.old ≡ false → K.waits sink.new ≡ false) }
 {
     let mut frontier = frontier;
-    let mut begun = Begun::new();
-    let mut room = [0u8; MOST_PULLED];
-    for _turn in 0..turns {
-        match turn(tree, frontier, &mut begun, &mut room, source, sink) {
-            Ok(Some(left)) => frontier = left,
-            Ok(None) => return begun.served(None),
-            Err(fault) => return begun.served(Some(fault)),
-        }
+    let mut rest = bytes;
+    while let Some(end) = memchr(LINE_FEED, rest) {
+        frontier = answer(tree, frontier, progress, &rest[..end], sink)?;
+        rest = &rest[end + 1..];
     }
-    begun.served(Some(ServeFault::Read))
+    progress.flush(sink)?;
+    Ok((frontier, rest.len()))
 }
 
-impl Begun {
-    // No line was begun.
-    fn new() -> Begun
-        ensures lines { result.lines ≡ 0 }
-        ensures bad { result.bad ≡ false }
-        ensures is_long { result.is_long ≡ false }
-        ensures held { result.held ≡ 0 }
-    {
-        Begun {
-            lines: 0,
-            bad: false,
-            is_pushed: false,
-            is_long: false,
-            held: 0,
+// Answers one line. Where nothing is pushed, the sink is left alone.
+fn answer<K: Sink>(
+    tree: &Tree,
+    frontier: Frontier,
+    progress: &mut Progress,
+    line: &[u8],
+    sink: &mut K,
+) -> Result<Frontier, WriteFault>
+    requires capacity { length tree.now.entries ≤ frontier.capacity }
+    requires count { K.failed sink.old < 2 ^ 64 - 1 }
+    requires few { progress.old.lines + 1 < 2 ^ 128 }
+    ensures pushed { Pushed K.written K.failed sink.old sink.new result
+        (reply (loaded_tree tree.now) (progress.old.lines + 1) (parsed_line progress.old.is_long line.now)) }
+    ensures lines { progress.new.lines ≡ progress.old.lines + 1 }
+    ensures bad { progress.new.bad ≡ (progress.old.bad || is_fault (parsed_line progress.old.is_long line.now)) }
+    ensures is_long { progress.new.is_long ≡ false }
+    ensures capacity { IfOk result (λ frontier'. frontier'.capacity ≡ frontier.capacity) }
+    ensures untouched { progress.new.is_pushed ≡ false → (progress.old.is_pushed ≡ false) × (sink.new ≡ sink.old) }
+{
+    let parsed = parse_line(progress.is_long, line);
+    progress.lines += 1;
+    progress.is_long = false;
+    match parsed {
+        Parsed::Skip => Ok(frontier),
+        Parsed::Query(query) => {
+            progress.is_pushed = true;
+            push_reply(tree, frontier, progress.lines, query, sink)
+        }
+        Parsed::Fault(fault) => {
+            progress.is_pushed = true;
+            progress.bad = true;
+            push_line(&error_line(progress.lines, fault), sink)?;
+            Ok(frontier)
         }
     }
+}
 
+// A line parsed, whose beginning was dropped where it is too long.
+fn parse_line(is_long: bool, line: &[u8]) -> Parsed
+    ensures { result ≡ parsed_line is_long line.now }
+{
+    if is_long || line.len() > LONGEST_LINE {
+        return Parsed::Fault(QueryFault::LineTooLong);
+    }
+    parse(line)
+}
+
+impl Progress {
+    // How serving ends.
     fn served(&self, fault: Option<ServeFault>) -> Served
         ensures bad { result.bad ≡ self.now.bad }
         ensures fault { result.fault ≡ fault }
@@ -154,202 +223,18 @@ impl Begun {
             fault,
         }
     }
-}
 
-// Makes one pull and answers what it gives. The frontier comes back where more may come.
-fn turn<S: Source, K: Sink>(
-    tree: &Tree,
-    frontier: Frontier,
-    begun: &mut Begun,
-    room: &mut [u8],
-    source: &mut S,
-    sink: &mut K,
-) -> Result<Option<Frontier>, ServeFault>
-    requires capacity { length tree.now.entries ≤ frontier.capacity }
-    requires source_count { S.failed source.old < 2 ^ 64 - 1 }
-    requires sink_count { K.failed sink.old < 2 ^ 64 - 1 }
-    requires whole { length room.old ≡ most_pulled }
-    requires held { begun.old.held < most_pulled }
-    requires few { begun.old.lines + most_pulled < 2 ^ 128 }
-    ensures serving { IfOk result (λ left. (queries before : List ℕ)
-        → IsServing (loaded_tree tree.now) (told_of queries before (S.coming source.old) (K.written sink.old))
-        begun.old.lines begun.old.bad begun.old.is_long (take begun.old.held room.old)
-        → let told = told_of queries before (S.coming source.new) (K.written sink.new) in
-        MatchOption left (Serves (loaded_tree tree.now) told (record { bad = begun.new.bad; fault = None }))
-        (λ _. IsServing (loaded_tree tree.now) told begun.new.lines begun.new.bad begun.new.is_long
-        (take begun.new.held room.new))) }
-    ensures ending { IfErr result (λ fault. (queries before : List ℕ)
-        → IsServing (loaded_tree tree.now) (told_of queries before (S.coming source.old) (K.written sink.old))
-        begun.old.lines begun.old.bad begun.old.is_long (take begun.old.held room.old)
-        → let told = told_of queries before (S.coming source.new) (K.written sink.new) in
-        Serves (loaded_tree tree.now) told (record { bad = begun.new.bad; fault = Some fault })) }
-    ensures gives { IfOk result (λ left. IfSome left (λ _. ConsumedAtLeast 1 (S.coming source.old) (S.coming source.new))) }
-    ensures capacity { IfOk result (λ left. IfSome left (λ frontier'. frontier'.capacity ≡ frontier.capacity)) }
-    ensures whole { length room.new ≡ most_pulled }
-    ensures held { begun.new.held < most_pulled }
-    ensures few { begun.new.lines ≤ begun.old.lines + most_pulled }
-    ensures went { OnOk result ((S.failed source.new ≡ S.failed source.old) × (K.failed sink.new ≡ K.failed sink.old)) }
-    ensures pulls { IfErr result (λ fault. fault ≡ ServeFault.Read
-        → (S.failed source.new ≡ S.failed source.old + 1) × (sink.new ≡ sink.old)) }
-    ensures pushes { IfErr result (λ fault. fault ≡ ServeFault.Write
-        → (S.failed source.new ≡ S.failed source.old) × (K.failed sink.new ≡ K.failed sink.old + 1)) }
-    ensures flushed { OnOk result (K.waits sink.old ≡ false → K.waits sink.new ≡ false) }
-{
-    let Ok(n) = source.pull(&mut room[begun.held..]) else {
-        return Err(ServeFault::Read);
-    };
-    let filled = begun.held + n;
-    if n == 0 {
-        answer_end(tree, frontier, begun, &room[..filled], sink)?;
-        return Ok(None);
-    }
-    let (frontier, rest) = answer_piece(tree, frontier, begun, &room[..filled], sink)?;
-    begun.hold(room, filled, rest);
-    Ok(Some(frontier))
-}
-
-// Answers the lines that end in these bytes, those that are held and those of a pull, and flushes. Tells how many bytes
-// stand behind the last line feed.
-fn answer_piece<K: Sink>(
-    tree: &Tree,
-    frontier: Frontier,
-    begun: &mut Begun,
-    bytes: &[u8],
-    sink: &mut K,
-) -> Result<(Frontier, usize), WriteFault>
-    requires capacity { length tree.now.entries ≤ frontier.capacity }
-    requires count { K.failed sink.old < 2 ^ 64 - 1 }
-    requires few { begun.old.lines + length bytes.now < 2 ^ 128 }
-    ensures state { IfOk result (λ left. (all before out : List ℕ) → K.written sink.old ≡ Some out
-        → IsAnswering (loaded_tree tree.now) all before begun.old.lines begun.old.bad begun.old.is_long bytes.now out
-        → (now : List ℕ) × (K.written sink.new ≡ Some now)
-        × IsAnswering (loaded_tree tree.now) all before begun.new.lines begun.new.bad begun.new.is_long
-        (drop (length bytes.now - left.1) bytes.now) now) }
-    ensures cut { OnErr result ((all before out : List ℕ) → K.written sink.old ≡ Some out
-        → IsAnswering (loaded_tree tree.now) all before begun.old.lines begun.old.bad begun.old.is_long bytes.now out
-        → IsCut (loaded_tree tree.now) (numbered_lines all false) before out (K.written sink.new) begun.new.bad) }
-    ensures rest { IfOk result (λ left. (left.1 ≤ length bytes.now)
-        × HasNoLineFeed (drop (length bytes.now - left.1) bytes.now)) }
-    ensures capacity { IfOk result (λ left. left.0.capacity ≡ frontier.capacity) }
-    ensures held { begun.new.held ≡ begun.old.held }
-    ensures few { begun.new.lines ≤ begun.old.lines + length bytes.now }
-    ensures went { OnOk result (K.failed sink.new ≡ K.failed sink.old) }
-    ensures fails { OnErr result (K.failed sink.new ≡ K.failed sink.old + 1) }
-    ensures flushed { OnOk result (K.waits sink.old ≡ false → K.waits sink.new ≡ false) }
-{
-    let mut frontier = frontier;
-    let mut rest = bytes;
-    while let Some(end) = memchr(LINE_FEED, rest) {
-        frontier = answer(tree, frontier, begun, &rest[..end], sink)?;
-        rest = &rest[end + 1..];
-    }
-    begun.flush(sink)?;
-    Ok((frontier, rest.len()))
-}
-
-// Answers what stands behind the last line feed, where anything does and no more is to come, and flushes.
-fn answer_end<K: Sink>(
-    tree: &Tree,
-    frontier: Frontier,
-    begun: &mut Begun,
-    held: &[u8],
-    sink: &mut K,
-) -> Result<(), WriteFault>
-    requires capacity { length tree.now.entries ≤ frontier.capacity }
-    requires count { K.failed sink.old < 2 ^ 64 - 1 }
-    requires few { begun.old.lines + 1 < 2 ^ 128 }
-    ensures state { OnOk result ((all before out : List ℕ) → K.written sink.old ≡ Some out
-        → IsAnswering (loaded_tree tree.now) all before begun.old.lines begun.old.bad begun.old.is_long held.now out
-        → HasNoLineFeed held.now
-        → (K.written sink.new ≡ Some (before ++ output (loaded_tree tree.now) (numbered_lines all true)))
-        × (begun.new.bad ≡ any_fault (numbered_lines all true))) }
-    ensures cut { OnErr result ((all before out : List ℕ) → K.written sink.old ≡ Some out
-        → IsAnswering (loaded_tree tree.now) all before begun.old.lines begun.old.bad begun.old.is_long held.now out
-        → HasNoLineFeed held.now
-        → IsCut (loaded_tree tree.now) (numbered_lines all true) before out (K.written sink.new) begun.new.bad) }
-    ensures held { begun.new.held ≡ begun.old.held }
-    ensures few { begun.new.lines ≤ begun.old.lines + 1 }
-    ensures went { OnOk result (K.failed sink.new ≡ K.failed sink.old) }
-    ensures fails { OnErr result (K.failed sink.new ≡ K.failed sink.old + 1) }
-    ensures flushed { OnOk result (K.waits sink.old ≡ false → K.waits sink.new ≡ false) }
-{
-    if !is_line(begun.is_long, held) {
-        return Ok(());
-    }
-    let _frontier = answer(tree, frontier, begun, held, sink)?;
-    begun.flush(sink)
-}
-
-// Whether what stands behind the last line feed is a line at the end.
-fn is_line(is_long: bool, held: &[u8]) -> bool
-    ensures some { result ≡ true → (is_long ≡ true) ⊎ (0 < length held.now) }
-    ensures none { result ≡ false → (is_long ≡ false) × (length held.now ≡ 0) }
-{
-    is_long || !held.is_empty()
-}
-
-// Answers one line. Where nothing is pushed, the sink is left alone.
-fn answer<K: Sink>(
-    tree: &Tree,
-    frontier: Frontier,
-    begun: &mut Begun,
-    line: &[u8],
-    sink: &mut K,
-) -> Result<Frontier, WriteFault>
-    requires capacity { length tree.now.entries ≤ frontier.capacity }
-    requires count { K.failed sink.old < 2 ^ 64 - 1 }
-    requires few { begun.old.lines + 1 < 2 ^ 128 }
-    ensures written { let asked = asked_by begun.old.is_long line.now in
-        let answered = reply (loaded_tree tree.now) (begun.old.lines + 1) asked in
-        OnOk result (WasPushed (K.written sink.old) (K.written sink.new) answered) }
-    ensures cut { let asked = asked_by begun.old.is_long line.now in
-        let answered = reply (loaded_tree tree.now) (begun.old.lines + 1) asked in
-        OnErr result (WasCut (K.written sink.old) (K.written sink.new) answered) }
-    ensures lines { begun.new.lines ≡ begun.old.lines + 1 }
-    ensures bad { begun.new.bad ≡ (begun.old.bad || is_fault (asked_by begun.old.is_long line.now)) }
-    ensures is_long { begun.new.is_long ≡ false }
-    ensures held { begun.new.held ≡ begun.old.held }
-    ensures capacity { IfOk result (λ frontier'. frontier'.capacity ≡ frontier.capacity) }
-    ensures went { OnOk result (K.failed sink.new ≡ K.failed sink.old) }
-    ensures fails { OnErr result (K.failed sink.new ≡ K.failed sink.old + 1) }
-    ensures untouched { begun.new.is_pushed ≡ false → (begun.old.is_pushed ≡ false) × (sink.new ≡ sink.old) }
-{
-    let asked = asked_by(begun.is_long, line);
-    begun.lines += 1;
-    begun.is_long = false;
-    match &asked {
-        Parsed::Skip => return Ok(frontier),
-        Parsed::Query(_) => {}
-        Parsed::Fault(_) => begun.bad = true,
-    }
-    begun.is_pushed = true;
-    push_reply(tree, frontier, begun.lines, asked, sink)
-}
-
-// What a line asks whose beginning was dropped where it is too long.
-fn asked_by(is_long: bool, line: &[u8]) -> Parsed
-    ensures { result ≡ asked_by is_long line.now }
-{
-    if is_long || line.len() > LONGEST_LINE {
-        return Parsed::Fault(QueryFault::LineTooLong);
-    }
-    parse(line)
-}
-
-impl Begun {
     // Hands on what was pushed, if anything was.
     fn flush<K: Sink>(&mut self, sink: &mut K) -> Result<(), WriteFault>
         requires { K.failed sink.old < 2 ^ 64 - 1 }
         ensures bytes { OnOk result (Keeps (K.written sink.old) (K.written sink.new)) }
-        ensures went { OnOk result (K.failed sink.new ≡ K.failed sink.old) }
         ensures flushed { OnOk result ((self.old.is_pushed ≡ false → K.waits sink.old ≡ false)
             → K.waits sink.new ≡ false) }
         ensures lost { OnErr result (IsSameIfTold (K.written sink.old) (K.written sink.new)) }
-        ensures fails { OnErr result (K.failed sink.new ≡ K.failed sink.old + 1) }
+        ensures failures { CountsFailure result (K.failed sink.old) (K.failed sink.new) }
         ensures lines { self.new.lines ≡ self.old.lines }
         ensures bad { self.new.bad ≡ self.old.bad }
         ensures is_long { self.new.is_long ≡ self.old.is_long }
-        ensures held { self.new.held ≡ self.old.held }
     {
         if self.is_pushed {
             sink.flush()?;
@@ -358,14 +243,14 @@ impl Begun {
         Ok(())
     }
 
-    // Holds the last so many of the bytes that fill the room: the beginning of a line. Where it is too long for one, it
-    // is dropped.
-    fn hold(&mut self, room: &mut [u8], filled: usize, rest: usize)
+    // Keeps the last so many of the bytes that fill the room, the beginning of a line: moves them to its front, and
+    // returns how many they are. Where they are too many for a line, they are dropped.
+    fn keep(&mut self, room: &mut [u8], filled: usize, rest: usize) -> usize
         requires filled { filled ≤ length room.old }
         requires rest { rest ≤ filled }
         ensures is_long { self.new.is_long ≡ (self.old.is_long || nat_lt longest_line rest) }
-        ensures held { self.new.held ≡ (if self.new.is_long then 0 else rest) }
-        ensures kept { take self.new.held room.new
+        ensures size { result ≡ (if self.new.is_long then 0 else rest) }
+        ensures bytes { take result room.new
             ≡ (if self.new.is_long then [] else drop (filled - rest) (take filled room.old)) }
         ensures whole { length room.new ≡ length room.old }
         ensures lines { self.new.lines ≡ self.old.lines }
@@ -373,11 +258,10 @@ impl Begun {
     {
         if self.is_long || rest > LONGEST_LINE {
             self.is_long = true;
-            self.held = 0;
-            return;
+            return 0;
         }
         room.copy_within(filled - rest..filled, 0);
-        self.held = rest;
+        rest
     }
 }
 

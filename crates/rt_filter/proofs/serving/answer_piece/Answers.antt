@@ -10,8 +10,8 @@ use Rattle.rt_filter.proofs.serving.answer_piece.Goals as goal
 pub returns-in_err-frontier-clause-cut : goal.returns-in_err-frontier-clause-cut
 returns-in_err-frontier-clause-cut g c = at_error c.from_residual.result
     (steps-cut (loaded_tree c.args.tree.now) (g.K.Sink.written c.args.sink.now) (g.K.Sink.written c.loop-end.sink) (g.K.Sink.written c.answer.new.sink)
-    c.args.begun.now.lines c.args.begun.now.bad c.args.begun.now.is_long c.args.bytes.now c.loop-end.begun.lines c.loop-end.begun.bad c.loop-end.begun.is_long c.loop-end.rest.now
-    c.loop-end.invariant.steps c.in-Some.end c.answer.new.begun.bad c.in-Some.ensures c.in_err-frontier.ensures.cut c.answer.ensures.bad)
+    c.args.progress.now.lines c.args.progress.now.bad c.args.progress.now.is_long c.args.bytes.now c.loop-end.progress.lines c.loop-end.progress.bad c.loop-end.progress.is_long c.loop-end.rest.now
+    c.loop-end.invariant.steps c.in-Some.end c.answer.new.progress.bad c.in-Some.ensures c.in_err-frontier.ensures.pushed.0 c.answer.ensures.bad)
 
 pub loop-end-preserved : goal.loop-end-preserved
 loop-end-preserved g c =
@@ -22,13 +22,12 @@ loop-end-preserved g c =
     record {
       count = search rules;
       capacity = search rules;
-      held = search rules;
       few = omega (arith, long, fits, c.loop-end.invariant.few, c.answer.ensures.lines);
       short = omega (arith, long, c.loop-end.invariant.short);
       back = rest_back c.args.bytes.now c.loop-end.rest.now left (c.in-Some.end + 1) c.loop-end.invariant.short c.loop-end.invariant.back is fits;
       steps = steps-more (loaded_tree c.args.tree.now) (g.K.Sink.written c.args.sink.now) (g.K.Sink.written c.loop-end.sink) (g.K.Sink.written c.answer.new.sink)
-          c.args.begun.now.lines c.args.begun.now.bad c.args.begun.now.is_long c.args.bytes.now c.loop-end.begun.lines c.loop-end.begun.bad c.loop-end.begun.is_long c.loop-end.rest.now
-          c.loop-end.invariant.steps left c.in-Some.end c.answer.new.begun.lines c.answer.new.begun.bad c.answer.new.begun.is_long c.in-Some.ensures is c.in_ok-frontier.ensures.written
+          c.args.progress.now.lines c.args.progress.now.bad c.args.progress.now.is_long c.args.bytes.now c.loop-end.progress.lines c.loop-end.progress.bad c.loop-end.progress.is_long c.loop-end.rest.now
+          c.loop-end.invariant.steps left c.in-Some.end c.answer.new.progress.lines c.answer.new.progress.bad c.answer.new.progress.is_long c.in-Some.ensures is c.in_ok-frontier.ensures.pushed.0
           c.answer.ensures.lines c.answer.ensures.bad c.answer.ensures.is_long;
       flushed = λ e. ap g.K.Sink.waits (c.answer.ensures.untouched e).1 ∙ c.loop-end.invariant.flushed (c.answer.ensures.untouched e).0;
     }
@@ -36,13 +35,13 @@ loop-end-preserved g c =
 pub returns-in_err-flush-clause-cut : goal.returns-in_err-flush-clause-cut
 returns-in_err-flush-clause-cut g c = at_error c.from_residual-in_err-flush.result
     (λ all before out e s. rw c.flush.ensures.bad (steps-lost (loaded_tree c.args.tree.now) (g.K.Sink.written c.args.sink.now) (g.K.Sink.written c.loop-end.sink) (g.K.Sink.written c.flush.new.sink)
-    c.args.begun.now.lines c.args.begun.now.bad c.args.begun.now.is_long c.args.bytes.now c.loop-end.begun.lines c.loop-end.begun.bad c.loop-end.begun.is_long c.loop-end.rest.now
+    c.args.progress.now.lines c.args.progress.now.bad c.args.progress.now.is_long c.args.bytes.now c.loop-end.progress.lines c.loop-end.progress.bad c.loop-end.progress.is_long c.loop-end.rest.now
     c.loop-end.invariant.steps (found_none c.loop-end.rest.now c.in_default.ensures) c.in_err-flush.ensures.lost all before out e s))
 
 pub returns-clause-state : goal.returns-clause-state
 returns-clause-state g c all before out e s =
     let r = steps-kept (loaded_tree c.args.tree.now) (g.K.Sink.written c.args.sink.now) (g.K.Sink.written c.loop-end.sink) (g.K.Sink.written c.flush.new.sink)
-    c.args.begun.now.lines c.args.begun.now.bad c.args.begun.now.is_long c.args.bytes.now c.loop-end.begun.lines c.loop-end.begun.bad c.loop-end.begun.is_long c.loop-end.rest.now
+    c.args.progress.now.lines c.args.progress.now.bad c.args.progress.now.is_long c.args.bytes.now c.loop-end.progress.lines c.loop-end.progress.bad c.loop-end.progress.is_long c.loop-end.rest.now
     c.loop-end.invariant.steps c.in_ok-flush.ensures.bytes all before out e s in
     (r.0, r.1, rw (c.flush.ensures.lines, c.flush.ensures.bad, c.flush.ensures.is_long, ← c.loop-end.invariant.back) r.3)
 

@@ -8,13 +8,12 @@ abbrev pub invariant-loop-end : goal.invariant-loop-end
 invariant-loop-end g l = record {
   count : g.K.Sink.failed l.sink ≡ g.K.Sink.failed l.initial.sink;
   capacity : l.frontier.capacity ≡ l.initial.frontier.capacity;
-  held : l.begun.held ≡ l.initial.begun.held;
-  few : l.begun.lines + length l.rest ≤ l.initial.begun.lines + length l.bytes;
+  few : l.progress.lines + length l.rest ≤ l.initial.progress.lines + length l.bytes;
   short : length l.rest ≤ length l.bytes;
   back : l.rest ≡ drop (length l.bytes - length l.rest) l.bytes;
   steps : Steps (loaded_tree l.tree) (g.K.Sink.written l.initial.sink) (g.K.Sink.written l.sink)
-      l.initial.begun.lines l.initial.begun.bad l.initial.begun.is_long l.bytes l.begun.lines l.begun.bad l.begun.is_long l.rest;
-  flushed : l.begun.is_pushed ≡ false → g.K.Sink.waits l.sink ≡ g.K.Sink.waits l.initial.sink;
+      l.initial.progress.lines l.initial.progress.bad l.initial.progress.is_long l.bytes l.progress.lines l.progress.bad l.progress.is_long l.rest;
+  flushed : l.progress.is_pushed ≡ false → g.K.Sink.waits l.sink ≡ g.K.Sink.waits l.initial.sink;
 }
 
 abbrev pub decreases-loop-end : goal.decreases-loop-end

@@ -1,4 +1,0 @@
-use Rattle.rt_filter.proofs.finding.push_in_region.Goals as goal
-
-pub returns-in-Polygon-clause-written : goal.returns-in-Polygon-clause-written
-returns-in-Polygon-clause-written g c = rw c.in-Polygon.is c.push_in_polygon.ensures.written

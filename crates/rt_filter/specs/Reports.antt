@@ -1,0 +1,25 @@
+-- What is reported of the boxes that a query accepts. No public contract cites it.
+use Rattle.std.specs.Prelude.{ℕ, Bool, List, length}
+use Rattle.rt_geo.specs.Laws.{Extent}
+use Rattle.rt_geo.specs.Orders.{order_score}
+use Rattle.rt_geo.specs.declared.entry.Entry.{Entry}
+use Rattle.rt_geo.specs.declared.layers.Layers.{Layers}
+use Rattle.rt_geo.specs.declared.region.Region.{Region}
+use Rattle.rt_text.specs.ReplyLines.{ok_line}
+use Rattle.rt_text.specs.declared.query.Query.{Query}
+use Rattle.rt_text.specs.declared.query.Query.TheVariants.{CostCount, CostFind}
+use Rattle.rt_search.specs.Answers.{accepted, answers}
+use Rattle.rt_filter.specs.Replies.{find_reply}
+use Rattle.rt_filter.specs.declared.query.Report.{Report}
+use Rattle.rt_filter.specs.declared.query.Report.TheVariants.{Answers, Count}
+
+-- the report on the entries that are accepted
+abbrev pub report_on : List Entry → (accepts : Extent → Bool) → (line : ℕ) → Report → List ℕ
+report_on entries accepts line (Answers order limit) =
+    find_reply line (answers entries accepts (order_score order) limit)
+report_on entries accepts line Count = ok_line line (length (accepted entries accepts))
+
+-- the query for the number of nodes that a report opens
+abbrev pub cost_query : Region → Layers → Report → Query
+cost_query region layers (Answers order limit) = CostFind region order limit layers
+cost_query region layers Count = CostCount region layers
