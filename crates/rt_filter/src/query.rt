@@ -89,7 +89,8 @@ fn push_levels<K: Sink>(tree: &Tree, line: u128, sink: &mut K) -> Result<(), Wri
     push_line(&ok_line(line, u64::from(count)), sink)
 }
 
-// Pushes the report on the boxes of a region that are on these layers.
+// Pushes the report on the boxes of a region that are on these layers. Inlined, so that which report it is is known there.
+#[inline(always)]
 fn push_report<K: Sink>(
     tree: &Tree,
     frontier: Frontier,

@@ -130,7 +130,6 @@ fn ask_node<G: Geometry>(
 }
 
 /// Opens a node of level 1.
-#[inline(always)]
 pub(crate) fn open_leaf<G: Geometry>(
     tree: &Tree,
     frontier: &mut Frontier,
