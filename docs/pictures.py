@@ -434,8 +434,8 @@ def searched():
     for number in reached:
         parts.append(scene.box(nodes[number].box, NEXT if (0, number) == waiting[0][1:] else NO))
     for number in [*opened, *reached]:
-        left, _, _, top = nodes[number].box
-        parts.append(scene.label(left + 1, top + 0.9, number))
+        left, right, _, top = nodes[number].box
+        parts.append(scene.label(right - 1 if nodes[number].level == 1 else left + 1, top + 0.9, number))
     for entry in entries:
         parts.append(scene.box(entry.box, GIVEN if entry.id in given else YES if entry.id in found else UNSEEN))
         if entry.id in given + found:
