@@ -4,10 +4,12 @@
 usage: docs/pictures.py [--check]
 
 The railroad diagrams are made from the grammar block of the page. Which boxes of a picture a region accepts is worked
-out by `tests/reading.py`, and how points are packed by `tests/packing.py`. With `--check` nothing is written, and each
-picture that isn't up to date is a failure; the last line is then `N passed, M failed`.
+out by `tests/reading.py`, how points are packed by `tests/packing.py`, and distances by `tests/search.py`. With
+`--check` nothing is written, and each picture that isn't up to date is a failure; the last line is then
+`N passed, M failed`.
 """
 
+import heapq
 import re
 import sys
 from dataclasses import dataclass
@@ -22,6 +24,7 @@ sys.dont_write_bytecode = True
 sys.path.insert(0, str(ROOT / "tests"))
 import packing
 import reading
+import search
 
 # Colours that can be told from a white page and from a dark one. All text but labels stands on a filled shape.
 LINE, LABEL, WORD, NUMBER, RULE = "#8b949e", "#768390", "#1f6feb", "#8250df", "#57606a"
@@ -253,6 +256,10 @@ YES = f'fill="{ACCEPTED}" fill-opacity="0.3" stroke="{ACCEPTED}" stroke-width="2
 AXIS = f'stroke="{LINE}"'
 BEYOND = f'stroke="{REGION}" stroke-width="1.5" stroke-dasharray="1 4" stroke-linecap="round"'
 NO = f'fill="none" stroke="{REFUSED}" stroke-width="1.5" stroke-dasharray="4 3"'
+NEXT = f'fill="none" stroke="{NUMBER}" stroke-width="2.5" stroke-dasharray="8 3"'
+GIVEN = f'fill="{ACCEPTED}" stroke="{ACCEPTED}" stroke-width="2"'
+UNSEEN = f'fill="none" stroke="{REFUSED}" stroke-width="1"'
+CHILD = f'stroke="{NUMBER}" stroke-width="1.5" stroke-opacity="0.7"'
 
 # For each region the words that ask for it, and boxes beside it.
 SCENES = {
@@ -370,11 +377,85 @@ def packed_points():
     for node in nodes:
         if node.level < 3:
             parts.append(scene.box([side / 10 for side in node.box], AREA if node.level == 1 else NO))
+    for node in nodes:
+        if node.level == 2:
+            parts += [scene.line(middle(node, 10), middle(child, 10), CHILD) for child in children(node, nodes)]
+            x, y = scene.place(*middle(node, 10))
+            parts.append(f'<circle cx="{x:g}" cy="{y:g}" r="4" fill="{NUMBER}"/>')
     for point in table:
         x, y = scene.place(point.box[0] / 10, point.box[2] / 10)
         parts.append(f'<circle cx="{x:g}" cy="{y:g}" r="2" fill="{ACCEPTED}"/>')
     title = f"{levels[0]} points in {levels[1]} nodes, drawn solid, and {levels[2]} above them, dashed"
     return scene.picture(title, parts)
+
+
+def middle(box, scale):
+    """The middle of a node's box."""
+    return (box.box[0] + box.box[1]) / (2 * scale), (box.box[2] + box.box[3]) / (2 * scale)
+
+
+def children(node, items):
+    """The children of a node, among the nodes or, for one of level 1, among the entries."""
+    return items[node.first : node.first + node.count]
+
+
+# A search for the nearest boxes to a point, stopped once so many items were taken out.
+SEARCHED, POINT, TAKEN = 27, (27, 17), 5
+
+
+def best_first(entries, nodes):
+    """Which nodes are open and which entries were given when the search stops, and what waits, in order."""
+    waiting, opened, given = [(0, 0, len(nodes) - 1)], [], []
+    for _ in range(TAKEN):
+        _, is_entry, number = heapq.heappop(waiting)
+        if is_entry:
+            given.append(number)
+            continue
+        opened.append(number)
+        node = nodes[number]
+        for place, child in enumerate(children(node, entries if node.level == 1 else nodes), node.first):
+            item = (1, child.id) if node.level == 1 else (0, place)
+            heapq.heappush(waiting, (search.near2(POINT, child.box), *item))
+    return opened, given, sorted(waiting)
+
+
+def searched():
+    """The picture of a search: the nodes that are open, those that wait, and the frontier in order."""
+    scene, chance = Scene(-1, 69, -1, 35), packing.Chance()
+    table = []
+    for id in range(1, SEARCHED + 1):
+        x, y = chance.below(46), chance.below(32)
+        table.append(packing.Entry(id, (x, x + 1 + chance.below(3), y, y + 1 + chance.below(2)), 0))
+    entries, nodes, _ = packing.packed(table, 3)
+    opened, given, waiting = best_first(entries, nodes)
+    found = [number for _, is_entry, number in waiting if is_entry]
+    reached = [number for _, is_entry, number in waiting if not is_entry]
+    parts = [scene.box(nodes[number].box, AREA) for number in opened]
+    for number in reached:
+        parts.append(scene.box(nodes[number].box, NEXT if (0, number) == waiting[0][1:] else NO))
+    for number in [*opened, *reached]:
+        left, right, _, top = nodes[number].box
+        parts.append(scene.label(right - 1 if nodes[number].level == 1 else left + 1, top + 0.9, number))
+    for entry in entries:
+        parts.append(scene.box(entry.box, GIVEN if entry.id in given else YES if entry.id in found else UNSEEN))
+        if entry.id in given + found:
+            left, _, bottom, top = entry.box
+            parts.append(scene.label(left - 1.3, (bottom + top) / 2, entry.id))
+    x, y = scene.place(*POINT)
+    parts.append(f'<circle cx="{x:g}" cy="{y:g}" r="4" fill="{REGION}"/>')
+    for row, (score, is_entry, number) in enumerate(waiting):
+        x, y = scene.place(52, 30 - 4 * row)
+        name = Stop(f"entry {number}", ACCEPTED, 14) if is_entry else Stop(f"node {number}", RULE, 3)
+        parts += [*name.draw(x, y), scene.label(65.5, 30 - 4 * row, score)]
+    parts.append(scene.label(58, 34, "waiting, with score"))
+    title = f"Nodes {told(opened)} are open, entries {told(given)} were given, and the first that waits is taken next"
+    return scene.picture(title, parts)
+
+
+def told(numbers):
+    """Some numbers, in words."""
+    *front, last = map(str, numbers)
+    return f"{', '.join(front)} and {last}" if front else last
 
 
 # A window over examples/uneven.csv, whose larger boxes have a layer of their own; its units are drawn so many to one.
@@ -416,6 +497,7 @@ def pictures():
     yield "boxes.svg", example()
     yield "layers.svg", on_layer()
     yield "packed.svg", packed_points()
+    yield "search.svg", searched()
     yield "uneven.svg", uneven()
     for name, tokens in grammar().items():
         yield f"grammar-{name}.svg", diagram(name, choice(tokens))
