@@ -120,6 +120,7 @@ fn push_report<K: Sink>(
 
 // The same on all layers, which are those of all entries: none is checked. A polygon is prepared where it can be, and a
 // circle whose order is by the distance from its centre takes one distance for both.
+#[inline(always)]
 fn push_in_region<K: Sink>(
     tree: &Tree,
     frontier: Frontier,
@@ -222,10 +223,7 @@ fn find<G: Geometry + Drop, K: Sink>(
     let _most = tree.len();
     let counted = Counted::new(&geometry);
     match limit {
-        Some(limit) => {
-            let search = Search::start(tree, frontier, counted, Some(limit));
-            push_search(search, line, sink)
-        }
+        Some(_) => push_search(Search::start(tree, frontier, counted, limit), line, sink),
         None => push_search(FullSearch::start(tree, frontier, counted), line, sink),
     }
 }

@@ -1,50 +1,25 @@
 -- What gathering all answers under a node leaves, child by child.
-use Rattle.std.proofs.Common.{◌≡◌, ◌<◌, ◌≤◌, ◌+◌, ◌-◌, ◌^◌, ℕ, zero, suc, Bool, true, false, cond, List, [], ◌∷◌, length}
-use Rattle.std.proofs.Common.{◌⊎◌, inl, inr, None, take, get_or, refl, sym, ◌∙◌, ap, subst, arith, add-one}
+use Rattle.std.proofs.Common.{◌≡◌, ◌<◌, ◌≤◌, ◌+◌, ◌-◌, ◌^◌, ℕ, suc, Bool, List, [], ◌∷◌, length}
+use Rattle.std.proofs.Common.{◌⊎◌, inl, inr, None, take, refl, sym, ◌∙◌, ap, subst, arith, add-one}
 use Rattle.rt_geo.specs.Laws.{Extent, IsLawful, NoneAccepted}
-use Rattle.rt_geo.specs.declared.entry.Entry.{Entry}
 use Rattle.rt_geo.specs.declared.geometry.Info.{Info}
 use Rattle.rt_geo.specs.declared.geometry.Verdict.{Verdict}
 use Rattle.rt_geo.specs.declared.geometry.Within.TheVariants.{Not, Partly, Fully}
-use Rattle.rt_tree.specs.Packed.{Packed, IsSound, child_entries, child_nodes, entries_under, node_at}
-use Rattle.rt_tree.specs.Sorting.{put}
+use Rattle.rt_tree.specs.Packed.{Packed, IsSound, child_nodes, entries_under, node_at}
 use Rattle.rt_tree.specs.declared.tree.Node.{Node}
 use Rattle.rt_search.specs.Answers.{answer_cmp}
 use Rattle.rt_search.specs.Counting.{IsCountable, over_children, work_at_child, work_of_child, work_under}
-use Rattle.rt_search.specs.Gathering.{AllEntries, HasGathered}
-use Rattle.rt_search.specs.Items.{item_at, item_cmp}
-use Rattle.rt_search.specs.Joining.{info_of_child, join_entries, join_entry, no_entry}
-use Rattle.rt_search.specs.Kept.{IsEntry}
+use Rattle.rt_search.specs.Gathering.{HasGathered}
+use Rattle.rt_search.specs.Joining.{join_entries}
 use Rattle.rt_search.specs.Remaining.{IsOpenable, height_at, put_all, remaining}
-use Rattle.rt_search.specs.Work.{info_of_node, is_kept, is_reached, its_children, one_node}
+use Rattle.rt_search.specs.Work.{info_of_node, is_reached, its_children, one_node}
 use Rattle.rt_search.specs.declared.item.Item.{Item}
-use Rattle.rt_search.specs.declared.item.Place.TheVariants as place
 use Rattle.rt_search.proofs.Answering.{among, node_dropped, one_more, under_all, under_all-append, under_all-none}
 use Rattle.rt_search.proofs.Answering.{under_all-one, under_all-whole}
 use Rattle.rt_search.proofs.Children.{IsChild, all_children, child_of, height_suc, inner_at, leaf_node}
 use Rattle.rt_search.proofs.CountUnder.{all_sums, countable, inner_work, openable, over_one}
 use Rattle.rt_search.proofs.Joined.{entries_joined}
-use Rattle.rt_search.proofs.OrderedLists.{put-all}
-use Rattle.rt_search.proofs.Orders.{item_order}
 use Rattle.rt_search.proofs.Working.{length-join_entries}
-
--- ---- entries that join
-
-entry_joins : (v : Verdict) (e : Entry) (xs : List Item) → AllEntries xs → AllEntries (join_entry v e.id xs)
-entry_joins v e xs all =
-    elim (is_kept v.within) as
-    (λ b. AllEntries (cond b (put item_cmp (item_at v.score (place.Entry e.id)) xs) xs)) [
-      | true ↦ put-all item_cmp item_order (λ x. IsEntry x.place) (item_at v.score (place.Entry e.id)) xs tt all
-      | false ↦ all
-    ]
-
-entries_join : (verdict : Info → Verdict) (t : Packed) (v : Verdict) (n : Node) (i : ℕ) (xs : List Item)
-    → AllEntries xs → AllEntries (join_entries verdict t v n i xs)
-entries_join verdict t v n zero xs all = all
-entries_join verdict t v n (suc i) xs all =
-    let e = get_or (child_entries t n) i no_entry in
-    entry_joins (verdict (info_of_child t v e)) e (join_entries verdict t v n i xs)
-    (entries_join verdict t v n i xs all)
 
 abbrev pub size_of : Packed → ℕ → ℕ
 size_of t k = (node_at t k).size
@@ -55,7 +30,6 @@ pub record HasGatheredUpto (accepts : Extent → Bool) (score : Extent → ℕ) 
   pub answers : remaining t accepts score new
       ≡ put_all answer_cmp (under_all accepts score t (height_at t number - 1)
       (take i (child_nodes t (node_at t number)))) (remaining t accepts score old)
-  pub entries : AllEntries old → AllEntries new
   pub few : length new ≤ length old + over_children (size_of t) (node_at t number) i
 
 module _ (accepts : Extent → Bool) (score : Extent → ℕ) (verdict : Info → Verdict)
@@ -67,7 +41,6 @@ module _ (accepts : Extent → Bool) (score : Extent → ℕ) (verdict : Info �
       let never = subst (NoneAccepted accepts) can.extent (law.faithful.pruning info can.question can.high is) in
       record {
         answers = node_dropped accepts score t k can.tree never (remaining t accepts score xs);
-        entries = λ all. all;
         few = omega arith;
       }
 
@@ -103,7 +76,6 @@ module _ (accepts : Extent → Bool) (score : Extent → ℕ) (verdict : Info �
   upto_none number xs = record {
     answers = ap (λ l. put_all answer_cmp l (remaining t accepts score xs))
         (sym (under_all-none accepts score t (height_at t number - 1)));
-    entries = λ all. all;
     few = omega arith;
   }
 
@@ -121,7 +93,6 @@ module _ (accepts : Extent → Bool) (score : Extent → ℕ) (verdict : Info �
           answers = entries_joined accepts score verdict law t sound v small n xs leaf.1 opened.below
               ∙ ap (λ h. put_all answer_cmp (among accepts score (entries_under t h n)) (remaining t accepts score xs))
               (sym leaf.0);
-          entries = entries_join verdict t v n n.count xs;
           few = omega (arith, long, size);
         }
 
@@ -148,7 +119,6 @@ module _ (accepts : Extent → Bool) (score : Extent → ℕ) (verdict : Info �
                 (child_nodes t (node_at t number)) i (node_at t m) k.place k.is (remaining t accepts score old)
                 (remaining t accepts score before) _ so_far.answers
                 (one.answers ∙ ap (λ l. put_all answer_cmp l (remaining t accepts score before)) (sym there)));
-            entries = λ all. one.entries (so_far.entries all);
             few = omega (arith, a, b);
           }
 
@@ -171,7 +141,6 @@ module _ (accepts : Extent → Bool) (score : Extent → ℕ) (verdict : Info �
             answers = so_far.answers ∙ ap (λ l. put_all answer_cmp l (remaining t accepts score old))
                 (ap (under_all accepts score t h) all ∙ under_all-whole accepts score t h n
                 ∙ ap (λ m. among accepts score (entries_under t m n)) (sym (height_suc t number opened.tree high)));
-            entries = so_far.entries;
             few = omega (arith, few, sizes);
           }
 

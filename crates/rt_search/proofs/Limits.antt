@@ -2,6 +2,7 @@
 use Rattle.std.proofs.Common.{◌≡◌, ◌≢◌, ◌≤◌, ◌<◌, ◌+◌, ◌-◌, ℕ, ℤ, zero, suc, Bool, true, false, cond, Option, Some, None, List}
 use Rattle.std.proofs.Common.{[], ◌∷◌, length, get_or, refl, sym, ◌∙◌, ap, subst, arith}
 use Rattle.std.specs.Ordering.{is_gt}
+use Rattle.std.specs.declared.cmp.Reverse.{Reverse}
 use Rattle.rt_geo.specs.declared.geometry.Info.{Info}
 use Rattle.rt_geo.specs.declared.geometry.Verdict.{Verdict}
 use Rattle.rt_tree.specs.Packed.{Packed, child_entries, node_at}
@@ -9,7 +10,7 @@ use Rattle.rt_tree.specs.Sorting.{put}
 use Rattle.rt_tree.specs.declared.tree.Node as node
 use Rattle.rt_search.specs.Items.{item_at, item_cmp}
 use Rattle.rt_search.specs.Joining.{info_of_child, join_entries, join_entry, join_node, join_nodes, no_entry}
-use Rattle.rt_search.specs.Kept.{IsRising, offered}
+use Rattle.rt_search.specs.Kept.{IsRising, in_order, narrow, node_item, queued}
 use Rattle.rt_search.specs.Limits.{IsBehind, IsEnough, entries_at, entries_before, front, front_of, less_at}
 use Rattle.rt_search.specs.Remaining.{put_all, waiting_node}
 use Rattle.rt_search.specs.Work.{info_of_node, is_kept}
@@ -17,8 +18,7 @@ use Rattle.rt_search.specs.declared.item.Item.{Item}
 use Rattle.rt_search.specs.declared.item.Place.{Place}
 use Rattle.rt_search.specs.declared.item.Place.TheVariants.{Node, Entry}
 use Rattle.rt_search.proofs.Falling.{rising_put}
-use Rattle.rt_search.proofs.Merging.{offered_right}
-use Rattle.rt_search.proofs.OrderedLists.{length-put, length-put_all}
+use Rattle.rt_search.proofs.OrderedLists.{length-put, length-put_all, put_all-put}
 use Rattle.rt_search.proofs.Orders.{item_order}
 
 -- ---- the front of a list
@@ -185,41 +185,37 @@ enough_without (Some n) x xs h = record {
   few = omega (arith, length-put item_cmp item_order x xs);
 }
 
+-- what is behind the entries is behind the whole queue
+pub enough_beyond : (wanted : Option ℕ) (x : Item) (nodes : List (Reverse ℕ)) (entries wide : List Item)
+    → IsBehind wanted x entries
+    → IsEnough wanted (queued nodes entries wide) (put item_cmp x (queued nodes entries wide))
+enough_beyond wanted x nodes entries wide h =
+    enough_without wanted x (queued nodes entries wide)
+    (behind_right wanted x wide (narrow nodes entries) (behind_right wanted x (in_order node_item nodes) entries h))
+
 pub enough_same : (wanted : Option ℕ) (xs ys : List Item) → xs ≡ ys → IsEnough wanted xs ys
 enough_same wanted xs ys e = subst (IsEnough wanted xs) e (enough_itself wanted xs)
 
--- an entry joins one list, and so both
-pub enough_offered : (wanted : Option ℕ) (b : Bool) (x : Item) (zs old new : List Item)
-    → IsEnough wanted new (offered b x old)
-    → IsEnough wanted (put_all item_cmp zs new) (offered b x (put_all item_cmp zs old))
-enough_offered wanted b x zs old new h =
-    subst (IsEnough wanted (put_all item_cmp zs new)) (offered_right b x zs old)
-    (enough_put_all wanted zs new (offered b x old) h)
+-- what joins one list joins both
+pub enough_joined : (wanted : Option ℕ) (x : Item) (zs old new : List Item) → IsEnough wanted new (put item_cmp x old)
+    → IsEnough wanted (put_all item_cmp zs new) (put item_cmp x (put_all item_cmp zs old))
+enough_joined wanted x zs old new h =
+    subst (IsEnough wanted (put_all item_cmp zs new)) (put_all-put item_cmp item_order zs x old)
+    (enough_put_all wanted zs new (put item_cmp x old) h)
 
-length-offered : (b : Bool) (x : Item) (xs : List Item) → length (offered b x xs) ≤ length xs + 1
-length-offered true x xs = omega (arith, length-put item_cmp item_order x xs)
-length-offered false x xs = omega arith
-
-pub enough_fits : (wanted : Option ℕ) (b : Bool) (x : Item) (old new : List Item) (capacity : ℕ)
-    → IsEnough wanted new (offered b x old) → length old < capacity → length new ≤ capacity
-enough_fits wanted b x old new capacity h lt =
+pub enough_fits : (wanted : Option ℕ) (x : Item) (old new : List Item) (capacity : ℕ)
+    → IsEnough wanted new (put item_cmp x old) → length old < capacity → length new ≤ capacity
+enough_fits wanted x old new capacity h lt =
     let few = h.few in
-    omega (arith, few, lt, length-offered b x old)
-
--- where no limit is known all is kept
-pub all_kept : (wanted : Option ℕ) (xs ys : List Item) → wanted ≡ None → IsEnough wanted xs ys → xs ≡ ys
-all_kept wanted xs ys e h = (subst (λ w. IsEnough w xs ys) e h).same
+    omega (arith, few, lt, length-put item_cmp item_order x old)
 
 -- of an empty list and another neither has any
 pub none_merged : (xs ys : List Item) → put_all item_cmp xs ys ≡ [] → ys ≡ []
 none_merged xs [] h = refl
 none_merged xs (y ∷ ys) h = absurd (let n = ap length h in omega (arith, n, length-put_all item_cmp item_order xs (y ∷ ys)))
 
--- what may be left out may also not be wanted
-pub offered_or_not : (b : Bool) (x : Item) (xs : List Item) (wanted : Option ℕ) → IsEnough wanted xs (put item_cmp x xs)
-    → IsEnough wanted xs (offered b x xs)
-offered_or_not true x xs wanted h = h
-offered_or_not false x xs wanted h = enough_itself wanted xs
+pub still_none : (xs ys zs : List Item) → put_all item_cmp xs ys ≡ [] → zs ≡ [] → put_all item_cmp xs zs ≡ []
+still_none xs ys zs h e = ap (put_all item_cmp xs) (e ∙ sym (none_merged xs ys h)) ∙ h
 
 -- ---- the children of a node join
 

@@ -6,7 +6,7 @@ use Rattle.std.specs.List.{AllByRecursion}
 use Rattle.std.specs.Ordering.{is_gt}
 use Rattle.rt_tree.specs.Sorting.{put}
 use Rattle.rt_search.specs.Items.{item_cmp}
-use Rattle.rt_search.specs.Kept.{IsAhead, IsEntry, IsFirstScore, IsHead, IsLeast, IsNode, offered}
+use Rattle.rt_search.specs.Kept.{IsAhead, IsEntry, IsFirstScore, IsLeast, IsNode, offered}
 use Rattle.rt_search.specs.Remaining.{put_all}
 use Rattle.rt_search.specs.declared.item.Item.{Item}
 use Rattle.rt_search.proofs.OrderedLists.{IsOrder, length-put, length-put_all, put-put, put_all-all, put_all-put}
@@ -123,7 +123,7 @@ left_right None xs old ys e n h = ap (put_all item_cmp xs) (n ∙ sym e) ∙ non
 left_right (Some x) xs old ys e n h = tt
 
 -- no more are left than there were
-fewer : (r : Option Item) (old new : List Item) → MatchOption r (old ≡ []) (λ x. old ≡ x ∷ new)
+pub fewer : (r : Option Item) (old new : List Item) → MatchOption r (old ≡ []) (λ x. old ≡ x ∷ new)
     → IfNone r (new ≡ []) → length new ≤ length old
 fewer None old new e n = rw n (omega arith)
 fewer (Some x) old new e n = rw e (omega arith)
@@ -146,15 +146,6 @@ fewer_right r xs old ys capacity e n h =
 pub all_after : (x y : Item) (ys : List Item) → is_gt (item_cmp x y) ≡ false → IsLeast y ys → IsLeast x ys
 all_after x y [] h a = tt
 all_after x y (z ∷ ys) h a = (item_order.trans x y z h a.0, all_after x y ys h a.1)
-
--- that with the lesser head
-pub heads_ahead : (x y : Item) (xs ys : List Item) → IsHead x xs → IsHead y ys → is_gt (item_cmp x y) ≡ false
-    → IsAhead xs ys
-heads_ahead x y [] ys f g h = absurd f
-heads_ahead x y (z ∷ xs) [] f g h = absurd g
-heads_ahead x y (z ∷ xs) (w ∷ ys) f g h =
-    subst (λ t. IsLeast t (w ∷ ys)) f.0
-    (subst (λ t. is_gt (item_cmp x t) ≡ false) g.0 h, all_after x y ys h g.1)
 
 all_scores : (s : ℕ) (xs : List Item) → IsFirstScore s xs → AllByRecursion (λ y. s ≤ y.score) xs
 all_scores s [] h = tt

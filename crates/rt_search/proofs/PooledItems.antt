@@ -7,12 +7,12 @@ use Rattle.std.specs.Ordering.{is_gt}
 use Rattle.std.specs.declared.cmp.Reverse.{Reverse}
 use Rattle.rt_tree.specs.Sorting.{put}
 use Rattle.rt_search.specs.Items.{item_cmp}
-use Rattle.rt_search.specs.Kept.{IsFirstScore, IsHead, IsLeast, in_order}
-use Rattle.rt_search.specs.Pooling.{HasLeastScore, IsLowest, IsTop, score_in}
+use Rattle.rt_search.specs.Kept.{IsFirstScore, in_order}
+use Rattle.rt_search.specs.Pooling.{HasLeastScore, score_in}
 use Rattle.rt_search.specs.declared.item.Item.{Item}
 use Rattle.rt_search.proofs.Falling.{first_put, lesser_right}
-use Rattle.rt_search.proofs.Heaps.{IsLeastOf, in_order-all, popped_least}
-use Rattle.rt_search.proofs.OrderedLists.{put-all, put_least}
+use Rattle.rt_search.proofs.Heaps.{in_order-all}
+use Rattle.rt_search.proofs.OrderedLists.{put-all}
 use Rattle.rt_search.proofs.Orders.{item_order, score_upto}
 
 -- x has the least score
@@ -36,7 +36,7 @@ module _ (item : Reverse ℕ → Item) (scored : (k : Reverse ℕ) → score_in 
   all_scored s (k ∷ ks) a = let m = a.0 in (omega (arith, scored k, m), all_scored s ks a.1)
 
   -- the least score is that of the first item
-  first_of_least : (s : ℕ) (ks : List (Reverse ℕ)) → HasLeastScore s ks → IsFirstScore s (in_order item ks)
+  pub first_of_least : (s : ℕ) (ks : List (Reverse ℕ)) → HasLeastScore s ks → IsFirstScore s (in_order item ks)
   first_of_least s [] h = absurd h.0
   first_of_least s (k ∷ ks) h =
       let m = h.1.0 in
@@ -52,18 +52,3 @@ module _ (item : Reverse ℕ → Item) (scored : (k : Reverse ℕ) → score_in 
       → MatchOption r (in_order item ks ≡ []) (λ s. IsFirstScore s (in_order item ks))
   firsts None ks h = ap (in_order item) h
   firsts (Some s) ks h = first_of_least s ks h
-
-  module _ (after : (k : ℕ) (ks : List (Reverse ℕ)) → IsLowest k ks → IsLeastOf item (item (record { 0 = k })) ks) where
-    -- the lowest key is that of the first item
-    head_of_top : (k : ℕ) (ks : List (Reverse ℕ)) → IsTop k ks → IsHead (item (record { 0 = k })) (in_order item ks)
-    head_of_top k [] h = absurd h
-    head_of_top k (j ∷ js) h =
-        let top : Reverse ℕ = record { 0 = k } in
-        let least : IsLeast (item top) (in_order item js) = popped_least item top js (after k js h.1) in
-        subst (λ t. IsHead (item top) (in_order item (t ∷ js))) h.0
-        (subst (IsHead (item top)) (sym (put_least item_cmp item_order (item top) (in_order item js) least)) (refl, least))
-
-    pub heads : (r : Option ℕ) (ks : List (Reverse ℕ)) → MatchOption r (ks ≡ []) (λ k. IsTop k ks)
-        → MatchOption r (in_order item ks ≡ []) (λ k. IsHead (item (record { 0 = k })) (in_order item ks))
-    heads None ks h = ap (in_order item) h
-    heads (Some k) ks h = head_of_top k ks h

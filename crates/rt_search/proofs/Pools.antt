@@ -16,7 +16,7 @@ use Rattle.std.proofs.lemmas.List.Sorted.{IsPermutation-middle, IsPermutation-to
 use Rattle.std.proofs.lemmas.List.Sorted.{IsPermutation-sym, IsPermutation-trans, length_permutation}
 use Rattle.std.proofs.lemmas.Nat.{div-add-mod'}
 use Rattle.rt_search.specs.Kept.{lesser}
-use Rattle.rt_search.specs.Pooling.{HasLeastScore, HasScore, IsFar, IsLowest, IsTop, score_in}
+use Rattle.rt_search.specs.Pooling.{HasLeastScore, HasScore, IsFar, IsLowest, score_in}
 
 -- ---- lists
 
@@ -97,6 +97,11 @@ lowest_scores k [] a = tt
 lowest_scores k (j ∷ js) a = (score_rises k j.0 a.0, lowest_scores k js a.1)
 
 -- ---- the first of those near is the least of all
+
+-- the first, and none of the others is lower
+abbrev pub IsTop : ℕ → List (Reverse ℕ) → Type 0
+IsTop k [] = ⊥
+IsTop k (j ∷ js) = (record { 0 = k } ≡ j) × IsLowest k js
 
 pub top_of : (e : ℕ) (top : Reverse ℕ) (near far : List (Reverse ℕ)) → 0 < length near → top ≡ get_or near 0 top
     → IsLowest top.0 near → AllByRecursion (λ k. score_in k ≤ e) near → AllByRecursion (λ k. e < score_in k) far

@@ -10,13 +10,17 @@ use Rattle.rt_search.proofs.Merging.{lower_least}
 use Rattle.rt_search.proofs.OrderedLists.{put-all}
 use Rattle.rt_search.proofs.Orders.{item_order}
 
+-- items behind one whose score is one word
+pub low_ahead : (x : Item) (old new wide : List Item) → old ≡ x ∷ new → x.score < 2 ^ 64
+    → AllByRecursion (λ y. 2 ^ 64 ≤ y.score) wide → IsAhead old wide
+low_ahead x old new wide e low high = subst (λ l. IsAhead l wide) (sym e) (lower_least x wide (2 ^ 64) low high)
+
 -- where one was taken from the narrow items, these are ahead
 pub narrow_ahead : (r : Option Item) (old new wide : List Item) → MatchOption r (true ≡ false) (λ _. true ≡ true)
     → MatchOption r (old ≡ []) (λ x. old ≡ x ∷ new) → IfSome r (λ x. x.score < 2 ^ 64)
     → AllByRecursion (λ y. 2 ^ 64 ≤ y.score) wide → IsAhead old wide
 narrow_ahead None old new wide some e low high = absurd (false≢true (sym some))
-narrow_ahead (Some x) old new wide some e low high =
-    subst (λ l. IsAhead l wide) (sym e) (lower_least x wide (2 ^ 64) low high)
+narrow_ahead (Some x) old new wide some e low high = low_ahead x old new wide e low high
 
 -- where there was none, the wide items are
 pub wide_ahead : (narrow wide : List Item) → narrow ≡ [] → IsAhead wide narrow

@@ -1,60 +1,32 @@
--- Entries of score 0, which come before all others.
-use Rattle.std.proofs.Common.{◌≡◌, ◌<◌, ◌≤◌, ℤ, Bool, true, false, cond, List, [], ◌∷◌, length}
-use Rattle.std.proofs.Common.{refl, arith}
+-- What a full search finds: entries of score 0, those of other scores of one word, and the wide.
+use Rattle.std.proofs.Common.{◌≡◌, ◌<◌, ◌≤◌, ◌^◌, ℕ, ℤ, List, [], ◌∷◌, length}
+use Rattle.std.proofs.Common.{sym, ◌∙◌, ap, subst, arith}
 use Rattle.std.specs.List.{AllByRecursion}
-use Rattle.std.specs.Ordering.{is_gt}
 use Rattle.std.specs.declared.cmp.Reverse.{Reverse}
-use Rattle.rt_tree.specs.Sorting.{put}
+use Rattle.std.proofs.lemmas.List.Sorted.{IsPermutation-refl}
 use Rattle.rt_search.specs.Items.{item_cmp}
-use Rattle.rt_search.specs.Kept.{IsAhead, IsEntry, IsFirstScore, IsLeast, in_order, zero_item}
+use Rattle.rt_search.specs.Kept.{IsAhead, IsEntry, IsFalling, IsLeast, entry_item, hits_in, in_order, zero_item}
 use Rattle.rt_search.specs.Remaining.{put_all}
 use Rattle.rt_search.specs.declared.item.Item.{Item}
-use Rattle.rt_search.proofs.Heaps.{in_order-all, length-in_order}
-use Rattle.rt_search.proofs.Orders.{item_order, lower_before, score_upto}
+use Rattle.rt_search.proofs.Falling.{none_last}
+use Rattle.rt_search.proofs.Heaps.{all_entries, in_order-all}
+use Rattle.rt_search.proofs.OrderedLists.{put_all-all}
+use Rattle.rt_search.proofs.Orders.{item_order, lower_before}
 
-pub zero_entries : (ids : List (Reverse ℤ)) → AllByRecursion (λ r. IsEntry (zero_item r).place) ids
+zero_entries : (ids : List (Reverse ℤ)) → AllByRecursion (λ r. IsEntry (zero_item r).place) ids
 zero_entries [] = tt
 zero_entries (r ∷ ids) = (tt, zero_entries ids)
 
-zero_scores : (ids : List (Reverse ℤ)) → AllByRecursion (λ r. 0 ≡ (zero_item r).score) ids
-zero_scores [] = tt
-zero_scores (r ∷ ids) = (refl, zero_scores ids)
+-- each is an entry
+pub hits_entries : (ids : List (Reverse ℤ)) (keys : List (Reverse ℕ)) (wide : List Item)
+    → AllByRecursion (λ x. IsEntry x.place) wide → AllByRecursion (λ x. IsEntry x.place) (hits_in ids keys wide)
+hits_entries ids keys wide a =
+    put_all-all item_cmp item_order (λ x. IsEntry x.place) (in_order zero_item ids) _
+    (in_order-all zero_item (λ x. IsEntry x.place) ids (zero_entries ids))
+    (put_all-all item_cmp item_order (λ x. IsEntry x.place) (in_order entry_item keys) wide
+    (in_order-all entry_item (λ x. IsEntry x.place) keys (all_entries keys)) a)
 
-none_below : (xs : List Item) → AllByRecursion (λ y. 0 ≤ y.score) xs
-none_below [] = tt
-none_below (x ∷ xs) = (omega arith, none_below xs)
-
-first_of_zeros : (xs : List Item) → 0 < length xs → AllByRecursion (λ x. 0 ≡ x.score) xs → IsFirstScore 0 xs
-first_of_zeros [] some a = absurd (omega (arith, some))
-first_of_zeros (x ∷ xs) some a = (a.0, none_below xs)
-
--- of ids, where there are any
-pub zeros_first : (ids : List (Reverse ℤ)) → 0 < length ids → IsFirstScore 0 (in_order zero_item ids)
-zeros_first ids some =
-    first_of_zeros (in_order zero_item ids) (omega (arith, some, length-in_order zero_item ids))
-    (in_order-all zero_item (λ x. 0 ≡ x.score) ids (zero_scores ids))
-
-pub no_zeros : (ids : List (Reverse ℤ)) → length ids ≡ 0 → in_order zero_item ids ≡ []
-no_zeros [] none = refl
-no_zeros (r ∷ ids) none = absurd (omega (arith, none))
-
--- ---- together with others
-
-zero_put : (x : Item) (ys : List Item) → 0 ≡ x.score → IsFirstScore 0 (put item_cmp x ys)
-zero_put x [] h = (h, tt)
-zero_put x (y ∷ ys) h =
-    let split : (b : Bool) → is_gt (item_cmp x y) ≡ b
-    → IsFirstScore 0 (cond b (y ∷ put item_cmp x ys) (x ∷ y ∷ ys)) = elim [
-      | true ↦ λ e.
-          let f = score_upto y x (item_order.one_way x y e) in
-          (omega (arith, f, h), none_below (put item_cmp x ys))
-      | false ↦ λ e. (h, none_below (y ∷ ys))
-    ] in
-    split (is_gt (item_cmp x y)) refl
-
-pub zeros_score : (xs ys : List Item) → IsFirstScore 0 xs → IsFirstScore 0 (put_all item_cmp xs ys)
-zeros_score [] ys h = absurd h
-zeros_score (x ∷ xs) ys h = zero_put x (put_all item_cmp xs ys) h.0
+-- ---- which are ahead
 
 zero_least : (x : Item) (ys : List Item) → 0 ≡ x.score → AllByRecursion (λ y. 0 < y.score) ys → IsLeast x ys
 zero_least x [] h a = tt
@@ -62,6 +34,31 @@ zero_least x (y ∷ ys) h a =
     let m = a.0 in
     (lower_before x y (omega (arith, h, m)), zero_least x ys h a.1)
 
-pub zeros_ahead : (xs ys : List Item) → IsFirstScore 0 xs → AllByRecursion (λ y. 0 < y.score) ys → IsAhead xs ys
-zeros_ahead [] ys h a = absurd h
-zeros_ahead (x ∷ xs) ys h a = zero_least x ys h.0 a
+-- those of score 0
+pub zero_ahead : (x : Item) (old new ys : List Item) → old ≡ x ∷ new → 0 ≡ x.score
+    → AllByRecursion (λ y. 0 < y.score) ys → IsAhead old ys
+zero_ahead x old new ys e h a = subst (λ l. IsAhead l ys) (sym e) (zero_least x ys h a)
+
+wide_above : (xs : List Item) → AllByRecursion (λ x. 2 ^ 64 ≤ x.score) xs → AllByRecursion (λ x. 0 < x.score) xs
+wide_above [] a = tt
+wide_above (x ∷ xs) a = let m = a.0 in (omega (arith, m), wide_above xs a.1)
+
+-- as the others score more
+pub rest_above : (xs ys : List Item) → AllByRecursion (λ x. 0 < x.score) xs → AllByRecursion (λ x. 2 ^ 64 ≤ x.score) ys
+    → AllByRecursion (λ x. 0 < x.score) (put_all item_cmp xs ys)
+rest_above xs ys a b = put_all-all item_cmp item_order (λ x. 0 < x.score) xs ys a (wide_above ys b)
+
+-- ---- a list that is empty
+
+pub falling_none : {X : Type 0} (item : X → Item) (xs : List X) → length xs ≡ 0 → IsFalling item xs
+falling_none item [] n = tt
+falling_none item (x ∷ xs) n = absurd (omega (arith, n))
+
+pub none_in_order : {X : Type 0} (item : X → Item) (xs : List X) → length xs ≡ 0 → in_order item xs ≡ []
+none_in_order item xs n = none_last item xs xs (IsPermutation-refl xs) n
+
+-- where there are no others
+pub wide_alone : (zeros keyed wide : List Item) → zeros ≡ [] → keyed ≡ []
+    → put_all item_cmp zeros (put_all item_cmp keyed wide) ≡ wide
+wide_alone zeros keyed wide z k =
+    ap (λ xs. put_all item_cmp xs (put_all item_cmp keyed wide)) z ∙ ap (λ xs. put_all item_cmp xs wide) k

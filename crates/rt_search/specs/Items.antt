@@ -1,4 +1,4 @@
--- What waits in a frontier, and in which order it is taken out. Public calls speak of `Limited` alone.
+-- What waits in a frontier, and in which order it is taken out. Public calls speak of `SearchRoom` alone.
 use Rattle.std.specs.Prelude.{ℕ, Option, List}
 use Rattle.std.specs.Ordering.{bool_cmp, int_cmp, nat_cmp, on, then_cmp}
 use Rattle.std.specs.declared.cmp.Ordering.{Ordering}
@@ -27,7 +27,14 @@ abbrev pub item_cmp : Item → Item → Ordering
 item_cmp = then_cmp (on (λ x. x.score) nat_cmp) (on (λ x. x.place) place_cmp)
 
 -- a frontier: what waits, in the order in which it is taken out, how many entries are still wanted, where what comes
--- behind so many isn't kept, and how many items have room
+-- behind so many isn't kept, what a full search found, in order, and how many items have room
+pub record SearchRoom : Type 0 where
+  pub items : List Item
+  pub wanted : Option ℕ
+  pub hits : List Item
+  pub capacity : ℕ
+
+-- what waits in it
 pub record Limited : Type 0 where
   pub items : List Item
   pub wanted : Option ℕ

@@ -10,6 +10,7 @@ use Rattle.std.specs.declared.collections.binary_heap.BinaryHeap.{BinaryHeap}
 use Rattle.std.specs.declared.vec.Vec.{Vec}
 use Rattle.rt_tree.specs.Sorting.{put, sorted}
 use Rattle.rt_search.specs.Items.{Waiting, item_at, item_cmp}
+use Rattle.rt_search.specs.Pooling.{Pooled, keys_in}
 use Rattle.rt_search.specs.Remaining.{put_all}
 use Rattle.rt_search.specs.declared.item.FoundEntry.{FoundEntry}
 use Rattle.rt_search.specs.declared.item.Item.{Item}
@@ -98,23 +99,24 @@ abbrev pub lesser : (first : Option ℕ) → (score : ℕ) → ℕ
 lesser None score = score
 lesser (Some first) score = if nat_lt score first then score else first
 
--- two collections that have the same room, and hold together no more
-pub record IsMerged (first second : Waiting) (capacity : ℕ) : Type 0 where
-  pub first_room : first.capacity ≡ capacity
-  pub second_room : second.capacity ≡ capacity
-  pub few : length (put_all item_cmp first.items second.items) ≤ capacity
-  pub narrow : capacity < 2 ^ 32
+-- ---- a priority queue
 
--- items whose score is one word, and others, whose score isn't
-pub record IsSplit (narrow wide : Waiting) (capacity : ℕ) : Type 0 where
-  pub merged : IsMerged wide narrow capacity
+-- keys of nodes that wait, and entries
+abbrev pub narrow : (nodes : List (Reverse ℕ)) → (entries : List Item) → List Item
+narrow nodes entries = put_all item_cmp (in_order node_item nodes) entries
+
+-- and the wide
+abbrev pub queued : (nodes : List (Reverse ℕ)) → (entries wide : List Item) → List Item
+queued nodes entries wide = put_all item_cmp wide (narrow nodes entries)
+
+-- each has room for so many, and they hold together no more
+pub record IsQueue (nodes : Pooled) (entries wide : Waiting) (capacity : ℕ) : Type 0 where
+  pub nodes_room : nodes.capacity ≡ capacity
+  pub entries_room : entries.capacity ≡ capacity
+  pub wide_room : wide.capacity ≡ capacity
+  pub few : length (queued (keys_in nodes) entries.items wide.items) ≤ capacity
+  pub low : capacity < 2 ^ 32
   pub high : AllByRecursion (λ x. 2 ^ 64 ≤ x.score) wide.items
-
--- entries of score 0, and others of higher scores
-pub record IsFound (zeros scored : Waiting) (capacity : ℕ) : Type 0 where
-  pub merged : IsMerged zeros scored capacity
-  pub entries : AllByRecursion (λ x. IsEntry x.place) scored.items
-  pub above : AllByRecursion (λ x. 0 < x.score) scored.items
 
 -- ---- in a heap
 
@@ -132,21 +134,21 @@ abbrev pub IsFalling : {X : Type 0} → (X → Item) → List X → Type 0
 IsFalling item [] = Unit {0}
 IsFalling item (x ∷ xs) = AllByRecursion (λ y. is_gt (item_cmp (item y) (item x)) ≡ false) xs × IsFalling item xs
 
--- it is the least score, where there is any
-abbrev pub IsLeastScore : ℕ → List Item → Type 0
-IsLeastScore s [] = Unit {0}
-IsLeastScore s (x ∷ xs) = IsFirstScore s (x ∷ xs)
+-- ---- what a full search finds
 
--- in order, or with the least score known; it has room for so many and holds no more
-pub record IsGathered {A : Type 0} (keys : Vec (Reverse ℕ) A) (least : ℕ) (is_sorted : Bool) (capacity : ℕ)
-    : Type 0 where
-  pub unsorted : is_sorted ≡ false → IsLeastScore least (in_order entry_item keys.items)
-  pub falling : is_sorted ≡ true → IsFalling entry_item keys.items
-  pub room : capacity ≤ vec_capacity keys
-  pub few : length keys.items ≤ capacity
+-- ids of entries of score 0, keys of those of other scores of one word, and the wide
+abbrev pub hits_in : (ids : List (Reverse ℤ)) → (keys : List (Reverse ℕ)) → (wide : List Item) → List Item
+hits_in ids keys wide = put_all item_cmp (in_order zero_item ids) (put_all item_cmp (in_order entry_item keys) wide)
 
--- in order, or not; it has room for so many and holds no more
-pub record HasZeros {A : Type 0} (ids : Vec (Reverse ℤ) A) (is_sorted : Bool) (capacity : ℕ) : Type 0 where
-  pub falling : is_sorted ≡ true → IsFalling zero_item ids.items
-  pub room : capacity ≤ vec_capacity ids
-  pub few : length ids.items ≤ capacity
+-- in order, or not; each has room for so many, and they hold together no more
+pub record HasHits {A B : Type 0} (ids : Vec (Reverse ℤ) A) (keys : Vec (Reverse ℕ) B) (wide : Waiting)
+    (is_sorted : Bool) (capacity : ℕ) : Type 0 where
+  pub ids_fall : is_sorted ≡ true → IsFalling zero_item ids.items
+  pub keys_fall : is_sorted ≡ true → IsFalling entry_item keys.items
+  pub ids_room : capacity ≤ vec_capacity ids
+  pub keys_room : capacity ≤ vec_capacity keys
+  pub wide_room : wide.capacity ≡ capacity
+  pub few : length (hits_in ids.items keys.items wide.items) ≤ capacity
+  pub above : AllByRecursion (λ x. 0 < x.score) (in_order entry_item keys.items)
+  pub high : AllByRecursion (λ x. 2 ^ 64 ≤ x.score) wide.items
+  pub entries : AllByRecursion (λ x. IsEntry x.place) wide.items

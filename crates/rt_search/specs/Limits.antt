@@ -5,9 +5,11 @@ use Rattle.std.specs.Ordering.{is_gt}
 use Rattle.std.specs.declared.cmp.Reverse.{Reverse}
 use Rattle.std.specs.declared.vec.Vec.{Vec}
 use Rattle.rt_search.specs.Items.{Limited, Waiting, item_cmp}
-use Rattle.rt_search.specs.Kept.{IsFalling, entry_item}
+use Rattle.rt_search.specs.Kept.{IsFalling, entry_item, in_order}
+use Rattle.rt_search.specs.Pooling.{keys_in}
+use Rattle.rt_search.specs.Pooling as pooling
 use Rattle.rt_search.specs.declared.entries.Keeping.{Keeping}
-use Rattle.rt_search.specs.declared.entries.Keeping.TheVariants.{Best, Pooled, Hits}
+use Rattle.rt_search.specs.declared.entries.Keeping.TheVariants.{Best, Pooled}
 use Rattle.rt_search.specs.declared.item.Item.{Item}
 use Rattle.rt_search.specs.declared.item.Place.{Place}
 use Rattle.rt_search.specs.declared.item.Place.TheVariants.{Node, Entry}
@@ -71,25 +73,22 @@ pub record IsChosen {A : Type 0} (keys : Vec (Reverse ℕ) A) (wanted : ℕ) : T
   pub low : wanted ≤ 128
   pub room : 128 ≤ vec_capacity keys
 
--- ---- in one of three ways
+-- ---- in one of two ways
 
 -- what is kept
-abbrev pub entries_kept : Keeping → (best : Chosen) → (pooled hits : Waiting) → List Item
-entries_kept Best best pooled hits = best.items
-entries_kept Pooled best pooled hits = pooled.items
-entries_kept Hits best pooled hits = hits.items
+abbrev pub entries_kept : Keeping → (best : Chosen) → (keys : List (Reverse ℕ)) → List Item
+entries_kept Best best keys = best.items
+entries_kept Pooled best keys = in_order entry_item keys
 
 -- and how many are wanted, where no more are kept
 abbrev pub wanted_kept : Keeping → (best : Chosen) → Option ℕ
 wanted_kept Best best = Some best.wanted
 wanted_kept Pooled best = None
-wanted_kept Hits best = None
 
--- each has room for so many, and what is kept fits
-pub record HasEntries (keeping : Keeping) (best : Chosen) (pooled hits : Waiting) (capacity : ℕ) : Type 0 where
-  pub pooled_room : pooled.capacity ≡ capacity
-  pub hits_room : hits.capacity ≡ capacity
-  pub few : length (entries_kept keeping best pooled hits) ≤ capacity
+-- the pool has room for so many, and what is kept fits
+pub record HasEntries (keeping : Keeping) (best : Chosen) (pool : pooling.Pooled) (capacity : ℕ) : Type 0 where
+  pub pool_room : pool.capacity ≡ capacity
+  pub few : length (entries_kept keeping best (keys_in pool)) ≤ capacity
 
 -- without the limit
 abbrev pub unlimited : Limited → Waiting

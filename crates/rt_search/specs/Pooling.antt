@@ -25,11 +25,6 @@ score_in k = k.0 / 2 ^ 64
 abbrev pub IsLowest : ℕ → List (Reverse ℕ) → Type 0
 IsLowest k = AllByRecursion (λ j. is_lt (nat_cmp j.0 k) ≡ false)
 
--- the first, and none of the others is lower
-abbrev pub IsTop : ℕ → List (Reverse ℕ) → Type 0
-IsTop k [] = ⊥
-IsTop k (j ∷ js) = (record { 0 = k } ≡ j) × IsLowest k js
-
 -- one of them has this score
 abbrev pub HasScore : ℕ → List (Reverse ℕ) → Type 0
 HasScore s [] = ⊥

@@ -6,7 +6,7 @@ use Rattle.rt_geo.specs.Laws.{AllAccepted, Extent, IsBoxInside}
 use Rattle.rt_geo.specs.declared.geometry.Verdict.{Verdict}
 use Rattle.rt_geo.specs.declared.geometry.Within.{Within}
 use Rattle.rt_geo.specs.declared.geometry.Within.TheVariants.{Not, Partly, Fully}
-use Rattle.rt_tree.specs.Packed.{Packed, IsSubtree, entries_under, extent_of_node, node_at}
+use Rattle.rt_tree.specs.Packed.{Packed, IsSound, IsSubtree, entries_under, extent_of_node, node_at, root_of}
 use Rattle.rt_tree.specs.Sorting.{put}
 use Rattle.rt_search.specs.Answers.{Answer, answer_cmp, scored}
 use Rattle.rt_search.specs.declared.item.Item.{Item}
@@ -38,6 +38,11 @@ verdict_on score n = record { within = if n.is_full then Fully else Partly; scor
 pub record IsBelow (accepts : Extent → Bool) (score : Extent → ℕ) (extent : Extent) (v : Verdict) : Type 0 where
   pub full : v.within ≡ Fully → AllAccepted accepts extent
   pub least : (b : Extent) → IsBoxInside b extent → accepts b ≡ true → v.score ≤ score b
+
+-- a sound tree, whose root is on this level
+pub record IsRooted (t : Packed) (top : ℕ) : Type 0 where
+  pub sound : IsSound t
+  pub top_is : top ≡ (root_of t).level
 
 -- what holds of a node that may be opened under a verdict
 pub record IsOpenable (t : Packed) (accepts : Extent → Bool) (score : Extent → ℕ) (number : ℕ) (v : Verdict) : Type 0

@@ -6,7 +6,7 @@ ghost use Rattle.rt_tree.specs.Packed.{IsLeafNode, IsSound, extent_of_node, node
 ghost use Rattle.rt_search.specs.Answers.{accepted};
 ghost use Rattle.rt_search.specs.Counting.{IsCountable, accepted_under, found_at_entry, found_in_entries};
 ghost use Rattle.rt_search.specs.Counting.{work_at_child, work_under};
-ghost use Rattle.rt_search.specs.Remaining.{IsBelow, IsOpenable};
+ghost use Rattle.rt_search.specs.Remaining.{IsBelow, IsOpenable, IsRooted};
 ghost use Rattle.rt_search.specs.Work.{asked_by_count, is_divided, its_children, one_node, opened_by_count};
 
 use crate::counts::Count;
@@ -39,8 +39,7 @@ fn count_leaf<G: Geometry>(
     node: Node,
     parent: Parent,
 ) -> u64
-    requires tree { IsSound tree.now }
-    requires top { parent.top ≡ (root_of tree.now).level }
+    requires tree { IsRooted tree.now parent.top }
     requires node { IsLeafNode tree.now node }
     requires below { let g = counted.old.geometry in
         IsBelow (G.accepts g) (G.score g) (extent_of_node node) parent.verdict }
@@ -67,8 +66,7 @@ fn count_under<G: Geometry>(
     number: NodeNo,
     parent: Parent,
 )
-    requires tree { IsSound tree.now }
-    requires top { parent.top ≡ (root_of tree.now).level }
+    requires tree { IsRooted tree.now parent.top }
     requires node { let g = counted.old.geometry in
         IsOpenable tree.now (G.accepts g) (G.score g) number.number parent.verdict }
     requires few { count.old.accepted + (node_at tree.now number.number).size ≤ 2 ^ 32 }
@@ -90,8 +88,8 @@ fn count_under<G: Geometry>(
         count.accepted += count_leaf(tree, counted, node, parent);
         return;
     }
+    let first = node.first;
     let children = tree.child_nodes(node);
-    let first = tree.child_node(number, 0).number();
     for (i, child) in children.iter().enumerate() {
         let info = parent.info(child.bounds, child.layers, child.level);
         let child_number = NodeNo::new(first + i as u32);
@@ -108,8 +106,7 @@ fn count_child<G: Geometry>(
     number: NodeNo,
     info: &Info,
 )
-    requires tree { IsSound tree.now }
-    requires top { info.now.top ≡ (root_of tree.now).level }
+    requires tree { IsRooted tree.now info.now.top }
     requires node { IsCountable tree.now (G.accepts counted.old.geometry) number.number info.now }
     requires few { count.old.accepted + (node_at tree.now number.number).size ≤ 2 ^ 32 }
     requires opened { let g = counted.old.geometry in

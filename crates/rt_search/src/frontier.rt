@@ -6,30 +6,48 @@ ghost use Rattle.std.specs.List.{AllByRecursion};
 ghost use Rattle.std.specs.Ordering.{is_gt};
 ghost use Rattle.rt_search.specs.declared.item.Place.TheVariants as place;
 ghost use Rattle.rt_search.specs.Items.{item_at, item_cmp};
-ghost use Rattle.rt_search.specs.Kept.{offered, taken_item};
+ghost use Rattle.rt_search.specs.Gathering.{AllEntries};
+ghost use Rattle.rt_search.specs.Kept.{IsLeast, offered, taken_entry, taken_item};
 ghost use Rattle.rt_search.specs.Limits.{IsEnough, wanted_after};
 ghost use Rattle.rt_tree.specs.Sorting.{put};
 
-use crate::item::{Taken, WaitingNode};
-use crate::split::Split;
+use crate::hits::Hits;
+use crate::item::{FoundEntry, Taken, WaitingNode};
+use crate::queue::Queue;
 use std::alloc::{AllocError, Global};
 use std::marker::Model;
 
 /// The room in which searches and counts work, one after the other. It is made once, and never grows.
 ///
 /// It is seen as the items that wait in it, in the order in which they are taken out, how many entries are wanted, where
-/// no more are kept, and its capacity. It is one pointer to them, as it is handed on with each query.
+/// no more are kept, what a full search found, and its capacity. It is one pointer to them, as it is handed on with each
+/// query.
 #[derive(Drop)]
 pub struct Frontier {
-    waiting: Box<Split>,
+    rooms: Box<Rooms>,
+}
+
+// What waits in a search, and what a full search finds.
+#[derive(Drop)]
+struct Rooms {
+    queue: Queue,
+    hits: Hits,
 }
 
 impl Model for Frontier {
-    ghost use Rattle.rt_search.specs.Items.{Limited};
+    ghost use Rattle.std.specs.Prelude.{◌≡◌};
+    ghost use Rattle.rt_search.specs.Items.{SearchRoom};
 
-    ghost Value = { Limited };
+    ghost Value = { SearchRoom };
 
-    ghost view = { λ f. f.waiting.value };
+    ghost view = { λ f. let rooms = f.rooms.value in record {
+      items = rooms.queue.items;
+      wanted = rooms.queue.wanted;
+      hits = rooms.hits.items;
+      capacity = rooms.queue.capacity;
+    } };
+
+    ghost invariant = { λ f. f.rooms.value.hits.capacity ≡ f.rooms.value.queue.capacity };
 }
 
 impl Frontier {
@@ -39,15 +57,17 @@ impl Frontier {
         ensures items { IfOk result (λ f. f.items ≡ []) }
         ensures capacity { IfOk result (λ f. f.capacity ≡ capacity) }
     {
-        let waiting = Box::new(alloc, Split::new(alloc, capacity)?)?;
-        Ok(Frontier { waiting })
+        let queue = Queue::new(alloc, capacity)?;
+        let hits = Hits::new(alloc, capacity)?;
+        let rooms = Box::new(alloc, Rooms { queue, hits })?;
+        Ok(Frontier { rooms })
     }
 
     /// How many items it has room for.
     pub fn capacity(&self) -> u32
         ensures { result ≡ self.now.capacity }
     {
-        self.waiting.capacity()
+        self.rooms.queue.capacity()
     }
 
     /// How many items wait in it.
@@ -55,7 +75,7 @@ impl Frontier {
         ensures value { result ≡ length self.now.items }
         ensures room { length self.now.items ≤ self.now.capacity }
     {
-        self.waiting.len()
+        self.rooms.queue.len()
     }
 
     /// Whether nothing waits in it.
@@ -71,18 +91,20 @@ impl Frontier {
         ensures wanted { IfSome self.new.wanted (λ n. limit ≡ Some n) }
         ensures capacity { self.new.capacity ≡ self.old.capacity }
     {
-        self.waiting.clear(limit);
+        self.rooms.queue.clear(limit);
     }
 
-    // For a full search, which keeps all, and sorts them once.
+    // For a full search.
     pub(crate) fn clear_for_all(&mut self)
         ensures items { self.new.items ≡ [] }
-        ensures wanted { self.new.wanted ≡ None }
+        ensures hits { self.new.hits ≡ [] }
         ensures capacity { self.new.capacity ≡ self.old.capacity }
     {
-        self.waiting.clear_for_all();
+        self.rooms.queue.clear(None);
+        self.rooms.hits.clear();
     }
 
+    #[inline(always)]
     pub(crate) fn put_node(&mut self, score: u128, node: WaitingNode)
         requires { length self.old.items < self.old.capacity }
         ensures items { IsEnough self.old.wanted self.new.items
@@ -90,18 +112,18 @@ impl Frontier {
         ensures wanted { self.new.wanted ≡ self.old.wanted }
         ensures capacity { self.new.capacity ≡ self.old.capacity }
     {
-        self.waiting.put_node(score, node);
+        self.rooms.queue.put_node(score, node);
     }
 
     #[inline(always)]
-    pub(crate) fn offer_entry(&mut self, is_wanted: bool, score: u128, id: i64)
+    pub(crate) fn put_entry(&mut self, score: u128, id: i64)
         requires { length self.old.items < self.old.capacity }
         ensures items { IsEnough self.old.wanted self.new.items
-            (offered is_wanted (item_at score (place.Entry id)) self.old.items) }
+            (put item_cmp (item_at score (place.Entry id)) self.old.items) }
         ensures wanted { self.new.wanted ≡ self.old.wanted }
         ensures capacity { self.new.capacity ≡ self.old.capacity }
     {
-        self.waiting.offer_entry(is_wanted, score, id);
+        self.rooms.queue.put_entry(score, id);
     }
 
     #[inline(always)]
@@ -114,6 +136,27 @@ impl Frontier {
         ensures wanted { self.new.wanted ≡ wanted_after (taken_item result) self.old.wanted }
         ensures capacity { self.new.capacity ≡ self.old.capacity }
     {
-        self.waiting.take()
+        self.rooms.queue.take()
+    }
+
+    // Keeps what a full search found where it is wanted.
+    #[inline(always)]
+    pub(crate) fn offer_hit(&mut self, is_wanted: bool, score: u128, id: i64)
+        requires { length self.old.hits < self.old.capacity }
+        ensures hits { self.new.hits ≡ offered is_wanted (item_at score (place.Entry id)) self.old.hits }
+        ensures capacity { self.new.capacity ≡ self.old.capacity }
+    {
+        self.rooms.hits.offer(is_wanted, score, id);
+    }
+
+    #[inline(always)]
+    pub(crate) fn take_hit(&mut self) -> Option<FoundEntry>
+        ensures hits { MatchOption (taken_entry result) (self.old.hits ≡ []) (λ x. self.old.hits ≡ x ∷ self.new.hits) }
+        ensures none { IfNone (taken_entry result) (self.new.hits ≡ []) }
+        ensures least { IfSome (taken_entry result) (λ x. IsLeast x self.new.hits) }
+        ensures entries { AllEntries self.old.hits }
+        ensures capacity { self.new.capacity ≡ self.old.capacity }
+    {
+        self.rooms.hits.take()
     }
 }

@@ -24,7 +24,6 @@ pub struct FullSearch<'a, G: Geometry> {
 }
 
 impl<'a, G: Geometry> Model for FullSearch<'a, G> {
-    ghost use Rattle.rt_search.specs.Gathering.{AllEntries};
     ghost use Rattle.rt_search.specs.Remaining.{remaining};
     ghost use Rattle.rt_search.specs.Searching.{FullSearching};
 
@@ -33,13 +32,11 @@ impl<'a, G: Geometry> Model for FullSearch<'a, G> {
     ghost view = { λ s. let g = s.counted.geometry in record {
       tree = s.tree.now;
       geometry = g;
-      to_come = remaining s.tree.now (G.accepts g) (G.score g) s.frontier.items;
+      to_come = remaining s.tree.now (G.accepts g) (G.score g) s.frontier.hits;
       opened = s.opened;
       asked = s.counted.asked;
       capacity = s.frontier.capacity;
     } };
-
-    ghost invariant = { λ s. AllEntries s.frontier.items };
 }
 
 impl<'a, G: Geometry> FullSearch<'a, G> {
@@ -69,6 +66,13 @@ impl<'a, G: Geometry> FullSearch<'a, G> {
         }
     }
 
+    /// How many nodes were opened.
+    pub fn opened(&self) -> u64
+        ensures { result ≡ self.now.opened }
+    {
+        self.opened
+    }
+
     /// The next answer, as its id and score. `None` where none is left, and from then on.
     pub fn next(&mut self) -> Option<(i64, u128)>
         ensures answer { MatchOption result (self.old.to_come ≡ []) (λ a. self.old.to_come ≡ a ∷ self.new.to_come) }
@@ -79,16 +83,8 @@ impl<'a, G: Geometry> FullSearch<'a, G> {
         ensures geometry { self.new.geometry ≡ self.old.geometry }
         ensures capacity { self.new.capacity ≡ self.old.capacity }
     {
-        // (no node waits)
-        let entry = self.frontier.take().entry?;
+        let entry = self.frontier.take_hit()?;
         Some((entry.id, entry.score))
-    }
-
-    /// How many nodes were opened.
-    pub fn opened(&self) -> u64
-        ensures { result ≡ self.now.opened }
-    {
-        self.opened
     }
 
     /// The frontier, for the next search, and the geometry with the number of its checks.

@@ -7,6 +7,10 @@
 //! many nodes a search opens. A search works in the room of a [`Frontier`] that was made beforehand, a count in none, and
 //! neither takes memory.
 //!
+//! Words: an entry is a box of the table with its id and layer, a node a subtree with its bounds. To check is to ask the
+//! geometry for its verdict on one of them; to open a node is to check its children. What is accepted or may hold what is,
+//! waits in the frontier as an item, with a score. A hit is an entry that a full search found.
+//!
 //! The definitions that the contracts cite stand in `specs/`: `Answers`, and `Work` for the nodes that are opened and
 //! the checks that are made. Their worked rows stand in `proofs/Rows.antt`.
 #![tactic(auto)]
@@ -16,22 +20,17 @@ mod costing;
 mod counting;
 mod counts;
 mod entries;
-mod found;
 mod frontier;
 mod full_search;
-mod gathered;
 mod gathering;
+mod hits;
 mod item;
 mod keys;
-mod late;
-mod narrow;
-mod nodes;
 mod opening;
 mod pool;
+mod queue;
 mod search;
-mod split;
 mod wide;
-mod zeros;
 
 pub use costing::cost;
 pub use counting::count;

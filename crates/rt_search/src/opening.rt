@@ -5,7 +5,7 @@ ghost use Rattle.rt_geo.specs.Laws.{Extent, IsHonest};
 ghost use Rattle.rt_tree.specs.Packed.{IsLeafNode, IsSound, extent_of_node, node_at, root_of};
 ghost use Rattle.rt_search.specs.Joining.{join_entries, join_entry, join_node, join_nodes, root_items};
 ghost use Rattle.rt_search.specs.Limits.{IsEnough};
-ghost use Rattle.rt_search.specs.Remaining.{IsBelow, IsOpenable, verdict_on};
+ghost use Rattle.rt_search.specs.Remaining.{IsBelow, IsOpenable, IsRooted, verdict_on};
 ghost use Rattle.rt_search.specs.Work.{info_under, is_kept};
 
 use crate::frontier::Frontier;
@@ -73,9 +73,9 @@ pub(crate) fn put_root(tree: &Tree, frontier: &mut Frontier) -> u8
     tree.node(number).level
 }
 
-// Whether what is in this state joins the frontier.
+/// Whether what is in this state is kept.
 #[inline(always)]
-fn is_kept(within: Within) -> bool
+pub(crate) fn is_kept(within: Within) -> bool
     ensures { result ≡ is_kept within }
 {
     match within {
@@ -102,7 +102,9 @@ fn ask_entry<G: Geometry>(
     ensures asked { counted.new.asked ≡ counted.old.asked + 1 }
 {
     let verdict = counted.check(info);
-    frontier.offer_entry(is_kept(verdict.within), verdict.score, id);
+    if is_kept(verdict.within) {
+        frontier.put_entry(verdict.score, id);
+    }
 }
 
 fn ask_node<G: Geometry>(
@@ -137,8 +139,7 @@ pub(crate) fn open_leaf<G: Geometry>(
     node: Node,
     parent: Parent,
 )
-    requires tree { IsSound tree.now }
-    requires top { parent.top ≡ (root_of tree.now).level }
+    requires tree { IsRooted tree.now parent.top }
     requires node { IsLeafNode tree.now node }
     requires below { let g = counted.old.geometry in
         IsBelow (G.accepts g) (G.score g) (extent_of_node node) parent.verdict }
@@ -168,8 +169,7 @@ pub(crate) fn open_inner<G: Geometry>(
     number: NodeNo,
     parent: Parent,
 )
-    requires tree { IsSound tree.now }
-    requires top { parent.top ≡ (root_of tree.now).level }
+    requires tree { IsRooted tree.now parent.top }
     requires node { let g = counted.old.geometry in
         IsOpenable tree.now (G.accepts g) (G.score g) number.number parent.verdict }
     requires level { 2 ≤ (node_at tree.now number.number).level }
@@ -184,8 +184,8 @@ pub(crate) fn open_inner<G: Geometry>(
     ensures asked { counted.new.asked ≡ counted.old.asked + (node_at tree.now number.number).count }
 {
     let node = tree.node(number);
+    let first = node.first;
     let children = tree.child_nodes(node);
-    let first = tree.child_node(number, 0).number();
     for (i, child) in children.iter().enumerate() {
         let info = parent.info(child.bounds, child.layers, child.level);
         let child_number = NodeNo::new(first + i as u32);

@@ -4,7 +4,7 @@ ghost use Rattle.std.specs.Prelude.{◌≡◌, ◌<◌, ◌≤◌, ◌++◌, ℕ
 ghost use Rattle.std.specs.BinaryHeap.{heap_capacity, heap_items};
 ghost use Rattle.std.specs.List.{AllByRecursion};
 ghost use Rattle.std.specs.List.Sorted.{IsPermutation};
-ghost use Rattle.rt_search.specs.Pooling.{HasLeastScore, IsFar, IsLowest, IsNear, IsTop, keys_in};
+ghost use Rattle.rt_search.specs.Pooling.{HasLeastScore, IsFar, IsLowest, IsNear, keys_in};
 
 use crate::keys::{lesser, score_of};
 use std::alloc::{AllocError, Global};
@@ -99,20 +99,6 @@ impl Pool {
             return self.least;
         };
         Some(score_of(top.0))
-    }
-
-    /// The least key.
-    #[inline(always)]
-    pub fn first(&mut self) -> Option<u128>
-        ensures first { MatchOption result (keys_in self.new ≡ []) (λ k. IsTop k (keys_in self.new)) }
-        ensures same { IsPermutation (keys_in self.old) (keys_in self.new) }
-        ensures capacity { self.new.capacity ≡ self.old.capacity }
-    {
-        self.fill();
-        let Some(top) = self.near.peek() else {
-            return None;
-        };
-        Some(top.0)
     }
 
     #[inline(always)]

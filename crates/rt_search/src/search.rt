@@ -6,7 +6,7 @@ ghost use Rattle.rt_tree.specs.Packed.{IsSound, node_at, root_of};
 ghost use Rattle.rt_search.specs.Answers.{Answer, answers};
 ghost use Rattle.rt_search.specs.Limits.{IsEnough, one_less};
 ghost use Rattle.rt_search.specs.Progress.{IsFound, IsOver, IsUnderWay, join_children};
-ghost use Rattle.rt_search.specs.Remaining.{IsOpenable, verdict_on};
+ghost use Rattle.rt_search.specs.Remaining.{IsOpenable, IsRooted, verdict_on};
 ghost use Rattle.rt_search.specs.Work.{HasWorked};
 
 use crate::frontier::Frontier;
@@ -21,21 +21,17 @@ fn open_node<G: Geometry>(
     tree: &Tree,
     frontier: &mut Frontier,
     counted: &mut Counted<'_, G>,
-    opened: &mut u64,
     top: u8,
     taken: ScoredNode,
 )
-    requires tree { IsSound tree.now }
-    requires top { top ≡ (root_of tree.now).level }
+    requires tree { IsRooted tree.now top }
     requires node { let g = counted.old.geometry in
         IsOpenable tree.now (G.accepts g) (G.score g) taken.node.number.number (verdict_on taken.score taken.node) }
     requires room { length frontier.old.items + (node_at tree.now taken.node.number.number).count
         ≤ frontier.old.capacity }
-    requires opened { opened.old < 2 ^ 32 }
     requires asked { counted.old.asked + (node_at tree.now taken.node.number.number).count ≤ 2 ^ 32 }
     ensures items { IsEnough frontier.old.wanted frontier.new.items
         (join_children (G.verdict counted.old.geometry) tree.now taken.score taken.node frontier.old.items) }
-    ensures opened { opened.new ≡ opened.old + 1 }
     ensures asked { counted.new.asked ≡ counted.old.asked + (node_at tree.now taken.node.number.number).count }
     ensures wanted { frontier.new.wanted ≡ frontier.old.wanted }
     ensures capacity { frontier.new.capacity ≡ frontier.old.capacity }
@@ -43,7 +39,6 @@ fn open_node<G: Geometry>(
 {
     let node = tree.node(taken.node.number);
     let parent = Parent::new(top, taken.score, taken.node);
-    *opened += 1;
     if node.level == 1 {
         open_leaf(tree, frontier, counted, node, parent);
         return;
@@ -82,7 +77,8 @@ fn pull<G: Geometry>(
             let entry = taken.entry?;
             return Some((entry.id, entry.score));
         };
-        open_node(tree, frontier, counted, opened, top, node);
+        *opened += 1;
+        open_node(tree, frontier, counted, top, node);
     }
 }
 

@@ -1,4 +1,4 @@
-//! The items of a frontier whose score is more than one word.
+//! Items whose score is more than one word.
 
 ghost use Rattle.std.specs.Prelude.{◌≡◌, ◌<◌, ◌≤◌, [], ◌∷◌, IfNone, IfOk, IfSome, MatchOption, length};
 ghost use Rattle.rt_search.specs.Items.{item_cmp};
@@ -11,7 +11,10 @@ use std::cmp::Reverse;
 use std::collections::BinaryHeap;
 use std::marker::Model;
 
-/// Items, as they are, in a heap.
+/// The least score of more than one word.
+pub const WIDE: u128 = 1 << 64;
+
+/// Items, as they are, in a heap. Squares of distances reach one bit beyond a word, so that these are rare.
 ///
 /// It is seen as these items, in order, and its capacity.
 #[derive(Drop)]
@@ -55,6 +58,9 @@ impl Wide {
         self.heap.clear();
     }
 
+    // Out of line, as wide items are rare.
+    #[cold]
+    #[inline(never)]
     pub fn put(&mut self, item: Item)
         requires { length self.old.items < self.old.capacity }
         ensures items { self.new.items ≡ put item_cmp item self.old.items }
@@ -65,6 +71,7 @@ impl Wide {
     }
 
     // Out of line, as wide items are rare.
+    #[cold]
     #[inline(never)]
     pub fn take(&mut self) -> Option<Item>
         ensures items { MatchOption result (self.old.items ≡ []) (λ x. self.old.items ≡ x ∷ self.new.items) }

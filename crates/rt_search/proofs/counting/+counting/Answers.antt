@@ -33,11 +33,11 @@ count_under-overflow_add-count-then-node-eq1 g t c =
     let small : v.score < 2 ^ 128 = search rules in
     let is = c.node-node.ensures in
     let found = leaf_found (g.G.Geometry.accepts geometry) (g.G.Geometry.score geometry) verdict
-    (g.met.G.Geometry.lawful geometry) tree c.requires.tree v small c.args.number.number c.requires.node
+    (g.met.G.Geometry.lawful geometry) tree c.requires.tree.sound v small c.args.number.number c.requires.node
     (sym (ap (λ n. n.level) is) ∙ c.if-node-eq1.true) in
     let counted = c.count_leaf.ensures.found ∙ ap (λ n. found_in_entries verdict tree v n n.count) is ∙ sym found in
     let few = under_few (g.G.Geometry.accepts geometry) (g.G.Geometry.score geometry) verdict
-    (g.met.G.Geometry.lawful geometry) tree c.requires.tree v small c.args.number.number c.requires.node in
+    (g.met.G.Geometry.lawful geometry) tree c.requires.tree.sound v small c.args.number.number c.requires.node in
     let room = c.requires.few in
     let low : c.args.count.now.accepted + c.count_leaf.result ≤ 2 ^ 32 = omega (arith, counted, few, room) in
     search (rules, low)
@@ -51,7 +51,7 @@ count_under-returns-then-node-eq1-clause-accepted g t c =
     let small : v.score < 2 ^ 128 = search rules in
     let is = c.node-node.ensures in
     let found = leaf_found (g.G.Geometry.accepts geometry) (g.G.Geometry.score geometry) verdict
-    (g.met.G.Geometry.lawful geometry) tree c.requires.tree v small c.args.number.number c.requires.node
+    (g.met.G.Geometry.lawful geometry) tree c.requires.tree.sound v small c.args.number.number c.requires.node
     (sym (ap (λ n. n.level) is) ∙ c.if-node-eq1.true) in
     let counted = c.count_leaf.ensures.found ∙ ap (λ n. found_in_entries verdict tree v n n.count) is ∙ sym found in
     omega (arith, counted)
@@ -75,7 +75,7 @@ count_under-count_child-requires g t c κs within =
     let is = c.node-node.ensures in
     let high = is_high tree number c.node-node.result c.requires.node.tree is c.if-node-eq1.false in
     let child = c.new-child_number.result.number in
-    let first = c.number-first.ensures ∙ c.child_node.ensures.value in
+    let first = ap (λ n. n.first) c.node-node.ensures in
     let new = c.new-child_number.ensures in
     let at : child ≡ (node_at tree number).first + c.loop-i.i = omega (arith, first, new) in
     let read = child_read tree number c.loop-i.i child c.node-node.result c.index-children-i.result
@@ -84,11 +84,11 @@ count_under-count_child-requires g t c κs within =
     let lt = read.few in
     let info_is : c.info-info.result ≡ info_of_node tree v (node_at tree child) =
     c.info-info.ensures
-    ∙ ap (λ top. info_under top v (extent_of_node c.index-children-i.result) c.index-children-i.result.level) c.requires.top
+    ∙ ap (λ top. info_under top v (extent_of_node c.index-children-i.result) c.index-children-i.result.level) c.requires.tree.top_is
     ∙ ap (info_of_node tree v) read.is in
     let inv = c.loop-i.invariant in
     let can = can_ask (g.G.Geometry.accepts geometry) (g.G.Geometry.score geometry) (g.G.Geometry.verdict geometry)
-    law tree c.requires.tree v small number c.requires.node high c.loop-i.i child c.args.count.now.accepted
+    law tree c.requires.tree.sound v small number c.requires.node high c.loop-i.i child c.args.count.now.accepted
     c.loop-i.count.accepted c.args.count.now.opened c.loop-i.count.opened c.args.counted.now.asked
     c.loop-i.counted.asked c.info-info.result lt at info_is inv.accepted inv.opened
     inv.asked c.requires.few c.requires.opened c.requires.asked in
@@ -98,11 +98,11 @@ count_under-count_child-requires g t c κs within =
       (
         within,
         (
-          c.requires.tree,
-          (
-            top ∙ c.requires.top,
-            rw inv.geometry (can.node, (can.few, (can.opened_few, can.asked_few))),
-          ),
+          record {
+            sound = c.requires.tree.sound;
+            top_is = top ∙ c.requires.tree.top_is;
+          },
+          rw inv.geometry (can.node, (can.few, (can.opened_few, can.asked_few))),
         ),
       ),
     )
@@ -115,7 +115,7 @@ count_under-loop-i-preserved g t c =
     let is = c.node-node.ensures in
     let high = is_high tree number c.node-node.result c.requires.node.tree is c.if-node-eq1.false in
     let child = c.new-child_number.result.number in
-    let first = c.number-first.ensures ∙ c.child_node.ensures.value in
+    let first = ap (λ n. n.first) c.node-node.ensures in
     let new = c.new-child_number.ensures in
     let at : child ≡ (node_at tree number).first + c.loop-i.i = omega (arith, first, new) in
     let read = child_read tree number c.loop-i.i child c.node-node.result c.index-children-i.result
@@ -123,7 +123,7 @@ count_under-loop-i-preserved g t c =
     c.index-children-i.is at in
     let info_is : c.info-info.result ≡ info_of_node tree v (node_at tree child) =
     c.info-info.ensures
-    ∙ ap (λ top. info_under top v (extent_of_node c.index-children-i.result) c.index-children-i.result.level) c.requires.top
+    ∙ ap (λ top. info_under top v (extent_of_node c.index-children-i.result) c.index-children-i.result.level) c.requires.tree.top_is
     ∙ ap (info_of_node tree v) read.is in
     let inv = c.loop-i.invariant in
     let e = rw inv.geometry at c.count_child.ensures in
@@ -155,7 +155,7 @@ count_under-returns-clause-accepted g t c =
     let over = c.loop-i-test.false in
     let i_is : c.loop-i.i ≡ (node_at tree number).count = omega (arith, count, over, c.loop-i.auto.i-end) in
     let found = inner_found (g.G.Geometry.accepts geometry) (g.G.Geometry.score geometry)
-    (g.G.Geometry.verdict geometry) law tree c.requires.tree v small number c.requires.node high in
+    (g.G.Geometry.verdict geometry) law tree c.requires.tree.sound v small number c.requires.node high in
     let inv = rw i_is at c.loop-i.invariant.accepted in
     omega (arith, inv, found)
 
@@ -174,7 +174,7 @@ count_under-returns-clause-opened g t c =
     let over = c.loop-i-test.false in
     let i_is : c.loop-i.i ≡ (node_at tree number).count = omega (arith, count, over, c.loop-i.auto.i-end) in
     let work = inner_work (g.G.Geometry.accepts geometry) (g.G.Geometry.score geometry)
-    (g.G.Geometry.verdict geometry) law tree c.requires.tree v small number c.requires.node high is_divided one_node in
+    (g.G.Geometry.verdict geometry) law tree c.requires.tree.sound v small number c.requires.node high is_divided one_node in
     let inv = rw i_is at c.loop-i.invariant.opened in
     omega (arith, inv, work)
 
@@ -193,6 +193,6 @@ count_under-returns-clause-asked g t c =
     let over = c.loop-i-test.false in
     let i_is : c.loop-i.i ≡ (node_at tree number).count = omega (arith, count, over, c.loop-i.auto.i-end) in
     let work = inner_work (g.G.Geometry.accepts geometry) (g.G.Geometry.score geometry)
-    (g.G.Geometry.verdict geometry) law tree c.requires.tree v small number c.requires.node high is_divided its_children in
+    (g.G.Geometry.verdict geometry) law tree c.requires.tree.sound v small number c.requires.node high is_divided its_children in
     let inv = rw i_is at c.loop-i.invariant.asked in
     omega (arith, inv, work)

@@ -11,7 +11,7 @@ count_entry-found-requires-clause-honest g c =
     let e = c.entry-entry.result in
     let read = get_or_from_slice_get c.args.tree.now.entries (c.args.node.first + c.loop-i.i) e e
     c.entry-entry.ensures in
-    let k = leaf_at c.args.tree.now c.args.node c.loop-i.i e c.requires.tree.table c.requires.node
+    let k = leaf_at c.args.tree.now c.args.node c.loop-i.i e c.requires.tree.sound.table c.requires.node
     c.loop-i-test.true read in
     rw c.loop-i.invariant.geometry
     (honest_child (g.G.Geometry.accepts c.args.counted.now.geometry)
@@ -24,12 +24,12 @@ loop-i-preserved g c =
     let e = c.entry-entry.result in
     let read = get_or_from_slice_get c.args.tree.now.entries (c.args.node.first + c.loop-i.i) e e
     c.entry-entry.ensures in
-    let k = leaf_at c.args.tree.now c.args.node c.loop-i.i e c.requires.tree.table c.requires.node
+    let k = leaf_at c.args.tree.now c.args.node c.loop-i.i e c.requires.tree.sound.table c.requires.node
     c.loop-i-test.true read in
     let is = k.is ∙ get_or_default (child_entries c.args.tree.now c.args.node) c.loop-i.i e no_entry k.place in
     let v = c.loop-i.invariant in
     let h = rw v.geometry at c.count_entry-found.ensures in
-    let one = rw is at (rw (c.info-info.ensures, c.requires.top, c.of.ensures.value) at h.found) in
+    let one = rw is at (rw (c.info-info.ensures, c.requires.tree.top_is, c.of.ensures.value) at h.found) in
     let few = h.one in
     record {
       found = rw add-one (omega (arith, one));

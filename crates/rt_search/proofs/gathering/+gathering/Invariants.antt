@@ -18,8 +18,7 @@ invariant-gather_under-loop-i g l =
     let n = node_at l.tree l.fn.number.number in
     record {
       gathered : HasGatheredUpto (g.G.Geometry.accepts geometry) (g.G.Geometry.score geometry) l.tree l.fn.number.number
-          l.i l.initial.frontier.items l.frontier.items;
-      unlimited : l.frontier.wanted ≡ None;
+          l.i l.initial.frontier.hits l.frontier.hits;
       opened : l.opened ≡ l.initial.opened
           + over_children (work_of_child (is_reached None) one_node verdict l.tree l.parent.verdict) n l.i;
       asked : l.counted.asked ≡ l.initial.counted.asked + l.i

@@ -9,7 +9,7 @@ gather_under-requires-clause-room g c =
     c.args.tree.now c.in-Some.ensures.sound c.in-Some.number.number c.new-parent.result.verdict
     c.in-Some.ensures.number c.new-parent.ensures.verdict).few in
     let room = c.requires.capacity in
-    rw (c.clear_for_all.ensures.items, c.clear_for_all.ensures.capacity) (omega (arith, few, room))
+    rw (c.clear_for_all.ensures.hits, c.clear_for_all.ensures.capacity) (omega (arith, few, room))
 
 pub gather_under-requires-clause-opened : goal.gather_under-requires-clause-opened
 gather_under-requires-clause-opened g c =
@@ -33,5 +33,5 @@ returns-clause-answers g c =
     let geometry = c.args.counted.now.geometry in
     (gatherable (g.G.Geometry.accepts geometry) (g.G.Geometry.score geometry) (g.G.Geometry.verdict geometry)
     c.args.tree.now c.in-Some.ensures.sound c.in-Some.number.number c.new-parent.result.verdict
-    c.in-Some.ensures.number c.new-parent.ensures.verdict).answers_are c.gather_under.new.frontier.items
-    (rw c.clear_for_all.ensures.items at c.gather_under.ensures.gathered)
+    c.in-Some.ensures.number c.new-parent.ensures.verdict).answers_are c.gather_under.new.frontier.hits
+    (rw c.clear_for_all.ensures.hits at c.gather_under.ensures.gathered)

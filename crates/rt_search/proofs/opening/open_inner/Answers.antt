@@ -10,7 +10,7 @@ use Rattle.rt_search.proofs.opening.open_inner.Goals as goal
 
 pub ask_node-requires-clause-honest : goal.ask_node-requires-clause-honest
 ask_node-requires-clause-honest g c =
-    let first = c.number-first.ensures ∙ c.child_node.ensures.value in
+    let first = ap (λ n. n.first) c.node-node.ensures in
     let new = c.new-child_number.ensures in
     let number : c.new-child_number.result.number
     ≡ (node_at c.args.tree.now c.args.number.number).first + c.loop-i.i = omega (arith, first, new) in
@@ -40,7 +40,7 @@ ask_node-requires-clause-room g c =
 
 pub loop-i-preserved : goal.loop-i-preserved
 loop-i-preserved g c =
-    let first = c.number-first.ensures ∙ c.child_node.ensures.value in
+    let first = ap (λ n. n.first) c.node-node.ensures in
     let new = c.new-child_number.ensures in
     let number : c.new-child_number.result.number
     ≡ (node_at c.args.tree.now c.args.number.number).first + c.loop-i.i = omega (arith, first, new) in
@@ -52,7 +52,7 @@ loop-i-preserved g c =
     let h = rw (v.geometry, v.wanted) at c.ask_node.ensures in
     record {
       items = rw add-one (enough_node c.args.frontier.now.wanted _ _ _ _ _ v.items
-          (rw number at (rw k.is at (rw (c.info-info.ensures, c.requires.top) at h.items))));
+          (rw number at (rw k.is at (rw (c.info-info.ensures, c.requires.tree.top_is) at h.items))));
       wanted = h.wanted;
       capacity = h.capacity ∙ v.capacity;
       geometry = h.geometry;

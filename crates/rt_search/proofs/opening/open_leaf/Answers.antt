@@ -12,7 +12,7 @@ use Rattle.rt_search.proofs.opening.open_leaf.Goals as goal
 pub ask_entry-requires-clause-honest : goal.ask_entry-requires-clause-honest
 ask_entry-requires-clause-honest g c =
     let k = leaf_read c.args.tree.now c.args.node c.loop-i.i c.index-entries-i.result
-    c.child_entries-entries.result.now c.requires.tree.table c.requires.node c.child_entries-entries.ensures
+    c.child_entries-entries.result.now c.requires.tree.sound.table c.requires.node c.child_entries-entries.ensures
     c.loop-i-test.true c.index-entries-i.is in
     let layers = subst (λ o. IfSome o (λ e. c.layers_at-layers.result ≡ (extent_of_entry e).layers)) k.found
     c.layers_at-layers.ensures in
@@ -54,7 +54,7 @@ pub loop-i-preserved : goal.loop-i-preserved
 loop-i-preserved g c =
     let i = c.loop-i.i in
     let k = leaf_read c.args.tree.now c.args.node i c.index-entries-i.result c.child_entries-entries.result.now
-    c.requires.tree.table c.requires.node c.child_entries-entries.ensures c.loop-i-test.true c.index-entries-i.is in
+    c.requires.tree.sound.table c.requires.node c.child_entries-entries.ensures c.loop-i-test.true c.index-entries-i.is in
     let layers = subst (λ o. IfSome o (λ e. c.layers_at-layers.result ≡ (extent_of_entry e).layers)) k.found
     c.layers_at-layers.ensures in
     let v = c.loop-i.invariant in
@@ -63,7 +63,7 @@ loop-i-preserved g c =
     let items = simp (to_z-of_z, fits) at h.items in
     record {
       items = rw add-one (enough_entry c.args.frontier.now.wanted _ _ _ _ _ v.items
-          (rw (k.is, layers) at (rw (c.info-info.ensures, c.requires.top) at items)));
+          (rw (k.is, layers) at (rw (c.info-info.ensures, c.requires.tree.top_is) at items)));
       wanted = h.wanted;
       capacity = h.capacity ∙ v.capacity;
       geometry = h.geometry;

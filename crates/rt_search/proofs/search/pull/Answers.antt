@@ -1,4 +1,4 @@
-use Rattle.std.proofs.Common.{◌<◌, ◌^◌, ◌∙◌, subst, arith, rules, FitsSigned, w64}
+use Rattle.std.proofs.Common.{◌<◌, ◌^◌, ◌∙◌, refl, subst, arith, rules, FitsSigned, w64}
 use Rattle.std.proofs.lemmas.Int.{to_z-of_z}
 use Rattle.rt_search.specs.Limits.{IsEnough}
 use Rattle.rt_search.specs.Progress.{join_children}
@@ -18,7 +18,7 @@ open_node-requires-clause-tree g c =
     c.loop-node.frontier.capacity c.loop-node.frontier.wanted c.requires.state.0 n.score n.node c.loop-node.frontier.items
     c.take-taken.new.self.items small (still_more _ _ v.wanted c.requires.more)
     (node_out c.take-taken.result n _ _ c.in-Some.is e.items) (v.state c.requires.state.0 c.requires.state.1) in
-    k.tree
+    record { sound = k.tree; top_is = c.requires.top }
 
 pub open_node-requires-clause-node : goal.open_node-requires-clause-node
 open_node-requires-clause-node g c =
@@ -48,8 +48,8 @@ open_node-requires-clause-room g c =
     (node_out c.take-taken.result n _ _ c.in-Some.is e.items) (v.state c.requires.state.0 c.requires.state.1) in
     rw e.capacity k.room
 
-pub open_node-requires-clause-opened : goal.open_node-requires-clause-opened
-open_node-requires-clause-opened g c =
+pub overflow_add-opened : goal.overflow_add-opened
+overflow_add-opened g c =
     let geometry = c.args.counted.now.geometry in
     let v = c.loop-node.invariant in
     let e = c.take-taken.ensures in
@@ -88,7 +88,7 @@ loop-node-smaller g c =
     c.loop-node.frontier.capacity c.loop-node.frontier.wanted c.requires.state.0 n.score n.node c.loop-node.frontier.items
     c.take-taken.new.self.items small (still_more _ _ v.wanted c.requires.more)
     (node_out c.take-taken.result n _ _ c.in-Some.is e.items) (v.state c.requires.state.0 c.requires.state.1) in
-    falls_by_one _ _ _ c.open_node.ensures.opened k.opened_upto
+    falls_by_one _ _ _ refl k.opened_upto
 
 pub loop-node-preserved : goal.loop-node-preserved
 loop-node-preserved g c =
@@ -109,7 +109,7 @@ loop-node-preserved g c =
           c.loop-node.frontier.capacity c.loop-node.frontier.wanted to_come n.score n.node c.loop-node.frontier.items
           c.take-taken.new.self.items small (still_more _ _ v.wanted c.requires.more)
           (node_out c.take-taken.result n _ _ c.in-Some.is e.items) (v.state to_come u) in
-          rw (o.opened, o.asked, o.capacity, e.capacity, o.wanted, same) (k.next _ items);
+          rw (o.asked, o.capacity, e.capacity, o.wanted, same) (k.next _ items);
       wanted = o.wanted ∙ same ∙ v.wanted;
       capacity = o.capacity ∙ e.capacity ∙ v.capacity;
       geometry = o.geometry ∙ v.geometry;

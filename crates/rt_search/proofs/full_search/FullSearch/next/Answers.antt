@@ -12,7 +12,8 @@ returns-clause-answer g c =
     let tree = c.self.inside.tree.now in
     let e = c.in_ok-entry.entry in
     let fits : FitsSigned w64 e.id = search rules in
+    let new = c.take_hit.new.self.hits in
     sym (ap (λ s. s.to_come) c.self.view_is)
-    ∙ given accepts score tree c.take.result e c.self.inside.frontier.items c.take.new.self.items c.in_ok-entry.was
-    c.self.invariant c.take.ensures.items c.take.ensures.least
-    ∙ ap (λ (i : ℤ). (i, e.score) ∷ remaining tree accepts score c.take.new.self.items) (sym (to_z-of_z w64 e.id fits))
+    ∙ given accepts score tree e c.self.inside.frontier.hits new c.in_ok-entry.ensures.entries c.in_ok-entry.ensures.hits
+    c.in_ok-entry.ensures.least
+    ∙ ap (λ (i : ℤ). (i, e.score) ∷ remaining tree accepts score new) (sym (to_z-of_z w64 e.id fits))

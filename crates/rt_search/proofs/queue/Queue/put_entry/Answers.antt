@@ -1,0 +1,57 @@
+use Rattle.std.proofs.Common.{ℤ, ◌∙◌, rules, subst, arith, FitsSigned, w64}
+use Rattle.std.proofs.lemmas.Int.{to_z-of_z}
+use Rattle.rt_tree.specs.Sorting.{put}
+use Rattle.rt_search.specs.Items.{item_at, item_cmp}
+use Rattle.rt_search.specs.Kept.{in_order, node_item, queued}
+use Rattle.rt_search.specs.Pooling.{keys_in}
+use Rattle.rt_search.specs.Limits.{IsEnough}
+use Rattle.rt_search.specs.Remaining.{put_all}
+use Rattle.rt_search.specs.declared.item.Place.TheVariants as place
+use Rattle.rt_search.proofs.Limits.{enough_fits, enough_joined}
+use Rattle.rt_search.proofs.Merging.{right_fits}
+use Rattle.rt_search.proofs.queue.Queue.put_entry.Goals as goal
+
+pub put_wide-requires-clause-wide : goal.put_wide-requires-clause-wide
+put_wide-requires-clause-wide c =
+    let t = c.if-score-ge-WIDE.true in
+    omega (arith, t)
+
+pub put-requires : goal.put-requires
+put-requires c =
+    let h = rw (← c.self.view_is) at c.requires in
+    let nodes = in_order node_item (keys_in c.self.inside.nodes) in
+    let entries = c.self.inside.entries.items in
+    let n = c.self.inside.capacity in
+    rw c.self.invariant.entries_room
+    (right_fits nodes entries n (right_fits c.self.inside.wide.items (put_all item_cmp nodes entries) n h))
+
+pub invariant_of-self : goal.invariant_of-self
+invariant_of-self c =
+    let h = rw (← c.self.view_is) at c.requires in
+    let k = c.self.invariant in
+    let e = c.put.ensures in
+    let w = c.self.inside.entries.wanted in
+    record {
+      nodes_room = k.nodes_room;
+      entries_room = e.capacity ∙ k.entries_room;
+      wide_room = k.wide_room;
+      few =
+          enough_fits w _ _ _ _
+          (enough_joined w _ c.self.inside.wide.items _ _ (enough_joined w _ (in_order node_item (keys_in c.self.inside.nodes)) _ _ e.items)) h;
+      low = k.low;
+      high = k.high;
+    }
+
+pub returns-clause-items : goal.returns-clause-items
+returns-clause-items c =
+    let fits : FitsSigned w64 c.args.id = search rules in
+    let w = c.self.inside.entries.wanted in
+    let nodes = in_order node_item (keys_in c.self.inside.nodes) in
+    let wide = c.self.inside.wide.items in
+    let old = c.self.inside.entries.items in
+    let new = c.put.new.self.items in
+    let at : ℤ → _ = λ i. item_at c.args.score (place.Entry i) in
+    subst (λ v. IsEnough v.wanted (queued (keys_in c.self.inside.nodes) new wide) (put item_cmp (at c.args.id) v.items)) c.self.view_is
+    (enough_joined w (at c.args.id) wide (put_all item_cmp nodes old) (put_all item_cmp nodes new)
+    (enough_joined w (at c.args.id) nodes old new
+    (subst (λ i. IsEnough w new (put item_cmp (at i) old)) (to_z-of_z w64 c.args.id fits) c.put.ensures.items)))

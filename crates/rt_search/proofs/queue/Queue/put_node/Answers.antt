@@ -1,0 +1,70 @@
+use Rattle.std.proofs.Common.{◌∙◌, ap, refl, subst, arith}
+use Rattle.rt_tree.specs.Sorting.{put}
+use Rattle.rt_search.specs.Items.{item_at, item_cmp}
+use Rattle.rt_search.specs.Limits.{IsEnough}
+use Rattle.rt_search.specs.Kept.{in_order, node_item}
+use Rattle.rt_search.specs.Pooling.{keys_in}
+use Rattle.rt_search.specs.Remaining.{put_all}
+use Rattle.rt_search.specs.declared.item.Place.TheVariants as place
+use Rattle.rt_search.proofs.Heaps.{length-in_order, pushed}
+use Rattle.rt_search.proofs.Limits.{enough_beyond, enough_same}
+use Rattle.rt_search.proofs.Merging.{joined_fits, left_fits, put-put_all, right_fits}
+use Rattle.rt_search.proofs.OrderedLists.{put_all-put}
+use Rattle.rt_search.proofs.Orders.{item_order}
+use Rattle.rt_search.proofs.queue.Queue.put_node.Goals as goal
+
+pub put_wide-requires-clause-wide : goal.put_wide-requires-clause-wide
+put_wide-requires-clause-wide c =
+    let t = c.if-score-ge-WIDE.true in
+    omega (arith, t)
+
+pub put-requires : goal.put-requires
+put-requires c =
+    let h = rw (← c.self.view_is) at c.requires in
+    let keys = keys_in c.self.inside.nodes in
+    let nodes = in_order node_item keys in
+    let entries = c.self.inside.entries.items in
+    let n = c.self.inside.capacity in
+    let fits = left_fits nodes entries n (right_fits c.self.inside.wide.items (put_all item_cmp nodes entries) n h) in
+    let long = length-in_order node_item keys in
+    let room = c.self.invariant.nodes_room in
+    omega (arith, fits, long, room)
+
+pub invariant_of-self : goal.invariant_of-self
+invariant_of-self c =
+    let h = rw (← c.self.view_is) at c.requires in
+    let k = c.self.invariant in
+    let e = c.put.ensures in
+    let nodes = in_order node_item (keys_in c.self.inside.nodes) in
+    let entries = c.self.inside.entries.items in
+    let wide = c.self.inside.wide.items in
+    let same = ap (λ xs. put_all item_cmp wide (put_all item_cmp xs entries)) (pushed node_item _ _ _ e.keys)
+    ∙ ap (put_all item_cmp wide) (put-put_all item_cmp item_order _ nodes entries)
+    ∙ put_all-put item_cmp item_order wide _ (put_all item_cmp nodes entries) in
+    record {
+      nodes_room = e.capacity ∙ k.nodes_room;
+      entries_room = k.entries_room;
+      wide_room = k.wide_room;
+      few = joined_fits _ _ _ _ same h;
+      low = k.low;
+      high = k.high;
+    }
+
+pub returns-then-is_beyond-clause-items : goal.returns-then-is_beyond-clause-items
+returns-then-is_beyond-clause-items c =
+    let x = item_at c.args.score (place.Node c.args.node) in
+    subst (λ v. IsEnough v.wanted v.items (put item_cmp x v.items)) c.self.view_is
+    (enough_beyond c.self.inside.entries.wanted x (keys_in c.self.inside.nodes) c.self.inside.entries.items
+    c.self.inside.wide.items (c.if-is_beyond.ensures refl x refl))
+
+pub returns-clause-items : goal.returns-clause-items
+returns-clause-items c =
+    let nodes = in_order node_item (keys_in c.self.inside.nodes) in
+    let entries = c.self.inside.entries.items in
+    let wide = c.self.inside.wide.items in
+    enough_same c.args.self.now.wanted _ _
+    (ap (λ xs. put_all item_cmp wide (put_all item_cmp xs entries))
+    (pushed node_item _ _ _ c.put.ensures.keys ∙ ap (λ x. put item_cmp x nodes) c.node_key.ensures)
+    ∙ ap (put_all item_cmp wide) (put-put_all item_cmp item_order _ nodes entries)
+    ∙ put_all-put item_cmp item_order wide _ (put_all item_cmp nodes entries)
+    ∙ ap (λ w. put item_cmp (item_at c.args.score (place.Node c.args.node)) w.items) c.self.view_is)

@@ -1,0 +1,54 @@
+use Rattle.std.proofs.Common.{◌≤◌, ◌^◌, refl, sym, ◌∙◌, ap, subst}
+use Rattle.std.specs.List.{AllByRecursion}
+use Rattle.rt_tree.specs.Sorting.{put}
+use Rattle.rt_search.specs.Items.{item_at, item_cmp}
+use Rattle.rt_search.specs.Limits.{IsEnough}
+use Rattle.rt_search.specs.Kept.{in_order, node_item}
+use Rattle.rt_search.specs.Pooling.{keys_in}
+use Rattle.rt_search.specs.Remaining.{put_all}
+use Rattle.rt_search.proofs.Limits.{enough_beyond, enough_same}
+use Rattle.rt_search.proofs.Merging.{joined_fits, left_fits, put-put_all}
+use Rattle.rt_search.proofs.OrderedLists.{put-all}
+use Rattle.rt_search.proofs.Orders.{item_order}
+use Rattle.rt_search.proofs.queue.Queue.put_wide.Goals as goal
+
+pub put-requires : goal.put-requires
+put-requires c =
+    let h = rw (← c.self.view_is) at c.requires.room in
+    let narrow = put_all item_cmp (in_order node_item (keys_in c.self.inside.nodes)) c.self.inside.entries.items in
+    rw c.self.invariant.wide_room (left_fits c.self.inside.wide.items narrow c.self.inside.capacity h)
+
+pub invariant_of-self : goal.invariant_of-self
+invariant_of-self c =
+    let h = rw (← c.self.view_is) at c.requires.room in
+    let k = c.self.invariant in
+    let e = c.put.ensures in
+    let narrow = put_all item_cmp (in_order node_item (keys_in c.self.inside.nodes)) c.self.inside.entries.items in
+    let wide = c.self.inside.wide.items in
+    let same = ap (λ xs. put_all item_cmp xs narrow) e.items ∙ put-put_all item_cmp item_order _ wide narrow in
+    record {
+      nodes_room = k.nodes_room;
+      entries_room = k.entries_room;
+      wide_room = e.capacity ∙ k.wide_room;
+      few = joined_fits _ _ _ _ same h;
+      low = k.low;
+      high =
+          subst (AllByRecursion (λ x. 2 ^ 64 ≤ x.score)) (sym e.items)
+          (put-all item_cmp item_order (λ x. 2 ^ 64 ≤ x.score) _ wide c.requires.wide k.high);
+    }
+
+pub returns-then-is_beyond-clause-items : goal.returns-then-is_beyond-clause-items
+returns-then-is_beyond-clause-items c =
+    let x = item_at c.args.score c.args.place in
+    subst (λ v. IsEnough v.wanted v.items (put item_cmp x v.items)) c.self.view_is
+    (enough_beyond c.self.inside.entries.wanted x (keys_in c.self.inside.nodes) c.self.inside.entries.items
+    c.self.inside.wide.items (c.if-is_beyond.ensures refl x refl))
+
+pub returns-clause-items : goal.returns-clause-items
+returns-clause-items c =
+    let narrow = put_all item_cmp (in_order node_item (keys_in c.self.inside.nodes)) c.self.inside.entries.items in
+    let wide = c.self.inside.wide.items in
+    enough_same c.args.self.now.wanted _ _
+    (ap (λ xs. put_all item_cmp xs narrow) c.put.ensures.items
+    ∙ put-put_all item_cmp item_order _ wide narrow
+    ∙ ap (λ v. put item_cmp (item_at c.args.score c.args.place) v.items) c.self.view_is)
