@@ -5,6 +5,7 @@ import os
 import signal
 import subprocess
 import tempfile
+import time
 from collections.abc import Sequence
 
 from .errors import Ended
@@ -12,6 +13,7 @@ from .transport import Text, Transport
 
 LONGEST_ERROR = 1 << 12  # bytes of standard error that are told
 GRACE = 2.0  # seconds that the program has to end by itself
+PAUSES = 0.0005, 0.05  # seconds between two looks whether it has ended, the first and the longest
 
 
 class Program(Transport):
@@ -48,18 +50,37 @@ class Program(Transport):
         told = os.pread(self._errors.fileno(), LONGEST_ERROR, 0)
         return Ended(status, told.decode(errors="replace").strip())
 
+    def _status(self) -> int | None:
+        """The status with which it has ended, if it has.
+
+        It is looked at and left, so that the process's number is no other's until `close` takes it. `Popen.wait` and
+        `Popen.poll` would not do: where a signal's exception comes while they hold their lock, the next call waits for ever.
+        """
+        if self._process.returncode is None:
+            try:
+                ended = os.waitid(os.P_PID, self._process.pid, os.WEXITED | os.WNOHANG | os.WNOWAIT)
+            except ChildProcessError:  # who set SIGCHLD to be ignored is told no status
+                return 0
+            if ended is None:
+                return None
+            return ended.si_status if ended.si_code == os.CLD_EXITED else -ended.si_status
+        return self._process.returncode
+
     def _end(self) -> int:
         """The status with which it ends by itself, soon, or else is killed."""
-        try:
-            return self._process.wait(GRACE)
-        except subprocess.TimeoutExpired:
-            self._end_at_once()
-            return self._process.wait()
+        until = time.monotonic() + GRACE
+        pause, longest = PAUSES
+        while (status := self._status()) is None:
+            if until <= time.monotonic():
+                self._end_at_once()
+            time.sleep(pause)
+            pause = min(2 * pause, longest)
+        return status
 
     def _end_at_once(self) -> None:
         """Kills the process, and those that it has started: a command may run the program as another process, which would
         go on to answer."""
-        if self._process.poll() is None:  # else its number may be another's by now
+        if self._status() is None:  # else its number may be another's by now
             with contextlib.suppress(ProcessLookupError):
                 os.killpg(self._process.pid, signal.SIGKILL)
 
@@ -67,5 +88,9 @@ class Program(Transport):
         """Ends the program, by ending its input. Its status tells nothing new: 1 is that of a faulty line."""
         self._stdin.close()
         self._stdout.close()
-        self._end()
+        status = self._end()
+        if self._process.returncode is None:
+            with contextlib.suppress(ChildProcessError):
+                os.waitpid(self._process.pid, 0)
+            self._process.returncode = status
         self._errors.close()

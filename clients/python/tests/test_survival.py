@@ -200,6 +200,18 @@ class Times(unittest.TestCase):
             with self.assertRaises(Ended):
                 boxes.count(All())
 
+    @mock.patch.object(subprocess.Popen, "poll", side_effect=AssertionError)
+    @mock.patch.object(subprocess.Popen, "wait", side_effect=AssertionError)
+    def test_no_lock_is_waited_for(self, *_: object) -> None:
+        """`Popen` has one that is never given back where an interrupt's exception comes at the wrong moment."""
+        with Rtfilter(BOXES, program=PROGRAM) as boxes:
+            boxes.find(All())
+            boxes.reload()
+        with Rtfilter(BOXES, program=acting("exec sleep 60"), timeout=SOON) as boxes:
+            with self.assertRaises(TimedOut):
+                boxes.count(All())
+            with self.assertRaises(Ended):
+                boxes.count(All())
 
     def test_interrupts_at_any_moment(self) -> None:
         """Whatever they meet, no reply is another line's."""
