@@ -221,15 +221,7 @@ module _ (accepts : Extent → Bool) (score : Extent → ℕ) where
     take_entry i s xs a b =
         put_least answer_cmp answer_order (i, s) (remaining t accepts score xs) (all_least i s xs a b)
 
-    -- ---- an entry or a node that joins
-
-    pub entry_kept : (e : Entry) (s : ℕ) (old new : List Item) → accepts (extent_of_entry e) ≡ true → s
-        ≡ score (extent_of_entry e) → new ≡ put item_cmp (item_at s (place.Entry e.id)) old
-        → remaining t accepts score new ≡ put_all answer_cmp (among (e ∷ [])) (remaining t accepts score old)
-    entry_kept e s old new taken is put_in =
-        ap (remaining t accepts score) put_in ∙ remaining-put (item_at s (place.Entry e.id)) old
-        ∙ ap (λ l. put_all answer_cmp l (remaining t accepts score old))
-        (ap (λ n. answer_at e.id n ∷ []) is ∙ sym (among_accepted e [] taken))
+    -- ---- a node that joins
 
     pub node_kept : (n : WaitingNode) (s : ℕ) (old new : List Item) → new
         ≡ put item_cmp (item_at s (place.Node n)) old → remaining t accepts score new

@@ -17,12 +17,12 @@ use Rattle.rt_geo.specs.declared.geometry.Verdict.{Verdict}
 use Rattle.rt_tree.specs.Entries.{IsTable}
 use Rattle.rt_tree.specs.Leaves.{without_layer}
 use Rattle.rt_tree.specs.Packed.{Packed, IsInnerNode, IsLeafNode, IsSound, IsSubtree, child_entries, child_nodes}
-use Rattle.rt_tree.specs.Packed.{extent_of_node, no_node, node_at}
+use Rattle.rt_tree.specs.Packed.{extent_of_node, no_node, node_at, root_of}
 use Rattle.rt_tree.specs.declared.entries.LeafEntry.{LeafEntry}
 use Rattle.rt_tree.specs.declared.tree.Node.{Node}
 use Rattle.rt_search.specs.Joining.{info_of_child, no_entry}
 use Rattle.rt_search.specs.Remaining.{IsBelow, height_at}
-use Rattle.rt_search.specs.Work.{info_of_node}
+use Rattle.rt_search.specs.Work.{info_of_node, info_under}
 use Rattle.rt_search.proofs.Answering.{IsEntryInside}
 
 -- ---- a part of a list
@@ -175,7 +175,7 @@ child_of t number i k s level lt is =
     subst (λ m. IsChild t n h i m) (sym is) (child_at t n h i (inner_at t (height_at t number) n s level).1 lt)
 
 -- a node that was read, and is not of level 1
-pub is_high : (t : Packed) (number : ℕ) (n : Node) → IsSubtree t (height_at t number) (node_at t number)
+is_high : (t : Packed) (number : ℕ) (n : Node) → IsSubtree t (height_at t number) (node_at t number)
     → n ≡ node_at t number → (n.level ≡ 1 → ⊥) → 2 ≤ (node_at t number).level
 is_high t number n s is above =
     let level = subtree_level t (height_at t number) (node_at t number) s in
@@ -183,38 +183,60 @@ is_high t number n s is above =
     omega (arith, level, same, above)
 
 pub children_inside : (t : Packed) (number : ℕ) (n : Node) → IsSubtree t (height_at t number) (node_at t number)
-    → 2 ≤ (node_at t number).level → n ≡ node_at t number → n.first + n.count ≤ length t.nodes
-children_inside t number n s level is = rw is (inner_at t (height_at t number) (node_at t number) s level).1.range
+    → n ≡ node_at t number → (n.level ≡ 1 → ⊥) → n.first + n.count ≤ length t.nodes
+children_inside t number n s is above =
+    rw is (inner_at t (height_at t number) (node_at t number) s (is_high t number n s is above)).1.range
 
--- how many children are lent
-pub children_count : (t : Packed) (number : ℕ) (n : Node) (lent : List Node)
-    → IsSubtree t (height_at t number) (node_at t number) → 2 ≤ (node_at t number).level → n ≡ node_at t number
-    → lent ≡ child_nodes t n → length lent ≡ (node_at t number).count
-children_count t number n lent s level is children =
-    let m = node_at t number in
-    ap length (children ∙ ap (child_nodes t) is)
-    ∙ part_length t.nodes m.first m.count (inner_at t (height_at t number) m s level).1.range
-
--- a child that is read among them
-pub record IsChildRead (t : Packed) (number i k : ℕ) (x : Node) : Type 0 where
+-- a child that was read and is asked about
+pub record IsAsked (t : Packed) (number i k : ℕ) (x : Node) (v : Verdict) (info : Info) : Type 0 where
   pub few : i < (node_at t number).count
+  pub at : k ≡ (node_at t number).first + i
   pub child : IsChild t (node_at t number) (height_at t number - 1) i k
   pub is : x ≡ node_at t k
+  pub info_is : info ≡ info_of_node t v (node_at t k)
 
-pub child_read : (t : Packed) (number i k : ℕ) (n x : Node) (lent : List Node)
-    → IsSubtree t (height_at t number) (node_at t number) → 2 ≤ (node_at t number).level → n ≡ node_at t number
-    → lent ≡ child_nodes t n → i < length lent → x ≡ get_or lent i x → k ≡ (node_at t number).first + i
-    → IsChildRead t number i k x
-child_read t number i k n x lent s level is children lt read number_is =
-    let few = subst (λ m. i < m) (children_count t number n lent s level is children) lt in
-    let at = child_of t number i k s level few number_is in
-    let same = children ∙ ap (child_nodes t) is in
+-- a node above level 1 that was read, with its children
+pub record HasChildren (t : Packed) (number : ℕ) (n : Node) (children : List Node) : Type 0 where
+  pub high : 2 ≤ (node_at t number).level
+  pub count : length children ≡ (node_at t number).count
+  pub inside : n.first + length children ≤ length t.nodes
+  pub asked : (i k top : ℕ) (x : Node) (v : Verdict) (info : Info) → i < length children → x ≡ get_or children i x
+      → k ≡ n.first + i → top ≡ (root_of t).level → info ≡ info_under top v (extent_of_node x) (n.level - 1)
+      → IsAsked t number i k x v info
+
+pub children_of : (t : Packed) (number : ℕ) (n : Node) (children : List Node)
+    → IsSubtree t (height_at t number) (node_at t number) → n ≡ node_at t number → (n.level ≡ 1 → ⊥)
+    → children ≡ child_nodes t n → HasChildren t number n children
+children_of t number n children s is above lent =
+    let m = node_at t number in
+    let high = is_high t number n s is above in
+    let range = (inner_at t (height_at t number) m s high).1.range in
+    let same = lent ∙ ap (child_nodes t) is in
+    let count = ap length same ∙ part_length t.nodes m.first m.count range in
+    let first = ap (λ l. l.first) is in
     record {
-      few = few;
-      child = at;
-      is =
-          subst (λ l. x ≡ get_or l i x) same read
-          ∙ get_or_default (child_nodes t (node_at t number)) i x (node_at t k) at.place ∙ sym at.is;
+      high = high;
+      count = count;
+      inside = omega (arith, range, count, first);
+      asked = λ i k top x v info lt read number_is top_is info_is.
+          let few = subst (λ l. i < l) count lt in
+          let at : k ≡ m.first + i = omega (arith, first, number_is) in
+          let child = child_of t number i k s high few at in
+          let x_is = subst (λ l. x ≡ get_or l i x) same read
+          ∙ get_or_default (child_nodes t m) i x (node_at t k) child.place ∙ sym child.is in
+          let height = child.height in
+          let some = child.level in
+          let level = ap (λ l. l.level) is in
+          let lower : n.level - 1 ≡ (node_at t k).level = omega (arith, height, some, level) in
+          record {
+            few = few;
+            at = at;
+            child = child;
+            is = x_is;
+            info_is = info_is ∙ ap (λ l. info_under l v (extent_of_node x) (n.level - 1)) top_is
+                ∙ ap (info_under (root_of t).level v (extent_of_node x)) lower
+                ∙ ap (λ l. info_under (root_of t).level v (extent_of_node l) (node_at t k).level) x_is;
+          };
     }
 
 -- all children of a node

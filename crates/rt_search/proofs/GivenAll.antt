@@ -1,10 +1,8 @@
 -- What is given where no node waits, but entries alone.
-use Rattle.std.proofs.Common.{◌≡◌, ℕ, Bool, List, [], ◌∷◌, ◌∙◌, ap, subst}
+use Rattle.std.proofs.Common.{◌≡◌, ℕ, Bool, List, [], ◌∷◌, ◌∙◌, Some, ap, subst}
 use Rattle.rt_geo.specs.Laws.{Extent}
 use Rattle.rt_tree.specs.Packed.{Packed}
-use Rattle.rt_search.specs.Gathering.{AllEntries}
-use Rattle.rt_search.specs.Items.{item_at}
-use Rattle.rt_search.specs.Kept.{IsEntry, IsLeast}
+use Rattle.rt_search.specs.Kept.{AllEntries, IsEntry, IsTakenOut, found_item}
 use Rattle.rt_search.specs.Remaining.{AllSound, IsSoundAt, remaining}
 use Rattle.rt_search.specs.declared.item.FoundEntry.{FoundEntry}
 use Rattle.rt_search.specs.declared.item.Item.{Item}
@@ -21,9 +19,8 @@ module _ (accepts : Extent → Bool) (score : Extent → ℕ) (t : Packed) where
   entries_sound [] all = tt
   entries_sound (x ∷ xs) all = (entry_sound x.score x.place all.0, entries_sound xs all.1)
 
-  pub given : (e : FoundEntry) (items new : List Item) → AllEntries items
-      → items ≡ item_at e.score (place.Entry e.id) ∷ new → IsLeast (item_at e.score (place.Entry e.id)) new
+  pub given : (e : FoundEntry) (items new : List Item) → AllEntries items → IsTakenOut (Some (found_item e)) items new
       → remaining t accepts score items ≡ (e.id, e.score) ∷ remaining t accepts score new
-  given e items new all is least =
-      ap (remaining t accepts score) is
-      ∙ take_entry accepts score t e.id e.score new least (entries_sound new (subst AllEntries is all).1)
+  given e items new all out =
+      ap (remaining t accepts score) out.0
+      ∙ take_entry accepts score t e.id e.score new out.1 (entries_sound new (subst AllEntries out.0 all).1)

@@ -9,7 +9,7 @@ use Rattle.rt_geo.specs.declared.entry.Entry.{Entry}
 use Rattle.rt_geo.specs.declared.geometry.Info.{Info}
 use Rattle.rt_geo.specs.declared.geometry.Verdict.{Verdict}
 use Rattle.rt_tree.specs.Packed.{Packed, IsSound}
-use Rattle.rt_tree.specs.Sorting.{limited, sorted}
+use Rattle.rt_tree.specs.Sorting.{limited}
 use Rattle.rt_tree.specs.declared.tree.Node.{Node}
 use Rattle.rt_search.specs.Answers.{Answer, answer_cmp, answers, scored}
 use Rattle.rt_search.specs.Progress.{IsFound, IsGiving, IsInLimit, IsOver, IsUnderWay}
@@ -48,11 +48,6 @@ take_end (suc k) zero (y ∷ xs) h = cc
 take_end (suc k) (suc g) [] h = refl
 take_end (suc k) (suc g) (y ∷ xs) h = take_end k g xs h
 
-take_all_given : {X : Type 0} (g : ℕ) (xs : List X) → drop g (take g xs) ≡ []
-take_all_given zero xs = refl
-take_all_given (suc g) [] = refl
-take_all_given (suc g) (y ∷ xs) = take_all_given g xs
-
 past_end : {X : Type 0} (xs : List X) (g k : ℕ) → drop g xs ≡ [] → g ≤ k → slice_get xs k ≡ None
 past_end [] g k h le = refl
 past_end (y ∷ xs) zero k h le = cc
@@ -72,9 +67,6 @@ limited_step (Some k) g xs x rest le n h = take_step k g xs x rest (below_limit 
 limited_end : {X : Type 0} (limit : Option ℕ) (g : ℕ) (xs : List X) → drop g xs ≡ [] → drop g (limited limit xs) ≡ []
 limited_end None g xs h = h
 limited_end (Some k) g xs h = take_end k g xs h
-
-limited_given : {X : Type 0} (limit : Option ℕ) (g : ℕ) (xs : List X) → limit ≡ Some g → drop g (limited limit xs) ≡ []
-limited_given limit g xs h = rw h (take_all_given g xs)
 
 next_in_limit : (limit : Option ℕ) (g : ℕ) → IsInLimit limit g → limit ≢ Some g → IsInLimit limit (suc g)
 next_in_limit None g le n = tt
@@ -224,8 +216,3 @@ module _ (accepts : Extent → Bool) (score : Extent → ℕ) (verdict : Info �
         answer = limited_end limit given all over.none;
         worked = worked;
       }
-
-  -- as many were given as are wanted
-  pub at_limit : (limit : Option ℕ) (given : ℕ) → limit ≡ Some given
-      → drop given (answers t.entries accepts score limit) ≡ []
-  at_limit limit given e = limited_given limit given (sorted answer_cmp (scored t.entries accepts score)) e

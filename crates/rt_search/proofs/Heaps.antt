@@ -1,5 +1,5 @@
 -- What is kept in any order, seen as items in order.
-use Rattle.std.proofs.Common.{◌≡◌, ◌<◌, ◌≤◌, ℕ, false, List, [], ◌∷◌, map, length, get_or, sym, ◌∙◌, ap}
+use Rattle.std.proofs.Common.{Some, ◌≡◌, ◌≤◌, ℕ, false, List, [], ◌∷◌, map, length, sym, ◌∙◌, ap}
 use Rattle.std.proofs.Common.{subst, arith, Result, Ok, Err, IsPermutation}
 use Rattle.std.specs.Prelude.{IsOk, OnOk}
 use Rattle.std.specs.List.{AllByRecursion}
@@ -9,7 +9,7 @@ use Rattle.std.proofs.lemmas.List.{length-map}
 use Rattle.std.proofs.lemmas.List.Sorted.{IsPermutation-map}
 use Rattle.rt_tree.specs.Sorting.{put, sorted}
 use Rattle.rt_search.specs.Items.{item_cmp}
-use Rattle.rt_search.specs.Kept.{IsEntry, IsFirstScore, IsHead, IsLeast, IsNode, entry_item, in_order, node_item, wide_item}
+use Rattle.rt_search.specs.Kept.{IsEntry, IsFirstScore, IsHead, IsLeast, IsNode, IsTakenOut, entry_item, in_order, node_item, wide_item}
 use Rattle.rt_search.specs.contracts.item.ItemOrd.TheImpl.{ghosts as item_ghosts}
 use Rattle.rt_search.specs.declared.item.Item.{Item}
 use Rattle.rt_search.proofs.OrderedLists.{length-put_all, put_all-IsPermutation, put_all-all, put_all-nil, put_least}
@@ -76,19 +76,9 @@ module _ {X : Type 0} (item : X → Item) where
       sym (same_order old (top ∷ new) h)
       ∙ put_least item_cmp item_order (item top) (in_order item new) (popped_least top new a)
 
-  -- a heap's top is the first in order
-  pub top_is_head : (xs : List X) (top : X) → 0 < length xs → top ≡ get_or xs 0 top → IsLeastOf item (item top) xs
-      → IsHead (item top) (in_order item xs)
-  top_is_head [] top some h a = absurd (omega (arith, some))
-  top_is_head (x ∷ xs) top some h a =
-      let least : IsLeast (item x) (in_order item xs) =
-      popped_least x xs (subst (λ t. IsLeastOf item (item t) xs) h a.1) in
-      subst (IsHead (item top)) (sym (put_least item_cmp item_order (item x) (in_order item xs) least))
-      (ap item h, subst (λ t. IsLeast (item t) (in_order item xs)) (sym h) least)
-
-  pub top_is_first : (xs : List X) (top : X) → 0 < length xs → top ≡ get_or xs 0 top → IsLeastOf item (item top) xs
-      → IsFirstScore (item top).score (in_order item xs)
-  top_is_first xs top some h a = head_score (item top) (in_order item xs) (top_is_head xs top some h a)
+  pub popped_out : (top : X) (old new : List X) → IsPermutation old (top ∷ new) → IsLeastOf item (item top) new
+      → IsTakenOut (Some (item top)) (in_order item old) (in_order item new)
+  popped_out top old new h a = (popped top old new h a, popped_least top new a)
 
 -- ---- keys and items, by the orders that they derive
 

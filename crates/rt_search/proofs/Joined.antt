@@ -1,40 +1,31 @@
 -- What opening a node means for the answers to come.
 use Rattle.std.proofs.Common.{◌≡◌, ◌<◌, ◌≤◌, ◌+◌, ◌-◌, ◌^◌, ℕ, zero, suc, Bool, true, false, cond, List, [], ◌∷◌}
-use Rattle.std.proofs.Common.{length, take, get_or, refl, sym, ◌∙◌, ap, subst, arith, add-one}
-use Rattle.std.proofs.lemmas.List.{get_or_default, take_all}
-use Rattle.rt_geo.specs.Laws.{Extent, IsLawful, IsQuestion, NoneAccepted, extent_of, extent_of_entry}
-use Rattle.rt_geo.specs.declared.entry.Entry.{Entry}
+use Rattle.std.proofs.Common.{length, take, refl, sym, ◌∙◌, ap, subst, arith, add-one}
+use Rattle.rt_geo.specs.Laws.{Extent, IsLawful, IsQuestion, NoneAccepted, extent_of}
 use Rattle.rt_geo.specs.declared.geometry.Info.{Info}
 use Rattle.rt_geo.specs.declared.geometry.Verdict.{Verdict}
 use Rattle.rt_geo.specs.declared.geometry.Within.{Within}
 use Rattle.rt_geo.specs.declared.geometry.Within.TheVariants.{Not, Partly, Fully}
-use Rattle.rt_tree.specs.Packed.{Packed, IsLeafNode, IsSound, IsSubtree, child_entries, child_nodes, entries_under}
+use Rattle.rt_tree.specs.Packed.{Packed, IsSound, IsSubtree, child_nodes, entries_under}
 use Rattle.rt_tree.specs.Packed.{extent_of_node, node_at}
 use Rattle.rt_tree.specs.Sorting.{put}
-use Rattle.rt_tree.specs.declared.tree.Node.{Node}
-use Rattle.rt_search.specs.Answers.{answer_cmp}
-use Rattle.rt_search.specs.Items.{item_at, item_cmp}
-use Rattle.rt_search.specs.Joining.{info_of_child, join_entries, join_entry, join_node, join_nodes, no_entry}
+use Rattle.rt_search.specs.Answers.{Answer, answer_cmp}
+use Rattle.rt_search.specs.Items.{item_at, item_cmp, item_of}
+use Rattle.rt_search.specs.Joining.{join_answers, join_node, join_nodes}
 use Rattle.rt_search.specs.Remaining.{AllSound, IsBelow, IsOpenable, height_at, is_fully, put_all, remaining}
 use Rattle.rt_search.specs.Remaining.{verdict_on, waiting_node}
 use Rattle.rt_search.specs.Work.{info_of_node, is_kept}
 use Rattle.rt_search.specs.declared.item.Item.{Item}
 use Rattle.rt_search.specs.declared.item.Place.TheVariants as place
-use Rattle.rt_search.proofs.Answering.{AllSound-put, among, among-append, among_refused, entry_kept, node_dropped}
+use Rattle.rt_search.proofs.Answering.{AllSound-put, among, node_dropped, remaining-put}
 use Rattle.rt_search.proofs.Answering.{node_kept, one_more, under_all, under_all-append, under_all-none, under_all-one}
 use Rattle.rt_search.proofs.Answering.{under_all-whole}
-use Rattle.rt_search.proofs.Children.{IsChild, IsLeafAt, all_children, child_of, entry_question, height_suc, leaf_at}
-use Rattle.rt_search.proofs.Children.{node_question, part_at, part_length}
+use Rattle.rt_search.proofs.Children.{IsChild, all_children, child_of, height_suc, node_question}
 
 pub kept_not : (w : Within) → is_kept w ≡ false → w ≡ Not
 kept_not Not h = refl
 kept_not Partly h = cc
 kept_not Fully h = cc
-
-not_kept : (w : Within) → is_kept w ≡ true → w ≡ Not → ⊥
-not_kept Not h e = cc
-not_kept Partly h e = cc
-not_kept Fully h e = cc
 
 -- a verdict that isn't NOT is told by the node that waits
 within_told : (w : Within) → is_kept w ≡ true → (cond (is_fully w) Fully Partly) ≡ w
@@ -56,52 +47,33 @@ left_out b x y h = rw h refl
 
 module _ (accepts : Extent → Bool) (score : Extent → ℕ) (verdict : Info → Verdict)
     (law : IsLawful accepts score verdict) (t : Packed) where
-  -- an entry
-  entry_joined : (e : Entry) (info : Info) (xs : List Item) → extent_of info ≡ extent_of_entry e → info.level ≡ 0
-      → IsQuestion accepts info → remaining t accepts score (join_entry (verdict info) e.id xs)
-      ≡ put_all answer_cmp (among accepts score (e ∷ [])) (remaining t accepts score xs)
-  entry_joined e info xs at low question =
-      let v = verdict info in
-      let R = remaining t accepts score in
-      let put_in = put item_cmp (item_at v.score (place.Entry e.id)) xs in
-      let split : (b : Bool) → is_kept v.within ≡ b → R (join_entry v e.id xs)
-      ≡ put_all answer_cmp (among accepts score (e ∷ [])) (R xs) = elim [
-        | true ↦ λ h.
-            let accepted : accepts (extent_of info) ≡ true = accepted_at info low question h in
-            entry_kept accepts score t e v.score xs (join_entry v e.id xs) (subst (λ b. accepts b ≡ true) at accepted)
-            (law.exact info question low accepted ∙ ap score at) (taken (is_kept v.within) put_in xs h)
-        | false ↦ λ h.
-            let never : accepts (extent_of_entry e) ≡ false =
-            subst (λ b. accepts b ≡ false) at ((law.faithful.leaf info question low).0 (kept_not v.within h)) in
-            ap R (left_out (is_kept v.within) put_in xs h)
-            ∙ ap (λ l. put_all answer_cmp l (R xs)) (sym (among_refused accepts score e [] never))
-      ] in
-      split (is_kept v.within) refl
-    where
-      accepted_at : (info : Info) → info.level ≡ 0 → IsQuestion accepts info → is_kept (verdict info).within ≡ true
-          → accepts (extent_of info) ≡ true
-      accepted_at info low question h =
-          let refused = (law.faithful.leaf info question low).1 in
-          let kept = not_kept (verdict info).within h in
-          let split : (b : Bool) → accepts (extent_of info) ≡ b → b ≡ true = elim [
-            | true ↦ λ e. refl
-            | false ↦ λ e. absurd (kept (refused e))
-          ] in
-          let whole = split (accepts (extent_of info)) refl in whole
+  -- answers
+  pub answers_joined : (answers : List Answer) (xs : List Item) → remaining t accepts score (join_answers answers xs)
+      ≡ put_all answer_cmp answers (remaining t accepts score xs)
+  answers_joined [] xs = refl
+  answers_joined (a ∷ answers) xs =
+      remaining-put accepts score t (item_of a) (join_answers answers xs)
+      ∙ ap (put answer_cmp a) (answers_joined answers xs)
+
+  pub answers_sound : (answers : List Answer) (xs : List Item) → AllSound t accepts score xs
+      → AllSound t accepts score (join_answers answers xs)
+  answers_sound [] xs all = all
+  answers_sound (a ∷ answers) xs all =
+      AllSound-put accepts score t (item_of a) (join_answers answers xs) tt (answers_sound answers xs all)
 
   -- a node
   node_joined : (k : ℕ) (info : Info) (xs : List Item) → extent_of info ≡ extent_of_node (node_at t k)
       → 0 < info.level → IsQuestion accepts info → IsSubtree t (height_at t k) (node_at t k)
-      → remaining t accepts score (join_node is_kept (verdict info) k xs)
+      → remaining t accepts score (join_node (verdict info) k xs)
       ≡ put_all answer_cmp (among accepts score (entries_under t (height_at t k) (node_at t k)))
       (remaining t accepts score xs)
   node_joined k info xs at high question tree =
       let v = verdict info in
       let R = remaining t accepts score in
       let put_in = put item_cmp (item_at v.score (place.Node (waiting_node k v.within))) xs in
-      let split : (b : Bool) → is_kept v.within ≡ b → R (join_node is_kept v k xs)
+      let split : (b : Bool) → is_kept v.within ≡ b → R (join_node v k xs)
       ≡ put_all answer_cmp (among accepts score (entries_under t (height_at t k) (node_at t k))) (R xs) = elim [
-        | true ↦ λ h. node_kept accepts score t (waiting_node k v.within) v.score xs (join_node is_kept v k xs)
+        | true ↦ λ h. node_kept accepts score t (waiting_node k v.within) v.score xs (join_node v k xs)
             (taken (is_kept v.within) put_in xs h)
         | false ↦ λ h.
             let never = law.faithful.pruning info question high (kept_not v.within h) in
@@ -110,21 +82,11 @@ module _ (accepts : Extent → Bool) (score : Extent → ℕ) (verdict : Info �
       ] in
       split (is_kept v.within) refl
 
-  entry_sound : (v : Verdict) (e : Entry) (xs : List Item) → AllSound t accepts score xs
-      → AllSound t accepts score (join_entry v e.id xs)
-  entry_sound v e xs a =
-      elim (is_kept v.within) as
-      (λ b. AllSound t accepts score (cond b (put item_cmp (item_at v.score (place.Entry e.id)) xs) xs)) [
-        | true ↦ AllSound-put accepts score t (item_at v.score (place.Entry e.id)) xs tt a
-        | false ↦ a
-      ]
-
-  node_sound : (joins : Within → Bool) → ((w : Within) → joins w ≡ true → is_kept w ≡ true)
-      → (k : ℕ) (info : Info) (xs : List Item) → extent_of info ≡ extent_of_node (node_at t k) → 0 < info.level
+  node_sound : (k : ℕ) (info : Info) (xs : List Item) → extent_of info ≡ extent_of_node (node_at t k) → 0 < info.level
       → IsQuestion accepts info → k < length t.nodes → IsSubtree t (height_at t k) (node_at t k)
       → (node_at t k).level ≤ 24 → AllSound t accepts score xs
-      → AllSound t accepts score (join_node joins (verdict info) k xs)
-  node_sound joins kept k info xs at high question inside tree low a =
+      → AllSound t accepts score (join_node (verdict info) k xs)
+  node_sound k info xs at high question inside tree low a =
       let v = verdict info in
       let put_in = put item_cmp (item_at v.score (place.Node (waiting_node k v.within))) xs in
       let below : IsBelow accepts score (extent_of info) v =
@@ -133,9 +95,9 @@ module _ (accepts : Extent → Bool) (score : Extent → ℕ) (verdict : Info �
         least =
             λ b h y. law.admissibility info question high b h y;
       } in
-      let split : (b : Bool) → joins v.within ≡ b → AllSound t accepts score (cond b put_in xs) = elim [
+      let split : (b : Bool) → is_kept v.within ≡ b → AllSound t accepts score (cond b put_in xs) = elim [
         | true ↦ λ h. AllSound-put accepts score t (item_at v.score (place.Node (waiting_node k v.within))) xs
-            (subst (IsOpenable t accepts score k) (sym (verdict_told v k (kept v.within h)))
+            (subst (IsOpenable t accepts score k) (sym (verdict_told v k h))
             (record {
               inside = inside;
               tree = tree;
@@ -145,53 +107,9 @@ module _ (accepts : Extent → Bool) (score : Extent → ℕ) (verdict : Info �
             })) a
         | false ↦ λ h. a
       ] in
-      split (joins v.within) refl
+      split (is_kept v.within) refl
 
   module _ (sound : IsSound t) (v : Verdict) (small : v.score < 2 ^ 128) where
-    -- ---- the children of a node of level 1
-
-    pub entry_at : (n : Node) (i : ℕ) → IsLeafNode t n → i < n.count
-        → IsLeafAt t n i (get_or (child_entries t n) i no_entry)
-    entry_at n i leaf lt =
-        let e = get_or (child_entries t n) i no_entry in
-        let long = part_length t.entries n.first n.count leaf.range in
-        let range = leaf.range in
-        let same : e ≡ get_or t.entries (n.first + i) no_entry = part_at t.entries n.first n.count i no_entry lt in
-        let read : get_or t.entries (n.first + i) e ≡ e =
-        get_or_default t.entries (n.first + i) e no_entry (omega (arith, range, lt)) ∙ sym same in
-        leaf_at t n i e sound.table leaf lt read
-
-    entries_upto : (n : Node) (xs : List Item) → IsLeafNode t n → IsBelow accepts score (extent_of_node n) v → (i : ℕ)
-        → i ≤ n.count → remaining t accepts score (join_entries verdict t v n i xs)
-        ≡ put_all answer_cmp (among accepts score (take i (child_entries t n))) (remaining t accepts score xs)
-    entries_upto n xs leaf below zero le = refl
-    entries_upto n xs leaf below (suc i) le =
-        let e = get_or (child_entries t n) i no_entry in
-        let lt : i < n.count = omega arith in
-        let at = entry_at n i leaf lt in
-        let before = join_entries verdict t v n i xs in
-        rw (← add-one i) (one_more (among accepts score) (among-append accepts score) (child_entries t n) i e at.place
-        at.is (remaining t accepts score xs) (remaining t accepts score before) _
-        (entries_upto n xs leaf below i (omega arith))
-        (entry_joined e (info_of_child t v e) before refl refl
-        (entry_question accepts score t sound v small n e i below at)))
-
-    pub entries_joined : (n : Node) (xs : List Item) → IsLeafNode t n → IsBelow accepts score (extent_of_node n) v
-        → remaining t accepts score (join_entries verdict t v n n.count xs)
-        ≡ put_all answer_cmp (among accepts score (child_entries t n)) (remaining t accepts score xs)
-    entries_joined n xs leaf below =
-        let long = part_length t.entries n.first n.count leaf.range in
-        entries_upto n xs leaf below n.count (omega arith)
-        ∙ ap (λ l. put_all answer_cmp (among accepts score l) (remaining t accepts score xs))
-        (take_all n.count (child_entries t n) (omega (arith, long)))
-
-    pub entries_sound : (n : Node) (i : ℕ) (xs : List Item) → AllSound t accepts score xs
-        → AllSound t accepts score (join_entries verdict t v n i xs)
-    entries_sound n zero xs a = a
-    entries_sound n (suc i) xs a =
-        let e = get_or (child_entries t n) i no_entry in
-        entry_sound (verdict (info_of_child t v e)) e (join_entries verdict t v n i xs) (entries_sound n i xs a)
-
     -- ---- the children of a higher node
 
     module _ (number : ℕ) (opened : IsOpenable t accepts score number v) (high : 2 ≤ (node_at t number).level) where
@@ -206,7 +124,7 @@ module _ (accepts : Extent → Bool) (score : Extent → ℕ) (verdict : Info �
           ((node_at t number).first + i) opened.low opened.below (child i lt)
 
       nodes_upto : (xs : List Item) (i : ℕ) → i ≤ (node_at t number).count
-          → remaining t accepts score (join_nodes is_kept verdict t v (node_at t number) i xs)
+          → remaining t accepts score (join_nodes verdict t v (node_at t number) i xs)
           ≡ put_all answer_cmp (under_all accepts score t (height_at t number - 1)
           (take i (child_nodes t (node_at t number)))) (remaining t accepts score xs)
       nodes_upto xs zero le =
@@ -217,7 +135,7 @@ module _ (accepts : Extent → Bool) (score : Extent → ℕ) (verdict : Info �
           let m = (node_at t number).first + i in
           let h = height_at t number - 1 in
           let k = child i lt in
-          let before = join_nodes is_kept verdict t v (node_at t number) i xs in
+          let before = join_nodes verdict t v (node_at t number) i xs in
           let now = node_joined m (info_of_node t v (node_at t m)) before refl k.level (child_question i lt) k.tree in
           let there : under_all accepts score t h (node_at t m ∷ [])
           ≡ among accepts score (entries_under t (height_at t m) (node_at t m)) =
@@ -229,7 +147,7 @@ module _ (accepts : Extent → Bool) (score : Extent → ℕ) (verdict : Info �
           (now ∙ ap (λ l. put_all answer_cmp l (remaining t accepts score before)) (sym there)))
 
       pub nodes_joined : (xs : List Item)
-          → remaining t accepts score (join_nodes is_kept verdict t v (node_at t number) (node_at t number).count xs)
+          → remaining t accepts score (join_nodes verdict t v (node_at t number) (node_at t number).count xs)
           ≡ put_all answer_cmp (among accepts score (entries_under t (height_at t number) (node_at t number)))
           (remaining t accepts score xs)
       nodes_joined xs =
@@ -241,16 +159,15 @@ module _ (accepts : Extent → Bool) (score : Extent → ℕ) (verdict : Info �
           (ap (under_all accepts score t h) all ∙ under_all-whole accepts score t h n
           ∙ ap (λ m. among accepts score (entries_under t m n)) (sym (height_suc t number opened.tree high)))
 
-      pub nodes_sound : (joins : Within → Bool) → ((w : Within) → joins w ≡ true → is_kept w ≡ true)
-          → (xs : List Item) (i : ℕ) → i ≤ (node_at t number).count → AllSound t accepts score xs
-          → AllSound t accepts score (join_nodes joins verdict t v (node_at t number) i xs)
-      nodes_sound joins kept xs zero le a = a
-      nodes_sound joins kept xs (suc i) le a =
+      pub nodes_sound : (xs : List Item) (i : ℕ) → i ≤ (node_at t number).count → AllSound t accepts score xs
+          → AllSound t accepts score (join_nodes verdict t v (node_at t number) i xs)
+      nodes_sound xs zero le a = a
+      nodes_sound xs (suc i) le a =
           let lt : i < (node_at t number).count = omega arith in
           let m = (node_at t number).first + i in
           let k = child i lt in
           let low = opened.low in
           let lower = k.lower in
-          node_sound joins kept m (info_of_node t v (node_at t m))
-          (join_nodes joins verdict t v (node_at t number) i xs) refl k.level (child_question i lt) k.number
-          k.tree (omega (arith, low, lower)) (nodes_sound joins kept xs i (omega arith) a)
+          node_sound m (info_of_node t v (node_at t m))
+          (join_nodes verdict t v (node_at t number) i xs) refl k.level (child_question i lt) k.number
+          k.tree (omega (arith, low, lower)) (nodes_sound xs i (omega arith) a)

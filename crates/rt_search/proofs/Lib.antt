@@ -2,13 +2,9 @@ mod Rows
 pub mod Answering
 pub mod Children
 pub mod Chosen
-pub mod CountSteps
-pub mod CountUnder
-pub mod CountWhole
+pub mod Collectors
 pub mod Falling
 pub mod FilledUp
-pub mod GatherWhole
-pub mod Gathers
 pub mod GivenAll
 pub mod Giving
 pub mod Heaps
@@ -23,6 +19,8 @@ pub mod Sizes
 pub mod Starting
 pub mod Stepping
 pub mod UnderWay
+pub mod WalkWhole
+pub mod Walks
 pub mod Widths
 pub mod Working
 pub mod ZeroScores

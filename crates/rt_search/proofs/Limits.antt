@@ -1,15 +1,15 @@
 -- What may be left out where a limit is known.
-use Rattle.std.proofs.Common.{◌≡◌, ◌≢◌, ◌≤◌, ◌<◌, ◌+◌, ◌-◌, ℕ, ℤ, zero, suc, Bool, true, false, cond, Option, Some, None, List}
-use Rattle.std.proofs.Common.{[], ◌∷◌, length, get_or, refl, sym, ◌∙◌, ap, subst, arith}
+use Rattle.std.proofs.Common.{◌≡◌, ◌≢◌, ◌≤◌, ◌<◌, ◌+◌, ◌-◌, ℕ, zero, suc, Bool, true, false, cond, Option, Some, None, List}
+use Rattle.std.proofs.Common.{[], ◌∷◌, length, refl, sym, ◌∙◌, ap, subst, arith}
 use Rattle.std.specs.Ordering.{is_gt}
 use Rattle.std.specs.declared.cmp.Reverse.{Reverse}
 use Rattle.rt_geo.specs.declared.geometry.Info.{Info}
 use Rattle.rt_geo.specs.declared.geometry.Verdict.{Verdict}
-use Rattle.rt_tree.specs.Packed.{Packed, child_entries, node_at}
+use Rattle.rt_tree.specs.Packed.{Packed, node_at}
 use Rattle.rt_tree.specs.Sorting.{put}
 use Rattle.rt_tree.specs.declared.tree.Node as node
 use Rattle.rt_search.specs.Items.{item_at, item_cmp}
-use Rattle.rt_search.specs.Joining.{info_of_child, join_entries, join_entry, join_node, join_nodes, no_entry}
+use Rattle.rt_search.specs.Joining.{join_node, join_nodes}
 use Rattle.rt_search.specs.Kept.{IsRising, in_order, narrow, node_item, queued}
 use Rattle.rt_search.specs.Limits.{IsBehind, IsEnough, entries_at, entries_before, front, front_of, less_at}
 use Rattle.rt_search.specs.Remaining.{put_all, waiting_node}
@@ -22,9 +22,6 @@ use Rattle.rt_search.proofs.OrderedLists.{length-put, length-put_all, put_all-pu
 use Rattle.rt_search.proofs.Orders.{item_order}
 
 -- ---- the front of a list
-
-front_nil : (n : ℕ) → front [] n ≡ []
-front_nil n = refl
 
 front_zero : (xs : List Item) → front xs 0 ≡ []
 front_zero [] = refl
@@ -224,47 +221,30 @@ enough_one : (b : Bool) (wanted : Option ℕ) (x : Item) (xs ys : List Item) →
 enough_one true wanted x xs ys h = enough_put wanted x xs ys h
 enough_one false wanted x xs ys h = h
 
+pub rising_put_all : (zs xs : List Item) → IsRising xs → IsRising (put_all item_cmp zs xs)
+rising_put_all [] xs h = h
+rising_put_all (z ∷ zs) xs h = rising_put z (put_all item_cmp zs xs) (rising_put_all zs xs h)
+
 rising_one : (b : Bool) (x : Item) (xs : List Item) → IsRising xs → IsRising (cond b (put item_cmp x xs) xs)
 rising_one true x xs h = rising_put x xs h
 rising_one false x xs h = h
 
-pub enough_entry : (wanted : Option ℕ) (v : Verdict) (id : ℤ) (new xs ys : List Item) → IsEnough wanted xs ys
-    → IsEnough wanted new (join_entry v id xs) → IsEnough wanted new (join_entry v id ys)
-enough_entry wanted v id new xs ys h k =
-    enough_trans wanted new (join_entry v id xs) (join_entry v id ys) k
-    (enough_one (is_kept v.within) wanted (item_at v.score (Entry id)) xs ys h)
-
 pub enough_node : (wanted : Option ℕ) (v : Verdict) (number : ℕ) (new xs ys : List Item) → IsEnough wanted xs ys
-    → IsEnough wanted new (join_node is_kept v number xs) → IsEnough wanted new (join_node is_kept v number ys)
+    → IsEnough wanted new (join_node v number xs) → IsEnough wanted new (join_node v number ys)
 enough_node wanted v number new xs ys h k =
-    enough_trans wanted new (join_node is_kept v number xs) (join_node is_kept v number ys) k
+    enough_trans wanted new (join_node v number xs) (join_node v number ys) k
     (enough_one (is_kept v.within) wanted (item_at v.score (Node (waiting_node number v.within))) xs ys h)
 
 module _ (verdict : Info → Verdict) (t : Packed) (v : Verdict) (n : node.Node) (wanted : Option ℕ) where
-  pub enough_entries : (i : ℕ) (xs ys : List Item) → IsEnough wanted xs ys
-      → IsEnough wanted (join_entries verdict t v n i xs) (join_entries verdict t v n i ys)
-  enough_entries zero xs ys h = h
-  enough_entries (suc i) xs ys h =
-      let e = get_or (child_entries t n) i no_entry in
-      enough_one (is_kept (verdict (info_of_child t v e)).within) wanted
-      (item_at (verdict (info_of_child t v e)).score (Entry e.id)) _ _ (enough_entries i xs ys h)
-
   pub enough_nodes : (i : ℕ) (xs ys : List Item) → IsEnough wanted xs ys
-      → IsEnough wanted (join_nodes is_kept verdict t v n i xs) (join_nodes is_kept verdict t v n i ys)
+      → IsEnough wanted (join_nodes verdict t v n i xs) (join_nodes verdict t v n i ys)
   enough_nodes zero xs ys h = h
   enough_nodes (suc i) xs ys h =
       let w = verdict (info_of_node t v (node_at t (n.first + i))) in
       enough_one (is_kept w.within) wanted (item_at w.score (Node (waiting_node (n.first + i) w.within))) _ _
       (enough_nodes i xs ys h)
 
-  pub rising_entries : (i : ℕ) (xs : List Item) → IsRising xs → IsRising (join_entries verdict t v n i xs)
-  rising_entries zero xs h = h
-  rising_entries (suc i) xs h =
-      let e = get_or (child_entries t n) i no_entry in
-      rising_one (is_kept (verdict (info_of_child t v e)).within)
-      (item_at (verdict (info_of_child t v e)).score (Entry e.id)) _ (rising_entries i xs h)
-
-  pub rising_nodes : (i : ℕ) (xs : List Item) → IsRising xs → IsRising (join_nodes is_kept verdict t v n i xs)
+  pub rising_nodes : (i : ℕ) (xs : List Item) → IsRising xs → IsRising (join_nodes verdict t v n i xs)
   rising_nodes zero xs h = h
   rising_nodes (suc i) xs h =
       let w = verdict (info_of_node t v (node_at t (n.first + i))) in

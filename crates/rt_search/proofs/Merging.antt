@@ -1,12 +1,12 @@
 -- Two lists in order, seen as one.
 use Rattle.std.proofs.Common.{◌≡◌, ◌<◌, ◌≤◌, ◌+◌, ℕ, Bool, true, false, cond, Option, Some, None, List, [], ◌∷◌, length}
 use Rattle.std.proofs.Common.{refl, sym, ◌∙◌, ap, subst, arith, Ordering}
-use Rattle.std.specs.Prelude.{IfNone, IfSome, MatchBool, MatchOption}
+use Rattle.std.specs.Prelude.{MatchBool}
 use Rattle.std.specs.List.{AllByRecursion}
 use Rattle.std.specs.Ordering.{is_gt}
 use Rattle.rt_tree.specs.Sorting.{put}
 use Rattle.rt_search.specs.Items.{item_cmp}
-use Rattle.rt_search.specs.Kept.{IsAhead, IsEntry, IsFirstScore, IsLeast, IsNode, offered}
+use Rattle.rt_search.specs.Kept.{IsAhead, IsEntry, IsFirstScore, IsLeast, IsNode, IsTakenOut, offered}
 use Rattle.rt_search.specs.Remaining.{put_all}
 use Rattle.rt_search.specs.declared.item.Item.{Item}
 use Rattle.rt_search.proofs.OrderedLists.{IsOrder, length-put, length-put_all, put-put, put_all-all, put_all-put}
@@ -90,55 +90,32 @@ none_right xs ys e h =
 
 -- ---- what a call that takes from one of the lists takes from both
 
-pub taken_left : (r : Option Item) (old xs ys : List Item) → MatchOption r (old ≡ []) (λ x. old ≡ x ∷ xs)
-    → IfSome r (λ x. IsLeast x xs) → IsAhead old ys
-    → MatchOption r (put_all item_cmp old ys ≡ []) (λ x. put_all item_cmp old ys ≡ x ∷ put_all item_cmp xs ys)
-taken_left None old xs ys e a h = none_left old ys e h
-taken_left (Some x) old xs ys e a h = left_taken x old xs ys e a h
+pub taken_left : (r : Option Item) (old xs ys : List Item) → IsTakenOut r old xs → IsAhead old ys
+    → IsTakenOut r (put_all item_cmp old ys) (put_all item_cmp xs ys)
+taken_left None old xs ys t h =
+    (none_left old ys t.0 h, ap (λ l. put_all item_cmp l ys) (t.1 ∙ sym t.0) ∙ none_left old ys t.0 h)
+taken_left (Some x) old xs ys t h = (left_taken x old xs ys t.0 t.1 h, left_least x old xs ys t.0 t.1 h)
 
-pub least_left : (r : Option Item) (old xs ys : List Item) → MatchOption r (old ≡ []) (λ x. old ≡ x ∷ xs)
-    → IfSome r (λ x. IsLeast x xs) → IsAhead old ys → IfSome r (λ x. IsLeast x (put_all item_cmp xs ys))
-least_left None old xs ys e a h = tt
-least_left (Some x) old xs ys e a h = left_least x old xs ys e a h
-
-pub left_left : (r : Option Item) (old xs ys : List Item) → MatchOption r (old ≡ []) (λ x. old ≡ x ∷ xs)
-    → IfNone r (xs ≡ []) → IsAhead old ys → IfNone r (put_all item_cmp xs ys ≡ [])
-left_left None old xs ys e n h = ap (λ l. put_all item_cmp l ys) (n ∙ sym e) ∙ none_left old ys e h
-left_left (Some x) old xs ys e n h = tt
-
-pub taken_right : (r : Option Item) (xs old ys : List Item) → MatchOption r (old ≡ []) (λ x. old ≡ x ∷ ys)
-    → IfSome r (λ x. IsLeast x ys) → IsAhead old xs
-    → MatchOption r (put_all item_cmp xs old ≡ []) (λ x. put_all item_cmp xs old ≡ x ∷ put_all item_cmp xs ys)
-taken_right None xs old ys e a h = none_right xs old e h
-taken_right (Some x) xs old ys e a h = right_taken x xs old ys e a h
-
-pub least_right : (r : Option Item) (xs old ys : List Item) → MatchOption r (old ≡ []) (λ x. old ≡ x ∷ ys)
-    → IfSome r (λ x. IsLeast x ys) → IsAhead old xs → IfSome r (λ x. IsLeast x (put_all item_cmp xs ys))
-least_right None xs old ys e a h = tt
-least_right (Some x) xs old ys e a h = right_least x xs old ys e a h
-
-pub left_right : (r : Option Item) (xs old ys : List Item) → MatchOption r (old ≡ []) (λ x. old ≡ x ∷ ys)
-    → IfNone r (ys ≡ []) → IsAhead old xs → IfNone r (put_all item_cmp xs ys ≡ [])
-left_right None xs old ys e n h = ap (put_all item_cmp xs) (n ∙ sym e) ∙ none_right xs old e h
-left_right (Some x) xs old ys e n h = tt
+pub taken_right : (r : Option Item) (xs old ys : List Item) → IsTakenOut r old ys → IsAhead old xs
+    → IsTakenOut r (put_all item_cmp xs old) (put_all item_cmp xs ys)
+taken_right None xs old ys t h =
+    (none_right xs old t.0 h, ap (put_all item_cmp xs) (t.1 ∙ sym t.0) ∙ none_right xs old t.0 h)
+taken_right (Some x) xs old ys t h = (right_taken x xs old ys t.0 t.1 h, right_least x xs old ys t.0 t.1 h)
 
 -- no more are left than there were
-pub fewer : (r : Option Item) (old new : List Item) → MatchOption r (old ≡ []) (λ x. old ≡ x ∷ new)
-    → IfNone r (new ≡ []) → length new ≤ length old
-fewer None old new e n = rw n (omega arith)
-fewer (Some x) old new e n = rw e (omega arith)
+pub fewer : (r : Option Item) (old new : List Item) → IsTakenOut r old new → length new ≤ length old
+fewer None old new t = (let none = ap length t.1 in omega (arith, none))
+fewer (Some x) old new t = (let long = ap length t.0 in omega (arith, long))
 
-pub fewer_left : (r : Option Item) (old xs ys : List Item) (capacity : ℕ)
-    → MatchOption r (old ≡ []) (λ x. old ≡ x ∷ xs) → IfNone r (xs ≡ [])
+pub fewer_left : (r : Option Item) (old xs ys : List Item) (capacity : ℕ) → IsTakenOut r old xs
     → length (put_all item_cmp old ys) ≤ capacity → length (put_all item_cmp xs ys) ≤ capacity
-fewer_left r old xs ys capacity e n h =
-    omega (arith, h, fewer r old xs e n, length-merged old ys, length-merged xs ys)
+fewer_left r old xs ys capacity t h =
+    omega (arith, h, fewer r old xs t, length-merged old ys, length-merged xs ys)
 
-pub fewer_right : (r : Option Item) (xs old ys : List Item) (capacity : ℕ)
-    → MatchOption r (old ≡ []) (λ x. old ≡ x ∷ ys) → IfNone r (ys ≡ [])
+pub fewer_right : (r : Option Item) (xs old ys : List Item) (capacity : ℕ) → IsTakenOut r old ys
     → length (put_all item_cmp xs old) ≤ capacity → length (put_all item_cmp xs ys) ≤ capacity
-fewer_right r xs old ys capacity e n h =
-    omega (arith, h, fewer r old ys e n, length-merged xs old, length-merged xs ys)
+fewer_right r xs old ys capacity t h =
+    omega (arith, h, fewer r old ys t, length-merged xs old, length-merged xs ys)
 
 -- ---- which list is ahead
 

@@ -177,14 +177,6 @@ entry_derived d e =
     (mod-lt e.0 (omega arith))
     ∙ rw (div-add-mod' d.0 (2 ^ 64), div-add-mod' e.0 (2 ^ 64)) refl
 
-lt_is : (j k : ℕ) → nat_lt j k ≡ is_lt (nat_cmp j k)
-lt_is j k = grind (arith, nat_tests)
-
--- the lower key is that of the entry which comes first
-pub lower_key : (j k : ℕ)
-    → nat_lt j k ≡ is_gt (item_cmp (entry_item (record { 0 = k })) (entry_item (record { 0 = j })))
-lower_key j k = lt_is j k ∙ sym (entry_derived (record { 0 = j }) (record { 0 = k }))
-
 -- and an item as it is
 items_derived : (s r : ℕ) (p q : Place) → item_ghosts.cmp (item_at s p) (item_at r q)
     ≡ item_cmp (item_at s p) (item_at r q)

@@ -58,7 +58,7 @@ root_work opens cost verdict t open' some =
 from_none : {m n : ℕ} → m ≡ n → 0 + m ≡ n
 from_none h = omega (arith, h)
 
-nat_eq_true : {n : ℕ} → (n == 0) ≡ true → n ≡ 0
+pub nat_eq_true : {n : ℕ} → (n == 0) ≡ true → n ≡ 0
 nat_eq_true h = grind (arith, nat_tests)
 
 pub nat_eq_false : {n : ℕ} → (n == 0) ≡ false → 0 < n
@@ -146,9 +146,6 @@ module _ (accepts : Extent → Bool) (score : Extent → ℕ) (verdict : Info �
           | suc m ↦ λ h. absurd (let some = sound.some.1 (omega (arith, h)) in omega (arith, some, none))
         ] in
         split (length t.entries) refl)
-
-    pub some_entries : 0 < length t.nodes → 0 < length t.entries
-    some_entries some = sound.some.0 some
 
     pub start_state : (capacity : ℕ) → length t.entries ≤ capacity
         → IsSearching accepts score verdict t 0 0 capacity (root_items t)

@@ -9,25 +9,27 @@ use Rattle.rt_geo.specs.Laws.{Extent, IsLawful}
 use Rattle.rt_geo.specs.declared.geometry.Info.{Info}
 use Rattle.rt_geo.specs.declared.geometry.Verdict.{Verdict}
 use Rattle.rt_geo.specs.declared.geometry.Within.TheVariants.{Partly, Fully}
-use Rattle.rt_tree.specs.Packed.{Packed, entries_under, node_at}
+use Rattle.rt_tree.specs.Packed.{Packed, node_at}
 use Rattle.rt_tree.specs.declared.tree.Node.{Node}
 use Rattle.rt_search.specs.Answers.{Answer, answer_cmp}
 use Rattle.rt_search.specs.Items.{item_at, item_cmp}
-use Rattle.rt_search.specs.Joining.{join_entries, join_nodes}
+use Rattle.rt_search.specs.Joining.{join_answers, join_nodes}
 use Rattle.rt_search.specs.Progress.{IsNodeStep, IsOnCourse, IsSearching, IsTaken, held, work_at, work_left}
 use Rattle.rt_search.specs.Remaining.{AllSound, answers_at, height_at, put_all, remaining, verdict_on}
+use Rattle.rt_search.specs.Walking.{answers_among}
 use Rattle.rt_search.specs.Work.{is_kept, is_reached, is_within_bound, its_children, one_node, reached_from_root, reached}
 use Rattle.rt_search.specs.declared.item.Item.{Item}
 use Rattle.rt_search.specs.declared.item.Place.{Place}
 use Rattle.rt_search.specs.declared.item.Place.TheVariants as place
 use Rattle.rt_search.specs.declared.item.WaitingNode.{WaitingNode}
-use Rattle.rt_search.proofs.Answering.{among, at_above, before_node, take_entry}
+use Rattle.rt_search.proofs.Answering.{at_above, before_node, take_entry}
 use Rattle.rt_search.proofs.Children.{leaf_node}
-use Rattle.rt_search.proofs.Joined.{entries_joined, entries_sound, left_out, nodes_joined, nodes_sound, taken}
+use Rattle.rt_search.proofs.Joined.{answers_joined, answers_sound, left_out, nodes_joined, nodes_sound, taken}
 use Rattle.rt_search.proofs.OrderedLists.{put_all-all}
 use Rattle.rt_search.proofs.Orders.{answer_order, score_upto}
 use Rattle.rt_search.proofs.Sizes.{count_is_fair, done_le, held_cons, one_is_fair, room_for}
-use Rattle.rt_search.proofs.Working.{IsJoining, held-join_entries, held-join_nodes, work-join_entries, work-join_nodes}
+use Rattle.rt_search.proofs.Walks.{answers_all, few_among}
+use Rattle.rt_search.proofs.Working.{held-join_answers, held-join_nodes, work-join_answers, work-join_nodes}
 
 -- ---- what is opened
 
@@ -42,9 +44,6 @@ reached_is bound s n = (let k = kept_within n.is_full in rw k refl)
 
 closed_by : (bound : Option ℕ) (v : Verdict) → is_kept v.within ≡ false → is_reached bound v ≡ false
 closed_by bound v h = rw h refl
-
-pub joining : (bound : Option ℕ) → IsJoining (is_reached bound) is_kept
-joining bound = record { kept = λ w h. h; closed = closed_by bound }
 
 within_true : (b s : ℕ) → s ≤ b → is_within_bound (Some b) s ≡ true
 within_true b s h = grind (arith, nat_tests)
@@ -243,7 +242,7 @@ module _ (accepts : Extent → Bool) (score : Extent → ℕ) (verdict : Info �
       → (node_at t n.number.number).level ≡ 1
       → IsTaken accepts score verdict t opened asked capacity (item_at s (place.Node n)) xs
       → IsNodeStep accepts score verdict t opened asked capacity s n xs
-      (join_entries verdict t (verdict_on s n) (node_at t n.number.number) (node_at t n.number.number).count xs)
+      (join_answers (answers_among t accepts score (node_at t n.number.number) (node_at t n.number.number).count) xs)
   leaf_step opened asked capacity s n xs small low k =
       let number = n.number.number in
       let node = node_at t number in
@@ -251,14 +250,15 @@ module _ (accepts : Extent → Bool) (score : Extent → ℕ) (verdict : Info �
       let here = k.state.sound.0 in
       let leaf = leaf_node t (height_at t number) node here.tree low in
       let flat : height_at t number ≡ 0 = leaf.0 in
+      let found = answers_among t accepts score node node.count in
       node_step opened asked capacity s n xs _ k
-      (entries_joined accepts score verdict law t k.state.tree v small node xs leaf.1 here.below
-      ∙ ap (λ h. put_all answer_cmp (among accepts score (entries_under t h node)) (remaining t accepts score xs))
-      (sym flat))
-      (entries_sound accepts score verdict law t k.state.tree v small node node.count xs k.state.sound.1)
-      (let h = held-join_entries verdict t v node node.count xs in let e = leaf.1.size in omega (arith, h, e))
+      (answers_joined accepts score verdict law t found xs
+      ∙ ap (λ l. put_all answer_cmp l (remaining t accepts score xs)) (answers_all accepts score t number here.tree low))
+      (answers_sound accepts score verdict law t found xs k.state.sound.1)
+      (let h = held-join_answers verdict t v found xs in let e = few_among accepts score t number here.tree low in
+      omega (arith, h, e))
       (λ cost bound.
-      let e = work-join_entries verdict t v (is_reached bound) cost node node.count xs in
+      let e = work-join_answers verdict t v (is_reached bound) cost found xs in
       let z : reached (is_reached bound) cost verdict t (height_at t number) v node ≡ cost node =
       ap (λ h. reached (is_reached bound) cost verdict t h v node) flat in
       omega (arith, e, z))
@@ -267,7 +267,7 @@ module _ (accepts : Extent → Bool) (score : Extent → ℕ) (verdict : Info �
       → 2 ≤ (node_at t n.number.number).level
       → IsTaken accepts score verdict t opened asked capacity (item_at s (place.Node n)) xs
       → IsNodeStep accepts score verdict t opened asked capacity s n xs
-      (join_nodes is_kept verdict t (verdict_on s n) (node_at t n.number.number) (node_at t n.number.number).count xs)
+      (join_nodes verdict t (verdict_on s n) (node_at t n.number.number) (node_at t n.number.number).count xs)
   inner_step opened asked capacity s n xs small high k =
       let number = n.number.number in
       let node = node_at t number in
@@ -275,10 +275,10 @@ module _ (accepts : Extent → Bool) (score : Extent → ℕ) (verdict : Info �
       let here = k.state.sound.0 in
       node_step opened asked capacity s n xs _ k
       (nodes_joined accepts score verdict law t k.state.tree v small number here high xs)
-      (nodes_sound accepts score verdict law t k.state.tree v small number here high is_kept (λ w h. h) xs node.count
+      (nodes_sound accepts score verdict law t k.state.tree v small number here high xs node.count
       (omega arith) k.state.sound.1)
-      (held-join_nodes verdict t v is_kept number here.tree high xs)
-      (λ cost bound. work-join_nodes verdict t v is_kept number here.tree high (is_reached bound) (joining bound) cost
+      (held-join_nodes verdict t v number here.tree high xs)
+      (λ cost bound. work-join_nodes verdict t v number here.tree high (is_reached bound) (closed_by bound) cost
       xs)
 
   -- there is room to open a node that was taken out, and the counters stay small

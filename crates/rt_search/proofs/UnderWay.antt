@@ -1,7 +1,7 @@
 -- A search goes on, and keeps no more than its limit makes necessary.
-use Rattle.std.proofs.Common.{◌≡◌, ◌≢◌, ◌<◌, ◌≤◌, ◌+◌, ◌-◌, ◌^◌, ◌==◌, ℕ, ℤ, Bool, true, false, cond, List, [], ◌∷◌, length}
+use Rattle.std.proofs.Common.{◌≡◌, ◌≢◌, ◌<◌, ◌≤◌, ◌+◌, ◌-◌, ◌^◌, ◌==◌, ℕ, ℤ, Bool, true, false, cond, List, [], ◌∷◌, length, map}
 use Rattle.std.proofs.Common.{Option, Some, None, refl, sym, ◌∙◌, ap, subst, arith}
-use Rattle.std.specs.Prelude.{IfNone, MatchOption}
+use Rattle.std.specs.Prelude.{MatchOption}
 use Rattle.std.proofs.lemmas.Bool.Decides.{nat_tests}
 use Rattle.rt_geo.specs.Laws.{Extent, IsLawful}
 use Rattle.rt_geo.specs.declared.geometry.Info.{Info}
@@ -9,13 +9,14 @@ use Rattle.rt_geo.specs.declared.geometry.Verdict.{Verdict}
 use Rattle.rt_tree.specs.Packed.{Packed, IsSound, node_at}
 use Rattle.rt_tree.specs.declared.tree.Node as node
 use Rattle.rt_search.specs.Answers.{Answer}
-use Rattle.rt_search.specs.Items.{item_at}
-use Rattle.rt_search.specs.Joining.{join_entries, join_nodes}
-use Rattle.rt_search.specs.Kept.{IsRising, node_or, taken_entry, taken_item}
+use Rattle.rt_search.specs.Items.{item_at, item_of}
+use Rattle.rt_search.specs.Joining.{join_answers, join_nodes}
+use Rattle.rt_search.specs.Kept.{IsRising, IsTakenOut, node_or, taken_entry, taken_item}
 use Rattle.rt_search.specs.Limits.{IsEnough, one_less, wanted_after}
 use Rattle.rt_search.specs.Progress.{IsFound, IsNodeStep, IsOver, IsSearching, IsTaken, IsUnderWay, join_children, work_left}
 use Rattle.rt_search.specs.Remaining.{IsOpenable, height_at, remaining, verdict_on}
-use Rattle.rt_search.specs.Work.{is_kept, is_reached, its_children, one_node, reached_from_root}
+use Rattle.rt_search.specs.Walking.{answers_among}
+use Rattle.rt_search.specs.Work.{is_reached, its_children, one_node, reached_from_root}
 use Rattle.rt_search.specs.declared.item.FoundEntry.{FoundEntry}
 use Rattle.rt_search.specs.declared.item.Item.{Item}
 use Rattle.rt_search.specs.declared.item.Place.TheVariants as place
@@ -23,8 +24,8 @@ use Rattle.rt_search.specs.declared.item.ScoredNode.{ScoredNode}
 use Rattle.rt_search.specs.declared.item.Taken.{Taken}
 use Rattle.rt_search.specs.declared.item.WaitingNode.{WaitingNode}
 use Rattle.rt_search.proofs.Children.{subtree_level}
-use Rattle.rt_search.proofs.Limits.{enough_entries, enough_nodes, enough_trans, first_kept, none_left}
-use Rattle.rt_search.proofs.Limits.{rising_entries, rising_nodes}
+use Rattle.rt_search.proofs.Limits.{enough_nodes, enough_put_all, enough_trans, first_kept, none_left, rising_nodes}
+use Rattle.rt_search.proofs.Limits.{rising_put_all}
 use Rattle.rt_search.proofs.Sizes.{done_upto, one_is_fair}
 use Rattle.rt_search.proofs.Stepping.{can_open, entry_step, inner_step, leaf_step, reached_is}
 
@@ -37,48 +38,17 @@ falls_by_one all o o' e h = omega (arith, e, h)
 -- ---- what was taken out of a frontier
 
 pub node_out : (out : Taken) (n : ScoredNode) (items xs : List Item) → out.node ≡ Some n
-    → MatchOption (taken_item out) (items ≡ []) (λ x. items ≡ x ∷ xs)
-    → items ≡ item_at n.score (place.Node n.node) ∷ xs
-node_out out n items xs is h =
-    subst (λ o. MatchOption (node_or o (taken_entry out.entry)) (items ≡ []) (λ x. items ≡ x ∷ xs)) is h
+    → IsTakenOut (taken_item out) items xs → items ≡ item_at n.score (place.Node n.node) ∷ xs
+node_out out n items xs is t = (subst (λ o. IsTakenOut (node_or o (taken_entry out.entry)) items xs) is t).0
 
 pub node_wanted : (out : Taken) (n : ScoredNode) (w w' : Option ℕ) → out.node ≡ Some n
     → w' ≡ wanted_after (taken_item out) w → w' ≡ w
 node_wanted out n w w' is h = h ∙ ap (λ o. wanted_after (node_or o (taken_entry out.entry)) w) is
 
-entry_is : (out : Taken) (e : FoundEntry) → out.node ≡ None → out.entry ≡ Some e
-    → taken_item out ≡ Some (item_at e.score (place.Entry e.id))
-entry_is out e no_node is = ap (λ o. node_or o (taken_entry out.entry)) no_node ∙ ap taken_entry is
-
-pub entry_out : (out : Taken) (e : FoundEntry) (items xs : List Item) → out.node ≡ None → out.entry ≡ Some e
-    → MatchOption (taken_item out) (items ≡ []) (λ x. items ≡ x ∷ xs)
-    → items ≡ item_at e.score (place.Entry e.id) ∷ xs
-entry_out out e items xs no_node is h =
-    subst (λ o. MatchOption o (items ≡ []) (λ x. items ≡ x ∷ xs)) (entry_is out e no_node is) h
-
-pub entry_wanted : (out : Taken) (e : FoundEntry) (w w' : Option ℕ) → out.node ≡ None → out.entry ≡ Some e
-    → w' ≡ wanted_after (taken_item out) w → w' ≡ one_less w
-entry_wanted out e w w' no_node is h = h ∙ ap (λ o. wanted_after o w) (entry_is out e no_node is)
-
-none_is : (out : Taken) → out.node ≡ None → out.entry ≡ None → taken_item out ≡ None
-none_is out no_node no_entry = ap (λ o. node_or o (taken_entry out.entry)) no_node ∙ ap taken_entry no_entry
-
-pub none_out : (out : Taken) (items xs : List Item) → out.node ≡ None → out.entry ≡ None
-    → MatchOption (taken_item out) (items ≡ []) (λ x. items ≡ x ∷ xs) → items ≡ []
-none_out out items xs no_node no_entry h =
-    subst (λ o. MatchOption o (items ≡ []) (λ x. items ≡ x ∷ xs)) (none_is out no_node no_entry) h
-
-pub none_new : (out : Taken) (xs : List Item) → out.node ≡ None → out.entry ≡ None → IfNone (taken_item out) (xs ≡ [])
-    → xs ≡ []
-none_new out xs no_node no_entry h = subst (λ o. IfNone o (xs ≡ [])) (none_is out no_node no_entry) h
-
-pub none_left_over : {X P : Type 0} (Q : X → Type 0) (o : Option X) → o ≡ None → P → MatchOption o P Q
-none_left_over Q None e p = p
-none_left_over Q (Some x) e p = cc
-
-pub none_wanted : (out : Taken) (w w' : Option ℕ) → out.node ≡ None → out.entry ≡ None
-    → w' ≡ wanted_after (taken_item out) w → w' ≡ w
-none_wanted out w w' no_node no_entry h = h ∙ ap (λ o. wanted_after o w) (none_is out no_node no_entry)
+pub wanted_then : (out : Option FoundEntry) (w w' : Option ℕ) → w' ≡ wanted_after (taken_entry out) w
+    → MatchOption out (w' ≡ w) (λ _. w' ≡ one_less w)
+wanted_then None w w' h = h
+wanted_then (Some e) w w' h = h
 
 is_level : (m : ℕ) → (m == 1) ≡ true → m ≡ 1
 is_level m h = grind (arith, nat_tests)
@@ -92,26 +62,27 @@ level_is_not m h = grind (arith, nat_tests)
 is_no_level : (m : ℕ) → (m == 1) ≡ false → m ≢ 1
 is_no_level m h = grind (arith, nat_tests)
 
-module _ (verdict : Info → Verdict) (t : Packed) (wanted : Option ℕ) (s : ℕ) (n : WaitingNode) where
+module _ (accepts : Extent → Bool) (score : Extent → ℕ) (verdict : Info → Verdict) (t : Packed) (wanted : Option ℕ)
+    (s : ℕ) (n : WaitingNode) where
   enough_children : (xs ys : List Item) → IsEnough wanted xs ys
-      → IsEnough wanted (join_children verdict t s n xs) (join_children verdict t s n ys)
+      → IsEnough wanted (join_children accepts score verdict t s n xs) (join_children accepts score verdict t s n ys)
   enough_children xs ys h =
       let m = node_at t n.number.number in
       let v = verdict_on s n in
       elim (m.level == 1) as
-      (λ b. IsEnough wanted (cond b (join_entries verdict t v m m.count xs) (join_nodes is_kept verdict t v m m.count xs))
-      (cond b (join_entries verdict t v m m.count ys) (join_nodes is_kept verdict t v m m.count ys))) [
-        | true ↦ enough_entries verdict t v m wanted m.count xs ys h
+      (λ b. IsEnough wanted (cond b (join_answers (answers_among t accepts score m m.count) xs) (join_nodes verdict t v m m.count xs))
+      (cond b (join_answers (answers_among t accepts score m m.count) ys) (join_nodes verdict t v m m.count ys))) [
+        | true ↦ enough_put_all wanted (map item_of (answers_among t accepts score m m.count)) xs ys h
         | false ↦ enough_nodes verdict t v m wanted m.count xs ys h
       ]
 
-  rising_children : (xs : List Item) → IsRising xs → IsRising (join_children verdict t s n xs)
+  rising_children : (xs : List Item) → IsRising xs → IsRising (join_children accepts score verdict t s n xs)
   rising_children xs h =
       let m = node_at t n.number.number in
       let v = verdict_on s n in
       elim (m.level == 1) as
-      (λ b. IsRising (cond b (join_entries verdict t v m m.count xs) (join_nodes is_kept verdict t v m m.count xs))) [
-        | true ↦ rising_entries verdict t v m wanted m.count xs h
+      (λ b. IsRising (cond b (join_answers (answers_among t accepts score m m.count) xs) (join_nodes verdict t v m m.count xs))) [
+        | true ↦ rising_put_all (map item_of (answers_among t accepts score m m.count)) xs h
         | false ↦ rising_nodes verdict t v m wanted m.count xs h
       ]
 
@@ -121,13 +92,13 @@ module _ (accepts : Extent → Bool) (score : Extent → ℕ) (verdict : Info �
 
   children_step : (opened asked capacity s : ℕ) (n : WaitingNode) (xs : List Item) → s < 2 ^ 128
       → IsTaken accepts score verdict t opened asked capacity (item_at s (place.Node n)) xs
-      → IsNodeStep accepts score verdict t opened asked capacity s n xs (join_children verdict t s n xs)
+      → IsNodeStep accepts score verdict t opened asked capacity s n xs (join_children accepts score verdict t s n xs)
   children_step opened asked capacity s n xs small k =
       let m = node_at t n.number.number in
       let v = verdict_on s n in
       let level = subtree_level t (height_at t n.number.number) m k.state.sound.0.tree in
       let split : (b : Bool) → (m.level == 1) ≡ b → IsNodeStep accepts score verdict t opened asked capacity s n xs
-      (cond b (join_entries verdict t v m m.count xs) (join_nodes is_kept verdict t v m m.count xs)) = elim [
+      (cond b (join_answers (answers_among t accepts score m m.count) xs) (join_nodes verdict t v m m.count xs)) = elim [
         | true ↦ λ e. leaf_step accepts score verdict law t opened asked capacity s n xs small (is_level m.level e) k
         | false ↦ λ e.
             let other = is_no_level m.level e in
@@ -136,22 +107,23 @@ module _ (accepts : Extent → Bool) (score : Extent → ℕ) (verdict : Info �
       split (m.level == 1) refl
 
   -- what the calls leave is what is defined
-  pub leaf_joins : (wanted : Option ℕ) (s : ℕ) (n : WaitingNode) (m : node.Node) (v : Verdict) (new xs : List Item)
-      → m ≡ node_at t n.number.number → m.level ≡ 1 → v ≡ verdict_on s n
-      → IsEnough wanted new (join_entries verdict t v m m.count xs) → IsEnough wanted new (join_children verdict t s n xs)
-  leaf_joins wanted s n m v new xs is low same h =
-      let k = subst (λ u. IsEnough wanted new (join_entries verdict t u m m.count xs)) same h in
+  pub leaf_joins : (wanted : Option ℕ) (s : ℕ) (n : WaitingNode) (m : node.Node) (new xs : List Item)
+      → m ≡ node_at t n.number.number → m.level ≡ 1
+      → IsEnough wanted new (join_answers (answers_among t accepts score m m.count) xs)
+      → IsEnough wanted new (join_children accepts score verdict t s n xs)
+  leaf_joins wanted s n m new xs is low h =
       subst (λ (l : node.Node). IsEnough wanted new (cond (l.level == 1)
-      (join_entries verdict t (verdict_on s n) l l.count xs) (join_nodes is_kept verdict t (verdict_on s n) l l.count xs)))
-      is (rw (level_is m.level low) k)
+      (join_answers (answers_among t accepts score l l.count) xs)
+      (join_nodes verdict t (verdict_on s n) l l.count xs)))
+      is (rw (level_is m.level low) h)
 
   pub nodes_join : (wanted : Option ℕ) (s : ℕ) (n : WaitingNode) (m : node.Node) (v : Verdict) (new xs : List Item)
       → m ≡ node_at t n.number.number → m.level ≢ 1 → v ≡ verdict_on s n
-      → (let l = node_at t n.number.number in IsEnough wanted new (join_nodes is_kept verdict t v l l.count xs))
-      → IsEnough wanted new (join_children verdict t s n xs)
+      → (let l = node_at t n.number.number in IsEnough wanted new (join_nodes verdict t v l l.count xs))
+      → IsEnough wanted new (join_children accepts score verdict t s n xs)
   nodes_join wanted s n m v new xs is high same h =
       let l = node_at t n.number.number in
-      let k = subst (λ u. IsEnough wanted new (join_nodes is_kept verdict t u l l.count xs)) same h in
+      let k = subst (λ u. IsEnough wanted new (join_nodes verdict t u l l.count xs)) same h in
       let other : (l.level == 1) ≡ false = subst (λ (i : node.Node). (i.level == 1) ≡ false) is (level_is_not m.level high) in
       rw other k
 
@@ -164,7 +136,7 @@ module _ (accepts : Extent → Bool) (score : Extent → ℕ) (verdict : Info �
     pub opened_low : opened + 1 ≤ 2 ^ 32
     pub asked_low : asked + (node_at t n.number.number).count ≤ 2 ^ 32
     pub opened_upto : opened + 1 ≤ reached_from_root (is_reached None) one_node verdict t
-    pub next : (new : List Item) → IsEnough wanted new (join_children verdict t s n xs)
+    pub next : (new : List Item) → IsEnough wanted new (join_children accepts score verdict t s n xs)
         → IsUnderWay accepts score verdict t (opened + 1) (asked + (node_at t n.number.number).count) capacity wanted
         to_come new
 
@@ -194,18 +166,18 @@ module _ (accepts : Extent → Bool) (score : Extent → ℕ) (verdict : Info �
         opened_upto = done_upto (is_reached None) one_node verdict t (one_is_fair t) opened s n ys (reached_is None s n)
             taken.state.opening.in_all;
         next = λ new h. record {
-          all = join_children verdict t s n ys;
+          all = join_children accepts score verdict t s n ys;
           state = step.state;
-          rising = rising_children verdict t wanted s n ys up.1;
+          rising = rising_children accepts score verdict t wanted s n ys up.1;
           follows = step.same ∙ ap (remaining t accepts score) (sym k.1.0) ∙ u.follows;
-          enough = enough_trans wanted new (join_children verdict t s n xs) (join_children verdict t s n ys) h
-              (enough_children verdict t wanted s n xs ys k.1.1);
+          enough = enough_trans wanted new (join_children accepts score verdict t s n xs) (join_children accepts score verdict t s n ys) h
+              (enough_children accepts score verdict t wanted s n xs ys k.1.1);
         };
       }
 
   -- ---- an entry is taken out
 
-  pub found : (opened asked capacity : ℕ) (wanted : Option ℕ) (to_come : List Answer) (i : ℤ) (s : ℕ)
+  found : (opened asked capacity : ℕ) (wanted : Option ℕ) (to_come : List Answer) (i : ℤ) (s : ℕ)
       (items xs : List Item) → wanted ≢ Some 0 → items ≡ item_at s (place.Entry i) ∷ xs
       → IsUnderWay accepts score verdict t opened asked capacity wanted to_come items
       → IsFound accepts score verdict t opened asked capacity (one_less wanted) to_come (i, s) xs
@@ -230,7 +202,7 @@ module _ (accepts : Extent → Bool) (score : Extent → ℕ) (verdict : Info �
   no_work_left : (cost : node.Node → ℕ) (all : List Item) → all ≡ [] → work_left (is_reached None) cost verdict t all ≡ 0
   no_work_left cost all e = ap (work_left (is_reached None) cost verdict t) e
 
-  pub over : (opened asked capacity : ℕ) (wanted : Option ℕ) (to_come : List Answer) (items new : List Item)
+  over : (opened asked capacity : ℕ) (wanted : Option ℕ) (to_come : List Answer) (items new : List Item)
       → wanted ≢ Some 0 → items ≡ [] → new ≡ []
       → IsUnderWay accepts score verdict t opened asked capacity wanted to_come items
       → IsOver accepts score verdict t opened asked capacity wanted to_come new
@@ -252,3 +224,18 @@ module _ (accepts : Extent → Bool) (score : Extent → ℕ) (verdict : Info �
           checks = omega (arith, a, no_work_left its_children u.all end);
         };
       }
+
+  -- an entry was taken out, or nothing
+  pub ended : (out : Option FoundEntry) (opened asked capacity : ℕ) (wanted wanted' : Option ℕ) (to_come : List Answer)
+      (items new : List Item) → wanted ≢ Some 0
+      → IsTakenOut (taken_entry out) items new
+      → wanted' ≡ wanted_after (taken_entry out) wanted
+      → IsUnderWay accepts score verdict t opened asked capacity wanted to_come items
+      → MatchOption out (IsOver accepts score verdict t opened asked capacity wanted' to_come new)
+      (λ e. IsFound accepts score verdict t opened asked capacity wanted' to_come (e.id, e.score) new)
+  ended None opened asked capacity wanted wanted' to_come items new more took same u =
+      subst (λ w. IsOver accepts score verdict t opened asked capacity w to_come new) (sym same)
+      (over opened asked capacity wanted to_come items new more took.0 took.1 u)
+  ended (Some e) opened asked capacity wanted wanted' to_come items new more took same u =
+      subst (λ w. IsFound accepts score verdict t opened asked capacity w to_come (e.id, e.score) new) (sym same)
+      (found opened asked capacity wanted to_come e.id e.score items new more took.0 u)

@@ -1,10 +1,10 @@
 -- Items whose score is one word, and others, which come after them.
 use Rattle.std.proofs.Common.{◌≡◌, ◌<◌, ◌≤◌, ◌^◌, Bool, true, false, Option, Some, None, List, [], ◌∷◌, sym, subst}
-use Rattle.std.specs.Prelude.{IfNone, IfSome, MatchOption}
+use Rattle.std.specs.Prelude.{IfSome, MatchOption}
 use Rattle.std.specs.List.{AllByRecursion}
 use Rattle.std.proofs.lemmas.Bool.{false≢true}
 use Rattle.rt_search.specs.Items.{item_cmp}
-use Rattle.rt_search.specs.Kept.{IsAhead, IsLeast, offered}
+use Rattle.rt_search.specs.Kept.{IsAhead, IsLeast, IsTakenOut, offered}
 use Rattle.rt_search.specs.declared.item.Item.{Item}
 use Rattle.rt_search.proofs.Merging.{lower_least}
 use Rattle.rt_search.proofs.OrderedLists.{put-all}
@@ -17,10 +17,10 @@ low_ahead x old new wide e low high = subst (λ l. IsAhead l wide) (sym e) (lowe
 
 -- where one was taken from the narrow items, these are ahead
 pub narrow_ahead : (r : Option Item) (old new wide : List Item) → MatchOption r (true ≡ false) (λ _. true ≡ true)
-    → MatchOption r (old ≡ []) (λ x. old ≡ x ∷ new) → IfSome r (λ x. x.score < 2 ^ 64)
-    → AllByRecursion (λ y. 2 ^ 64 ≤ y.score) wide → IsAhead old wide
-narrow_ahead None old new wide some e low high = absurd (false≢true (sym some))
-narrow_ahead (Some x) old new wide some e low high = low_ahead x old new wide e low high
+    → IsTakenOut r old new → IfSome r (λ x. x.score < 2 ^ 64) → AllByRecursion (λ y. 2 ^ 64 ≤ y.score) wide
+    → IsAhead old wide
+narrow_ahead None old new wide some t low high = absurd (false≢true (sym some))
+narrow_ahead (Some x) old new wide some t low high = low_ahead x old new wide t.0 low high
 
 -- where there was none, the wide items are
 pub wide_ahead : (narrow wide : List Item) → narrow ≡ [] → IsAhead wide narrow
@@ -28,17 +28,17 @@ wide_ahead narrow [] e = e
 wide_ahead narrow (x ∷ wide) e = subst (IsLeast x) (sym e) tt
 
 pub none_taken : (r : Option Item) (old new : List Item) → MatchOption r (false ≡ false) (λ _. false ≡ true)
-    → MatchOption r (old ≡ []) (λ x. old ≡ x ∷ new) → IfNone r (new ≡ []) → (old ≡ []) × (new ≡ [])
-none_taken None old new none e n = (e, n)
-none_taken (Some x) old new none e n = absurd (false≢true none)
+    → IsTakenOut r old new → (old ≡ []) × (new ≡ [])
+none_taken None old new none t = t
+none_taken (Some x) old new none t = absurd (false≢true none)
 
 -- ---- what holds of each item
 
 -- also of those left
-pub left-all : (P : Item → Type 0) (r : Option Item) (old new : List Item)
-    → MatchOption r (old ≡ []) (λ x. old ≡ x ∷ new) → IfNone r (new ≡ []) → AllByRecursion P old → AllByRecursion P new
-left-all P None old new e n a = subst (AllByRecursion P) (sym n) tt
-left-all P (Some x) old new e n a = (subst (AllByRecursion P) e a).1
+pub left-all : (P : Item → Type 0) (r : Option Item) (old new : List Item) → IsTakenOut r old new
+    → AllByRecursion P old → AllByRecursion P new
+left-all P None old new t a = subst (AllByRecursion P) (sym t.1) tt
+left-all P (Some x) old new t a = (subst (AllByRecursion P) t.0 a).1
 
 -- and with one that joins where it is wanted
 pub offered-all : (P : Item → Type 0) (b : Bool) (x : Item) (xs : List Item) → P x → AllByRecursion P xs

@@ -1,16 +1,16 @@
 -- What opening a node means for the work to come and for the room that is used.
 use Rattle.std.proofs.Common.{◌≡◌, ◌<◌, ◌≤◌, ◌+◌, ◌-◌, ℕ, zero, suc, Bool, true, false, cond, List, [], ◌∷◌, length}
-use Rattle.std.proofs.Common.{take, get_or, refl, ◌∙◌, ap, arith, add-one}
+use Rattle.std.proofs.Common.{take, refl, ◌∙◌, ap, arith, add-one}
 use Rattle.std.specs.List.{sum_by}
 use Rattle.std.proofs.lemmas.List.Sums.{sum_by-append}
 use Rattle.rt_geo.specs.declared.geometry.Info.{Info}
 use Rattle.rt_geo.specs.declared.geometry.Verdict.{Verdict}
-use Rattle.rt_geo.specs.declared.geometry.Within.{Within}
-use Rattle.rt_tree.specs.Packed.{Packed, IsSubtree, child_entries, child_nodes, node_at}
+use Rattle.rt_tree.specs.Packed.{Packed, IsSubtree, child_nodes, node_at}
 use Rattle.rt_tree.specs.Sorting.{put}
 use Rattle.rt_tree.specs.declared.tree.Node.{Node}
-use Rattle.rt_search.specs.Items.{item_at, item_cmp}
-use Rattle.rt_search.specs.Joining.{info_of_child, join_entries, join_nodes, no_entry}
+use Rattle.rt_search.specs.Answers.{Answer}
+use Rattle.rt_search.specs.Items.{item_at, item_cmp, item_of}
+use Rattle.rt_search.specs.Joining.{join_answers, join_nodes}
 use Rattle.rt_search.specs.Progress.{held, size_at, work_at, work_left}
 use Rattle.rt_search.specs.Remaining.{height_at, waiting_node}
 use Rattle.rt_search.specs.Work.{info_of_node, is_kept, reached}
@@ -36,170 +36,141 @@ cond_at_most : (b : Bool) (n : ℕ) → cond b n 0 ≤ n
 cond_at_most true n = omega arith
 cond_at_most false n = omega arith
 
-cond_zero : (b : Bool) → ◌≡◌ {A = ℕ} (cond b 0 0) 0
-cond_zero true = refl
-cond_zero false = refl
-
--- nodes wait that may be opened: each that joins isn't NOT, and none is opened that doesn't join
-pub record IsJoining (opens : Verdict → Bool) (joins : Within → Bool) : Type 0 where
-  pub kept : (w : Within) → joins w ≡ true → is_kept w ≡ true
-  pub closed : (v : Verdict) → joins v.within ≡ false → opens v ≡ false
-
 module _ (verdict : Info → Verdict) (t : Packed) (v : Verdict) where
-  pub length-join_entries : (n : Node) (i : ℕ) (xs : List Item)
-      → length (join_entries verdict t v n i xs) ≤ length xs + i
-  length-join_entries n zero xs = omega arith
-  length-join_entries n (suc i) xs =
-      let e = get_or (child_entries t n) i no_entry in
-      let w = verdict (info_of_child t v e) in
+  pub held-join_answers : (answers : List Answer) (xs : List Item)
+      → held t (join_answers answers xs) ≡ held t xs + length answers
+  held-join_answers [] xs = omega arith
+  held-join_answers (a ∷ answers) xs =
       omega (
         arith,
-        one_longer (is_kept w.within) (item_at w.score (place.Entry e.id))
-            (join_entries verdict t v n i xs),
-        length-join_entries n i xs,
+        sum_by-put item_cmp item_order (λ x. size_at t x.place) (item_of a) (join_answers answers xs),
+        held-join_answers answers xs,
       )
 
-  pub held-join_entries : (n : Node) (i : ℕ) (xs : List Item) → held t (join_entries verdict t v n i xs) ≤ held t xs + i
-  held-join_entries n zero xs = omega arith
-  held-join_entries n (suc i) xs =
-      let e = get_or (child_entries t n) i no_entry in
-      let w = verdict (info_of_child t v e) in
+  pub work-join_answers : (opens : Verdict → Bool) (cost : Node → ℕ) (answers : List Answer) (xs : List Item)
+      → work_left opens cost verdict t (join_answers answers xs) ≡ work_left opens cost verdict t xs
+  work-join_answers opens cost [] xs = refl
+  work-join_answers opens cost (a ∷ answers) xs =
       omega (
         arith,
-        joined_adds (λ x. size_at t x.place) (is_kept w.within) (item_at w.score (place.Entry e.id))
-            (join_entries verdict t v n i xs),
-        cond_at_most (is_kept w.within) 1,
-        held-join_entries n i xs,
+        sum_by-put item_cmp item_order (λ x. work_at opens cost verdict t x.score x.place) (item_of a)
+            (join_answers answers xs),
+        work-join_answers opens cost answers xs,
       )
 
-  pub work-join_entries : (opens : Verdict → Bool) (cost : Node → ℕ) (n : Node) (i : ℕ) (xs : List Item)
-      → work_left opens cost verdict t (join_entries verdict t v n i xs) ≡ work_left opens cost verdict t xs
-  work-join_entries opens cost n zero xs = refl
-  work-join_entries opens cost n (suc i) xs =
-      let e = get_or (child_entries t n) i no_entry in
-      let w = verdict (info_of_child t v e) in
+  abbrev waiting : Verdict → ℕ → Item
+  waiting w m = item_at w.score (place.Node (waiting_node m w.within))
+
+  pub length-join_nodes : (n : Node) (i : ℕ) (xs : List Item)
+      → length (join_nodes verdict t v n i xs) ≤ length xs + i
+  length-join_nodes n zero xs = omega arith
+  length-join_nodes n (suc i) xs =
+      let w = verdict (info_of_node t v (node_at t (n.first + i))) in
       omega (
         arith,
-        joined_adds (λ x. work_at opens cost verdict t x.score x.place) (is_kept w.within)
-            (item_at w.score (place.Entry e.id)) (join_entries verdict t v n i xs),
-        cond_zero (is_kept w.within),
-        work-join_entries opens cost n i xs,
+        one_longer (is_kept w.within) (waiting w (n.first + i)) (join_nodes verdict t v n i xs),
+        length-join_nodes n i xs,
       )
 
-  module _ (joins : Within → Bool) where
-    abbrev waiting : Verdict → ℕ → Item
-    waiting w m = item_at w.score (place.Node (waiting_node m w.within))
+  module _ (number : ℕ) (tree : IsSubtree t (height_at t number) (node_at t number))
+      (high : 2 ≤ (node_at t number).level) where
+    each : (i : ℕ) → i < (node_at t number).count
+        → IsChild t (node_at t number) (height_at t number - 1) i ((node_at t number).first + i)
+    each i lt = child_of t number i ((node_at t number).first + i) tree high lt refl
 
-    pub length-join_nodes : (n : Node) (i : ℕ) (xs : List Item)
-        → length (join_nodes joins verdict t v n i xs) ≤ length xs + i
-    length-join_nodes n zero xs = omega arith
-    length-join_nodes n (suc i) xs =
-        let w = verdict (info_of_node t v (node_at t (n.first + i))) in
+    pub sum_more : (f : Node → ℕ) (i : ℕ) → i < (node_at t number).count
+        → sum_by f (take (suc i) (child_nodes t (node_at t number)))
+        ≡ sum_by f (take i (child_nodes t (node_at t number))) + f (node_at t ((node_at t number).first + i))
+    sum_more f i lt =
+        let k = each i lt in
+        let m = node_at t ((node_at t number).first + i) in
+        rw (← add-one i) (ap (sum_by f) (take_more_at (child_nodes t (node_at t number)) i m k.place k.is)
+        ∙ sum_by-append f (take i (child_nodes t (node_at t number))) (m ∷ [])
+        ∙ ap (λ z. sum_by f (take i (child_nodes t (node_at t number))) + z) (omega arith))
+
+    held_upto : (xs : List Item) (i : ℕ) → i ≤ (node_at t number).count
+        → held t (join_nodes verdict t v (node_at t number) i xs) ≤ held t xs + sum_by (λ k. k.size)
+        (take i (child_nodes t (node_at t number)))
+    held_upto xs zero le = omega arith
+    held_upto xs (suc i) le =
+        let lt : i < (node_at t number).count = omega arith in
+        let m = (node_at t number).first + i in
+        let w = verdict (info_of_node t v (node_at t m)) in
         omega (
           arith,
-          one_longer (joins w.within) (waiting w (n.first + i)) (join_nodes joins verdict t v n i xs),
-          length-join_nodes n i xs,
+          joined_adds (λ x. size_at t x.place) (is_kept w.within) (waiting w m)
+              (join_nodes verdict t v (node_at t number) i xs),
+          cond_at_most (is_kept w.within)
+              (node_at t m).size,
+          held_upto xs i (omega arith),
+          sum_more (λ k. k.size) i lt,
         )
 
-    module _ (number : ℕ) (tree : IsSubtree t (height_at t number) (node_at t number))
-        (high : 2 ≤ (node_at t number).level) where
-      each : (i : ℕ) → i < (node_at t number).count
-          → IsChild t (node_at t number) (height_at t number - 1) i ((node_at t number).first + i)
-      each i lt = child_of t number i ((node_at t number).first + i) tree high lt refl
+    pub held-join_nodes : (xs : List Item)
+        → held t (join_nodes verdict t v (node_at t number) (node_at t number).count xs) ≤ held t xs +
+        (node_at t number).size
+    held-join_nodes xs =
+        let n = node_at t number in
+        let inner = (inner_at t (height_at t number) n tree high).1 in
+        let all = ap (sum_by (λ k. k.size)) (all_children t number tree high n.count (omega arith)) in
+        let size = inner.size in
+        omega (arith, held_upto xs n.count (omega arith), all, size)
 
-      pub sum_more : (f : Node → ℕ) (i : ℕ) → i < (node_at t number).count
-          → sum_by f (take (suc i) (child_nodes t (node_at t number)))
-          ≡ sum_by f (take i (child_nodes t (node_at t number))) + f (node_at t ((node_at t number).first + i))
-      sum_more f i lt =
-          let k = each i lt in
-          let m = node_at t ((node_at t number).first + i) in
-          rw (← add-one i) (ap (sum_by f) (take_more_at (child_nodes t (node_at t number)) i m k.place k.is)
-          ∙ sum_by-append f (take i (child_nodes t (node_at t number))) (m ∷ [])
-          ∙ ap (λ z. sum_by f (take i (child_nodes t (node_at t number))) + z) (omega arith))
+    module _ (opens : Verdict → Bool) (closed : (v : Verdict) → is_kept v.within ≡ false → opens v ≡ false) (cost : Node → ℕ) where
+      -- what a child brings to the work
+      abbrev brings : ℕ → Node → ℕ
+      brings h k = let w = verdict (info_of_node t v k) in cond (opens w) (reached opens cost verdict t h w k) 0
 
-      held_upto : (xs : List Item) (i : ℕ) → i ≤ (node_at t number).count
-          → held t (join_nodes joins verdict t v (node_at t number) i xs) ≤ held t xs + sum_by (λ k. k.size)
+      abbrev under_verdict : ℕ → Verdict → ℕ
+      under_verdict m w = cond (opens w) (reached opens cost verdict t (height_at t m) w (node_at t m)) 0
+
+      brought : (m : ℕ) → let w = verdict (info_of_node t v (node_at t m)) in
+          cond (is_kept w.within) (work_at opens cost verdict t w.score (place.Node (waiting_node m w.within))) 0
+          ≡ brings (height_at t m) (node_at t m)
+      brought m =
+          let w = verdict (info_of_node t v (node_at t m)) in
+          let split : (b : Bool) → is_kept w.within ≡ b
+          → cond b (work_at opens cost verdict t w.score (place.Node (waiting_node m w.within))) 0
+          ≡ under_verdict m w = elim [
+            | true ↦ λ h. ap (under_verdict m) (verdict_told w m h)
+            | false ↦ λ h. (let c = closed w h in rw c refl)
+          ] in
+          split (is_kept w.within) refl
+
+      work_upto : (xs : List Item) (i : ℕ) → i ≤ (node_at t number).count
+          → work_left opens cost verdict t (join_nodes verdict t v (node_at t number) i xs)
+          ≡ work_left opens cost verdict t xs + sum_by (brings (height_at t number - 1))
           (take i (child_nodes t (node_at t number)))
-      held_upto xs zero le = omega arith
-      held_upto xs (suc i) le =
+      work_upto xs zero le = omega arith
+      work_upto xs (suc i) le =
           let lt : i < (node_at t number).count = omega arith in
           let m = (node_at t number).first + i in
           let w = verdict (info_of_node t v (node_at t m)) in
+          let k = each i lt in
+          let adds = joined_adds (λ x. work_at opens cost verdict t x.score x.place) (is_kept w.within) (waiting w m)
+          (join_nodes verdict t v (node_at t number) i xs) in
+          let same : brings (height_at t m) (node_at t m) ≡ brings (height_at t number - 1) (node_at t m) =
+          ap (λ h. brings h (node_at t m)) k.height in
           omega (
             arith,
-            joined_adds (λ x. size_at t x.place) (joins w.within) (waiting w m)
-                (join_nodes joins verdict t v (node_at t number) i xs),
-            cond_at_most (joins w.within)
-                (node_at t m).size,
-            held_upto xs i (omega arith),
-            sum_more (λ k. k.size) i lt,
+            adds,
+            brought m,
+            same,
+            work_upto xs i (omega arith),
+            sum_more
+                (brings (height_at t number - 1)) i lt,
           )
 
-      pub held-join_nodes : (xs : List Item)
-          → held t (join_nodes joins verdict t v (node_at t number) (node_at t number).count xs) ≤ held t xs +
-          (node_at t number).size
-      held-join_nodes xs =
+      pub work-join_nodes : (xs : List Item)
+          → work_left opens cost verdict t
+          (join_nodes verdict t v (node_at t number) (node_at t number).count xs) + cost (node_at t number)
+          ≡ work_left opens cost verdict t xs + reached opens cost verdict t (height_at t number) v
+          (node_at t number)
+      work-join_nodes xs =
           let n = node_at t number in
-          let inner = (inner_at t (height_at t number) n tree high).1 in
-          let all = ap (sum_by (λ k. k.size)) (all_children t number tree high n.count (omega arith)) in
-          let size = inner.size in
-          omega (arith, held_upto xs n.count (omega arith), all, size)
-
-      module _ (opens : Verdict → Bool) (joining : IsJoining opens joins) (cost : Node → ℕ) where
-        -- what a child brings to the work
-        abbrev brings : ℕ → Node → ℕ
-        brings h k = let w = verdict (info_of_node t v k) in cond (opens w) (reached opens cost verdict t h w k) 0
-
-        abbrev under_verdict : ℕ → Verdict → ℕ
-        under_verdict m w = cond (opens w) (reached opens cost verdict t (height_at t m) w (node_at t m)) 0
-
-        brought : (m : ℕ) → let w = verdict (info_of_node t v (node_at t m)) in
-            cond (joins w.within) (work_at opens cost verdict t w.score (place.Node (waiting_node m w.within))) 0
-            ≡ brings (height_at t m) (node_at t m)
-        brought m =
-            let w = verdict (info_of_node t v (node_at t m)) in
-            let split : (b : Bool) → joins w.within ≡ b
-            → cond b (work_at opens cost verdict t w.score (place.Node (waiting_node m w.within))) 0
-            ≡ under_verdict m w = elim [
-              | true ↦ λ h. ap (under_verdict m) (verdict_told w m (joining.kept w.within h))
-              | false ↦ λ h. (let c = joining.closed w h in rw c refl)
-            ] in
-            split (joins w.within) refl
-
-        work_upto : (xs : List Item) (i : ℕ) → i ≤ (node_at t number).count
-            → work_left opens cost verdict t (join_nodes joins verdict t v (node_at t number) i xs)
-            ≡ work_left opens cost verdict t xs + sum_by (brings (height_at t number - 1))
-            (take i (child_nodes t (node_at t number)))
-        work_upto xs zero le = omega arith
-        work_upto xs (suc i) le =
-            let lt : i < (node_at t number).count = omega arith in
-            let m = (node_at t number).first + i in
-            let w = verdict (info_of_node t v (node_at t m)) in
-            let k = each i lt in
-            let adds = joined_adds (λ x. work_at opens cost verdict t x.score x.place) (joins w.within) (waiting w m)
-            (join_nodes joins verdict t v (node_at t number) i xs) in
-            let same : brings (height_at t m) (node_at t m) ≡ brings (height_at t number - 1) (node_at t m) =
-            ap (λ h. brings h (node_at t m)) k.height in
-            omega (
-              arith,
-              adds,
-              brought m,
-              same,
-              work_upto xs i (omega arith),
-              sum_more
-                  (brings (height_at t number - 1)) i lt,
-            )
-
-        pub work-join_nodes : (xs : List Item)
-            → work_left opens cost verdict t
-            (join_nodes joins verdict t v (node_at t number) (node_at t number).count xs) + cost (node_at t number)
-            ≡ work_left opens cost verdict t xs + reached opens cost verdict t (height_at t number) v
-            (node_at t number)
-        work-join_nodes xs =
-            let n = node_at t number in
-            let h = height_at t number - 1 in
-            let all = ap (sum_by (brings h)) (all_children t number tree high n.count (omega arith)) in
-            let whole : reached opens cost verdict t (height_at t number) v n
-            ≡ reached opens cost verdict t (suc h) v n =
-            ap (λ m. reached opens cost verdict t m v n) (height_suc t number tree high) in
-            omega (arith, work_upto xs n.count (omega arith), all, whole)
+          let h = height_at t number - 1 in
+          let all = ap (sum_by (brings h)) (all_children t number tree high n.count (omega arith)) in
+          let whole : reached opens cost verdict t (height_at t number) v n
+          ≡ reached opens cost verdict t (suc h) v n =
+          ap (λ m. reached opens cost verdict t m v n) (height_suc t number tree high) in
+          omega (arith, work_upto xs n.count (omega arith), all, whole)

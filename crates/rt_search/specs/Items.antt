@@ -3,6 +3,7 @@ use Rattle.std.specs.Prelude.{ℕ, Option, List}
 use Rattle.std.specs.Ordering.{bool_cmp, int_cmp, nat_cmp, on, then_cmp}
 use Rattle.std.specs.declared.cmp.Ordering.{Ordering}
 use Rattle.std.specs.declared.cmp.Ordering.TheVariants.{Less, Greater}
+use Rattle.rt_search.specs.Answers.{Answer}
 use Rattle.rt_search.specs.declared.item.Item.{Item}
 use Rattle.rt_search.specs.declared.item.Place.{Place}
 use Rattle.rt_search.specs.declared.item.Place.TheVariants.{Node, Entry}
@@ -10,6 +11,10 @@ use Rattle.rt_search.specs.declared.item.WaitingNode.{WaitingNode}
 
 abbrev pub item_at : (score : ℕ) → Place → Item
 item_at score where_it_is = record { score = score; place = where_it_is }
+
+-- an answer, as its entry
+abbrev pub item_of : Answer → Item
+item_of a = item_at a.1 (Entry a.0)
 
 -- nodes by number
 abbrev pub node_cmp : WaitingNode → WaitingNode → Ordering
@@ -39,6 +44,9 @@ pub record Limited : Type 0 where
   pub items : List Item
   pub wanted : Option ℕ
   pub capacity : ℕ
+
+abbrev pub limited : SearchRoom → Limited
+limited r = record { items = r.items; wanted = r.wanted; capacity = r.capacity }
 
 -- a part of it, which keeps all
 pub record Waiting : Type 0 where

@@ -47,9 +47,12 @@ node_or (Some n) other = Some (item_at n.score (Node n.node))
 abbrev pub taken_node : Option ScoredNode → Option Item
 taken_node node = node_or node None
 
+abbrev pub found_item : FoundEntry → Item
+found_item e = item_at e.score (Entry e.id)
+
 abbrev pub taken_entry : Option FoundEntry → Option Item
 taken_entry None = None
-taken_entry (Some e) = Some (item_at e.score (Entry e.id))
+taken_entry (Some e) = Some (found_item e)
 
 abbrev pub taken_item : Taken → Option Item
 taken_item t = node_or t.node (taken_entry t.entry)
@@ -66,6 +69,10 @@ abbrev pub IsEntry : Place → Type 0
 IsEntry (Node n) = ⊥
 IsEntry (Entry id) = Unit {0}
 
+-- no node is among them
+abbrev pub AllEntries : List Item → Type 0
+AllEntries = AllByRecursion (λ x. IsEntry x.place)
+
 -- an item joins, where it is wanted
 abbrev pub offered : (is_wanted : Bool) → Item → List Item → List Item
 offered is_wanted x items = if is_wanted then put item_cmp x items else items
@@ -73,6 +80,11 @@ offered is_wanted x items = if is_wanted then put item_cmp x items else items
 -- x comes after none of them
 abbrev pub IsLeast : Item → List Item → Type 0
 IsLeast x = AllByRecursion (λ y. is_gt (item_cmp x y) ≡ false)
+
+-- what was taken out stood first, if anything was there, and comes after none of what is left
+abbrev pub IsTakenOut : Option Item → (old new : List Item) → Type 0
+IsTakenOut None old new = (old ≡ []) × (new ≡ [])
+IsTakenOut (Some x) old new = (old ≡ x ∷ new) × IsLeast x new
 
 -- the first has this score, and none a lower one
 abbrev pub IsFirstScore : ℕ → List Item → Type 0
@@ -151,4 +163,4 @@ pub record HasHits {A B : Type 0} (ids : Vec (Reverse ℤ) A) (keys : Vec (Rever
   pub few : length (hits_in ids.items keys.items wide.items) ≤ capacity
   pub above : AllByRecursion (λ x. 0 < x.score) (in_order entry_item keys.items)
   pub high : AllByRecursion (λ x. 2 ^ 64 ≤ x.score) wide.items
-  pub entries : AllByRecursion (λ x. IsEntry x.place) wide.items
+  pub entries : AllEntries wide.items

@@ -1,12 +1,12 @@
 pub mod Answers
-pub mod Counting
-pub mod Gathering
 pub mod Items
 pub mod Joining
 pub mod Kept
+pub mod Lemmas
 pub mod Limits
 pub mod Pooling
 pub mod Progress
 pub mod Remaining
 pub mod Searching
+pub mod Walking
 pub mod Work

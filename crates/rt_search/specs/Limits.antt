@@ -4,6 +4,7 @@ use Rattle.std.specs.Prelude.{length, vec_capacity}
 use Rattle.std.specs.Ordering.{is_gt}
 use Rattle.std.specs.declared.cmp.Reverse.{Reverse}
 use Rattle.std.specs.declared.vec.Vec.{Vec}
+use Rattle.rt_tree.specs.Sorting.{put}
 use Rattle.rt_search.specs.Items.{Limited, Waiting, item_cmp}
 use Rattle.rt_search.specs.Kept.{IsFalling, entry_item, in_order}
 use Rattle.rt_search.specs.Pooling.{keys_in}
@@ -34,6 +35,16 @@ front_of (Some n) items = front items n
 pub record IsEnough (wanted : Option ℕ) (items all : List Item) : Type 0 where
   pub same : front_of wanted items ≡ front_of wanted all
   pub few : length items ≤ length all
+
+-- enough of these items wait, and nothing else has changed
+pub record KeepsEnough (all : List Item) (old new : Limited) : Type 0 where
+  pub items : IsEnough old.wanted new.items all
+  pub wanted : new.wanted ≡ old.wanted
+  pub capacity : new.capacity ≡ old.capacity
+
+-- an item joined
+abbrev pub IsPut : Item → (old new : Limited) → Type 0
+IsPut x old new = KeepsEnough (put item_cmp x old.items) old new
 
 -- how many entries stand before the place of x
 abbrev pub entries_before : Item → List Item → ℕ

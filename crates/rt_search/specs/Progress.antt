@@ -10,11 +10,12 @@ use Rattle.rt_tree.specs.Packed.{Packed, IsSound, node_at}
 use Rattle.rt_tree.specs.declared.tree.Node.{Node}
 use Rattle.rt_search.specs.Answers.{Answer, answers}
 use Rattle.rt_search.specs.Items.{item_at, item_cmp}
-use Rattle.rt_search.specs.Joining.{join_entries, join_nodes}
+use Rattle.rt_search.specs.Joining.{join_answers, join_nodes}
 use Rattle.rt_search.specs.Kept.{IsRising}
 use Rattle.rt_search.specs.Limits.{IsEnough}
 use Rattle.rt_search.specs.Remaining.{AllSound, height_at, remaining, verdict_on}
-use Rattle.rt_search.specs.Work.{HasWorked, is_kept, is_reached, its_children, one_node, reached_from_root, reached}
+use Rattle.rt_search.specs.Walking.{answers_among}
+use Rattle.rt_search.specs.Work.{HasWorked, is_reached, its_children, one_node, reached_from_root, reached}
 use Rattle.rt_search.specs.declared.item.Item.{Item}
 use Rattle.rt_search.specs.declared.item.Place.{Place}
 use Rattle.rt_search.specs.declared.item.Place.TheVariants as place
@@ -64,12 +65,13 @@ pub record IsSearching (accepts : Extent → Bool) (score : Extent → ℕ) (ver
   pub asking : IsOnCourse accepts score verdict its_children t asked items
 
 -- the children of a node join
-abbrev pub join_children : (verdict : Info → Verdict) → Packed → (score : ℕ) → WaitingNode → List Item → List Item
-join_children verdict t s n items =
+abbrev pub join_children : (accepts : Extent → Bool) → (score : Extent → ℕ) → (verdict : Info → Verdict) → Packed → ℕ
+    → WaitingNode → List Item → List Item
+join_children accepts score verdict t s n items =
     let m = node_at t n.number.number in
     if m.level == 1
-    then join_entries verdict t (verdict_on s n) m m.count items
-    else join_nodes is_kept verdict t (verdict_on s n) m m.count items
+    then join_answers (answers_among t accepts score m m.count) items
+    else join_nodes verdict t (verdict_on s n) m m.count items
 
 -- what holds after a node was opened
 pub record IsNodeStep (accepts : Extent → Bool) (score : Extent → ℕ) (verdict : Info → Verdict) (t : Packed)

@@ -1,6 +1,6 @@
-//! What a count tells.
+//! What a count returns.
 
-/// How many entries are accepted, and how many nodes were opened to tell it.
+/// How many entries are accepted, and how many nodes were opened to count them.
 #[derive(Clone, Copy, Debug, PartialEq, Eq)]
 pub struct Count {
     /// How many entries are accepted.

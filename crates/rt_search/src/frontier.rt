@@ -1,19 +1,24 @@
 //! What waits to be taken out, least first.
 
-ghost use Rattle.std.specs.Prelude.{◌≡◌, ◌==◌, ◌<◌, ◌≤◌, [], ◌∷◌, false, length, IfNone, IfOk, IfSome, MatchOption};
+ghost use Rattle.std.specs.Prelude.{◌≡◌, ◌==◌, ◌<◌, ◌≤◌, ◌^◌, [], ◌∷◌, false, length, IfNone, IfOk, IfSome, MatchOption};
 ghost use Rattle.std.specs.Prelude.{None, Some};
 ghost use Rattle.std.specs.List.{AllByRecursion};
 ghost use Rattle.std.specs.Ordering.{is_gt};
 ghost use Rattle.rt_search.specs.declared.item.Place.TheVariants as place;
-ghost use Rattle.rt_search.specs.Items.{item_at, item_cmp};
-ghost use Rattle.rt_search.specs.Gathering.{AllEntries};
-ghost use Rattle.rt_search.specs.Kept.{IsLeast, offered, taken_entry, taken_item};
-ghost use Rattle.rt_search.specs.Limits.{IsEnough, wanted_after};
+ghost use Rattle.rt_search.specs.Items.{item_at, limited};
+ghost use Rattle.rt_search.specs.Answers.{answers};
+ghost use Rattle.rt_search.specs.Kept.{AllEntries, IsLeast, IsTakenOut, taken_entry, taken_item};
+ghost use Rattle.rt_search.specs.Limits.{IsPut, wanted_after};
+ghost use Rattle.rt_search.specs.Remaining.{remaining};
+ghost use Rattle.rt_search.specs.Work.{HasWorked};
 ghost use Rattle.rt_tree.specs.Sorting.{put};
 
 use crate::hits::Hits;
 use crate::item::{FoundEntry, Taken, WaitingNode};
 use crate::queue::Queue;
+use crate::walk::{Collector, walk};
+use rt_geo::{Counted, Geometry};
+use rt_tree::Tree;
 use std::alloc::{AllocError, Global};
 use std::marker::Model;
 
@@ -90,27 +95,32 @@ impl Frontier {
         ensures items { self.new.items ≡ [] }
         ensures wanted { IfSome self.new.wanted (λ n. limit ≡ Some n) }
         ensures capacity { self.new.capacity ≡ self.old.capacity }
+        ensures low { self.new.capacity < 2 ^ 32 }
     {
         self.rooms.queue.clear(limit);
     }
 
-    // For a full search.
-    pub(crate) fn clear_for_all(&mut self)
-        ensures items { self.new.items ≡ [] }
-        ensures hits { self.new.hits ≡ [] }
+    // Finds all hits in a tree, and returns how many nodes were opened.
+    pub(crate) fn gather<G: Geometry>(&mut self, tree: &Tree, counted: &mut Counted<'_, G>) -> u64
+        requires capacity { length tree.now.entries ≤ self.old.capacity }
+        requires asked { counted.old.asked ≡ 0 }
+        ensures answers { let g = counted.old.geometry in remaining tree.now (G.accepts g) (G.score g) self.new.hits
+            ≡ answers tree.now.entries (G.accepts g) (G.score g) None }
+        ensures worked { let g = counted.old.geometry in
+            HasWorked (G.accepts g) (G.score g) (G.verdict g) tree.now None result counted.new.asked }
         ensures capacity { self.new.capacity ≡ self.old.capacity }
+        ensures geometry { counted.new.geometry ≡ counted.old.geometry }
     {
-        self.rooms.queue.clear(None);
-        self.rooms.hits.clear();
+        let rooms = &mut *self.rooms;
+        rooms.queue.clear(None);
+        rooms.hits.clear();
+        walk(tree, &mut rooms.hits, counted)
     }
 
     #[inline(always)]
     pub(crate) fn put_node(&mut self, score: u128, node: WaitingNode)
         requires { length self.old.items < self.old.capacity }
-        ensures items { IsEnough self.old.wanted self.new.items
-            (put item_cmp (item_at score (place.Node node)) self.old.items) }
-        ensures wanted { self.new.wanted ≡ self.old.wanted }
-        ensures capacity { self.new.capacity ≡ self.old.capacity }
+        ensures { IsPut (item_at score (place.Node node)) (limited self.old) (limited self.new) }
     {
         self.rooms.queue.put_node(score, node);
     }
@@ -118,45 +128,45 @@ impl Frontier {
     #[inline(always)]
     pub(crate) fn put_entry(&mut self, score: u128, id: i64)
         requires { length self.old.items < self.old.capacity }
-        ensures items { IsEnough self.old.wanted self.new.items
-            (put item_cmp (item_at score (place.Entry id)) self.old.items) }
-        ensures wanted { self.new.wanted ≡ self.old.wanted }
-        ensures capacity { self.new.capacity ≡ self.old.capacity }
+        ensures { IsPut (item_at score (place.Entry id)) (limited self.old) (limited self.new) }
     {
         self.rooms.queue.put_entry(score, id);
     }
 
     #[inline(always)]
     pub(crate) fn take(&mut self) -> Taken
-        ensures items { MatchOption (taken_item result) (self.old.items ≡ [])
-            (λ x. self.old.items ≡ x ∷ self.new.items) }
-        ensures none { IfNone (taken_item result) (self.new.items ≡ []) }
-        ensures least { IfSome (taken_item result)
-            (λ x. AllByRecursion (λ y. is_gt (item_cmp x y) ≡ false) self.new.items) }
+        ensures taken { IsTakenOut (taken_item result) self.old.items self.new.items }
         ensures wanted { self.new.wanted ≡ wanted_after (taken_item result) self.old.wanted }
         ensures capacity { self.new.capacity ≡ self.old.capacity }
     {
         self.rooms.queue.take()
     }
 
-    // Keeps what a full search found where it is wanted.
-    #[inline(always)]
-    pub(crate) fn offer_hit(&mut self, is_wanted: bool, score: u128, id: i64)
-        requires { length self.old.hits < self.old.capacity }
-        ensures hits { self.new.hits ≡ offered is_wanted (item_at score (place.Entry id)) self.old.hits }
-        ensures capacity { self.new.capacity ≡ self.old.capacity }
-    {
-        self.rooms.hits.offer(is_wanted, score, id);
-    }
-
     #[inline(always)]
     pub(crate) fn take_hit(&mut self) -> Option<FoundEntry>
-        ensures hits { MatchOption (taken_entry result) (self.old.hits ≡ []) (λ x. self.old.hits ≡ x ∷ self.new.hits) }
-        ensures none { IfNone (taken_entry result) (self.new.hits ≡ []) }
-        ensures least { IfSome (taken_entry result) (λ x. IsLeast x self.new.hits) }
+        ensures taken { IsTakenOut (taken_entry result) self.old.hits self.new.hits }
         ensures entries { AllEntries self.old.hits }
         ensures capacity { self.new.capacity ≡ self.old.capacity }
     {
         self.rooms.hits.take()
     }
+}
+
+impl Collector for Frontier {
+    ghost use Rattle.std.specs.Prelude.{◌-◌};
+    ghost use Rattle.rt_search.specs.Items.{item_of};
+    ghost use Rattle.rt_search.specs.Lemmas.{entries-fill};
+
+    ghost takes = { λ old a new. IsPut (item_of a) (limited old) (limited new) };
+
+    ghost room = { λ f. f.capacity - length f.items };
+
+    #[inline(always)]
+    fn visit_entry(&mut self, is_kept: bool, score: u128, id: i64) {
+        if is_kept {
+            self.put_entry(score, id);
+        }
+    }
+
+    ghost fills = { entries-fill };
 }

@@ -5,7 +5,6 @@ ghost use Rattle.rt_search.specs.Answers.{answers};
 ghost use Rattle.rt_search.specs.Work.{HasWorked};
 
 use crate::frontier::Frontier;
-use crate::gathering::gather;
 use rt_geo::{Counted, Geometry};
 use rt_tree::Tree;
 use std::marker::Model;
@@ -57,7 +56,7 @@ impl<'a, G: Geometry> FullSearch<'a, G> {
     {
         let mut frontier = frontier;
         let mut counted = counted;
-        let opened = gather(tree, &mut frontier, &mut counted);
+        let opened = frontier.gather(tree, &mut counted);
         FullSearch {
             tree,
             frontier,

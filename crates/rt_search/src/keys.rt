@@ -6,7 +6,7 @@
 ghost use Rattle.std.specs.Prelude.{◌≡◌, ◌<◌, ◌/◌, ◌^◌};
 ghost use Rattle.rt_search.specs.declared.item.Place.TheVariants as place;
 ghost use Rattle.rt_search.specs.Items.{item_at};
-ghost use Rattle.rt_search.specs.Kept.{entry_item, lesser, node_item};
+ghost use Rattle.rt_search.specs.Kept.{entry_item, found_item, lesser, node_item};
 
 use crate::item::{FoundEntry, ScoredNode, WaitingNode};
 use rt_tree::NodeNo;
@@ -37,7 +37,7 @@ pub fn entry_key(score: u64, id: i64) -> u128
 /// The entry of a key.
 #[inline(always)]
 pub fn entry_of(key: u128) -> FoundEntry
-    ensures item { item_at result.score (place.Entry result.id) ≡ entry_item (record { 0 = key }) }
+    ensures item { found_item result ≡ entry_item (record { 0 = key }) }
     ensures low { result.score < 2 ^ 64 }
 {
     FoundEntry {

@@ -3,8 +3,8 @@
 //! A [`Search`] gives the answers to a query one at a time, for any geometry that keeps its laws: those of a plain scan
 //! of all entries, by score and then id, cut at a limit. It opens exactly the nodes that the last answer's score makes
 //! necessary. A [`FullSearch`] finds all answers before it gives the first, with the work of a search without a limit.
-//! [`count`] tells how many entries are accepted, and adds the size of a node that is accepted whole. [`cost`] tells how
-//! many nodes a search opens. A search works in the room of a [`Frontier`] that was made beforehand, a count in none, and
+//! [`count`] returns how many entries are accepted, and adds the size of a node that is accepted whole. [`cost`] returns
+//! how many nodes a search opens. A search works in the room of a [`Frontier`] that was made beforehand, a count in none, and
 //! neither takes memory.
 //!
 //! Words: an entry is a box of the table with its id and layer, a node a subtree with its bounds. To check is to ask the
@@ -22,7 +22,6 @@ mod counts;
 mod entries;
 mod frontier;
 mod full_search;
-mod gathering;
 mod hits;
 mod item;
 mod keys;
@@ -30,6 +29,7 @@ mod opening;
 mod pool;
 mod queue;
 mod search;
+mod walk;
 mod wide;
 
 pub use costing::cost;

@@ -141,7 +141,7 @@ fn edge_beyond(least: u64) -> u64
     least.saturating_mul(FARTHER)
 }
 
-// Moves the keys of scores up to the edge to those near, and tells the least score of the others. Out of line, as it is
+// Moves the keys of scores up to the edge to those near, and returns the least score of the others. Out of line, as it is
 // rare.
 #[inline(never)]
 fn move_near(

@@ -4,8 +4,8 @@ ghost use Rattle.std.specs.Prelude.{◌≡◌, ◌<◌, ◌≤◌, ◌^◌, [], 
 ghost use Rattle.std.specs.Prelude.{MatchOption, None, Some, true};
 ghost use Rattle.rt_search.specs.declared.item.Place.TheVariants as place;
 ghost use Rattle.rt_search.specs.Items.{item_at, item_cmp};
-ghost use Rattle.rt_search.specs.Kept.{IsAhead, IsLeast, in_order, narrow, node_item, taken_item, taken_node};
-ghost use Rattle.rt_search.specs.Limits.{IsEnough, wanted_after};
+ghost use Rattle.rt_search.specs.Kept.{IsAhead, IsLeast, IsTakenOut, in_order, narrow, node_item, taken_item, taken_node};
+ghost use Rattle.rt_search.specs.Limits.{IsPut, wanted_after};
 ghost use Rattle.rt_search.specs.Pooling.{keys_in};
 ghost use Rattle.rt_tree.specs.Sorting.{put};
 
@@ -81,6 +81,7 @@ impl Queue {
         ensures items { self.new.items ≡ [] }
         ensures wanted { IfSome self.new.wanted (λ n. limit ≡ Some n) }
         ensures capacity { self.new.capacity ≡ self.old.capacity }
+        ensures low { self.new.capacity < 2 ^ 32 }
     {
         self.nodes.clear();
         self.entries.clear(limit);
@@ -90,10 +91,7 @@ impl Queue {
     #[inline(always)]
     pub fn put_node(&mut self, score: u128, node: WaitingNode)
         requires { length self.old.items < self.old.capacity }
-        ensures items { IsEnough self.old.wanted self.new.items
-            (put item_cmp (item_at score (place.Node node)) self.old.items) }
-        ensures wanted { self.new.wanted ≡ self.old.wanted }
-        ensures capacity { self.new.capacity ≡ self.old.capacity }
+        ensures { IsPut (item_at score (place.Node node)) self.old self.new }
     {
         if WIDE <= score {
             self.put_wide(score, Place::Node(node));
@@ -108,10 +106,7 @@ impl Queue {
     #[inline(always)]
     pub fn put_entry(&mut self, score: u128, id: i64)
         requires { length self.old.items < self.old.capacity }
-        ensures items { IsEnough self.old.wanted self.new.items
-            (put item_cmp (item_at score (place.Entry id)) self.old.items) }
-        ensures wanted { self.new.wanted ≡ self.old.wanted }
-        ensures capacity { self.new.capacity ≡ self.old.capacity }
+        ensures { IsPut (item_at score (place.Entry id)) self.old self.new }
     {
         if WIDE <= score {
             self.put_wide(score, Place::Entry(id));
@@ -126,9 +121,7 @@ impl Queue {
     fn put_wide(&mut self, score: u128, place: Place)
         requires wide { 2 ^ 64 ≤ score }
         requires room { length self.old.items < self.old.capacity }
-        ensures items { IsEnough self.old.wanted self.new.items (put item_cmp (item_at score place) self.old.items) }
-        ensures wanted { self.new.wanted ≡ self.old.wanted }
-        ensures capacity { self.new.capacity ≡ self.old.capacity }
+        ensures { IsPut (item_at score place) self.old self.new }
     {
         if self.entries.is_beyond(score) {
             return;
@@ -138,10 +131,7 @@ impl Queue {
 
     #[inline(always)]
     pub fn take(&mut self) -> Taken
-        ensures items { MatchOption (taken_item result) (self.old.items ≡ [])
-            (λ x. self.old.items ≡ x ∷ self.new.items) }
-        ensures none { IfNone (taken_item result) (self.new.items ≡ []) }
-        ensures least { IfSome (taken_item result) (λ x. IsLeast x self.new.items) }
+        ensures taken { IsTakenOut (taken_item result) self.old.items self.new.items }
         ensures wanted { self.new.wanted ≡ wanted_after (taken_item result) self.old.wanted }
         ensures capacity { self.new.capacity ≡ self.old.capacity }
     {
@@ -156,10 +146,8 @@ impl Queue {
 // Takes the least of those whose score is one word.
 #[inline(always)]
 fn take_narrow(nodes: &mut Pool, entries: &mut Entries) -> Taken
-    ensures items { MatchOption (taken_item result) (narrow (keys_in nodes.old) entries.old.items ≡ [])
-        (λ x. narrow (keys_in nodes.old) entries.old.items ≡ x ∷ narrow (keys_in nodes.new) entries.new.items) }
-    ensures none { IfNone (taken_item result) (narrow (keys_in nodes.new) entries.new.items ≡ []) }
-    ensures least { IfSome (taken_item result) (λ x. IsLeast x (narrow (keys_in nodes.new) entries.new.items)) }
+    ensures taken { IsTakenOut (taken_item result) (narrow (keys_in nodes.old) entries.old.items)
+        (narrow (keys_in nodes.new) entries.new.items) }
     ensures low { IfSome (taken_item result) (λ x. x.score < 2 ^ 64) }
     ensures wanted { entries.new.wanted ≡ wanted_after (taken_item result) entries.old.wanted }
     ensures nodes { nodes.new.capacity ≡ nodes.old.capacity }
@@ -194,10 +182,8 @@ fn is_node_next(nodes: &Pool, entries: &Entries) -> bool
 
 #[inline(always)]
 fn take_node(nodes: &mut Pool) -> Option<ScoredNode>
-    ensures items { let old = in_order node_item (keys_in nodes.old) in
-        MatchOption (taken_node result) (old ≡ []) (λ x. old ≡ x ∷ in_order node_item (keys_in nodes.new)) }
-    ensures none { IfNone (taken_node result) (in_order node_item (keys_in nodes.new) ≡ []) }
-    ensures least { IfSome (taken_node result) (λ x. IsLeast x (in_order node_item (keys_in nodes.new))) }
+    ensures taken { IsTakenOut (taken_node result) (in_order node_item (keys_in nodes.old))
+        (in_order node_item (keys_in nodes.new)) }
     ensures low { IfSome result (λ n. n.score < 2 ^ 64) }
     ensures capacity { nodes.new.capacity ≡ nodes.old.capacity }
 {
@@ -210,9 +196,7 @@ fn take_node(nodes: &mut Pool) -> Option<ScoredNode>
 #[inline(always)]
 fn take_wide(entries: &mut Entries, wide: &mut Wide) -> Taken
     requires { entries.old.items ≡ [] }
-    ensures items { MatchOption (taken_item result) (wide.old.items ≡ []) (λ x. wide.old.items ≡ x ∷ wide.new.items) }
-    ensures none { IfNone (taken_item result) (wide.new.items ≡ []) }
-    ensures least { IfSome (taken_item result) (λ x. IsLeast x wide.new.items) }
+    ensures taken { IsTakenOut (taken_item result) wide.old.items wide.new.items }
     ensures wanted { entries.new.wanted ≡ wanted_after (taken_item result) entries.old.wanted }
     ensures entries { entries.new.items ≡ [] }
     ensures entries_capacity { entries.new.capacity ≡ entries.old.capacity }

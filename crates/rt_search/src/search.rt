@@ -10,41 +10,10 @@ ghost use Rattle.rt_search.specs.Remaining.{IsOpenable, IsRooted, verdict_on};
 ghost use Rattle.rt_search.specs.Work.{HasWorked};
 
 use crate::frontier::Frontier;
-use crate::item::ScoredNode;
-use crate::opening::{Parent, open_inner, open_leaf, put_root};
+use crate::opening::{open_node, put_root};
 use rt_geo::{Counted, Geometry};
 use rt_tree::Tree;
 use std::marker::Model;
-
-// Opens a node that was taken out.
-fn open_node<G: Geometry>(
-    tree: &Tree,
-    frontier: &mut Frontier,
-    counted: &mut Counted<'_, G>,
-    top: u8,
-    taken: ScoredNode,
-)
-    requires tree { IsRooted tree.now top }
-    requires node { let g = counted.old.geometry in
-        IsOpenable tree.now (G.accepts g) (G.score g) taken.node.number.number (verdict_on taken.score taken.node) }
-    requires room { length frontier.old.items + (node_at tree.now taken.node.number.number).count
-        ≤ frontier.old.capacity }
-    requires asked { counted.old.asked + (node_at tree.now taken.node.number.number).count ≤ 2 ^ 32 }
-    ensures items { IsEnough frontier.old.wanted frontier.new.items
-        (join_children (G.verdict counted.old.geometry) tree.now taken.score taken.node frontier.old.items) }
-    ensures asked { counted.new.asked ≡ counted.old.asked + (node_at tree.now taken.node.number.number).count }
-    ensures wanted { frontier.new.wanted ≡ frontier.old.wanted }
-    ensures capacity { frontier.new.capacity ≡ frontier.old.capacity }
-    ensures geometry { counted.new.geometry ≡ counted.old.geometry }
-{
-    let node = tree.node(taken.node.number);
-    let parent = Parent::new(top, taken.score, taken.node);
-    if node.level == 1 {
-        open_leaf(tree, frontier, counted, node, parent);
-        return;
-    }
-    open_inner(tree, frontier, counted, taken.node.number, parent);
-}
 
 // Takes items out until an entry comes: the next answer. None comes where no item is left.
 fn pull<G: Geometry>(

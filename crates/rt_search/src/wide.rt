@@ -2,7 +2,7 @@
 
 ghost use Rattle.std.specs.Prelude.{◌≡◌, ◌<◌, ◌≤◌, [], ◌∷◌, IfNone, IfOk, IfSome, MatchOption, length};
 ghost use Rattle.rt_search.specs.Items.{item_cmp};
-ghost use Rattle.rt_search.specs.Kept.{IsLeast};
+ghost use Rattle.rt_search.specs.Kept.{IsLeast, IsTakenOut};
 ghost use Rattle.rt_tree.specs.Sorting.{put};
 
 use crate::item::Item;
@@ -74,9 +74,7 @@ impl Wide {
     #[cold]
     #[inline(never)]
     pub fn take(&mut self) -> Option<Item>
-        ensures items { MatchOption result (self.old.items ≡ []) (λ x. self.old.items ≡ x ∷ self.new.items) }
-        ensures none { IfNone result (self.new.items ≡ []) }
-        ensures least { IfSome result (λ x. IsLeast x self.new.items) }
+        ensures taken { IsTakenOut result self.old.items self.new.items }
         ensures capacity { self.new.capacity ≡ self.old.capacity }
     {
         let top = self.heap.pop()?;

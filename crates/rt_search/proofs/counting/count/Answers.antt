@@ -1,28 +1,24 @@
 use Rattle.std.proofs.Common.{arith}
-use Rattle.rt_search.proofs.CountWhole.{whole}
+use Rattle.rt_search.specs.Walking.{answers_in_tree}
+use Rattle.rt_search.proofs.Collectors.{tally_counts}
+use Rattle.rt_search.proofs.WalkWhole.{tree_count}
 use Rattle.rt_search.proofs.counting.count.Goals as goal
 
-pub count_under-requires-clause-opened : goal.count_under-requires-clause-opened
-count_under-requires-clause-opened g c =
-    let geometry = c.args.counted.now.geometry in
-    (whole (g.G.Geometry.accepts geometry) (g.G.Geometry.score geometry) (g.G.Geometry.verdict geometry)
-    c.args.tree.now c.in-Some.ensures.sound c.in-Some.number.number c.new-parent.result.verdict
-    c.in-Some.ensures.number c.new-parent.ensures.verdict).opened_few
-
-pub count_under-requires-clause-asked : goal.count_under-requires-clause-asked
-count_under-requires-clause-asked g c =
-    let geometry = c.args.counted.now.geometry in
-    let none = c.requires.asked in
-    let few = (whole (g.G.Geometry.accepts geometry) (g.G.Geometry.score geometry) (g.G.Geometry.verdict geometry)
-    c.args.tree.now c.in-Some.ensures.sound c.in-Some.number.number c.new-parent.result.verdict
-    c.in-Some.ensures.number c.new-parent.ensures.verdict).asked_few in
-    omega (arith, none, few)
+pub walk-opened-requires-clause-room : goal.walk-opened-requires-clause-room
+walk-opened-requires-clause-room g c =
+    let room = c.requires.capacity in
+    let same = c.clear.ensures.capacity in
+    let low = c.clear.ensures.low in
+    omega (arith, room, same, low)
 
 pub returns-clause-accepted : goal.returns-clause-accepted
 returns-clause-accepted g c =
     let geometry = c.args.counted.now.geometry in
-    let found = (whole (g.G.Geometry.accepts geometry) (g.G.Geometry.score geometry) (g.G.Geometry.verdict geometry)
-    c.args.tree.now c.in-Some.ensures.sound c.in-Some.number.number c.new-parent.result.verdict
-    c.in-Some.ensures.number c.new-parent.ensures.verdict).found_is in
-    let counted = c.count_under.ensures.accepted in
-    omega (arith, counted, found)
+    let accepts = g.G.Geometry.accepts geometry in
+    let score = g.G.Geometry.score geometry in
+    let tree = c.args.tree.now in
+    let e = c.walk-opened.ensures in
+    let found = tally_counts (record { accepted = 0 }) c.walk-opened.new.visitor (answers_in_tree tree accepts score)
+    e.taken in
+    let all = tree_count accepts score (g.G.Geometry.verdict geometry) tree e.sound in
+    omega (arith, found, all)

@@ -1,52 +1,9 @@
-use Rattle.std.proofs.Common.{◌<◌, ◌^◌, ◌∙◌, refl, subst, arith, rules, FitsSigned, w64}
+use Rattle.std.proofs.Common.{FitsSigned, w64, ◌<◌, ◌^◌, ◌∙◌, refl, subst, arith, rules}
 use Rattle.std.proofs.lemmas.Int.{to_z-of_z}
 use Rattle.rt_search.specs.Limits.{IsEnough}
 use Rattle.rt_search.specs.Progress.{join_children}
-use Rattle.rt_search.proofs.UnderWay.{entry_out, entry_wanted, falls_by_one, found, go_on, node_out, node_wanted}
-use Rattle.rt_search.proofs.UnderWay.{none_left_over, none_new, none_out, none_wanted, over, still_more}
+use Rattle.rt_search.proofs.UnderWay.{ended, falls_by_one, go_on, node_out, node_wanted, still_more, wanted_then}
 use Rattle.rt_search.proofs.search.pull.Goals as goal
-
-pub open_node-requires-clause-tree : goal.open_node-requires-clause-tree
-open_node-requires-clause-tree g c =
-    let geometry = c.args.counted.now.geometry in
-    let v = c.loop-node.invariant in
-    let e = c.take-taken.ensures in
-    let n = c.in-Some.node in
-    let small : n.score < 2 ^ 128 = search rules in
-    let k = go_on (g.G.Geometry.accepts geometry) (g.G.Geometry.score geometry) (g.G.Geometry.verdict geometry)
-    (g.met.G.Geometry.lawful geometry) c.args.tree.now c.loop-node.opened c.loop-node.counted.asked
-    c.loop-node.frontier.capacity c.loop-node.frontier.wanted c.requires.state.0 n.score n.node c.loop-node.frontier.items
-    c.take-taken.new.self.items small (still_more _ _ v.wanted c.requires.more)
-    (node_out c.take-taken.result n _ _ c.in-Some.is e.items) (v.state c.requires.state.0 c.requires.state.1) in
-    record { sound = k.tree; top_is = c.requires.top }
-
-pub open_node-requires-clause-node : goal.open_node-requires-clause-node
-open_node-requires-clause-node g c =
-    let geometry = c.args.counted.now.geometry in
-    let v = c.loop-node.invariant in
-    let e = c.take-taken.ensures in
-    let n = c.in-Some.node in
-    let small : n.score < 2 ^ 128 = search rules in
-    let k = go_on (g.G.Geometry.accepts geometry) (g.G.Geometry.score geometry) (g.G.Geometry.verdict geometry)
-    (g.met.G.Geometry.lawful geometry) c.args.tree.now c.loop-node.opened c.loop-node.counted.asked
-    c.loop-node.frontier.capacity c.loop-node.frontier.wanted c.requires.state.0 n.score n.node c.loop-node.frontier.items
-    c.take-taken.new.self.items small (still_more _ _ v.wanted c.requires.more)
-    (node_out c.take-taken.result n _ _ c.in-Some.is e.items) (v.state c.requires.state.0 c.requires.state.1) in
-    rw v.geometry k.node
-
-pub open_node-requires-clause-room : goal.open_node-requires-clause-room
-open_node-requires-clause-room g c =
-    let geometry = c.args.counted.now.geometry in
-    let v = c.loop-node.invariant in
-    let e = c.take-taken.ensures in
-    let n = c.in-Some.node in
-    let small : n.score < 2 ^ 128 = search rules in
-    let k = go_on (g.G.Geometry.accepts geometry) (g.G.Geometry.score geometry) (g.G.Geometry.verdict geometry)
-    (g.met.G.Geometry.lawful geometry) c.args.tree.now c.loop-node.opened c.loop-node.counted.asked
-    c.loop-node.frontier.capacity c.loop-node.frontier.wanted c.requires.state.0 n.score n.node c.loop-node.frontier.items
-    c.take-taken.new.self.items small (still_more _ _ v.wanted c.requires.more)
-    (node_out c.take-taken.result n _ _ c.in-Some.is e.items) (v.state c.requires.state.0 c.requires.state.1) in
-    rw e.capacity k.room
 
 pub overflow_add-opened : goal.overflow_add-opened
 overflow_add-opened g c =
@@ -59,11 +16,11 @@ overflow_add-opened g c =
     (g.met.G.Geometry.lawful geometry) c.args.tree.now c.loop-node.opened c.loop-node.counted.asked
     c.loop-node.frontier.capacity c.loop-node.frontier.wanted c.requires.state.0 n.score n.node c.loop-node.frontier.items
     c.take-taken.new.self.items small (still_more _ _ v.wanted c.requires.more)
-    (node_out c.take-taken.result n _ _ c.in-Some.is e.items) (v.state c.requires.state.0 c.requires.state.1) in
+    (node_out c.take-taken.result n _ _ c.in-Some.is e.taken) (v.state c.requires.state.0 c.requires.state.1) in
     (let low = k.opened_low in omega (arith, low))
 
-pub open_node-requires-clause-asked : goal.open_node-requires-clause-asked
-open_node-requires-clause-asked g c =
+pub open_node-requires : goal.open_node-requires
+open_node-requires g c =
     let geometry = c.args.counted.now.geometry in
     let v = c.loop-node.invariant in
     let e = c.take-taken.ensures in
@@ -73,8 +30,13 @@ open_node-requires-clause-asked g c =
     (g.met.G.Geometry.lawful geometry) c.args.tree.now c.loop-node.opened c.loop-node.counted.asked
     c.loop-node.frontier.capacity c.loop-node.frontier.wanted c.requires.state.0 n.score n.node c.loop-node.frontier.items
     c.take-taken.new.self.items small (still_more _ _ v.wanted c.requires.more)
-    (node_out c.take-taken.result n _ _ c.in-Some.is e.items) (v.state c.requires.state.0 c.requires.state.1) in
-    k.asked_low
+    (node_out c.take-taken.result n _ _ c.in-Some.is e.taken) (v.state c.requires.state.0 c.requires.state.1) in
+    record {
+      tree = record { sound = k.tree; top_is = c.requires.top };
+      node = rw v.geometry k.node;
+      room = rw e.capacity k.room;
+      asked = k.asked_low;
+    }
 
 pub loop-node-smaller : goal.loop-node-smaller
 loop-node-smaller g c =
@@ -87,7 +49,7 @@ loop-node-smaller g c =
     (g.met.G.Geometry.lawful geometry) c.args.tree.now c.loop-node.opened c.loop-node.counted.asked
     c.loop-node.frontier.capacity c.loop-node.frontier.wanted c.requires.state.0 n.score n.node c.loop-node.frontier.items
     c.take-taken.new.self.items small (still_more _ _ v.wanted c.requires.more)
-    (node_out c.take-taken.result n _ _ c.in-Some.is e.items) (v.state c.requires.state.0 c.requires.state.1) in
+    (node_out c.take-taken.result n _ _ c.in-Some.is e.taken) (v.state c.requires.state.0 c.requires.state.1) in
     falls_by_one _ _ _ refl k.opened_upto
 
 pub loop-node-preserved : goal.loop-node-preserved
@@ -100,49 +62,50 @@ loop-node-preserved g c =
     let o = c.open_node.ensures in
     let same = node_wanted c.take-taken.result n _ _ c.in-Some.is e.wanted in
     let items = subst (λ y. IsEnough c.loop-node.frontier.wanted c.open_node.new.frontier.items
-    (join_children (g.G.Geometry.verdict y) c.args.tree.now n.score n.node c.take-taken.new.self.items)) v.geometry
-    (rw same at o.items) in
+    (join_children (g.G.Geometry.accepts y) (g.G.Geometry.score y) (g.G.Geometry.verdict y) c.args.tree.now n.score n.node c.take-taken.new.self.items)) v.geometry
+    (rw same at o.children.items) in
     record {
       state = λ to_come u.
           let k = go_on (g.G.Geometry.accepts geometry) (g.G.Geometry.score geometry) (g.G.Geometry.verdict geometry)
           (g.met.G.Geometry.lawful geometry) c.args.tree.now c.loop-node.opened c.loop-node.counted.asked
           c.loop-node.frontier.capacity c.loop-node.frontier.wanted to_come n.score n.node c.loop-node.frontier.items
           c.take-taken.new.self.items small (still_more _ _ v.wanted c.requires.more)
-          (node_out c.take-taken.result n _ _ c.in-Some.is e.items) (v.state to_come u) in
-          rw (o.asked, o.capacity, e.capacity, o.wanted, same) (k.next _ items);
-      wanted = o.wanted ∙ same ∙ v.wanted;
-      capacity = o.capacity ∙ e.capacity ∙ v.capacity;
+          (node_out c.take-taken.result n _ _ c.in-Some.is e.taken) (v.state to_come u) in
+          rw (o.asked, o.children.capacity, e.capacity, o.children.wanted, same) (k.next _ items);
+      wanted = o.children.wanted ∙ same ∙ v.wanted;
+      capacity = o.children.capacity ∙ e.capacity ∙ v.capacity;
       geometry = o.geometry ∙ v.geometry;
     }
 
-pub returns-in_default-clause-step : goal.returns-in_default-clause-step
-returns-in_default-clause-step g c = λ to_come u.
+pub returns-in_default : goal.returns-in_default
+returns-in_default g c =
     let geometry = c.args.counted.now.geometry in
     let v = c.loop-node.invariant in
-    let t = c.take-taken.ensures in
-    let e = c.in_ok-entry.entry in
-    let fits : FitsSigned w64 e.id = search rules in
-    rw (
-      to_z-of_z w64 e.id fits,
-      t.capacity,
-      entry_wanted c.take-taken.result e _ _ c.in_default.is c.in_ok-entry.was t.wanted,
-    )
-    (found (g.G.Geometry.accepts geometry) (g.G.Geometry.score geometry) (g.G.Geometry.verdict geometry)
-    (g.met.G.Geometry.lawful geometry) c.args.tree.now c.loop-node.opened c.loop-node.counted.asked
-    c.loop-node.frontier.capacity c.loop-node.frontier.wanted to_come e.id e.score c.loop-node.frontier.items
-    c.take-taken.new.self.items (still_more _ _ v.wanted c.requires.more)
-    (entry_out c.take-taken.result e _ _ c.in_default.is c.in_ok-entry.was t.items) (v.state to_come u))
+    let e = c.take-taken.ensures in
+    let t = rw c.in_default.is at e in
+    let fits : FitsSigned w64 c.in_ok-entry.entry.id = search rules in
+    record {
+      step = λ to_come u. rw (to_z-of_z w64 c.in_ok-entry.entry.id fits, e.capacity) (rw c.in_ok-entry.was at
+          (ended (g.G.Geometry.accepts geometry) (g.G.Geometry.score geometry) (g.G.Geometry.verdict geometry)
+          (g.met.G.Geometry.lawful geometry) c.args.tree.now c.take-taken.result.entry c.loop-node.opened
+          c.loop-node.counted.asked c.loop-node.frontier.capacity c.loop-node.frontier.wanted
+          c.take-taken.new.self.wanted to_come c.loop-node.frontier.items c.take-taken.new.self.items
+          (still_more _ _ v.wanted c.requires.more) t.taken t.wanted (v.state to_come u)));
+      wanted = rw c.in_ok-entry.was at (wanted_then c.take-taken.result.entry c.args.frontier.now.wanted
+          c.take-taken.new.self.wanted (rw v.wanted at t.wanted));
+      capacity = e.capacity ∙ v.capacity;
+      geometry = v.geometry;
+    }
 
 pub returns-in_err-entry-clause-step : goal.returns-in_err-entry-clause-step
 returns-in_err-entry-clause-step g c = λ to_come u.
     let geometry = c.args.counted.now.geometry in
     let v = c.loop-node.invariant in
-    let t = c.take-taken.ensures in
-    none_left_over _ c.from_residual.result c.from_residual.ensures
-    (rw (t.capacity, none_wanted c.take-taken.result _ _ c.in_default.is c.in_err-entry.was t.wanted)
-    (over (g.G.Geometry.accepts geometry) (g.G.Geometry.score geometry) (g.G.Geometry.verdict geometry)
-    (g.met.G.Geometry.lawful geometry) c.args.tree.now c.loop-node.opened c.loop-node.counted.asked
-    c.loop-node.frontier.capacity c.loop-node.frontier.wanted to_come c.loop-node.frontier.items
-    c.take-taken.new.self.items (still_more _ _ v.wanted c.requires.more)
-    (none_out c.take-taken.result _ _ c.in_default.is c.in_err-entry.was t.items)
-    (none_new c.take-taken.result _ c.in_default.is c.in_err-entry.was t.none) (v.state to_come u)))
+    let e = c.take-taken.ensures in
+    let t = rw c.in_default.is at e in
+    rw (c.from_residual.ensures, e.capacity) (rw c.in_err-entry.was at
+    (ended (g.G.Geometry.accepts geometry) (g.G.Geometry.score geometry) (g.G.Geometry.verdict geometry)
+    (g.met.G.Geometry.lawful geometry) c.args.tree.now c.take-taken.result.entry c.loop-node.opened
+    c.loop-node.counted.asked c.loop-node.frontier.capacity c.loop-node.frontier.wanted
+    c.take-taken.new.self.wanted to_come c.loop-node.frontier.items c.take-taken.new.self.items
+    (still_more _ _ v.wanted c.requires.more) t.taken t.wanted (v.state to_come u)))

@@ -1,4 +1,4 @@
-use Rattle.std.proofs.Common.{ℤ, ◌∷◌, ◌∙◌, sym, ap, rules, FitsSigned, w64}
+use Rattle.std.proofs.Common.{FitsSigned, w64, rules, ℤ, ◌∷◌, ◌∙◌, sym, ap}
 use Rattle.std.proofs.lemmas.Int.{to_z-of_z}
 use Rattle.rt_search.specs.Remaining.{remaining}
 use Rattle.rt_search.proofs.GivenAll.{given}
@@ -14,6 +14,5 @@ returns-clause-answer g c =
     let fits : FitsSigned w64 e.id = search rules in
     let new = c.take_hit.new.self.hits in
     sym (ap (λ s. s.to_come) c.self.view_is)
-    ∙ given accepts score tree e c.self.inside.frontier.hits new c.in_ok-entry.ensures.entries c.in_ok-entry.ensures.hits
-    c.in_ok-entry.ensures.least
+    ∙ given accepts score tree e c.self.inside.frontier.hits new c.in_ok-entry.ensures.entries c.in_ok-entry.ensures.taken
     ∙ ap (λ (i : ℤ). (i, e.score) ∷ remaining tree accepts score new) (sym (to_z-of_z w64 e.id fits))

@@ -1,4 +1,4 @@
-use Rattle.std.proofs.Common.{ℤ, ◌∙◌, rules, subst, arith, FitsSigned, w64}
+use Rattle.std.proofs.Common.{ℤ, ◌∙◌, ap, rules, subst, arith, FitsSigned, w64}
 use Rattle.std.proofs.lemmas.Int.{to_z-of_z}
 use Rattle.rt_tree.specs.Sorting.{put}
 use Rattle.rt_search.specs.Items.{item_at, item_cmp}
@@ -42,8 +42,8 @@ invariant_of-self c =
       high = k.high;
     }
 
-pub returns-clause-items : goal.returns-clause-items
-returns-clause-items c =
+pub returns : goal.returns
+returns c =
     let fits : FitsSigned w64 c.args.id = search rules in
     let w = c.self.inside.entries.wanted in
     let nodes = in_order node_item (keys_in c.self.inside.nodes) in
@@ -51,7 +51,13 @@ returns-clause-items c =
     let old = c.self.inside.entries.items in
     let new = c.put.new.self.items in
     let at : ℤ → _ = λ i. item_at c.args.score (place.Entry i) in
-    subst (λ v. IsEnough v.wanted (queued (keys_in c.self.inside.nodes) new wide) (put item_cmp (at c.args.id) v.items)) c.self.view_is
-    (enough_joined w (at c.args.id) wide (put_all item_cmp nodes old) (put_all item_cmp nodes new)
-    (enough_joined w (at c.args.id) nodes old new
-    (subst (λ i. IsEnough w new (put item_cmp (at i) old)) (to_z-of_z w64 c.args.id fits) c.put.ensures.items)))
+    let e = c.put.ensures in
+    record {
+      items = subst (λ v. IsEnough v.wanted (queued (keys_in c.self.inside.nodes) new wide)
+          (put item_cmp (at c.args.id) v.items)) c.self.view_is
+          (enough_joined w (at c.args.id) wide (put_all item_cmp nodes old) (put_all item_cmp nodes new)
+          (enough_joined w (at c.args.id) nodes old new
+          (subst (λ i. IsEnough w new (put item_cmp (at i) old)) (to_z-of_z w64 c.args.id fits) e.items)));
+      wanted = e.wanted ∙ ap (λ w. w.wanted) c.self.view_is;
+      capacity = ap (λ w. w.capacity) c.self.view_is;
+    }

@@ -1,7 +1,7 @@
 use Rattle.std.proofs.Common.{◌∙◌, ap, refl, subst, arith}
 use Rattle.rt_tree.specs.Sorting.{put}
 use Rattle.rt_search.specs.Items.{item_at, item_cmp}
-use Rattle.rt_search.specs.Limits.{IsEnough}
+use Rattle.rt_search.specs.Limits.{IsPut}
 use Rattle.rt_search.specs.Kept.{in_order, node_item}
 use Rattle.rt_search.specs.Pooling.{keys_in}
 use Rattle.rt_search.specs.Remaining.{put_all}
@@ -50,21 +50,28 @@ invariant_of-self c =
       high = k.high;
     }
 
-pub returns-then-is_beyond-clause-items : goal.returns-then-is_beyond-clause-items
-returns-then-is_beyond-clause-items c =
+pub returns-then-is_beyond : goal.returns-then-is_beyond
+returns-then-is_beyond c =
     let x = item_at c.args.score (place.Node c.args.node) in
-    subst (λ v. IsEnough v.wanted v.items (put item_cmp x v.items)) c.self.view_is
-    (enough_beyond c.self.inside.entries.wanted x (keys_in c.self.inside.nodes) c.self.inside.entries.items
-    c.self.inside.wide.items (c.if-is_beyond.ensures refl x refl))
+    subst (λ v. IsPut x v v) c.self.view_is (record {
+      items = enough_beyond c.self.inside.entries.wanted x (keys_in c.self.inside.nodes) c.self.inside.entries.items
+          c.self.inside.wide.items (c.if-is_beyond.ensures refl x refl);
+      wanted = refl;
+      capacity = refl;
+    })
 
-pub returns-clause-items : goal.returns-clause-items
-returns-clause-items c =
+pub returns : goal.returns
+returns c =
     let nodes = in_order node_item (keys_in c.self.inside.nodes) in
     let entries = c.self.inside.entries.items in
     let wide = c.self.inside.wide.items in
-    enough_same c.args.self.now.wanted _ _
-    (ap (λ xs. put_all item_cmp wide (put_all item_cmp xs entries))
-    (pushed node_item _ _ _ c.put.ensures.keys ∙ ap (λ x. put item_cmp x nodes) c.node_key.ensures)
-    ∙ ap (put_all item_cmp wide) (put-put_all item_cmp item_order _ nodes entries)
-    ∙ put_all-put item_cmp item_order wide _ (put_all item_cmp nodes entries)
-    ∙ ap (λ w. put item_cmp (item_at c.args.score (place.Node c.args.node)) w.items) c.self.view_is)
+    record {
+      items = enough_same c.args.self.now.wanted _ _
+          (ap (λ xs. put_all item_cmp wide (put_all item_cmp xs entries))
+          (pushed node_item _ _ _ c.put.ensures.keys ∙ ap (λ x. put item_cmp x nodes) c.node_key.ensures)
+          ∙ ap (put_all item_cmp wide) (put-put_all item_cmp item_order _ nodes entries)
+          ∙ put_all-put item_cmp item_order wide _ (put_all item_cmp nodes entries)
+          ∙ ap (λ w. put item_cmp (item_at c.args.score (place.Node c.args.node)) w.items) c.self.view_is);
+      wanted = ap (λ w. w.wanted) c.self.view_is;
+      capacity = ap (λ w. w.capacity) c.self.view_is;
+    }

@@ -2,7 +2,7 @@ use Rattle.std.proofs.Common.{◌≤◌, ◌^◌, refl, sym, ◌∙◌, ap, subs
 use Rattle.std.specs.List.{AllByRecursion}
 use Rattle.rt_tree.specs.Sorting.{put}
 use Rattle.rt_search.specs.Items.{item_at, item_cmp}
-use Rattle.rt_search.specs.Limits.{IsEnough}
+use Rattle.rt_search.specs.Limits.{IsPut}
 use Rattle.rt_search.specs.Kept.{in_order, node_item}
 use Rattle.rt_search.specs.Pooling.{keys_in}
 use Rattle.rt_search.specs.Remaining.{put_all}
@@ -37,18 +37,24 @@ invariant_of-self c =
           (put-all item_cmp item_order (λ x. 2 ^ 64 ≤ x.score) _ wide c.requires.wide k.high);
     }
 
-pub returns-then-is_beyond-clause-items : goal.returns-then-is_beyond-clause-items
-returns-then-is_beyond-clause-items c =
+pub returns-then-is_beyond : goal.returns-then-is_beyond
+returns-then-is_beyond c =
     let x = item_at c.args.score c.args.place in
-    subst (λ v. IsEnough v.wanted v.items (put item_cmp x v.items)) c.self.view_is
-    (enough_beyond c.self.inside.entries.wanted x (keys_in c.self.inside.nodes) c.self.inside.entries.items
-    c.self.inside.wide.items (c.if-is_beyond.ensures refl x refl))
+    subst (λ v. IsPut x v v) c.self.view_is (record {
+      items = enough_beyond c.self.inside.entries.wanted x (keys_in c.self.inside.nodes) c.self.inside.entries.items
+          c.self.inside.wide.items (c.if-is_beyond.ensures refl x refl);
+      wanted = refl;
+      capacity = refl;
+    })
 
-pub returns-clause-items : goal.returns-clause-items
-returns-clause-items c =
+pub returns : goal.returns
+returns c =
     let narrow = put_all item_cmp (in_order node_item (keys_in c.self.inside.nodes)) c.self.inside.entries.items in
-    let wide = c.self.inside.wide.items in
-    enough_same c.args.self.now.wanted _ _
-    (ap (λ xs. put_all item_cmp xs narrow) c.put.ensures.items
-    ∙ put-put_all item_cmp item_order _ wide narrow
-    ∙ ap (λ v. put item_cmp (item_at c.args.score c.args.place) v.items) c.self.view_is)
+    record {
+      items = enough_same c.args.self.now.wanted _ _
+          (ap (λ xs. put_all item_cmp xs narrow) c.put.ensures.items
+          ∙ put-put_all item_cmp item_order _ c.self.inside.wide.items narrow
+          ∙ ap (λ v. put item_cmp (item_at c.args.score c.args.place) v.items) c.self.view_is);
+      wanted = ap (λ w. w.wanted) c.self.view_is;
+      capacity = ap (λ w. w.capacity) c.self.view_is;
+    }

@@ -1,0 +1,70 @@
+-- What a collector becomes with answers.
+use Rattle.std.proofs.Common.{◌≡◌, ◌+◌, ◌∷◌, ◌∙◌, [], ℕ, List, length, map, refl, sym, ap, subst, arith}
+use Rattle.rt_tree.specs.Sorting.{put}
+use Rattle.rt_search.specs.Answers.{Answer}
+use Rattle.rt_search.specs.Items.{SearchRoom, Waiting, item_cmp, item_of, limited}
+use Rattle.rt_search.specs.Joining.{KeepsHit, join_answers}
+use Rattle.rt_search.specs.Limits.{IsEnough, IsPut, KeepsEnough}
+use Rattle.rt_search.specs.Walking.{HasTaken}
+use Rattle.rt_search.specs.declared.counting.Tally.{Tally}
+use Rattle.rt_search.specs.declared.item.Item.{Item}
+use Rattle.rt_search.proofs.Limits.{enough_itself, enough_put_all, enough_trans}
+use Rattle.rt_search.proofs.OrderedLists.{put_all-put}
+use Rattle.rt_search.proofs.Orders.{item_order}
+
+-- ---- a tally: so many more
+
+abbrev adds_one : Tally → Answer → Tally → Type 0
+adds_one old a new = new.accepted ≡ old.accepted + 1
+
+pub tally_counts : (old new : Tally) (xs : List Answer) → HasTaken adds_one old xs new
+    → new.accepted ≡ old.accepted + length xs
+tally_counts old new [] h = omega (arith, ap (λ t. t.accepted) h)
+tally_counts old new (x ∷ xs) h = omega (arith, h.1.0, tally_counts h.0 new xs h.1.1)
+
+pub tally_counted : (old new : Tally) (xs : List Answer) → new.accepted ≡ old.accepted + length xs
+    → HasTaken adds_one old xs new
+tally_counted old new [] h = ap (λ (n : ℕ). record { accepted = n }) (omega (arith, h))
+tally_counted old new (x ∷ xs) h = (
+  record { accepted = old.accepted + 1 },
+  (
+    refl,
+    tally_counted (record { accepted = old.accepted + 1 }) new xs
+        (omega (arith, h)),
+  ),
+)
+
+-- ---- the hits, and what waits: the entries of the answers join
+
+join_next : (a : Answer) (xs : List Answer) (items : List Item)
+    → join_answers xs (put item_cmp (item_of a) items) ≡ join_answers (a ∷ xs) items
+join_next a xs items = put_all-put item_cmp item_order (map item_of xs) (item_of a) items
+
+pub hits_join : (old new : Waiting) (xs : List Answer) → HasTaken KeepsHit old xs new
+    → (new.items ≡ join_answers xs old.items) × (new.capacity ≡ old.capacity)
+hits_join old new [] h = (ap (λ w. w.items) h, ap (λ w. w.capacity) h)
+hits_join old new (a ∷ xs) h =
+    let rest = hits_join h.0 new xs h.1.1 in
+    (rest.0 ∙ ap (join_answers xs) h.1.0.items ∙ join_next a xs old.items, rest.1 ∙ h.1.0.capacity)
+
+abbrev joins : SearchRoom → Answer → SearchRoom → Type 0
+joins old a new = IsPut (item_of a) (limited old) (limited new)
+
+pub entries_join : (old new : SearchRoom) (xs : List Answer) → HasTaken joins old xs new
+    → KeepsEnough (join_answers xs old.items) (limited old) (limited new)
+entries_join old new [] h = record {
+  items = subst (λ r. IsEnough old.wanted r.items old.items) (sym h) (enough_itself old.wanted old.items);
+  wanted = ap (λ r. r.wanted) h;
+  capacity = ap (λ r. r.capacity) h;
+}
+entries_join old new (a ∷ xs) h =
+    let one = h.1.0 in
+    let rest = entries_join h.0 new xs h.1.1 in
+    record {
+      items = subst (IsEnough old.wanted new.items) (join_next a xs old.items)
+          (enough_trans old.wanted new.items (join_answers xs h.0.items) (join_answers xs (put item_cmp (item_of a) old.items))
+          (subst (λ w. IsEnough w new.items (join_answers xs h.0.items)) one.wanted rest.items)
+          (enough_put_all old.wanted (map item_of xs) h.0.items (put item_cmp (item_of a) old.items) one.items));
+      wanted = rest.wanted ∙ one.wanted;
+      capacity = rest.capacity ∙ one.capacity;
+    }

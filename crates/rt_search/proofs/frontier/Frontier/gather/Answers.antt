@@ -1,0 +1,30 @@
+use Rattle.std.proofs.Common.{◌∙◌, [], ap, sym}
+use Rattle.rt_search.specs.Joining.{join_answers}
+use Rattle.rt_search.specs.Remaining.{remaining}
+use Rattle.rt_search.specs.Walking.{answers_in_tree}
+use Rattle.rt_search.proofs.Collectors.{hits_join}
+use Rattle.rt_search.proofs.Joined.{answers_joined}
+use Rattle.rt_search.proofs.WalkWhole.{tree_answers}
+use Rattle.rt_search.proofs.frontier.Frontier.gather.Goals as goal
+
+pub invariant_of-self : goal.invariant_of-self
+invariant_of-self g c =
+    let geometry = c.args.counted.now.geometry in
+    let found = answers_in_tree c.args.tree.now (g.G.Geometry.accepts geometry) (g.G.Geometry.score geometry) in
+    (hits_join c.clear-2.new.self c.walk.new.visitor found c.walk.ensures.taken).1 ∙ c.clear-2.ensures.capacity
+    ∙ ap (λ r. r.hits.capacity) c.deref_mut-rooms.ensures.value ∙ c.self.invariant
+    ∙ ap (λ r. r.queue.capacity) (sym c.deref_mut-rooms.ensures.value) ∙ sym c.clear.ensures.capacity
+
+pub returns-clause-answers : goal.returns-clause-answers
+returns-clause-answers g c =
+    let geometry = c.args.counted.now.geometry in
+    let accepts = g.G.Geometry.accepts geometry in
+    let score = g.G.Geometry.score geometry in
+    let verdict = g.G.Geometry.verdict geometry in
+    let tree = c.args.tree.now in
+    let e = c.walk.ensures in
+    let found = answers_in_tree tree accepts score in
+    let joined = hits_join c.clear-2.new.self c.walk.new.visitor found e.taken in
+    ap (remaining tree accepts score) (joined.0 ∙ ap (join_answers found) c.clear-2.ensures.items)
+    ∙ answers_joined accepts score verdict (g.met.G.Geometry.lawful geometry) tree found []
+    ∙ tree_answers accepts score verdict tree e.sound

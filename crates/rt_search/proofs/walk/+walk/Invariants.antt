@@ -1,0 +1,30 @@
+use Rattle.std.proofs.Common.{◌≡◌, ◌+◌, ◌-◌, ◌*◌, take}
+use Rattle.rt_tree.specs.Packed.{child_nodes, node_at}
+use Rattle.rt_search.specs.Remaining.{height_at}
+use Rattle.rt_search.specs.Walking.{HasTaken, over_children, work_of_child}
+use Rattle.rt_search.specs.Work.{its_children, one_node}
+use Rattle.rt_search.proofs.Answering.{under_all}
+use Rattle.rt_search.proofs.walk.+walk.Given as goal
+
+abbrev pub decreases-walk_under : goal.decreases-walk_under
+decreases-walk_under g l = 2 * (node_at l.tree.now l.number.number).level
+
+abbrev pub decreases-walk_child : goal.decreases-walk_child
+decreases-walk_child g l = 2 * (node_at l.tree.now l.number.number).level + 1
+
+abbrev pub invariant-walk_under-loop-i : goal.invariant-walk_under-loop-i
+invariant-walk_under-loop-i g l =
+    let geometry = l.initial.counted.geometry in
+    let verdict = g.G.Geometry.verdict geometry in
+    let opens = g.V.Visitor.opens in
+    let n = node_at l.tree l.fn.number.number in
+    record {
+      taken : HasTaken g.V.Collector.takes l.initial.visitor
+          (under_all (g.G.Geometry.accepts geometry) (g.G.Geometry.score geometry) l.tree
+          (height_at l.tree l.fn.number.number - 1) (take l.i (child_nodes l.tree n))) l.visitor;
+      opened : l.opened ≡ l.initial.opened
+          + over_children (work_of_child opens one_node verdict l.tree l.parent.verdict) n l.i;
+      asked : l.counted.asked ≡ l.initial.counted.asked + l.i
+          + over_children (work_of_child opens its_children verdict l.tree l.parent.verdict) n l.i;
+      geometry : l.counted.geometry ≡ l.initial.counted.geometry;
+    }

@@ -1,0 +1,13 @@
+use Rattle.std.proofs.Common.{◌≡◌, ◌+◌}
+use Rattle.rt_search.specs.Walking.{HasTaken, answers_among}
+use Rattle.rt_search.proofs.walk.visit_entries.Given as goal
+
+abbrev pub invariant-loop-i : goal.invariant-loop-i
+invariant-loop-i g l =
+    let geometry = l.initial.counted.geometry in
+    record {
+      taken : HasTaken g.C.Collector.takes l.initial.collector
+          (answers_among l.tree (g.G.Geometry.accepts geometry) (g.G.Geometry.score geometry) l.fn.node l.i) l.collector;
+      geometry : l.counted.geometry ≡ l.initial.counted.geometry;
+      asked : l.counted.asked ≡ l.initial.counted.asked + l.i;
+    }

@@ -1,0 +1,82 @@
+-- What a walk over the nodes leaves with its visitor. Nothing that a public call promises speaks of this.
+use Rattle.std.specs.Prelude.{◌≡◌, ◌+◌, ◌-◌, ◌<◌, ◌≤◌, ◌==◌, ℕ, ℤ, zero, suc, Bool, if◌then◌else◌, List, [], ◌∷◌}
+use Rattle.std.specs.Prelude.{length, take}
+use Rattle.rt_geo.specs.Laws.{Extent, IsQuestion, extent_of}
+use Rattle.rt_geo.specs.declared.geometry.Info.{Info}
+use Rattle.rt_geo.specs.declared.geometry.Verdict.{Verdict}
+use Rattle.rt_geo.specs.declared.geometry.Within.{Within}
+use Rattle.rt_geo.specs.declared.geometry.Within.TheVariants.{Not, Fully}
+use Rattle.rt_tree.specs.Packed.{Packed, IsSubtree, child_entries, entries_under, extent_of_node, node_at}
+use Rattle.rt_tree.specs.declared.tree.Node.{Node}
+use Rattle.rt_search.specs.Answers.{Answer, scored}
+use Rattle.rt_search.specs.Remaining.{height_at}
+use Rattle.rt_search.specs.Work.{info_of_node, reached}
+
+-- ---- answers
+
+-- the answer that an entry is, where it is kept
+abbrev pub answer_if : (is_kept : Bool) → (id : ℤ) → (score : ℕ) → List Answer
+answer_if is_kept id score = if is_kept then (id, score) ∷ [] else []
+
+-- the answers under a node
+abbrev pub answers_under : Packed → (accepts : Extent → Bool) → (score : Extent → ℕ) → (number : ℕ) → List Answer
+answers_under t accepts score number =
+    scored (entries_under t (height_at t number) (node_at t number)) accepts score
+
+-- those among the first so many children of a node of level 1
+abbrev pub answers_among : Packed → (accepts : Extent → Bool) → (score : Extent → ℕ) → Node → (so_many : ℕ)
+    → List Answer
+answers_among t accepts score n so_many = scored (take so_many (child_entries t n)) accepts score
+
+-- those of a whole tree, as its nodes have them: the last node is the root
+abbrev pub answers_in_tree : Packed → (accepts : Extent → Bool) → (score : Extent → ℕ) → List Answer
+answers_in_tree t accepts score =
+    if length t.nodes == 0 then [] else answers_under t accepts score (length t.nodes - 1)
+
+-- what is known of the answers under a node of this state and size
+pub record IsKnown (within : Within) (size : ℕ) (answers : List Answer) : Type 0 where
+  pub none : within ≡ Not → answers ≡ []
+  pub all : within ≡ Fully → length answers ≡ size
+
+-- ---- what takes them
+
+-- answers are taken one after the other
+abbrev pub HasTaken : {S : Type 0} → (takes : S → Answer → S → Type 0) → (old : S) → List Answer → (new : S) → Type 0
+HasTaken takes old [] new = new ≡ old
+HasTaken {S} takes old (a ∷ answers) new = (s : S) × (takes old a s × HasTaken takes s answers new)
+
+-- each takes a place
+abbrev pub IsFilling : {S : Type 0} → (takes : S → Answer → S → Type 0) → (room : S → ℕ) → Type 0
+IsFilling {S} takes room = (old new : S) (a : Answer) → takes old a new → room old ≤ room new + 1
+
+-- ---- the work
+
+-- what the work under an opened node costs
+abbrev pub work_under : (opens : Verdict → Bool) → (cost : Node → ℕ) → (verdict : Info → Verdict) → Packed → Verdict
+    → (number : ℕ) → ℕ
+work_under opens cost verdict t v number = reached opens cost verdict t (height_at t number) v (node_at t number)
+
+-- what it costs under a node that is opened where the test says so of its verdict
+abbrev pub work_at_child : (opens : Verdict → Bool) → (cost : Node → ℕ) → (verdict : Info → Verdict) → Packed
+    → Verdict → (number : ℕ) → ℕ
+work_at_child opens cost verdict t v number = if opens v then work_under opens cost verdict t v number else 0
+
+-- the sum over the first so many children of a node above level 1, by their numbers
+abbrev pub over_children : (ℕ → ℕ) → Node → (so_many : ℕ) → ℕ
+over_children f n zero = 0
+over_children f n (suc i) = over_children f n i + f (n.first + i)
+
+-- what the work under each costs
+abbrev pub work_of_child : (opens : Verdict → Bool) → (cost : Node → ℕ) → (verdict : Info → Verdict) → Packed
+    → Verdict → (number : ℕ) → ℕ
+work_of_child opens cost verdict t of_node number =
+    work_at_child opens cost verdict t (verdict (info_of_node t of_node (node_at t number))) number
+
+-- what holds of a node that may be asked about
+pub record IsCheckable (t : Packed) (accepts : Extent → Bool) (number : ℕ) (info : Info) : Type 0 where
+  pub inside : number < length t.nodes
+  pub tree : IsSubtree t (height_at t number) (node_at t number)
+  pub low : (node_at t number).level ≤ 24
+  pub high : 0 < info.level
+  pub extent : extent_of info ≡ extent_of_node (node_at t number)
+  pub question : IsQuestion accepts info

@@ -1,0 +1,250 @@
+//! Walking over the nodes of a tree: what the children of an opened node are asked, and who takes what is found.
+//!
+//! A full search and a count walk from the root downwards. What they do at a node and with an entry is their
+//! [`Visitor`]. A best-first search opens one node at a time, in an order of its own, and is a [`Collector`] alone.
+
+ghost use Rattle.std.specs.Prelude.{◌≡◌, ◌+◌, ◌-◌, ◌<◌, ◌≤◌, ◌^◌, ℕ, Bool, List, [], if◌then◌else◌, length};
+ghost use Rattle.rt_geo.specs.Laws.{Extent, IsHonest};
+ghost use Rattle.rt_geo.specs.declared.geometry.Verdict.{Verdict};
+ghost use Rattle.rt_tree.specs.Packed.{IsLeafNode, IsSound, extent_of_node, node_at, root_of};
+ghost use Rattle.rt_search.specs.Answers.{Answer};
+ghost use Rattle.rt_search.specs.Remaining.{IsBelow, IsOpenable, IsRooted, verdict_on};
+ghost use Rattle.rt_search.specs.Walking.{HasTaken, IsCheckable, IsFilling, IsKnown, answer_if, answers_among};
+ghost use Rattle.rt_search.specs.Walking.{answers_in_tree, answers_under, work_at_child, work_under};
+ghost use Rattle.rt_search.specs.Work.{info_under, is_kept, its_children, one_node, reached_from_root};
+
+use crate::item::WaitingNode;
+use rt_geo::{Bounds, Counted, Geometry, Info, Layers, Verdict, Within};
+use rt_tree::{Node, NodeNo, Tree};
+
+/// What takes the entries under the nodes that are opened.
+pub(crate) trait Collector {
+    /// What it becomes with one more answer.
+    ghost takes: { Self → Answer → Self → Type 0 };
+
+    /// How many more it has room for.
+    ghost room: { Self → ℕ };
+
+    /// Takes an entry where it is kept.
+    fn visit_entry(&mut self, is_kept: bool, score: u128, id: i64)
+        requires { 0 < room self.old }
+        ensures { HasTaken takes self.old (answer_if is_kept id score) self.new };
+
+    /// Each answer takes a place.
+    ghost fills: { IsFilling takes room };
+}
+
+/// What says at each node that a walk comes to whether it is opened, and takes the entries.
+pub(crate) trait Visitor: Collector {
+    /// Whether a node with this verdict is opened.
+    ghost opens: { Verdict → Bool };
+
+    /// Whether the node is opened. Where it isn't, all that is accepted under it is taken: nothing where the verdict is
+    /// [`Within::Not`], and so many entries as the node's size says where it is [`Within::Fully`].
+    fn visit_node(&mut self, verdict: Verdict, size: u32) -> bool
+        requires { size ≤ Self.room self.old }
+        ensures opens { result ≡ opens verdict }
+        ensures taken { (answers : List Answer) → IsKnown verdict.within size answers
+            → HasTaken Self.takes self.old (if result then [] else answers) self.new };
+}
+
+/// What a question about a child says of its parent.
+#[derive(Clone, Copy)]
+pub(crate) struct Parent {
+    /// The level of the root.
+    pub top: u8,
+    /// The verdict on the node.
+    pub verdict: Verdict,
+}
+
+impl Parent {
+    /// A node that waited with a score.
+    pub fn new(top: u8, score: u128, node: WaitingNode) -> Parent
+        ensures top { result.top ≡ top }
+        ensures verdict { result.verdict ≡ verdict_on score node }
+    {
+        let within = if node.is_full {
+            Within::Fully
+        } else {
+            Within::Partly
+        };
+        Parent {
+            top,
+            verdict: Verdict { within, score },
+        }
+    }
+
+    /// What is asked about a child.
+    pub fn info(&self, bounds: Bounds, layers: Layers, level: u8) -> Info
+        ensures { let extent : Extent = record { bounds = bounds; layers = layers } in
+            result ≡ info_under self.now.top self.now.verdict extent level }
+    {
+        Info {
+            bounds,
+            layers,
+            level,
+            top: self.top,
+            parent_within: self.verdict.within,
+            parent_score: self.verdict.score,
+        }
+    }
+}
+
+/// Whether what is in this state is kept.
+#[inline(always)]
+pub(crate) fn is_kept(within: Within) -> bool
+    ensures { result ≡ is_kept within }
+{
+    match within {
+        Within::Not => false,
+        Within::Partly => true,
+        Within::Fully => true,
+    }
+}
+
+/// Asks about the children of a node of level 1.
+pub(crate) fn visit_entries<C: Collector, G: Geometry>(
+    tree: &Tree,
+    collector: &mut C,
+    counted: &mut Counted<'_, G>,
+    node: Node,
+    parent: Parent,
+)
+    requires tree { IsRooted tree.now parent.top }
+    requires node { IsLeafNode tree.now node }
+    requires below { let g = counted.old.geometry in
+        IsBelow (G.accepts g) (G.score g) (extent_of_node node) parent.verdict }
+    requires room { node.count ≤ C.room collector.old }
+    requires asked { counted.old.asked + node.count ≤ 2 ^ 64 - 1 }
+    ensures taken { let g = counted.old.geometry in
+        HasTaken C.takes collector.old (answers_among tree.now (G.accepts g) (G.score g) node node.count) collector.new }
+    ensures geometry { counted.new.geometry ≡ counted.old.geometry }
+    ensures asked { counted.new.asked ≡ counted.old.asked + node.count }
+{
+    let first = node.first;
+    let entries = tree.child_entries(node);
+    for (i, entry) in entries.iter().enumerate() {
+        let layers = tree.layers_at(first + i as u32);
+        let info = parent.info(entry.bounds, layers, 0);
+        let verdict = counted.check(&info);
+        collector.visit_entry(is_kept(verdict.within), verdict.score, entry.id);
+    }
+}
+
+/// Walks over a tree from its root, and returns how many nodes were opened. All that is accepted is taken.
+pub(crate) fn walk<V: Visitor, G: Geometry>(
+    tree: &Tree,
+    visitor: &mut V,
+    counted: &mut Counted<'_, G>,
+) -> u64
+    requires room { length tree.now.entries ≤ V.room visitor.old }
+    requires asked { counted.old.asked ≡ 0 }
+    ensures sound { IsSound tree.now }
+    ensures taken { let g = counted.old.geometry in
+        HasTaken V.takes visitor.old (answers_in_tree tree.now (G.accepts g) (G.score g)) visitor.new }
+    ensures opened { result ≡ reached_from_root V.opens one_node (G.verdict counted.old.geometry) tree.now }
+    ensures asked { counted.new.asked
+        ≡ reached_from_root V.opens its_children (G.verdict counted.old.geometry) tree.now }
+    ensures geometry { counted.new.geometry ≡ counted.old.geometry }
+{
+    let mut opened = 0;
+    let Some(number) = tree.root() else {
+        return opened;
+    };
+    let is_full = false;
+    let root = Parent::new(tree.node(number).level, 0, WaitingNode { number, is_full });
+    walk_under(tree, visitor, counted, &mut opened, number, root);
+    opened
+}
+
+// Opens a node, and goes on under it.
+#[cycle(walk)]
+fn walk_under<V: Visitor, G: Geometry>(
+    tree: &Tree,
+    visitor: &mut V,
+    counted: &mut Counted<'_, G>,
+    opened: &mut u64,
+    number: NodeNo,
+    parent: Parent,
+)
+    requires tree { IsRooted tree.now parent.top }
+    requires node { let g = counted.old.geometry in
+        IsOpenable tree.now (G.accepts g) (G.score g) number.number parent.verdict }
+    requires room { (node_at tree.now number.number).size ≤ V.room visitor.old }
+    requires opened { opened.old
+        + work_under V.opens one_node (G.verdict counted.old.geometry) tree.now parent.verdict number.number ≤ 2 ^ 32 }
+    requires asked { counted.old.asked
+        + work_under V.opens its_children (G.verdict counted.old.geometry) tree.now parent.verdict number.number ≤ 2 ^ 32 }
+    ensures taken { let g = counted.old.geometry in
+        HasTaken V.takes visitor.old (answers_under tree.now (G.accepts g) (G.score g) number.number) visitor.new }
+    ensures opened { opened.new ≡ opened.old
+        + work_under V.opens one_node (G.verdict counted.old.geometry) tree.now parent.verdict number.number }
+    ensures asked { counted.new.asked ≡ counted.old.asked
+        + work_under V.opens its_children (G.verdict counted.old.geometry) tree.now parent.verdict number.number }
+    ensures geometry { counted.new.geometry ≡ counted.old.geometry }
+{
+    let node = tree.node(number);
+    *opened += 1;
+    if node.level == 1 {
+        visit_entries(tree, visitor, counted, node, parent);
+        return;
+    }
+    let first = node.first;
+    // (as each child's, so that a geometry's test for an entry goes when it is inlined)
+    let level = node.level - 1;
+    let children = tree.child_nodes(node);
+    for (i, child) in children.iter().enumerate() {
+        let info = parent.info(child.bounds, child.layers, level);
+        let child_number = NodeNo::new(first + i as u32);
+        walk_child(
+            tree,
+            visitor,
+            counted,
+            opened,
+            child_number,
+            child.size,
+            &info,
+        );
+    }
+}
+
+// Asks about a node, and opens it where the visitor says so.
+#[cycle(walk)]
+fn walk_child<V: Visitor, G: Geometry>(
+    tree: &Tree,
+    visitor: &mut V,
+    counted: &mut Counted<'_, G>,
+    opened: &mut u64,
+    number: NodeNo,
+    size: u32,
+    info: &Info,
+)
+    requires tree { IsRooted tree.now info.now.top }
+    requires node { IsCheckable tree.now (G.accepts counted.old.geometry) number.number info.now }
+    requires size { size ≡ (node_at tree.now number.number).size }
+    requires room { size ≤ V.room visitor.old }
+    requires opened { let g = counted.old.geometry in opened.old
+        + work_at_child V.opens one_node (G.verdict g) tree.now (G.verdict g info.now) number.number ≤ 2 ^ 32 }
+    requires asked { let g = counted.old.geometry in counted.old.asked + 1
+        + work_at_child V.opens its_children (G.verdict g) tree.now (G.verdict g info.now) number.number ≤ 2 ^ 32 }
+    ensures taken { let g = counted.old.geometry in
+        HasTaken V.takes visitor.old (answers_under tree.now (G.accepts g) (G.score g) number.number) visitor.new }
+    ensures opened { let g = counted.old.geometry in opened.new ≡ opened.old
+        + work_at_child V.opens one_node (G.verdict g) tree.now (G.verdict g info.now) number.number }
+    ensures asked { let g = counted.old.geometry in counted.new.asked ≡ counted.old.asked + 1
+        + work_at_child V.opens its_children (G.verdict g) tree.now (G.verdict g info.now) number.number }
+    ensures geometry { counted.new.geometry ≡ counted.old.geometry }
+{
+    let verdict = counted.check(info);
+    if visitor.visit_node(verdict, size) {
+        let top = info.top;
+        walk_under(
+            tree,
+            visitor,
+            counted,
+            opened,
+            number,
+            Parent { top, verdict },
+        );
+    }
+}
