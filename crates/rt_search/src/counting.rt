@@ -6,11 +6,12 @@ ghost use Rattle.rt_search.specs.Work.{asked_by_count, opened_by_count};
 
 use crate::counts::Count;
 use crate::frontier::Frontier;
-use crate::walk::{Collector, Visitor, walk};
+use crate::walk::{Collector, Parent, Visitor, visit_entries, walk};
 use rt_geo::{Counted, Geometry, Verdict, Within};
-use rt_tree::Tree;
+use rt_tree::{Node, Tree};
 
 /// How many entries were accepted so far.
+#[derive(Clone, Copy)]
 struct Tally {
     accepted: u64,
 }
@@ -47,6 +48,19 @@ impl Visitor for Tally {
                 false
             }
         }
+    }
+
+    // Counts in a tally of its own, which stays in a register.
+    fn visit_leaf<G: Geometry>(
+        &mut self,
+        tree: &Tree,
+        counted: &mut Counted<'_, G>,
+        node: Node,
+        parent: Parent,
+    ) {
+        let mut tally = *self;
+        visit_entries(tree, &mut tally, counted, node, parent);
+        *self = tally;
     }
 }
 

@@ -18,7 +18,7 @@ use rt_geo::{Bounds, Counted, Geometry, Info, Layers, Verdict, Within};
 use rt_tree::{Node, NodeNo, Tree};
 
 /// What takes the entries under the nodes that are opened.
-pub(crate) trait Collector {
+pub(crate) trait Collector: Sized {
     /// What it becomes with one more answer.
     ghost takes: { Self → Answer → Self → Type 0 };
 
@@ -46,6 +46,28 @@ pub(crate) trait Visitor: Collector {
         ensures opens { result ≡ opens verdict }
         ensures taken { (answers : List Answer) → IsKnown verdict.within size answers
             → HasTaken Self.takes self.old (if result then [] else answers) self.new };
+
+    /// Takes what is accepted of the entries under a node of level 1, by [`visit_entries`].
+    fn visit_leaf<G: Geometry>(
+        &mut self,
+        tree: &Tree,
+        counted: &mut Counted<'_, G>,
+        node: Node,
+        parent: Parent,
+    )
+        requires tree { IsRooted tree.now parent.top }
+        requires node { IsLeafNode tree.now node }
+        requires below { let g = counted.old.geometry in
+            IsBelow (G.accepts g) (G.score g) (extent_of_node node) parent.verdict }
+        requires room { node.count ≤ Self.room self.old }
+        requires asked { counted.old.asked + node.count ≤ 2 ^ 64 - 1 }
+        ensures taken { let g = counted.old.geometry in
+            HasTaken Self.takes self.old (answers_among tree.now (G.accepts g) (G.score g) node node.count) self.new }
+        ensures geometry { counted.new.geometry ≡ counted.old.geometry }
+        ensures asked { counted.new.asked ≡ counted.old.asked + node.count }
+    {
+        visit_entries(tree, self, counted, node, parent);
+    }
 }
 
 /// What a question about a child says of its parent.
@@ -103,6 +125,7 @@ pub(crate) fn is_kept(within: Within) -> bool
 }
 
 /// Asks about the children of a node of level 1.
+#[inline(always)]
 pub(crate) fn visit_entries<C: Collector, G: Geometry>(
     tree: &Tree,
     collector: &mut C,
@@ -186,7 +209,7 @@ fn walk_under<V: Visitor, G: Geometry>(
     let node = tree.node(number);
     *opened += 1;
     if node.level == 1 {
-        visit_entries(tree, visitor, counted, node, parent);
+        visitor.visit_leaf(tree, counted, node, parent);
         return;
     }
     let first = node.first;

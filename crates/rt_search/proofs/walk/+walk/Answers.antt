@@ -90,8 +90,8 @@ walk_under-returns-then-node-eq1-clause-taken g t c =
     let is = c.node-node.ensures in
     let all = answers_all accepts score tree number c.requires.node.tree
     (sym (ap (λ n. n.level) is) ∙ c.if-node-eq1.true) in
-    subst (λ l. HasTaken g.V.Collector.takes c.args.visitor.now l c.visit_entries.new.collector)
-    (ap (λ n. answers_among tree accepts score n n.count) is ∙ all) c.visit_entries.ensures.taken
+    subst (λ l. HasTaken g.V.Collector.takes c.args.visitor.now l c.visit_leaf.new.self)
+    (ap (λ n. answers_among tree accepts score n n.count) is ∙ all) c.visit_leaf.ensures.taken
 
 pub walk_under-child_nodes-children-requires : goal.walk_under-child_nodes-children-requires
 walk_under-child_nodes-children-requires g t c =
