@@ -1,4 +1,4 @@
-//! What a run is told beside its bytes.
+//! The settings of a run.
 
 ghost use Rattle.std.specs.Prelude.{◌≡◌, ◌≤◌};
 ghost use Rattle.std.specs.Option.{SomeIff};

@@ -19,7 +19,7 @@ pub trait Sink {
     // Whether bytes that were taken wait for a flush. A sink that hands on each byte at once leaves this out.
     ghost waits: { Self → Bool } = { λ _. false };
 
-    /// Takes bytes from the front of the piece, and tells how many: 0 only where it failed.
+    /// Takes bytes from the front of the piece, and returns how many: 0 only where it failed.
     fn push(&mut self, piece: &[u8]) -> Result<usize, WriteFault>
         requires piece { 0 < length piece.now }
         requires count { failed self.old < 2 ^ 64 - 1 }

@@ -70,7 +70,7 @@ impl<'a> SliceSink<'a> {
         &self.room[..self.len]
     }
 
-    // Counts a call, and tells whether it is the one that fails.
+    // Counts a call, and returns whether it is the one that fails.
     fn fails(&mut self) -> bool
         requires { self.old.failures < 2 ^ 64 - 1 }
         ensures which { (result ≡ true) ↔ (self.old.fails_in ≡ 1) }

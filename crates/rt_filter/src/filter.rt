@@ -160,7 +160,7 @@ impl From<AllocError> for RunFault {
     }
 }
 
-/// The line that tells a fault, its line feed included.
+/// The line that reports a fault, its line feed included.
 pub fn run_fault_line(fault: &RunFault) -> Line
     ensures { result ≡ run_fault_line fault.now }
 {

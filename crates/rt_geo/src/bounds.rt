@@ -16,7 +16,7 @@ const MAXIMUM_LANES: [i32; 4] = [0, 0, -1, -1];
 /// A closed box: a minimum and a maximum on each axis, each minimum at most its maximum.
 ///
 /// The sides are those of SQLite's `rtree_i32` tables. The minimums stand side by side, and so do the maximums, so that
-/// both axes are reckoned in one step.
+/// both axes are computed in one step.
 #[derive(Clone, Copy, Debug, PartialEq, Eq)]
 pub struct Bounds {
     min_x: i32,

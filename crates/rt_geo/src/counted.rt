@@ -8,7 +8,7 @@ use std::marker::Model;
 
 /// A borrowed geometry with the number of its checks: the only way in which a search asks a geometry.
 ///
-/// It can't be cloned, and no call hands the geometry out, so that the number tells all the checks
+/// It can't be cloned, and no call hands the geometry out, so that the number counts all the checks
 /// that were made through it.
 pub struct Counted<'a, G: Geometry> {
     geometry: &'a G,

@@ -1,4 +1,4 @@
-//! Layers: what kind of thing each box stands for, told by a number.
+//! Layers: what kind of thing each box stands for, given by a number.
 
 ghost use Rattle.std.specs.Prelude.{◌≡◌, ◌≤◌, ◌==◌, ◌||◌, ℕ};
 ghost use Rattle.rt_geo.specs.Layers.{all_layers, disjoint, has, most_layer, only, subset, union};

@@ -1,7 +1,7 @@
 //! Convex polygons.
 //!
 //! A box is accepted where no axis parts it from the polygon (`specs/Polygons.antt`), which is a test of the
-//! four corners of the box for each edge. One corner is enough: the one farthest to the left of the edge tells
+//! four corners of the box for each edge. One corner is enough: the one farthest to the left of the edge shows
 //! whether the box meets the half-plane of the edge, the opposite one whether it lies in it.
 
 ghost use Rattle.std.specs.Prelude.{◌≡◌, ◌<◌, ◌≤◌, ◌^◌, ◌-◌, true, not, ◌&&◌};

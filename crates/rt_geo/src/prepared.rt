@@ -1,6 +1,6 @@
 //! Convex polygons with short edges, made ready to be asked about many boxes.
 //!
-//! What is the same for all boxes is reckoned once: where each edge leads, how far its line lies from the origin,
+//! What is the same for all boxes is computed once: where each edge leads, how far its line lies from the origin,
 //! and which corner of a box lies farthest to its left. The products of short edges with coordinates have 63 bits.
 
 ghost use Rattle.std.specs.Prelude.{◌≡◌, ◌<◌, ◌≤◌, ◌^◌, ◌*ℤ◌, ◌-ℤ◌, true, not, ◌&&◌, length};
@@ -96,7 +96,7 @@ fn state_by_half_planes(
         (lies_inside && list_all (reaches (turned_sides_of bounds)) half_planes.now) }
     ensures valid { IsRect bounds }
 {
-    // (`&`, so that no branch hangs on what the half-planes tell)
+    // (`&`, so that it is branchless)
     let meets = overlapping & (!overlapping || all_reach(half_planes, &sides(bounds)));
     let holds = lies_inside && all_reach(half_planes, &turned_sides(bounds));
     if !meets {
@@ -108,8 +108,8 @@ fn state_by_half_planes(
     }
 }
 
-/// Whether the corner that each half-plane picks of these sides lies in it. All are asked, so that no branch hangs on
-/// what one tells: a processor can't foretell it.
+/// Whether the corner that each half-plane picks of these sides lies in it. All are asked, so that it is
+/// branchless: which one parts them would be mispredicted.
 #[inline(always)]
 fn all_reach(half_planes: &[HalfPlane], sides: &[i64; 4]) -> bool
     requires small { list_all is_small half_planes.now ≡ true }
@@ -197,8 +197,8 @@ fn half_planes(first: Point, others: &[Point]) -> Option<ArrayVec<HalfPlane, MOS
     Some(half_planes)
 }
 
-/// How many of the points lie strictly to the left of a short edge. No branch hangs on where one lies: a processor
-/// can't foretell it.
+/// How many of the points lie strictly to the left of a short edge. Branchless in where one lies, which
+/// would be mispredicted.
 #[inline(always)]
 pub(crate) fn left_of_short(edge: Edge, points: &[Point]) -> usize
     requires { is_short edge ≡ true }

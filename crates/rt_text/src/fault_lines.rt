@@ -1,4 +1,4 @@
-//! The line that tells a fault of the table.
+//! The line that reports a fault of the table.
 
 ghost use Rattle.std.specs.Prelude.{◌≡◌, ◌+◌, ◌≤◌, length};
 ghost use Rattle.rt_text.specs.FaultLines.{fault_line, numbered_line, record_line};
@@ -6,7 +6,7 @@ ghost use Rattle.rt_text.specs.FaultLines.{fault_line, numbered_line, record_lin
 use crate::line::Line;
 use crate::tables::{Axis, TableFault};
 
-/// The line that tells a fault of the table, its line feed included.
+/// The line that reports a fault of the table, its line feed included.
 pub fn fault_line(fault: &TableFault) -> Line
     ensures { result ≡ fault_line fault.now }
 {

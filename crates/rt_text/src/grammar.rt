@@ -373,7 +373,7 @@ fn coordinate(words: &mut Words) -> Result<i32, QueryFault>
 }
 
 // The next word's number, where it is a usual one. Coordinates have this function to themselves, since they are much
-// alike: what a processor foretells of one isn't spoilt by counts and limits.
+// alike: counts and limits would make the processor mispredict its branches.
 #[inline(never)]
 fn usual_coordinate(words: &mut Words) -> Option<i64>
     ensures { MatchOption result (words.new ≡ words.old)

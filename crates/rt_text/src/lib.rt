@@ -1,10 +1,10 @@
 //! Text in and text out: numbers, the table's CSV, query lines, and the lines that are answered.
 //!
 //! - [`number`] reads a number of a range (`specs/Numbers.antt`).
-//! - [`read_table`] reads a whole table, or tells its first fault. What a table's text means is `table_of` of
+//! - [`read_table`] reads a whole table, or returns its first fault. What a table's text means is `table_of` of
 //!   `specs/Tables.antt`, which rests on csv's own words for the records of a text. [`fault_line`] says a fault
 //!   of the table in one line.
-//! - [`parse`] tells what a query line asks, or its first fault: `query_of` of `specs/Queries.antt`.
+//! - [`parse`] returns what a query line asks for, or its first fault: `query_of` of `specs/Queries.antt`.
 //! - [`answer_line`], [`ok_line`], [`level_line`] and [`error_line`] are the lines that a query line is answered
 //!   with (`specs/ReplyLines.antt`). Each is a [`Line`], a text of at most 128 bytes.
 #![tactic(auto)]

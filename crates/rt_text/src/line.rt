@@ -98,8 +98,8 @@ impl Line {
         self.start = write_digits(number, &mut self.room, self.start);
     }
 
-    // The same for a number of nine digits or more, sixteen of them side by side. No branch asks how many there are:
-    // it can't be foretold.
+    // The same for a number of nine digits or more, sixteen of them side by side. Branchless in how many there are,
+    // which would be mispredicted.
     #[inline(never)]
     fn prepend_long(&mut self, number: u64)
         requires room { length self.old + 20 ≤ MOST_BYTES }

@@ -174,7 +174,7 @@ fn short_signed(text: &[u8]) -> Result<i64, NumberFault>
     Ok(if text[0] == b'-' { -number } else { number })
 }
 
-// What stands behind a sign, if there is one. No branch tells them apart: which it is can't be foretold.
+// What stands behind a sign, if there is one. Branchless, since whether there is one would be mispredicted.
 fn without_sign(text: &[u8]) -> &[u8]
     requires { 0 < length text.now }
     ensures { result.now ≡ without_leading_sign text.now }

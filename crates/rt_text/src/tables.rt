@@ -63,7 +63,7 @@ const FIELDS_WITHOUT_LAYER: usize = 5;
 const FIELDS_WITH_LAYER: usize = 6;
 
 /// The table that a reader's bytes give: at most `max` boxes, each under an id of its own. With `header` the
-/// first record is counted and not judged. Where records are at fault, the first such is told; `Read` and `Memory`
+/// first record is counted and not judged. The fault of the first record that has one is returned; `Read` and `Memory`
 /// stand in the place of whatever would follow where they come.
 pub fn read_table<R: Read + Drop>(
     alloc: Global,
@@ -79,7 +79,7 @@ pub fn read_table<R: Read + Drop>(
 {
     let mut entries = Entries::empty(alloc);
     let end = read_entries(alloc, reader, header, max, &mut entries);
-    // (an id that comes again is told first: what ended the load stands after it)
+    // (a repeated id is reported first: what ended the load stands after it)
     let table = table_of_entries(alloc, header, entries)?;
     match end {
         Ok(()) => Ok(table),

@@ -1,4 +1,4 @@
-//! The sizes of the levels of a packed tree, told without the tree.
+//! The sizes of the levels of a packed tree, computed without the tree.
 
 ghost use Rattle.std.specs.Prelude.{◌≡◌, ◌<◌, ◌≤◌, ◌++◌, ◌∷◌, [], length, slice_get, Some};
 ghost use Rattle.rt_tree.specs.Entries.{most_entries};

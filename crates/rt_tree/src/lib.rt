@@ -4,7 +4,7 @@
 //!   makes one of many [`Entries`] at once, and quicker than [`Table::push`] one by one.
 //! - A [`Tree`] is packed over a table by [`Tree::pack`]. It is seen as its fanout and two flat lists: its entries in
 //!   the order of their places, and its [`Node`]s in the order of their numbers, of which a [`NodeNo`] is one.
-//! - [`Levels`] are seen as the sizes of the levels of a tree over so many entries, told without the tree.
+//! - [`Levels`] are seen as the sizes of the levels of a tree over so many entries, computed without the tree.
 //!
 //! The definitions that the contracts cite stand in `specs/`: `Entries`, `Repeats` (why entries make no table),
 //! `Leaves` (entries without their layers), `Levels`, `Packing` (which tree is packed), `Packed` (what it holds, and

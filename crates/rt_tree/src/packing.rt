@@ -1,6 +1,6 @@
 //! Sort-tile-recursive packing: items in tiles, and nodes over them.
 //!
-//! Each item has a sort key: a number that tells the middle of its box, and then its place. Keys are sorted by x, each
+//! Each item has a sort key: a number of the middle of its box, and below it its place. Keys are sorted by x, each
 //! slice of them is sorted by y, and the items are moved once, at the end. Of nodes with one middle that at the lesser
 //! place goes first, and of entries that with the lesser id.
 
@@ -154,7 +154,7 @@ fn sort_key(rank: u64, place: u64) -> u64
     rank * PLACES + place
 }
 
-/// The place that a key tells.
+/// The place in a key.
 pub(crate) fn place_of(key: u64) -> usize
     ensures { result ≡ place_of key }
 {
@@ -268,7 +268,7 @@ fn sort_by_y<T: Items>(keys: &mut [u64], items: &T)
     items.sort_keys(keys);
 }
 
-// The key by y of the item that a key tells.
+// The key by y of the item whose place is in a key.
 fn key_by_y<T: Items>(key: u64, items: &T) -> u64
     requires few { length (T.list items.now) ≤ most_entries }
     requires place { place_of key < length (T.list items.now) }

@@ -66,7 +66,7 @@ impl Table {
     }
 
     /// The table of these entries, whose layers are at most 63, in their order, in O(n log n) whatever they are.
-    /// `Repeated` tells the first entry whose id an earlier one has; `Memory` comes where there was none for the table.
+    /// `Repeated` names the first entry whose id an earlier one has; `Memory` comes where there was none for the table.
     pub fn of_entries(alloc: Global, entries: Entries) -> Result<Table, EntriesFault>
         requires most { length entries ≤ most_entries }
         requires layers { All HasLayer entries }

@@ -45,7 +45,7 @@ pub struct NodeNo {
 }
 
 impl NodeNo {
-    /// The number as that of a node. Which numbers a tree has, it tells itself.
+    /// The number as that of a node. A tree has those below its [`Tree::node_len`].
     pub fn new(number: u32) -> NodeNo
         ensures { result.number ≡ number }
     {
