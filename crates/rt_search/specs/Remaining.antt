@@ -6,7 +6,8 @@ use Rattle.rt_geo.specs.Laws.{AllAccepted, Extent, IsBoxInside}
 use Rattle.rt_geo.specs.declared.geometry.Verdict.{Verdict}
 use Rattle.rt_geo.specs.declared.geometry.Within.{Within}
 use Rattle.rt_geo.specs.declared.geometry.Within.TheVariants.{Not, Partly, Fully}
-use Rattle.rt_tree.specs.Packed.{Packed, IsSound, IsSubtree, entries_under, extent_of_node, node_at, root_of}
+use Rattle.rt_tree.specs.Packed.{Packed, IsLeafNode, IsSound, IsSubtree, entries_under, extent_of_node, node_at, root_of}
+use Rattle.rt_tree.specs.declared.tree.Node.{Node}
 use Rattle.rt_tree.specs.Sorting.{put}
 use Rattle.rt_search.specs.Answers.{Answer, answer_cmp, scored}
 use Rattle.rt_search.specs.declared.item.Item.{Item}
@@ -51,6 +52,13 @@ pub record IsOpenable (t : Packed) (accepts : Extent → Bool) (score : Extent �
     pub tree : IsSubtree t (height_at t number) (node_at t number)
     pub low : (node_at t number).level ≤ 24
     pub below : IsBelow accepts score (extent_of_node (node_at t number)) v
+
+-- the same of a node of level 1, by itself, in a tree whose root is on this level
+pub record IsOpenableLeaf (t : Packed) (top : ℕ) (accepts : Extent → Bool) (score : Extent → ℕ) (n : Node) (v : Verdict)
+    : Type 0 where
+  pub tree : IsRooted t top
+  pub node : IsLeafNode t n
+  pub below : IsBelow accepts score (extent_of_node n) v
 
 -- what holds of an item
 abbrev pub IsSoundAt : Packed → (accepts : Extent → Bool) → (score : Extent → ℕ) → ℕ → Place → Type 0

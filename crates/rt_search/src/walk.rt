@@ -6,9 +6,9 @@
 ghost use Rattle.std.specs.Prelude.{◌≡◌, ◌+◌, ◌-◌, ◌<◌, ◌≤◌, ◌^◌, ℕ, Bool, List, [], if◌then◌else◌, length};
 ghost use Rattle.rt_geo.specs.Laws.{Extent, IsHonest};
 ghost use Rattle.rt_geo.specs.declared.geometry.Verdict.{Verdict};
-ghost use Rattle.rt_tree.specs.Packed.{IsLeafNode, IsSound, extent_of_node, node_at, root_of};
+ghost use Rattle.rt_tree.specs.Packed.{IsSound, node_at, root_of};
 ghost use Rattle.rt_search.specs.Answers.{Answer};
-ghost use Rattle.rt_search.specs.Remaining.{IsBelow, IsOpenable, IsRooted, verdict_on};
+ghost use Rattle.rt_search.specs.Remaining.{IsOpenable, IsOpenableLeaf, IsRooted, verdict_on};
 ghost use Rattle.rt_search.specs.Walking.{HasTaken, IsCheckable, IsFilling, IsKnown, answer_if, answers_among};
 ghost use Rattle.rt_search.specs.Walking.{answers_in_tree, answers_under, work_at_child, work_under};
 ghost use Rattle.rt_search.specs.Work.{info_under, is_kept, its_children, one_node, reached_from_root};
@@ -55,10 +55,8 @@ pub(crate) trait Visitor: Collector {
         node: Node,
         parent: Parent,
     )
-        requires tree { IsRooted tree.now parent.top }
-        requires node { IsLeafNode tree.now node }
-        requires below { let g = counted.old.geometry in
-            IsBelow (G.accepts g) (G.score g) (extent_of_node node) parent.verdict }
+        requires leaf { let g = counted.old.geometry in
+            IsOpenableLeaf tree.now parent.top (G.accepts g) (G.score g) node parent.verdict }
         requires room { node.count ≤ Self.room self.old }
         requires asked { counted.old.asked + node.count ≤ 2 ^ 64 - 1 }
         ensures taken { let g = counted.old.geometry in
@@ -133,10 +131,8 @@ pub(crate) fn visit_entries<C: Collector, G: Geometry>(
     node: Node,
     parent: Parent,
 )
-    requires tree { IsRooted tree.now parent.top }
-    requires node { IsLeafNode tree.now node }
-    requires below { let g = counted.old.geometry in
-        IsBelow (G.accepts g) (G.score g) (extent_of_node node) parent.verdict }
+    requires leaf { let g = counted.old.geometry in
+        IsOpenableLeaf tree.now parent.top (G.accepts g) (G.score g) node parent.verdict }
     requires room { node.count ≤ C.room collector.old }
     requires asked { counted.old.asked + node.count ≤ 2 ^ 64 - 1 }
     ensures taken { let g = counted.old.geometry in
