@@ -78,7 +78,7 @@ fn a_write_that_takes_nothing_is_a_failure(rt: HostRuntime) {
 }
 
 #[test]
-fn slices_give_and_take_in_pieces(rt: HostRuntime) {
+fn a_slice_gives_in_pieces(rt: HostRuntime) {
     let mut source = SliceSource::new(b"abcde", 2, Some(2));
     let mut room = [0; 4];
     assert_eq!(rt; source.pull(&mut room), Ok(2));
@@ -89,7 +89,10 @@ fn slices_give_and_take_in_pieces(rt: HostRuntime) {
     assert_eq!(rt; room, *b"de\0\0");
     assert_eq!(rt; source.pull(&mut room), Ok(0));
     assert_eq!(rt; source.failures(), 1);
+}
 
+#[test]
+fn a_slice_takes_in_pieces(rt: HostRuntime) {
     let mut room = [0; 4];
     let mut sink = SliceSink::new(&mut room, 3, Some(2));
     assert_eq!(rt; sink.push(b"abcd"), Ok(3));

@@ -16,9 +16,14 @@ fn a_set_of_layers_has_those_whose_bits_are_set(rt: HostRuntime) {
             assert_eq!(rt; Layers::of(layer).is_disjoint(some), !some.has(layer));
         }
     }
+}
+
+#[test]
+fn sets_of_layers_are_joined_and_compared(rt: HostRuntime) {
     assert_eq!(rt; Layers::of(0).bits(), 1);
     assert_eq!(rt; Layers::of(63).bits(), 0x8000_0000_0000_0000);
     assert_eq!(rt; Layers::all().bits(), u64::MAX);
+    let some = Layers::new(0x8000_0000_0000_0009);
     assert_eq!(rt;
         Layers::of(0).union(Layers::of(3)).union(Layers::of(63)),
         some

@@ -145,6 +145,12 @@ fn packs_the_five_boxes_node_by_node(rt: HostRuntime) {
         assert_eq!(rt; node.count, *count);
         assert_eq!(rt; node.size, *size);
     }
+}
+
+#[test]
+fn goes_down_from_the_root_of_the_five_boxes(rt: HostRuntime) {
+    let table = table(rt.alloc(), &BOXES).expect(&rt, "the boxes are a table");
+    let tree = Tree::pack(rt.alloc(), table, 2).expect(&rt, "there is memory");
     let root = tree.root().expect(&rt, "there are entries");
     assert_eq!(rt; root.number(), 5);
     let node = tree.node(root);
