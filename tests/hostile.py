@@ -7,7 +7,7 @@ Loading sorts the ids, the entries by id, and each level of the tree by its midd
 proportion to n log n whatever the boxes and the ids are. With 1,000,000 records a sort that takes time in proportion
 to n * n would not end within the time that is given here, nor would a search on a layer that one box has, if it looked
 at every other box, one for all boxes, if it sorted them again for each, one for half of them, if it looked at all that
-waits for each, or one for a box alone, if it moved what the query before left behind. The last line is
+waits for each, or one for a box alone, if it passed over what an earlier query found or left behind. The last line is
 `N passed, M failed`.
 """
 
@@ -60,8 +60,10 @@ def one_of_all(at, count):
 
 
 # Boxes round one middle, whose sizes stand in no order, so that those of a node differ: who asks for the nearest from
-# outside has opened most nodes when half of the boxes are given, and as many boxes wait.
+# outside has opened most nodes when half of the boxes are given, and as many boxes wait. So many lines then ask for one
+# box, in each of two ways: to pass over half a million numbers takes less than a millisecond.
 STEP = 7919
+AGAIN = 500_000
 
 
 def in_no_order(at, count):
@@ -95,10 +97,13 @@ def rare_lines(count):
 def nearest_lines(count):
     """The lines that ask for all boxes, for half of them, and then again and again for one, and their replies."""
     at_size, half = pow(STEP, -1, count), count // 2
+    largest = (count - 1) * at_size % count
     boxes = [b"%d %d\n" % ((count - away) * at_size % count, away**2) for away in range(1, count + 1)]
-    asked = b"find all near %d 0\nnearest %d %d 0\n" % (count, half, count) + b"nearest 1 %d 0\n" % count * LINES
+    asked = b"find all near %d 0\nnearest %d %d 0\n" % (count, half, count)
+    asked += b"nearest 1 %d 0\n" % count * AGAIN + b"find window %d %d 0 0\n" % (count - 1, count) * AGAIN
     told = [*boxes, b"ok 1 %d\n" % count, *boxes[:half], b"ok 2 %d\n" % half]
-    told += (boxes[0] + b"ok %d 1\n" % at for at in range(3, 3 + LINES))
+    told += (b"%d 1\nok %d 1\n" % (largest, at) for at in range(3, 3 + AGAIN))
+    told += (b"%d 0\nok %d 1\n" % (largest, at) for at in range(3 + AGAIN, 3 + 2 * AGAIN))
     return asked, b"".join(told)
 
 
