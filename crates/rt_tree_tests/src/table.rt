@@ -146,6 +146,22 @@ fn entries_are_pushed_after_others_at_once(rt: HostRuntime) {
     }
 }
 
+// Half as many as a table may have, so that memory for them is there.
+#[test]
+fn one_is_pushed_after_millions_at_once(rt: HostRuntime) {
+    let most = Table::MOST_ENTRIES / 2;
+    let mut ids = Vec::new(rt.alloc());
+    for id in 0..i64::from(most) {
+        ids.push(id).expect(&rt, "there is memory");
+    }
+    let mut table = match loaded(rt.alloc(), &ids).expect(&rt, "there is memory") {
+        Ok(table) => table,
+        Err(_) => Table::empty(rt.alloc()),
+    };
+    assert_eq!(rt; push(&mut table, -1, [0; 4]), Some(Ok(())));
+    assert_eq!(rt; table.len(), most + 1);
+}
+
 // Where an allocator refuses one growth, as tests/refusals.py has it, this tells so, and else it passes.
 #[test]
 fn a_refused_push_changes_nothing(rt: HostRuntime) -> Result<(), Fail> {
