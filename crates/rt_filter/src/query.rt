@@ -2,12 +2,13 @@
 //!
 //! The region and the order of a query are matched once, so that the check of each box is compiled for them.
 
-ghost use Rattle.std.specs.Prelude.{◌≡◌, ◌-◌, ◌<◌, ◌≤◌, ◌^◌, IfOk, length};
+ghost use Rattle.std.specs.Prelude.{◌≡◌, ◌-◌, ◌<◌, ◌≤◌, ◌^◌, IfOk, length, true};
 ghost use Rattle.rt_geo.specs.OnLayers.{on_layers_accepts};
 ghost use Rattle.rt_geo.specs.Regions.{region_accepts};
 ghost use Rattle.rt_tree.specs.Levels.{level_sizes};
 ghost use Rattle.rt_text.specs.ReplyLines.{ok_line};
 ghost use Rattle.rt_search.specs.Answers.{accepted, answers};
+ghost use Rattle.rt_search.specs.Work.{IsUnscored};
 ghost use Rattle.rt_filter.specs.Pushes.{Pushed};
 ghost use Rattle.rt_filter.specs.Replies.{find_reply, levels_reply, query_reply};
 ghost use Rattle.rt_filter.specs.Reports.{cost_query, report_on};
@@ -143,7 +144,7 @@ fn push_in_region<K: Sink>(
         Region::Circle(circle) => {
             if let Report::Answers { order, limit } = report {
                 if let Some(disc) = Disc::from_parts(&circle, &order) {
-                    return find(tree, frontier, line, disc, limit, sink);
+                    return find(tree, frontier, line, disc, false, limit, sink);
                 }
             }
             push_in_shape(tree, frontier, line, circle, report, sink)
@@ -176,9 +177,18 @@ fn push_in_shape<S: Shape + Drop, K: Sink>(
         Report::Count => return push_count(tree, frontier, line, shape, sink),
     };
     match order {
-        Order::ById(rank) => find(tree, frontier, line, Guided { shape, rank }, limit, sink),
-        Order::Near(rank) => find(tree, frontier, line, Guided { shape, rank }, limit, sink),
-        Order::Smallest(rank) => find(tree, frontier, line, Guided { shape, rank }, limit, sink),
+        Order::ById(rank) => {
+            let geometry = Guided { shape, rank };
+            find(tree, frontier, line, geometry, true, limit, sink)
+        }
+        Order::Near(rank) => {
+            let geometry = Guided { shape, rank };
+            find(tree, frontier, line, geometry, false, limit, sink)
+        }
+        Order::Smallest(rank) => {
+            let geometry = Guided { shape, rank };
+            find(tree, frontier, line, geometry, true, limit, sink)
+        }
     }
 }
 
@@ -204,17 +214,20 @@ fn push_count<S: Shape + Drop, K: Sink>(
     Ok(frontier)
 }
 
-// Pushes a line for each answer of one geometry, and then their number. Where all are wanted, all are found first.
+// Pushes a line for each answer of one geometry, and then their number. Where all are wanted, all are found first. Where
+// no node has a score, as in the orders by id and by area, all nodes are opened first.
 fn find<G: Geometry + Drop, K: Sink>(
     tree: &Tree,
     frontier: Frontier,
     line: u128,
     geometry: G,
+    is_unscored: bool,
     limit: Option<u64>,
     sink: &mut K,
 ) -> Result<Frontier, WriteFault>
     requires room { length tree.now.entries ≤ frontier.capacity }
     requires count { K.failed sink.old < 2 ^ 64 - 1 }
+    requires unscored { is_unscored ≡ true → IsUnscored (G.verdict geometry) }
     ensures pushed { Pushed K.written K.failed sink.old sink.new result
         (find_reply line (answers tree.now.entries (G.accepts geometry) (G.score geometry) limit)) }
     ensures capacity { IfOk result (λ left. left.capacity ≡ frontier.capacity) }
@@ -223,8 +236,13 @@ fn find<G: Geometry + Drop, K: Sink>(
     let _most = tree.len();
     let counted = Counted::new(&geometry);
     match limit {
-        Some(_) => push_search(Search::start(tree, frontier, counted, limit), line, sink),
         None => push_search(FullSearch::start(tree, frontier, counted), line, sink),
+        Some(_) if is_unscored => push_search(
+            Search::start_unscored(tree, frontier, counted, limit),
+            line,
+            sink,
+        ),
+        Some(_) => push_search(Search::start(tree, frontier, counted, limit), line, sink),
     }
 }
 

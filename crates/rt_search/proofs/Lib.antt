@@ -19,6 +19,7 @@ pub mod Sizes
 pub mod Starting
 pub mod Stepping
 pub mod UnderWay
+pub mod Unscored
 pub mod WalkWhole
 pub mod Walks
 pub mod Widths

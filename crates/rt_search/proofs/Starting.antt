@@ -25,14 +25,14 @@ use Rattle.rt_search.proofs.OrderedLists.{put_all-nil}
 use Rattle.rt_search.proofs.Orders.{answer_order}
 use Rattle.rt_search.proofs.Sizes.{size_under}
 
-within_zero : (bound : Option ℕ) → is_within_bound bound 0 ≡ true
+pub within_zero : (bound : Option ℕ) → is_within_bound bound 0 ≡ true
 within_zero None = refl
 within_zero (Some b) = grind (arith, nat_tests)
 
 reached_zero : (bound : Option ℕ) → is_reached bound root_verdict ≡ true
 reached_zero bound = within_zero bound
 
-all_each : {X : Type 0} (P : X → Type 0) → ((x : X) → P x) → (xs : List X) → AllByRecursion P xs
+pub all_each : {X : Type 0} (P : X → Type 0) → ((x : X) → P x) → (xs : List X) → AllByRecursion P xs
 all_each P f [] = tt
 all_each P f (x ∷ xs) = (f x, all_each P f xs)
 
@@ -64,11 +64,11 @@ nat_eq_true h = grind (arith, nat_tests)
 pub nat_eq_false : {n : ℕ} → (n == 0) ≡ false → 0 < n
 nat_eq_false h = grind (arith, nat_tests)
 
-none_given : (limit : Option ℕ) → IsInLimit limit 0
+pub none_given : (limit : Option ℕ) → IsInLimit limit 0
 none_given None = tt
 none_given (Some k) = omega arith
 
-from_first : (wanted limit : Option ℕ) → IfSome wanted (λ n. limit ≡ Some n)
+pub from_first : (wanted limit : Option ℕ) → IfSome wanted (λ n. limit ≡ Some n)
     → IfSome wanted (λ n. limit ≡ Some (0 + n))
 from_first None limit h = tt
 from_first (Some n) limit h = h ∙ ap Some (omega arith)

@@ -1,5 +1,5 @@
 -- What a search and a count do: the nodes that they open, and the checks that they make.
-use Rattle.std.specs.Prelude.{◌≡◌, ℕ, zero, suc, ◌+◌, ◌-◌, ◌==◌, nat_le, Bool, true, false, ◌&&◌, if◌then◌else◌}
+use Rattle.std.specs.Prelude.{◌≡◌, ◌<◌, ℕ, zero, suc, ◌+◌, ◌-◌, ◌==◌, nat_le, Bool, true, false, ◌&&◌, if◌then◌else◌}
 use Rattle.std.specs.Prelude.{Option, Some, None, List, length, slice_get}
 use Rattle.std.specs.List.{sum_by}
 use Rattle.std.specs.Option.{option_map}
@@ -71,6 +71,10 @@ is_kept Fully = true
 abbrev pub is_within_bound : (bound : Option ℕ) → (score : ℕ) → Bool
 is_within_bound None score = true
 is_within_bound (Some bound) score = nat_le score bound
+
+-- each node scores 0, as in the orders by id and by area
+abbrev pub IsUnscored : (verdict : Info → Verdict) → Type 0
+IsUnscored verdict = (info : Info) → 0 < info.level → (verdict info).score ≡ 0
 
 -- a search up to a bound opens what isn't NOT and scores at most the bound
 abbrev pub is_reached : (bound : Option ℕ) → Verdict → Bool

@@ -16,8 +16,8 @@ ghost use Rattle.rt_tree.specs.Sorting.{put};
 use crate::hits::Hits;
 use crate::item::{FoundEntry, Taken, WaitingNode};
 use crate::queue::Queue;
-use crate::walk::{Collector, walk};
-use rt_geo::{Counted, Geometry};
+use crate::walk::{Collector, Visitor, is_kept, walk};
+use rt_geo::{Counted, Geometry, Verdict};
 use rt_tree::Tree;
 use std::alloc::{AllocError, Global};
 use std::marker::Model;
@@ -169,4 +169,17 @@ impl Collector for Frontier {
     }
 
     ghost fills = { entries-fill };
+}
+
+impl Visitor for Frontier {
+    ghost use Rattle.std.specs.Prelude.{None};
+    ghost use Rattle.rt_search.specs.Work.{is_reached};
+
+    ghost opens = { is_reached None };
+
+    // Each node is opened that may hold answers.
+    #[inline(always)]
+    fn visit_node(&mut self, verdict: Verdict, _size: u32) -> bool {
+        is_kept(verdict.within)
+    }
 }

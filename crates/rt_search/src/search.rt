@@ -7,10 +7,11 @@ ghost use Rattle.rt_search.specs.Answers.{Answer, answers};
 ghost use Rattle.rt_search.specs.Limits.{IsEnough, one_less};
 ghost use Rattle.rt_search.specs.Progress.{IsFound, IsOver, IsUnderWay, join_children};
 ghost use Rattle.rt_search.specs.Remaining.{IsOpenable, IsRooted, verdict_on};
-ghost use Rattle.rt_search.specs.Work.{HasWorked};
+ghost use Rattle.rt_search.specs.Work.{HasWorked, IsUnscored};
 
 use crate::frontier::Frontier;
 use crate::opening::{open_node, put_root};
+use crate::walk::walk;
 use rt_geo::{Counted, Geometry};
 use rt_tree::Tree;
 use std::marker::Model;
@@ -123,6 +124,49 @@ impl<'a, G: Geometry> Search<'a, G> {
             given: 0,
             opened: 0,
             top,
+        }
+    }
+
+    /// The same for a geometry that scores each node 0, as the orders by id and by area do. Whatever the first answer
+    /// is, each node that may hold answers is opened before it: so all are opened here, from the root downwards, and none
+    /// waits. Where no answer is wanted, none is opened.
+    pub fn start_unscored(
+        tree: &'a Tree,
+        frontier: Frontier,
+        counted: Counted<'a, G>,
+        limit: Option<u64>,
+    ) -> Search<'a, G>
+        requires capacity { length tree.now.entries ≤ frontier.capacity }
+        requires asked { counted.asked ≡ 0 }
+        requires unscored { IsUnscored (G.verdict counted.geometry) }
+        ensures to_come { let g = counted.entry.geometry in
+            result.to_come ≡ answers tree.now.entries (G.accepts g) (G.score g) limit }
+        ensures limit { result.limit ≡ limit }
+        ensures given { result.given ≡ 0 }
+
+        // The work is done: it is that of a search for so many answers.
+        ensures worked { let g = counted.entry.geometry in
+            HasWorked (G.accepts g) (G.score g) (G.verdict g) tree.now limit result.opened result.asked }
+
+        ensures tree { result.tree ≡ tree.now }
+        ensures geometry { result.geometry ≡ counted.entry.geometry }
+        ensures capacity { result.capacity ≡ frontier.capacity }
+    {
+        if limit == Some(0) {
+            return Search::start(tree, frontier, counted, limit);
+        }
+        let mut frontier = frontier;
+        let mut counted = counted;
+        frontier.clear(limit);
+        let opened = walk(tree, &mut frontier, &mut counted);
+        Search {
+            tree,
+            frontier,
+            counted,
+            limit,
+            given: 0,
+            opened,
+            top: tree.top(),
         }
     }
 

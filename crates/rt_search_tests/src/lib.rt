@@ -3,6 +3,8 @@
 #![tactic(auto)]
 
 #[cfg(test)]
+mod expect;
+#[cfg(test)]
 mod left_of;
 #[cfg(test)]
 mod own_geometries;

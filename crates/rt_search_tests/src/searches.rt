@@ -1,12 +1,15 @@
 //! Searches and counts over small trees, with answers and numbers that were worked out by hand.
 
+ghost use Rattle.rt_search.specs.Work.{IsUnscored};
+
+use crate::expect::expect_eq;
 use crate::searching::first_answer;
 use crate::tables::{Sides, boxed, push};
 use crate::uneven::Uneven;
 use crate::watched::Watched;
 use rt_geo::{
     All, Bounds, ById, Circle, Counted, Geometry, Guided, Inside, Layers, Near, OnLayers, Order,
-    Point, Region, Window,
+    Point, Region, Smallest, Window,
 };
 use rt_search::{Count, Frontier, FullSearch, Search, cost, count};
 use rt_tree::{Table, Tree};
@@ -60,16 +63,45 @@ fn expect_search<G: Geometry>(
     want: &Want<'_>,
 ) {
     let frontier = Frontier::new(alloc, tree.len()).expect(rt, "there is memory");
-    let mut search = Search::start(tree, frontier, Counted::new(geometry), limit);
+    let search = Search::start(tree, frontier, Counted::new(geometry), limit);
+    expect_eq(rt, search.opened(), 0);
+    expect_answers(rt, search, tree.len(), want);
+}
+
+// The same where each node scores 0, and is opened before the first answer.
+fn expect_unscored<G: Geometry>(
+    rt: &impl Abort,
+    alloc: Global,
+    tree: &Tree,
+    geometry: &G,
+    limit: Option<u64>,
+    want: &Want<'_>,
+)
+    requires { IsUnscored (G.verdict geometry.now) }
+{
+    expect_search(rt, alloc, tree, geometry, limit, want);
+    let frontier = Frontier::new(alloc, tree.len()).expect(rt, "there is memory");
+    let search = Search::start_unscored(tree, frontier, Counted::new(geometry), limit);
+    expect_eq(rt, search.opened(), want.opened);
+    expect_answers(rt, search, tree.len(), want);
+}
+
+fn expect_answers<G: Geometry>(
+    rt: &impl Abort,
+    search: Search<'_, G>,
+    capacity: u32,
+    want: &Want<'_>,
+) {
+    let mut search = search;
     for answer in want.answers {
-        assert_eq!(rt; search.next(), Some(*answer));
+        expect_eq(rt, search.next(), Some(*answer));
     }
-    assert_eq!(rt; search.next(), None);
-    assert_eq!(rt; search.next(), None);
-    assert_eq!(rt; search.opened(), want.opened);
+    expect_eq(rt, search.next(), None);
+    expect_eq(rt, search.next(), None);
+    expect_eq(rt, search.opened(), want.opened);
     let (frontier, counted) = search.finish();
-    assert_eq!(rt; counted.asked(), want.asked);
-    assert_eq!(rt; frontier.capacity(), tree.len());
+    expect_eq(rt, counted.asked(), want.asked);
+    expect_eq(rt, frontier.capacity(), capacity);
 }
 
 // The nodes that a search for so many answers opens, told without the answers.
@@ -83,8 +115,8 @@ fn expect_cost<G: Geometry>(
 ) {
     let frontier = Frontier::new(alloc, tree.len()).expect(rt, "there is memory");
     let (opened, frontier) = cost(tree, frontier, Counted::new(geometry), limit);
-    assert_eq!(rt; opened, want);
-    assert_eq!(rt; frontier.capacity(), tree.len());
+    expect_eq(rt, opened, want);
+    expect_eq(rt, frontier.capacity(), tree.len());
 }
 
 // What a search for all answers gives, one at a time and all at once.
@@ -98,16 +130,16 @@ fn expect_full_search<G: Geometry>(
     expect_search(rt, alloc, tree, geometry, None, want);
     let frontier = Frontier::new(alloc, tree.len()).expect(rt, "there is memory");
     let mut search = FullSearch::start(tree, frontier, Counted::new(geometry));
-    assert_eq!(rt; search.opened(), want.opened);
+    expect_eq(rt, search.opened(), want.opened);
     for answer in want.answers {
-        assert_eq!(rt; search.next(), Some(*answer));
+        expect_eq(rt, search.next(), Some(*answer));
     }
-    assert_eq!(rt; search.next(), None);
-    assert_eq!(rt; search.next(), None);
-    assert_eq!(rt; search.opened(), want.opened);
+    expect_eq(rt, search.next(), None);
+    expect_eq(rt, search.next(), None);
+    expect_eq(rt, search.opened(), want.opened);
     let (frontier, counted) = search.finish();
-    assert_eq!(rt; counted.asked(), want.asked);
-    assert_eq!(rt; frontier.capacity(), tree.len());
+    expect_eq(rt, counted.asked(), want.asked);
+    expect_eq(rt, frontier.capacity(), tree.len());
 }
 
 fn expect_count<G: Geometry>(
@@ -119,7 +151,7 @@ fn expect_count<G: Geometry>(
 ) {
     let mut frontier = Frontier::new(alloc, tree.len()).expect(rt, "there is memory");
     let mut counted = Counted::new(geometry);
-    assert_eq!(rt; count(tree, &mut frontier, &mut counted), want);
+    expect_eq(rt, count(tree, &mut frontier, &mut counted), want);
     assert!(rt; frontier.is_empty());
 }
 
@@ -191,6 +223,43 @@ fn nodes_come_before_entries_at_equal_score(rt: HostRuntime) {
     expect_full_search(&rt, rt.alloc(), &tree, &all_by_id(), &want);
 }
 
+// However few are wanted, as no node has a score. Where none is, no node is opened.
+#[test]
+fn nodes_without_a_score_are_opened_before_the_first_answer(rt: HostRuntime) {
+    let tree = pack(&rt, rt.alloc(), &BOXES);
+    let none = Want {
+        answers: &[],
+        opened: 0,
+        asked: 0,
+    };
+    expect_unscored(&rt, rt.alloc(), &tree, &all_by_id(), Some(0), &none);
+    let two = Want {
+        answers: &[(1, 0), (2, 0)],
+        opened: 6,
+        asked: 10,
+    };
+    expect_unscored(&rt, rt.alloc(), &tree, &all_by_id(), Some(2), &two);
+    let smallest = Guided {
+        shape: All,
+        rank: Smallest,
+    };
+    let areas = Want {
+        answers: &[(5, 0), (4, 16), (1, 100), (2, 100), (3, 100)],
+        opened: 6,
+        asked: 10,
+    };
+    expect_unscored(&rt, rt.alloc(), &tree, &smallest, None, &areas);
+    let window = in_window(boxed(&rt, [0, 10, 0, 10]));
+    let first = Want {
+        answers: &[(1, 0)],
+        opened: 5,
+        asked: 9,
+    };
+    expect_unscored(&rt, rt.alloc(), &tree, &window, Some(1), &first);
+    let empty = pack(&rt, rt.alloc(), &[]);
+    expect_unscored(&rt, rt.alloc(), &empty, &all_by_id(), Some(1), &none);
+}
+
 // No query line asks so: one that has a circle and no order asks for the nearest first.
 #[test]
 fn circles_are_told_by_id_too(rt: HostRuntime) {
@@ -227,7 +296,7 @@ fn a_node_may_score_above_its_children(rt: HostRuntime) {
     expect_search(&rt, rt.alloc(), &tree, &Uneven, Some(1), &first);
     let frontier = Frontier::new(rt.alloc(), tree.len()).expect(&rt, "there is memory");
     let (answer, opened, _frontier) = first_answer(&tree, frontier);
-    assert_eq!(rt; (answer, opened), (Some((1, 10)), 6));
+    expect_eq(&rt, (answer, opened), (Some((1, 10)), 6));
 }
 
 #[test]
@@ -408,7 +477,7 @@ fn nodes_are_opened_by_score_and_number(rt: HostRuntime) {
     expect_search(&rt, rt.alloc(), &tree, &by_id, None, &all);
     // root; d, a, c; e, b
     let want = [30, 15, 10, 30, -1, 10, 30, 15, 15, 12];
-    assert_eq!(rt; by_id.shown(), want);
+    expect_eq(&rt, by_id.shown(), want);
 
     let by_distance = Watched::new(near(12, 12));
     let three = Want {
@@ -419,7 +488,7 @@ fn nodes_are_opened_by_score_and_number(rt: HostRuntime) {
     expect_search(&rt, rt.alloc(), &tree, &by_distance, Some(3), &three);
     // root; e, b; d, a; never c
     let want = [30, 15, 15, 15, 12, 10, 30, -1, 10, 0];
-    assert_eq!(rt; by_distance.shown(), want);
+    expect_eq(&rt, by_distance.shown(), want);
 }
 
 // The same of a full search and of a count, which go down to each child in turn. No box is shown twice.
@@ -431,14 +500,14 @@ fn full_searches_and_counts_ask_about_each_child_once(rt: HostRuntime) {
     let search = FullSearch::start(&tree, frontier, Counted::new(&all));
     // d: a, c; e: b
     let want = [30, 10, -1, 10, 30, 30, 15, 15, 15, 12];
-    assert_eq!(rt; all.shown(), want);
+    expect_eq(&rt, all.shown(), want);
 
     let (mut frontier, _counted) = search.finish();
     let window = Watched::new(in_window(boxed(&rt, [0, 10, 0, 10])));
     let _two = count(&tree, &mut frontier, &mut Counted::new(&window));
     // d: a, never c; e: b
     let want = [30, 10, -1, 10, 30, 15, 15, 15, 12, 0];
-    assert_eq!(rt; window.shown(), want);
+    expect_eq(&rt, window.shown(), want);
 }
 
 // A search that is finished early leaves in its frontier what still waited.
@@ -448,7 +517,7 @@ fn a_count_gives_up_what_a_search_left(rt: HostRuntime) {
     let frontier = Frontier::new(rt.alloc(), tree.len()).expect(&rt, "there is memory");
     let nearest = near(12, 12);
     let mut search = Search::start(&tree, frontier, Counted::new(&nearest), None);
-    assert_eq!(rt; search.next(), Some((2, 0)));
+    expect_eq(&rt, search.next(), Some((2, 0)));
     let (mut frontier, _counted) = search.finish();
     assert!(rt; !frontier.is_empty());
 
@@ -458,14 +527,14 @@ fn a_count_gives_up_what_a_search_left(rt: HostRuntime) {
         accepted: 2,
         opened: 5,
     };
-    assert_eq!(rt; count(&tree, &mut frontier, &mut counted), want);
-    assert_eq!(rt; counted.asked(), 9);
+    expect_eq(&rt, count(&tree, &mut frontier, &mut counted), want);
+    expect_eq(&rt, counted.asked(), 9);
     assert!(rt; frontier.is_empty());
     let mut search = Search::start(&tree, frontier, Counted::new(&window), None);
-    assert_eq!(rt; search.next(), Some((1, 0)));
-    assert_eq!(rt; search.next(), Some((2, 0)));
-    assert_eq!(rt; search.next(), None);
-    assert_eq!(rt; search.opened(), 5);
+    expect_eq(&rt, search.next(), Some((1, 0)));
+    expect_eq(&rt, search.next(), Some((2, 0)));
+    expect_eq(&rt, search.next(), None);
+    expect_eq(&rt, search.opened(), 5);
     let _end = search.finish();
 }
 
@@ -477,7 +546,7 @@ fn a_refused_frontier_is_told(rt: HostRuntime) -> Result<(), Fail> {
             assert!(rt; Frontier::new(rt.alloc(), capacity).is_ok());
             return Err(Fail::new("told as refused"));
         };
-        assert_eq!(rt; frontier.capacity(), capacity);
+        expect_eq(&rt, frontier.capacity(), capacity);
         assert!(rt; frontier.is_empty());
     }
     Ok(())

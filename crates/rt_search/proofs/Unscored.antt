@@ -1,0 +1,157 @@
+-- A search whose nodes all score 0: those that may hold answers were opened before the first answer.
+use Rattle.std.proofs.Common.{◌≡◌, ◌≢◌, ◌<◌, ◌≤◌, ◌+◌, ◌==◌, ◌&&◌, ℕ, zero, suc, Bool, true, false, cond, List, [], ◌∷◌, length, map}
+use Rattle.std.proofs.Common.{Option, Some, None, refl, ◌∙◌, ap, arith, sym}
+use Rattle.std.specs.Prelude.{IfSome}
+use Rattle.std.specs.List.{AllByRecursion, sum_by}
+use Rattle.std.proofs.lemmas.List.{length-map}
+use Rattle.std.proofs.lemmas.List.Sums.{sum_by-cons}
+use Rattle.rt_geo.specs.Laws.{Extent, IsLawful}
+use Rattle.rt_geo.specs.declared.geometry.Info.{Info}
+use Rattle.rt_geo.specs.declared.geometry.Verdict.{Verdict}
+use Rattle.rt_tree.specs.Packed.{Packed, IsSound, IsSubtree, child_nodes, height, root_of}
+use Rattle.rt_tree.specs.declared.tree.Node.{Node}
+use Rattle.rt_search.specs.Answers.{accepted, answer_of, answers}
+use Rattle.rt_search.specs.Items.{item_of}
+use Rattle.rt_search.specs.Joining.{join_answers}
+use Rattle.rt_search.specs.Limits.{IsEnough}
+use Rattle.rt_search.specs.Progress.{IsGiving, IsOnCourse, held, work_left}
+use Rattle.rt_search.specs.Remaining.{remaining}
+use Rattle.rt_search.specs.Walking.{answers_in_tree}
+use Rattle.rt_search.specs.Work.{HasWorked, IsUnscored, info_of_node, is_kept, is_reached, is_within_bound, its_children}
+use Rattle.rt_search.specs.Work.{last_score, one_node, reached, reached_from_root, root_verdict, search_work}
+use Rattle.rt_search.specs.declared.item.Item.{Item}
+use Rattle.rt_search.proofs.Children.{subtree_level}
+use Rattle.rt_search.proofs.Giving.{length-scored}
+use Rattle.rt_search.proofs.Joined.{answers_joined, answers_sound}
+use Rattle.rt_search.proofs.Limits.{rising_put_all}
+use Rattle.rt_search.proofs.Starting.{all_each, from_first, nat_eq_false, none_given, within_zero}
+use Rattle.rt_search.proofs.WalkWhole.{tree_answers, tree_count}
+use Rattle.rt_search.proofs.Working.{held-join_answers, work-join_answers}
+
+-- ---- any bound opens what none does
+
+module _ (verdict : Info → Verdict) (unscored : IsUnscored verdict) (t : Packed) (b : ℕ) (cost : Node → ℕ) where
+  opens_alike : (i : Info) → 0 < i.level → is_reached (Some b) (verdict i) ≡ is_reached None (verdict i)
+  opens_alike i node =
+      ap (λ s. is_kept (verdict i).within && is_within_bound (Some b) s) (unscored i node)
+      ∙ ap (λ w. is_kept (verdict i).within && w) (within_zero (Some b))
+
+  abbrev below : (bound : Option ℕ) → (h : ℕ) → Verdict → Node → ℕ
+  below bound h v k =
+      let w = verdict (info_of_node t v k) in cond (is_reached bound w) (reached (is_reached bound) cost verdict t h w k) 0
+
+  children_alike : (h : ℕ) → ((v : Verdict) (n : Node) → IsSubtree t h n
+      → reached (is_reached (Some b)) cost verdict t h v n ≡ reached (is_reached None) cost verdict t h v n)
+      → (v : Verdict) (ks : List Node) → AllByRecursion (IsSubtree t h) ks
+      → sum_by (below (Some b) h v) ks ≡ sum_by (below None h v) ks
+  children_alike h f v [] sub = refl
+  children_alike h f v (k ∷ ks) sub =
+      let i = info_of_node t v k in
+      let w = verdict i in
+      let level = subtree_level t h k sub.0 in
+      let same = ap (λ o. cond o (reached (is_reached (Some b)) cost verdict t h w k) 0) (opens_alike i (omega (arith, level)))
+      ∙ ap (λ m. cond (is_reached None w) m 0) (f w k sub.0) in
+      omega (
+        arith,
+        sum_by-cons (below (Some b) h v) k ks,
+        sum_by-cons (below None h v) k ks,
+        children_alike h f v ks sub.1,
+        same,
+      )
+
+  reached_alike : (h : ℕ) (v : Verdict) (n : Node) → IsSubtree t h n
+      → reached (is_reached (Some b)) cost verdict t h v n ≡ reached (is_reached None) cost verdict t h v n
+  reached_alike zero v n sub = refl
+  reached_alike (suc h) v n sub =
+      ap (λ m. cost n + m) (children_alike h (λ w k. reached_alike h w k) v (child_nodes t n) sub.below)
+
+  whole_alike : IsSound t
+      → reached_from_root (is_reached (Some b)) cost verdict t ≡ reached_from_root (is_reached None) cost verdict t
+  whole_alike sound =
+      let split : (e : Bool) → (length t.nodes == 0) ≡ e
+      → cond e 0 (reached (is_reached (Some b)) cost verdict t (height t) root_verdict (root_of t))
+      ≡ cond e 0 (reached (is_reached None) cost verdict t (height t) root_verdict (root_of t)) = elim [
+        | true ↦ λ h. refl
+        | false ↦ λ h. reached_alike (height t) root_verdict (root_of t) (sound.root (nat_eq_false h))
+      ] in
+      split (length t.nodes == 0) refl
+
+-- ---- all were opened
+
+module _ (accepts : Extent → Bool) (score : Extent → ℕ) (verdict : Info → Verdict)
+    (law : IsLawful accepts score verdict) (t : Packed) (sound : IsSound t)
+    (unscored : IsUnscored verdict) where
+  abbrev gathered : List Item
+  gathered = join_answers (answers_in_tree t accepts score) []
+
+  reached_within : (bound : Option ℕ) (cost : Node → ℕ)
+      → reached_from_root (is_reached bound) cost verdict t ≡ reached_from_root (is_reached None) cost verdict t
+  reached_within None cost = refl
+  reached_within (Some b) cost = whole_alike verdict unscored t b cost sound
+
+  -- the work of a search for so many answers is the whole, unless it is for none
+  work : (limit : Option ℕ) → limit ≢ Some 0 → (cost : Node → ℕ)
+      → search_work cost accepts score verdict t limit ≡ reached_from_root (is_reached None) cost verdict t
+  work None some cost = refl
+  work (Some zero) some cost = absurd (some refl)
+  work (Some (suc more)) some cost =
+      reached_within (last_score (answers t.entries accepts score None) (Some (suc more))) cost
+
+  pub all_worked : (limit : Option ℕ) (opened asked : ℕ) → limit ≢ Some 0
+      → opened ≡ reached_from_root (is_reached None) one_node verdict t
+      → asked ≡ reached_from_root (is_reached None) its_children verdict t
+      → HasWorked accepts score verdict t limit opened asked
+  all_worked limit opened asked some nodes checks = record {
+    in_nodes = nodes ∙ sym (work limit some one_node);
+    in_checks = checks ∙ sym (work limit some its_children);
+  }
+
+  none_left : (bound : Option ℕ) (cost : Node → ℕ) → work_left (is_reached bound) cost verdict t gathered ≡ 0
+  none_left bound cost =
+      work-join_answers verdict t root_verdict (is_reached bound) cost (answers_in_tree t accepts score) []
+
+  course : (cost : Node → ℕ) (done : ℕ) → done ≡ reached_from_root (is_reached None) cost verdict t
+      → IsOnCourse accepts score verdict cost t done gathered
+  course cost done h = record {
+    in_all = omega (arith, h, none_left None cost);
+    at_each = all_each (λ a. done + work_left (is_reached (Some a.1)) cost verdict t gathered
+        ≡ reached_from_root (is_reached (Some a.1)) cost verdict t)
+        (λ a. omega (arith, h, none_left (Some a.1) cost, reached_within (Some a.1) cost))
+        (remaining t accepts score gathered);
+  }
+
+  room_for_all : (capacity : ℕ) → length t.entries ≤ capacity → held t gathered ≤ capacity
+  room_for_all capacity room =
+      omega (
+        arith,
+        room,
+        held-join_answers verdict t root_verdict (answers_in_tree t accepts score) [],
+        tree_count accepts score verdict t sound,
+        length-map (accepted t.entries accepts) (answer_of score),
+        length-scored accepts score t.entries,
+      )
+
+  pub begun : (limit : Option ℕ) (opened asked capacity : ℕ) (wanted : Option ℕ) (items : List Item)
+      → length t.entries ≤ capacity → limit ≢ Some 0 → IfSome wanted (λ n. limit ≡ Some n)
+      → opened ≡ reached_from_root (is_reached None) one_node verdict t
+      → asked ≡ reached_from_root (is_reached None) its_children verdict t → IsEnough wanted items gathered
+      → IsGiving accepts score verdict t limit 0 opened asked capacity wanted items
+  begun limit opened asked capacity wanted items room some first nodes checks enough = record {
+    state = record {
+      all = gathered;
+      state = record {
+        tree = sound;
+        sound = answers_sound accepts score verdict law t (answers_in_tree t accepts score) [] tt;
+        room = room_for_all capacity room;
+        opening = course one_node opened nodes;
+        asking = course its_children asked checks;
+      };
+      rising = rising_put_all (map item_of (answers_in_tree t accepts score)) [] tt;
+      follows = answers_joined accepts score verdict law t (answers_in_tree t accepts score) []
+          ∙ tree_answers accepts score verdict t sound;
+      enough = enough;
+    };
+    in_limit = none_given limit;
+    still = from_first wanted limit first;
+    stopped = λ e. absurd (some e);
+  }

@@ -1,0 +1,45 @@
+use Rattle.std.proofs.Common.{◌≡◌, ◌≢◌, ◌≤◌, ◌∙◌, [], Some, length, rules}
+use Rattle.std.specs.Prelude.{IfSome}
+use Rattle.rt_search.specs.Joining.{join_answers}
+use Rattle.rt_search.specs.Limits.{IsEnough}
+use Rattle.rt_search.specs.Walking.{answers_in_tree}
+use Rattle.rt_search.proofs.Collectors.{entries_join}
+use Rattle.rt_search.proofs.Unscored.{all_worked, begun}
+use Rattle.rt_search.proofs.search.Search.start_unscored.Goals as goal
+
+pub invariant_of-result : goal.invariant_of-result
+invariant_of-result g c =
+    let geometry = c.args.counted.geometry in
+    let accepts = g.G.Geometry.accepts geometry in
+    let score = g.G.Geometry.score geometry in
+    let tree = c.args.tree.now in
+    let e = c.walk-opened.ensures in
+    let new = c.walk-opened.new.visitor in
+    let joined = entries_join c.clear.new.self new (answers_in_tree tree accepts score) e.taken in
+    let some : c.args.limit ≢ Some 0 = search rules in
+    let room : length tree.entries ≤ new.capacity = rw (joined.capacity, c.clear.ensures.capacity) c.requires.capacity in
+    let first : IfSome new.wanted (λ n. c.args.limit ≡ Some n) = rw joined.wanted c.clear.ensures.wanted in
+    let enough : IsEnough new.wanted new.items (join_answers (answers_in_tree tree accepts score) []) =
+    rw (joined.wanted, ← c.clear.ensures.items) joined.items in
+    rw e.geometry (
+      begun accepts score (g.G.Geometry.verdict geometry) (g.met.G.Geometry.lawful geometry) tree e.sound
+          c.requires.unscored c.args.limit c.walk-opened.result _ new.capacity new.wanted new.items room some first
+          e.opened e.asked enough,
+      c.top.ensures.root,
+    )
+
+pub returns-clause-capacity : goal.returns-clause-capacity
+returns-clause-capacity g c =
+    let geometry = c.args.counted.geometry in
+    let found = answers_in_tree c.args.tree.now (g.G.Geometry.accepts geometry) (g.G.Geometry.score geometry) in
+    (entries_join c.clear.new.self c.walk-opened.new.visitor found c.walk-opened.ensures.taken).capacity
+    ∙ c.clear.ensures.capacity
+
+pub returns-clause-worked : goal.returns-clause-worked
+returns-clause-worked g c =
+    let geometry = c.args.counted.geometry in
+    let e = c.walk-opened.ensures in
+    let some : c.args.limit ≢ Some 0 = search rules in
+    all_worked (g.G.Geometry.accepts geometry) (g.G.Geometry.score geometry) (g.G.Geometry.verdict geometry)
+    (g.met.G.Geometry.lawful geometry) c.args.tree.now e.sound c.requires.unscored c.args.limit c.walk-opened.result _
+    some e.opened e.asked
