@@ -4,7 +4,9 @@
 use rt_device::{
     ReadFault, ReadSource, Sink, SliceSink, SliceSource, Source, WriteFault, WriteSink,
 };
+use std::fmt::Debug;
 use std::io::{self, Read, Write};
+use std::process::Abort;
 
 /// A reader and writer that counts its calls. The first one fails, as if a signal had come; each later one moves a
 /// byte.
@@ -41,65 +43,70 @@ impl Write for FailsFirst {
     }
 }
 
+// The two are equal. It is a call, as the proof of a test grows with the square of the comparisons that stand in it.
+fn expect_eq<T: PartialEq + Debug + Drop>(rt: &impl Abort, found: T, want: T) {
+    assert_eq!(rt; found, want);
+}
+
 #[test]
 fn a_failed_read_is_told_once(rt: HostRuntime) {
     let mut source = ReadSource::new(FailsFirst { calls: 0 });
-    assert_eq!(rt; source.failures(), 0);
-    assert_eq!(rt; source.pull(&mut [0; 4]), Err(ReadFault));
-    assert_eq!(rt; source.failures(), 1);
-    assert_eq!(rt; source.pull(&mut [0; 4]), Ok(1));
-    assert_eq!(rt; source.failures(), 1);
+    expect_eq(&rt, source.failures(), 0);
+    expect_eq(&rt, source.pull(&mut [0; 4]), Err(ReadFault));
+    expect_eq(&rt, source.failures(), 1);
+    expect_eq(&rt, source.pull(&mut [0; 4]), Ok(1));
+    expect_eq(&rt, source.failures(), 1);
 }
 
 #[test]
 fn a_failed_write_is_told_once(rt: HostRuntime) {
     let mut sink = WriteSink::new(FailsFirst { calls: 0 });
-    assert_eq!(rt; sink.push(b"ab"), Err(WriteFault));
-    assert_eq!(rt; sink.failures(), 1);
-    assert_eq!(rt; sink.push(b"ab"), Ok(1));
-    assert_eq!(rt; sink.flush(), Ok(()));
-    assert_eq!(rt; sink.failures(), 1);
+    expect_eq(&rt, sink.push(b"ab"), Err(WriteFault));
+    expect_eq(&rt, sink.failures(), 1);
+    expect_eq(&rt, sink.push(b"ab"), Ok(1));
+    expect_eq(&rt, sink.flush(), Ok(()));
+    expect_eq(&rt, sink.failures(), 1);
 }
 
 #[test]
 fn a_failed_flush_is_told_once(rt: HostRuntime) {
     let mut sink = WriteSink::new(FailsFirst { calls: 0 });
-    assert_eq!(rt; sink.flush(), Err(WriteFault));
-    assert_eq!(rt; sink.failures(), 1);
-    assert_eq!(rt; sink.flush(), Ok(()));
-    assert_eq!(rt; sink.failures(), 1);
+    expect_eq(&rt, sink.flush(), Err(WriteFault));
+    expect_eq(&rt, sink.failures(), 1);
+    expect_eq(&rt, sink.flush(), Ok(()));
+    expect_eq(&rt, sink.failures(), 1);
 }
 
 #[test]
 fn a_write_that_takes_nothing_is_a_failure(rt: HostRuntime) {
     let mut sink = WriteSink::new(&mut [][..]);
-    assert_eq!(rt; sink.push(b"a"), Ok(0));
-    assert_eq!(rt; sink.failures(), 1);
+    expect_eq(&rt, sink.push(b"a"), Ok(0));
+    expect_eq(&rt, sink.failures(), 1);
 }
 
 #[test]
 fn a_slice_gives_in_pieces(rt: HostRuntime) {
     let mut source = SliceSource::new(b"abcde", 2, Some(2));
     let mut room = [0; 4];
-    assert_eq!(rt; source.pull(&mut room), Ok(2));
-    assert_eq!(rt; room, *b"ab\0\0");
-    assert_eq!(rt; source.pull(&mut room), Err(ReadFault));
-    assert_eq!(rt; source.pull(&mut room[..1]), Ok(1));
-    assert_eq!(rt; source.pull(&mut room), Ok(2));
-    assert_eq!(rt; room, *b"de\0\0");
-    assert_eq!(rt; source.pull(&mut room), Ok(0));
-    assert_eq!(rt; source.failures(), 1);
+    expect_eq(&rt, source.pull(&mut room), Ok(2));
+    expect_eq(&rt, room, *b"ab\0\0");
+    expect_eq(&rt, source.pull(&mut room), Err(ReadFault));
+    expect_eq(&rt, source.pull(&mut room[..1]), Ok(1));
+    expect_eq(&rt, source.pull(&mut room), Ok(2));
+    expect_eq(&rt, room, *b"de\0\0");
+    expect_eq(&rt, source.pull(&mut room), Ok(0));
+    expect_eq(&rt, source.failures(), 1);
 }
 
 #[test]
 fn a_slice_takes_in_pieces(rt: HostRuntime) {
     let mut room = [0; 4];
     let mut sink = SliceSink::new(&mut room, 3, Some(2));
-    assert_eq!(rt; sink.push(b"abcd"), Ok(3));
-    assert_eq!(rt; sink.flush(), Err(WriteFault));
-    assert_eq!(rt; sink.push(b"de"), Ok(1));
-    assert_eq!(rt; sink.push(b"e"), Ok(0));
-    assert_eq!(rt; sink.flush(), Ok(()));
-    assert_eq!(rt; sink.failures(), 2);
-    assert_eq!(rt; sink.written(), b"abcd".as_slice());
+    expect_eq(&rt, sink.push(b"abcd"), Ok(3));
+    expect_eq(&rt, sink.flush(), Err(WriteFault));
+    expect_eq(&rt, sink.push(b"de"), Ok(1));
+    expect_eq(&rt, sink.push(b"e"), Ok(0));
+    expect_eq(&rt, sink.flush(), Ok(()));
+    expect_eq(&rt, sink.failures(), 2);
+    expect_eq(&rt, sink.written(), b"abcd".as_slice());
 }

@@ -1,5 +1,6 @@
 //! Runs whose devices fail, at each place.
 
+use crate::expect::expect_eq;
 use crate::given::{BOXES, FIND, FOUND, Given, PLAIN, WITH_HEADER};
 use rt_filter::{RunFault, Settings, SliceSink, SliceSource, run};
 use rt_text::{Axis, TableFault};
@@ -180,8 +181,8 @@ fn broken_after<R: Abort + AllocGlobal>(
         &mut sink,
         u64::MAX,
     );
-    assert_eq!(rt; outcome.status, 3);
-    assert_eq!(rt; sink.written(), b"".as_slice());
+    expect_eq(rt, outcome.status, 3);
+    expect_eq(rt, sink.written(), b"".as_slice());
     Ok(outcome.fault)
 }
 
@@ -189,7 +190,7 @@ fn broken_after<R: Abort + AllocGlobal>(
 fn tells_each_failed_read_of_the_table(rt: HostRuntime) -> Result<(), Fail> {
     let read = Some(RunFault::Table(TableFault::Read));
     for reads in 0..=BOXES.len() {
-        assert_eq!(rt; broken_after(&rt, BOXES, reads)?, read);
+        expect_eq(&rt, broken_after(&rt, BOXES, reads)?, read);
     }
     let turned: &[u8] = b"1,5,4,0,0\n";
     let own = Some(RunFault::Table(TableFault::MinAboveMax {
@@ -197,8 +198,8 @@ fn tells_each_failed_read_of_the_table(rt: HostRuntime) -> Result<(), Fail> {
         axis: Axis::X,
     }));
     for reads in 0..10 {
-        assert_eq!(rt; broken_after(&rt, turned, reads)?, read);
+        expect_eq(&rt, broken_after(&rt, turned, reads)?, read);
     }
-    assert_eq!(rt; broken_after(&rt, turned, 10)?, own);
+    expect_eq(&rt, broken_after(&rt, turned, 10)?, own);
     Ok(())
 }

@@ -1,5 +1,6 @@
 //! A run over bytes in memory: what it is given, and what it has to give.
 
+use crate::expect::expect_eq;
 use rt_filter::{Outcome, RunFault, Settings, Sink, SliceSink, SliceSource, Source, run};
 use std::process::Abort;
 use std::test::Fail;
@@ -62,11 +63,11 @@ impl Given {
             &mut sink,
             self.turns,
         );
-        assert_eq!(rt; sink.written(), written);
-        assert_eq!(rt; outcome, Outcome { status, fault });
+        expect_eq(rt, sink.written(), written);
+        expect_eq(rt, outcome, Outcome { status, fault });
         let pulls = u64::from(fault == Some(RunFault::Read) && self.pull_fails.is_some());
         let pushes = u64::from(fault == Some(RunFault::Write));
-        assert_eq!(rt; (source.failures(), sink.failures()), (pulls, pushes));
+        expect_eq(rt, (source.failures(), sink.failures()), (pulls, pushes));
         Ok(())
     }
 }

@@ -1,5 +1,6 @@
 //! Query lines that are served, all in one session and each by itself. The expected bytes were worked out by hand.
 
+use crate::expect::expect_eq;
 use crate::given::BOXES;
 use rt_filter::{ServeFault, Served, Sink, SliceSink, SliceSource, Source, serve};
 use rt_search::Frontier;
@@ -106,10 +107,10 @@ impl Devices {
         let mut room = [0u8; ROOM];
         let mut sink = SliceSink::new(&mut room[..self.room], self.piece, self.fails_at);
         let ended = serve(tree, frontier, &mut source, &mut sink, u64::MAX);
-        assert_eq!(rt; sink.written(), written);
-        assert_eq!(rt; ended, served);
+        expect_eq(rt, sink.written(), written);
+        expect_eq(rt, ended, served);
         let failures = u64::from(served.fault.is_some());
-        assert_eq!(rt; (source.failures(), sink.failures()), (0, failures));
+        expect_eq(rt, (source.failures(), sink.failures()), (0, failures));
     }
 }
 
@@ -196,7 +197,7 @@ fn a_failed_push_ends_the_reply(rt: HostRuntime) -> Result<(), Fail> {
             let written = &whole[..(*out).min(whole.len())];
             devices.expect(&rt, &tree, &queries, written, failed);
         }
-        assert_eq!(rt; outs.last(), Some(&whole.len()));
+        expect_eq(&rt, outs.last(), Some(&whole.len()));
         // No call is made after the flush.
         let devices = Devices {
             piece: *piece,

@@ -1,5 +1,6 @@
 //! Runs over bytes in memory, compared byte for byte. The expected bytes were worked out by hand.
 
+use crate::expect::expect_eq;
 use crate::given::{BOXES, FIND, FOUND, Given, PLAIN, WITH_HEADER};
 use itoa::Buffer;
 use rt_filter::{
@@ -435,11 +436,12 @@ const FAULT_LINES: [(RunFault, &[u8]); 10] = [
 #[test]
 fn tells_faults_in_lines(rt: HostRuntime) {
     for (fault, text) in FAULT_LINES {
-        assert_eq!(rt; run_fault_line(&fault).bytes(), text);
+        expect_eq(&rt, run_fault_line(&fault).bytes(), text);
     }
-    assert_eq!(rt;
+    expect_eq(
+        &rt,
         run_fault_line(&RunFault::Memory).bytes(),
-        b"rtfilter: out of memory\n".as_slice()
+        b"rtfilter: out of memory\n".as_slice(),
     );
 }
 
@@ -457,15 +459,16 @@ fn runs_over_std(rt: HostRuntime) -> Result<(), Fail> {
         &mut sink,
         u64::MAX,
     );
-    assert_eq!(rt;
+    expect_eq(
+        &rt,
         outcome,
         Outcome {
             status: 0,
-            fault: None
-        }
+            fault: None,
+        },
     );
-    assert_eq!(rt; (source.failures(), sink.failures()), (0, 0));
-    assert_eq!(rt; out.as_slice(), FOUND);
+    expect_eq(&rt, (source.failures(), sink.failures()), (0, 0));
+    expect_eq(&rt, out.as_slice(), FOUND);
     Ok(())
 }
 
@@ -481,7 +484,7 @@ fn faults_are_errors_of_std(rt: HostRuntime) -> Result<(), Fail> {
         (RunFault::Memory, "out of memory"),
     ];
     for (fault, text) in texts {
-        assert_eq!(rt; format!(in rt.alloc(); "{fault}")?.as_str(), text);
+        expect_eq(&rt, format!(in rt.alloc(); "{fault}")?.as_str(), text);
     }
     Ok(())
 }

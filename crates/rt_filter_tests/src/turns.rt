@@ -2,6 +2,7 @@
 
 ghost use Rattle.std.specs.Prelude.{◌≡◌};
 
+use crate::expect::expect_eq;
 use crate::given::{BOXES, FIND, FOUND, Given, PLAIN};
 use rt_filter::{ReadFault, RunFault, Settings, Sink, Source, WriteFault, run};
 use std::cell::Cell;
@@ -187,8 +188,8 @@ fn calls_in_turns_are<R: Abort + AllocGlobal>(
     };
     let outcome = run(rt.alloc(), &settings, BOXES, &mut source, &mut sink, turns);
     let letters = calls.letters.get();
-    assert_eq!(rt; letters.get(..calls.len.get()), Some(expected));
-    assert_eq!(rt; outcome.fault, fault);
+    expect_eq(rt, letters.get(..calls.len.get()), Some(expected));
+    expect_eq(rt, outcome.fault, fault);
     Ok(())
 }
 

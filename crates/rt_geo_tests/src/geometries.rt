@@ -1,6 +1,7 @@
 //! Boxes, shapes, ranks and geometries, and their answers.
 
 use crate::asked::{boxed, question, score_of, state_of, verdict_of};
+use crate::expect::expect_eq;
 use crate::watched::Watched;
 use rt_geo::{
     All, Bounds, ById, Circle, Counted, Covers, Disc, Entry, Geometry, Guided, Info, Inside,
@@ -11,10 +12,10 @@ use rt_geo::{
 #[test]
 fn bounds_tell_their_sides(rt: HostRuntime) {
     let bounds = boxed(&rt, -5, 30, -6, 10);
-    assert_eq!(rt; bounds.min_x(), -5);
-    assert_eq!(rt; bounds.max_x(), 30);
-    assert_eq!(rt; bounds.min_y(), -6);
-    assert_eq!(rt; bounds.max_y(), 10);
+    expect_eq(&rt, bounds.min_x(), -5);
+    expect_eq(&rt, bounds.max_x(), 30);
+    expect_eq(&rt, bounds.min_y(), -6);
+    expect_eq(&rt, bounds.max_y(), 10);
     assert!(rt; Bounds::new(1, 0, 0, 0).is_none());
     assert!(rt; Bounds::new(0, 0, 1, 0).is_none());
     assert!(rt; Bounds::new(i32::MIN, i32::MIN, i32::MAX, i32::MAX).is_some());
@@ -36,7 +37,7 @@ fn an_entry_is_shown_by_itself(rt: HostRuntime) {
         bounds,
         layer: 9,
     };
-    assert_eq!(rt; entry.info(), want);
+    expect_eq(&rt, entry.info(), want);
 }
 
 #[test]
@@ -50,7 +51,7 @@ fn boxes_overlap_and_lie_inside(rt: HostRuntime) {
     assert!(rt; inside(inner, unit));
     assert!(rt; inside(unit, unit));
     assert!(rt; !inside(unit, inner));
-    assert_eq!(rt; hull(inner, apart), boxed(&rt, 0, 20, 0, 10));
+    expect_eq(&rt, hull(inner, apart), boxed(&rt, 0, 20, 0, 10));
 
     let plane = boxed(&rt, i32::MIN, i32::MAX, i32::MIN, i32::MAX);
     let first = boxed(&rt, i32::MIN, i32::MIN, i32::MIN, i32::MIN);
@@ -70,12 +71,20 @@ fn distances_reach_from_corner_to_corner(rt: HostRuntime) {
     };
     let corner = boxed(&rt, i32::MAX, i32::MAX, i32::MAX, i32::MAX);
     let plane = boxed(&rt, i32::MIN, i32::MAX, i32::MIN, i32::MAX);
-    assert_eq!(rt; near2(low, corner), 36893488130239234050);
-    assert_eq!(rt; far2(low, corner), 36893488130239234050);
-    assert_eq!(rt; near2(low, plane), 0);
-    assert_eq!(rt; far2(low, plane), 36893488130239234050);
-    assert_eq!(rt; near2(Point { x: 10, y: -5 }, boxed(&rt, 0, 10, 0, 10)), 25);
-    assert_eq!(rt; far2(Point { x: 10, y: -5 }, boxed(&rt, 0, 10, 0, 10)), 325);
+    expect_eq(&rt, near2(low, corner), 36893488130239234050);
+    expect_eq(&rt, far2(low, corner), 36893488130239234050);
+    expect_eq(&rt, near2(low, plane), 0);
+    expect_eq(&rt, far2(low, plane), 36893488130239234050);
+    expect_eq(
+        &rt,
+        near2(Point { x: 10, y: -5 }, boxed(&rt, 0, 10, 0, 10)),
+        25,
+    );
+    expect_eq(
+        &rt,
+        far2(Point { x: 10, y: -5 }, boxed(&rt, 0, 10, 0, 10)),
+        325,
+    );
 }
 
 #[test]
@@ -110,23 +119,24 @@ fn windows_answer_their_states(rt: HostRuntime) {
     let wide = boxed(&rt, -5, 30, -5, 15);
 
     let inside = Inside(boxed(&rt, 0, 15, 0, 15));
-    assert_eq!(rt; state_of(&inside, wide, 2), Within::Partly);
-    assert_eq!(rt; state_of(&inside, wide, 0), Within::Not);
-    assert_eq!(rt; state_of(&inside, square, 0), Within::Fully);
+    expect_eq(&rt, state_of(&inside, wide, 2), Within::Partly);
+    expect_eq(&rt, state_of(&inside, wide, 0), Within::Not);
+    expect_eq(&rt, state_of(&inside, square, 0), Within::Fully);
 
     let covers = Covers(boxed(&rt, 5, 5, 5, 5));
-    assert_eq!(rt; state_of(&covers, square, 1), Within::Partly);
-    assert_eq!(rt; state_of(&covers, left, 0), Within::Not);
+    expect_eq(&rt, state_of(&covers, square, 1), Within::Partly);
+    expect_eq(&rt, state_of(&covers, left, 0), Within::Not);
 
     let window = Window(boxed(&rt, 10, 20, 10, 20));
-    assert_eq!(rt; state_of(&window, square, 0), Within::Partly);
-    assert_eq!(rt; state_of(&window, left, 1), Within::Not);
-    assert_eq!(rt;
+    expect_eq(&rt, state_of(&window, square, 0), Within::Partly);
+    expect_eq(&rt, state_of(&window, left, 1), Within::Not);
+    expect_eq(
+        &rt,
         state_of(&window, boxed(&rt, 12, 12, 12, 12), 1),
-        Within::Fully
+        Within::Fully,
     );
 
-    assert_eq!(rt; state_of(&All, left, 3), Within::Fully);
+    expect_eq(&rt, state_of(&All, left, 3), Within::Fully);
 }
 
 #[test]
@@ -156,7 +166,7 @@ fn a_disc_answers_as_its_circle_and_the_distance(rt: HostRuntime) {
         for bounds in boxes {
             for level in [0, 2] {
                 let want = verdict_of(&guided, bounds, level);
-                assert_eq!(rt; verdict_of(&Disc::new(circle), bounds, level), want);
+                expect_eq(&rt, verdict_of(&Disc::new(circle), bounds, level), want);
             }
         }
     }
@@ -169,7 +179,11 @@ fn a_disc_is_made_where_the_order_is_from_its_middle(rt: HostRuntime) {
         radius: 5,
     };
     let order = Order::Near(Near(circle.centre));
-    assert_eq!(rt; Disc::from_parts(&circle, &order), Some(Disc::new(circle)));
+    expect_eq(
+        &rt,
+        Disc::from_parts(&circle, &order),
+        Some(Disc::new(circle)),
+    );
 
     let elsewhere = Order::Near(Near(Point { x: 3, y: 4 }));
     assert!(rt; Disc::from_parts(&circle, &elsewhere).is_none());
@@ -181,11 +195,11 @@ fn ranks_answer_their_scores(rt: HostRuntime) {
     let square = boxed(&rt, 0, 10, 0, 10);
     let node = boxed(&rt, -5, 30, -5, 10);
     let near = Near(Point { x: 12, y: 12 });
-    assert_eq!(rt; score_of(&near, node, 2), 4);
-    assert_eq!(rt; score_of(&near, square, 0), 8);
-    assert_eq!(rt; score_of(&Smallest, square, 0), 100);
-    assert_eq!(rt; score_of(&Smallest, square, 1), 0);
-    assert_eq!(rt; score_of(&ById, square, 0), 0);
+    expect_eq(&rt, score_of(&near, node, 2), 4);
+    expect_eq(&rt, score_of(&near, square, 0), 8);
+    expect_eq(&rt, score_of(&Smallest, square, 0), 100);
+    expect_eq(&rt, score_of(&Smallest, square, 1), 0);
+    expect_eq(&rt, score_of(&ById, square, 0), 0);
 }
 
 #[test]
@@ -206,14 +220,14 @@ fn regions_and_orders_answer_as_their_parts(rt: HostRuntime) {
             Within::Fully,
         ),
     ] {
-        assert_eq!(rt; state_of(&region, square, 0), want);
+        expect_eq(&rt, state_of(&region, square, 0), want);
     }
     for (order, want) in [
         (Order::ById(ById), 0),
         (Order::Near(Near(Point { x: 12, y: 12 })), 8),
         (Order::Smallest(Smallest), 100),
     ] {
-        assert_eq!(rt; score_of(&order, square, 0), want);
+        expect_eq(&rt, score_of(&order, square, 0), want);
     }
 }
 
@@ -228,13 +242,13 @@ fn a_counted_geometry_tells_its_checks(rt: HostRuntime) {
         within: Within::Partly,
         score: 100,
     };
-    assert_eq!(rt; verdict_of(&guided, square, 0), want);
+    expect_eq(&rt, verdict_of(&guided, square, 0), want);
 
     let mut counted = Counted::new(&guided);
-    assert_eq!(rt; counted.asked(), 0);
+    expect_eq(&rt, counted.asked(), 0);
     let verdict = counted.check(&question(square, 0));
-    assert_eq!(rt; verdict, want);
-    assert_eq!(rt; counted.asked(), 1);
+    expect_eq(&rt, verdict, want);
+    expect_eq(&rt, counted.asked(), 1);
 }
 
 #[test]
@@ -245,13 +259,13 @@ fn a_counted_geometry_asks_once_for_each_check(rt: HostRuntime) {
         rank: ById,
     });
     let mut counted = Counted::new(&watched);
-    assert_eq!(rt; watched.checks(), 0);
+    expect_eq(&rt, watched.checks(), 0);
 
     let _node = counted.check(&question(square, 3));
-    assert_eq!(rt; watched.checks(), 1);
-    assert_eq!(rt; watched.last_level(), 3);
+    expect_eq(&rt, watched.checks(), 1);
+    expect_eq(&rt, watched.last_level(), 3);
 
     let _entry = counted.check(&question(square, 0));
-    assert_eq!(rt; watched.checks(), counted.asked());
-    assert_eq!(rt; watched.last_level(), 0);
+    expect_eq(&rt, watched.checks(), counted.asked());
+    expect_eq(&rt, watched.last_level(), 0);
 }

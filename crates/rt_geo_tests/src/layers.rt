@@ -1,34 +1,40 @@
 //! Sets of layers, and shapes on some of them.
 
 use crate::asked::{boxed, question_on};
+use crate::expect::expect_eq;
 use rt_geo::{Covers, Layers, OnLayers, Shape, Window, Within};
 
 #[test]
 fn a_set_of_layers_has_those_whose_bits_are_set(rt: HostRuntime) {
     let some = Layers::new(0x8000_0000_0000_0009);
-    assert_eq!(rt; some.bits(), 0x8000_0000_0000_0009);
+    expect_eq(&rt, some.bits(), 0x8000_0000_0000_0009);
     for layer in 0..=Layers::MOST {
         if layer <= 63 {
-            assert_eq!(rt; some.has(layer), layer == 0 || layer == 3 || layer == 63);
+            expect_eq(
+                &rt,
+                some.has(layer),
+                layer == 0 || layer == 3 || layer == 63,
+            );
             assert!(rt; Layers::all().has(layer));
             assert!(rt; Layers::of(layer).has(layer));
-            assert_eq!(rt; Layers::of(layer).is_subset(some), some.has(layer));
-            assert_eq!(rt; Layers::of(layer).is_disjoint(some), !some.has(layer));
+            expect_eq(&rt, Layers::of(layer).is_subset(some), some.has(layer));
+            expect_eq(&rt, Layers::of(layer).is_disjoint(some), !some.has(layer));
         }
     }
 }
 
 #[test]
 fn sets_of_layers_are_joined_and_compared(rt: HostRuntime) {
-    assert_eq!(rt; Layers::of(0).bits(), 1);
-    assert_eq!(rt; Layers::of(63).bits(), 0x8000_0000_0000_0000);
-    assert_eq!(rt; Layers::all().bits(), u64::MAX);
+    expect_eq(&rt, Layers::of(0).bits(), 1);
+    expect_eq(&rt, Layers::of(63).bits(), 0x8000_0000_0000_0000);
+    expect_eq(&rt, Layers::all().bits(), u64::MAX);
     let some = Layers::new(0x8000_0000_0000_0009);
-    assert_eq!(rt;
+    expect_eq(
+        &rt,
         Layers::of(0).union(Layers::of(3)).union(Layers::of(63)),
-        some
+        some,
     );
-    assert_eq!(rt; some.union(some), some);
+    expect_eq(&rt, some.union(some), some);
     assert!(rt; some.is_subset(Layers::all()));
     assert!(rt; !Layers::all().is_subset(some));
     assert!(rt; !some.is_disjoint(Layers::all()));
@@ -56,7 +62,7 @@ fn a_shape_on_layers_answers_for_both(rt: HostRuntime) {
     for (bits, [min_x, max_x, min_y, max_y], want) in &STATES {
         let bounds = boxed(&rt, *min_x, *max_x, *min_y, *max_y);
         let info = question_on(bounds, Layers::new(*bits), 1);
-        assert_eq!(rt; on_layers.within(&info), *want);
+        expect_eq(&rt, on_layers.within(&info), *want);
     }
 }
 
@@ -68,8 +74,9 @@ fn what_covers_a_window_is_never_full_on_layers_either(rt: HostRuntime) {
         shape,
         layers: Layers::all(),
     };
-    assert_eq!(rt;
+    expect_eq(
+        &rt,
         on_layers.within(&question_on(bounds, Layers::of(7), 1)),
-        Within::Partly
+        Within::Partly,
     );
 }

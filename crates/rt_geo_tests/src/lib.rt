@@ -5,6 +5,8 @@
 #[cfg(test)]
 mod asked;
 #[cfg(test)]
+mod expect;
+#[cfg(test)]
 mod geometries;
 #[cfg(test)]
 mod layers;

@@ -1,6 +1,7 @@
 //! Polygons that were worked out by hand.
 
 use crate::asked::{boxed, state_of};
+use crate::expect::expect_eq;
 use rt_geo::{Bounds, Point, Polygon, PolygonFault, PreparedPolygon, Region, Within};
 use std::process::Abort;
 
@@ -47,32 +48,38 @@ fn a_polygon_has_3_to_16_vertices(rt: HostRuntime) {
         at(15, 225),
         at(16, 256),
     ];
-    assert_eq!(rt; Polygon::new(&points), Err(PolygonFault::Count));
-    assert_eq!(rt; Polygon::new(&points[..2]), Err(PolygonFault::Count));
-    assert_eq!(rt; Polygon::new(&[]), Err(PolygonFault::Count));
+    expect_eq(&rt, Polygon::new(&points), Err(PolygonFault::Count));
+    expect_eq(&rt, Polygon::new(&points[..2]), Err(PolygonFault::Count));
+    expect_eq(&rt, Polygon::new(&[]), Err(PolygonFault::Count));
     assert!(rt; Polygon::new(&points[..3]).is_ok());
 
     let widest = polygon(&rt, &points[..16]);
-    assert_eq!(rt;
+    expect_eq(
+        &rt,
         state_of_entry(&widest, boxed(&rt, 15, 15, 225, 225)),
-        Within::Fully
+        Within::Fully,
     );
-    assert_eq!(rt;
+    expect_eq(
+        &rt,
         state_of_entry(&widest, boxed(&rt, 0, 0, 1, 1)),
-        Within::Not
+        Within::Not,
     );
 }
 
 #[test]
 fn a_polygon_is_strictly_convex(rt: HostRuntime) {
     let in_line = [at(0, 0), at(5, 5), at(10, 10)];
-    assert_eq!(rt; Polygon::new(&in_line), Err(PolygonFault::NotConvex));
+    expect_eq(&rt, Polygon::new(&in_line), Err(PolygonFault::NotConvex));
 
     let flat_corner = [at(0, 0), at(5, 0), at(10, 0), at(0, 10)];
-    assert_eq!(rt; Polygon::new(&flat_corner), Err(PolygonFault::NotConvex));
+    expect_eq(
+        &rt,
+        Polygon::new(&flat_corner),
+        Err(PolygonFault::NotConvex),
+    );
 
     let star = [at(0, 3), at(2, -3), at(-3, 1), at(3, 1), at(-2, -3)];
-    assert_eq!(rt; Polygon::new(&star), Err(PolygonFault::NotConvex));
+    expect_eq(&rt, Polygon::new(&star), Err(PolygonFault::NotConvex));
 
     let twice = [
         at(0, 0),
@@ -82,7 +89,7 @@ fn a_polygon_is_strictly_convex(rt: HostRuntime) {
         at(30, 0),
         at(0, 30),
     ];
-    assert_eq!(rt; Polygon::new(&twice), Err(PolygonFault::NotConvex));
+    expect_eq(&rt, Polygon::new(&twice), Err(PolygonFault::NotConvex));
 }
 
 #[test]
@@ -90,7 +97,7 @@ fn a_clockwise_list_is_taken_reversed(rt: HostRuntime) {
     let square = [at(0, 0), at(10, 0), at(10, 10), at(0, 10)];
     let reverse = [at(0, 10), at(10, 10), at(10, 0), at(0, 0)];
     assert!(rt; Polygon::new(&square).is_ok());
-    assert_eq!(rt; Polygon::new(&reverse), Polygon::new(&square));
+    expect_eq(&rt, Polygon::new(&reverse), Polygon::new(&square));
 }
 
 #[test]
@@ -142,13 +149,15 @@ fn a_polygon_reaches_the_ends_of_the_plane(rt: HostRuntime) {
 #[test]
 fn a_region_may_be_a_polygon(rt: HostRuntime) {
     let region = Region::Polygon(triangle(&rt));
-    assert_eq!(rt;
+    expect_eq(
+        &rt,
         state_of(&region, boxed(&rt, 5, 15, 5, 15), 0),
-        Within::Fully
+        Within::Fully,
     );
-    assert_eq!(rt;
+    expect_eq(
+        &rt,
         state_of(&region, boxed(&rt, 25, 25, 30, 30), 0),
-        Within::Not
+        Within::Not,
     );
 }
 

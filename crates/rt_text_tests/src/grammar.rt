@@ -1,10 +1,12 @@
 //! Query lines, and what each asks or is told. The expectations were worked out by hand.
 
+use crate::expect::expect_eq;
 use rt_geo::{
     All, Bounds, ById, Circle, Covers, Inside, Layers, Near, Order, Point, Polygon, Region,
     Smallest, Window,
 };
 use rt_text::{Parsed, Query, QueryFault, parse};
+use std::process::Abort;
 use std::test::Fail;
 
 /// Lines that are faulty, each under its first fault from left to right.
@@ -149,24 +151,28 @@ static COST_FAULTS: [(&[u8], QueryFault); 38] = [
     (b"find all cost", QueryFault::StrayWord),
 ];
 
+fn expect_parsed(rt: &impl Abort, line: &[u8], want: Parsed) {
+    expect_eq(rt, parse(line), want);
+}
+
 #[test]
 fn faults(rt: HostRuntime) {
     for (line, fault) in &FAULTS {
-        assert_eq!(rt; parse(*line), Parsed::Fault(*fault));
+        expect_parsed(&rt, *line, Parsed::Fault(*fault));
     }
 }
 
 #[test]
 fn faults_of_layers(rt: HostRuntime) {
     for (line, fault) in &LAYER_FAULTS {
-        assert_eq!(rt; parse(*line), Parsed::Fault(*fault));
+        expect_parsed(&rt, *line, Parsed::Fault(*fault));
     }
 }
 
 #[test]
 fn faults_of_costs(rt: HostRuntime) {
     for (line, fault) in &COST_FAULTS {
-        assert_eq!(rt; parse(*line), Parsed::Fault(*fault));
+        expect_parsed(&rt, *line, Parsed::Fault(*fault));
     }
 }
 
@@ -182,7 +188,7 @@ fn skipped_lines(rt: HostRuntime) {
         b"#cost find all",
     ];
     for line in lines {
-        assert_eq!(rt; parse(line), Parsed::Skip);
+        expect_parsed(&rt, line, Parsed::Skip);
     }
 }
 
@@ -206,44 +212,55 @@ fn regions(rt: HostRuntime) -> Result<(), Fail> {
     let by_id = Order::ById(ById);
     let sides = Bounds::new(-1, 2, -3, 4).ok_or("sides")?;
     let widest = Bounds::new(i32::MIN, i32::MAX, i32::MIN, i32::MAX).ok_or("widest")?;
-    assert_eq!(rt; parse(b"find all"), find(Region::All(All), by_id, None));
-    assert_eq!(rt;
-        parse(b"\tfind  window -1 +2 -03 4 \r"),
-        find(Region::Window(Window(sides)), by_id, None)
+    expect_parsed(&rt, b"find all", find(Region::All(All), by_id, None));
+    expect_parsed(
+        &rt,
+        b"\tfind  window -1 +2 -03 4 \r",
+        find(Region::Window(Window(sides)), by_id, None),
     );
-    assert_eq!(rt;
-        parse(b"find window -2147483648 2147483647 -2147483648 2147483647"),
-        find(Region::Window(Window(widest)), by_id, None)
+    expect_parsed(
+        &rt,
+        b"find window -2147483648 2147483647 -2147483648 2147483647",
+        find(Region::Window(Window(widest)), by_id, None),
     );
-    assert_eq!(rt;
-        parse(b"find inside -1 2 -3 4"),
-        find(Region::Inside(Inside(sides)), by_id, None)
+    expect_parsed(
+        &rt,
+        b"find inside -1 2 -3 4",
+        find(Region::Inside(Inside(sides)), by_id, None),
     );
-    assert_eq!(rt;
-        parse(b"find covers -1 2 -3 4"),
-        find(Region::Covers(Covers(sides)), by_id, None)
+    expect_parsed(
+        &rt,
+        b"find covers -1 2 -3 4",
+        find(Region::Covers(Covers(sides)), by_id, None),
     );
+    Ok(())
+}
+
+#[test]
+fn a_circle_and_a_polygon(rt: HostRuntime) -> Result<(), Fail> {
     let centre = Point { x: -1, y: 2 };
     let circle = Circle {
         centre,
         radius: u32::MAX,
     };
-    assert_eq!(rt;
-        parse(b"find circle -1 2 4294967295"),
-        find(Region::Circle(circle), Order::Near(Near(centre)), None)
+    expect_parsed(
+        &rt,
+        b"find circle -1 2 4294967295",
+        find(Region::Circle(circle), Order::Near(Near(centre)), None),
     );
     let triangle = Polygon::new(&[
         Point { x: 0, y: 0 },
         Point { x: 30, y: 0 },
         Point { x: 0, y: 30 },
     ]);
-    assert_eq!(rt;
-        parse(b"find polygon 3 0 0 30 0 0 30"),
+    expect_parsed(
+        &rt,
+        b"find polygon 3 0 0 30 0 0 30",
         find(
             Region::Polygon(triangle.ok().ok_or("triangle")?),
-            by_id,
-            None
-        )
+            Order::ById(ById),
+            None,
+        ),
     );
     Ok(())
 }
@@ -252,46 +269,53 @@ fn regions(rt: HostRuntime) -> Result<(), Fail> {
 fn orders_and_limits(rt: HostRuntime) {
     let near = Order::Near(Near(Point { x: 5, y: -6 }));
     let smallest = Order::Smallest(Smallest);
-    assert_eq!(rt;
-        parse(b"find all near 5 -6"),
-        find(Region::All(All), near, None)
+    expect_parsed(
+        &rt,
+        b"find all near 5 -6",
+        find(Region::All(All), near, None),
     );
-    assert_eq!(rt;
-        parse(b"find all smallest"),
-        find(Region::All(All), smallest, None)
+    expect_parsed(
+        &rt,
+        b"find all smallest",
+        find(Region::All(All), smallest, None),
     );
-    assert_eq!(rt;
-        parse(b"find all first 0"),
-        find(Region::All(All), Order::ById(ById), Some(0))
+    expect_parsed(
+        &rt,
+        b"find all first 0",
+        find(Region::All(All), Order::ById(ById), Some(0)),
     );
-    assert_eq!(rt;
-        parse(b"find all smallest first 18446744073709551615"),
-        find(Region::All(All), smallest, Some(u64::MAX))
+    expect_parsed(
+        &rt,
+        b"find all smallest first 18446744073709551615",
+        find(Region::All(All), smallest, Some(u64::MAX)),
     );
-    assert_eq!(rt;
-        parse(b"nearest 7 5 -6"),
-        find(Region::All(All), near, Some(7))
+    expect_parsed(
+        &rt,
+        b"nearest 7 5 -6",
+        find(Region::All(All), near, Some(7)),
     );
     let circle = Circle {
         centre: Point { x: 1, y: 2 },
         radius: 3,
     };
-    assert_eq!(rt;
-        parse(b"find circle 1 2 3 near 5 -6 first 2"),
-        find(Region::Circle(circle), near, Some(2))
+    expect_parsed(
+        &rt,
+        b"find circle 1 2 3 near 5 -6 first 2",
+        find(Region::Circle(circle), near, Some(2)),
     );
 }
 
 #[test]
 fn counts_and_levels(rt: HostRuntime) {
-    assert_eq!(rt;
-        parse(b"count all"),
+    expect_parsed(
+        &rt,
+        b"count all",
         Parsed::Query(Query::Count {
             region: Region::All(All),
             layers: Layers::new(u64::MAX),
-        })
+        }),
     );
-    assert_eq!(rt; parse(b"levels\r"), Parsed::Query(Query::Levels));
+    expect_parsed(&rt, b"levels\r", Parsed::Query(Query::Levels));
 }
 
 /// Lists of layers, and the bits of the set of each.
@@ -322,12 +346,13 @@ fn lists_of_layers(rt: HostRuntime) -> Result<(), Fail> {
         let mut line = Vec::new(rt.alloc());
         line.extend_from_slice(b"count all on ")?;
         line.extend_from_slice(*list)?;
-        assert_eq!(rt;
-            parse(&line),
+        expect_parsed(
+            &rt,
+            &line,
             Parsed::Query(Query::Count {
                 region: Region::All(All),
                 layers: Layers::new(*bits),
-            })
+            }),
         );
     }
     Ok(())
@@ -337,37 +362,42 @@ fn lists_of_layers(rt: HostRuntime) -> Result<(), Fail> {
 fn layers_of_a_find(rt: HostRuntime) {
     let by_id = Order::ById(ById);
     let three = Layers::of(3);
-    assert_eq!(rt;
-        parse(b"find all on 3"),
-        find_on(Region::All(All), by_id, None, three)
+    expect_parsed(
+        &rt,
+        b"find all on 3",
+        find_on(Region::All(All), by_id, None, three),
     );
-    assert_eq!(rt;
-        parse(b"find all \ton  3 first 2\r"),
-        find_on(Region::All(All), by_id, Some(2), three)
+    expect_parsed(
+        &rt,
+        b"find all \ton  3 first 2\r",
+        find_on(Region::All(All), by_id, Some(2), three),
     );
-    assert_eq!(rt;
-        parse(b"find all on 3 smallest first 2"),
-        find_on(Region::All(All), Order::Smallest(Smallest), Some(2), three)
+    expect_parsed(
+        &rt,
+        b"find all on 3 smallest first 2",
+        find_on(Region::All(All), Order::Smallest(Smallest), Some(2), three),
     );
     // A circle is ordered near its centre on layers too, where no other order stands.
     let centre = Point { x: 1, y: 2 };
-    assert_eq!(rt;
-        parse(b"find circle 1 2 3 on 0,3"),
+    expect_parsed(
+        &rt,
+        b"find circle 1 2 3 on 0,3",
         find_on(
             Region::Circle(Circle { centre, radius: 3 }),
             Order::Near(Near(centre)),
             None,
-            Layers::new(9)
-        )
+            Layers::new(9),
+        ),
     );
-    assert_eq!(rt;
-        parse(b"find circle 1 2 3 on 3 near 5 -6 first 1"),
+    expect_parsed(
+        &rt,
+        b"find circle 1 2 3 on 3 near 5 -6 first 1",
         find_on(
             Region::Circle(Circle { centre, radius: 3 }),
             Order::Near(Near(Point { x: 5, y: -6 })),
             Some(1),
-            three
-        )
+            three,
+        ),
     );
 }
 
@@ -385,30 +415,35 @@ fn cost_find(region: Region, order: Order, limit: Option<u64>, layers: Layers) -
 fn costs_of_finds(rt: HostRuntime) -> Result<(), Fail> {
     let by_id = Order::ById(ById);
     let every = Layers::new(u64::MAX);
-    assert_eq!(rt;
-        parse(b"cost find all"),
-        cost_find(Region::All(All), by_id, None, every)
+    expect_parsed(
+        &rt,
+        b"cost find all",
+        cost_find(Region::All(All), by_id, None, every),
     );
-    assert_eq!(rt;
-        parse(b" cost\t find  all \r"),
-        cost_find(Region::All(All), by_id, None, every)
+    expect_parsed(
+        &rt,
+        b" cost\t find  all \r",
+        cost_find(Region::All(All), by_id, None, every),
     );
-    assert_eq!(rt;
-        parse(b"cost find all first 6"),
-        cost_find(Region::All(All), by_id, Some(6), every)
+    expect_parsed(
+        &rt,
+        b"cost find all first 6",
+        cost_find(Region::All(All), by_id, Some(6), every),
     );
-    assert_eq!(rt;
-        parse(b"cost find all on 1 first 3"),
-        cost_find(Region::All(All), by_id, Some(3), Layers::of(1))
+    expect_parsed(
+        &rt,
+        b"cost find all on 1 first 3",
+        cost_find(Region::All(All), by_id, Some(3), Layers::of(1)),
     );
-    assert_eq!(rt;
-        parse(b"cost find window 20 30 0 4"),
+    expect_parsed(
+        &rt,
+        b"cost find window 20 30 0 4",
         cost_find(
             Region::Window(Window(Bounds::new(20, 30, 0, 4).ok_or("sides")?)),
             by_id,
             None,
-            every
-        )
+            every,
+        ),
     );
     Ok(())
 }
@@ -416,69 +451,76 @@ fn costs_of_finds(rt: HostRuntime) -> Result<(), Fail> {
 #[test]
 fn costs_of_finds_in_an_order(rt: HostRuntime) -> Result<(), Fail> {
     let every = Layers::new(u64::MAX);
-    assert_eq!(rt;
-        parse(b"cost find inside -1 2 -3 4 smallest"),
+    expect_parsed(
+        &rt,
+        b"cost find inside -1 2 -3 4 smallest",
         cost_find(
             Region::Inside(Inside(Bounds::new(-1, 2, -3, 4).ok_or("sides")?)),
             Order::Smallest(Smallest),
             None,
-            every
-        )
+            every,
+        ),
     );
     // A circle is ordered near its centre, where no other order stands.
     let centre = Point { x: 1, y: 2 };
-    assert_eq!(rt;
-        parse(b"cost find circle 1 2 3 on 0,3"),
+    expect_parsed(
+        &rt,
+        b"cost find circle 1 2 3 on 0,3",
         cost_find(
             Region::Circle(Circle { centre, radius: 3 }),
             Order::Near(Near(centre)),
             None,
-            Layers::new(9)
-        )
+            Layers::new(9),
+        ),
     );
-    assert_eq!(rt;
-        parse(b"cost nearest 2 12 -12"),
+    expect_parsed(
+        &rt,
+        b"cost nearest 2 12 -12",
         cost_find(
             Region::All(All),
             Order::Near(Near(Point { x: 12, y: -12 })),
             Some(2),
-            every
-        )
+            every,
+        ),
     );
-    assert_eq!(rt;
-        parse(b"cost nearest 0 12 -12"),
+    expect_parsed(
+        &rt,
+        b"cost nearest 0 12 -12",
         cost_find(
             Region::All(All),
             Order::Near(Near(Point { x: 12, y: -12 })),
             Some(0),
-            every
-        )
+            every,
+        ),
     );
     Ok(())
 }
 
 #[test]
 fn costs_of_counts(rt: HostRuntime) -> Result<(), Fail> {
-    assert_eq!(rt;
-        parse(b"cost count all"),
+    expect_parsed(
+        &rt,
+        b"cost count all",
         Parsed::Query(Query::CostCount {
             region: Region::All(All),
             layers: Layers::new(u64::MAX),
-        })
+        }),
     );
-    assert_eq!(rt;
-        parse(b"cost \tcount all on 1\r"),
+    expect_parsed(
+        &rt,
+        b"cost \tcount all on 1\r",
         Parsed::Query(Query::CostCount {
             region: Region::All(All),
             layers: Layers::of(1),
-        })
+        }),
     );
-    assert_eq!(rt;
-        parse(b"cost count window 0 10 0 10"),
+    expect_parsed(
+        &rt,
+        b"cost count window 0 10 0 10",
         Parsed::Query(Query::CostCount {
             region: Region::Window(Window(Bounds::new(0, 10, 0, 10).ok_or("sides")?)),
             layers: Layers::new(u64::MAX),
-        })
+        }),
     );
     Ok(())
 }

@@ -1,5 +1,6 @@
 //! Numbers, and the texts that write them.
 
+use crate::expect::expect_eq;
 use rt_text::{NumberFault, number};
 
 #[test]
@@ -19,7 +20,7 @@ fn numbers_of_texts(rt: HostRuntime) {
         (&[b'9'; 60], Err(NumberFault::OutOfRange)),
     ];
     for (text, wanted) in cases {
-        assert_eq!(rt; number(text, 0, 10), wanted);
+        expect_eq(&rt, number(text, 0, 10), wanted);
     }
 }
 
@@ -38,7 +39,7 @@ fn ends_of_the_widest_range(rt: HostRuntime) {
         ),
     ];
     for (text, wanted) in cases {
-        assert_eq!(rt; number(text, i128::MIN, i128::MAX), wanted);
+        expect_eq(&rt, number(text, i128::MIN, i128::MAX), wanted);
     }
 }
 
@@ -51,7 +52,7 @@ fn numbers_of_19_and_of_20_digits(rt: HostRuntime) {
         (b"18446744073709551615", 18_446_744_073_709_551_615),
     ];
     for (text, wanted) in cases {
-        assert_eq!(rt; number(text, i128::MIN, i128::MAX), Ok(wanted));
+        expect_eq(&rt, number(text, i128::MIN, i128::MAX), Ok(wanted));
     }
 }
 
@@ -59,5 +60,5 @@ fn numbers_of_19_and_of_20_digits(rt: HostRuntime) {
 fn zeros_before_a_number(rt: HostRuntime) {
     let mut text = [b'0'; 5001];
     text[5000] = b'7';
-    assert_eq!(rt; number(&text, 0, 10), Ok(7));
+    expect_eq(&rt, number(&text, 0, 10), Ok(7));
 }

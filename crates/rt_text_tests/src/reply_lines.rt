@@ -1,5 +1,6 @@
 //! The bytes of the lines that query lines are answered with.
 
+use crate::expect::expect_eq;
 use rt_text::{QueryFault, answer_line, error_line, level_line, ok_line};
 
 const FAULT_LINES: [(QueryFault, &[u8]); 10] = [
@@ -36,30 +37,34 @@ const SCORES: [(u128, &[u8]); 8] = [
 #[test]
 fn scores_of_many_digits(rt: HostRuntime) {
     for (score, text) in SCORES {
-        assert_eq!(rt; answer_line(0, score).bytes(), text);
+        expect_eq(&rt, answer_line(0, score).bytes(), text);
     }
 }
 
 #[test]
 fn lines_of_replies(rt: HostRuntime) {
     let far = 36893488130239234050;
-    assert_eq!(rt;
+    expect_eq(
+        &rt,
         answer_line(-7, far).bytes(),
-        b"-7 36893488130239234050\n".as_slice()
+        b"-7 36893488130239234050\n".as_slice(),
     );
-    assert_eq!(rt;
+    expect_eq(
+        &rt,
         answer_line(i64::MIN, u128::MAX).bytes(),
-        b"-9223372036854775808 340282366920938463463374607431768211455\n".as_slice()
+        b"-9223372036854775808 340282366920938463463374607431768211455\n".as_slice(),
     );
-    assert_eq!(rt;
+    expect_eq(
+        &rt,
         ok_line(u128::MAX, u64::MAX).bytes(),
-        b"ok 340282366920938463463374607431768211455 18446744073709551615\n".as_slice()
+        b"ok 340282366920938463463374607431768211455 18446744073709551615\n".as_slice(),
     );
-    assert_eq!(rt;
+    expect_eq(
+        &rt,
         level_line(255, u32::MAX).bytes(),
-        b"255 4294967295\n".as_slice()
+        b"255 4294967295\n".as_slice(),
     );
     for (fault, text) in FAULT_LINES {
-        assert_eq!(rt; error_line(7, fault).bytes(), text);
+        expect_eq(&rt, error_line(7, fault).bytes(), text);
     }
 }

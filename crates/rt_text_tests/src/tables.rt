@@ -1,5 +1,6 @@
 //! The texts of tables, and what each is or is told.
 
+use crate::expect::expect_eq;
 use rt_geo::Bounds;
 use rt_text::{Axis, TableFault, read_table};
 use rt_tree::Table;
@@ -191,7 +192,7 @@ const FAULTS: [(&[u8], TableFault); 22] = [
 #[test]
 fn faults_of_texts(rt: HostRuntime) {
     for (text, wanted) in FAULTS {
-        assert_eq!(rt; fault_of(rt.alloc(), text), Some(wanted));
+        expect_eq(&rt, fault_of(rt.alloc(), text), Some(wanted));
     }
 }
 
@@ -270,7 +271,7 @@ const LAYER_FAULTS: [(&[u8], TableFault); 10] = [
 #[test]
 fn faults_of_layers(rt: HostRuntime) {
     for (text, wanted) in LAYER_FAULTS {
-        assert_eq!(rt; fault_of(rt.alloc(), text), Some(wanted));
+        expect_eq(&rt, fault_of(rt.alloc(), text), Some(wanted));
     }
 }
 
@@ -323,9 +324,10 @@ fn ends_of_the_ranges(rt: HostRuntime) {
         (b"1,0,0,0,2147483648\n", 5),
     ];
     for (text, field) in cases {
-        assert_eq!(rt;
+        expect_eq(
+            &rt,
             fault_of(rt.alloc(), text),
-            Some(TableFault::OutOfRange { number: 1, field })
+            Some(TableFault::OutOfRange { number: 1, field }),
         );
     }
 }
@@ -355,23 +357,26 @@ fn headers(rt: HostRuntime) {
             &[(1, [0, 10, 0, 10])]
         )
     );
-    assert_eq!(rt;
+    expect_eq(
+        &rt,
         fault_of(rt.alloc(), text),
         Some(TableFault::NotNumber {
             number: 1,
-            field: 1
-        })
+            field: 1,
+        }),
     );
     // A header may look like an entry, and is counted all the same.
     let text = b"1,0,0,0,0\n1,1,1,1,1\n1,2,2,2,2\n";
-    assert_eq!(rt;
+    expect_eq(
+        &rt,
         read_table(rt.alloc(), &text[..], true, ROOM).err(),
-        Some(TableFault::Repeated { number: 3 })
+        Some(TableFault::Repeated { number: 3 }),
     );
     let text = b"id\n2,0,0,0,0\n1,0,0,0,0\n2,0,0,0,0\nx\n";
-    assert_eq!(rt;
+    expect_eq(
+        &rt,
         read_table(rt.alloc(), &text[..], true, ROOM).err(),
-        Some(TableFault::Repeated { number: 4 })
+        Some(TableFault::Repeated { number: 4 }),
     );
     assert!(rt; gave(&read_table(rt.alloc(), &b"x\n"[..], true, ROOM), &[]));
     assert!(rt; gave(&read_table(rt.alloc(), &b""[..], true, ROOM), &[]));
@@ -400,9 +405,10 @@ fn most_entries(rt: HostRuntime) {
             },
         ),
     ] {
-        assert_eq!(rt;
+        expect_eq(
+            &rt,
             read_table(rt.alloc(), &text[..], header, max).err(),
-            Some(wanted)
+            Some(wanted),
         );
     }
 }
@@ -414,15 +420,17 @@ fn most_entries_of_repeated_ids_and_of_a_header(rt: HostRuntime) {
         (1, TableFault::TooMany { number: 2 }),
         (2, TableFault::Repeated { number: 2 }),
     ] {
-        assert_eq!(rt;
+        expect_eq(
+            &rt,
             read_table(rt.alloc(), &text[..], false, max).err(),
-            Some(wanted)
+            Some(wanted),
         );
     }
     let text = b"id\n1,0,0,0,0\n2,0,0,0,0\n";
-    assert_eq!(rt;
+    expect_eq(
+        &rt,
         read_table(rt.alloc(), &text[..], true, 1).err(),
-        Some(TableFault::TooMany { number: 3 })
+        Some(TableFault::TooMany { number: 3 }),
     );
     assert!(rt;
         gave(
@@ -482,9 +490,10 @@ fn failing_readers(rt: HostRuntime) {
     ];
     for (text, max, wanted) in cases {
         let reader = Broken { text, at: 0 };
-        assert_eq!(rt;
+        expect_eq(
+            &rt,
             read_table(rt.alloc(), reader, false, max).err(),
-            Some(wanted)
+            Some(wanted),
         );
     }
 }

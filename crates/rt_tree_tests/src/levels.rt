@@ -1,5 +1,6 @@
 //! The sizes of the levels of trees.
 
+use crate::expect::expect_eq;
 use rt_tree::Levels;
 
 // Entries, fanout, and the sizes of the levels.
@@ -18,9 +19,9 @@ static ROWS: [(u32, u8, &[u32]); 8] = [
 fn tells_the_sizes(rt: HostRuntime) {
     for (len, fanout, sizes) in &ROWS {
         let levels = Levels::new((*len).min(100), (*fanout).max(2));
-        assert_eq!(rt; levels.count() as usize, sizes.len());
+        expect_eq(&rt, levels.count() as usize, sizes.len());
         for level in 0..levels.count() {
-            assert_eq!(rt; Some(&levels.size(level)), sizes.get(level as usize));
+            expect_eq(&rt, Some(&levels.size(level)), sizes.get(level as usize));
         }
     }
 }
@@ -28,10 +29,10 @@ fn tells_the_sizes(rt: HostRuntime) {
 #[test]
 fn a_tree_of_pairs_over_the_most_entries_has_the_most_levels(rt: HostRuntime) {
     let levels = Levels::new(16_777_216, 2);
-    assert_eq!(rt; levels.count(), 25);
+    expect_eq(&rt, levels.count(), 25);
     let mut size = 16_777_216;
     for level in 0..levels.count() {
-        assert_eq!(rt; levels.size(level), size);
+        expect_eq(&rt, levels.size(level), size);
         size /= 2;
     }
 }

@@ -3,6 +3,7 @@
 ghost use Rattle.std.specs.Prelude.{IfSome};
 ghost use Rattle.rt_geo.specs.Entries.{HasLayer};
 
+use crate::expect::expect_eq;
 use crate::layered::layered;
 use rt_geo::{Bounds, Entry};
 use rt_tree::{EntriesFault, PushFault, Table};
@@ -50,23 +51,29 @@ fn keeps_the_order_and_refuses_an_id_twice(rt: HostRuntime) {
         let mut table = Table::empty(rt.alloc());
         assert!(rt; table.is_empty());
         for (count, (id, sides)) in boxes.iter().enumerate() {
-            assert_eq!(rt; table.len() as usize, count);
-            assert_eq!(rt; push(&mut table, *id, *sides), Some(Ok(())));
-            assert_eq!(rt;
+            expect_eq(&rt, table.len() as usize, count);
+            expect_eq(&rt, push(&mut table, *id, *sides), Some(Ok(())));
+            expect_eq(
+                &rt,
                 push(&mut table, *id, [0; 4]),
-                Some(Err(PushFault::Repeated))
+                Some(Err(PushFault::Repeated)),
             );
         }
         assert!(rt; !table.is_empty());
-        assert_eq!(rt; push(&mut table, 5, [0; 4]), Some(Err(PushFault::Repeated)));
-        assert_eq!(rt; table.len(), 5);
+        expect_eq(
+            &rt,
+            push(&mut table, 5, [0; 4]),
+            Some(Err(PushFault::Repeated)),
+        );
+        expect_eq(&rt, table.len(), 5);
         for place in 0..table.len() {
             let (id, sides) = boxes[place as usize % boxes.len()];
-            assert_eq!(rt; Some(table.get(place)), entry(id, sides));
+            expect_eq(&rt, Some(table.get(place)), entry(id, sides));
         }
-        assert_eq!(rt;
+        expect_eq(
+            &rt,
             table.entries().leaves().iter().map(|entry| entry.id).max(),
-            boxes.iter().map(|(id, _)| *id).max()
+            boxes.iter().map(|(id, _)| *id).max(),
         );
     }
 }
@@ -108,16 +115,17 @@ fn entries_at_once_are_a_table_or_tell_the_first_repeat(rt: HostRuntime) {
     for (ids, repeat) in &LOADED {
         match loaded(rt.alloc(), ids).expect(&rt, "there is memory") {
             Ok(table) => {
-                assert_eq!(rt; *repeat, None);
-                assert_eq!(rt; table.len() as usize, ids.len());
+                expect_eq(&rt, *repeat, None);
+                expect_eq(&rt, table.len() as usize, ids.len());
                 for (entry, id) in table.entries().leaves().iter().zip(*ids) {
-                    assert_eq!(rt; entry.id, *id);
+                    expect_eq(&rt, entry.id, *id);
                 }
             }
             Err(fault) => {
-                assert_eq!(rt;
+                expect_eq(
+                    &rt,
                     Some(fault),
-                    (*repeat).map(|place| EntriesFault::Repeated { place })
+                    (*repeat).map(|place| EntriesFault::Repeated { place }),
                 );
             }
         }
@@ -138,11 +146,11 @@ fn entries_are_pushed_after_others_at_once(rt: HostRuntime) {
         (5, Err(PushFault::Repeated)),
         (-4, Ok(())),
     ] {
-        assert_eq!(rt; push(&mut table, id, [0; 4]), Some(pushed));
+        expect_eq(&rt, push(&mut table, id, [0; 4]), Some(pushed));
     }
-    assert_eq!(rt; table.len(), 5);
+    expect_eq(&rt, table.len(), 5);
     for (entry, id) in table.entries().leaves().iter().zip(&[5, -3, 8, 6, -4]) {
-        assert_eq!(rt; entry.id, *id);
+        expect_eq(&rt, entry.id, *id);
     }
 }
 
@@ -158,8 +166,8 @@ fn one_is_pushed_after_millions_at_once(rt: HostRuntime) {
         Ok(table) => table,
         Err(_) => Table::empty(rt.alloc()),
     };
-    assert_eq!(rt; push(&mut table, -1, [0; 4]), Some(Ok(())));
-    assert_eq!(rt; table.len(), most + 1);
+    expect_eq(&rt, push(&mut table, -1, [0; 4]), Some(Ok(())));
+    expect_eq(&rt, table.len(), most + 1);
 }
 
 // Where an allocator refuses one growth, as tests/refusals.py has it, this tells so, and else it passes.
@@ -171,19 +179,20 @@ fn a_refused_push_changes_nothing(rt: HostRuntime) -> Result<(), Fail> {
         let mut pushed = push(&mut table, id, [0; 4]);
         if pushed == Some(Err(PushFault::Memory)) {
             is_refused = true;
-            assert_eq!(rt; i64::from(table.len()), id);
+            expect_eq(&rt, i64::from(table.len()), id);
             for (entry, before) in table.entries().leaves().iter().zip(0..100) {
-                assert_eq!(rt; entry.id, before);
+                expect_eq(&rt, entry.id, before);
             }
             pushed = push(&mut table, id, [0; 4]);
         }
-        assert_eq!(rt; pushed, Some(Ok(())));
-        assert_eq!(rt;
+        expect_eq(&rt, pushed, Some(Ok(())));
+        expect_eq(
+            &rt,
             push(&mut table, id, [0; 4]),
-            Some(Err(PushFault::Repeated))
+            Some(Err(PushFault::Repeated)),
         );
     }
-    assert_eq!(rt; table.len(), 100);
+    expect_eq(&rt, table.len(), 100);
     if is_refused {
         return Err(Fail::new("told as refused"));
     }
@@ -202,11 +211,11 @@ fn refused_entries_at_once_are_told(rt: HostRuntime) -> Result<(), Fail> {
             Err(EntriesFault::Repeated { place }) => Some(place),
             Err(EntriesFault::Memory) => {
                 let again = loaded(rt.alloc(), ids).expect(&rt, "there is memory again");
-                assert_eq!(rt; again.is_err(), (*repeat).is_some());
+                expect_eq(&rt, again.is_err(), (*repeat).is_some());
                 return Err(Fail::new("told as refused"));
             }
         };
-        assert_eq!(rt; told, *repeat);
+        expect_eq(&rt, told, *repeat);
     }
     Ok(())
 }

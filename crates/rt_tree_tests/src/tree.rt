@@ -1,5 +1,6 @@
 //! Packed trees, node by node.
 
+use crate::expect::expect_eq;
 use rt_geo::{Bounds, Entry, Layers, hull};
 use rt_tree::{Node, Table, Tree};
 use std::alloc::Global;
@@ -129,21 +130,21 @@ fn count_of(tree: &Tree, level: u8) -> usize {
 fn packs_the_five_boxes_node_by_node(rt: HostRuntime) {
     let table = table(rt.alloc(), &BOXES).expect(&rt, "the boxes are a table");
     let tree = Tree::pack(rt.alloc(), table, 2).expect(&rt, "there is memory");
-    assert_eq!(rt; tree.len(), 5);
+    expect_eq(&rt, tree.len(), 5);
     assert!(rt; !tree.is_empty());
-    assert_eq!(rt; tree.top(), 3);
-    assert_eq!(rt; tree.node_len(), 6);
+    expect_eq(&rt, tree.top(), 3);
+    expect_eq(&rt, tree.node_len(), 6);
     for (place, id) in [4, 1, 2, 5, 3].iter().enumerate() {
         if (place as u32) < tree.len() {
-            assert_eq!(rt; tree.entry(place as u32).id, *id);
+            expect_eq(&rt, tree.entry(place as u32).id, *id);
         }
     }
     for (node, (sides, level, first, count, size)) in tree.nodes().iter().zip(&NODES) {
-        assert_eq!(rt; Some(node.bounds), bounds(*sides));
-        assert_eq!(rt; node.level, *level);
-        assert_eq!(rt; node.first, *first);
-        assert_eq!(rt; node.count, *count);
-        assert_eq!(rt; node.size, *size);
+        expect_eq(&rt, Some(node.bounds), bounds(*sides));
+        expect_eq(&rt, node.level, *level);
+        expect_eq(&rt, node.first, *first);
+        expect_eq(&rt, node.count, *count);
+        expect_eq(&rt, node.size, *size);
     }
 }
 
@@ -152,13 +153,12 @@ fn goes_down_from_the_root_of_the_five_boxes(rt: HostRuntime) {
     let table = table(rt.alloc(), &BOXES).expect(&rt, "the boxes are a table");
     let tree = Tree::pack(rt.alloc(), table, 2).expect(&rt, "there is memory");
     let root = tree.root().expect(&rt, "there are entries");
-    assert_eq!(rt; root.number(), 5);
+    expect_eq(&rt, root.number(), 5);
     let node = tree.node(root);
-    assert_eq!(rt; node.level, 3);
-    assert_eq!(rt; node.count, 2);
+    assert_eq!(rt; (node.level, node.count), (3, 2));
     let child = tree.child_node(root, 1);
-    assert_eq!(rt; child.number(), 4);
-    assert_eq!(rt; tree.node(child).size, 2);
+    expect_eq(&rt, child.number(), 4);
+    expect_eq(&rt, tree.node(child).size, 2);
 }
 
 #[test]
@@ -174,13 +174,13 @@ fn equal_boxes_stand_by_id(rt: HostRuntime) {
     let tree = Tree::pack(rt.alloc(), table, 2).expect(&rt, "there is memory");
     for (place, id) in [1, 2, 3, 4, 5].iter().enumerate() {
         if (place as u32) < tree.len() {
-            assert_eq!(rt; tree.entry(place as u32).id, *id);
+            expect_eq(&rt, tree.entry(place as u32).id, *id);
         }
     }
     let firsts = [(0, 2), (2, 2), (4, 1), (0, 2), (2, 1), (3, 2)];
     for (node, (first, count)) in tree.nodes().iter().zip(&firsts) {
-        assert_eq!(rt; node.first, *first);
-        assert_eq!(rt; node.count, *count);
+        expect_eq(&rt, node.first, *first);
+        expect_eq(&rt, node.count, *count);
     }
 }
 
@@ -189,20 +189,20 @@ fn one_entry_too_many_for_a_node(rt: HostRuntime) {
     let table = strewn(rt.alloc(), 65).expect(&rt, "the boxes are a table");
     let tree = Tree::pack(rt.alloc(), table, 64).expect(&rt, "there is memory");
     assert_eq!(rt; tree.top(), 2);
-    assert_eq!(rt; tree.level_len(0), 65);
-    assert_eq!(rt; tree.level_len(1), 2);
-    assert_eq!(rt; tree.level_len(2), 1);
+    expect_eq(&rt, tree.level_len(0), 65);
+    expect_eq(&rt, tree.level_len(1), 2);
+    expect_eq(&rt, tree.level_len(2), 1);
 }
 
 #[test]
 fn no_entries_have_no_root(rt: HostRuntime) {
     let tree = Tree::pack(rt.alloc(), Table::empty(rt.alloc()), 16).expect(&rt, "there is memory");
-    assert_eq!(rt; tree.len(), 0);
+    expect_eq(&rt, tree.len(), 0);
     assert!(rt; tree.is_empty());
-    assert_eq!(rt; tree.node_len(), 0);
-    assert_eq!(rt; tree.root(), None);
-    assert_eq!(rt; tree.top(), 0);
-    assert_eq!(rt; tree.level_len(0), 0);
+    expect_eq(&rt, tree.node_len(), 0);
+    expect_eq(&rt, tree.root(), None);
+    expect_eq(&rt, tree.top(), 0);
+    expect_eq(&rt, tree.level_len(0), 0);
 }
 
 #[test]
@@ -215,7 +215,7 @@ fn each_node_is_true_of_its_children(rt: HostRuntime) {
                 &rt,
                 "there is memory",
             );
-            assert_eq!(rt; tree.len(), count);
+            expect_eq(&rt, tree.len(), count);
             for node in tree.nodes() {
                 assert!(rt;
                     over_children(&tree, node) == Some((node.bounds, node.layers, node.size))
@@ -223,9 +223,9 @@ fn each_node_is_true_of_its_children(rt: HostRuntime) {
                 assert!(rt; node.count <= fanout);
             }
             let root = tree.root().expect(&rt, "there are entries");
-            assert_eq!(rt; tree.node(root).size, count);
+            expect_eq(&rt, tree.node(root).size, count);
             for level in 1..=tree.top() {
-                assert_eq!(rt; tree.level_len(level) as usize, count_of(&tree, level));
+                expect_eq(&rt, tree.level_len(level) as usize, count_of(&tree, level));
             }
         }
     }
@@ -243,7 +243,7 @@ fn a_refused_packing_is_told(rt: HostRuntime) -> Result<(), Fail> {
             assert!(rt; Tree::pack(rt.alloc(), table, fanout).is_ok());
             return Err(Fail::new("told as refused"));
         };
-        assert_eq!(rt; tree.len(), 100);
+        expect_eq(&rt, tree.len(), 100);
     }
     Ok(())
 }
