@@ -14,11 +14,14 @@ use Rattle.rt_geo.specs.Lemmas.Layers.{HasSome-only}
 use Rattle.rt_geo.specs.declared.entry.Entry.{Entry}
 use Rattle.rt_geo.specs.declared.geometry.Info.{Info}
 use Rattle.rt_geo.specs.declared.geometry.Verdict.{Verdict}
+use Rattle.rt_geo.specs.declared.layers.Layers.{Layers}
 use Rattle.rt_tree.specs.Entries.{IsTable}
 use Rattle.rt_tree.specs.Leaves.{without_layer}
 use Rattle.rt_tree.specs.Packed.{Packed, IsInnerNode, IsLeafNode, IsSound, IsSubtree, child_entries, child_nodes}
 use Rattle.rt_tree.specs.Packed.{extent_of_node, no_node, node_at, root_of}
+use Rattle.rt_tree.specs.PlainNodes.{without_layers}
 use Rattle.rt_tree.specs.declared.entries.LeafEntry.{LeafEntry}
+use Rattle.rt_tree.specs.declared.nodes.PlainNode.{PlainNode}
 use Rattle.rt_tree.specs.declared.tree.Node.{Node}
 use Rattle.rt_search.specs.Joining.{info_of_child, no_entry}
 use Rattle.rt_search.specs.Remaining.{IsBelow, height_at}
@@ -187,43 +190,47 @@ pub children_inside : (t : Packed) (number : ℕ) (n : Node) → IsSubtree t (he
 children_inside t number n s is above =
     rw is (inner_at t (height_at t number) (node_at t number) s (is_high t number n s is above)).1.range
 
+-- what is asked about a child that was read, its layers beside it
+abbrev pub extent_of_plain : PlainNode → Layers → Extent
+extent_of_plain x layers = record { bounds = x.bounds; layers = layers }
+
 -- a child that was read and is asked about
-pub record IsAsked (t : Packed) (number i k : ℕ) (x : Node) (v : Verdict) (info : Info) : Type 0 where
+pub record IsAsked (t : Packed) (number i k : ℕ) (x : PlainNode) (v : Verdict) (info : Info) : Type 0 where
   pub few : i < (node_at t number).count
   pub at : k ≡ (node_at t number).first + i
   pub child : IsChild t (node_at t number) (height_at t number - 1) i k
-  pub is : x ≡ node_at t k
+  pub is : x ≡ without_layers (node_at t k)
   pub info_is : info ≡ info_of_node t v (node_at t k)
 
 -- a node above level 1 that was read, with its children
-pub record HasChildren (t : Packed) (number : ℕ) (n : Node) (children : List Node) : Type 0 where
+pub record HasChildren (t : Packed) (number : ℕ) (n : Node) (children : List PlainNode) : Type 0 where
   pub high : 2 ≤ (node_at t number).level
   pub count : length children ≡ (node_at t number).count
   pub inside : n.first + length children ≤ length t.nodes
-  pub asked : (i k top : ℕ) (x : Node) (v : Verdict) (info : Info) → i < length children → x ≡ get_or children i x
-      → k ≡ n.first + i → top ≡ (root_of t).level → info ≡ info_under top v (extent_of_node x) (n.level - 1)
-      → IsAsked t number i k x v info
+  pub asked : (i k top : ℕ) (x : PlainNode) (whole : Node) (v : Verdict) (info : Info) → i < length children
+      → x ≡ get_or children i x → k ≡ n.first + i → whole ≡ node_at t k → top ≡ (root_of t).level
+      → info ≡ info_under top v (extent_of_plain x whole.layers) (n.level - 1) → IsAsked t number i k x v info
 
-pub children_of : (t : Packed) (number : ℕ) (n : Node) (children : List Node)
+pub children_of : (t : Packed) (number : ℕ) (n : Node) (children : List PlainNode)
     → IsSubtree t (height_at t number) (node_at t number) → n ≡ node_at t number → (n.level ≡ 1 → ⊥)
-    → children ≡ child_nodes t n → HasChildren t number n children
+    → children ≡ map without_layers (child_nodes t n) → HasChildren t number n children
 children_of t number n children s is above lent =
     let m = node_at t number in
     let high = is_high t number n s is above in
     let range = (inner_at t (height_at t number) m s high).1.range in
-    let same = lent ∙ ap (child_nodes t) is in
-    let count = ap length same ∙ part_length t.nodes m.first m.count range in
+    let same = lent ∙ ap (λ l. map without_layers (child_nodes t l)) is in
+    let count = ap length same ∙ length-map (child_nodes t m) without_layers ∙ part_length t.nodes m.first m.count range in
     let first = ap (λ l. l.first) is in
     record {
       high = high;
       count = count;
       inside = omega (arith, range, count, first);
-      asked = λ i k top x v info lt read number_is top_is info_is.
+      asked = λ i k top x whole v info lt read number_is whole_is top_is info_is.
           let few = subst (λ l. i < l) count lt in
           let at : k ≡ m.first + i = omega (arith, first, number_is) in
           let child = child_of t number i k s high few at in
           let x_is = subst (λ l. x ≡ get_or l i x) same read
-          ∙ get_or_default (child_nodes t m) i x (node_at t k) child.place ∙ sym child.is in
+          ∙ get_or-map without_layers (child_nodes t m) i (node_at t k) x child.place ∙ ap without_layers (sym child.is) in
           let height = child.height in
           let some = child.level in
           let level = ap (λ l. l.level) is in
@@ -233,9 +240,11 @@ children_of t number n children s is above lent =
             at = at;
             child = child;
             is = x_is;
-            info_is = info_is ∙ ap (λ l. info_under l v (extent_of_node x) (n.level - 1)) top_is
-                ∙ ap (info_under (root_of t).level v (extent_of_node x)) lower
-                ∙ ap (λ l. info_under (root_of t).level v (extent_of_node l) (node_at t k).level) x_is;
+            info_is = info_is ∙ ap (λ l. info_under l v (extent_of_plain x whole.layers) (n.level - 1)) top_is
+                ∙ ap (info_under (root_of t).level v (extent_of_plain x whole.layers)) lower
+                ∙ ap (λ l. info_under (root_of t).level v (extent_of_plain l whole.layers) (node_at t k).level) x_is
+                ∙ ap (λ l. info_under (root_of t).level v (extent_of_plain (without_layers (node_at t k)) l.layers)
+                (node_at t k).level) whole_is;
           };
     }
 

@@ -64,8 +64,9 @@ pub(crate) fn open_node<G: Geometry>(
     let level = node.level - 1;
     let children = tree.child_nodes(node);
     for (i, child) in children.iter().enumerate() {
-        let info = parent.info(child.bounds, child.layers, level);
         let number = NodeNo::new(first + i as u32);
+        let whole = tree.node(number);
+        let info = parent.info(child.bounds, whole.layers, level);
         ask_node(frontier, counted, number, &info);
     }
 }

@@ -213,8 +213,9 @@ fn walk_under<V: Visitor, G: Geometry>(
     let level = node.level - 1;
     let children = tree.child_nodes(node);
     for (i, child) in children.iter().enumerate() {
-        let info = parent.info(child.bounds, child.layers, level);
         let child_number = NodeNo::new(first + i as u32);
+        let whole = tree.node(child_number);
+        let info = parent.info(child.bounds, whole.layers, level);
         walk_child(
             tree,
             visitor,

@@ -1,7 +1,7 @@
 -- Entries whose layers stand in a list of their own.
-use Rattle.std.proofs.Common.{◌≡◌, ◌<◌, ℕ, zero, suc, List, [], ◌∷◌, ◌++◌, length, map, take, drop, get_or, slice_get, Some, IfSome}
-use Rattle.std.proofs.Common.{refl, sym, ◌∙◌, ap, arith}
-use Rattle.std.proofs.lemmas.List.{drop-map, length-map, take-map}
+use Rattle.std.proofs.Common.{◌≡◌, ℕ, zero, suc, List, [], ◌∷◌, length, map, take, drop, get_or, slice_get, IfSome}
+use Rattle.std.proofs.Common.{refl, ap, arith}
+use Rattle.std.proofs.lemmas.List.{drop-map, take-map}
 use Rattle.rt_geo.specs.Laws.{extent_of_entry}
 use Rattle.rt_geo.specs.Layers.{only}
 use Rattle.rt_geo.specs.declared.entry.Entry.{Entry}
@@ -10,6 +10,7 @@ use Rattle.rt_tree.specs.Leaves.{entries_of, with_layer, without_layer}
 use Rattle.rt_tree.specs.Packed.{hull_of, union_of}
 use Rattle.rt_tree.specs.Packing.{node_over}
 use Rattle.rt_tree.specs.declared.entries.LeafEntry.{LeafEntry}
+use Rattle.rt_tree.proofs.PairLemmas.{left-alone, length-paired, paired-made, right-alone}
 use Rattle.rt_tree.proofs.Soundness.{sum_by-ones}
 
 -- the layer of an entry
@@ -18,57 +19,20 @@ layer_of entry = entry.layer
 
 -- what the two lists of entries make is the entries
 pub entries_of-made : (entries : List Entry) → entries_of (map without_layer entries) (map layer_of entries) ≡ entries
-entries_of-made [] = refl
-entries_of-made (entry ∷ entries) = ap (λ l. entry ∷ l) (entries_of-made entries)
+entries_of-made = paired-made with_layer without_layer layer_of (λ _ _. refl) (λ _ _. refl) (λ _. refl)
 
 -- and what two lists make has them both
 pub entries-alone : (entries : List LeafEntry) (layers : List ℕ) → length entries ≡ length layers
     → map without_layer (entries_of entries layers) ≡ entries
-entries-alone [] layers long = refl
-entries-alone (entry ∷ entries) [] long = absurd (omega (arith, long))
-entries-alone (entry ∷ entries) (layer ∷ layers) long =
-    ap (λ l. entry ∷ l) (entries-alone entries layers (omega (arith, long)))
+entries-alone = left-alone with_layer without_layer layer_of (λ _ _. refl) (λ _ _. refl) (λ _. refl)
 
 pub layers-alone : (entries : List LeafEntry) (layers : List ℕ) → length entries ≡ length layers
     → map layer_of (entries_of entries layers) ≡ layers
-layers-alone [] [] long = refl
-layers-alone [] (layer ∷ layers) long = absurd (omega (arith, long))
-layers-alone (entry ∷ entries) [] long = absurd (omega (arith, long))
-layers-alone (entry ∷ entries) (layer ∷ layers) long =
-    ap (λ l. layer ∷ l) (layers-alone entries layers (omega (arith, long)))
+layers-alone = right-alone with_layer without_layer layer_of (λ _ _. refl) (λ _ _. refl) (λ _. refl)
 
 pub length-entries_of : (entries : List LeafEntry) (layers : List ℕ) → length entries ≡ length layers
     → length (entries_of entries layers) ≡ length entries
-length-entries_of entries layers long =
-    sym (length-map (entries_of entries layers) without_layer) ∙ ap length (entries-alone entries layers long)
-
--- one entry more at the end of both lists
-pub entries_of-more : (entries : List LeafEntry) (layers : List ℕ) (entry : Entry) → length entries ≡ length layers
-    → entries_of (entries ++ without_layer entry ∷ []) (layers ++ entry.layer ∷ []) ≡ entries_of entries layers ++ entry ∷ []
-entries_of-more [] [] entry long = refl
-entries_of-more [] (layer ∷ layers) entry long = absurd (omega (arith, long))
-entries_of-more (e ∷ entries) [] entry long = absurd (omega (arith, long))
-entries_of-more (e ∷ entries) (layer ∷ layers) entry long =
-    ap (λ l. with_layer e layer ∷ l) (entries_of-more entries layers entry (omega (arith, long)))
-
--- as many of both lists
-pub entries_of-take : (n : ℕ) (entries : List LeafEntry) (layers : List ℕ)
-    → entries_of (take n entries) (take n layers) ≡ take n (entries_of entries layers)
-entries_of-take zero entries layers = refl
-entries_of-take (suc n) [] layers = refl
-entries_of-take (suc n) (entry ∷ entries) [] = refl
-entries_of-take (suc n) (entry ∷ entries) (layer ∷ layers) =
-    ap (λ l. with_layer entry layer ∷ l) (entries_of-take n entries layers)
-
--- an entry of the two lists
-pub entries_of-at : (entries : List LeafEntry) (layers : List ℕ) (place d : ℕ) (entry : LeafEntry)
-    → length entries ≡ length layers → place < length entries → entry ≡ get_or entries place entry
-    → slice_get (entries_of entries layers) place ≡ Some (with_layer entry (get_or layers place d))
-entries_of-at [] layers place d entry long there is = absurd (omega (arith, there))
-entries_of-at (e ∷ entries) [] place d entry long there is = absurd (omega (arith, long))
-entries_of-at (e ∷ entries) (l ∷ layers) zero d entry long there is = ap (λ x. Some (with_layer x l)) (sym is)
-entries_of-at (e ∷ entries) (l ∷ layers) (suc place) d entry long there is =
-    entries_of-at entries layers place d entry (omega (arith, long)) (omega (arith, there)) is
+length-entries_of = length-paired with_layer without_layer layer_of (λ _ _. refl) (λ _ _. refl) (λ _. refl)
 
 -- the layer of an entry that is there
 pub layers_told : (entries : List Entry) (place : ℕ) (layers : Layers)

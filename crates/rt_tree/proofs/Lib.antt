@@ -6,10 +6,12 @@ mod LeafLemmas
 mod LevelLemmas
 mod LevelOrder
 mod LoopLemmas
+mod NodeLemmas
 mod Numbering
 mod OrderLemmas
 mod PackCounts
 mod PackLemmas
+mod PairLemmas
 mod Rows
 mod SortKeyLemmas
 mod SquareLemmas

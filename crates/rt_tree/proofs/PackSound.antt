@@ -1,10 +1,10 @@
 -- The tree that is packed over a table is sound.
 use Rattle.std.proofs.Common.{◌≡◌, ◌<◌, ◌≤◌, ◌+◌, ◌-◌, ◌^◌, ℕ, zero, suc, List, [], ◌∷◌, ◌++◌, length, map}
 use Rattle.std.proofs.Common.{filter, ◌==◌, drop, get_or, refl, sym, ◌∙◌, ap, subst, arith, add-one, append_assoc}
-use Rattle.std.proofs.Common.{inl, inr, length-append, IsPermutation}
+use Rattle.std.proofs.Common.{inl, inr, length-append, IsPermutation, slice_get, Some}
 use Rattle.std.specs.Int.{div_ceil}
 use Rattle.std.specs.List.{AllByRecursion, flat_map, sum_by}
-use Rattle.std.proofs.lemmas.List.{append-nil, get_or_default, nil_from_length}
+use Rattle.std.proofs.lemmas.List.{append-nil, nil_from_length}
 use Rattle.std.proofs.lemmas.List.Elements.{All-from_recursion, recursion_from_All}
 use Rattle.std.proofs.lemmas.List.Sorted.{All-permutation}
 use Rattle.std.proofs.lemmas.List.Sorted.{IsPermutation-map, IsPermutation-refl}
@@ -19,6 +19,7 @@ use Rattle.rt_geo.specs.Entries.{HasBox, HasLayer}
 use Rattle.rt_geo.specs.Laws.{extent_of_entry}
 use Rattle.std.specs.Ordering.{int_cmp, int_eq, on}
 use Rattle.std.proofs.lemmas.Map.Keys.{IsDistinct-IsPermutation}
+use Rattle.std.proofs.lemmas.Option.{get_or_from_slice_get}
 use Rattle.rt_tree.proofs.EntryLemmas.{int_eq-sym}
 use Rattle.rt_tree.proofs.SortingLemmas.{IsPermutation-sorted}
 use Rattle.rt_tree.specs.declared.tree.Node.{Node}
@@ -358,11 +359,10 @@ pack_of-IsSound fanout entries several table =
 
 -- a child of a node above level 1 is a node of the tree
 pub child_inside : (t : Packed) (number index : ℕ) (n : Node) → IsSound t → number < length t.nodes
-    → n ≡ get_or t.nodes number n
+    → slice_get t.nodes number ≡ Some n
     → 2 ≤ (node_at t number).level → index < (node_at t number).count → n.first + index < length t.nodes
 child_inside t number index n s there is level count =
-    let same : n ≡ node_at t number = is ∙ get_or_default t.nodes number n no_node there in
-    let first : n.first ≡ (node_at t number).first = ap (λ m. m.first) same in
+    let first : (node_at t number).first ≡ n.first = ap (λ m. m.first) (get_or_from_slice_get t.nodes number n no_node is) in
     omega (
       arith,
       first,

@@ -1,6 +1,7 @@
 -- Entries whose layers stand in a list of their own.
-use Rattle.std.specs.Prelude.{ℕ, List, [], ◌∷◌}
+use Rattle.std.specs.Prelude.{ℕ, List}
 use Rattle.rt_geo.specs.declared.entry.Entry.{Entry}
+use Rattle.rt_tree.specs.Paired.{paired}
 use Rattle.rt_tree.specs.declared.entries.LeafEntry.{LeafEntry}
 
 -- an entry without its layer
@@ -11,8 +12,6 @@ without_layer entry = record { id = entry.id; bounds = entry.bounds }
 abbrev pub with_layer : LeafEntry → (layer : ℕ) → Entry
 with_layer entry layer = record { id = entry.id; bounds = entry.bounds; layer = layer }
 
--- entries with their layers: the one list beside the other
+-- entries with their layers
 abbrev pub entries_of : List LeafEntry → (layers : List ℕ) → List Entry
-entries_of [] layers = []
-entries_of (entry ∷ entries) [] = []
-entries_of (entry ∷ entries) (layer ∷ layers) = with_layer entry layer ∷ entries_of entries layers
+entries_of = paired with_layer

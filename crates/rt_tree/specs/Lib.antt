@@ -4,6 +4,8 @@ pub mod Leaves
 pub mod Levels
 pub mod Packed
 pub mod Packing
+pub mod Paired
+pub mod PlainNodes
 pub mod Repeats
 pub mod SortKeys
 pub mod Sorting

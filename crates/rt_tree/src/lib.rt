@@ -7,14 +7,15 @@
 //! - [`Levels`] are seen as the sizes of the levels of a tree over so many entries, computed without the tree.
 //!
 //! The definitions that the contracts cite stand in `specs/`: `Entries`, `Repeats` (why entries make no table),
-//! `Leaves` (entries without their layers), `Levels`, `Packing` (which tree is packed), `Packed` (what it holds, and
-//! what a search may rest on), and `Sorting`, for the crates above too. Their worked rows stand in `proofs/Rows.antt`.
-//! What `Indexes` and `SortKeys` define is for this crate's code alone.
+//! `Leaves` and `PlainNodes` (entries and nodes without their layers), `Levels`, `Packing` (which tree is packed),
+//! `Packed` (what it holds, and what a search may rest on), and `Sorting`, for the crates above too. Their worked rows
+//! stand in `proofs/Rows.antt`. What `Indexes`, `Paired` and `SortKeys` define is for this crate's code alone.
 #![tactic(auto)]
 
 mod entries;
 mod ids;
 mod levels;
+mod nodes;
 mod packing;
 mod table;
 mod ties;
@@ -22,5 +23,6 @@ mod tree;
 
 pub use entries::{Entries, LeafEntry};
 pub use levels::Levels;
+pub use nodes::PlainNode;
 pub use table::{EntriesFault, PushFault, Table};
 pub use tree::{Node, NodeNo, Tree};

@@ -10,9 +10,11 @@ ghost use Rattle.rt_tree.specs.Leaves.{without_layer};
 ghost use Rattle.rt_tree.specs.Levels.{level_sizes};
 ghost use Rattle.rt_tree.specs.Packed.{IsSound, child_entries, child_nodes, node_at, root_of};
 ghost use Rattle.rt_tree.specs.Packing.{all_nodes, chunks, leaf_nodes, pack_of};
+ghost use Rattle.rt_tree.specs.PlainNodes.{without_layers};
 
 use crate::entries::{Entries, LeafEntry};
 use crate::levels::Levels;
+use crate::nodes::{Nodes, PlainNode};
 use crate::packing::{arranged_entries, arranged_nodes, leaf_nodes, nodes_over};
 use crate::table::Table;
 use rt_geo::{Bounds, Entry, Layers};
@@ -69,7 +71,7 @@ impl NodeNo {
 pub struct Tree {
     fanout: u8,
     leaves: Entries,
-    nodes: Vec<Node>,
+    nodes: Nodes,
     levels: Levels,
 }
 
@@ -81,9 +83,9 @@ impl Model for Tree {
 
     ghost Value = { Packed };
 
-    ghost view = { λ t. record { fanout = t.fanout; entries = t.leaves; nodes = t.nodes.items } };
+    ghost view = { λ t. record { fanout = t.fanout; entries = t.leaves; nodes = t.nodes } };
 
-    ghost invariant = { λ t. let tree : Packed = record { fanout = t.fanout; entries = t.leaves; nodes = t.nodes.items } in
+    ghost invariant = { λ t. let tree : Packed = record { fanout = t.fanout; entries = t.leaves; nodes = t.nodes } in
         IsSound tree × (tree ≡ pack_of t.fanout t.leaves) × (t.levels ≡ level_sizes (length t.leaves) t.fanout) };
 }
 
@@ -100,7 +102,8 @@ impl Tree {
         let entries = table.into_entries();
         let leaves = arranged_entries(alloc, &entries, fanout)?;
         drop(entries);
-        let nodes = all_nodes(alloc, &leaves, fanout)?;
+        let made = all_nodes(alloc, &leaves, fanout)?;
+        let nodes = Nodes::of(alloc, &made)?;
         Ok(Tree {
             fanout,
             leaves,
@@ -155,21 +158,21 @@ impl Tree {
         ensures number { IfSome result (λ no. no.number + 1 ≡ length self.now.nodes) }
         ensures sound { IsSound self.now }
     {
-        if self.nodes.is_empty() {
-            None
-        } else {
-            Some(NodeNo {
-                number: self.nodes.len() as u32 - 1,
-            })
+        match self.nodes.len() {
+            0 => None,
+            len => Some(NodeNo {
+                number: len as u32 - 1,
+            }),
         }
     }
 
-    /// The node with a number.
+    /// The node with a number. Where its layers aren't looked at, they are not read.
+    #[inline(always)]
     pub fn node(&self, no: NodeNo) -> Node
         requires { no.number < length self.now.nodes }
         ensures { result ≡ node_at self.now no.number }
     {
-        self.nodes[no.number as usize]
+        self.nodes.get(no.number as usize)
     }
 
     /// The number of a child, counted from 0, of a node above level 1.
@@ -181,7 +184,7 @@ impl Tree {
         ensures inside { result.number < length self.now.nodes }
     {
         NodeNo {
-            number: self.nodes[no.number as usize].first + index as u32,
+            number: self.nodes.get(no.number as usize).first + index as u32,
         }
     }
 
@@ -212,21 +215,15 @@ impl Tree {
         &self.leaves.leaves()[first..first + node.count as usize]
     }
 
-    /// The nodes right under a node above level 1, in the order of their numbers.
+    /// The nodes right under a node above level 1, in the order of their numbers, without their layers, which
+    /// [`Tree::node`] tells.
     #[inline(always)]
-    pub fn child_nodes(&self, node: Node) -> &[Node]
+    pub fn child_nodes(&self, node: Node) -> &[PlainNode]
         requires { node.first + node.count ≤ length self.now.nodes }
-        ensures { result.now ≡ child_nodes self.now node }
+        ensures { result.now ≡ map without_layers (child_nodes self.now node) }
     {
         let first = node.first as usize;
-        &self.nodes[first..first + node.count as usize]
-    }
-
-    /// The nodes, in the order of their numbers.
-    pub fn nodes(&self) -> &[Node]
-        ensures { result.now ≡ self.now.nodes }
-    {
-        self.nodes.as_slice()
+        &self.nodes.plain()[first..first + node.count as usize]
     }
 }
 

@@ -2,7 +2,7 @@
 
 use crate::expect::expect_eq;
 use rt_geo::{Bounds, Entry, Layers, hull};
-use rt_tree::{Node, Table, Tree};
+use rt_tree::{Node, NodeNo, Table, Tree};
 use std::alloc::Global;
 use std::test::Fail;
 
@@ -101,10 +101,15 @@ fn over_entries(tree: &Tree, node: &Node) -> Option<Whole> {
     all
 }
 
-fn over_nodes(nodes: &[Node]) -> Option<Whole> {
+fn over_nodes(tree: &Tree, node: &Node) -> Option<Whole> {
+    let end = node.first.checked_add(u32::from(node.count))?;
+    if end > tree.node_len() {
+        return None;
+    }
     let mut all = None;
-    for node in nodes {
-        all = with(all, node.bounds, node.layers, node.size);
+    for (number, child) in (node.first..end).zip(tree.child_nodes(*node)) {
+        let layers = node_at(tree, number)?.layers;
+        all = with(all, child.bounds, layers, child.size);
     }
     all
 }
@@ -112,18 +117,29 @@ fn over_nodes(nodes: &[Node]) -> Option<Whole> {
 // What the children of a node are together.
 fn over_children(tree: &Tree, node: &Node) -> Option<Whole> {
     if node.level == 1 {
-        return over_entries(tree, node);
+        over_entries(tree, node)
+    } else {
+        over_nodes(tree, node)
     }
-    let first = node.first as usize;
-    over_nodes(tree.nodes().get(first..first + node.count as usize)?)
+}
+
+// The node with a number, where there is one.
+fn node_at(tree: &Tree, number: u32) -> Option<Node> {
+    if number >= tree.node_len() {
+        return None;
+    }
+    Some(tree.node(NodeNo::new(number)))
 }
 
 // How many nodes are on a level.
-fn count_of(tree: &Tree, level: u8) -> usize {
-    tree.nodes()
-        .iter()
-        .filter(|node| node.level == level)
-        .count()
+fn count_of(tree: &Tree, level: u8) -> u32 {
+    let mut count: u32 = 0;
+    for number in 0..tree.node_len() {
+        if tree.node(NodeNo::new(number)).level == level {
+            count = count.wrapping_add(1);
+        }
+    }
+    count
 }
 
 #[test]
@@ -139,7 +155,8 @@ fn packs_the_five_boxes_node_by_node(rt: HostRuntime) {
             expect_eq(&rt, tree.entry(place as u32).id, *id);
         }
     }
-    for (node, (sides, level, first, count, size)) in tree.nodes().iter().zip(&NODES) {
+    for (number, (sides, level, first, count, size)) in NODES.iter().enumerate() {
+        let node = node_at(&tree, number as u32).expect(&rt, "there are as many nodes");
         expect_eq(&rt, Some(node.bounds), bounds(*sides));
         expect_eq(&rt, node.level, *level);
         expect_eq(&rt, node.first, *first);
@@ -178,7 +195,8 @@ fn equal_boxes_stand_by_id(rt: HostRuntime) {
         }
     }
     let firsts = [(0, 2), (2, 2), (4, 1), (0, 2), (2, 1), (3, 2)];
-    for (node, (first, count)) in tree.nodes().iter().zip(&firsts) {
+    for (number, (first, count)) in firsts.iter().enumerate() {
+        let node = node_at(&tree, number as u32).expect(&rt, "there are as many nodes");
         expect_eq(&rt, node.first, *first);
         expect_eq(&rt, node.count, *count);
     }
@@ -216,16 +234,17 @@ fn each_node_is_true_of_its_children(rt: HostRuntime) {
                 "there is memory",
             );
             expect_eq(&rt, tree.len(), count);
-            for node in tree.nodes() {
+            for number in 0..tree.node_len() {
+                let node = tree.node(NodeNo::new(number));
                 assert!(rt;
-                    over_children(&tree, node) == Some((node.bounds, node.layers, node.size))
+                    over_children(&tree, &node) == Some((node.bounds, node.layers, node.size))
                 );
                 assert!(rt; node.count <= fanout);
             }
             let root = tree.root().expect(&rt, "there are entries");
             expect_eq(&rt, tree.node(root).size, count);
             for level in 1..=tree.top() {
-                expect_eq(&rt, tree.level_len(level) as usize, count_of(&tree, level));
+                expect_eq(&rt, tree.level_len(level), count_of(&tree, level));
             }
         }
     }

@@ -3,7 +3,7 @@
 
 use crate::layered::layered;
 use rt_geo::{Bounds, Entry};
-use rt_tree::{Node, Table, Tree};
+use rt_tree::{Node, NodeNo, Table, Tree};
 use std::alloc::Global;
 
 // How the boxes of a table lie, and what ids and layers they have.
@@ -262,10 +262,8 @@ fn told_tree(tree: &Tree) -> i64 {
         all = told(all, i64::from(entry.layer));
     }
     all = told(all, i64::from(tree.node_len()));
-    let mut number: u32 = 0;
-    for node in tree.nodes() {
-        all = told_node(all, number, node);
-        number = number.wrapping_add(1);
+    for number in 0..tree.node_len() {
+        all = told_node(all, number, &tree.node(NodeNo::new(number)));
     }
     all = told(all, i64::from(tree.top()).wrapping_add(1));
     for level in 0..=tree.top() {

@@ -48,6 +48,15 @@ overflow_add-first g c =
     let low : c.node-node.result.first + c.loop-i.i < 2 ^ 32 = omega (arith, inside, lt, few) in
     search (rules, low)
 
+pub node-whole-requires : goal.node-whole-requires
+node-whole-requires g c =
+    let here = children_of c.args.tree.now c.args.taken.node.number.number c.node-node.result
+    c.child_nodes-children.result.now c.requires.node.tree c.node-node.ensures c.if-node-eq1.false
+    c.child_nodes-children.ensures in
+    let inside = here.inside in
+    let lt = c.loop-i-test.true in
+    omega (arith, inside, lt, c.new-number.ensures)
+
 pub ask_node-requires : goal.ask_node-requires
 ask_node-requires g c =
     let geometry = c.args.counted.now.geometry in
@@ -56,9 +65,9 @@ ask_node-requires g c =
     let v = c.new-parent.result.verdict in
     let here = children_of tree number c.node-node.result c.child_nodes-children.result.now c.requires.node.tree
     c.node-node.ensures c.if-node-eq1.false c.child_nodes-children.ensures in
-    let k = here.asked c.loop-i.i c.new-number.result.number c.new-parent.result.top c.index-children-i.result v
-    c.info-info.result c.loop-i-test.true c.index-children-i.is c.new-number.ensures
-    (c.new-parent.ensures.top ∙ c.requires.tree.top_is) c.info-info.ensures in
+    let k = here.asked c.loop-i.i c.new-number.result.number c.new-parent.result.top c.index-children-i.result
+    c.node-whole.result v c.info-info.result c.loop-i-test.true c.index-children-i.is c.new-number.ensures
+    c.node-whole.ensures (c.new-parent.ensures.top ∙ c.requires.tree.top_is) c.info-info.ensures in
     let long = length-join_nodes (g.G.Geometry.verdict geometry) tree v (node_at tree number) c.loop-i.i
     c.args.frontier.now.items in
     let inv = c.loop-i.invariant in
@@ -83,8 +92,8 @@ loop-i-preserved g c =
     let here = children_of tree c.args.taken.node.number.number c.node-node.result c.child_nodes-children.result.now
     c.requires.node.tree c.node-node.ensures c.if-node-eq1.false c.child_nodes-children.ensures in
     let k = here.asked c.loop-i.i c.new-number.result.number c.new-parent.result.top c.index-children-i.result
-    c.new-parent.result.verdict c.info-info.result c.loop-i-test.true c.index-children-i.is c.new-number.ensures
-    (c.new-parent.ensures.top ∙ c.requires.tree.top_is) c.info-info.ensures in
+    c.node-whole.result c.new-parent.result.verdict c.info-info.result c.loop-i-test.true c.index-children-i.is
+    c.new-number.ensures c.node-whole.ensures (c.new-parent.ensures.top ∙ c.requires.tree.top_is) c.info-info.ensures in
     let inv = c.loop-i.invariant in
     let h = rw (inv.geometry, inv.children.wanted) at c.ask_node.ensures in
     let asked = h.asked in

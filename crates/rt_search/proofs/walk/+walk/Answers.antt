@@ -98,6 +98,14 @@ walk_under-child_nodes-children-requires g t c =
     children_inside c.args.tree.now c.args.number.number c.node-node.result c.requires.node.tree c.node-node.ensures
     c.if-node-eq1.false
 
+pub walk_under-node-whole-requires : goal.walk_under-node-whole-requires
+walk_under-node-whole-requires g t c =
+    let here = children_of c.args.tree.now c.args.number.number c.node-node.result c.child_nodes-children.result.now
+    c.requires.node.tree c.node-node.ensures c.if-node-eq1.false c.child_nodes-children.ensures in
+    let inside = here.inside in
+    let lt = c.loop-i-test.true in
+    omega (arith, inside, lt, c.new-child_number.ensures)
+
 pub walk_under-loop-i-init : goal.walk_under-loop-i-init
 walk_under-loop-i-init g t c =
     let geometry = c.args.counted.now.geometry in
@@ -124,8 +132,9 @@ walk_under-walk_child-requires g t c κs within =
     let here = children_of tree number c.node-node.result c.child_nodes-children.result.now c.requires.node.tree
     c.node-node.ensures c.if-node-eq1.false c.child_nodes-children.ensures in
     let child = c.new-child_number.result.number in
-    let k = here.asked c.loop-i.i child c.args.parent.top c.index-children-i.result v c.info-info.result
-    c.loop-i-test.true c.index-children-i.is c.new-child_number.ensures c.requires.tree.top_is c.info-info.ensures in
+    let k = here.asked c.loop-i.i child c.args.parent.top c.index-children-i.result c.node-whole.result v
+    c.info-info.result c.loop-i-test.true c.index-children-i.is c.new-child_number.ensures c.node-whole.ensures
+    c.requires.tree.top_is c.info-info.ensures in
     let inv = c.loop-i.invariant in
     let left = taken_room g.V.Collector.takes g.V.Collector.room g.met.V.Collector.fills c.args.visitor.now
     c.loop-i.visitor (answers_upto accepts score tree verdict law c.requires.tree.sound v small number c.requires.node
@@ -167,9 +176,9 @@ walk_under-loop-i-preserved g t c =
     let small : v.score < 2 ^ 128 = search rules in
     let here = children_of tree number c.node-node.result c.child_nodes-children.result.now c.requires.node.tree
     c.node-node.ensures c.if-node-eq1.false c.child_nodes-children.ensures in
-    let k = here.asked c.loop-i.i c.new-child_number.result.number c.args.parent.top c.index-children-i.result v
-    c.info-info.result c.loop-i-test.true c.index-children-i.is c.new-child_number.ensures c.requires.tree.top_is
-    c.info-info.ensures in
+    let k = here.asked c.loop-i.i c.new-child_number.result.number c.args.parent.top c.index-children-i.result
+    c.node-whole.result v c.info-info.result c.loop-i-test.true c.index-children-i.is c.new-child_number.ensures
+    c.node-whole.ensures c.requires.tree.top_is c.info-info.ensures in
     let inv = c.loop-i.invariant in
     let e = rw k.at at (rw k.info_is at (rw inv.geometry at c.walk_child.ensures)) in
     let opened = e.opened in

@@ -1,6 +1,9 @@
 use Rattle.std.proofs.Common.{◌≡◌, ◌∙◌, ◌<◌, FitsSigned, ap, arith, get_or, length, rules, w64}
 use Rattle.std.proofs.lemmas.Int.{to_z-of_z}
-use Rattle.rt_tree.proofs.LeafLemmas.{entries_of-at, layers-alone, length-entries_of}
+use Rattle.std.proofs.lemmas.List.{get_or_default}
+use Rattle.rt_tree.specs.Leaves.{with_layer}
+use Rattle.rt_tree.proofs.LeafLemmas.{layers-alone, length-entries_of}
+use Rattle.rt_tree.proofs.PairLemmas.{paired-at}
 use Rattle.rt_tree.proofs.entries.Entries.get.Goals as goal
 
 pub index-entry-requires : goal.index-entry-requires
@@ -18,7 +21,10 @@ returns c =
     let there : place < length entries = omega (arith, long, rw (← c.self.view_is) at c.requires) in
     let entry = c.index-entry.result.now in
     let fits : FitsSigned w64 entry.id = search rules in
-    let layer : c.layer.result ≡ get_or layers place 0 = (rw (← c.self.view_is) at c.layer.ensures)
-    ∙ ap (λ l. get_or l place 0) (layers-alone entries layers c.self.invariant) in
-    rw (← c.self.view_is, layer) (simp (to_z-of_z, fits) (entries_of-at entries layers place 0 entry c.self.invariant there
-    c.index-entry.ensures))
+    let layer = c.layer.result in
+    let same = c.self.invariant in
+    let inside : place < length layers = omega (arith, same, there) in
+    let is : layer ≡ get_or layers place layer = (rw (← c.self.view_is) at c.layer.ensures)
+    ∙ ap (λ l. get_or l place 0) (layers-alone entries layers same) ∙ get_or_default layers place 0 layer inside in
+    rw (← c.self.view_is) (simp (to_z-of_z, fits) (paired-at with_layer entries layers place entry layer same there
+    c.index-entry.ensures is))

@@ -1,6 +1,7 @@
 use Rattle.std.proofs.Common.{◌≡◌, ◌∙◌, ◌-◌, ap, arith, length, take}
-use Rattle.rt_tree.specs.Leaves.{entries_of}
-use Rattle.rt_tree.proofs.LeafLemmas.{entries_of-take, length-entries_of}
+use Rattle.rt_tree.specs.Leaves.{entries_of, with_layer}
+use Rattle.rt_tree.proofs.LeafLemmas.{length-entries_of}
+use Rattle.rt_tree.proofs.PairLemmas.{paired-take}
 use Rattle.rt_tree.proofs.entries.Entries.pop.Goals as goal
 
 pub returns : goal.returns
@@ -11,4 +12,4 @@ returns c =
     let long = length-entries_of entries layers c.self.invariant in
     let less : n ≡ length (entries_of entries layers) - 1 = omega (arith, c.saturating_sub-len.ensures, c.len.ensures, long) in
     rw (← c.self.view_is, c.truncate.ensures.items, c.truncate-2.ensures.items)
-    (entries_of-take n entries layers ∙ ap (λ n. take n (entries_of entries layers)) less)
+    (paired-take with_layer n entries layers ∙ ap (λ n. take n (entries_of entries layers)) less)

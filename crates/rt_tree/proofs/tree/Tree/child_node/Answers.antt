@@ -10,9 +10,9 @@ overflow_add-result c =
       fanout = c.self.inside.fanout;
       entries = c.self.inside.leaves;
       nodes =
-          c.self.inside.nodes.items;
-    }) c.args.no.number c.args.index c.index.result.now sound asked.inside
-    c.index.ensures asked.level asked.index in
+          c.self.inside.nodes;
+    }) c.args.no.number c.args.index c.get.result sound asked.inside
+    c.get.ensures asked.level asked.index in
     omega (arith, inside, sound.few_nodes)
 
 pub returns-clause-inside : goal.returns-clause-inside
@@ -22,6 +22,6 @@ returns-clause-inside c =
       fanout = c.self.inside.fanout;
       entries =
           c.self.inside.leaves;
-      nodes = c.self.inside.nodes.items;
+      nodes = c.self.inside.nodes;
     }) c.args.no.number c.args.index
-    c.index.result.now c.self.invariant.0 asked.inside c.index.ensures asked.level asked.index)
+    c.get.result c.self.invariant.0 asked.inside c.get.ensures asked.level asked.index)

@@ -34,8 +34,8 @@ pub returns : goal.returns
 returns c =
     let entries = c.in_ok-leaves.ensures ∙ ap (λ l. joined (groups (λ
     (e : Entry). e.bounds) c.args.fanout (sorted by_id l))) c.into_entries-entries.ensures.value in
-    let whole = packed_is c.args.fanout c.args.table c.in_ok-leaves.leaves c.in_ok-nodes.nodes.items
-    c.requires.several entries c.in_ok-nodes.ensures in
+    let whole = packed_is c.args.fanout c.args.table c.in_ok-leaves.leaves c.in_ok-nodes.nodes
+    c.requires.several entries (c.in_ok-nodes.ensures ∙ c.deref.ensures.value ∙ c.in_ok-made.ensures) in
     record {
       value = whole;
       moved = subst (λ (t : Packed). IsPermutation c.args.table t.entries) (sym whole) (entries-IsPermutation
@@ -46,8 +46,8 @@ pub invariant_of-result : goal.invariant_of-result
 invariant_of-result c =
     let entries = c.in_ok-leaves.ensures ∙ ap (λ l. joined (groups (λ
     (e : Entry). e.bounds) c.args.fanout (sorted by_id l))) c.into_entries-entries.ensures.value in
-    let whole = packed_is c.args.fanout c.args.table c.in_ok-leaves.leaves c.in_ok-nodes.nodes.items
-    c.requires.several entries c.in_ok-nodes.ensures in
+    let whole = packed_is c.args.fanout c.args.table c.in_ok-leaves.leaves c.in_ok-nodes.nodes
+    c.requires.several entries (c.in_ok-nodes.ensures ∙ c.deref.ensures.value ∙ c.in_ok-made.ensures) in
     let long : length c.in_ok-leaves.leaves ≡ length c.args.table = ap (λ
     (t : Packed). length t.entries) whole ∙ length-packed c.args.fanout c.args.table c.requires.several in (
       subst IsSound (sym whole) (pack_of-IsSound c.args.fanout c.args.table c.requires.several

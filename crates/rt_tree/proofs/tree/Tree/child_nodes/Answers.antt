@@ -1,0 +1,7 @@
+use Rattle.rt_tree.specs.PlainNodes.{without_layers}
+use Rattle.rt_tree.proofs.PairLemmas.{lent_part}
+use Rattle.rt_tree.proofs.tree.Tree.child_nodes.Goals as goal
+
+pub returns : goal.returns
+returns c = rw (← c.self.view_is)
+    (lent_part without_layers c.args.node.first c.args.node.count c.plain.result.now c.self.inside.nodes c.plain.ensures)

@@ -1,0 +1,100 @@
+//! The nodes of a tree in order, their layers in a list of their own.
+//!
+//! So a query that asks for no layers reads none, and more of the nodes that it asks about are in the cache.
+
+ghost use Rattle.std.specs.Prelude.{◌≡◌, ◌<◌, IfOk, Some, get_or, length, map, slice_get};
+ghost use Rattle.rt_tree.specs.PlainNodes.{without_layers};
+
+use crate::tree::Node;
+use rt_geo::{Bounds, Layers};
+use std::alloc::{AllocError, Global};
+use std::marker::Model;
+
+/// A node without its layers: what stands side by side under a node above level 1. Its fields are those of a [`Node`].
+#[derive(Clone, Copy, Debug, PartialEq, Eq)]
+pub struct PlainNode {
+    /// The least box in which its children lie.
+    pub bounds: Bounds,
+    /// The place of its first child where the level is 1, and else the number of its first child.
+    pub first: u32,
+    /// How many entries are under it.
+    pub size: u32,
+    /// How many children it has.
+    pub count: u8,
+    /// 1 where its children are entries.
+    pub level: u8,
+}
+
+/// Nodes in the order of their numbers.
+#[derive(Drop)]
+pub(crate) struct Nodes {
+    nodes: Vec<PlainNode>,
+    layers: Vec<Layers>,
+}
+
+impl Model for Nodes {
+    ghost use Rattle.std.specs.Prelude.{◌≡◌, List, length};
+    ghost use Rattle.rt_tree.specs.PlainNodes.{nodes_of};
+    ghost use Rattle.rt_tree.specs.declared.tree.Node.{Node};
+
+    ghost Value = { List Node };
+
+    ghost view = { λ n. nodes_of n.nodes.items n.layers.items };
+
+    ghost invariant = { λ n. length n.nodes.items ≡ length n.layers.items };
+}
+
+impl Nodes {
+    /// Keeps these nodes. An error means that no memory is left.
+    pub fn of(alloc: Global, nodes: &[Node]) -> Result<Nodes, AllocError>
+        ensures { IfOk result (λ kept. kept ≡ nodes.now) }
+    {
+        let mut plain = Vec::with_capacity(alloc, nodes.len())?;
+        let mut layers = Vec::with_capacity(alloc, nodes.len())?;
+        for node in nodes {
+            plain.push(PlainNode {
+                bounds: node.bounds,
+                first: node.first,
+                size: node.size,
+                count: node.count,
+                level: node.level,
+            })?;
+            layers.push(node.layers)?;
+        }
+        Ok(Nodes {
+            nodes: plain,
+            layers,
+        })
+    }
+
+    /// How many there are.
+    pub fn len(&self) -> usize
+        ensures { result ≡ length self.now }
+    {
+        self.nodes.len()
+    }
+
+    /// The node with a number. Where its layers aren't looked at, they are not read.
+    #[inline(always)]
+    pub fn get(&self, number: usize) -> Node
+        requires { number < length self.now }
+        ensures { slice_get self.now number ≡ Some result }
+    {
+        let node = self.nodes[number];
+        Node {
+            layers: self.layers[number],
+            bounds: node.bounds,
+            first: node.first,
+            size: node.size,
+            count: node.count,
+            level: node.level,
+        }
+    }
+
+    /// The nodes without their layers.
+    pub fn plain(&self) -> &[PlainNode]
+        ensures { result.now ≡ map without_layers self.now }
+    {
+        self.nodes.as_slice()
+    }
+}
