@@ -4,7 +4,7 @@ SHELL := /bin/bash
 PREFIX ?= /usr/local
 
 # Crates are proved side by side, as far as crates.txt lets them. JOBS=N gives each so many processes; without it each
-# takes the processors that are free when it begins (tools/prove).
+# takes a share of the processors (tools/prove).
 MAKEFLAGS += --jobs=$(shell nproc)
 export JOBS
 
