@@ -1,6 +1,5 @@
 //! A shape and a geometry of one's own, asked about single boxes.
 
-ghost use Rattle.std.specs.Prelude.{◌≡◌};
 ghost use Rattle.rt_geo.specs.declared.geometry.Within.TheVariants.{Partly};
 
 use crate::left_of::LeftOf;

@@ -510,6 +510,21 @@ fn full_searches_and_counts_ask_about_each_child_once(rt: HostRuntime) {
     expect_eq(&rt, window.shown(), want);
 }
 
+// The same of a search in whose order no node has a score: all is asked before the first answer, whatever the limit.
+#[test]
+fn unscored_searches_ask_about_each_child_once(rt: HostRuntime) {
+    let tree = pack(&rt, rt.alloc(), &BOXES);
+    let frontier = Frontier::new(rt.alloc(), tree.len()).expect(&rt, "there is memory");
+    let window = Watched::new(in_window(boxed(&rt, [0, 10, 0, 10])));
+    let mut search = Search::start_unscored(&tree, frontier, Counted::new(&window), Some(1));
+    // d: a, never c; e: b
+    let want = [30, 10, -1, 10, 30, 15, 15, 15, 12, 0];
+    expect_eq(&rt, window.shown(), want);
+    expect_eq(&rt, search.next(), Some((1, 0)));
+    let _end = search.finish();
+    expect_eq(&rt, window.shown(), want);
+}
+
 // A search that is finished early leaves in its frontier what still waited.
 #[test]
 fn a_count_gives_up_what_a_search_left(rt: HostRuntime) {
