@@ -1,6 +1,6 @@
 //! The settings of a run.
 
-ghost use Rattle.std.specs.Prelude.{◌≡◌, ◌≤◌};
+ghost use Rattle.std.specs.Prelude.{◌≡◌};
 ghost use Rattle.std.specs.Option.{SomeIff};
 ghost use Rattle.rt_command.specs.Choices.{AreAllowed, choices_of};
 

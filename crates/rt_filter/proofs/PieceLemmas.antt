@@ -163,11 +163,6 @@ kept : (xs : List ℕ) (new : Option (List ℕ)) → Keeps (Some xs) new → new
 kept xs None h = absurd h
 kept xs (Some ys) h = ap (λ zs. Some zs) h
 
--- all of the bytes went out, and then nothing more
-whole_prefix : (before bytes : List ℕ) (new : Option (List ℕ)) → IsSameIfTold (Some (before ++ bytes)) new → WentPrefix before new bytes
-whole_prefix before bytes None h = tt
-whole_prefix before bytes (Some now) h = (bytes, h, rw append-nil at (starts bytes []))
-
 -- from one place between lines to a later one: what the sink tells grows by the answers
 abbrev pub Steps : Loaded → (old new : Option (List ℕ)) → (lines : ℕ) (bad is_long : Bool) (bytes : List ℕ)
     → (lines' : ℕ) (bad' is_long' : Bool) (rest : List ℕ) → Type 0

@@ -79,9 +79,8 @@ abbrev pub output : Loaded → List (ℕ × List ℕ) → List ℕ
 output loaded lines = flat_map (λ line. reply loaded line.0 (judged_line line.1)) lines
 
 abbrev pub is_fault : Parsed → Bool
-is_fault parsed.Skip = false
-is_fault (parsed.Query query) = false
 is_fault (parsed.Fault cause) = true
+is_fault other = false
 
 -- some line is faulty
 abbrev pub any_fault : List (ℕ × List ℕ) → Bool

@@ -1,6 +1,6 @@
 //! A whole run: a table and queries in, answers out.
 
-ghost use Rattle.std.specs.Prelude.{◌≡◌, ◌+◌, ◌-◌, ◌<◌, ◌≤◌, ◌^◌, ◌⊎◌, ℕ, List, [], Some, None, IfOk, IfErr, OnErr, length, if◌then◌else◌, true, false};
+ghost use Rattle.std.specs.Prelude.{◌≡◌, ◌+◌, ◌-◌, ◌<◌, ◌≤◌, ◌^◌, ◌⊎◌, ℕ, List, Some, None, IfOk, IfErr, length, if◌then◌else◌, true, false};
 ghost use Rattle.rt_filter.specs.Endings.{Ends, ConsumedAtLeast, IsStatusOf, told_of, is_of_load, is_read, is_write};
 ghost use Rattle.rt_filter.specs.Faults.{run_fault_line};
 ghost use Rattle.rt_filter.specs.Stages.{HasLoaded, Stops, is_reported, run_fault_of};

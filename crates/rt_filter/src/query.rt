@@ -96,7 +96,7 @@ fn push_report<K: Sink>(
     tree: &Tree,
     frontier: Frontier,
     line: u128,
-    region: Region,
+    shape: Region,
     layers: Layers,
     report: Report,
     sink: &mut K,
@@ -104,18 +104,15 @@ fn push_report<K: Sink>(
     requires room { length tree.now.entries ≤ frontier.capacity }
     requires count { K.failed sink.old < 2 ^ 64 - 1 }
     ensures pushed { Pushed K.written K.failed sink.old sink.new result
-        (report_on tree.now.entries (on_layers_accepts (region_accepts region) layers) line report) }
+        (report_on tree.now.entries (on_layers_accepts (region_accepts shape) layers) line report) }
     ensures capacity { IfOk result (λ left. left.capacity ≡ frontier.capacity) }
 {
     // (called, so that it is known which layers the entries have)
     let _most = tree.len();
     if layers.bits() == u64::MAX {
-        return push_in_region(tree, frontier, line, region, report, sink);
+        return push_in_region(tree, frontier, line, shape, report, sink);
     }
-    let shape = OnLayers {
-        shape: region,
-        layers,
-    };
+    let shape = OnLayers { shape, layers };
     push_in_shape(tree, frontier, line, shape, report, sink)
 }
 

@@ -1,13 +1,13 @@
 //! Serving query lines, which come in pieces.
 
-ghost use Rattle.std.specs.Prelude.{◌≡◌, ◌+◌, ◌-◌, ◌++◌, ◌||◌, ◌<◌, ◌≤◌, ◌^◌, ◌⊎◌, ℕ, List, [], Some, None, IfOk, IfErr, IfSome, OnOk, OnErr, MatchOption, MatchResult, length, take, drop, nat_lt, if◌then◌else◌, true, false};
+ghost use Rattle.std.specs.Prelude.{◌≡◌, ◌+◌, ◌-◌, ◌||◌, ◌<◌, ◌≤◌, ◌^◌, ◌⊎◌, ℕ, List, [], Some, None, IfOk, OnOk, OnErr, length, take, drop, nat_lt, if◌then◌else◌, true, false};
 ghost use Rattle.std.specs.Io.KnownBytes.{Keeps};
 ghost use Rattle.rt_device.specs.Devices.{IsSameIfTold};
 ghost use Rattle.rt_filter.specs.Endings.{ConsumedAtLeast, Serves, is_pull, is_push, told_of};
-ghost use Rattle.rt_filter.specs.Lines.{longest_line, most_pulled, numbered_lines};
+ghost use Rattle.rt_filter.specs.Lines.{longest_line, numbered_lines};
 ghost use Rattle.rt_filter.specs.Pushes.{CountsFailure, Pushed};
-ghost use Rattle.rt_filter.specs.Replies.{Loaded, any_fault, is_fault, output, reply, tree_of};
-ghost use Rattle.rt_filter.specs.Stages.{HasNoLineFeed, IsAnswering, IsCut, IsServing, parsed_line, loaded_tree};
+ghost use Rattle.rt_filter.specs.Replies.{Loaded, is_fault, reply, tree_of};
+ghost use Rattle.rt_filter.specs.Stages.{HasNoLineFeed, IsAnswering, IsCut, parsed_line, loaded_tree};
 
 use crate::query::push_reply;
 use crate::reply::push_line;
@@ -45,7 +45,7 @@ pub struct Served {
 }
 
 // How far the lines are answered.
-#[derive(Clone, Copy)]
+#[derive(Clone, Copy, Default)]
 struct Progress {
     // How many lines were answered.
     lines: u128,
@@ -86,18 +86,13 @@ pub fn serve<S: Source, K: Sink>(
     ensures turns { is_pull result.fault ≡ true → S.failed source.new ≡ S.failed source.old
         → ConsumedAtLeast turns (S.coming source.old) (S.coming source.new) }
 
-    // What was pushed is flushed, unless a push or a flush failed: after any number of turns, so before each pull.
+    // What was pushed is flushed, unless a push or a flush failed: after whatever number of turns.
     ensures flushed { is_push result.fault ≡ false → K.waits sink.old ≡ false → K.waits sink.new ≡ false }
 {
     // (called, so that it is known that the tree is the packed one of its own entries)
     let _most = tree.len();
     let mut frontier = frontier;
-    let mut progress = Progress {
-        lines: 0,
-        bad: false,
-        is_pushed: false,
-        is_long: false,
-    };
+    let mut progress = Progress::default();
     let mut room = [0u8; MOST_PULLED];
     // (so many bytes in front of the room are the beginning of the next line)
     let mut partial = 0;
@@ -113,7 +108,7 @@ pub fn serve<S: Source, K: Sink>(
             room[partial] = LINE_FEED;
             match answer_piece(tree, frontier, &mut progress, &room[..=partial], sink) {
                 Ok(_) => return progress.served(None),
-                Err(fault) => return progress.served(Some(fault.into())),
+                Err(_) => return progress.served(Some(ServeFault::Write)),
             }
         }
         let filled = partial + n;
@@ -122,7 +117,7 @@ pub fn serve<S: Source, K: Sink>(
                 frontier = left;
                 partial = progress.keep(&mut room, filled, rest);
             }
-            Err(fault) => return progress.served(Some(fault.into())),
+            Err(_) => return progress.served(Some(ServeFault::Write)),
         }
     }
     progress.served(Some(ServeFault::Read))
@@ -262,15 +257,5 @@ impl Progress {
         }
         room.copy_within(filled - rest..filled, 0);
         rest
-    }
-}
-
-impl From<WriteFault> for ServeFault {
-    ghost use Rattle.rt_filter.specs.declared.serving.ServeFault.TheVariants as serve_fault;
-
-    ghost from_gives = { λ _ result. result ≡ serve_fault.Write };
-
-    fn from(_: WriteFault) -> ServeFault {
-        ServeFault::Write
     }
 }

@@ -1,7 +1,5 @@
 //! Shapes on some layers.
 
-ghost use Rattle.std.specs.Prelude.{◌≡◌};
-
 use crate::geometry::{Info, Shape, Within};
 use crate::layers::Layers;
 

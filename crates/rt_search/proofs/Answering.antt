@@ -63,9 +63,6 @@ all_inside t (suc h) n s = each_inside t h (extent_of_node n) (λ k. all_inside 
 
 -- ---- the answers among entries
 
-abbrev answer_at : ℤ → ℕ → Answer
-answer_at id score = (id, score)
-
 module _ (accepts : Extent → Bool) (score : Extent → ℕ) where
   abbrev pub among : List Entry → List Answer
   among es = scored es accepts score

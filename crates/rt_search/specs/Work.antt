@@ -7,7 +7,7 @@ use Rattle.rt_geo.specs.Laws.{Extent}
 use Rattle.rt_geo.specs.declared.geometry.Info.{Info}
 use Rattle.rt_geo.specs.declared.geometry.Verdict.{Verdict}
 use Rattle.rt_geo.specs.declared.geometry.Within.{Within}
-use Rattle.rt_geo.specs.declared.geometry.Within.TheVariants.{Not, Partly, Fully}
+use Rattle.rt_geo.specs.declared.geometry.Within.TheVariants.{Not, Partly}
 use Rattle.rt_tree.specs.Packed.{Packed, child_nodes, extent_of_node, height, root_of}
 use Rattle.rt_tree.specs.declared.tree.Node.{Node}
 use Rattle.rt_search.specs.Answers.{Answer, answers}
@@ -64,8 +64,7 @@ its_children n = n.count
 -- a state other than NOT
 abbrev pub is_kept : Within → Bool
 is_kept Not = false
-is_kept Partly = true
-is_kept Fully = true
+is_kept other = true
 
 -- the score is at most the bound, if there is one
 abbrev pub is_within_bound : (bound : Option ℕ) → (score : ℕ) → Bool
@@ -114,9 +113,8 @@ pub record HasWorked (accepts : Extent → Bool) (score : Extent → ℕ) (verdi
 
 -- the state PARTLY
 abbrev pub is_partly : Within → Bool
-is_partly Not = false
 is_partly Partly = true
-is_partly Fully = false
+is_partly other = false
 
 -- a count opens what is PARTLY
 abbrev pub is_divided : Verdict → Bool

@@ -1,17 +1,13 @@
 //! What waits to be taken out, least first.
 
-ghost use Rattle.std.specs.Prelude.{◌≡◌, ◌==◌, ◌<◌, ◌≤◌, ◌^◌, [], ◌∷◌, false, length, IfNone, IfOk, IfSome, MatchOption};
-ghost use Rattle.std.specs.Prelude.{None, Some};
-ghost use Rattle.std.specs.List.{AllByRecursion};
-ghost use Rattle.std.specs.Ordering.{is_gt};
+ghost use Rattle.std.specs.Prelude.{◌≡◌, ◌==◌, ◌<◌, ◌≤◌, ◌^◌, [], length, IfOk, IfSome, None, Some};
 ghost use Rattle.rt_search.specs.declared.item.Place.TheVariants as place;
 ghost use Rattle.rt_search.specs.Items.{item_at, limited};
 ghost use Rattle.rt_search.specs.Answers.{answers};
-ghost use Rattle.rt_search.specs.Kept.{AllEntries, IsLeast, IsTakenOut, taken_entry, taken_item};
+ghost use Rattle.rt_search.specs.Kept.{AllEntries, IsTakenOut, taken_entry, taken_item};
 ghost use Rattle.rt_search.specs.Limits.{IsPut, wanted_after};
 ghost use Rattle.rt_search.specs.Remaining.{remaining};
 ghost use Rattle.rt_search.specs.Work.{HasWorked};
-ghost use Rattle.rt_tree.specs.Sorting.{put};
 
 use crate::hits::Hits;
 use crate::item::{FoundEntry, Taken, WaitingNode};

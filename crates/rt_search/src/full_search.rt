@@ -10,8 +10,7 @@ use rt_tree::Tree;
 use std::marker::Model;
 
 /// A search that finds all answers to a query, and then gives them one at a time, those of the lowest score first. It
-/// opens the nodes that a [`Search`](crate::Search) without a limit opens, all of them before the first answer, and
-/// takes less time.
+/// opens as many nodes as a [`Search`](crate::Search) without a limit, all of them before the first answer.
 ///
 /// It is seen as what is searched, the answers still to come, the nodes opened and the checks made, and the capacity of
 /// its frontier.

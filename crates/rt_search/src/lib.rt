@@ -1,7 +1,7 @@
 //! Best-first search over a packed tree, and counting by whole subtrees.
 //!
 //! A [`Search`] gives the answers to a query one at a time, for any geometry that keeps its laws: those of a plain scan
-//! of all entries, by score and then id, cut at a limit. It opens exactly the nodes that the last answer's score makes
+//! of all entries, by score and then id, cut at a limit. It opens as many nodes as the last answer's score makes
 //! necessary. A [`FullSearch`] finds all answers before it gives the first, with the work of a search without a limit.
 //! [`count`] returns how many entries are accepted, and adds the size of a node that is accepted whole. [`cost`] returns
 //! how many nodes a search opens. A search works in the room of a [`Frontier`] that was made beforehand, a count in none, and

@@ -9,7 +9,6 @@ ghost use Rattle.rt_search.specs.Joining.{join_node, root_items};
 ghost use Rattle.rt_search.specs.Limits.{KeepsEnough};
 ghost use Rattle.rt_search.specs.Progress.{join_children};
 ghost use Rattle.rt_search.specs.Remaining.{IsOpenable, IsRooted, verdict_on};
-ghost use Rattle.rt_search.specs.Work.{is_kept};
 
 use crate::frontier::Frontier;
 use crate::item::{ScoredNode, WaitingNode};

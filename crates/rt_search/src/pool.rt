@@ -1,8 +1,7 @@
 //! Keys of which the least are wanted.
 
-ghost use Rattle.std.specs.Prelude.{◌≡◌, ◌<◌, ◌≤◌, ◌++◌, ℕ, [], ◌∷◌, IfNone, IfOk, IfSome, MatchOption, length, vec_capacity};
+ghost use Rattle.std.specs.Prelude.{◌≡◌, ◌<◌, ◌≤◌, ◌++◌, [], ◌∷◌, IfNone, IfOk, IfSome, MatchOption, length, vec_capacity};
 ghost use Rattle.std.specs.BinaryHeap.{heap_capacity, heap_items};
-ghost use Rattle.std.specs.List.{AllByRecursion};
 ghost use Rattle.std.specs.List.Sorted.{IsPermutation};
 ghost use Rattle.rt_search.specs.Pooling.{HasLeastScore, IsFar, IsLowest, IsNear, keys_in};
 

@@ -1,10 +1,9 @@
 //! What waits in a best-first search.
 
-ghost use Rattle.std.specs.Prelude.{◌≡◌, ◌<◌, ◌≤◌, ◌^◌, [], ◌∷◌, false, length, IfNone, IfOk, IfSome, MatchBool};
-ghost use Rattle.std.specs.Prelude.{MatchOption, None, Some, true};
+ghost use Rattle.std.specs.Prelude.{◌≡◌, ◌<◌, ◌≤◌, ◌^◌, [], false, length, IfOk, IfSome, MatchBool, None, Some, true};
 ghost use Rattle.rt_search.specs.declared.item.Place.TheVariants as place;
-ghost use Rattle.rt_search.specs.Items.{item_at, item_cmp};
-ghost use Rattle.rt_search.specs.Kept.{IsAhead, IsLeast, IsTakenOut, in_order, narrow, node_item, taken_item, taken_node};
+ghost use Rattle.rt_search.specs.Items.{item_at};
+ghost use Rattle.rt_search.specs.Kept.{IsAhead, IsTakenOut, in_order, narrow, node_item, taken_item, taken_node};
 ghost use Rattle.rt_search.specs.Limits.{IsPut, wanted_after};
 ghost use Rattle.rt_search.specs.Pooling.{keys_in};
 ghost use Rattle.rt_tree.specs.Sorting.{put};

@@ -1,12 +1,11 @@
 //! Best-first search.
 
-ghost use Rattle.std.specs.Prelude.{◌≡◌, ◌≢◌, ◌+◌, ◌<◌, ◌≤◌, ◌^◌, [], ◌∷◌, List, None, Some, IfNone, IfSome, MatchOption};
+ghost use Rattle.std.specs.Prelude.{◌≡◌, ◌≢◌, ◌+◌, ◌<◌, ◌≤◌, [], ◌∷◌, List, None, Some, IfNone, IfSome, MatchOption};
 ghost use Rattle.std.specs.Prelude.{length};
-ghost use Rattle.rt_tree.specs.Packed.{IsSound, node_at, root_of};
+ghost use Rattle.rt_tree.specs.Packed.{root_of};
 ghost use Rattle.rt_search.specs.Answers.{Answer, answers};
-ghost use Rattle.rt_search.specs.Limits.{IsEnough, one_less};
-ghost use Rattle.rt_search.specs.Progress.{IsFound, IsOver, IsUnderWay, join_children};
-ghost use Rattle.rt_search.specs.Remaining.{IsOpenable, IsRooted, verdict_on};
+ghost use Rattle.rt_search.specs.Limits.{one_less};
+ghost use Rattle.rt_search.specs.Progress.{IsFound, IsOver, IsUnderWay};
 ghost use Rattle.rt_search.specs.Work.{HasWorked, IsUnscored};
 
 use crate::frontier::Frontier;
@@ -54,8 +53,8 @@ fn pull<G: Geometry>(
 
 /// A search that gives the answers to a query one at a time, those of the lowest score first.
 ///
-/// It is seen as what is searched, the answers still to come and how many were given, the nodes opened and the checks
-/// made so far, and the capacity of its frontier.
+/// It is seen as what is searched, the limit, the answers still to come and how many were given, the nodes opened and
+/// the checks made so far, and the capacity of its frontier.
 pub struct Search<'a, G: Geometry> {
     tree: &'a Tree,
     frontier: Frontier,
@@ -127,9 +126,9 @@ impl<'a, G: Geometry> Search<'a, G> {
         }
     }
 
-    /// The same for a geometry that scores each node 0, as the orders by id and by area do. Whatever the first answer
-    /// is, each node that may hold answers is opened before it: so all are opened here, from the root downwards, and none
-    /// waits. Where no answer is wanted, none is opened.
+    /// A search with the same answers, for a geometry that scores each node 0, as the orders by id and by area do.
+    /// Whatever the first answer is, each node that may hold answers is opened before it: so all are opened here, from
+    /// the root downwards, and none waits. Where no answer is wanted, none is opened.
     pub fn start_unscored(
         tree: &'a Tree,
         frontier: Frontier,

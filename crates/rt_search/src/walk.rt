@@ -1,12 +1,13 @@
 //! Walking over the nodes of a tree: what the children of an opened node are asked, and who takes what is found.
 //!
-//! A full search and a count walk from the root downwards. What they do at a node and with an entry is their
-//! [`Visitor`]. A best-first search opens one node at a time, in an order of its own, and is a [`Collector`] alone.
+//! A full search, a count and a search in whose order no node has a score walk from the root downwards. What they do at
+//! a node and with an entry is their [`Visitor`]. A best-first search opens one node at a time, in an order of its own,
+//! and needs a [`Collector`] alone.
 
 ghost use Rattle.std.specs.Prelude.{◌≡◌, ◌+◌, ◌-◌, ◌<◌, ◌≤◌, ◌^◌, ℕ, Bool, List, [], if◌then◌else◌, length};
-ghost use Rattle.rt_geo.specs.Laws.{Extent, IsHonest};
+ghost use Rattle.rt_geo.specs.Laws.{Extent};
 ghost use Rattle.rt_geo.specs.declared.geometry.Verdict.{Verdict};
-ghost use Rattle.rt_tree.specs.Packed.{IsSound, node_at, root_of};
+ghost use Rattle.rt_tree.specs.Packed.{IsSound, node_at};
 ghost use Rattle.rt_search.specs.Answers.{Answer};
 ghost use Rattle.rt_search.specs.Remaining.{IsOpenable, IsOpenableLeaf, IsRooted, verdict_on};
 ghost use Rattle.rt_search.specs.Walking.{HasTaken, IsCheckable, IsFilling, IsKnown, answer_if, answers_among};

@@ -1,8 +1,8 @@
 //! Items whose score is more than one word.
 
-ghost use Rattle.std.specs.Prelude.{◌≡◌, ◌<◌, ◌≤◌, [], ◌∷◌, IfNone, IfOk, IfSome, MatchOption, length};
+ghost use Rattle.std.specs.Prelude.{◌≡◌, ◌<◌, ◌≤◌, [], IfOk, length};
 ghost use Rattle.rt_search.specs.Items.{item_cmp};
-ghost use Rattle.rt_search.specs.Kept.{IsLeast, IsTakenOut};
+ghost use Rattle.rt_search.specs.Kept.{IsTakenOut};
 ghost use Rattle.rt_tree.specs.Sorting.{put};
 
 use crate::item::Item;

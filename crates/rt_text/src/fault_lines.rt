@@ -1,6 +1,6 @@
 //! The line that reports a fault of the table.
 
-ghost use Rattle.std.specs.Prelude.{◌≡◌, ◌+◌, ◌≤◌, length};
+ghost use Rattle.std.specs.Prelude.{◌≡◌, ◌≤◌, length};
 ghost use Rattle.rt_text.specs.FaultLines.{fault_line, numbered_line, record_line};
 
 use crate::line::Line;

@@ -7,7 +7,7 @@ ghost use Rattle.std.specs.Prelude.{◌≡◌, ◌≤◌, ◌≤ℤ◌, ◌∷�
 ghost use Rattle.std.specs.Str.Lines.{strip_carriage_return};
 ghost use Rattle.rt_text.specs.Numbers.{number_text};
 ghost use Rattle.rt_geo.specs.Layers.{most_layer};
-ghost use Rattle.rt_text.specs.Queries.{Takes, circle, coordinate, cost, cost_of, count, find, finished, is_comma, is_comment, layer_part, layers_of, limit, list_word, natural_word, nearest, number_fault, number_word, on_list, order, point, points, polygon, query, query_of, region, sides, usual_order, vertex_count};
+ghost use Rattle.rt_text.specs.Queries.{Takes, circle, coordinate, cost, cost_of, count, find, finished, is_comment, layer_part, layers_of, limit, list_word, natural_word, nearest, number_fault, number_word, on_list, order, point, points, polygon, query, query_of, region, sides, usual_order, vertex_count};
 
 use crate::numbers::{NumberFault, number};
 use crate::query::{Parsed, Query, QueryFault};

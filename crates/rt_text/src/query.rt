@@ -39,7 +39,7 @@ pub enum Query {
 pub enum QueryFault {
     /// The line has more than 4,096 bytes, a carriage return at its end included.
     LineTooLong,
-    /// The first word is no query.
+    /// The first word is no query, or the one after `cost` none that has a cost.
     UnknownVerb,
     /// No region has that name.
     UnknownRegion,

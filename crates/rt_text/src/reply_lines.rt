@@ -1,6 +1,6 @@
 //! The lines that query lines are answered with.
 
-ghost use Rattle.std.specs.Prelude.{◌≡◌, ◌+◌, ◌++◌, ◌≤◌, decimal, length};
+ghost use Rattle.std.specs.Prelude.{◌≡◌, ◌≤◌, length};
 ghost use Rattle.rt_text.specs.ReplyLines.{answer_line, error_line, fault_text, level_line, ok_line};
 
 use crate::line::Line;

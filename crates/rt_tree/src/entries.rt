@@ -1,6 +1,6 @@
 //! Entries in order, their layers in a list of their own.
 //!
-//! So a query that asks for no layers reads none, and an entry takes no more room than its id, its box and one byte.
+//! So a search that looks at no layers reads none, and an entry takes no more room than its id, its box and one byte.
 
 ghost use Rattle.std.specs.Prelude.{◌≡◌, ◌==◌, ◌-◌, ◌<◌, ◌≤◌, ◌++◌, ◌∷◌, [], IfOk, OnErr, OnOk, Some, get_or, length};
 ghost use Rattle.std.specs.Prelude.{map, slice_get, take};

@@ -1,8 +1,8 @@
 //! The nodes of a tree in order, their layers in a list of their own.
 //!
-//! So a query that asks for no layers reads none, and more of the nodes that it asks about are in the cache.
+//! So a search that looks at no layers reads none, and more of the nodes that it asks about are in the cache.
 
-ghost use Rattle.std.specs.Prelude.{◌≡◌, ◌<◌, IfOk, Some, get_or, length, map, slice_get};
+ghost use Rattle.std.specs.Prelude.{◌≡◌, ◌<◌, IfOk, Some, length, map, slice_get};
 ghost use Rattle.rt_tree.specs.PlainNodes.{without_layers};
 
 use crate::tree::Node;

@@ -21,7 +21,8 @@ loop-turn-init g c = record {
   few = omega arith;
   given = consumed_none (g.S.Source.coming c.args.source.now);
   serving = λ queries before e w.
-      serving_first (loaded_tree c.args.tree.now) queries before (g.S.Source.coming c.args.source.now) (g.K.Sink.written c.args.sink.now) e w;
+      rw (c.default-progress.ensures.0, c.default-progress.ensures.1.0, c.default-progress.ensures.1.1.1)
+      (serving_first (loaded_tree c.args.tree.now) queries before (g.S.Source.coming c.args.source.now) (g.K.Sink.written c.args.sink.now) e w);
   flushed = λ e. e;
 }
 
@@ -79,7 +80,7 @@ returns-in-Err-clause-ending g c loaded packed queries before is_queries is_befo
       | else-partial-eq0-via-else-partial-eq0 w ↦ inr (omega (arith, size, w.if-partial-eq0.false))
     ] in
     serves_of_tree c.args.tree.now loaded c.len-most.ensures.sound packed
-    (told_of queries before (g.S.Source.coming c.pull.new.self) (g.K.Sink.written c.answer_piece.new.sink)) _ (Some serve.Write) c.served-in-Err.result c.served-in-Err.ensures.bad (c.served-in-Err.ensures.fault ∙ ap (λ f. Some f) c.into.ensures)
+    (told_of queries before (g.S.Source.coming c.pull.new.self) (g.K.Sink.written c.answer_piece.new.sink)) _ (Some serve.Write) c.served-in-Err.result c.served-in-Err.ensures.bad c.served-in-Err.ensures.fault
     (serving-cut_so (loaded_tree c.args.tree.now) queries before (g.S.Source.coming c.loop-turn.source) (g.K.Sink.written c.loop-turn.sink)
     c.loop-turn.progress.lines c.loop-turn.progress.bad c.loop-turn.progress.is_long (take c.loop-turn.partial c.loop-turn.room) s
     (g.S.Source.coming c.pull.new.self) (g.K.Sink.written c.answer_piece.new.sink) _ c.answer_piece.new.progress.bad
@@ -91,7 +92,7 @@ returns-in-Err-answer_piece-clause-ending g c loaded packed queries before is_qu
     let s = c.loop-turn.invariant.serving queries before is_queries is_before in
     let filled = room_filled c.loop-turn.partial c.in-Ok.n c.loop-turn.room c.pull.new.room c.loop-turn.invariant.short c.loop-turn.invariant.whole (search rules) c.in-Ok.ensures.bound in
     serves_of_tree c.args.tree.now loaded c.len-most.ensures.sound packed
-    (told_of queries before (g.S.Source.coming c.pull.new.self) (g.K.Sink.written c.answer_piece-in-loop-turn.new.sink)) _ (Some serve.Write) c.served-in-Err-answer_piece.result c.served-in-Err-answer_piece.ensures.bad (c.served-in-Err-answer_piece.ensures.fault ∙ ap (λ f. Some f) c.into-in-Err-answer_piece.ensures)
+    (told_of queries before (g.S.Source.coming c.pull.new.self) (g.K.Sink.written c.answer_piece-in-loop-turn.new.sink)) _ (Some serve.Write) c.served-in-Err-answer_piece.result c.served-in-Err-answer_piece.ensures.bad c.served-in-Err-answer_piece.ensures.fault
     (serving-cut (loaded_tree c.args.tree.now) queries before (g.S.Source.coming c.loop-turn.source) (g.K.Sink.written c.loop-turn.sink)
     c.loop-turn.progress.lines c.loop-turn.progress.bad c.loop-turn.progress.is_long (take c.loop-turn.partial c.loop-turn.room) s
     (g.S.Source.coming c.pull.new.self) (g.K.Sink.written c.answer_piece-in-loop-turn.new.sink) c.answer_piece-in-loop-turn.new.progress.bad (take c.in-Ok.n c.pull.new.room)
