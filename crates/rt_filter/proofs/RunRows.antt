@@ -5,9 +5,9 @@ use Rattle.std.specs.Fmt.{digits}
 use Rattle.rt_command.specs.Choices.{Choices, choices_of}
 use Rattle.rt_geo.specs.Layers.{all_layers}
 use Rattle.rt_geo.specs.Orders.{near, order_score}
-use Rattle.rt_geo.specs.Shapes.{all_accepts}
+use Rattle.rt_geo.specs.Regions.{region_accepts}
 use Rattle.rt_geo.specs.declared.order.Order.TheVariants.{ById}
-use Rattle.rt_geo.specs.declared.region.Region.TheVariants.{Circle}
+use Rattle.rt_geo.specs.declared.region.Region.TheVariants.{All, Circle}
 use Rattle.rt_text.proofs.Rows.{boxes, boxes_entries, boxes_load, line}
 use Rattle.rt_text.specs.declared.query.Query.TheVariants.{Find}
 use Rattle.rt_text.specs.declared.tables.TableFault.TheVariants as fault
@@ -31,7 +31,7 @@ row_ended = refl
 -- ---- answers
 
 -- unequal scores, a tie that goes by id, and a limit
-row_nearest : answers boxes_entries all_accepts (order_score (near (record { x = pos 12; y = pos 12 }))) (Some 3) ≡ (pos 2, 0) ∷ (pos 5, 0) ∷ (pos 1, 8) ∷ []
+row_nearest : answers boxes_entries (region_accepts (All (record {}))) (order_score (near (record { x = pos 12; y = pos 12 }))) (Some 3) ≡ (pos 2, 0) ∷ (pos 5, 0) ∷ (pos 1, 8) ∷ []
 row_nearest = refl
 
 -- ---- replies over the five boxes, at most two children for each node

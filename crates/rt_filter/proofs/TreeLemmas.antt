@@ -7,8 +7,7 @@ use Rattle.std.specs.Ordering.{int_eq}
 use Rattle.std.proofs.lemmas.List.Sorted.{IsPermutation-cons, IsPermutation-map, IsPermutation-middle, IsPermutation-refl, IsPermutation-sym, IsPermutation-trans, length_permutation}
 use Rattle.rt_geo.specs.Laws.{Extent, extent_of_entry}
 use Rattle.rt_geo.specs.OnLayers.{on_layers_accepts}
-use Rattle.rt_geo.specs.Orders.{order_estimate, order_score}
-use Rattle.rt_geo.specs.Ranks.{by_id_estimate}
+use Rattle.rt_geo.specs.Orders.{by_id, order_estimate, order_score}
 use Rattle.rt_geo.specs.Regions.{region_accepts}
 use Rattle.rt_geo.specs.declared.entry.Entry.{Entry}
 use Rattle.rt_tree.proofs.Permutations.{along_permutation}
@@ -94,7 +93,7 @@ module _ (fanout : ℕ) (xs ys : List Entry) (distinct : IsDistinct int_eq (ids_
       (on_layers_accepts (region_accepts region) layers) (order_score order)
       (verdict_of region layers (order_estimate order)) tree limit)) same_tree
   query_same line (CostCount region layers) =
-      ap (λ tree. ok_line line (opened_by_count (verdict_of region layers by_id_estimate) tree)) same_tree
+      ap (λ tree. ok_line line (opened_by_count (verdict_of region layers (order_estimate by_id)) tree)) same_tree
 
   reply_same : (line : ℕ) (parsed : Parsed) → reply first line parsed ≡ reply other line parsed
   reply_same line parsed.Skip = refl

@@ -3,8 +3,7 @@ use Rattle.std.specs.Prelude.{ℕ, nat_lt, Bool, true, false, if◌then◌else�
 use Rattle.std.specs.List.{enumerate_from, list_any}
 use Rattle.rt_geo.specs.Laws.{guided_verdict}
 use Rattle.rt_geo.specs.OnLayers.{on_layers_accepts, on_layers_state}
-use Rattle.rt_geo.specs.Orders.{order_estimate, order_score}
-use Rattle.rt_geo.specs.Ranks.{by_id_estimate}
+use Rattle.rt_geo.specs.Orders.{by_id, order_estimate, order_score}
 use Rattle.rt_geo.specs.Regions.{region_accepts, region_state}
 use Rattle.rt_geo.specs.declared.entry.Entry.{Entry}
 use Rattle.rt_geo.specs.declared.geometry.Info.{Info}
@@ -66,7 +65,7 @@ query_reply loaded line (CostFind region order limit layers) =
     ok_line line (opened_by_search (on_layers_accepts (region_accepts region) layers) (order_score order)
     (verdict_of region layers (order_estimate order)) (tree_of loaded) limit)
 query_reply loaded line (CostCount region layers) =
-    ok_line line (opened_by_count (verdict_of region layers by_id_estimate) (tree_of loaded))
+    ok_line line (opened_by_count (verdict_of region layers (order_estimate by_id)) (tree_of loaded))
 
 -- the reply to what a line asks
 abbrev pub reply : Loaded → (line : ℕ) → Parsed → List ℕ

@@ -20,12 +20,13 @@ use Rattle.rt_geo.specs.Lemmas.HalfPlanes.{lies_in_half_plane-rightmost}
 use Rattle.rt_geo.specs.Lemmas.HalfPlanes.{meets_half_plane-leftmost, opposite}
 use Rattle.rt_geo.specs.Lemmas.Products.{mul-difference}
 use Rattle.rt_geo.specs.Polygons.{bounding_box, cross, edges, has_polygon_count, is_in_half_plane, is_left}
-use Rattle.rt_geo.specs.Polygons.{lies_in_half_plane, meets_half_plane, path_from, point_at, polygon_state}
-use Rattle.rt_geo.specs.Shapes.{state_by}
+use Rattle.rt_geo.specs.Polygons.{lies_in_half_plane, meets_half_plane, path_from, point_at}
+use Rattle.rt_geo.specs.Regions.{region_state, state_by}
 use Rattle.rt_geo.specs.declared.distance.Point.{Point}
 use Rattle.rt_geo.specs.declared.geometry.Info.{Info}
 use Rattle.rt_geo.specs.declared.prepared.HalfPlane.{HalfPlane}
 use Rattle.rt_geo.specs.declared.polygon.Edge.{Edge}
+use Rattle.rt_geo.specs.declared.region.Region.TheVariants.{Polygon}
 use Rattle.rt_geo.proofs.Edges.{edges_from_last-is, list_all-edges, list_all-edges_from_last}
 
 -- ---- products of a short difference and a coordinate
@@ -211,7 +212,7 @@ state_of : (vertices : List Point) (i : Info) (met held overlapping lies_inside 
     → met ≡ list_all (meets_half_plane i.bounds) (edges vertices)
     → held ≡ list_all (lies_in_half_plane i.bounds) (edges vertices)
     → overlapping ≡ overlaps i.bounds (bounding_box vertices) → lies_inside ≡ inside i.bounds (bounding_box vertices)
-    → state_by (not (overlapping && met)) (lies_inside && held) ≡ polygon_state vertices i
+    → state_by (not (overlapping && met)) (lies_inside && held) ≡ region_state (Polygon vertices) i
 state_of vertices i met held overlapping lies_inside e f o l = rw (e, f, l, o) refl
 
 -- the same told by the half-planes
@@ -221,7 +222,7 @@ pub state_is : (vertices : List Point) (i : Info) (half_planes : List HalfPlane)
     → whole ≡ bounding_box vertices → overlapping ≡ overlaps i.bounds whole → lies_inside ≡ inside i.bounds whole
     → state_by (not (overlapping && list_all (reaches (sides_of i.bounds)) half_planes))
     (lies_inside && list_all (reaches (turned_sides_of i.bounds)) half_planes)
-    ≡ polygon_state vertices i
+    ≡ region_state (Polygon vertices) i
 state_is vertices i half_planes whole overlapping lies_inside v h w o l =
     state_of vertices i (list_all (reaches (sides_of i.bounds)) half_planes)
     (list_all (reaches (turned_sides_of i.bounds)) half_planes) overlapping lies_inside

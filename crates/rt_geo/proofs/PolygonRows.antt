@@ -2,10 +2,12 @@
 use Rattle.std.proofs.Common.{◌≡◌, refl, arith, ℕ, pos, Bool, true, false, List, [], ◌∷◌, map, reverse}
 use Rattle.std.specs.Prelude.{Ok, Err}
 use Rattle.rt_geo.specs.Boxes.{Rect, greatest_coordinate, least_coordinate, rect_of}
-use Rattle.rt_geo.specs.Polygons.{IsCommonPoint, bounding_box, point_at, polygon_meets, polygon_of, polygon_state}
+use Rattle.rt_geo.specs.Polygons.{IsCommonPoint, bounding_box, point_at, polygon_meets, polygon_of}
+use Rattle.rt_geo.specs.Regions.{region_state}
 use Rattle.rt_geo.specs.declared.distance.Point.{Point}
 use Rattle.rt_geo.specs.declared.geometry.Within.TheVariants.{Not, Partly, Fully}
 use Rattle.rt_geo.specs.declared.polygon.PolygonFault.TheVariants.{Count, NotConvex}
+use Rattle.rt_geo.specs.declared.region.Region.TheVariants.{Polygon}
 use Rattle.rt_geo.proofs.Rows.{info_of, minus, square_box}
 
 -- the point at two numbers that aren't below 0
@@ -88,19 +90,19 @@ polygon_meets-half_plane = refl
 -- ---- states
 
 -- the bounding box holds this box, and the slanted edge parts it from the triangle
-polygon_state-apart : polygon_state triangle (info_of (square_box (pos 25) (pos 30)) 0) ≡ Not
+polygon_state-apart : region_state (Polygon triangle) (info_of (square_box (pos 25) (pos 30)) 0) ≡ Not
 polygon_state-apart = refl
 
 -- this one touches the slanted edge in a corner
-polygon_state-touching : polygon_state triangle (info_of (square_box (pos 15) (pos 30)) 0) ≡ Partly
+polygon_state-touching : region_state (Polygon triangle) (info_of (square_box (pos 15) (pos 30)) 0) ≡ Partly
 polygon_state-touching = refl
 
 -- and this one does so from within
-polygon_state-inside : polygon_state triangle (info_of (rect_of (pos 0) (pos 10) (pos 0) (pos 20)) 1) ≡ Fully
+polygon_state-inside : region_state (Polygon triangle) (info_of (rect_of (pos 0) (pos 10) (pos 0) (pos 20)) 1) ≡ Fully
 polygon_state-inside = refl
 
 -- the bounding box holds this box, and one corner of it is cut off
-polygon_state-cut : polygon_state triangle (info_of (rect_of (pos 0) (pos 10) (pos 0) (pos 21)) 1) ≡ Partly
+polygon_state-cut : region_state (Polygon triangle) (info_of (rect_of (pos 0) (pos 10) (pos 0) (pos 21)) 1) ≡ Partly
 polygon_state-cut = refl
 
 -- ---- points in fractions

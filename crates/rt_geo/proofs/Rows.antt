@@ -3,11 +3,15 @@ use Rattle.std.proofs.Common.{◌≡◌, refl, ℕ, zero, suc, ℤ, pos, negsuc,
 use Rattle.rt_geo.specs.Boxes.{Rect, area, greatest_coordinate, hull, inside, least_coordinate, overlaps, rect_of}
 use Rattle.rt_geo.specs.Distances.{far2, near2}
 use Rattle.rt_geo.specs.Layers.{only}
-use Rattle.rt_geo.specs.Ranks.{near_estimate, smallest_estimate}
-use Rattle.rt_geo.specs.Shapes.{circle_state, covers_state, inside_state}
+use Rattle.rt_geo.specs.Orders.{near, order_estimate}
+use Rattle.rt_geo.specs.Regions.{region_state}
 use Rattle.rt_geo.specs.declared.distance.Point.{Point}
 use Rattle.rt_geo.specs.declared.geometry.Info.{Info}
 use Rattle.rt_geo.specs.declared.geometry.Within.TheVariants.{Not, Partly, Fully}
+use Rattle.rt_geo.specs.declared.order.Order.{Order}
+use Rattle.rt_geo.specs.declared.order.Order.TheVariants.{Smallest}
+use Rattle.rt_geo.specs.declared.region.Region.{Region}
+use Rattle.rt_geo.specs.declared.region.Region.TheVariants.{Circle, Covers, Inside}
 
 -- negative numbers by their absolute value
 abbrev pub minus : ℕ → ℤ
@@ -61,42 +65,52 @@ near2-across = refl
 far2-across : far2 lowest_corner (square_box least_coordinate greatest_coordinate) ≡ 36893488130239234050
 far2-across = refl
 
--- ---- states of shapes
+-- ---- states of regions
 
-circle_state-entry : circle_state (point_at (pos 0) (pos 0)) 2 (info_of (square_box (minus 5) (minus 1)) 0) ≡ Partly
-circle_state-entry = refl
+abbrev circle : Point → ℕ → Region
+circle centre radius = Circle (record { centre = centre; radius = radius })
 
-circle_state-node : circle_state (point_at (pos 0) (pos 0)) 2 (info_of (square_box (pos 0) (pos 1)) 1) ≡ Fully
-circle_state-node = refl
+circle-entry : region_state (circle (point_at (pos 0) (pos 0)) 2) (info_of (square_box (minus 5) (minus 1)) 0) ≡ Partly
+circle-entry = refl
 
-circle_state-apart : circle_state (point_at (pos 0) (pos 0)) 1 (info_of (square_box (minus 5) (minus 1)) 0) ≡ Not
-circle_state-apart = refl
+circle-node : region_state (circle (point_at (pos 0) (pos 0)) 2) (info_of (square_box (pos 0) (pos 1)) 1) ≡ Fully
+circle-node = refl
 
-circle_state-across :
-    circle_state lowest_corner 4294967295 (info_of (square_box greatest_coordinate greatest_coordinate) 0) ≡ Not
-circle_state-across = refl
+circle-apart : region_state (circle (point_at (pos 0) (pos 0)) 1) (info_of (square_box (minus 5) (minus 1)) 0) ≡ Not
+circle-apart = refl
+
+circle-across :
+    region_state (circle lowest_corner 4294967295) (info_of (square_box greatest_coordinate greatest_coordinate) 0)
+    ≡ Not
+circle-across = refl
 
 -- a box that only overlaps the window: a node may hold some that lie in it
 abbrev wide : Rect
 wide = rect_of (minus 5) (pos 30) (minus 5) (pos 15)
 
-inside_state-node : inside_state (square_box (pos 0) (pos 15)) (info_of wide 2) ≡ Partly
-inside_state-node = refl
+abbrev inside_window : Region
+inside_window = Inside (record { 0 = square_box (pos 0) (pos 15) })
 
-inside_state-entry : inside_state (square_box (pos 0) (pos 15)) (info_of wide 0) ≡ Not
-inside_state-entry = refl
+inside-node : region_state inside_window (info_of wide 2) ≡ Partly
+inside-node = refl
 
-covers_state-node : covers_state (square_box (pos 5) (pos 5)) (info_of unit 1) ≡ Partly
-covers_state-node = refl
+inside-entry : region_state inside_window (info_of wide 0) ≡ Not
+inside-entry = refl
 
--- ---- scores of ranks
+covers-node : region_state (Covers (record { 0 = square_box (pos 5) (pos 5) })) (info_of unit 1) ≡ Partly
+covers-node = refl
 
-near_estimate-node :
-    near_estimate (point_at (pos 12) (pos 12)) (info_of (rect_of (minus 5) (pos 30) (minus 5) (pos 10)) 2) ≡ 4
-near_estimate-node = refl
+-- ---- scores of orders
 
-smallest_estimate-entry : smallest_estimate (info_of unit 0) ≡ 100
-smallest_estimate-entry = refl
+near-node :
+    order_estimate (near (point_at (pos 12) (pos 12))) (info_of (rect_of (minus 5) (pos 30) (minus 5) (pos 10)) 2) ≡ 4
+near-node = refl
 
-smallest_estimate-node : smallest_estimate (info_of unit 1) ≡ 0
-smallest_estimate-node = refl
+abbrev smallest : Order
+smallest = Smallest (record {})
+
+smallest-entry : order_estimate smallest (info_of unit 0) ≡ 100
+smallest-entry = refl
+
+smallest-node : order_estimate smallest (info_of unit 1) ≡ 0
+smallest-node = refl

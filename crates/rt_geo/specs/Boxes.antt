@@ -55,12 +55,8 @@ inside a b =
 
 -- the box from the lesser minimum to the greater maximum on each axis
 abbrev pub hull : Rect → Rect → Rect
-hull a b = record {
-  min_x = int_min a.min_x b.min_x;
-  max_x = int_max a.max_x b.max_x;
-  min_y = int_min a.min_y b.min_y;
-  max_y = int_max a.max_y b.max_y;
-}
+hull a b =
+    rect_of (int_min a.min_x b.min_x) (int_max a.max_x b.max_x) (int_min a.min_y b.min_y) (int_max a.max_y b.max_y)
 
 -- `whole` is the least box in which both `a` and `b` lie
 pub record IsLeastAround (a b whole : Rect) : Type 0 where

@@ -1,16 +1,12 @@
 -- How far a point is from a box, as the square of a distance.
-use Rattle.std.specs.Prelude.{◌≡◌, ◌≤◌, true, ℕ, ◌+◌, ◌*◌, max, ℤ, pos, negsuc, ◌-ℤ◌, unsigned_abs}
+use Rattle.std.specs.Int.{int_gap}
+use Rattle.std.specs.Prelude.{◌≡◌, ◌≤◌, true, ℕ, ◌+◌, ◌*◌, max, ℤ, ◌-ℤ◌, unsigned_abs}
 use Rattle.rt_geo.specs.Boxes.{Rect, inside, rect_of}
 use Rattle.rt_geo.specs.declared.distance.Point.{Point}
 
--- the number where it is above 0, else 0
-abbrev pub above_zero : ℤ → ℕ
-above_zero (pos n) = n
-above_zero (negsuc n) = 0
-
 -- how far a number lies outside a range: the greatest of `low - value`, 0 and `value - high`
 abbrev pub gap : (value low high : ℤ) → ℕ
-gap value low high = max (above_zero (low -ℤ value)) (above_zero (value -ℤ high))
+gap value low high = max (int_gap value low) (int_gap high value)
 
 -- how far a number is from the end of a range that is farther from it
 abbrev pub reach : (value low high : ℤ) → ℕ

@@ -11,6 +11,5 @@ pub mod OnLayers
 pub mod Orders
 pub mod Polygons
 pub mod Products
-pub mod Ranks
 pub mod Regions
 pub mod Shapes

@@ -10,6 +10,4 @@ pub mod Lemmas
 pub mod OnLayers
 pub mod Orders
 pub mod Polygons
-pub mod Ranks
 pub mod Regions
-pub mod Shapes

@@ -5,11 +5,7 @@ use Rattle.std.specs.Prelude.{ℤ, pos, ◌-ℤ◌, ◌*ℤ◌, int_le, int_lt}
 use Rattle.std.specs.Prelude.{List, [], ◌∷◌, ◌++◌, length, reverse, Some, Result, Ok, Err}
 use Rattle.rt_geo.specs.Boxes.{Rect, hull, inside, overlaps, rect_of}
 use Rattle.rt_geo.specs.Distances.{rect_at}
-use Rattle.rt_geo.specs.Laws.{Extent}
-use Rattle.rt_geo.specs.Shapes.{state_by}
 use Rattle.rt_geo.specs.declared.distance.Point.{Point}
-use Rattle.rt_geo.specs.declared.geometry.Info.{Info}
-use Rattle.rt_geo.specs.declared.geometry.Within.{Within}
 use Rattle.rt_geo.specs.declared.polygon.Edge.{Edge}
 use Rattle.rt_geo.specs.declared.polygon.PolygonFault.{PolygonFault}
 use Rattle.rt_geo.specs.declared.polygon.PolygonFault.TheVariants.{Count, NotConvex}
@@ -113,13 +109,6 @@ polygon_meets vertices b = overlaps b (bounding_box vertices) && list_all (meets
 -- the box lies in the polygon: in the bounding box, and in the half-plane of each edge
 abbrev pub polygon_holds : List Point → Rect → Bool
 polygon_holds vertices b = inside b (bounding_box vertices) && list_all (lies_in_half_plane b) (edges vertices)
-
--- polygon: the boxes that meet it
-abbrev pub polygon_accepts : List Point → Extent → Bool
-polygon_accepts vertices b = polygon_meets vertices b.bounds
-
-abbrev pub polygon_state : List Point → Info → Within
-polygon_state vertices i = state_by (not (polygon_meets vertices i.bounds)) (polygon_holds vertices i.bounds)
 
 -- ---- points in fractions
 

@@ -2,10 +2,10 @@
 
 ghost use Rattle.std.specs.Prelude.{◌≡◌, IfSome, nat_le, nat_lt};
 ghost use Rattle.std.specs.Option.{SomeIff};
-ghost use Rattle.rt_geo.specs.Discs.{AnswersAs, disc_of};
+ghost use Rattle.rt_geo.specs.Discs.{AnswersAs};
 ghost use Rattle.rt_geo.specs.Distances.{far2, near2};
 ghost use Rattle.rt_geo.specs.Orders.{near};
-ghost use Rattle.rt_geo.specs.Shapes.{state_by};
+ghost use Rattle.rt_geo.specs.Regions.{disc_of, state_by};
 
 use crate::bounds::Bounds;
 use crate::distance::{Point, far2, near2};
@@ -67,14 +67,14 @@ impl Disc {
 
 impl Geometry for Disc {
     ghost use Rattle.rt_geo.specs.Laws.{guided_verdict};
-    ghost use Rattle.rt_geo.specs.Ranks.{near_estimate, near_score};
-    ghost use Rattle.rt_geo.specs.Shapes.{disc_accepts, disc_state};
+    ghost use Rattle.rt_geo.specs.Orders.{near, order_estimate, order_score};
+    ghost use Rattle.rt_geo.specs.Regions.{disc_accepts, disc_state};
 
-    ghost accepts = { λ d. disc_accepts d.centre d.radius2 };
+    ghost accepts = { disc_accepts };
 
-    ghost score = { λ d. near_score d.centre };
+    ghost score = { λ d. order_score (near d.centre) };
 
-    ghost verdict = { λ d. guided_verdict (disc_state d.centre d.radius2) (near_estimate d.centre) };
+    ghost verdict = { λ d. guided_verdict (disc_state d) (order_estimate (near d.centre)) };
 
     fn check(&self, info: &Info) -> Verdict {
         let nearest = near2(self.centre, info.bounds);
@@ -85,9 +85,9 @@ impl Geometry for Disc {
     }
 
     ghost use Rattle.rt_geo.specs.Lemmas.Guided.{guided-lawful};
-    ghost use Rattle.rt_geo.specs.Lemmas.Ranks.{near-admissible};
+    ghost use Rattle.rt_geo.specs.Lemmas.Orders.{order-admissible};
     ghost use Rattle.rt_geo.specs.Lemmas.Shapes.{disc-faithful};
 
-    ghost lawful = { λ d. guided-lawful (disc_accepts d.centre d.radius2) (disc_state d.centre d.radius2)
-        (near_score d.centre) (near_estimate d.centre) (disc-faithful d.centre d.radius2) (near-admissible d.centre) };
+    ghost lawful = { λ d. guided-lawful (disc_accepts d) (disc_state d) (order_score (near d.centre))
+        (order_estimate (near d.centre)) (disc-faithful d) (order-admissible (near d.centre)) };
 }

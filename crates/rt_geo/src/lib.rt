@@ -16,8 +16,8 @@
 //! - Ranks: [`ById`], [`Near`], [`Smallest`], and the enum [`Order`] of these.
 //!
 //! The definitions that the contracts cite stand in `specs/`: `Boxes`, `Layers`, `Entries`, `Distances`, `Laws`,
-//! `Shapes`, `OnLayers`, `Polygons`, `HalfPlanes`, `Ranks`, `Regions`, `Orders`, `Discs`, `Counted`. They are in whole
-//! numbers without bounds; that each `Bounds` is a box of the plane of 32-bit coordinates is a fact of its own (`HasBox`
+//! `Polygons`, `HalfPlanes`, `Regions`, `OnLayers`, `Orders`, `Discs`, `Counted`. They are in whole numbers without
+//! bounds; that each `Bounds` is a box of the plane of 32-bit coordinates is a fact of its own (`HasBox`
 //! of an entry, `IsWellFormed` of an info), which the readers of the sides and [`Entry::info`] tell. What stands below
 //! `specs/Lemmas` is proved and has not to be believed.
 #![tactic(auto)]

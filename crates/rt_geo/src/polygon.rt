@@ -13,7 +13,7 @@ ghost use Rattle.rt_geo.specs.Polygons.{bounding_box, cross, edges, is_left, lie
 ghost use Rattle.rt_geo.specs.Polygons.{IsPolygonOf, IsStrictlyConvex, has_polygon_count, is_strictly_convex};
 ghost use Rattle.rt_geo.specs.Polygons.{polygon_of};
 ghost use Rattle.rt_geo.specs.HalfPlanes.{has_short_edges};
-ghost use Rattle.rt_geo.specs.Shapes.{state_by};
+ghost use Rattle.rt_geo.specs.Regions.{state_by};
 
 use crate::bounds::{Bounds, hull, inside, overlaps};
 use crate::distance::Point;
@@ -126,15 +126,17 @@ impl Polygon {
 
 impl Shape for Polygon {
     ghost use Rattle.std.specs.Prelude.{◌≡◌};
-    ghost use Rattle.rt_geo.specs.Polygons.{SharesNoPoint, polygon_accepts, polygon_state};
+    ghost use Rattle.rt_geo.specs.Polygons.{SharesNoPoint};
+    ghost use Rattle.rt_geo.specs.Regions.{region_accepts, region_state};
     ghost use Rattle.rt_geo.specs.declared.geometry.Within.TheVariants.{Not};
+    ghost use Rattle.rt_geo.specs.declared.region.Region.TheVariants as region;
 
-    ghost accepts = { polygon_accepts };
+    ghost accepts = { λ s. region_accepts (region.Polygon s) };
 
-    ghost state = { polygon_state };
+    ghost state = { λ s. region_state (region.Polygon s) };
 
     fn within(&self, info: &Info) -> Within
-        ensures state { result ≡ polygon_state self.now info.now }
+        ensures state { result ≡ region_state (region.Polygon self.now) info.now }
         ensures apart { result ≡ Not → SharesNoPoint self.now info.now.bounds }
     {
         if !overlaps(info.bounds, self.bounds) {
@@ -144,9 +146,9 @@ impl Shape for Polygon {
         state_by_edges(&self.vertices, info.bounds, lies_inside)
     }
 
-    ghost use Rattle.rt_geo.specs.Lemmas.Polygons.{polygon-faithful};
+    ghost use Rattle.rt_geo.specs.Lemmas.Regions.{region-faithful};
 
-    ghost faithful = { polygon-faithful };
+    ghost faithful = { λ s. region-faithful (region.Polygon s) };
 }
 
 /// The line from one vertex to the next.

@@ -10,7 +10,7 @@ ghost use Rattle.rt_geo.specs.Boxes.{IsRect};
 ghost use Rattle.rt_geo.specs.HalfPlanes.{half_plane_of, half_planes_of, is_coordinate, has_short_edges, is_short, is_small};
 ghost use Rattle.rt_geo.specs.HalfPlanes.{is_strictly_left, reaches, sides_of, turned_sides_of};
 ghost use Rattle.rt_geo.specs.Polygons.{is_left, path_from};
-ghost use Rattle.rt_geo.specs.Shapes.{state_by};
+ghost use Rattle.rt_geo.specs.Regions.{state_by};
 
 use crate::bounds::{Bounds, inside, overlaps};
 use crate::distance::Point;
@@ -62,15 +62,17 @@ impl<'a> Model for PreparedPolygon<'a> {
 
 impl<'a> Shape for PreparedPolygon<'a> {
     ghost use Rattle.std.specs.Prelude.{◌≡◌};
-    ghost use Rattle.rt_geo.specs.Polygons.{SharesNoPoint, polygon_accepts, polygon_state};
+    ghost use Rattle.rt_geo.specs.Polygons.{SharesNoPoint};
+    ghost use Rattle.rt_geo.specs.Regions.{region_accepts, region_state};
     ghost use Rattle.rt_geo.specs.declared.geometry.Within.TheVariants.{Not};
+    ghost use Rattle.rt_geo.specs.declared.region.Region.TheVariants as region;
 
-    ghost accepts = { polygon_accepts };
+    ghost accepts = { λ s. region_accepts (region.Polygon s) };
 
-    ghost state = { polygon_state };
+    ghost state = { λ s. region_state (region.Polygon s) };
 
     fn within(&self, info: &Info) -> Within
-        ensures state { result ≡ polygon_state self.now info.now }
+        ensures state { result ≡ region_state (region.Polygon self.now) info.now }
         ensures apart { result ≡ Not → SharesNoPoint self.now info.now.bounds }
     {
         let overlapping = overlaps(info.bounds, self.bounds);
@@ -78,9 +80,9 @@ impl<'a> Shape for PreparedPolygon<'a> {
         state_by_half_planes(&self.half_planes, info.bounds, overlapping, lies_inside)
     }
 
-    ghost use Rattle.rt_geo.specs.Lemmas.Polygons.{polygon-faithful};
+    ghost use Rattle.rt_geo.specs.Lemmas.Regions.{region-faithful};
 
-    ghost faithful = { polygon-faithful };
+    ghost faithful = { λ s. region-faithful (region.Polygon s) };
 }
 
 /// What the half-planes tell of a box that perhaps overlaps the bounding box, and perhaps lies inside it.

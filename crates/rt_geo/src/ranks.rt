@@ -1,6 +1,6 @@
 //! The ranks that a query knows: the order of its answers.
 //!
-//! `specs/Ranks.antt` has the table of their scores. No score looks at the parent's.
+//! `specs/Orders.antt` has the table of their scores. No score looks at the parent's.
 
 use crate::bounds::area;
 use crate::distance::{Point, near2};
@@ -19,43 +19,46 @@ pub struct Near(pub Point);
 pub struct Smallest;
 
 impl Rank for ById {
-    ghost use Rattle.rt_geo.specs.Ranks.{by_id_estimate, by_id_score};
+    ghost use Rattle.rt_geo.specs.Orders.{order_estimate, order_score};
+    ghost use Rattle.rt_geo.specs.declared.order.Order.TheVariants as order;
 
-    ghost score = { λ _. by_id_score };
+    ghost score = { λ r. order_score (order.ById r) };
 
-    ghost estimate = { λ _. by_id_estimate };
+    ghost estimate = { λ r. order_estimate (order.ById r) };
 
     fn score(&self, _info: &Info) -> u128 {
         0
     }
 
-    ghost use Rattle.rt_geo.specs.Lemmas.Ranks.{by_id-admissible};
+    ghost use Rattle.rt_geo.specs.Lemmas.Orders.{order-admissible};
 
-    ghost admissible = { λ _. by_id-admissible };
+    ghost admissible = { λ r. order-admissible (order.ById r) };
 }
 
 impl Rank for Near {
-    ghost use Rattle.rt_geo.specs.Ranks.{near_estimate, near_score};
+    ghost use Rattle.rt_geo.specs.Orders.{order_estimate, order_score};
+    ghost use Rattle.rt_geo.specs.declared.order.Order.TheVariants as order;
 
-    ghost score = { λ r. near_score r.0 };
+    ghost score = { λ r. order_score (order.Near r) };
 
-    ghost estimate = { λ r. near_estimate r.0 };
+    ghost estimate = { λ r. order_estimate (order.Near r) };
 
     fn score(&self, info: &Info) -> u128 {
         near2(self.0, info.bounds)
     }
 
-    ghost use Rattle.rt_geo.specs.Lemmas.Ranks.{near-admissible};
+    ghost use Rattle.rt_geo.specs.Lemmas.Orders.{order-admissible};
 
-    ghost admissible = { λ r. near-admissible r.0 };
+    ghost admissible = { λ r. order-admissible (order.Near r) };
 }
 
 impl Rank for Smallest {
-    ghost use Rattle.rt_geo.specs.Ranks.{smallest_estimate, smallest_score};
+    ghost use Rattle.rt_geo.specs.Orders.{order_estimate, order_score};
+    ghost use Rattle.rt_geo.specs.declared.order.Order.TheVariants as order;
 
-    ghost score = { λ _. smallest_score };
+    ghost score = { λ r. order_score (order.Smallest r) };
 
-    ghost estimate = { λ _. smallest_estimate };
+    ghost estimate = { λ r. order_estimate (order.Smallest r) };
 
     fn score(&self, info: &Info) -> u128 {
         // The boxes inside a node may be as small as a point.
@@ -66,7 +69,7 @@ impl Rank for Smallest {
         }
     }
 
-    ghost use Rattle.rt_geo.specs.Lemmas.Ranks.{smallest-admissible};
+    ghost use Rattle.rt_geo.specs.Lemmas.Orders.{order-admissible};
 
-    ghost admissible = { λ _. smallest-admissible };
+    ghost admissible = { λ r. order-admissible (order.Smallest r) };
 }

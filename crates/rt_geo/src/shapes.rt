@@ -1,10 +1,10 @@
 //! The shapes that a query knows: which boxes it accepts.
 //!
-//! `specs/Shapes.antt` has the table of their states. No state looks at the parent's.
+//! `specs/Regions.antt` has the tables of what they accept and of their states. No state looks at the parent's.
 
 ghost use Rattle.std.specs.Prelude.{◌≡◌, Decides, not};
 ghost use Rattle.rt_geo.specs.Boxes.{inside, overlaps};
-ghost use Rattle.rt_geo.specs.Shapes.{state_by};
+ghost use Rattle.rt_geo.specs.Regions.{state_by};
 
 use crate::bounds::{self, Bounds, overlaps};
 use crate::distance::{Point, far2, near2};
@@ -45,43 +45,46 @@ impl Circle {
 }
 
 impl Shape for All {
-    ghost use Rattle.rt_geo.specs.Shapes.{all_accepts, all_state};
+    ghost use Rattle.rt_geo.specs.Regions.{region_accepts, region_state};
+    ghost use Rattle.rt_geo.specs.declared.region.Region.TheVariants as region;
 
-    ghost accepts = { λ _. all_accepts };
+    ghost accepts = { λ s. region_accepts (region.All s) };
 
-    ghost state = { λ _. all_state };
+    ghost state = { λ s. region_state (region.All s) };
 
     fn within(&self, _info: &Info) -> Within {
         Within::Fully
     }
 
-    ghost use Rattle.rt_geo.specs.Lemmas.Shapes.{all-faithful};
+    ghost use Rattle.rt_geo.specs.Lemmas.Regions.{region-faithful};
 
-    ghost faithful = { λ _. all-faithful };
+    ghost faithful = { λ s. region-faithful (region.All s) };
 }
 
 impl Shape for Window {
-    ghost use Rattle.rt_geo.specs.Shapes.{window_accepts, window_state};
+    ghost use Rattle.rt_geo.specs.Regions.{region_accepts, region_state};
+    ghost use Rattle.rt_geo.specs.declared.region.Region.TheVariants as region;
 
-    ghost accepts = { λ s. window_accepts s.0 };
+    ghost accepts = { λ s. region_accepts (region.Window s) };
 
-    ghost state = { λ s. window_state s.0 };
+    ghost state = { λ s. region_state (region.Window s) };
 
     fn within(&self, info: &Info) -> Within {
         state_in_window(info.bounds, self.0)
     }
 
-    ghost use Rattle.rt_geo.specs.Lemmas.Shapes.{window-faithful};
+    ghost use Rattle.rt_geo.specs.Lemmas.Regions.{region-faithful};
 
-    ghost faithful = { λ s. window-faithful s.0 };
+    ghost faithful = { λ s. region-faithful (region.Window s) };
 }
 
 impl Shape for Inside {
-    ghost use Rattle.rt_geo.specs.Shapes.{inside_accepts, inside_state};
+    ghost use Rattle.rt_geo.specs.Regions.{region_accepts, region_state};
+    ghost use Rattle.rt_geo.specs.declared.region.Region.TheVariants as region;
 
-    ghost accepts = { λ s. inside_accepts s.0 };
+    ghost accepts = { λ s. region_accepts (region.Inside s) };
 
-    ghost state = { λ s. inside_state s.0 };
+    ghost state = { λ s. region_state (region.Inside s) };
 
     fn within(&self, info: &Info) -> Within {
         if info.level > 0 {
@@ -94,17 +97,18 @@ impl Shape for Inside {
         }
     }
 
-    ghost use Rattle.rt_geo.specs.Lemmas.Shapes.{inside-faithful};
+    ghost use Rattle.rt_geo.specs.Lemmas.Regions.{region-faithful};
 
-    ghost faithful = { λ s. inside-faithful s.0 };
+    ghost faithful = { λ s. region-faithful (region.Inside s) };
 }
 
 impl Shape for Covers {
-    ghost use Rattle.rt_geo.specs.Shapes.{covers_accepts, covers_state};
+    ghost use Rattle.rt_geo.specs.Regions.{region_accepts, region_state};
+    ghost use Rattle.rt_geo.specs.declared.region.Region.TheVariants as region;
 
-    ghost accepts = { λ s. covers_accepts s.0 };
+    ghost accepts = { λ s. region_accepts (region.Covers s) };
 
-    ghost state = { λ s. covers_state s.0 };
+    ghost state = { λ s. region_state (region.Covers s) };
 
     fn within(&self, info: &Info) -> Within {
         // A node that covers the window may hold boxes that don't.
@@ -115,17 +119,18 @@ impl Shape for Covers {
         }
     }
 
-    ghost use Rattle.rt_geo.specs.Lemmas.Shapes.{covers-faithful};
+    ghost use Rattle.rt_geo.specs.Lemmas.Regions.{region-faithful};
 
-    ghost faithful = { λ s. covers-faithful s.0 };
+    ghost faithful = { λ s. region-faithful (region.Covers s) };
 }
 
 impl Shape for Circle {
-    ghost use Rattle.rt_geo.specs.Shapes.{circle_accepts, circle_state};
+    ghost use Rattle.rt_geo.specs.Regions.{region_accepts, region_state};
+    ghost use Rattle.rt_geo.specs.declared.region.Region.TheVariants as region;
 
-    ghost accepts = { λ s. circle_accepts s.centre s.radius };
+    ghost accepts = { λ s. region_accepts (region.Circle s) };
 
-    ghost state = { λ s. circle_state s.centre s.radius };
+    ghost state = { λ s. region_state (region.Circle s) };
 
     fn within(&self, info: &Info) -> Within {
         let radius = self.radius as u128;
@@ -138,9 +143,9 @@ impl Shape for Circle {
         }
     }
 
-    ghost use Rattle.rt_geo.specs.Lemmas.Shapes.{circle-faithful};
+    ghost use Rattle.rt_geo.specs.Lemmas.Regions.{region-faithful};
 
-    ghost faithful = { λ s. circle-faithful s.centre s.radius };
+    ghost faithful = { λ s. region-faithful (region.Circle s) };
 }
 
 /// How many of the boxes inside the bounds overlap the window, as far as the two tests tell.

@@ -3,7 +3,8 @@ use Rattle.std.proofs.Common.{◌≡◌, ◌<◌, ◌≤◌, ◌+◌, ◌-◌, �
 use Rattle.std.proofs.Common.{set, get_or, min, refl, sym, ◌∙◌, ap, subst, arith, add-one, append_assoc, inl, inr}
 use Rattle.std.proofs.Common.{Option, Some}
 use borrow.Rule.Slice.PartMut.{post_of, put_mid}
-use Rattle.std.specs.List.{All, enumerate_from, filter_map, flat_map, sum_by}
+use Rattle.std.specs.List.{All, enumerate_from, filter_map, flat_map, reduce, sum_by}
+use Rattle.std.specs.Prelude.{unwrap_or}
 use Rattle.std.proofs.lemmas.List.Elements.{filter_map-append}
 use Rattle.std.proofs.lemmas.List.{append-nil, drop-drop, drop_all, get_or-drop, get_or-take, length-append}
 use Rattle.std.proofs.lemmas.List.{length-drop, length-map, length-take, map-append, take-append-le, take_all}
@@ -12,7 +13,6 @@ use Rattle.std.proofs.lemmas.List.Sums.{fold-append, sum_by-take-drop, sum_by-ta
 use Rattle.std.proofs.lemmas.Slice.{drop-put_mid, take-put_mid}
 use Rattle.std.proofs.Math.Seq.{drop-cons}
 use Rattle.rt_geo.specs.Laws.{Extent}
-use Rattle.rt_tree.specs.Packed.{reduced}
 use Rattle.rt_tree.specs.Packing.{chunks, node_over, nodes_over}
 use Rattle.rt_tree.specs.declared.tree.Node.{Node}
 use Rattle.rt_tree.proofs.ChunkLemmas.{chunks-step, le_or_lt}
@@ -183,6 +183,10 @@ all_more P start n k old keys k_is inside later before here i d h = elim (le_or_
 ]
 
 -- ---- one more child under a node
+
+-- what a function of two elements makes of a list, from the first on; of an empty list another element
+abbrev pub reduced : {X : Type 0} → (X → X → X) → (none : X) → List X → X
+reduced f none xs = unwrap_or (reduce f xs) none
 
 pub reduced-push : {X : Type 0} (f : X → X → X) (none : X) (xs : List X) (x : X) → 0 < length xs
     → reduced f none (xs ++ x ∷ []) ≡ f (reduced f none xs) x

@@ -1,8 +1,12 @@
 -- Two lists side by side, and the list that they make.
 use Rattle.std.proofs.Common.{◌≡◌, ◌<◌, ◌+◌, ◌-◌, ℕ, zero, suc, List, [], ◌∷◌, ◌++◌, length, map, take, drop, get_or}
 use Rattle.std.proofs.Common.{slice_get, Some, refl, sym, ◌∙◌, ap, arith}
+use Rattle.std.specs.List.{zip}
 use Rattle.std.proofs.lemmas.List.{drop-map, length-map, take-map}
-use Rattle.rt_tree.specs.Paired.{paired}
+
+-- what each element of the one list makes with that beside it, as far as both go
+abbrev pub paired : {X Y Z : Type 0} → (join : X → Y → Z) → List X → List Y → List Z
+paired join xs ys = map (λ p. join p.0 p.1) (zip xs ys)
 
 -- what two elements make, and the two elements of that
 module _ {X Y Z : Type 0} (join : X → Y → Z) (left : Z → X) (right : Z → Y)

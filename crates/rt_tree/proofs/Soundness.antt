@@ -18,9 +18,10 @@ use Rattle.rt_geo.specs.Lemmas.Layers.{subset-union_right}
 use Rattle.rt_geo.specs.declared.entry.Entry.{Entry}
 use Rattle.rt_geo.specs.declared.layers.Layers.{Layers}
 use Rattle.rt_tree.specs.Packed.{Packed, IsLeafNode, IsSubtree, child_nodes}
-use Rattle.rt_tree.specs.Packed.{entries_under, extent_of_node, hull_of, no_box, reduced, union_of}
+use Rattle.rt_tree.specs.Packed.{entries_under, extent_of_node, hull_of, no_box, union_of}
 use Rattle.rt_tree.specs.Packing.{joined, node_over, nodes_over}
 use Rattle.rt_tree.specs.declared.tree.Node.{Node}
+use Rattle.rt_tree.proofs.LoopLemmas.{reduced}
 
 -- ---- lists
 

@@ -1,7 +1,7 @@
 -- Entries whose layers stand in a list of their own.
-use Rattle.std.specs.Prelude.{ℕ, List}
+use Rattle.std.specs.List.{zip}
+use Rattle.std.specs.Prelude.{ℕ, List, map}
 use Rattle.rt_geo.specs.declared.entry.Entry.{Entry}
-use Rattle.rt_tree.specs.Paired.{paired}
 use Rattle.rt_tree.specs.declared.entries.LeafEntry.{LeafEntry}
 
 -- an entry without its layer
@@ -14,4 +14,4 @@ with_layer entry layer = record { id = entry.id; bounds = entry.bounds; layer = 
 
 -- entries with their layers
 abbrev pub entries_of : List LeafEntry → (layers : List ℕ) → List Entry
-entries_of = paired with_layer
+entries_of leaves layers = map (λ p. with_layer p.0 p.1) (zip leaves layers)

@@ -4,7 +4,6 @@ pub mod Leaves
 pub mod Levels
 pub mod Packed
 pub mod Packing
-pub mod Paired
 pub mod PlainNodes
 pub mod Repeats
 pub mod SortKeys

@@ -1,7 +1,7 @@
 -- A packed tree: its entries in the order of their places, and its nodes in the order of their numbers.
 use Rattle.std.specs.Prelude.{◌↔◌, ◌≡◌, ◌+◌, ◌-◌, ◌<◌, ◌≤◌, ◌^◌, ◌==◌, nat_lt, ℕ, zero, suc, true, pos}
-use Rattle.std.specs.Prelude.{List, [], ◌∷◌, ◌++◌, drop, filter, get_or, length, map, replicate, take}
-use Rattle.std.specs.List.{All, AllByRecursion, flat_map, fold, sum_by}
+use Rattle.std.specs.Prelude.{List, [], ◌∷◌, ◌++◌, drop, filter, get_or, length, map, replicate, take, unwrap_or}
+use Rattle.std.specs.List.{All, AllByRecursion, flat_map, reduce, sum_by}
 use Rattle.std.specs.List.Sorted.{IsPermutation}
 use Rattle.rt_geo.specs.Boxes.{Rect, IsRect, hull, inside, plane, rect_of}
 use Rattle.rt_geo.specs.Layers.{HasSome, no_layers, union}
@@ -65,18 +65,13 @@ height t = (root_of t).level - 1
 abbrev pub extent_of_node : Node → Extent
 extent_of_node n = record { bounds = n.bounds; layers = n.layers }
 
--- what a function of two elements makes of a list, from the first element on; of an empty list another element
-abbrev pub reduced : {X : Type 0} → (X → X → X) → (none : X) → List X → X
-reduced f none [] = none
-reduced f none (x ∷ xs) = fold f x xs
-
 -- the least box in which boxes lie, of which there is at least one
 abbrev pub hull_of : List Rect → Rect
-hull_of boxes = reduced hull no_box boxes
+hull_of boxes = unwrap_or (reduce hull boxes) no_box
 
 -- the layers that are in some of the sets
 abbrev pub union_of : List Layers → Layers
-union_of sets = reduced union no_layers sets
+union_of sets = unwrap_or (reduce union sets) no_layers
 
 -- ---- what holds of each
 --

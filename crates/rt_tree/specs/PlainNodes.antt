@@ -1,7 +1,7 @@
 -- Nodes whose layers stand in a list of their own.
-use Rattle.std.specs.Prelude.{List}
+use Rattle.std.specs.List.{zip}
+use Rattle.std.specs.Prelude.{List, map}
 use Rattle.rt_geo.specs.declared.layers.Layers.{Layers}
-use Rattle.rt_tree.specs.Paired.{paired}
 use Rattle.rt_tree.specs.declared.nodes.PlainNode.{PlainNode}
 use Rattle.rt_tree.specs.declared.tree.Node.{Node}
 
@@ -22,4 +22,4 @@ with_layers n layers = record {
 
 -- nodes with their layers
 abbrev pub nodes_of : List PlainNode → List Layers → List Node
-nodes_of = paired with_layers
+nodes_of plain layers = map (λ p. with_layers p.0 p.1) (zip plain layers)

@@ -9,7 +9,7 @@
 //! The definitions that the contracts cite stand in `specs/`: `Entries`, `Repeats` (why entries make no table),
 //! `Leaves` and `PlainNodes` (entries and nodes without their layers), `Levels`, `Packing` (which tree is packed),
 //! `Packed` (what it holds, and what a search may rest on), and `Sorting`, for the crates above too. Their worked rows
-//! stand in `proofs/Rows.antt`. What `Indexes`, `Paired` and `SortKeys` define is for this crate's code alone.
+//! stand in `proofs/Rows.antt`. What `Indexes` and `SortKeys` define is for this crate's code alone.
 #![tactic(auto)]
 
 mod entries;

@@ -15,12 +15,14 @@ use Rattle.rt_geo.specs.Lemmas.Products.{difference-scaled, mul-difference, orde
 use Rattle.rt_geo.specs.Lemmas.Shapes.{contrapositive, state_by-leaf, state_by-Fully, state_by-Not}
 use Rattle.rt_geo.specs.Polygons.{IsCommonPoint, SharesNoPoint, bounding_box, corners, cross, edges}
 use Rattle.rt_geo.specs.Polygons.{is_in_half_plane, lies_in_half_plane, meets_half_plane}
-use Rattle.rt_geo.specs.Polygons.{polygon_accepts, polygon_holds, polygon_meets, polygon_state}
+use Rattle.rt_geo.specs.Polygons.{polygon_holds, polygon_meets}
 use Rattle.rt_geo.specs.Polygons.{scaled_point, scaled_box, scaled_edge}
+use Rattle.rt_geo.specs.Regions.{region_accepts, region_state}
 use Rattle.rt_geo.specs.declared.distance.Point.{Point}
 use Rattle.rt_geo.specs.declared.geometry.Info.{Info}
 use Rattle.rt_geo.specs.declared.geometry.Within.TheVariants.{Not, Fully}
 use Rattle.rt_geo.specs.declared.polygon.Edge.{Edge}
+use Rattle.rt_geo.specs.declared.region.Region.TheVariants.{Polygon}
 
 -- ---- a box and a part of it
 
@@ -68,18 +70,18 @@ polygon_holds-part vertices a b v h e =
 -- ---- the laws
 
 polygon-pruning : (vertices : List Point) (i : Info)
-    → polygon_state vertices i ≡ Not → NoneAccepted (polygon_accepts vertices) (extent_of i)
+    → region_state (Polygon vertices) i ≡ Not → NoneAccepted (region_accepts (Polygon vertices)) (extent_of i)
 polygon-pruning vertices i e b h =
     contrapositive _ _ (polygon_meets-part vertices b.bounds i.bounds h.box h.inside)
     (state_by-Not (polygon_meets vertices i.bounds) (polygon_holds vertices i.bounds) e)
 
 polygon-fullness : (vertices : List Point) (i : Info)
-    → polygon_state vertices i ≡ Fully → AllAccepted (polygon_accepts vertices) (extent_of i)
+    → region_state (Polygon vertices) i ≡ Fully → AllAccepted (region_accepts (Polygon vertices)) (extent_of i)
 polygon-fullness vertices i e b h =
     polygon_holds-part vertices b.bounds i.bounds h.box h.inside
     (state_by-Fully (not (polygon_meets vertices i.bounds)) (polygon_holds vertices i.bounds) e)
 
-pub polygon-faithful : (vertices : List Point) → IsFaithful (polygon_accepts vertices) (polygon_state vertices)
+pub polygon-faithful : (vertices : List Point) → IsFaithful (region_accepts (Polygon vertices)) (region_state (Polygon vertices))
 polygon-faithful vertices = record {
   leaf = λ i question entry. state_by-leaf (polygon_meets vertices i.bounds) (polygon_holds vertices i.bounds);
   pruning = λ i question node. polygon-pruning vertices i;
@@ -166,7 +168,7 @@ polygon_meets-fraction vertices b p (suc m) h =
 
 -- where the state is NOT, box and polygon share no point
 pub polygon-shares_no_point : (vertices : List Point) (i : Info)
-    → polygon_state vertices i ≡ Not → SharesNoPoint vertices i.bounds
+    → region_state (Polygon vertices) i ≡ Not → SharesNoPoint vertices i.bounds
 polygon-shares_no_point vertices i e p d h =
     let parted = state_by-Not (polygon_meets vertices i.bounds) (polygon_holds vertices i.bounds) e in
     true≢false (sym (polygon_meets-fraction vertices i.bounds p d h) ∙ parted)
