@@ -3,7 +3,7 @@
 ghost use Rattle.std.specs.Prelude.{◌≡◌, ◌+◌, ◌-◌, ◌||◌, ◌<◌, ◌≤◌, ◌^◌, ◌⊎◌, ℕ, List, [], Some, None, IfOk, OnOk, OnErr, length, take, drop, nat_lt, if◌then◌else◌, true, false};
 ghost use Rattle.std.specs.Io.KnownBytes.{Keeps};
 ghost use Rattle.rt_device.specs.Devices.{IsSameIfTold};
-ghost use Rattle.rt_filter.specs.Endings.{ConsumedAtLeast, Serves, is_pull, is_push, told_of};
+ghost use Rattle.rt_filter.specs.Endings.{ConsumedAtLeast, Serves, is_pull, is_push};
 ghost use Rattle.rt_filter.specs.Lines.{longest_line, numbered_lines};
 ghost use Rattle.rt_filter.specs.Pushes.{CountsFailure, Pushed};
 ghost use Rattle.rt_filter.specs.Replies.{Loaded, is_fault, reply, tree_of};
@@ -77,7 +77,7 @@ pub fn serve<S: Source, K: Sink>(
     // these entries.
     ensures ending { (loaded : Loaded) → tree.now ≡ tree_of loaded
         → (queries before : List ℕ) → S.coming source.old ≡ Some queries → K.written sink.old ≡ Some before
-        → Serves loaded (told_of queries before (S.coming source.new) (K.written sink.new)) result }
+        → Serves loaded queries before (S.coming source.new) (K.written sink.new) result }
 
     // Each failure of a device is reported, and no other. A source may also be given up when the turns are used up.
     ensures pushes { K.failed sink.new ≡ K.failed sink.old + (if is_push result.fault then 1 else 0) }
