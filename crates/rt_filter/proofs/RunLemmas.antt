@@ -1,5 +1,5 @@
 -- A run over a table that was loaded, and over one that was refused.
-use Rattle.std.proofs.Common.{◌≡◌, ◌∙◌, ℕ, Bool, true, false, arith, List, [], ◌++◌, Option, None, Some, refl, sym, ap, ap₂, subst, append-nil}
+use Rattle.std.proofs.Common.{◌≡◌, ◌∙◌, ℕ, Bool, true, arith, List, [], ◌++◌, Option, None, Some, refl, sym, ap, ap₂, subst, append-nil}
 use Rattle.std.specs.Prelude.{Ok, Err, Result, if◌then◌else◌}
 use Rattle.rt_command.specs.Choices.{Choices}
 use Rattle.rt_geo.specs.declared.entry.Entry.{Entry}
@@ -9,7 +9,7 @@ use Rattle.rt_text.specs.declared.tables.TableFault.{TableFault}
 use Rattle.rt_text.specs.declared.tables.TableFault.TheVariants as load
 use Rattle.rt_tree.specs.Packed.{Packed}
 use Rattle.rt_tree.specs.Packing.{pack_of}
-use Rattle.rt_filter.specs.Endings.{Ends, EndsAs, EndsEarly, EndsWith, Happened, IsStatusOf, Serves, StillTells, is_of_load, is_read, is_write}
+use Rattle.rt_filter.specs.Endings.{Ends, EndsAs, EndsEarly, EndsWith, Happened, IsStatusOf, Serves, Tells, is_of_load}
 use Rattle.rt_filter.specs.Faults.{run_fault}
 use Rattle.rt_filter.specs.Lines.{numbered_lines}
 use Rattle.rt_filter.specs.Replies.{Loaded, any_fault, output, tree_of}
@@ -21,6 +21,7 @@ use Rattle.rt_filter.specs.declared.filter.RunFault.TheVariants as run
 use Rattle.rt_filter.specs.declared.serving.ServeFault.{ServeFault}
 use Rattle.rt_filter.specs.declared.serving.ServeFault.TheVariants as serve
 use Rattle.rt_filter.specs.declared.serving.Served.{Served}
+use Rattle.rt_filter.proofs.TurnLemmas.{still_all}
 
 -- what is loaded of a table's entries, or of its fault
 abbrev pub loaded_with : Choices → Result (List Entry) TableFault → Result Loaded TableFault
@@ -95,10 +96,6 @@ module _ (choices : Choices) (table queries before : List ℕ) (status : ℕ) wh
   row run.Write h of_load is = absurd (grind (arith, of_load))
   row run.Memory h of_load is = (refl, refl)
 
-  still : (failed : Bool) (now : Option (List ℕ)) (bytes : List ℕ) → now ≡ Some bytes → StillTells failed now bytes
-  still true now bytes h = rw h refl
-  still false now bytes h = h
-
   pub ended_early : (cause : RunFault) → Stops choices table cause → is_of_load (Some cause) ≡ true → IsStatusOf (Some cause) status
       → (coming written : Option (List ℕ)) → coming ≡ Some queries → written ≡ Some before
       → Ends choices table queries before coming written (ended cause)
@@ -106,13 +103,22 @@ module _ (choices : Choices) (table queries before : List ℕ) (status : ℕ) wh
     nothing,
     record {
       parts = refl;
-      source = still (is_read (Some cause)) coming queries c;
-      sink = still (is_write (Some cause)) written (before ++ []) (w ∙ ap (λ zs. Some zs) (sym (append-nil before)));
+      source = still_all (Some cause ≡ Some run.Read) coming queries c;
+      sink = still_all (Some cause ≡ Some run.Write) written (before ++ []) (w ∙ ap (λ zs. Some zs) (sym (append-nil before)));
     },
     row cause h of_load is,
   )
 
 module _ (choices : Choices) (table queries before : List ℕ) (coming written : Option (List ℕ)) where
+  -- a fault of serving is told as one of the run
+  told_so : (cause : Option ServeFault) (what : Happened) → Tells queries before coming written (cause ≡ Some serve.Read) (cause ≡ Some serve.Write) what
+      → Tells queries before coming written (run_fault_of cause ≡ Some run.Read) (run_fault_of cause ≡ Some run.Write) what
+  told_so cause what t = record {
+    parts = t.parts;
+    source = (t.source.0, λ other. t.source.1 (λ e. other (ap run_fault_of e)));
+    sink = (t.sink.0, λ other. t.sink.1 (λ e. other (ap run_fault_of e)));
+  }
+
   served_row : (tree : Packed) (bad : Bool) (cause : Option ServeFault) → HasLoaded choices table tree
       → ((loaded : Loaded) → tree ≡ tree_of loaded → Serves loaded queries before coming written (record { bad = bad; fault = cause }))
       → (status : ℕ) → (cause ≡ None → status ≡ (if bad then 1 else 0))
@@ -124,11 +130,11 @@ module _ (choices : Choices) (table queries before : List ℕ) (coming written :
       let whole : run_of choices table queries ≡ whole_run (output h.loaded lines) (any_fault lines) =
       ap (λ loaded. run_over loaded queries) h.same ∙ ap (λ zs. run_over (Ok h.loaded) zs) all in
       let own : status ≡ (if any_fault lines then 1 else 0) = is refl ∙ ap (λ b. if b then 1 else 0) r.2.1.faults in
-      (r.0, r.1, (r.2.0, whole ∙ sym (ap₂ (λ out status. ended_with out None status) r.2.1.replies own)))
+      (r.0, told_so None r.0 r.1, (r.2.0, whole ∙ sym (ap₂ (λ out status. ended_with out None status) r.2.1.replies own)))
   served_row tree bad (Some serve.Read) h s status is =
-      let r = s h.loaded h.packed in (r.0, r.1, rw h.same (bad, r.2))
+      let r = s h.loaded h.packed in (r.0, told_so (Some serve.Read) r.0 r.1, rw h.same (bad, r.2))
   served_row tree bad (Some serve.Write) h s status is =
-      let r = s h.loaded h.packed in (r.0, r.1, rw h.same (bad, r.2))
+      let r = s h.loaded h.packed in (r.0, told_so (Some serve.Write) r.0 r.1, rw h.same (bad, r.2))
 
   -- an outcome is its status and its fault
   ends_with : (outcome : Outcome) (cause : Option RunFault) → outcome.fault ≡ cause

@@ -151,7 +151,11 @@ ended : (rest : List ℕ) (new : Option (List ℕ)) → Consumes (Some rest) new
 ended rest None h e = absurd h
 ended rest (Some ys) h e = (ap (λ zs. Some zs) e, h ∙ e)
 
-still_told : (now : Option (List ℕ)) (bytes : List ℕ) → IsSameIfTold (Some bytes) now → StillTells true now bytes
+-- a device that tells these bytes, failed or not
+pub still_all : (failed : Type 0) (now : Option (List ℕ)) (bytes : List ℕ) → now ≡ Some bytes → StillTells failed now bytes
+still_all failed now bytes h = rw h (refl, λ _. refl)
+
+still_told : (now : Option (List ℕ)) (bytes : List ℕ) → IsSameIfTold (Some bytes) now → IfSome now (λ known. known ≡ bytes)
 still_told None bytes h = tt
 still_told (Some known) bytes h = h
 
@@ -160,7 +164,7 @@ still_told (Some known) bytes h = h
 -- behind what was there before, a prefix of the whole that has the earlier part
 pub record WentOut (whole earlier before : List ℕ) (now : Option (List ℕ)) : Type 0 where
   pub out : List ℕ
-  pub told_so : StillTells true now (before ++ out)
+  pub told_so : IfSome now (λ known. known ≡ before ++ out)
   pub prefix : StartsWith whole out
   pub answered : StartsWith out earlier
 
@@ -201,8 +205,8 @@ module _ (loaded : Loaded) (queries before : List ℕ) (coming written : Option 
     record { consumed = s.consumed; rest = s.rest; out = output loaded (numbered_lines s.consumed false) },
     record {
       parts = s.told_so.1;
-      source = still_told now s.rest (rw s.told_so.0 at u);
-      sink = s.written ∙ ap (λ zs. Some zs) out_is;
+      source = (still_told now s.rest (rw s.told_so.0 at u), λ other. absurd (other refl));
+      sink = still_all _ written _ (s.written ∙ ap (λ zs. Some zs) out_is);
     },
     record { replies = refl; faults = s.answering.faults ∙ ap any_fault (sym complete) },
   )
@@ -220,7 +224,7 @@ module _ (loaded : Loaded) (queries before : List ℕ) (coming written : Option 
       let e = ended s.rest now (rw s.told_so.0 at h) at in
       let r = answered s.consumed before s.out s.written s.answering s.clear in (
         record { consumed = s.consumed; rest = []; out = output loaded (numbered_lines s.consumed true) },
-        record { parts = s.told_so.1 ∙ ap (λ zs. s.consumed ++ zs) e.1; source = e.0; sink = r.0 },
+        record { parts = s.told_so.1 ∙ ap (λ zs. s.consumed ++ zs) e.1; source = still_all _ now _ e.0; sink = still_all _ out _ r.0 },
         (refl, record { replies = refl; faults = r.1 }),
       )
 
@@ -234,8 +238,8 @@ module _ (loaded : Loaded) (queries before : List ℕ) (coming written : Option 
         record { consumed = s.consumed ++ given; rest = rest; out = gone.out },
         record {
           parts = s.told_so.1 ∙ ap (λ zs. s.consumed ++ zs) parts ∙ sym (append_assoc s.consumed given rest);
-          source = is;
-          sink = gone.told_so;
+          source = still_all _ now rest is;
+          sink = (gone.told_so, λ other. absurd (other refl));
         },
         record {
           replies = gone.prefix;

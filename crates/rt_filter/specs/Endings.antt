@@ -1,5 +1,5 @@
 -- How serving the queries may end, and a whole run.
-use Rattle.std.specs.Prelude.{◌≡◌, ◌+◌, ◌≤◌, ℕ, ◌⊎◌, List, [], ◌++◌, length, Bool, true, false, Option, Some, None, IfSome, Result, IsOkAnd}
+use Rattle.std.specs.Prelude.{◌≡◌, ◌+◌, ◌≤◌, ℕ, ◌⊎◌, List, [], ◌++◌, length, Bool, true, false, Option, Some, None, IfSome, IsSome, Result, IsOkAnd}
 use Rattle.std.specs.Io.{StartsWith}
 use Rattle.std.specs.Io.KnownBytes.{Consumes}
 use Rattle.rt_command.specs.Choices.{Choices}
@@ -25,12 +25,11 @@ pub record Happened : Type 0 where
   pub out : List ℕ
 
 -- a device tells these bytes; one that failed tells them or none at all
-abbrev pub StillTells : (failed : Bool) → Option (List ℕ) → List ℕ → Type 0
-StillTells true now bytes = IfSome now (λ known. known ≡ bytes)
-StillTells false now bytes = now ≡ Some bytes
+abbrev pub StillTells : (failed : Type 0) → Option (List ℕ) → List ℕ → Type 0
+StillTells failed now bytes = IfSome now (λ known. known ≡ bytes) × (¬ failed → IsSome now)
 
 -- the devices tell that this happened: of `queries` those that are still `coming`, and what is `written` after `before`
-pub record Tells (queries before : List ℕ) (coming written : Option (List ℕ)) (read_failed write_failed : Bool)
+pub record Tells (queries before : List ℕ) (coming written : Option (List ℕ)) (read_failed write_failed : Type 0)
     (what : Happened) : Type 0 where
   pub parts : queries ≡ what.consumed ++ what.rest
   pub source : StillTells read_failed coming what.rest
@@ -64,18 +63,11 @@ ServesWith loaded what bad None = (what.rest ≡ []) × ServesLines loaded what 
 ServesWith loaded what bad (Some serve.Read) = ServesLines loaded what bad false
 ServesWith loaded what bad (Some serve.Write) = ServesPrefix loaded what bad
 
-abbrev pub is_push : Option ServeFault → Bool
-is_push (Some serve.Write) = true
-is_push other = false
-
-abbrev pub is_pull : Option ServeFault → Bool
-is_pull (Some serve.Read) = true
-is_pull other = false
-
 -- what the devices tell happened, and serving ends so
 abbrev pub Serves : Loaded → (queries before : List ℕ) → (coming written : Option (List ℕ)) → Served → Type 0
 Serves loaded queries before coming written served =
-    (what : Happened) × Tells queries before coming written (is_pull served.fault) (is_push served.fault) what
+    (what : Happened)
+    × Tells queries before coming written (served.fault ≡ Some serve.Read) (served.fault ≡ Some serve.Write) what
     × ServesWith loaded what served.bad served.fault
 
 -- ---- a whole run
@@ -101,18 +93,11 @@ EndsWith loaded run what outcome (Some Read) = EndsServing loaded what serve.Rea
 EndsWith loaded run what outcome (Some Write) = EndsServing loaded what serve.Write
 EndsWith loaded run what outcome (Some Memory) = EndsEarly what
 
-abbrev pub is_write : Option RunFault → Bool
-is_write (Some Write) = true
-is_write other = false
-
-abbrev pub is_read : Option RunFault → Bool
-is_read (Some Read) = true
-is_read other = false
-
 -- how a run over a table's bytes and these queries may end
 abbrev pub Ends : Choices → (table queries before : List ℕ) → (coming written : Option (List ℕ)) → Outcome → Type 0
 Ends choices table queries before coming written outcome =
-    (what : Happened) × Tells queries before coming written (is_read outcome.fault) (is_write outcome.fault) what
+    (what : Happened)
+    × Tells queries before coming written (outcome.fault ≡ Some Read) (outcome.fault ≡ Some Write) what
     × EndsWith (loaded_of choices table) (run_of choices table queries) what outcome outcome.fault
 
 -- the status of each fault, and 0 or 1 where there is none; want of memory is never told as the table's
