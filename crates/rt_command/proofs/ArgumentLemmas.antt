@@ -172,11 +172,11 @@ required_word c rules m k name p at =
 
 -- an option that takes a number of a range, and has one where it isn't given
 pub number_option : (c : Command) (rules : List Rule) (m : ArgMatches) (k : ℕ) (name default : List ℕ) (low high : ℕ) → IsPlainParse c rules m
-    → IsRuleAt rules k (number_rule name (vp.Signed (pos low) (pos high)) default) → HasNumber name low high (rows_of (found_of m))
+    → IsRuleAt rules k (number_rule name low high default) → HasNumber name low high (rows_of (found_of m))
 number_option c rules m k name default low high p at =
     let d = some_arg (args_of c) rules k p.are at.inside in
     let a = slice_index_or (args_of c) k d in
-    let here = arg_at c rules k d (number_rule name (vp.Signed (pos low) (pos high)) default) p.are at in
+    let here = arg_at c rules k d (number_rule name low high default) p.are at in
     let out = leaves_out a (ap (λ (x : Rule). x.is_simple) here.rule) in
     let reads = default_reads c m p.parsed p.plain p.globals k d here.inside (out.default_ifs, some_text (items_of a.default_vals) default (ap (λ (x : Rule). x.defaults) here.rule))
     (ap (λ (x : Rule). x.action) here.rule) out.delimiter (least_one a (ap (λ (x : Rule). x.range) here.rule)) here.alone here.named here.own

@@ -7,22 +7,22 @@ use Rattle.clap.specs.declared.builder.command.Command.{Command}
 use Rattle.clap.specs.declared.parser.matches.ArgMatches.{ArgMatches}
 use Rattle.clap.proofs.OnLiterals.{clap_on_literals}
 use Rattle.rt_command.proofs.ArgumentLemmas.{IsRuleAt, number_option, plain_parse, required_word}
-use Rattle.rt_command.specs.Invocations.{AreFilled, entries_values, fanout_values, filter_app, header_rule, number_rule, word_rule}
+use Rattle.rt_command.specs.Invocations.{AreFilled, filter_app, header_rule, number_rule, word_rule}
 
 -- the command is built up one argument after the other
 pub filter_app-built : filter_app ≡ with_rule (with_rule (with_rule (with_rule (with_rule (new_app (codes "rtfilter")) header_rule)
-    (number_rule (codes "fanout") fanout_values (codes "16"))) (number_rule (codes "max-entries") entries_values (codes "16777216")))
+    (number_rule (codes "fanout") 2 64 (codes "16"))) (number_rule (codes "max-entries") 1 16777216 (codes "16777216")))
     (word_rule (codes "table") true)) (word_rule (codes "queries") false)
 unfolding filter_app
 filter_app-built = refl
 
 -- ---- the places of its arguments
 
-fanout_at : IsRuleAt filter_app.top.rules 1 (number_rule (codes "fanout") fanout_values (codes "16"))
+fanout_at : IsRuleAt filter_app.top.rules 1 (number_rule (codes "fanout") 2 64 (codes "16"))
 unfolding filter_app
 fanout_at = record { inside = omega arith; at = refl; alone = refl; named = refl; no_help = refl; no_version = refl }
 
-max_entries_at : IsRuleAt filter_app.top.rules 2 (number_rule (codes "max-entries") entries_values (codes "16777216"))
+max_entries_at : IsRuleAt filter_app.top.rules 2 (number_rule (codes "max-entries") 1 16777216 (codes "16777216"))
 unfolding filter_app
 max_entries_at = record { inside = omega arith; at = refl; alone = refl; named = refl; no_help = refl; no_version = refl }
 

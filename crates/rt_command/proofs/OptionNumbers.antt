@@ -1,12 +1,8 @@
 -- The number that an option's text writes, where it passed a parser of whole numbers above 0.
-use Rattle.std.proofs.Common.{◌≡◌, ◌∙◌, ◌==◌, ◌^◌, ◌<◌, ◌≤◌, ap, ℕ, pos, Bool, true, false, drop, List, [], ◌∷◌, Option, Some, None, refl, sym, subst, arith}
+use Rattle.std.proofs.Common.{◌≡◌, ◌∙◌, ◌^◌, ◌<◌, ◌≤◌, ap, ℕ, pos, Bool, true, false, drop, List, [], ◌∷◌, Option, Some, None, refl, sym, subst, arith}
 use Rattle.std.specs.Prelude.{neg_ℤ, ◌≤ℤ◌}
-use Rattle.std.specs.Char.{digit_value, is_ascii_digit}
-use Rattle.std.specs.List.{list_all}
-use Rattle.std.specs.Str.Parse.{AllDigits, ExplainsUnsignedError, HasUnsignedDigitsIfOk, IsNumeral, ParsesUnsigned, digits_value, starts_with_minus, without_leading_plus}
-use Rattle.std.proofs.lemmas.Bool.Decides.{nat_tests}
+use Rattle.std.specs.Str.Parse.{ExplainsUnsignedError, HasUnsignedDigitsIfOk, IsNumeral, ParsesUnsigned, digits_value, starts_with_minus, without_leading_plus}
 use Rattle.std.proofs.lemmas.Int.{ints}
-use Rattle.std.proofs.lemmas.Str.Parse.{digit_from_value}
 use Rattle.clap.specs.Matches.{ReadsOne}
 use Rattle.clap.specs.Words.{IsSignedIn, Row, first_of, one_text, rows_of, without_minus}
 use Rattle.clap.specs.declared.parser.matches.Found.{Found}
@@ -36,9 +32,9 @@ above low high text some h = by (starts_with_minus text) refl
         record { plain = e; numeral = numeral; least = omega (arith, ints); most = omega (arith, ints) }
 
 -- our own reading of the text
-option_number-above : (low high : ℕ) (text : List ℕ) → IsAbove low high text
-    → option_number (Some text) ≡ Some (digits_value 10 (without_leading_plus text))
-option_number-above low high text h = rw h.plain refl
+option_number-above : (low high : ℕ) (id text : List ℕ) (rows : List Row) → first_of id rows ≡ Some text → IsAbove low high text
+    → option_number id rows ≡ Some (digits_value 10 (without_leading_plus text))
+option_number-above low high id text rows is h = rw (is, h.plain) refl
 
 -- clap's reading of it
 without_minus-above : (low high : ℕ) (text : List ℕ) → IsAbove low high text → without_minus text ≡ text
@@ -54,7 +50,7 @@ reads_above k low high text None read fits h = absurd (read.1.0 (h.numeral, omeg
 
 -- the number of an option that has one, as its text writes it
 abbrev IsNumberOf : (id : List ℕ) → (low high : ℕ) → List Row → ℕ → Type 0
-IsNumberOf id low high rows n = (option_number (first_of id rows) ≡ Some n) × (low ≤ n) × (n ≤ high)
+IsNumberOf id low high rows n = (option_number id rows ≡ Some n) × (low ≤ n) × (n ≤ high)
 
 -- what a typed getter reads of such an option
 pub number_read : (k low high : ℕ) (id : List ℕ) (f : Found) (r : Option ℕ) → HasNumber id low high (rows_of f)
@@ -65,7 +61,7 @@ number_read k low high id f r h read fits some =
     let text : one_text f id ≡ Some h.0 = one_text-rows f id ∙ h.2 ∙ ap Some (without_minus-above low high h.0 up) in (
       digits_value 10 (without_leading_plus h.0),
       reads_above k low high h.0 r (read h.0 text) fits up,
-      (ap option_number h.1 ∙ option_number-above low high h.0 up, up.least, up.most),
+      (option_number-above low high id h.0 (rows_of f) h.1 up, up.least, up.most),
     )
 
 pub number_unwrapped : (low high : ℕ) (id : List ℕ) (rows : List Row) (r : Option ℕ) (v : ℕ) → ((n : ℕ) × (r ≡ Some n) × IsNumberOf id low high rows n) → r ≡ Some v

@@ -1,5 +1,6 @@
 -- The settings of a run.
-use Rattle.std.specs.Prelude.{ℕ, ◌≤◌, Bool}
+use Rattle.std.specs.Prelude.{ℕ, Bool}
+use Rattle.std.specs.Int.{IsInRange}
 use Rattle.rt_tree.specs.Entries.{most_entries}
 
 -- whether the table's first record is a header, how many children a node may have, how many entries a table may have
@@ -21,7 +22,5 @@ greatest_fanout = 64
 
 -- the settings are in their ranges
 pub record AreAllowed (choices : Choices) : Type 0 where
-  pub least_fanout : least_fanout ≤ choices.fanout
-  pub greatest_fanout : choices.fanout ≤ greatest_fanout
-  pub some_entries : 1 ≤ choices.max_entries
-  pub most_entries : choices.max_entries ≤ most_entries
+  pub fanout : IsInRange least_fanout greatest_fanout choices.fanout
+  pub max_entries : IsInRange 1 most_entries choices.max_entries

@@ -1,10 +1,10 @@
 //! What the words of the command line ask for.
 
-ghost use Rattle.std.specs.Prelude.{◌≡◌, ◌≤◌, [], Some, IfOk, IfErr, MatchResult, codes, option_map, true, false};
-ghost use Rattle.clap.specs.Words.{app_of, first_of, found_of, matches_of, rows_of, rule_of, takes};
+ghost use Rattle.std.specs.Prelude.{◌≡◌, ◌≤◌, ℕ, pos, [], Some, IfOk, IfErr, MatchResult, codes, option_map, true, false};
+ghost use Rattle.clap.specs.Words.{app_of, fault_of, first_of, found_of, matches_of, rows_of, rule_of, takes};
 ghost use Rattle.rt_tree.specs.Entries.{most_entries};
 ghost use Rattle.rt_command.specs.Choices.{greatest_fanout, least_fanout};
-ghost use Rattle.rt_command.specs.Invocations.{AreFilled, HasNumber, IsFaultAmong, choices_in, entries_values, fanout_values, faults_of, filter_app, header_rule, invocation_of, is_given, number_rule, option_number, word_rule};
+ghost use Rattle.rt_command.specs.Invocations.{AreFilled, HasNumber, IsFaultAmong, filter_app, header_rule, invocation_of, is_given, number_rule, option_number, word_rule};
 
 use crate::name::Name;
 use crate::settings::Settings;
@@ -84,7 +84,8 @@ pub fn settings_of(alloc: Global, words: &[Name]) -> Result<Invocation, ArgFault
 
     // There are some only where clap's definition allows no fault. Each refusal is want of memory or one
     // of the kinds that clap allows for the words.
-    ensures faults { MatchResult result (λ _. faults_of words.now ≡ []) (IsFaultAmong (faults_of words.now)) }
+    ensures faults { let kinds = fault_of filter_app words.now in
+        MatchResult result (λ _. kinds ≡ []) (IsFaultAmong kinds) }
 
     // Where clap takes the words, only memory can be wanting.
     ensures takes { IfErr result (λ fault. takes filter_app words.now ≡ true → fault ≡ ArgFault.Memory) }
@@ -101,8 +102,8 @@ pub fn settings_of(alloc: Global, words: &[Name]) -> Result<Invocation, ArgFault
 fn parse<'a>(alloc: Global, words: &'a [Name]) -> Result<ArgMatches<'a>, ArgFault>
     ensures rows { IfOk result (λ m. rows_of (found_of m) ≡ matches_of filter_app words.entry.now) }
     ensures filled { IfOk result (λ m. AreFilled (rows_of (found_of m))) }
-    ensures faults { MatchResult result (λ _. faults_of words.entry.now ≡ [])
-        (IsFaultAmong (faults_of words.entry.now)) }
+    ensures faults { let kinds = fault_of filter_app words.entry.now in
+        MatchResult result (λ _. kinds ≡ []) (IsFaultAmong kinds) }
     ensures takes { IfErr result (λ fault. takes filter_app words.entry.now ≡ true → fault ≡ ArgFault.Memory) }
 {
     let command = filter_command(alloc)?;
@@ -139,7 +140,8 @@ fn number_arg<'a>(
     parser: ValueParser<'a>,
     default: &'a str,
 ) -> Arg<'a>
-    ensures rule { rule_of result ≡ number_rule name.entry.now parser.entry default.entry.now }
+    ensures rule { (least greatest : ℕ) → parser.entry ≡ ValueParser.Signed (pos least) (pos greatest)
+        → rule_of result ≡ number_rule name.entry.now least greatest default.entry.now }
     ensures local { result.global ≡ false }
 {
     Arg::new(alloc, name)
@@ -151,7 +153,7 @@ fn number_arg<'a>(
 
 // The whole numbers that a fanout may be.
 fn fanout_parser<'a>() -> ValueParser<'a>
-    ensures { result ≡ fanout_values }
+    ensures { result ≡ ValueParser.Signed (pos least_fanout) (pos greatest_fanout) }
 {
     clap::value_parser!(u8).range(
         i64::from(Settings::LEAST_FANOUT)..=i64::from(Settings::GREATEST_FANOUT),
@@ -160,7 +162,7 @@ fn fanout_parser<'a>() -> ValueParser<'a>
 
 // The whole numbers that the most entries may be.
 fn entries_parser<'a>() -> ValueParser<'a>
-    ensures { result ≡ entries_values }
+    ensures { result ≡ ValueParser.Signed (pos 1) (pos most_entries) }
 {
     clap::value_parser!(u32).range(1..=i64::from(Settings::MOST_ENTRIES))
 }
@@ -178,7 +180,9 @@ fn word_arg<'a>(alloc: Global, name: &'a str, required: bool) -> Arg<'a>
 // The settings that the matches give.
 fn settings(matches: &ArgMatches<'_>) -> Settings
     requires { AreFilled (rows_of (found_of matches.now)) }
-    ensures { choices_in (rows_of (found_of matches.now)) ≡ Some result }
+    ensures header { result.header ≡ is_given (first_of (codes "header") (rows_of (found_of matches.now))) }
+    ensures fanout { option_number (codes "fanout") (rows_of (found_of matches.now)) ≡ Some result.fanout }
+    ensures max_entries { option_number (codes "max-entries") (rows_of (found_of matches.now)) ≡ Some result.max_entries }
 {
     Settings::new(header(matches), fanout(matches), max_entries(matches)).unwrap()
 }
@@ -196,7 +200,7 @@ fn header(matches: &ArgMatches<'_>) -> bool
 // The fanout, given or by default: clap has checked that it stands in its range.
 fn fanout(matches: &ArgMatches<'_>) -> u8
     requires { HasNumber (codes "fanout") least_fanout greatest_fanout (rows_of (found_of matches.now)) }
-    ensures value { option_number (first_of (codes "fanout") (rows_of (found_of matches.now))) ≡ Some result }
+    ensures value { option_number (codes "fanout") (rows_of (found_of matches.now)) ≡ Some result }
     ensures least { least_fanout ≤ result }
     ensures most { result ≤ greatest_fanout }
 {
@@ -206,7 +210,7 @@ fn fanout(matches: &ArgMatches<'_>) -> u8
 // The most entries, likewise.
 fn max_entries(matches: &ArgMatches<'_>) -> u32
     requires { HasNumber (codes "max-entries") 1 most_entries (rows_of (found_of matches.now)) }
-    ensures value { option_number (first_of (codes "max-entries") (rows_of (found_of matches.now))) ≡ Some result }
+    ensures value { option_number (codes "max-entries") (rows_of (found_of matches.now)) ≡ Some result }
     ensures least { 1 ≤ result }
     ensures most { result ≤ most_entries }
 {

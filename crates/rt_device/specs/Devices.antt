@@ -1,5 +1,5 @@
 -- What a pull and a push do to the bytes that a device tells.
-use Rattle.std.specs.Prelude.{◌≡◌, ℕ, Bool, false, nat_lt, List, take, Option, IfSome, Result, Ok, Err, MatchResult}
+use Rattle.std.specs.Prelude.{◌≡◌, ℕ, Bool, List, take, Option, IfSome, Result, MatchResult}
 use Rattle.std.specs.Io.KnownBytes.{Appends, Consumes, IsAtEnd}
 
 -- where the bytes are still told after a failure, they are as before
@@ -16,11 +16,6 @@ Pulls old new pulled room =
 abbrev pub Pushes : {E : Type 0} → Option (List ℕ) → Option (List ℕ) → Result ℕ E → List ℕ → Type 0
 Pushes old new pushed piece =
     MatchResult pushed (λ n. Appends old new (take n piece)) (λ _. IsSameIfTold old new)
-
--- a push that took a byte at least
-abbrev pub took_any : {E : Type 0} → Result ℕ E → Bool
-took_any (Ok n) = nat_lt 0 n
-took_any (Err _) = false
 
 -- a reader of std, and how many of its calls failed
 pub record Reader (R : Type 0) : Type 0 where

@@ -1,8 +1,9 @@
 //! Room in memory as a sink.
 
-ghost use Rattle.std.specs.Prelude.{◌≡◌, ◌+◌, ◌-◌, ◌<◌, ◌≤◌, ◌^◌, ◌↔◌, ◌||◌, [], Some, IfOk, IsErr, OnOk, OnErr, length, min, unwrap_or, if◌then◌else◌, true, false};
+ghost use Rattle.std.specs.Prelude.{◌≡◌, ◌+◌, ◌-◌, ◌<◌, ◌≤◌, ◌^◌, ◌↔◌, ◌||◌, [], Some, IfOk, IsErr, nat_lt, OnOk, OnErr, length, min, unwrap_or, if◌then◌else◌, true, false};
 ghost use Rattle.std.specs.Io.KnownBytes.{Keeps};
-ghost use Rattle.rt_device.specs.Devices.{IsSameIfTold, Pushes, took_any};
+ghost use Rattle.std.specs.Result.{result_unwrap_or};
+ghost use Rattle.rt_device.specs.Devices.{IsSameIfTold, Pushes};
 
 use crate::sink::{Sink, WriteFault};
 use std::marker::Model;
@@ -107,7 +108,7 @@ impl Sink for SliceSink<'_> {
         ensures many { IfOk result (λ n. n ≡ min self.old.piece (min self.old.left (length piece.now))) }
         ensures left { IfOk result (λ n. self.new.left ≡ self.old.left - n) }
         ensures lost { OnErr result (self.new.left ≡ self.old.left) }
-        ensures waits { self.new.waits ≡ (took_any result || self.old.waits) }
+        ensures waits { self.new.waits ≡ (nat_lt 0 (result_unwrap_or result 0) || self.old.waits) }
         ensures later { (self.new.fails_in ≡ self.old.fails_in - 1) × (self.new.piece ≡ self.old.piece) }
     {
         if self.fails() {

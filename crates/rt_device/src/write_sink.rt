@@ -1,8 +1,9 @@
 //! A writer of std as a sink.
 
-ghost use Rattle.std.specs.Prelude.{◌≡◌, ◌+◌, ◌-◌, ◌<◌, ◌≤◌, ◌^◌, ◌||◌, IfOk, OnOk, OnErr, false, length};
+ghost use Rattle.std.specs.Prelude.{◌≡◌, ◌+◌, ◌-◌, ◌<◌, ◌≤◌, ◌^◌, ◌||◌, IfOk, nat_lt, OnOk, OnErr, false, length};
 ghost use Rattle.std.specs.Io.KnownBytes.{Keeps};
-ghost use Rattle.rt_device.specs.Devices.{IsSameIfTold, Pushes, took_any};
+ghost use Rattle.std.specs.Result.{result_unwrap_or};
+ghost use Rattle.rt_device.specs.Devices.{IsSameIfTold, Pushes};
 
 use crate::sink::{Sink, WriteFault};
 use std::io::Write;
@@ -57,7 +58,7 @@ impl<W: Write> Sink for WriteSink<W> {
         ensures went { IfOk result (λ n. 0 < n → self.new.failures ≡ self.old.failures) }
         ensures took_none { IfOk result (λ n. n ≡ 0 → self.new.failures ≡ self.old.failures + 1) }
         ensures fails { OnErr result (self.new.failures ≡ self.old.failures + 1) }
-        ensures waits { self.new.waits ≡ (took_any result || self.old.waits) }
+        ensures waits { self.new.waits ≡ (nat_lt 0 (result_unwrap_or result 0) || self.old.waits) }
     {
         match self.writer.write(piece) {
             Ok(0) => {

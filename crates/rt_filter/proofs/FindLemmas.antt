@@ -10,8 +10,7 @@ use Rattle.rt_tree.proofs.SortingLemmas.{IsPermutation-sorted}
 use Rattle.rt_text.specs.ReplyLines.{answer_line}
 use Rattle.rt_search.specs.Answers.{Answer, answer_cmp, answers, scored}
 use Rattle.rt_search.proofs.Giving.{length-scored}
-use Rattle.rt_filter.specs.Pushes.{WasCut, WasPushed}
-use Rattle.rt_filter.specs.Replies.{answer_lines}
+use Rattle.rt_filter.specs.Pushes.{WasCut, WasPushed, answer_lines}
 use Rattle.rt_filter.proofs.PushLemmas.{AllBut, pushed_cut, pushed_next}
 
 length-limited : {X : Type 0} (limit : Option ℕ) (xs : List X) → length (limited limit xs) ≤ length xs

@@ -4,8 +4,8 @@ use Rattle.std.proofs.lemmas.Bool.Decides.{nat_tests}
 use Rattle.std.specs.List.{enumerate_from, slice_split}
 use Rattle.std.proofs.lemmas.Bool.{false_from_ne_true}
 use Rattle.memchr.specs.Find.{IsFirstByte, is_byte}
-use Rattle.rt_filter.specs.Lines.{is_line_feed, line_feed, lines_of_parts}
-use Rattle.rt_filter.specs.Stages.{HasNoLineFeed, lines_from}
+use Rattle.rt_filter.specs.Lines.{is_line_feed, lines_of_parts}
+use Rattle.rt_filter.specs.Stages.{HasNoLineFeed, line_feed, lines_from}
 
 -- ---- where the first line feed stands
 

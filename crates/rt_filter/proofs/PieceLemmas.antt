@@ -15,10 +15,10 @@ use Rattle.std.proofs.lemmas.List.{drop-drop, drop-take, length-append, length-d
 use Rattle.memchr.specs.Find.{IsFirstByte, is_byte}
 use Rattle.rt_text.specs.declared.query.Parsed.{Parsed}
 use Rattle.rt_device.specs.Devices.{IsSameIfTold}
-use Rattle.rt_filter.specs.Lines.{line_feed, longest_line, numbered_lines}
+use Rattle.rt_filter.specs.Lines.{longest_line, numbered_lines}
 use Rattle.rt_filter.specs.Replies.{Loaded, any_fault, is_fault, judged_line, output, reply}
 use Rattle.rt_filter.specs.Pushes.{WasCut, WasPushed, WentPrefix}
-use Rattle.rt_filter.specs.Stages.{HasNoLineFeed, IsAnswering, IsCut, parsed_line, lines_from}
+use Rattle.rt_filter.specs.Stages.{HasNoLineFeed, IsAnswering, IsCut, line_feed, parsed_line, lines_from}
 use Rattle.rt_filter.proofs.PushLemmas.{behind, unmoved}
 use Rattle.rt_filter.proofs.LineLemmas.{clear-append, found, lines_from-found, lines_from-last, lines_from-none}
 

@@ -15,9 +15,9 @@ use Rattle.rt_search.specs.Answers.{answers}
 use Rattle.rt_filter.specs.Faults.{run_fault_line}
 use Rattle.rt_filter.specs.Lines.{numbered_lines}
 use Rattle.rt_filter.specs.Replies.{query_reply}
-use Rattle.rt_filter.specs.Runs.{Run, run_of, run_over, whole_run}
+use Rattle.rt_filter.specs.Runs.{Run, run_of, run_over}
 use Rattle.rt_filter.specs.declared.filter.RunFault.TheVariants.{Table}
-use Rattle.rt_filter.proofs.RunLemmas.{loaded_with}
+use Rattle.rt_filter.proofs.RunLemmas.{loaded_with, whole_run}
 
 -- ---- lines
 
@@ -88,7 +88,7 @@ row_levels_of_sixteen = run_over_boxes (codes "levels") ∙ refl
 row_no_queries : run_of usual boxes [] ≡ whole_run [] false
 row_no_queries = run_over_boxes [] ∙ refl
 
-row_repeated : run_over (Err (fault.Repeated 6)) (codes "find all") ≡ record { written = []; fault = Some (Table (fault.Repeated 6)); status = 3 }
+row_repeated : run_over (Err (fault.Repeated 6)) (codes "find all") ≡ record { written = []; outcome = record { status = 3; fault = Some (Table (fault.Repeated 6)) } }
 row_repeated = refl
 
 row_fault_line : run_fault_line (Table (fault.Repeated 6)) ≡ line (codes "rtfilter: table record 6: repeated id")

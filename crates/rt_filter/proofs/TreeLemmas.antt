@@ -26,7 +26,7 @@ use Rattle.rt_text.specs.declared.query.Query.TheVariants.{CostCount, CostFind, 
 use Rattle.rt_search.specs.Answers.{accepted, answer_cmp, answer_of, answers}
 use Rattle.rt_search.specs.Work.{opened_by_count, opened_by_search}
 use Rattle.rt_text.specs.Words.{is_empty}
-use Rattle.rt_filter.specs.Endings.{Happened, Serves, ServesWith, Told}
+use Rattle.rt_filter.specs.Endings.{Happened, Serves, ServesWith}
 use Rattle.rt_filter.specs.Lines.{numbered_lines}
 use Rattle.rt_filter.specs.Replies.{Loaded, find_reply, judged_line, levels_reply, output, query_reply, reply, tree_of, verdict_of}
 use Rattle.rt_filter.specs.Stages.{loaded_tree}
@@ -114,7 +114,7 @@ serves_same : (one other : Loaded) (what : Happened) (bad : Bool) (cause : Optio
     → ((lines : List (ℕ × List ℕ)) → output other lines ≡ output one lines)
     → ServesWith one what bad cause → ServesWith other what bad cause
 serves_same one other what bad None same s =
-    record { ended = s.ended; replies = rw (same (numbered_lines what.consumed true)) s.replies; faults = s.faults }
+    (s.0, record { replies = rw (same (numbered_lines what.consumed true)) s.1.replies; faults = s.1.faults })
 serves_same one other what bad (Some serve.Read) same s =
     record { replies = rw (same (numbered_lines what.consumed false)) s.replies; faults = s.faults }
 serves_same one other what bad (Some serve.Write) same s = record {
@@ -141,8 +141,9 @@ module _ (tree : Packed) (loaded : Loaded) (sound : IsSound tree) (packed : tree
       ∙ ap (λ fanout. output (record { entries = tree.entries; fanout = fanout }) lines) (sym fanout_same)
 
   -- what is served over a tree is served over each list of entries whose packed tree it is
-  pub serves_of_tree : (told : Told) (bad : Bool) (fault : Option ServeFault) (served : Served)
+  pub serves_of_tree : (queries before : List ℕ) (coming written : Option (List ℕ)) (bad : Bool) (fault : Option ServeFault) (served : Served)
       → served.bad ≡ bad → served.fault ≡ fault
-      → Serves (loaded_tree tree) told (record { bad = bad; fault = fault }) → Serves loaded told served
-  serves_of_tree told bad fault served b f s =
+      → Serves (loaded_tree tree) queries before coming written (record { bad = bad; fault = fault })
+      → Serves loaded queries before coming written served
+  serves_of_tree queries before coming written bad fault served b f s =
       rw (b, f) (s.0, s.1, serves_same (loaded_tree tree) loaded s.0 bad fault output_same s.2)

@@ -12,11 +12,11 @@ use borrow.Rule.Slice.PartMut.{put_mid}
 use lib.ListN.{set}
 use Rattle.rt_device.specs.Devices.{IsSameIfTold}
 use Rattle.rt_text.specs.Words.{is_empty}
-use Rattle.rt_filter.specs.Endings.{ConsumedAtLeast, Serves, StillTells, told_of}
-use Rattle.rt_filter.specs.Lines.{is_line_feed, line_feed, lines_of_parts, longest_line, most_pulled, numbered_lines}
+use Rattle.rt_filter.specs.Endings.{ConsumedAtLeast, Serves, StillTells}
+use Rattle.rt_filter.specs.Lines.{is_line_feed, lines_of_parts, longest_line, numbered_lines}
 use Rattle.rt_filter.specs.Replies.{Loaded, any_fault, output}
 use Rattle.rt_filter.specs.Pushes.{WentPrefix}
-use Rattle.rt_filter.specs.Stages.{HasNoLineFeed, IsAnswering, IsCut, IsServing, lines_from}
+use Rattle.rt_filter.specs.Stages.{HasNoLineFeed, IsAnswering, IsCut, IsServing, line_feed, lines_from, most_pulled, told_of}
 use Rattle.rt_filter.specs.declared.serving.ServeFault.TheVariants as serve
 use Rattle.rt_filter.proofs.LineLemmas.{clear-append}
 use Rattle.rt_filter.proofs.PieceLemmas.{all_answered, any_fault-append, ended_lines, no_line, or_first, output-append, starts, starts-more}
@@ -151,7 +151,11 @@ ended : (rest : List ℕ) (new : Option (List ℕ)) → Consumes (Some rest) new
 ended rest None h e = absurd h
 ended rest (Some ys) h e = (ap (λ zs. Some zs) e, h ∙ e)
 
-still_told : (now : Option (List ℕ)) (bytes : List ℕ) → IsSameIfTold (Some bytes) now → StillTells true now bytes
+-- a device that tells these bytes, failed or not
+pub still_all : (failed : Type 0) (now : Option (List ℕ)) (bytes : List ℕ) → now ≡ Some bytes → StillTells failed now bytes
+still_all failed now bytes h = rw h (refl, λ _. refl)
+
+still_told : (now : Option (List ℕ)) (bytes : List ℕ) → IsSameIfTold (Some bytes) now → IfSome now (λ known. known ≡ bytes)
 still_told None bytes h = tt
 still_told (Some known) bytes h = h
 
@@ -160,7 +164,7 @@ still_told (Some known) bytes h = h
 -- behind what was there before, a prefix of the whole that has the earlier part
 pub record WentOut (whole earlier before : List ℕ) (now : Option (List ℕ)) : Type 0 where
   pub out : List ℕ
-  pub told_so : StillTells true now (before ++ out)
+  pub told_so : IfSome now (λ known. known ≡ before ++ out)
   pub prefix : StartsWith whole out
   pub answered : StartsWith out earlier
 
@@ -196,13 +200,13 @@ module _ (loaded : Loaded) (queries before : List ℕ) (coming written : Option 
 
   -- a failed pull, or turns that are used up
   pub serving-stopped : (now : Option (List ℕ)) → IsSameIfTold coming now
-      → Serves loaded (told_of queries before now written) (record { bad = bad; fault = Some serve.Read })
+      → Serves loaded queries before now written (record { bad = bad; fault = Some serve.Read })
   serving-stopped now u = (
     record { consumed = s.consumed; rest = s.rest; out = output loaded (numbered_lines s.consumed false) },
     record {
-      queries = s.told_so.1;
-      coming = still_told now s.rest (rw s.told_so.0 at u);
-      written = s.written ∙ ap (λ zs. Some zs) out_is;
+      parts = s.told_so.1;
+      source = (still_told now s.rest (rw s.told_so.0 at u), λ other. absurd (other refl));
+      sink = still_all _ written _ (s.written ∙ ap (λ zs. Some zs) out_is);
     },
     record { replies = refl; faults = s.answering.faults ∙ ap any_fault (sym complete) },
   )
@@ -215,27 +219,27 @@ module _ (loaded : Loaded) (queries before : List ℕ) (coming written : Option 
   pub serving-ended : (now out : Option (List ℕ)) (fault : Bool) → Consumes coming now [] → IsAtEnd now
       → ((all before out' : List ℕ) → written ≡ Some out' → IsAnswering loaded all before lines bad is_long partial out' → HasNoLineFeed partial
       → (out ≡ Some (before ++ output loaded (numbered_lines all true))) × (fault ≡ any_fault (numbered_lines all true)))
-      → Serves loaded (told_of queries before now out) (record { bad = fault; fault = None })
+      → Serves loaded queries before now out (record { bad = fault; fault = None })
   serving-ended now out fault h at answered =
       let e = ended s.rest now (rw s.told_so.0 at h) at in
       let r = answered s.consumed before s.out s.written s.answering s.clear in (
         record { consumed = s.consumed; rest = []; out = output loaded (numbered_lines s.consumed true) },
-        record { queries = s.told_so.1 ∙ ap (λ zs. s.consumed ++ zs) e.1; coming = e.0; written = r.0 },
-        record { ended = refl; replies = refl; faults = r.1 },
+        record { parts = s.told_so.1 ∙ ap (λ zs. s.consumed ++ zs) e.1; source = still_all _ now _ e.0; sink = still_all _ out _ r.0 },
+        (refl, record { replies = refl; faults = r.1 }),
       )
 
   -- a push or a flush failed
   cut_prefix : (now out : Option (List ℕ)) (fault : Bool) (given rest : List ℕ) → now ≡ Some rest → s.rest ≡ given ++ rest → length given ≤ most_pulled
       → IsCut loaded (numbered_lines (s.consumed ++ given) (is_empty rest)) before s.out out fault
-      → Serves loaded (told_of queries before now out) (record { bad = fault; fault = Some serve.Write })
+      → Serves loaded queries before now out (record { bad = fault; fault = Some serve.Write })
   cut_prefix now out fault given rest is parts few cut =
       let gone = went_out (output loaded (numbered_lines (s.consumed ++ given) (is_empty rest))) (output loaded (numbered_lines s.consumed false)) before out
       (begins_so given (is_empty rest)) cut.written (rw out_is at cut.answered) in (
         record { consumed = s.consumed ++ given; rest = rest; out = gone.out },
         record {
-          queries = s.told_so.1 ∙ ap (λ zs. s.consumed ++ zs) parts ∙ sym (append_assoc s.consumed given rest);
-          coming = is;
-          written = gone.told_so;
+          parts = s.told_so.1 ∙ ap (λ zs. s.consumed ++ zs) parts ∙ sym (append_assoc s.consumed given rest);
+          source = still_all _ now rest is;
+          sink = (gone.told_so, λ other. absurd (other refl));
         },
         record {
           replies = gone.prefix;
@@ -252,7 +256,7 @@ module _ (loaded : Loaded) (queries before : List ℕ) (coming written : Option 
   pub serving-cut_at_end : (now out : Option (List ℕ)) (fault : Bool) → Consumes coming now [] → IsAtEnd now
       → ((all before out' : List ℕ) → written ≡ Some out' → IsAnswering loaded all before lines bad is_long partial out' → HasNoLineFeed partial
       → IsCut loaded (numbered_lines all true) before out' out fault)
-      → Serves loaded (told_of queries before now out) (record { bad = fault; fault = Some serve.Write })
+      → Serves loaded queries before now out (record { bad = fault; fault = Some serve.Write })
   serving-cut_at_end now out fault h at cut =
       let e = ended s.rest now (rw s.told_so.0 at h) at in
       cut_prefix now out fault [] [] e.0 e.1 (omega arith)
@@ -264,7 +268,7 @@ module _ (loaded : Loaded) (queries before : List ℕ) (coming written : Option 
     pub serving-ended_so : (lines' : ℕ) (is_long' : Bool) (rest : List ℕ)
         → ((all before out' : List ℕ) → written ≡ Some out' → IsAnswering loaded all before lines bad is_long bytes out'
         → (gone : List ℕ) × (out ≡ Some gone) × IsAnswering loaded all before lines' bad' is_long' rest gone)
-        → HasNoLineFeed rest → Serves loaded (told_of queries before now out) (record { bad = bad'; fault = None })
+        → HasNoLineFeed rest → Serves loaded queries before now out (record { bad = bad'; fault = None })
     serving-ended_so lines' is_long' rest answered none = serving-ended now out bad' h at (λ all before out' e a clear.
         let r = answered (all ++ line_feed ∷ []) before out' e (rw is (answering-taken loaded all before lines bad is_long partial out' (line_feed ∷ []) a)) in
         let t = all_answered loaded (all ++ line_feed ∷ []) before r.0 lines' bad' is_long' rest r.2 none in
@@ -273,7 +277,7 @@ module _ (loaded : Loaded) (queries before : List ℕ) (coming written : Option 
 
     pub serving-cut_so : ((all before out' : List ℕ) → written ≡ Some out' → IsAnswering loaded all before lines bad is_long bytes out'
         → IsCut loaded (numbered_lines all false) before out' out bad')
-        → Serves loaded (told_of queries before now out) (record { bad = bad'; fault = Some serve.Write })
+        → Serves loaded queries before now out (record { bad = bad'; fault = Some serve.Write })
     serving-cut_so cut = serving-cut_at_end now out bad' h at (λ all before out' e a clear.
         subst (λ ls. IsCut loaded ls before out' out bad') (ended_lines loaded all before out' lines bad is_long partial a clear some)
         (cut (all ++ line_feed ∷ []) before out' e (rw is (answering-taken loaded all before lines bad is_long partial out' (line_feed ∷ []) a))))
@@ -282,7 +286,7 @@ module _ (loaded : Loaded) (queries before : List ℕ) (coming written : Option 
   pub serving-cut : (now out : Option (List ℕ)) (fault : Bool) (given bytes : List ℕ) → Consumes coming now given → length given ≤ most_pulled → bytes ≡ partial ++ given
       → ((all before out' : List ℕ) → written ≡ Some out' → IsAnswering loaded all before lines bad is_long bytes out'
       → IsCut loaded (numbered_lines all false) before out' out fault)
-      → Serves loaded (told_of queries before now out) (record { bad = fault; fault = Some serve.Write })
+      → Serves loaded queries before now out (record { bad = fault; fault = Some serve.Write })
   serving-cut now out fault given bytes h few e cut =
       let t = taken now given h in
       let all : List ℕ = s.consumed ++ given in
@@ -313,13 +317,17 @@ module _ (loaded : Loaded) (queries before : List ℕ) (coming written : Option 
 -- ---- all turns
 
 pub consumed_none : (old : Option (List ℕ)) → ConsumedAtLeast 0 old old
-consumed_none old all e = ([], all, e, refl, omega arith)
+consumed_none None = ([], tt, omega arith)
+consumed_none (Some all) = ([], refl, omega arith)
 
 pub consumed_more : (count : ℕ) (old mid new : Option (List ℕ)) → ConsumedAtLeast count old mid → ConsumedAtLeast 1 mid new → ConsumedAtLeast (count + 1) old new
-consumed_more count old mid new h k all e =
-    let r = h all e in
-    let t = k r.1 r.2 in
-    (r.0 ++ t.0, t.1, t.2, r.3 ∙ ap (λ zs. r.0 ++ zs) t.3 ∙ sym (append_assoc r.0 t.0 t.1), omega (arith, length-append r.0 t.0, r.4, t.4))
+consumed_more count old mid new h k = (h.0 ++ k.0, by old mid new h.1 k.1, omega (arith, length-append h.0 k.0, h.2, k.2))
+  where
+    by : (old mid new : Option (List ℕ)) → Consumes old mid h.0 → Consumes mid new k.0 → Consumes old new (h.0 ++ k.0)
+    by None mid new a b = tt
+    by (Some xs) None new a b = absurd a
+    by (Some xs) (Some ys) None a b = absurd b
+    by (Some xs) (Some ys) (Some zs) a b = a ∙ ap (λ rest. h.0 ++ rest) b ∙ sym (append_assoc h.0 k.0 zs)
 
 -- no line is begun
 pub serving_first : (loaded : Loaded) (queries before : List ℕ) (coming written : Option (List ℕ)) → coming ≡ Some queries → written ≡ Some before

@@ -1,22 +1,15 @@
 -- The lines of query bytes.
-use Rattle.std.specs.Prelude.{ℕ, ◌+◌, ◌==◌, ◌&&◌, Bool, not, if◌then◌else◌, List, [], ◌∷◌}
+use Rattle.std.specs.Prelude.{ℕ, ◌==◌, ◌&&◌, Bool, not, if◌then◌else◌, List, [], ◌∷◌}
 use Rattle.std.specs.List.{enumerate_from, slice_split}
 use Rattle.rt_text.specs.Words.{is_empty}
 
--- the byte that ends a line
-abbrev pub line_feed : ℕ
-line_feed = 10
-
+-- the byte that ends a line, which is 10
 abbrev pub is_line_feed : ℕ → Bool
-is_line_feed c = c == line_feed
+is_line_feed c = c == 10
 
 -- a line of more bytes is too long
 abbrev pub longest_line : ℕ
 longest_line = 4096
-
--- one pull gives at most so many bytes: those of a line and its line feed
-abbrev pub most_pulled : ℕ
-most_pulled = longest_line + 1
 
 -- of the parts between line feeds each but the last is a line; the last is one where no more bytes come and it isn't
 -- empty

@@ -1,6 +1,12 @@
 -- What pushes add up to. No public contract cites it.
-use Rattle.std.specs.Prelude.{◌≡◌, ◌+◌, ℕ, List, ◌++◌, Option, IfSome, Some, Result, MatchResult}
+use Rattle.std.specs.Prelude.{◌≡◌, ◌+◌, ℕ, List, ◌++◌, flat_map, Option, IfSome, Some, Result, MatchResult}
 use Rattle.std.specs.Io.{StartsWith}
+use Rattle.rt_text.specs.ReplyLines.{answer_line}
+use Rattle.rt_search.specs.Answers.{Answer}
+
+-- a line for each answer
+abbrev pub answer_lines : List Answer → List ℕ
+answer_lines found = flat_map (λ answer. answer_line answer.0 answer.1) found
 
 -- where the bytes written are still known, those that came out after `before` are a prefix of these
 abbrev pub WentPrefix : (before : List ℕ) → (now : Option (List ℕ)) → List ℕ → Type 0

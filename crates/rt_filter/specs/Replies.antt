@@ -37,13 +37,9 @@ tree_of loaded = pack_of loaded.fanout loaded.entries
 abbrev pub judged_line : List ℕ → Parsed
 judged_line line = if nat_lt longest_line (length line) then parsed.Fault fault.LineTooLong else query_of line
 
--- a line for each answer
-abbrev pub answer_lines : List Answer → List ℕ
-answer_lines found = flat_map (λ answer. answer_line answer.0 answer.1) found
-
 -- a line for each answer, then their number
 abbrev pub find_reply : (line : ℕ) → List Answer → List ℕ
-find_reply line found = answer_lines found ++ ok_line line (length found)
+find_reply line found = flat_map (λ answer. answer_line answer.0 answer.1) found ++ ok_line line (length found)
 
 -- a line for each level from the top down to 0, that of the entries, then their number
 abbrev pub levels_reply : (line : ℕ) → (sizes : List ℕ) → List ℕ

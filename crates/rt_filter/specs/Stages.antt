@@ -9,7 +9,6 @@ use Rattle.rt_text.specs.declared.query.Parsed.TheVariants as parsed
 use Rattle.rt_text.specs.declared.query.QueryFault.TheVariants as fault
 use Rattle.rt_text.specs.declared.tables.TableFault.TheVariants as load
 use Rattle.rt_tree.specs.Packed.{Packed}
-use Rattle.rt_filter.specs.Endings.{Told}
 use Rattle.rt_filter.specs.Lines.{is_line_feed, lines_of_parts, longest_line, numbered_lines}
 use Rattle.rt_filter.specs.Pushes.{WentPrefix}
 use Rattle.rt_filter.specs.Replies.{Loaded, any_fault, judged_line, output, tree_of}
@@ -49,6 +48,14 @@ run_fault_of (Some serve.Write) = Some Write
 
 -- ---- lines in pieces
 
+-- the byte that ends a line
+abbrev pub line_feed : ℕ
+line_feed = 10
+
+-- one pull gives at most so many bytes: those of a line and its line feed
+abbrev pub most_pulled : ℕ
+most_pulled = longest_line + 1
+
 -- the lines of these bytes, numbered on from so many
 abbrev pub lines_from : (number : ℕ) → List ℕ → (ended : Bool) → List (ℕ × List ℕ)
 lines_from number bytes ended = enumerate_from (number + 1) (lines_of_parts ended (slice_split is_line_feed bytes))
@@ -74,6 +81,21 @@ pub record IsAnswering (loaded : Loaded) (bytes before : List ℕ) (lines : ℕ)
   pub long : is_long ≡ true → longest_line < length dropped
   pub short : is_long ≡ false → dropped ≡ []
   pub clear : HasNoLineFeed dropped
+
+-- the bytes that a source and a sink tell, before and after
+pub record Told : Type 0 where
+  -- of the queries that were to come
+  pub queries : List ℕ
+  -- in the sink, before
+  pub before : List ℕ
+  -- of the queries that are still to come
+  pub coming : Option (List ℕ)
+  -- in the sink, now
+  pub written : Option (List ℕ)
+
+abbrev pub told_of : (queries before : List ℕ) → (coming written : Option (List ℕ)) → Told
+told_of queries before coming written =
+    record { queries = queries; before = before; coming = coming; written = written }
 
 -- these query bytes were consumed, and the rest are still to come
 abbrev pub Consumed : Told → (consumed rest : List ℕ) → Type 0

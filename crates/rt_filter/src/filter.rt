@@ -1,7 +1,7 @@
 //! A whole run: a table and queries in, answers out.
 
-ghost use Rattle.std.specs.Prelude.{◌≡◌, ◌+◌, ◌-◌, ◌<◌, ◌≤◌, ◌^◌, ◌⊎◌, ℕ, List, Some, None, IfOk, IfErr, length, if◌then◌else◌, true, false};
-ghost use Rattle.rt_filter.specs.Endings.{Ends, ConsumedAtLeast, IsStatusOf, told_of, is_of_load, is_read, is_write};
+ghost use Rattle.std.specs.Prelude.{◌≡◌, ◌+◌, ◌-◌, ◌<◌, ◌≤◌, ◌^◌, ◌⊎◌, ◌≢◌, ℕ, List, Some, None, IfOk, IfErr, length, if◌then◌else◌, true, false};
+ghost use Rattle.rt_filter.specs.Endings.{Ends, ConsumedAtLeast, IsStatusOf, is_of_load};
 ghost use Rattle.rt_filter.specs.Faults.{run_fault_line};
 ghost use Rattle.rt_filter.specs.Stages.{HasLoaded, Stops, is_reported, run_fault_of};
 
@@ -57,18 +57,19 @@ pub fn run<R: Read + Drop, S: Source, K: Sink>(
     // is written, the fault and the status. After a failed push or flush, what went out is a prefix of that.
     ensures ending { (table queries before : List ℕ)
         → R.remaining reader ≡ Some table → S.coming source.old ≡ Some queries → K.written sink.old ≡ Some before
-        → Ends settings.now table (told_of queries before (S.coming source.new) (K.written sink.new)) result }
+        → Ends settings.now table queries before (S.coming source.new) (K.written sink.new) result }
     ensures status { IsStatusOf result.fault result.status }
 
     // Each failure of a device is reported, and no other. A source may also be given up when the turns are used up.
-    ensures pushes { K.failed sink.new ≡ K.failed sink.old + (if is_write result.fault then 1 else 0) }
+    ensures failed_push { result.fault ≡ Some RunFault.Write → K.failed sink.new ≡ K.failed sink.old + 1 }
+    ensures no_failed_push { result.fault ≢ Some RunFault.Write → K.failed sink.new ≡ K.failed sink.old }
     ensures pulls { (S.failed source.new ≡ S.failed source.old)
-        ⊎ ((S.failed source.new ≡ S.failed source.old + 1) × (is_read result.fault ≡ true)) }
-    ensures turns { is_read result.fault ≡ true → S.failed source.new ≡ S.failed source.old
+        ⊎ ((S.failed source.new ≡ S.failed source.old + 1) × (result.fault ≡ Some RunFault.Read)) }
+    ensures turns { result.fault ≡ Some RunFault.Read → S.failed source.new ≡ S.failed source.old
         → ConsumedAtLeast turns (S.coming source.old) (S.coming source.new) }
 
     // What was pushed is flushed, unless a push or a flush failed.
-    ensures flushed { is_write result.fault ≡ false → K.waits sink.old ≡ false → K.waits sink.new ≡ false }
+    ensures flushed { result.fault ≢ Some RunFault.Write → K.waits sink.old ≡ false → K.waits sink.new ≡ false }
 
     // A table that can't be had leaves the queries unread, and nothing is written.
     ensures unread { is_of_load result.fault ≡ true → source.new ≡ source.old }

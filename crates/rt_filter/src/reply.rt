@@ -2,8 +2,8 @@
 
 ghost use Rattle.std.specs.Prelude.{◌≡◌, ◌-◌, ◌<◌, ◌^◌, ℕ, List, [], ◌∷◌, IfOk, MatchOption, length};
 ghost use Rattle.rt_search.specs.Answers.{Answer};
-ghost use Rattle.rt_filter.specs.Pushes.{Pushed};
-ghost use Rattle.rt_filter.specs.Replies.{answer_lines, find_reply};
+ghost use Rattle.rt_filter.specs.Pushes.{Pushed, answer_lines};
+ghost use Rattle.rt_filter.specs.Replies.{find_reply};
 
 use rt_device::{Sink, WriteFault};
 use rt_geo::Geometry;

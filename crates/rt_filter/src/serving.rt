@@ -1,9 +1,9 @@
 //! Serving query lines, which come in pieces.
 
-ghost use Rattle.std.specs.Prelude.{◌≡◌, ◌+◌, ◌-◌, ◌||◌, ◌<◌, ◌≤◌, ◌^◌, ◌⊎◌, ℕ, List, [], Some, None, IfOk, OnOk, OnErr, length, take, drop, nat_lt, if◌then◌else◌, true, false};
+ghost use Rattle.std.specs.Prelude.{◌≡◌, ◌+◌, ◌-◌, ◌||◌, ◌<◌, ◌≤◌, ◌^◌, ◌⊎◌, ◌≢◌, ℕ, List, [], Some, None, IfOk, OnOk, OnErr, length, take, drop, nat_lt, if◌then◌else◌, true, false};
 ghost use Rattle.std.specs.Io.KnownBytes.{Keeps};
 ghost use Rattle.rt_device.specs.Devices.{IsSameIfTold};
-ghost use Rattle.rt_filter.specs.Endings.{ConsumedAtLeast, Serves, is_pull, is_push, told_of};
+ghost use Rattle.rt_filter.specs.Endings.{ConsumedAtLeast, Serves};
 ghost use Rattle.rt_filter.specs.Lines.{longest_line, numbered_lines};
 ghost use Rattle.rt_filter.specs.Pushes.{CountsFailure, Pushed};
 ghost use Rattle.rt_filter.specs.Replies.{Loaded, is_fault, reply, tree_of};
@@ -77,17 +77,18 @@ pub fn serve<S: Source, K: Sink>(
     // these entries.
     ensures ending { (loaded : Loaded) → tree.now ≡ tree_of loaded
         → (queries before : List ℕ) → S.coming source.old ≡ Some queries → K.written sink.old ≡ Some before
-        → Serves loaded (told_of queries before (S.coming source.new) (K.written sink.new)) result }
+        → Serves loaded queries before (S.coming source.new) (K.written sink.new) result }
 
     // Each failure of a device is reported, and no other. A source may also be given up when the turns are used up.
-    ensures pushes { K.failed sink.new ≡ K.failed sink.old + (if is_push result.fault then 1 else 0) }
+    ensures failed_push { result.fault ≡ Some ServeFault.Write → K.failed sink.new ≡ K.failed sink.old + 1 }
+    ensures no_failed_push { result.fault ≢ Some ServeFault.Write → K.failed sink.new ≡ K.failed sink.old }
     ensures pulls { (S.failed source.new ≡ S.failed source.old)
-        ⊎ ((S.failed source.new ≡ S.failed source.old + 1) × (is_pull result.fault ≡ true)) }
-    ensures turns { is_pull result.fault ≡ true → S.failed source.new ≡ S.failed source.old
+        ⊎ ((S.failed source.new ≡ S.failed source.old + 1) × (result.fault ≡ Some ServeFault.Read)) }
+    ensures turns { result.fault ≡ Some ServeFault.Read → S.failed source.new ≡ S.failed source.old
         → ConsumedAtLeast turns (S.coming source.old) (S.coming source.new) }
 
     // What was pushed is flushed, unless a push or a flush failed: after whatever number of turns.
-    ensures flushed { is_push result.fault ≡ false → K.waits sink.old ≡ false → K.waits sink.new ≡ false }
+    ensures flushed { result.fault ≢ Some ServeFault.Write → K.waits sink.old ≡ false → K.waits sink.new ≡ false }
 {
     // (called, so that it is known that the tree is the packed one of its own entries)
     let _most = tree.len();

@@ -11,19 +11,19 @@ use Rattle.std.proofs.lemmas.Iterator.{YieldsList}
 use Rattle.std.proofs.lemmas.Iterator.Consumers.{YieldsList-end, YieldsList-turn}
 use Rattle.std.proofs.lemmas.Iterator.Splits.{YieldsList-from_slice_split}
 use Rattle.std.proofs.lemmas.List.{at_drop_all, at_drop_more}
-use Rattle.rt_geo.specs.Layers.{only, union}
+use Rattle.rt_geo.specs.Layers.{most_layer, only, union}
 use Rattle.rt_geo.specs.declared.layers.Layers.{Layers}
-use Rattle.rt_text.specs.Queries.{layer_part, layers_from}
+use Rattle.rt_text.specs.Queries.{layers_from, natural}
 use Rattle.rt_text.specs.declared.query.QueryFault.{QueryFault}
 
 module _ (so_far : Layers) (parts : List (List ℕ)) (place : ℕ) (part : List ℕ) where
   -- a part that is a layer
-  pub layers_from-more : (layer : ℕ) → place < length parts → part ≡ get_or parts place part → layer_part part ≡ Ok layer
+  pub layers_from-more : (layer : ℕ) → place < length parts → part ≡ get_or parts place part → natural most_layer part ≡ Ok layer
       → layers_from so_far (drop place parts) ≡ layers_from (union so_far (only layer)) (drop (place + 1) parts)
   layers_from-more layer there is e = at_drop_more (layers_from so_far) parts place part there ∙ rw (← is, e) refl
 
   -- a part that is none
-  pub layers_from-fault : (cause : QueryFault) → place < length parts → part ≡ get_or parts place part → layer_part part ≡ Err cause
+  pub layers_from-fault : (cause : QueryFault) → place < length parts → part ≡ get_or parts place part → natural most_layer part ≡ Err cause
       → layers_from so_far (drop place parts) ≡ Err cause
   layers_from-fault cause there is e = at_drop_more (layers_from so_far) parts place part there ∙ rw (← is, e) refl
 

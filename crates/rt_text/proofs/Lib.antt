@@ -10,3 +10,4 @@ mod TableLemmas
 mod TableReads
 mod VertexCounts
 pub mod WordLemmas
+pub mod WordReads

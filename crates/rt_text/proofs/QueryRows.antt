@@ -5,8 +5,8 @@ use Rattle.rt_geo.specs.Boxes.{rect_of}
 use Rattle.rt_geo.specs.Layers.{all_layers, only}
 use Rattle.rt_geo.specs.Orders.{near}
 use Rattle.rt_geo.specs.declared.order.Order.TheVariants.{ById, Smallest}
-use Rattle.rt_geo.specs.declared.region.Region.TheVariants.{All, Circle, Window}
-use Rattle.rt_text.specs.Queries.{inside_of, query_of}
+use Rattle.rt_geo.specs.declared.region.Region.TheVariants.{All, Circle, Inside, Window}
+use Rattle.rt_text.specs.Queries.{query_of}
 use Rattle.rt_text.specs.ReplyLines.{answer_line, error_line, level_line, ok_line}
 use Rattle.rt_text.specs.declared.query.Parsed.TheVariants.{Fault, Query, Skip}
 use Rattle.rt_text.specs.declared.query.Query.TheVariants.{CostCount, CostFind, Count, Find, Levels}
@@ -29,7 +29,7 @@ row_circle_near = refl
 row_nearest : query_of (codes "nearest 2 10 -5") ≡ Query (Find (All (record {})) (near (record { x = pos 10; y = negsuc 4 })) (Some 2) all_layers)
 row_nearest = refl
 
-row_count : query_of (codes "count inside 0 15 0 15") ≡ Query (Count (inside_of (rect_of (pos 0) (pos 15) (pos 0) (pos 15))) all_layers)
+row_count : query_of (codes "count inside 0 15 0 15") ≡ Query (Count (Inside (record { 0 = rect_of (pos 0) (pos 15) (pos 0) (pos 15) })) all_layers)
 row_count = refl
 
 row_levels : query_of (codes "\tlevels  \r") ≡ Query Levels

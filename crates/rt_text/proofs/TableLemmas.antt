@@ -1,5 +1,5 @@
 -- The table: the fields of a record, and one record after the other.
-use Rattle.std.proofs.Common.{◌≡◌, ◌+◌, ◌-◌, ◌<◌, ◌≤◌, ℕ, zero, suc, Bool, true, false, ◌&&◌, ◌==◌, List, [], ◌∷◌, ◌++◌, length, drop, get_or, option_map, Option, Some, None, refl, ◌∙◌, ap, sym, inl, inr, arith, rules}
+use Rattle.std.proofs.Common.{◌≡◌, ◌+◌, ◌-◌, ◌<◌, ◌≤◌, ℕ, zero, suc, Bool, true, false, ◌&&◌, ◌||◌, ◌==◌, List, [], ◌∷◌, ◌++◌, length, drop, get_or, option_map, Option, Some, None, refl, ◌∙◌, ap, sym, inl, inr, arith, rules}
 use Rattle.std.specs.Prelude.{Result, Ok, Err, if◌then◌else◌, nat_le, IsOkAnd, IsSome}
 use Rattle.std.proofs.lemmas.Bool.Decides.{nat_tests}
 use Rattle.csv.specs.Records.{field_at}
@@ -8,7 +8,7 @@ use Rattle.rt_text.specs.Steps.{◌>>=◌}
 use Rattle.rt_tree.specs.Entries.{first_repeat, has_id}
 use Rattle.rt_tree.proofs.RepeatLemmas.{first_repeat-push, repeat_with}
 use Rattle.rt_text.specs.Loads.{after_ids, entry_after, first_number, repeat_or}
-use Rattle.rt_text.specs.Tables.{IsRefusal, IsFaultOf, entries_from, entry_in, entry_of_fields, is_field_count, judged, new_entry, records_of, table_of}
+use Rattle.rt_text.specs.Tables.{IsRefusal, IsFaultOf, entries_from, entry_in, entry_of_fields, judged, records_of, table_of}
 use Rattle.rt_text.specs.declared.tables.TableFault.{TableFault}
 use Rattle.rt_text.specs.declared.tables.TableFault.TheVariants as fault
 
@@ -26,7 +26,7 @@ IsSome-field text None fields place e h = let x : None ≡ Some (get_or fields p
 IsSome-field text (Some a) fields place e h = search rules
 
 -- a record of enough fields
-pub entry_of_fields-enough : (number : ℕ) (fields : List (List ℕ)) → is_field_count (length fields) ≡ true
+pub entry_of_fields-enough : (number : ℕ) (fields : List (List ℕ)) → (length fields == 5 || length fields == 6) ≡ true
     → entry_of_fields number fields ≡ entry_in number fields
 entry_of_fields-enough number fields n = rw n refl
 
@@ -52,6 +52,10 @@ pub added-fields : (max number : ℕ) (so_far more : List Entry) (fields : List 
 added-fields max number so_far more fields entry room read added =
     let is : entry_after max number so_far fields ≡ Ok entry = entry_after-fields max number so_far fields room ∙ sym read in
     rw is added
+
+-- the entry, where no entry so far has its id
+abbrev new_entry : (number : ℕ) → List Entry → Entry → Result Entry TableFault
+new_entry number so_far entry = if has_id so_far entry.id then Err (fault.Repeated number) else Ok entry
 
 -- a record is judged as it is but for its id, and then by its id
 judged-entry : (max number : ℕ) (so_far : List Entry) (fields : List (List ℕ))

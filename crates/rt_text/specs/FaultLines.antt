@@ -8,17 +8,13 @@ use Rattle.rt_text.specs.declared.tables.TableFault.TheVariants as fault
 abbrev pub record_line : (number : ℕ) → List ℕ → List ℕ
 record_line number text = codes "rtfilter: table record " ++ decimal number ++ text
 
--- a line on one record, with a number in it
-abbrev pub numbered_line : (number : ℕ) → (before : List ℕ) → (n : ℕ) → (after : List ℕ) → List ℕ
-numbered_line number before n after = record_line number before ++ decimal n ++ after
-
 -- the text of a fault, and a line feed
 abbrev pub fault_line : TableFault → List ℕ
 fault_line (fault.TooMany number) = record_line number (codes ": too many entries\n")
 fault_line (fault.FieldCount number found) =
-    numbered_line number (codes ": wrong number of fields (") found (codes ")\n")
-fault_line (fault.NotNumber number field) = numbered_line number (codes ": field ") field (codes " is not a number\n")
-fault_line (fault.OutOfRange number field) = numbered_line number (codes ": field ") field (codes " is out of range\n")
+    record_line number (codes ": wrong number of fields (" ++ decimal found ++ codes ")\n")
+fault_line (fault.NotNumber number field) = record_line number (codes ": field " ++ decimal field ++ codes " is not a number\n")
+fault_line (fault.OutOfRange number field) = record_line number (codes ": field " ++ decimal field ++ codes " is out of range\n")
 fault_line (fault.MinAboveMax number X) = record_line number (codes ": minimum above maximum in x\n")
 fault_line (fault.MinAboveMax number Y) = record_line number (codes ": minimum above maximum in y\n")
 fault_line (fault.Repeated number) = record_line number (codes ": repeated id\n")

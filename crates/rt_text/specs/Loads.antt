@@ -1,11 +1,18 @@
 -- How a table is loaded: first its entries, and once all are there, their ids. Nothing that the load promises speaks of
 -- this.
-use Rattle.std.specs.Prelude.{◌≡◌, ℕ, ◌+◌, nat_le, Bool, if◌then◌else◌, List, length, Option, Some, None, Result, Ok, Err}
+use Rattle.std.specs.Prelude.{◌≡◌, ℕ, ◌+◌, nat_le, ℤ, Bool, if◌then◌else◌, List, length, Option, Some, None, Result, Ok, Err}
 use Rattle.rt_geo.specs.declared.entry.Entry.{Entry}
 use Rattle.rt_tree.specs.Entries.{first_repeat}
+use Rattle.rt_text.specs.Numbers.{fault_as, number_in}
+use Rattle.rt_text.specs.Steps.{map_fault}
 use Rattle.rt_text.specs.Tables.{IsFaultOf, entry_of_fields}
 use Rattle.rt_text.specs.declared.tables.TableFault.{TableFault}
 use Rattle.rt_text.specs.declared.tables.TableFault.TheVariants as fault
+
+-- the number that the text of a field writes, within a range
+abbrev pub number_of : (number field : ℕ) → (low high : ℤ) → (text : List ℕ) → Result ℤ TableFault
+number_of number field low high text =
+    map_fault (fault_as (fault.NotNumber number field) (fault.OutOfRange number field)) (number_in low high text)
 
 -- one record, judged after the entries so far, but for its id
 abbrev pub entry_after : (max number : ℕ) → List Entry → List (List ℕ) → Result Entry TableFault

@@ -6,10 +6,8 @@ use Rattle.rt_geo.specs.Boxes.{greatest_coordinate, least_coordinate, rect_of}
 use Rattle.rt_geo.specs.Layers.{most_layer}
 use Rattle.rt_geo.specs.declared.entry.Entry.{Entry}
 use Rattle.rt_tree.specs.Entries.{has_id}
-use Rattle.rt_text.specs.Numbers.{number_in}
-use Rattle.rt_text.specs.Steps.{◌>>=◌, map_fault}
-use Rattle.rt_text.specs.declared.numbers.NumberFault.{NumberFault}
-use Rattle.rt_text.specs.declared.numbers.NumberFault.TheVariants as bad
+use Rattle.rt_text.specs.Numbers.{fault_as, number_in}
+use Rattle.rt_text.specs.Steps.{◌>>=◌, map_fault, map_value}
 use Rattle.rt_text.specs.declared.tables.Axis.TheVariants as axis
 use Rattle.rt_text.specs.declared.tables.TableFault.{TableFault}
 use Rattle.rt_text.specs.declared.tables.TableFault.TheVariants as fault
@@ -19,81 +17,46 @@ use Rattle.rt_text.specs.declared.tables.TableFault.TheVariants as fault
 abbrev pub records_of : List ℕ → List (List (List ℕ))
 records_of bytes = records default_config (strip_bom bytes)
 
--- what a field that is no number of its range is told as
-abbrev pub field_fault : (number field : ℕ) → NumberFault → TableFault
-field_fault number field bad.NotNumber = fault.NotNumber number field
-field_fault number field bad.OutOfRange = fault.OutOfRange number field
+-- the number in a field of a record, within a range; records and fields count from 1
+abbrev pub number_at : (number field : ℕ) → (low high : ℤ) → (fields : List (List ℕ)) → Result ℤ TableFault
+number_at number field low high fields =
+    map_fault (fault_as (fault.NotNumber number field) (fault.OutOfRange number field))
+    (number_in low high (slice_index_or fields (field - 1) []))
 
--- the first field: an id, of 64 bits
-abbrev pub id_of : (number : ℕ) → List ℕ → Result ℤ TableFault
-id_of number text = map_fault (field_fault number 1) (number_in (pos 0 -ℤ pos (2 ^ 63)) (pos (2 ^ 63 - 1)) text)
+-- a coordinate, of 32 bits
+abbrev pub coordinate_at : (number field : ℕ) → (fields : List (List ℕ)) → Result ℤ TableFault
+coordinate_at number field fields = number_at number field least_coordinate greatest_coordinate fields
 
--- a later field: a coordinate, of 32 bits
-abbrev pub coordinate_of : (number field : ℕ) → List ℕ → Result ℤ TableFault
-coordinate_of number field text =
-    map_fault (field_fault number field) (number_in least_coordinate greatest_coordinate text)
-
--- the entry of an id, the four sides of its box and its layer
-abbrev pub entry_of_sides : (number : ℕ) → (id min_x max_x min_y max_y : ℤ) → (layer : ℕ) → Result Entry TableFault
-entry_of_sides number id min_x max_x min_y max_y layer =
-    if int_lt max_x min_x then Err (fault.MinAboveMax number axis.X)
-    else if int_lt max_y min_y then Err (fault.MinAboveMax number axis.Y)
-    else Ok (record { id = id; bounds = rect_of min_x max_x min_y max_y; layer = layer })
-
--- how many fields a record without a layer has: an id and the four sides of its box
-abbrev pub fields_without_layer : ℕ
-fields_without_layer = 5
-
--- how many fields a record with a layer has: the layer stands last
-abbrev pub fields_with_layer : ℕ
-fields_with_layer = 6
-
--- a record may have so many fields
-abbrev pub is_field_count : ℕ → Bool
-is_field_count found = found == fields_without_layer || found == fields_with_layer
-
--- the text of the field at a place, counted from 0
-abbrev pub field_text : List (List ℕ) → (place : ℕ) → List ℕ
-field_text fields place = slice_index_or fields place []
-
--- the sixth field, a number from 0 to 63
-abbrev pub layer_of : (number : ℕ) → List ℕ → Result ℕ TableFault
-layer_of number text = do
-  layer ← map_fault (field_fault number 6) (number_in (pos 0) (pos most_layer) text)
-  Ok (unsigned_abs layer)
-
--- the layer of a record, which is 0 where it has no sixth field
-abbrev pub layer_in : (number : ℕ) → List (List ℕ) → Result ℕ TableFault
+-- the layer, a number from 0 to 63, which is 0 where there is no sixth field
+abbrev pub layer_in : (number : ℕ) → (fields : List (List ℕ)) → Result ℕ TableFault
 layer_in number fields =
-    if length fields == fields_without_layer then Ok 0 else layer_of number (field_text fields 5)
+    if length fields == 5 then Ok 0
+    else map_value unsigned_abs (number_at number 6 (pos 0) (pos most_layer) fields)
 
--- the entry of a record's fields, of which there are enough: from left to right, then its sides
-abbrev pub entry_in : (number : ℕ) → List (List ℕ) → Result Entry TableFault
+-- the entry of enough fields, judged from left to right: an id of 64 bits, four sides and a layer; then the sides
+abbrev pub entry_in : (number : ℕ) → (fields : List (List ℕ)) → Result Entry TableFault
 entry_in number fields = do
-  id ← id_of number (field_text fields 0)
-  min_x ← coordinate_of number 2 (field_text fields 1)
-  max_x ← coordinate_of number 3 (field_text fields 2)
-  min_y ← coordinate_of number 4 (field_text fields 3)
-  max_y ← coordinate_of number 5 (field_text fields 4)
+  id ← number_at number 1 (pos 0 -ℤ pos (2 ^ 63)) (pos (2 ^ 63 - 1)) fields
+  min_x ← coordinate_at number 2 fields
+  max_x ← coordinate_at number 3 fields
+  min_y ← coordinate_at number 4 fields
+  max_y ← coordinate_at number 5 fields
   layer ← layer_in number fields
-  entry_of_sides number id min_x max_x min_y max_y layer
+  if int_lt max_x min_x then Err (fault.MinAboveMax number axis.X)
+      else if int_lt max_y min_y then Err (fault.MinAboveMax number axis.Y)
+      else Ok (record { id = id; bounds = rect_of min_x max_x min_y max_y; layer = layer })
 
--- the entry of a record: the number of its fields, then the fields
-abbrev pub entry_of_fields : (number : ℕ) → List (List ℕ) → Result Entry TableFault
+-- the entry of a record, which has five fields, or six with a layer
+abbrev pub entry_of_fields : (number : ℕ) → (fields : List (List ℕ)) → Result Entry TableFault
 entry_of_fields number fields =
-    if is_field_count (length fields) then entry_in number fields
+    if length fields == 5 || length fields == 6 then entry_in number fields
     else Err (fault.FieldCount number (length fields))
 
--- the entry, where no entry so far has its id
-abbrev pub new_entry : (number : ℕ) → List Entry → Entry → Result Entry TableFault
-new_entry number so_far entry =
-    if has_id so_far entry.id then Err (fault.Repeated number) else Ok entry
-
--- one record, judged after the entries so far
-abbrev pub judged : (max number : ℕ) → List Entry → List (List ℕ) → Result Entry TableFault
-judged max number so_far fields =
-    if nat_le max (length so_far) then Err (fault.TooMany number)
-    else entry_of_fields number fields >>= new_entry number so_far
+-- one record, judged after the entries so far: there is room for its entry, it has one, and the id is new
+abbrev pub judged : (max number : ℕ) → List Entry → (fields : List (List ℕ)) → Result Entry TableFault
+judged max number so_far fields = if nat_le max (length so_far) then Err (fault.TooMany number) else do
+  entry ← entry_of_fields number fields
+  if has_id so_far entry.id then Err (fault.Repeated number) else Ok entry
 
 -- the entries of the records from a number on, after the entries so far
 unfoldable pub entries_from : (max number : ℕ) → List Entry → List (List (List ℕ)) → Result (List Entry) TableFault

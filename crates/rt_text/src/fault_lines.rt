@@ -1,7 +1,7 @@
 //! The line that reports a fault of the table.
 
-ghost use Rattle.std.specs.Prelude.{◌≡◌, ◌≤◌, length};
-ghost use Rattle.rt_text.specs.FaultLines.{fault_line, numbered_line, record_line};
+ghost use Rattle.std.specs.Prelude.{◌≡◌, ◌≤◌, ◌++◌, decimal, length};
+ghost use Rattle.rt_text.specs.FaultLines.{fault_line, record_line};
 
 use crate::line::Line;
 use crate::tables::{Axis, TableFault};
@@ -49,7 +49,7 @@ fn record_line(number: u32, text: &[u8]) -> Line
 fn numbered_line(number: u32, before: &[u8], n: u64, after: &[u8]) -> Line
     requires before { length before.now ≤ 32 }
     requires after { length after.now ≤ 32 }
-    ensures { result ≡ numbered_line number before.now n after.now }
+    ensures { result ≡ record_line number (before.now ++ decimal n ++ after.now) }
 {
     let mut line = Line::new(after);
     line.prepend_number(n);

@@ -1,13 +1,15 @@
 //! The grammar of query lines.
 //!
-//! One function for each definition of `specs/Queries.antt`, of the same name: it takes the words that the
-//! definition takes, and answers what it answers.
+//! The functions follow the definitions of `specs/Queries.antt`: each takes the words that its definition takes, and
+//! answers what that answers.
 
-ghost use Rattle.std.specs.Prelude.{◌≡◌, ◌≤◌, ◌≤ℤ◌, ◌∷◌, [], ℕ, IfErr, IfOk, List, MatchOption, OnOk, Some, Ok, Err};
+ghost use Rattle.std.specs.Prelude.{◌≡◌, ◌≤◌, ◌≤ℤ◌, ◌∷◌, [], ℕ, nat_eq, codes, IfErr, IfOk, List, MatchOption, OnOk, Some, Ok, Err};
+ghost use Rattle.std.specs.List.{starts_with};
 ghost use Rattle.std.specs.Str.Lines.{strip_carriage_return};
-ghost use Rattle.rt_text.specs.Numbers.{number_text};
+ghost use Rattle.rt_text.specs.Numbers.{fault_as, number_text};
+ghost use Rattle.rt_text.specs.Steps.{map_value};
 ghost use Rattle.rt_geo.specs.Layers.{most_layer};
-ghost use Rattle.rt_text.specs.Queries.{Takes, circle, coordinate, cost, cost_of, count, find, finished, is_comment, layer_part, layers_of, limit, list_word, natural_word, nearest, number_fault, number_word, on_list, order, point, points, polygon, query, query_of, region, sides, usual_order, vertex_count};
+ghost use Rattle.rt_text.specs.Queries.{Takes, box_query, circle, coordinate, cost_of, count, find, finished, layers_of, limit, natural, nearest, number, on_list, order, point, points, polygon, query, query_of, region, sides, usual_order, vertex_count, word_as};
 
 use crate::numbers::{NumberFault, number};
 use crate::query::{Parsed, Query, QueryFault};
@@ -53,7 +55,7 @@ fn without_return(line: &[u8]) -> &[u8]
 }
 
 fn is_comment(word: &[u8]) -> bool
-    ensures { result ≡ is_comment word.now }
+    ensures { result ≡ starts_with nat_eq word.now (codes "#") }
 {
     word.first() == Some(&b'#')
 }
@@ -62,7 +64,7 @@ fn is_comment(word: &[u8]) -> bool
 
 #[inline(always)]
 fn query(verb: &[u8], words: &mut Words) -> Result<Query, QueryFault>
-    ensures { result ≡ query (verb.now ∷ words.old) }
+    ensures { result ≡ query verb.now words.old }
 {
     if verb == b"find".as_slice() {
         find(words)
@@ -125,7 +127,7 @@ fn count(words: &mut Words) -> Result<Query, QueryFault>
 // Kept out of line: only lines with `cost` have need of it.
 #[inline(never)]
 fn cost(words: &mut Words) -> Result<Query, QueryFault>
-    ensures { result ≡ cost words.old }
+    ensures { result ≡ map_value cost_of (box_query words.old) }
 {
     let verb = next_word(words)?;
     if verb == b"find".as_slice() {
@@ -193,7 +195,7 @@ fn on_list(words: &mut Words) -> Result<Layers, QueryFault>
 
 #[inline(never)]
 fn list_word(words: &mut Words) -> Result<Layers, QueryFault>
-    ensures { Takes (list_word words.old) result words.new }
+    ensures { Takes (word_as layers_of words.old) result words.new }
 {
     let list = next_word(words)?;
     layers_of(list)
@@ -210,7 +212,7 @@ fn layers_of(list: &[u8]) -> Result<Layers, QueryFault>
 }
 
 fn layer_part(part: &[u8]) -> Result<u8, QueryFault>
-    ensures value { result ≡ layer_part part.now }
+    ensures value { result ≡ natural most_layer part.now }
     ensures within { IfOk result (λ layer. layer ≤ most_layer) }
 {
     match number(part, 0, i128::from(Layers::MOST)) {
@@ -322,7 +324,7 @@ fn polygon(words: &mut Words) -> Result<Polygon, QueryFault>
 }
 
 fn vertex_count(words: &mut Words) -> Result<usize, QueryFault>
-    ensures takes { Takes (vertex_count words.old) result words.new }
+    ensures takes { Takes (word_as vertex_count words.old) result words.new }
     ensures most { IfOk result (λ n. n ≤ MOST_VERTICES) }
 {
     match number_word(words, FEWEST_VERTICES, MOST_VERTICES as i128) {
@@ -361,7 +363,7 @@ fn point(words: &mut Words) -> Result<Point, QueryFault>
 
 #[inline(always)]
 fn coordinate(words: &mut Words) -> Result<i32, QueryFault>
-    ensures { Takes (coordinate words.old) result words.new }
+    ensures { Takes (word_as coordinate words.old) result words.new }
 {
     let Some(value) = usual_coordinate(words) else {
         return any_coordinate(words);
@@ -385,7 +387,7 @@ fn usual_coordinate(words: &mut Words) -> Option<i64>
 // The same as a coordinate whatever the word is.
 #[inline(never)]
 fn any_coordinate(words: &mut Words) -> Result<i32, QueryFault>
-    ensures { Takes (coordinate words.old) result words.new }
+    ensures { Takes (word_as coordinate words.old) result words.new }
 {
     let value = any_number_word(words, i128::from(i32::MIN), i128::from(i32::MAX))?;
     Ok(value as i32)
@@ -393,7 +395,7 @@ fn any_coordinate(words: &mut Words) -> Result<i32, QueryFault>
 
 #[inline(never)]
 fn natural_word(words: &mut Words, high: u64) -> Result<u64, QueryFault>
-    ensures takes { Takes (natural_word high words.old) result words.new }
+    ensures takes { Takes (word_as (natural high) words.old) result words.new }
     ensures within { IfOk result (λ n. n ≤ high) }
 {
     let value = number_word(words, 0, i128::from(high))?;
@@ -413,7 +415,7 @@ fn next_word<'a>(words: &mut Words<'a>) -> Result<&'a [u8], QueryFault>
 
 #[inline(always)]
 fn number_word(words: &mut Words, low: i128, high: i128) -> Result<i128, QueryFault>
-    ensures takes { Takes (number_word low high words.old) result words.new }
+    ensures takes { Takes (word_as (number QueryFault.OutOfRange low high) words.old) result words.new }
     ensures within { IfOk result (λ n. (low ≤ℤ n) × (n ≤ℤ high)) }
 {
     let Some(short) = words.next_number() else {
@@ -429,7 +431,7 @@ fn number_word(words: &mut Words, low: i128, high: i128) -> Result<i128, QueryFa
 // The same whatever the word is.
 #[inline(never)]
 fn any_number_word(words: &mut Words, low: i128, high: i128) -> Result<i128, QueryFault>
-    ensures takes { Takes (number_word low high words.old) result words.new }
+    ensures takes { Takes (word_as (number QueryFault.OutOfRange low high) words.old) result words.new }
     ensures within { IfOk result (λ n. (low ≤ℤ n) × (n ≤ℤ high)) }
 {
     let word = next_word(words)?;
@@ -440,7 +442,7 @@ fn any_number_word(words: &mut Words, low: i128, high: i128) -> Result<i128, Que
 }
 
 fn number_fault(fault: NumberFault) -> QueryFault
-    ensures { result ≡ number_fault fault }
+    ensures { result ≡ fault_as QueryFault.NotNumber QueryFault.OutOfRange fault }
 {
     match fault {
         NumberFault::NotNumber => QueryFault::NotNumber,

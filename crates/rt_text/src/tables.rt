@@ -5,21 +5,20 @@
 //! A record is five numbers: an id, the least and the greatest x, the least and the greatest y. A sixth may follow, the
 //! layer, which is 0 where it doesn't stand.
 
-ghost use Rattle.std.specs.Prelude.{◌≡◌, ◌≤ℤ◌, ◌+◌, ◌<◌, ◌≤◌, ◌++◌, ◌∷◌, [], length, ◌⊎◌, true, List, ℕ};
+ghost use Rattle.std.specs.Prelude.{◌≡◌, ◌≤ℤ◌, ◌+◌, ◌<◌, ◌≤◌, ◌++◌, ◌∷◌, [], length, ◌⊎◌, true, List, ℕ, int_lt, pos, unsigned_abs, if◌then◌else◌};
 ghost use Rattle.std.specs.Prelude.{Result, Ok, Some, None, IsOkAnd, IfOk, IfErr, OnErr, OnOk};
-ghost use Rattle.std.specs.List.{All};
+ghost use Rattle.std.specs.List.{All, slice_index_or};
 ghost use Rattle.csv.specs.Reading.{default_config, has_failed, is_flexible, Ready, ReadRecord, reader_config, reader_trim};
 ghost use Rattle.csv.specs.Records.{fields_of};
 ghost use Rattle.csv.specs.declared.reader.Trim.TheVariants as trim;
+ghost use Rattle.rt_geo.specs.Boxes.{rect_of};
 ghost use Rattle.rt_geo.specs.Entries.{HasLayer};
 ghost use Rattle.rt_geo.specs.Layers.{most_layer};
 ghost use Rattle.rt_geo.specs.declared.entry.Entry.{Entry};
 ghost use Rattle.rt_tree.specs.Entries.{first_repeat, most_entries};
-ghost use Rattle.rt_text.specs.Loads.{EndsAt, after_ids, entry_after, first_number};
-ghost use Rattle.rt_text.specs.Numbers.{number_in};
-ghost use Rattle.rt_text.specs.Steps.{map_fault};
-ghost use Rattle.rt_text.specs.Tables.{IsRefusal, IsFaultOf, coordinate_of, entry_of_fields, entry_of_sides};
-ghost use Rattle.rt_text.specs.Tables.{field_fault, field_text, fields_without_layer, id_of, layer_in, layer_of, table_of};
+ghost use Rattle.rt_text.specs.Loads.{EndsAt, after_ids, entry_after, first_number, number_of};
+ghost use Rattle.rt_text.specs.Steps.{map_value};
+ghost use Rattle.rt_text.specs.Tables.{IsRefusal, IsFaultOf, entry_of_fields, layer_in, table_of};
 
 use crate::numbers::{self, NumberFault};
 use csv::{ByteRecord, Reader, ReaderBuilder};
@@ -219,14 +218,14 @@ fn entry_of(number: u32, fields: &ByteRecord) -> Result<Entry, TableFault>
 // The field at a place that is there.
 fn field(fields: &ByteRecord, place: usize) -> &[u8]
     requires { place < length (fields_of fields.now) }
-    ensures { result.now ≡ field_text (fields_of fields.now) place }
+    ensures { result.now ≡ slice_index_or (fields_of fields.now) place [] }
 {
     fields.get(place).unwrap()
 }
 
 // The first field.
 fn id_of(number: u32, text: &[u8]) -> Result<i64, TableFault>
-    ensures { result ≡ id_of number text.now }
+    ensures { result ≡ number_of number 1 i64.MIN i64.MAX text.now }
 {
     number_of(number, 1, text, i64::MIN, i64::MAX)
 }
@@ -234,7 +233,7 @@ fn id_of(number: u32, text: &[u8]) -> Result<i64, TableFault>
 // A later field.
 #[inline(always)]
 fn coordinate_of(number: u32, field: u8, text: &[u8]) -> Result<i32, TableFault>
-    ensures { result ≡ coordinate_of number field text.now }
+    ensures { result ≡ number_of number field i32.MIN i32.MAX text.now }
 {
     Ok(number_of(
         number,
@@ -248,7 +247,7 @@ fn coordinate_of(number: u32, field: u8, text: &[u8]) -> Result<i32, TableFault>
 // The layer of a record.
 #[inline(always)]
 fn layer_in(number: u32, fields: &ByteRecord) -> Result<u8, TableFault>
-    requires { fields_without_layer ≤ length (fields_of fields.now) }
+    requires { FIELDS_WITHOUT_LAYER ≤ length (fields_of fields.now) }
     ensures value { result ≡ layer_in number (fields_of fields.now) }
     ensures within { IfOk result (λ layer. layer ≤ most_layer) }
 {
@@ -262,7 +261,7 @@ fn layer_in(number: u32, fields: &ByteRecord) -> Result<u8, TableFault>
 // The sixth field. Kept out of line, as most tables have none.
 #[inline(never)]
 fn layer_of(number: u32, text: &[u8]) -> Result<u8, TableFault>
-    ensures value { result ≡ layer_of number text.now }
+    ensures value { result ≡ map_value unsigned_abs (number_of number 6 (pos 0) (pos most_layer) text.now) }
     ensures within { IfOk result (λ layer. layer ≤ most_layer) }
 {
     let layer = number_of(number, 6, text, 0, i64::from(Layers::MOST))?;
@@ -272,7 +271,7 @@ fn layer_of(number: u32, text: &[u8]) -> Result<u8, TableFault>
 // The number of a field, within its range.
 #[inline(always)]
 fn number_of(number: u32, field: u8, text: &[u8], low: i64, high: i64) -> Result<i64, TableFault>
-    ensures value { result ≡ map_fault (field_fault number field) (number_in low high text.now) }
+    ensures value { result ≡ number_of number field low high text.now }
     ensures within { IfOk result (λ n. (low ≤ℤ n) × (n ≤ℤ high)) }
 {
     match numbers::number_64(text, low, high) {
@@ -293,7 +292,9 @@ fn entry_of_sides(
     layer: u8,
 ) -> Result<Entry, TableFault>
     requires { layer ≤ most_layer }
-    ensures value { result ≡ entry_of_sides number id min_x max_x min_y max_y layer }
+    ensures value { result ≡ (if int_lt max_x min_x then Err (TableFault.MinAboveMax number Axis.X)
+        else if int_lt max_y min_y then Err (TableFault.MinAboveMax number Axis.Y)
+        else Ok (record { id = id; bounds = rect_of min_x max_x min_y max_y; layer = layer })) }
     ensures layer { IfOk result HasLayer }
 {
     match Bounds::new(min_x, max_x, min_y, max_y) {

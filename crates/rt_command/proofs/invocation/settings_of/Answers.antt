@@ -3,14 +3,16 @@ use Rattle.std.specs.Borrow.{Bor}
 use Rattle.clap.specs.Words.{Row, first_of, found_of, rows_of}
 use Rattle.clap.proofs.WalkLemmas.{first_value-rows}
 use Rattle.clap.proofs.CallerLemmas.{some_of_text}
-use Rattle.rt_command.specs.Invocations.{choices_in, invocation_in}
+use Rattle.rt_command.specs.Invocations.{invocation_in, is_given, option_number}
 use Rattle.rt_command.specs.Choices.{Choices}
 use Rattle.rt_command.proofs.invocation.settings_of.Goals as goal
 
 -- an invocation is that of its parts
-joined : (rows : List Row) (settings : Choices) (table : List ℕ) (queries : Option (List ℕ)) → choices_in rows ≡ Some settings → Some table ≡ first_of (codes "table") rows → queries ≡ first_of (codes "queries") rows
+joined : (rows : List Row) (settings : Choices) (table : List ℕ) (queries : Option (List ℕ)) → settings.header ≡ is_given (first_of (codes "header") rows)
+    → option_number (codes "fanout") rows ≡ Some settings.fanout → option_number (codes "max-entries") rows ≡ Some settings.max_entries
+    → Some table ≡ first_of (codes "table") rows → queries ≡ first_of (codes "queries") rows
     → invocation_in rows ≡ Some (record { settings = settings; table = table; queries = queries })
-joined rows settings table queries s t q = rw (s, ← t, ← q) refl
+joined rows settings table queries h f m t q = rw (f, m, ← h, ← t, ← q) refl
 
 pub unwrap-requires : goal.unwrap-requires
 unwrap-requires c = some_of_text (λ (s : Bor (List ℕ)). s.now) c.get_str.result _ (c.get_str.ensures ∙ first_value-rows (found_of c.in_ok-matches.matches) (codes "table")) c.in_ok-matches.ensures.filled.table
@@ -22,4 +24,4 @@ returns-clause-ok c =
     ap Some c.in_ok-new.ensures ∙ ap (option_map (λ (s : Bor (List ℕ)). s.now)) (sym c.unwrap.ensures) ∙ c.get_str.ensures ∙ first_value-rows f (codes "table") in
     let queries : c.in_ok-named.field-0 ≡ first_of (codes "queries") (rows_of f) =
     c.in_ok-named.ensures ∙ c.get_str-2.ensures ∙ first_value-rows f (codes "queries") in
-    ap invocation_in (sym c.in_ok-matches.ensures.rows) ∙ joined (rows_of f) c.settings.result c.in_ok-new.field-0 c.in_ok-named.field-0 c.settings.ensures table queries
+    ap invocation_in (sym c.in_ok-matches.ensures.rows) ∙ joined (rows_of f) c.settings.result c.in_ok-new.field-0 c.in_ok-named.field-0 c.settings.ensures.header c.settings.ensures.fanout c.settings.ensures.max_entries table queries

@@ -1,10 +1,9 @@
-use Rattle.rt_filter.specs.Endings.{told_of}
 use Rattle.rt_filter.proofs.RunLemmas.{ends_early, ends_served}
 use Rattle.rt_filter.proofs.filter.run.Goals as goal
 
 pub returns-in-Ok-clause-ending : goal.returns-in-Ok-clause-ending
 returns-in-Ok-clause-ending g c table queries before is_table is_queries is_before =
-    ends_served c.args.settings.now table c.in-Ok.tree (told_of queries before (g.S.Source.coming c.serve.new.source) (g.K.Sink.written c.serve.new.sink))
+    ends_served c.args.settings.now table queries before (g.S.Source.coming c.serve.new.source) (g.K.Sink.written c.serve.new.sink) c.in-Ok.tree
     c.serve.result (c.in-Ok.ensures.loaded table is_table)
     (λ loaded packed. c.serve.ensures.ending loaded packed queries before is_queries is_before)
     c.outcome.result c.outcome.ensures.fault c.outcome.ensures.bad

@@ -1,6 +1,6 @@
 use Rattle.std.proofs.Common.{◌≡◌, ◌∙◌, ◌+◌, ap, rules}
 use Rattle.rt_text.specs.ReplyLines.{answer_line}
-use Rattle.rt_filter.specs.Replies.{answer_lines}
+use Rattle.rt_filter.specs.Pushes.{answer_lines}
 use Rattle.rt_filter.proofs.FindLemmas.{answer_cut}
 use Rattle.rt_filter.proofs.PushLemmas.{as_failed}
 use Rattle.rt_filter.proofs.reply.push_answers.Goals as goal

@@ -1,6 +1,6 @@
 use Rattle.std.proofs.Common.{◌≡◌, ◌+◌, length}
 use Rattle.rt_filter.proofs.PushLemmas.{AllBut}
-use Rattle.rt_filter.specs.Replies.{answer_lines}
+use Rattle.rt_filter.specs.Pushes.{answer_lines}
 use Rattle.rt_filter.proofs.reply.push_answers.Given as goal
 
 -- the lines of the answers so far have gone out

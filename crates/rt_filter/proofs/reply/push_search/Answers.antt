@@ -1,6 +1,6 @@
 use Rattle.std.proofs.Common.{◌∙◌, ap, length}
 use Rattle.rt_text.specs.ReplyLines.{ok_line}
-use Rattle.rt_filter.specs.Replies.{answer_lines}
+use Rattle.rt_filter.specs.Pushes.{answer_lines}
 use Rattle.rt_filter.proofs.PushLemmas.{as_failed, pushed_after}
 use Rattle.rt_filter.proofs.reply.push_search.Goals as goal
 

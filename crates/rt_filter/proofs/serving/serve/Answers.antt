@@ -1,6 +1,5 @@
-use Rattle.std.proofs.Common.{rules, ◌<◌, ◌⊎◌, inl, inr, true, ◌≡◌, ◌∙◌, ap, ◌-◌, List, ℕ, None, Some, take, drop, length, refl, arith}
+use Rattle.std.proofs.Common.{rules, ◌<◌, ◌⊎◌, inl, inr, true, ◌≡◌, ◌∙◌, ◌-◌, List, ℕ, None, Some, take, drop, length, refl, arith}
 use Rattle.std.proofs.lemmas.List.{length-drop, length-take}
-use Rattle.rt_filter.specs.Endings.{told_of}
 use Rattle.rt_filter.specs.Stages.{loaded_tree}
 use Rattle.rt_filter.specs.declared.serving.ServeFault.TheVariants as serve
 use Rattle.rt_filter.proofs.ConsumedLemmas.{consumed_some}
@@ -30,7 +29,7 @@ pub returns-in_default-clause-ending : goal.returns-in_default-clause-ending
 returns-in_default-clause-ending g c loaded packed queries before is_queries is_before =
     let s = c.loop-turn.invariant.serving queries before is_queries is_before in
     serves_of_tree c.args.tree.now loaded c.len-most.ensures.sound packed
-    (told_of queries before (g.S.Source.coming c.pull.new.self) (g.K.Sink.written c.loop-turn.sink)) _ (Some serve.Read) c.served.result c.served.ensures.bad c.served.ensures.fault
+    queries before (g.S.Source.coming c.pull.new.self) (g.K.Sink.written c.loop-turn.sink) _ (Some serve.Read) c.served.result c.served.ensures.bad c.served.ensures.fault
     (serving-stopped (loaded_tree c.args.tree.now) queries before (g.S.Source.coming c.loop-turn.source) (g.K.Sink.written c.loop-turn.sink)
     c.loop-turn.progress.lines c.loop-turn.progress.bad c.loop-turn.progress.is_long (take c.loop-turn.partial c.loop-turn.room) s (g.S.Source.coming c.pull.new.self) c.in_default.ensures.bytes)
 
@@ -41,7 +40,7 @@ returns-then-not-progress-clause-ending g c loaded packed queries before is_quer
     let filled = (room_filled c.loop-turn.partial c.in-Ok.n c.loop-turn.room c.pull.new.room c.loop-turn.invariant.short c.loop-turn.invariant.whole (search rules) c.in-Ok.ensures.bound).none none in
     let size : length (take c.loop-turn.partial c.loop-turn.room) ≡ 0 = omega (arith, c.if-partial-eq0.true, length-take c.loop-turn.partial c.loop-turn.room) in
     serves_of_tree c.args.tree.now loaded c.len-most.ensures.sound packed
-    (told_of queries before (g.S.Source.coming c.pull.new.self) (g.K.Sink.written c.loop-turn.sink)) _ None c.served-then-not-progress.result c.served-then-not-progress.ensures.bad c.served-then-not-progress.ensures.fault
+    queries before (g.S.Source.coming c.pull.new.self) (g.K.Sink.written c.loop-turn.sink) _ None c.served-then-not-progress.result c.served-then-not-progress.ensures.bad c.served-then-not-progress.ensures.fault
     (serving-ended (loaded_tree c.args.tree.now) queries before (g.S.Source.coming c.loop-turn.source) (g.K.Sink.written c.loop-turn.sink)
     c.loop-turn.progress.lines c.loop-turn.progress.bad c.loop-turn.progress.is_long (take c.loop-turn.partial c.loop-turn.room) s
     (g.S.Source.coming c.pull.new.self) (g.K.Sink.written c.loop-turn.sink) c.loop-turn.progress.bad
@@ -61,7 +60,7 @@ returns-in-Ok-answer_piece-clause-ending g c loaded packed queries before is_que
       | else-partial-eq0-via-else-partial-eq0 w ↦ inr (omega (arith, size, w.if-partial-eq0.false))
     ] in
     serves_of_tree c.args.tree.now loaded c.len-most.ensures.sound packed
-    (told_of queries before (g.S.Source.coming c.pull.new.self) (g.K.Sink.written c.answer_piece.new.sink)) _ None c.served-in-Ok-answer_piece.result c.served-in-Ok-answer_piece.ensures.bad c.served-in-Ok-answer_piece.ensures.fault
+    queries before (g.S.Source.coming c.pull.new.self) (g.K.Sink.written c.answer_piece.new.sink) _ None c.served-in-Ok-answer_piece.result c.served-in-Ok-answer_piece.ensures.bad c.served-in-Ok-answer_piece.ensures.fault
     (serving-ended_so (loaded_tree c.args.tree.now) queries before (g.S.Source.coming c.loop-turn.source) (g.K.Sink.written c.loop-turn.sink)
     c.loop-turn.progress.lines c.loop-turn.progress.bad c.loop-turn.progress.is_long (take c.loop-turn.partial c.loop-turn.room) s
     (g.S.Source.coming c.pull.new.self) (g.K.Sink.written c.answer_piece.new.sink) _ c.answer_piece.new.progress.bad
@@ -80,7 +79,7 @@ returns-in-Err-clause-ending g c loaded packed queries before is_queries is_befo
       | else-partial-eq0-via-else-partial-eq0 w ↦ inr (omega (arith, size, w.if-partial-eq0.false))
     ] in
     serves_of_tree c.args.tree.now loaded c.len-most.ensures.sound packed
-    (told_of queries before (g.S.Source.coming c.pull.new.self) (g.K.Sink.written c.answer_piece.new.sink)) _ (Some serve.Write) c.served-in-Err.result c.served-in-Err.ensures.bad c.served-in-Err.ensures.fault
+    queries before (g.S.Source.coming c.pull.new.self) (g.K.Sink.written c.answer_piece.new.sink) _ (Some serve.Write) c.served-in-Err.result c.served-in-Err.ensures.bad c.served-in-Err.ensures.fault
     (serving-cut_so (loaded_tree c.args.tree.now) queries before (g.S.Source.coming c.loop-turn.source) (g.K.Sink.written c.loop-turn.sink)
     c.loop-turn.progress.lines c.loop-turn.progress.bad c.loop-turn.progress.is_long (take c.loop-turn.partial c.loop-turn.room) s
     (g.S.Source.coming c.pull.new.self) (g.K.Sink.written c.answer_piece.new.sink) _ c.answer_piece.new.progress.bad
@@ -92,7 +91,7 @@ returns-in-Err-answer_piece-clause-ending g c loaded packed queries before is_qu
     let s = c.loop-turn.invariant.serving queries before is_queries is_before in
     let filled = room_filled c.loop-turn.partial c.in-Ok.n c.loop-turn.room c.pull.new.room c.loop-turn.invariant.short c.loop-turn.invariant.whole (search rules) c.in-Ok.ensures.bound in
     serves_of_tree c.args.tree.now loaded c.len-most.ensures.sound packed
-    (told_of queries before (g.S.Source.coming c.pull.new.self) (g.K.Sink.written c.answer_piece-in-loop-turn.new.sink)) _ (Some serve.Write) c.served-in-Err-answer_piece.result c.served-in-Err-answer_piece.ensures.bad c.served-in-Err-answer_piece.ensures.fault
+    queries before (g.S.Source.coming c.pull.new.self) (g.K.Sink.written c.answer_piece-in-loop-turn.new.sink) _ (Some serve.Write) c.served-in-Err-answer_piece.result c.served-in-Err-answer_piece.ensures.bad c.served-in-Err-answer_piece.ensures.fault
     (serving-cut (loaded_tree c.args.tree.now) queries before (g.S.Source.coming c.loop-turn.source) (g.K.Sink.written c.loop-turn.sink)
     c.loop-turn.progress.lines c.loop-turn.progress.bad c.loop-turn.progress.is_long (take c.loop-turn.partial c.loop-turn.room) s
     (g.S.Source.coming c.pull.new.self) (g.K.Sink.written c.answer_piece-in-loop-turn.new.sink) c.answer_piece-in-loop-turn.new.progress.bad (take c.in-Ok.n c.pull.new.room)
@@ -128,6 +127,6 @@ pub returns-clause-ending : goal.returns-clause-ending
 returns-clause-ending g c loaded packed queries before is_queries is_before =
     let s = c.loop-turn.invariant.serving queries before is_queries is_before in
     serves_of_tree c.args.tree.now loaded c.len-most.ensures.sound packed
-    (told_of queries before (g.S.Source.coming c.loop-turn.source) (g.K.Sink.written c.loop-turn.sink)) _ (Some serve.Read) c.served-2.result c.served-2.ensures.bad c.served-2.ensures.fault
+    queries before (g.S.Source.coming c.loop-turn.source) (g.K.Sink.written c.loop-turn.sink) _ (Some serve.Read) c.served-2.result c.served-2.ensures.bad c.served-2.ensures.fault
     (serving-stopped (loaded_tree c.args.tree.now) queries before (g.S.Source.coming c.loop-turn.source) (g.K.Sink.written c.loop-turn.sink)
     c.loop-turn.progress.lines c.loop-turn.progress.bad c.loop-turn.progress.is_long (take c.loop-turn.partial c.loop-turn.room) s (g.S.Source.coming c.loop-turn.source) (unmoved_same (g.S.Source.coming c.loop-turn.source)))

@@ -1,7 +1,6 @@
 use Rattle.std.proofs.Common.{◌≡◌, ◌*◌, ◌<◌, ◌≤◌, false, length, take, List, ℕ, Some}
-use Rattle.rt_filter.specs.Endings.{ConsumedAtLeast, told_of}
-use Rattle.rt_filter.specs.Lines.{most_pulled}
-use Rattle.rt_filter.specs.Stages.{IsServing, loaded_tree}
+use Rattle.rt_filter.specs.Endings.{ConsumedAtLeast}
+use Rattle.rt_filter.specs.Stages.{IsServing, loaded_tree, most_pulled, told_of}
 use Rattle.rt_filter.proofs.serving.serve.Given as goal
 
 -- no call has failed, each turn gave a byte at least, and what was pulled is answered and flushed
