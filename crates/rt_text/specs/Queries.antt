@@ -5,11 +5,11 @@ use Rattle.std.specs.Str.{bytes_eq}
 use Rattle.std.specs.Str.Lines.{strip_carriage_return}
 use Rattle.rt_geo.specs.Boxes.{Rect, greatest_coordinate, least_coordinate, rect_of}
 use Rattle.rt_geo.specs.Layers.{all_layers, most_layer, no_layers, only, union}
-use Rattle.rt_geo.specs.Orders.{near}
+use Rattle.rt_geo.specs.Orders.{by_id, near}
 use Rattle.rt_geo.specs.declared.distance.Point.{Point}
 use Rattle.rt_geo.specs.declared.layers.Layers.{Layers}
 use Rattle.rt_geo.specs.declared.order.Order.{Order}
-use Rattle.rt_geo.specs.declared.order.Order.TheVariants.{ById, Smallest}
+use Rattle.rt_geo.specs.declared.order.Order.TheVariants.{Smallest}
 use Rattle.rt_geo.specs.Polygons.{polygon_of}
 use Rattle.rt_geo.specs.declared.polygon.PolygonFault.{PolygonFault}
 use Rattle.rt_geo.specs.declared.polygon.PolygonFault.TheVariants as shape
@@ -145,7 +145,7 @@ on_list (word ∷ more) =
 -- the order where none is asked for: a circle's boxes nearest to its centre first, those of every other region by id
 abbrev pub usual_order : Region → Order
 usual_order (Circle disc) = near disc.centre
-usual_order other = ById (record {})
+usual_order other = by_id
 
 -- `near X Y` or `smallest`, where one stands next
 abbrev pub order : Region → List (List ℕ) → Result (Taken Order) QueryFault
