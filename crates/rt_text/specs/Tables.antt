@@ -1,6 +1,6 @@
 -- The table that a text of CSV gives, or what is wrong with it.
 use Rattle.std.specs.List.{slice_index_or}
-use Rattle.std.specs.Prelude.{◌≡◌, ◌⊎◌, ◌==◌, ℕ, ◌+◌, ◌-◌, ◌^◌, ℤ, pos, ◌-ℤ◌, int_lt, nat_le, unsigned_abs, Bool, true, false, ◌||◌, if◌then◌else◌, List, [], ◌∷◌, ◌++◌, length, drop, Result, Ok, Err}
+use Rattle.std.specs.Prelude.{◌≡◌, ◌==◌, ⊤, ℕ, ◌+◌, ◌-◌, ◌^◌, ℤ, pos, ◌-ℤ◌, int_lt, nat_le, unsigned_abs, Bool, ◌||◌, if◌then◌else◌, List, [], ◌∷◌, ◌++◌, length, drop, Result, Ok, Err}
 use Rattle.csv.specs.Reading.{default_config, records, strip_bom}
 use Rattle.rt_geo.specs.Boxes.{greatest_coordinate, least_coordinate, rect_of}
 use Rattle.rt_geo.specs.Layers.{most_layer}
@@ -71,17 +71,9 @@ abbrev pub table_of : List ℕ → (header : Bool) → (max : ℕ) → Result (L
 table_of bytes header max =
     if header then entries_from max 2 [] (drop 1 (records_of bytes)) else entries_from max 1 [] (records_of bytes)
 
--- whether a fault tells of the table's text; the other two tell of its reader and of memory, and may come at any time
-abbrev pub is_of_text : TableFault → Bool
-is_of_text fault.Read = false
-is_of_text fault.Memory = false
-is_of_text other = true
-
--- a fault that a step of the load may answer, one that reads nothing, where this is what the step gives: its own
--- fault, or want of memory
-abbrev pub IsRefusal : {A : Type 0} → TableFault → Result A TableFault → Type 0
-IsRefusal cause step = (cause ≡ fault.Memory) ⊎ (step ≡ Err cause)
-
--- a fault that a load may answer where this is the table: one that tells of the text is the table's own
+-- a fault that a load may answer where this is the table: a failed read and want of memory may come at any time, and any
+-- other fault is the table's own
 abbrev pub IsFaultOf : {A : Type 0} → TableFault → Result A TableFault → Type 0
-IsFaultOf cause table = is_of_text cause ≡ true → table ≡ Err cause
+IsFaultOf fault.Read table = ⊤
+IsFaultOf fault.Memory table = ⊤
+IsFaultOf own table = table ≡ Err own
