@@ -1,5 +1,5 @@
 -- The table: the fields of a record, and one record after the other.
-use Rattle.std.proofs.Common.{◌≡◌, ◌+◌, ◌-◌, ◌<◌, ◌≤◌, ℕ, zero, suc, Bool, true, false, ◌&&◌, ◌||◌, ◌==◌, List, [], ◌∷◌, ◌++◌, length, drop, get_or, option_map, Option, Some, None, refl, ◌∙◌, ap, sym, inl, inr, arith, rules}
+use Rattle.std.proofs.Common.{◌≡◌, ◌+◌, ◌-◌, ◌<◌, ◌≤◌, ℕ, zero, suc, Bool, true, false, ◌&&◌, ◌==◌, List, [], ◌∷◌, ◌++◌, length, drop, get_or, option_map, Option, Some, None, refl, ◌∙◌, ap, sym, inl, inr, arith, rules}
 use Rattle.std.specs.Prelude.{Result, Ok, Err, if◌then◌else◌, nat_le, IsOkAnd, IsSome}
 use Rattle.std.proofs.lemmas.Bool.Decides.{nat_tests}
 use Rattle.csv.specs.Records.{field_at}
@@ -8,7 +8,7 @@ use Rattle.rt_text.specs.Steps.{◌>>=◌}
 use Rattle.rt_tree.specs.Entries.{first_repeat, has_id}
 use Rattle.rt_tree.proofs.RepeatLemmas.{first_repeat-push, repeat_with}
 use Rattle.rt_text.specs.Loads.{IsRefusal, after_ids, entry_after, first_number, repeat_or}
-use Rattle.rt_text.specs.Tables.{IsFaultOf, entries_from, entry_in, entry_of_fields, judged, records_of, table_of}
+use Rattle.rt_text.specs.Tables.{IsFaultOf, entries_from, entry_of_fields, judged, records_of, table_of}
 use Rattle.rt_text.specs.declared.tables.TableFault.{TableFault}
 use Rattle.rt_text.specs.declared.tables.TableFault.TheVariants as fault
 
@@ -24,11 +24,6 @@ pub IsSome-field : {A : Type 0} (text : A → List ℕ) (o : Option A) (fields :
     → option_map text o ≡ field_at fields place → place < length fields → IsSome o
 IsSome-field text None fields place e h = let x : None ≡ Some (get_or fields place []) = e ∙ field_at-there fields place h in absurd cc
 IsSome-field text (Some a) fields place e h = search rules
-
--- a record of enough fields
-pub entry_of_fields-enough : (number : ℕ) (fields : List (List ℕ)) → (length fields == 5 || length fields == 6) ≡ true
-    → entry_of_fields number fields ≡ entry_in number fields
-entry_of_fields-enough number fields n = rw n refl
 
 -- ---- one record
 

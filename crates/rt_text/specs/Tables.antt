@@ -1,6 +1,6 @@
 -- The table that a text of CSV gives, or what is wrong with it.
 use Rattle.std.specs.List.{slice_index_or}
-use Rattle.std.specs.Prelude.{◌≡◌, ◌==◌, ⊤, ℕ, ◌+◌, ◌-◌, ◌^◌, ℤ, pos, ◌-ℤ◌, int_lt, nat_le, unsigned_abs, Bool, ◌||◌, if◌then◌else◌, List, [], ◌∷◌, ◌++◌, length, drop, Result, Ok, Err}
+use Rattle.std.specs.Prelude.{◌≡◌, ◌==◌, ⊤, ℕ, ◌+◌, ◌-◌, ◌^◌, ℤ, pos, ◌-ℤ◌, int_lt, nat_le, unsigned_abs, Bool, not, ◌||◌, if◌then◌else◌, List, [], ◌∷◌, ◌++◌, length, drop, Result, Ok, Err}
 use Rattle.csv.specs.Reading.{default_config, records, strip_bom}
 use Rattle.rt_geo.specs.Boxes.{greatest_coordinate, least_coordinate, rect_of}
 use Rattle.rt_geo.specs.Layers.{most_layer}
@@ -33,24 +33,20 @@ layer_in number fields =
     if length fields == 5 then Ok 0
     else map_value unsigned_abs (number_at number 6 (pos 0) (pos most_layer) fields)
 
--- the entry of enough fields, judged from left to right: an id of 64 bits, four sides and a layer; then the sides
-abbrev pub entry_in : (number : ℕ) → (fields : List (List ℕ)) → Result Entry TableFault
-entry_in number fields = do
-  id ← number_at number 1 (pos 0 -ℤ pos (2 ^ 63)) (pos (2 ^ 63 - 1)) fields
-  min_x ← coordinate_at number 2 fields
-  max_x ← coordinate_at number 3 fields
-  min_y ← coordinate_at number 4 fields
-  max_y ← coordinate_at number 5 fields
-  layer ← layer_in number fields
-  if int_lt max_x min_x then Err (fault.MinAboveMax number axis.X)
-      else if int_lt max_y min_y then Err (fault.MinAboveMax number axis.Y)
-      else Ok (record { id = id; bounds = rect_of min_x max_x min_y max_y; layer = layer })
-
--- the entry of a record, which has five fields, or six with a layer
+-- the entry of a record, which has five fields, or six with a layer, judged from left to right: an id of 64 bits, the
+-- four sides of its box and its layer; then the sides are compared
 abbrev pub entry_of_fields : (number : ℕ) → (fields : List (List ℕ)) → Result Entry TableFault
 entry_of_fields number fields =
-    if length fields == 5 || length fields == 6 then entry_in number fields
-    else Err (fault.FieldCount number (length fields))
+    if not (length fields == 5 || length fields == 6) then Err (fault.FieldCount number (length fields)) else do
+      id ← number_at number 1 (pos 0 -ℤ pos (2 ^ 63)) (pos (2 ^ 63 - 1)) fields
+      min_x ← coordinate_at number 2 fields
+      max_x ← coordinate_at number 3 fields
+      min_y ← coordinate_at number 4 fields
+      max_y ← coordinate_at number 5 fields
+      layer ← layer_in number fields
+      if int_lt max_x min_x then Err (fault.MinAboveMax number axis.X)
+          else if int_lt max_y min_y then Err (fault.MinAboveMax number axis.Y)
+          else Ok (record { id = id; bounds = rect_of min_x max_x min_y max_y; layer = layer })
 
 -- one record, judged after the entries so far: there is room for its entry, it has one, and the id is new
 abbrev pub judged : (max number : ℕ) → List Entry → (fields : List (List ℕ)) → Result Entry TableFault
