@@ -18,11 +18,7 @@ use Rattle.rt_command.specs.declared.invocation.Invocation.{Invocation}
 
 -- `-H`, of which 72 is the letter, or `--header`
 abbrev pub header_rule : Rule
-header_rule = record (new_rule (codes "header")) {
-  short = Some 72;
-  long = Some (codes "header");
-  action = Some SetTrue;
-}
+header_rule = record (new_rule (codes "header")) { short = Some 72; long = Some (codes "header"); action = Some SetTrue }
 
 -- an option that takes a whole number from `least` to `greatest`, and has `default` where it isn't given
 abbrev pub number_rule : (name : List ℕ) → (least greatest : ℕ) → (default : List ℕ) → Rule

@@ -1,5 +1,5 @@
 -- A run over a table that was loaded, and over one that was refused.
-use Rattle.std.proofs.Common.{◌≡◌, ◌∙◌, ℕ, Bool, true, arith, List, [], ◌++◌, Option, None, Some, refl, sym, ap, ap₂, subst, append-nil}
+use Rattle.std.proofs.Common.{◌≡◌, ◌≢◌, ◌∙◌, ℕ, Bool, true, arith, List, [], ◌++◌, Option, None, Some, refl, sym, ap, ap₂, subst, append-nil}
 use Rattle.std.specs.Prelude.{Ok, Err, Result, if◌then◌else◌}
 use Rattle.rt_command.specs.Choices.{Choices}
 use Rattle.rt_geo.specs.declared.entry.Entry.{Entry}
@@ -9,8 +9,8 @@ use Rattle.rt_text.specs.declared.tables.TableFault.{TableFault}
 use Rattle.rt_text.specs.declared.tables.TableFault.TheVariants as load
 use Rattle.rt_tree.specs.Packed.{Packed}
 use Rattle.rt_tree.specs.Packing.{pack_of}
-use Rattle.rt_filter.specs.Endings.{Ends, EndsAs, EndsEarly, EndsWith, Happened, IsStatusOf, Serves, Tells, is_of_load}
-use Rattle.rt_filter.specs.Faults.{run_fault}
+use Rattle.rt_filter.specs.Endings.{Ends, EndsAs, EndsEarly, EndsWith, Happened, Serves, Tells, is_of_load}
+use Rattle.rt_filter.specs.Faults.{run_fault, status_of}
 use Rattle.rt_filter.specs.Lines.{numbered_lines}
 use Rattle.rt_filter.specs.Replies.{Loaded, any_fault, output, tree_of}
 use Rattle.rt_filter.specs.Runs.{Run, loaded_of, run_of, run_over}
@@ -39,20 +39,16 @@ whole_run written bad = ended_with written None (if bad then 1 else 0)
 
 -- ---- the table was refused
 
-refused : (choices : Choices) (table : List ℕ) (cause : TableFault)
-    → IsFaultOf cause (table_of table choices.header choices.max_entries) → Stops choices table (run.Table cause)
-refused choices table cause h = λ tells. ap (loaded_with choices) (h tells)
-
 pub stops_refused : (choices : Choices) (table : List ℕ) (cause : TableFault)
     → IsFaultOf cause (table_of table choices.header choices.max_entries) → Stops choices table (run_fault cause)
 stops_refused choices table load.Memory h = tt
-stops_refused choices table load.Read h = refused choices table load.Read h
-stops_refused choices table (load.TooMany n) h = refused choices table (load.TooMany n) h
-stops_refused choices table (load.FieldCount n k) h = refused choices table (load.FieldCount n k) h
-stops_refused choices table (load.NotNumber n k) h = refused choices table (load.NotNumber n k) h
-stops_refused choices table (load.OutOfRange n k) h = refused choices table (load.OutOfRange n k) h
-stops_refused choices table (load.MinAboveMax n k) h = refused choices table (load.MinAboveMax n k) h
-stops_refused choices table (load.Repeated n) h = refused choices table (load.Repeated n) h
+stops_refused choices table load.Read h = tt
+stops_refused choices table (load.TooMany n) h = ap (loaded_with choices) h
+stops_refused choices table (load.FieldCount n k) h = ap (loaded_with choices) h
+stops_refused choices table (load.NotNumber n k) h = ap (loaded_with choices) h
+stops_refused choices table (load.OutOfRange n k) h = ap (loaded_with choices) h
+stops_refused choices table (load.MinAboveMax n k) h = ap (loaded_with choices) h
+stops_refused choices table (load.Repeated n) h = ap (loaded_with choices) h
 
 -- ---- the table was loaded
 
@@ -82,42 +78,42 @@ module _ (choices : Choices) (table queries before : List ℕ) (status : ℕ) wh
     ap (λ loaded. run_over loaded queries) own ∙ ap (ended_with [] (Some (run.Table cause))) (sym is),
   )
 
-  row : (cause : RunFault) → Stops choices table cause → is_of_load (Some cause) ≡ true → IsStatusOf (Some cause) status
+  row : (cause : RunFault) → Stops choices table cause → is_of_load (Some cause) ≡ true → cause ≢ run.Table load.Memory → status ≡ status_of cause
       → EndsWith (loaded_of choices table) (run_of choices table queries) nothing (ended cause) (Some cause)
-  row (run.Table load.Read) h of_load is = (refl, refl)
-  row (run.Table load.Memory) h of_load is = absurd is
-  row (run.Table (load.TooMany n)) h of_load is = text (load.TooMany n) (h refl) is
-  row (run.Table (load.FieldCount n k)) h of_load is = text (load.FieldCount n k) (h refl) is
-  row (run.Table (load.NotNumber n k)) h of_load is = text (load.NotNumber n k) (h refl) is
-  row (run.Table (load.OutOfRange n k)) h of_load is = text (load.OutOfRange n k) (h refl) is
-  row (run.Table (load.MinAboveMax n k)) h of_load is = text (load.MinAboveMax n k) (h refl) is
-  row (run.Table (load.Repeated n)) h of_load is = text (load.Repeated n) (h refl) is
-  row run.Read h of_load is = absurd (grind (arith, of_load))
-  row run.Write h of_load is = absurd (grind (arith, of_load))
-  row run.Memory h of_load is = (refl, refl)
+  row (run.Table load.Read) h of_load own is = (refl, refl)
+  row (run.Table load.Memory) h of_load own is = absurd (own refl)
+  row (run.Table (load.TooMany n)) h of_load own is = text (load.TooMany n) h is
+  row (run.Table (load.FieldCount n k)) h of_load own is = text (load.FieldCount n k) h is
+  row (run.Table (load.NotNumber n k)) h of_load own is = text (load.NotNumber n k) h is
+  row (run.Table (load.OutOfRange n k)) h of_load own is = text (load.OutOfRange n k) h is
+  row (run.Table (load.MinAboveMax n k)) h of_load own is = text (load.MinAboveMax n k) h is
+  row (run.Table (load.Repeated n)) h of_load own is = text (load.Repeated n) h is
+  row run.Read h of_load own is = absurd (grind (arith, of_load))
+  row run.Write h of_load own is = absurd (grind (arith, of_load))
+  row run.Memory h of_load own is = (refl, refl)
 
-  pub ended_early : (cause : RunFault) → Stops choices table cause → is_of_load (Some cause) ≡ true → IsStatusOf (Some cause) status
+  pub ended_early : (cause : RunFault) → Stops choices table cause → is_of_load (Some cause) ≡ true → cause ≢ run.Table load.Memory → status ≡ status_of cause
       → (coming written : Option (List ℕ)) → coming ≡ Some queries → written ≡ Some before
       → Ends choices table queries before coming written (ended cause)
-  ended_early cause h of_load is coming written c w = (
+  ended_early cause h of_load own is coming written c w = (
     nothing,
-    record {
-      parts = refl;
-      source = still_all (Some cause ≡ Some run.Read) coming queries c;
-      sink = still_all (Some cause ≡ Some run.Write) written (before ++ []) (w ∙ ap (λ zs. Some zs) (sym (append-nil before)));
-    },
-    row cause h of_load is,
+    (
+      refl,
+      still_all (Some cause ≡ Some run.Read) coming queries c,
+      still_all (Some cause ≡ Some run.Write) written (before ++ []) (w ∙ ap (λ zs. Some zs) (sym (append-nil before))),
+    ),
+    row cause h of_load own is,
   )
 
 module _ (choices : Choices) (table queries before : List ℕ) (coming written : Option (List ℕ)) where
   -- a fault of serving is told as one of the run
   told_so : (cause : Option ServeFault) (what : Happened) → Tells queries before coming written (cause ≡ Some serve.Read) (cause ≡ Some serve.Write) what
       → Tells queries before coming written (run_fault_of cause ≡ Some run.Read) (run_fault_of cause ≡ Some run.Write) what
-  told_so cause what t = record {
-    parts = t.parts;
-    source = (t.source.0, λ other. t.source.1 (λ e. other (ap run_fault_of e)));
-    sink = (t.sink.0, λ other. t.sink.1 (λ e. other (ap run_fault_of e)));
-  }
+  told_so cause what t = (
+    t.0,
+    (t.1.0, λ other. t.1.1 (λ e. other (ap run_fault_of e))),
+    (t.2.0, λ other. t.2.1 (λ e. other (ap run_fault_of e))),
+  )
 
   served_row : (tree : Packed) (bad : Bool) (cause : Option ServeFault) → HasLoaded choices table tree
       → ((loaded : Loaded) → tree ≡ tree_of loaded → Serves loaded queries before coming written (record { bad = bad; fault = cause }))
@@ -125,7 +121,7 @@ module _ (choices : Choices) (table queries before : List ℕ) (coming written :
       → Ends choices table queries before coming written (record { status = status; fault = run_fault_of cause })
   served_row tree bad None h s status is =
       let r = s h.loaded h.packed in
-      let all : queries ≡ r.0.consumed = r.1.parts ∙ ap (λ zs. r.0.consumed ++ zs) r.2.0 ∙ append-nil r.0.consumed in
+      let all : queries ≡ r.0.consumed = r.1.0 ∙ ap (λ zs. r.0.consumed ++ zs) r.2.0 ∙ append-nil r.0.consumed in
       let lines = numbered_lines r.0.consumed true in
       let whole : run_of choices table queries ≡ whole_run (output h.loaded lines) (any_fault lines) =
       ap (λ loaded. run_over loaded queries) h.same ∙ ap (λ zs. run_over (Ok h.loaded) zs) all in
@@ -153,9 +149,9 @@ module _ (choices : Choices) (table queries before : List ℕ) (coming written :
       (served_row tree served.bad served.fault h s outcome.status status)
 
 pub ends_early : (choices : Choices) (table queries before : List ℕ) (outcome : Outcome) (cause : RunFault) → Stops choices table cause
-    → is_of_load (Some cause) ≡ true → outcome.fault ≡ Some cause → IsStatusOf (Some cause) outcome.status
+    → is_of_load (Some cause) ≡ true → cause ≢ run.Table load.Memory → outcome.fault ≡ Some cause → outcome.status ≡ status_of cause
     → (coming written : Option (List ℕ)) → coming ≡ Some queries → written ≡ Some before
     → Ends choices table queries before coming written outcome
-ends_early choices table queries before outcome cause h of_load fault status coming written c w =
+ends_early choices table queries before outcome cause h of_load own fault status coming written c w =
     ends_with choices table queries before coming written outcome (Some cause) fault
-    (ended_early choices table queries before outcome.status cause h of_load status coming written c w)
+    (ended_early choices table queries before outcome.status cause h of_load own status coming written c w)

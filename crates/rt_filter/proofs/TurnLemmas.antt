@@ -203,11 +203,11 @@ module _ (loaded : Loaded) (queries before : List ℕ) (coming written : Option 
       → Serves loaded queries before now written (record { bad = bad; fault = Some serve.Read })
   serving-stopped now u = (
     record { consumed = s.consumed; rest = s.rest; out = output loaded (numbered_lines s.consumed false) },
-    record {
-      parts = s.told_so.1;
-      source = (still_told now s.rest (rw s.told_so.0 at u), λ other. absurd (other refl));
-      sink = still_all _ written _ (s.written ∙ ap (λ zs. Some zs) out_is);
-    },
+    (
+      s.told_so.1,
+      (still_told now s.rest (rw s.told_so.0 at u), λ other. absurd (other refl)),
+      still_all _ written _ (s.written ∙ ap (λ zs. Some zs) out_is),
+    ),
     record { replies = refl; faults = s.answering.faults ∙ ap any_fault (sym complete) },
   )
 
@@ -224,7 +224,7 @@ module _ (loaded : Loaded) (queries before : List ℕ) (coming written : Option 
       let e = ended s.rest now (rw s.told_so.0 at h) at in
       let r = answered s.consumed before s.out s.written s.answering s.clear in (
         record { consumed = s.consumed; rest = []; out = output loaded (numbered_lines s.consumed true) },
-        record { parts = s.told_so.1 ∙ ap (λ zs. s.consumed ++ zs) e.1; source = still_all _ now _ e.0; sink = still_all _ out _ r.0 },
+        (s.told_so.1 ∙ ap (λ zs. s.consumed ++ zs) e.1, still_all _ now _ e.0, still_all _ out _ r.0),
         (refl, record { replies = refl; faults = r.1 }),
       )
 
@@ -236,11 +236,11 @@ module _ (loaded : Loaded) (queries before : List ℕ) (coming written : Option 
       let gone = went_out (output loaded (numbered_lines (s.consumed ++ given) (is_empty rest))) (output loaded (numbered_lines s.consumed false)) before out
       (begins_so given (is_empty rest)) cut.written (rw out_is at cut.answered) in (
         record { consumed = s.consumed ++ given; rest = rest; out = gone.out },
-        record {
-          parts = s.told_so.1 ∙ ap (λ zs. s.consumed ++ zs) parts ∙ sym (append_assoc s.consumed given rest);
-          source = still_all _ now rest is;
-          sink = (gone.told_so, λ other. absurd (other refl));
-        },
+        (
+          s.told_so.1 ∙ ap (λ zs. s.consumed ++ zs) parts ∙ sym (append_assoc s.consumed given rest),
+          still_all _ now rest is,
+          (gone.told_so, λ other. absurd (other refl)),
+        ),
         record {
           replies = gone.prefix;
           faults = cut.faults;

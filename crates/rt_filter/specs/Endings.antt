@@ -1,5 +1,5 @@
 -- How serving the queries may end, and a whole run.
-use Rattle.std.specs.Prelude.{◌≡◌, ◌+◌, ◌≤◌, ℕ, ◌⊎◌, List, [], ◌++◌, length, Bool, true, false, Option, Some, None, IfSome, IsSome, Result, IsOkAnd}
+use Rattle.std.specs.Prelude.{◌≡◌, ◌+◌, ◌≤◌, ℕ, List, [], ◌++◌, length, Bool, true, false, Option, Some, None, IfSome, IsSome, Result, IsOkAnd}
 use Rattle.std.specs.Io.{StartsWith}
 use Rattle.std.specs.Io.KnownBytes.{Consumes}
 use Rattle.rt_command.specs.Choices.{Choices}
@@ -29,11 +29,9 @@ abbrev pub StillTells : (failed : Type 0) → Option (List ℕ) → List ℕ →
 StillTells failed now bytes = IfSome now (λ known. known ≡ bytes) × (¬ failed → IsSome now)
 
 -- the devices tell that this happened: of `queries` those that are still `coming`, and what is `written` after `before`
-pub record Tells (queries before : List ℕ) (coming written : Option (List ℕ)) (read_failed write_failed : Type 0)
-    (what : Happened) : Type 0 where
-  pub parts : queries ≡ what.consumed ++ what.rest
-  pub source : StillTells read_failed coming what.rest
-  pub sink : StillTells write_failed written (before ++ what.out)
+abbrev pub Tells : (queries before : List ℕ) (coming written : Option (List ℕ)) (read_failed write_failed : Type 0) → Happened → Type 0
+Tells queries before coming written read_failed write_failed what = (queries ≡ what.consumed ++ what.rest)
+    × StillTells read_failed coming what.rest × StillTells write_failed written (before ++ what.out)
 
 -- at least so many bytes were consumed of those that were to come, where these are told
 abbrev pub ConsumedAtLeast : (count : ℕ) → (old new : Option (List ℕ)) → Type 0
@@ -99,15 +97,6 @@ Ends choices table queries before coming written outcome =
     (what : Happened)
     × Tells queries before coming written (outcome.fault ≡ Some Read) (outcome.fault ≡ Some Write) what
     × EndsWith (loaded_of choices table) (run_of choices table queries) what outcome outcome.fault
-
--- the status of each fault, and 0 or 1 where there is none; want of memory is never told as the table's
-abbrev pub IsStatusOf : Option RunFault → ℕ → Type 0
-IsStatusOf None status = (status ≡ 0) ⊎ (status ≡ 1)
-IsStatusOf (Some (Table load.Memory)) status = ⊥
-IsStatusOf (Some (Table other)) status = status ≡ 3
-IsStatusOf (Some Read) status = status ≡ 4
-IsStatusOf (Some Write) status = status ≡ 5
-IsStatusOf (Some Memory) status = status ≡ 6
 
 -- the fault comes while the table is loaded, before the first query is read
 abbrev pub is_of_load : Option RunFault → Bool

@@ -11,6 +11,13 @@ abbrev pub run_fault : TableFault → RunFault
 run_fault load.Memory = Memory
 run_fault other = Table other
 
+-- the status of a run that ends with a fault
+abbrev pub status_of : RunFault → ℕ
+status_of (Table cause) = 3
+status_of Read = 4
+status_of Write = 5
+status_of Memory = 6
+
 -- the line that tells a fault
 abbrev pub run_fault_line : RunFault → List ℕ
 run_fault_line (Table cause) = fault_line cause

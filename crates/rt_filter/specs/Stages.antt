@@ -7,7 +7,6 @@ use Rattle.rt_text.specs.Tables.{IsFaultOf}
 use Rattle.rt_text.specs.declared.query.Parsed.{Parsed}
 use Rattle.rt_text.specs.declared.query.Parsed.TheVariants as parsed
 use Rattle.rt_text.specs.declared.query.QueryFault.TheVariants as fault
-use Rattle.rt_text.specs.declared.tables.TableFault.TheVariants as load
 use Rattle.rt_tree.specs.Packed.{Packed}
 use Rattle.rt_filter.specs.Lines.{is_line_feed, lines_of_parts, longest_line, numbered_lines}
 use Rattle.rt_filter.specs.Pushes.{WentPrefix}
@@ -29,11 +28,6 @@ pub record HasLoaded (choices : Choices) (table : List ℕ) (tree : Packed) : Ty
   pub loaded : Loaded
   pub same : loaded_of choices table ≡ Ok loaded
   pub packed : tree ≡ tree_of loaded
-
--- a fault that a run may report
-abbrev pub is_reported : RunFault → Bool
-is_reported (Table load.Memory) = false
-is_reported other = true
 
 -- why nothing was loaded: a fault of the table's text is the one that it has
 abbrev pub Stops : Choices → (table : List ℕ) → RunFault → Type 0

@@ -1,9 +1,9 @@
 //! A whole run: a table and queries in, answers out.
 
-ghost use Rattle.std.specs.Prelude.{◌≡◌, ◌+◌, ◌-◌, ◌<◌, ◌≤◌, ◌^◌, ◌⊎◌, ◌≢◌, ℕ, List, Some, None, IfOk, IfErr, length, if◌then◌else◌, true, false};
-ghost use Rattle.rt_filter.specs.Endings.{Ends, ConsumedAtLeast, IsStatusOf, is_of_load};
-ghost use Rattle.rt_filter.specs.Faults.{run_fault_line};
-ghost use Rattle.rt_filter.specs.Stages.{HasLoaded, Stops, is_reported, run_fault_of};
+ghost use Rattle.std.specs.Prelude.{◌≡◌, ◌+◌, ◌-◌, ◌<◌, ◌≤◌, ◌^◌, ◌⊎◌, ◌≢◌, ℕ, List, Some, None, IfOk, IfErr, MatchOption, length, if◌then◌else◌, true, false};
+ghost use Rattle.rt_filter.specs.Endings.{Ends, ConsumedAtLeast, is_of_load};
+ghost use Rattle.rt_filter.specs.Faults.{run_fault_line, status_of};
+ghost use Rattle.rt_filter.specs.Stages.{HasLoaded, Stops, run_fault_of};
 
 use crate::serving::{ServeFault, Served, serve};
 use rt_command::Settings;
@@ -58,7 +58,10 @@ pub fn run<R: Read + Drop, S: Source, K: Sink>(
     ensures ending { (table queries before : List ℕ)
         → R.remaining reader ≡ Some table → S.coming source.old ≡ Some queries → K.written sink.old ≡ Some before
         → Ends settings.now table queries before (S.coming source.new) (K.written sink.new) result }
-    ensures status { IsStatusOf result.fault result.status }
+
+    // The status is the fault's; without one it is 0 or 1. Want of memory is never told as a fault of the table.
+    ensures status { MatchOption result.fault (result.status ≤ 1) (λ fault. result.status ≡ status_of fault) }
+    ensures memory { result.fault ≢ Some (RunFault.Table TableFault.Memory) }
 
     // Each failure of a device is reported, and no other. A source may also be given up when the turns are used up.
     ensures failed_push { result.fault ≡ Some RunFault.Write → K.failed sink.new ≡ K.failed sink.old + 1 }
@@ -92,7 +95,8 @@ fn load<R: Read + Drop>(
     ensures room { IfOk result (λ loaded. length loaded.0.entries ≤ loaded.1.capacity) }
     ensures stops { IfErr result (λ fault. (table : List ℕ)
         → R.remaining reader ≡ Some table → Stops settings.now table fault) }
-    ensures reported { IfErr result (λ fault. (is_reported fault ≡ true) × (is_of_load (Some fault) ≡ true)) }
+    ensures memory { IfErr result (λ fault. fault ≢ RunFault.Table TableFault.Memory) }
+    ensures of_load { IfErr result (λ fault. is_of_load (Some fault) ≡ true) }
 {
     let table = read_table(alloc, reader, settings.header(), settings.max_entries())?;
     let tree = Tree::pack(alloc, table, settings.fanout())?;
@@ -104,7 +108,7 @@ impl Served {
     // How a run ends whose queries were served so.
     fn outcome(self) -> Outcome
         ensures fault { result.fault ≡ run_fault_of self.fault }
-        ensures status { IsStatusOf (run_fault_of self.fault) result.status }
+        ensures status { MatchOption (run_fault_of self.fault) (result.status ≤ 1) (λ fault. result.status ≡ status_of fault) }
         ensures bad { self.fault ≡ None → result.status ≡ (if self.bad then 1 else 0) }
     {
         match self.fault {
@@ -121,9 +125,8 @@ impl Served {
 impl RunFault {
     // How a run ends that ends early.
     fn outcome(self) -> Outcome
-        requires { is_reported self ≡ true }
         ensures fault { result.fault ≡ Some self }
-        ensures status { IsStatusOf (Some self) result.status }
+        ensures status { result.status ≡ status_of self }
     {
         let status = match self {
             RunFault::Table(_) => 3,

@@ -1,5 +1,5 @@
 -- The table: the fields of a record, and one record after the other.
-use Rattle.std.proofs.Common.{◌≡◌, ◌+◌, ◌-◌, ◌<◌, ◌≤◌, ℕ, zero, suc, Bool, true, false, ◌&&◌, ◌||◌, ◌==◌, List, [], ◌∷◌, ◌++◌, length, drop, get_or, option_map, Option, Some, None, refl, ◌∙◌, ap, sym, inl, inr, arith, rules}
+use Rattle.std.proofs.Common.{◌≡◌, ◌+◌, ◌-◌, ◌<◌, ◌≤◌, ℕ, zero, suc, Bool, true, false, ◌&&◌, ◌==◌, List, [], ◌∷◌, ◌++◌, length, drop, get_or, option_map, Option, Some, None, refl, ◌∙◌, ap, sym, inl, inr, arith, rules}
 use Rattle.std.specs.Prelude.{Result, Ok, Err, if◌then◌else◌, nat_le, IsOkAnd, IsSome}
 use Rattle.std.proofs.lemmas.Bool.Decides.{nat_tests}
 use Rattle.csv.specs.Records.{field_at}
@@ -7,8 +7,8 @@ use Rattle.rt_geo.specs.declared.entry.Entry.{Entry}
 use Rattle.rt_text.specs.Steps.{◌>>=◌}
 use Rattle.rt_tree.specs.Entries.{first_repeat, has_id}
 use Rattle.rt_tree.proofs.RepeatLemmas.{first_repeat-push, repeat_with}
-use Rattle.rt_text.specs.Loads.{after_ids, entry_after, first_number, repeat_or}
-use Rattle.rt_text.specs.Tables.{IsRefusal, IsFaultOf, entries_from, entry_in, entry_of_fields, judged, records_of, table_of}
+use Rattle.rt_text.specs.Loads.{IsRefusal, after_ids, entry_after, first_number, repeat_or}
+use Rattle.rt_text.specs.Tables.{IsFaultOf, entries_from, entry_of_fields, judged, records_of, table_of}
 use Rattle.rt_text.specs.declared.tables.TableFault.{TableFault}
 use Rattle.rt_text.specs.declared.tables.TableFault.TheVariants as fault
 
@@ -24,11 +24,6 @@ pub IsSome-field : {A : Type 0} (text : A → List ℕ) (o : Option A) (fields :
     → option_map text o ≡ field_at fields place → place < length fields → IsSome o
 IsSome-field text None fields place e h = let x : None ≡ Some (get_or fields place []) = e ∙ field_at-there fields place h in absurd cc
 IsSome-field text (Some a) fields place e h = search rules
-
--- a record of enough fields
-pub entry_of_fields-enough : (number : ℕ) (fields : List (List ℕ)) → (length fields == 5 || length fields == 6) ≡ true
-    → entry_of_fields number fields ≡ entry_in number fields
-entry_of_fields-enough number fields n = rw n refl
 
 -- ---- one record
 
@@ -110,10 +105,16 @@ table_after-refused : (header : Bool) (max number : ℕ) (so_far : List Entry) (
 unfolding entries_from
 table_after-refused header max number so_far f fields more judges refused = rw (judges, refused) refl
 
--- a fault of memory tells nothing of the text
-pub own : {A : Type 0} (f : TableFault) (step : Result A TableFault) → IsRefusal f step → IsFaultOf f step
-own f step (inl memory) tells = let never : false ≡ true = rw memory at tells in absurd cc
-own f step (inr refused) tells = refused
+-- the fault of a step may be told
+own : {A : Type 0} (f : TableFault) (step : Result A TableFault) → step ≡ Err f → IsFaultOf f step
+own fault.Read step e = tt
+own fault.Memory step e = tt
+own (fault.TooMany n) step e = e
+own (fault.FieldCount n k) step e = e
+own (fault.NotNumber n k) step e = e
+own (fault.OutOfRange n k) step e = e
+own (fault.MinAboveMax n axis) step e = e
+own (fault.Repeated n) step e = e
 
 -- ---- and their ids at the end
 
@@ -156,5 +157,6 @@ after_ids-more header max number so_far entry fields more positive judges counte
 -- a record that is refused, whatever its id
 pub after_ids-refused : (header : Bool) (max number : ℕ) (so_far : List Entry) (f : TableFault) (fields : List (List ℕ)) (more : List (List (List ℕ)))
     → (header && (number == 1)) ≡ false → IsRefusal f (entry_after max number so_far fields) → IsFaultOf f (table_after header max number so_far (fields ∷ more))
-after_ids-refused header max number so_far f fields more judges refused tells =
-    table_after-refused header max number so_far f fields more judges (judged-refused max number so_far fields f (own f (entry_after max number so_far fields) refused tells))
+after_ids-refused header max number so_far f fields more judges (inl memory) = rw memory tt
+after_ids-refused header max number so_far f fields more judges (inr refused) =
+    own f _ (table_after-refused header max number so_far f fields more judges (judged-refused max number so_far fields f refused))

@@ -6,8 +6,8 @@ use Rattle.csv.specs.Reading.{ReadRecord, default_config, source_of, strip_bom}
 use Rattle.csv.specs.declared.parser.State.TheVariants as st
 use Rattle.csv.specs.declared.reader.Reader.{Reader}
 use Rattle.rt_geo.specs.declared.entry.Entry.{Entry}
-use Rattle.rt_text.specs.Loads.{EndsAt, after_ids, entry_after, first_number}
-use Rattle.rt_text.specs.Tables.{IsRefusal, table_of, is_of_text}
+use Rattle.rt_text.specs.Loads.{EndsAt, IsRefusal, after_ids, entry_after, first_number}
+use Rattle.rt_text.specs.Tables.{IsFaultOf, table_of}
 use Rattle.rt_text.specs.declared.tables.TableFault.{TableFault}
 use Rattle.rt_text.specs.declared.tables.TableFault.TheVariants as fault
 use Rattle.rt_text.proofs.Records.{records_after, records_after-end, records_after-found}
@@ -92,9 +92,9 @@ pub read-failed : {R : Type 0} {rem : R → Option (List ℕ)} {records : Reader
 read-failed {records} {so_far} {header} {max} {number} f at failed = (
   table_after header max number so_far (records_after default_config records.state at.rest),
   at.whole,
-  (λ tells. absurd (never failed tells)),
+  at_any_time _ failed,
 )
   where
-    never : (f ≡ fault.Read) ⊎ (f ≡ fault.Memory) → is_of_text f ≡ true → ⊥
-    never (inl reader) tells = let no : false ≡ true = rw reader at tells in cc
-    never (inr memory) tells = let no : false ≡ true = rw memory at tells in cc
+    at_any_time : {A : Type 0} (table : Result A TableFault) → (f ≡ fault.Read) ⊎ (f ≡ fault.Memory) → IsFaultOf f table
+    at_any_time table (inl reader) = rw reader tt
+    at_any_time table (inr memory) = rw memory tt

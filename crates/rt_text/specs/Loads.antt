@@ -1,6 +1,6 @@
 -- How a table is loaded: first its entries, and once all are there, their ids. Nothing that the load promises speaks of
 -- this.
-use Rattle.std.specs.Prelude.{◌≡◌, ℕ, ◌+◌, nat_le, ℤ, Bool, if◌then◌else◌, List, length, Option, Some, None, Result, Ok, Err}
+use Rattle.std.specs.Prelude.{◌≡◌, ◌⊎◌, ℕ, ◌+◌, nat_le, ℤ, Bool, if◌then◌else◌, List, length, Option, Some, None, Result, Ok, Err}
 use Rattle.rt_geo.specs.declared.entry.Entry.{Entry}
 use Rattle.rt_tree.specs.Entries.{first_repeat}
 use Rattle.rt_text.specs.Numbers.{fault_as, number_in}
@@ -18,6 +18,11 @@ number_of number field low high text =
 abbrev pub entry_after : (max number : ℕ) → List Entry → List (List ℕ) → Result Entry TableFault
 entry_after max number so_far fields =
     if nat_le max (length so_far) then Err (fault.TooMany number) else entry_of_fields number fields
+
+-- a fault that a step of the load may answer, one that reads nothing, where this is what the step gives: its own
+-- fault, or want of memory
+abbrev pub IsRefusal : {A : Type 0} → TableFault → Result A TableFault → Type 0
+IsRefusal cause step = (cause ≡ fault.Memory) ⊎ (step ≡ Err cause)
 
 -- the number of the record that gives the first entry: a header is counted
 abbrev pub first_number : (header : Bool) → ℕ

@@ -39,6 +39,12 @@ abbrev pub word_as : {X : Type 0} → (read : List ℕ → Result X QueryFault) 
 word_as read [] = Err fault.MissingWord
 word_as read (word ∷ more) = map_value (λ found. (found, more)) (read word)
 
+-- what `read` reads after the word `key`, where that stands next; `otherwise` where it doesn't
+abbrev pub after : {X : Type 0} → (key : List ℕ) → (read : List (List ℕ) → Result (Taken X) QueryFault) → (otherwise : X)
+    → List (List ℕ) → Result (Taken X) QueryFault
+after key read otherwise [] = Ok (otherwise, [])
+after key read otherwise (word ∷ more) = if bytes_eq word key then read more else Ok (otherwise, word ∷ more)
+
 -- ---- numbers, each a word
 
 -- a number of a range; one out of it is told as `outside`
@@ -135,10 +141,7 @@ layers_of list = layers_from no_layers (slice_split is_comma list)
 
 -- `on LIST`, where it stands next; all layers where it doesn't
 abbrev pub on_list : List (List ℕ) → Result (Taken Layers) QueryFault
-on_list [] = Ok (all_layers, [])
-on_list (word ∷ more) =
-    if bytes_eq word (codes "on") then word_as layers_of more
-    else Ok (all_layers, word ∷ more)
+on_list words = after (codes "on") (word_as layers_of) all_layers words
 
 -- ---- orders and limits
 
@@ -155,16 +158,9 @@ order found (word ∷ more) =
     else if bytes_eq word (codes "smallest") then Ok (Smallest (record {}), more)
     else Ok (usual_order found, word ∷ more)
 
--- the greatest limit, of 64 bits
-abbrev pub greatest_limit : ℕ
-greatest_limit = 2 ^ 64 - 1
-
--- `first K`, where it stands next
+-- `first K`, where it stands next, K of 64 bits
 abbrev pub limit : List (List ℕ) → Result (Taken (Option ℕ)) QueryFault
-limit [] = Ok (None, [])
-limit (word ∷ more) =
-    if bytes_eq word (codes "first") then taken_as Some (word_as (natural greatest_limit) more)
-    else Ok (None, word ∷ more)
+limit words = after (codes "first") (λ more. taken_as Some (word_as (natural (2 ^ 64 - 1)) more)) None words
 
 -- ---- queries
 
@@ -182,10 +178,10 @@ find words = do
   limited ← limit ordered.1
   finished (Find found.0 ordered.0 limited.0 on.0) limited.1
 
--- the words after `nearest`: K X Y, which is `find all near X Y first K`
+-- the words after `nearest`: K X Y, K of 64 bits, which is `find all near X Y first K`
 abbrev pub nearest : List (List ℕ) → Result Query QueryFault
 nearest words = do
-  limited ← word_as (natural greatest_limit) words
+  limited ← word_as (natural (2 ^ 64 - 1)) words
   centre ← point limited.1
   finished (Find (All (record {})) (near centre.0) (Some limited.0) all_layers) centre.1
 

@@ -1,6 +1,6 @@
 -- The table that a text of CSV gives, or what is wrong with it.
 use Rattle.std.specs.List.{slice_index_or}
-use Rattle.std.specs.Prelude.{◌≡◌, ◌⊎◌, ◌==◌, ℕ, ◌+◌, ◌-◌, ◌^◌, ℤ, pos, ◌-ℤ◌, int_lt, nat_le, unsigned_abs, Bool, true, false, ◌||◌, if◌then◌else◌, List, [], ◌∷◌, ◌++◌, length, drop, Result, Ok, Err}
+use Rattle.std.specs.Prelude.{◌≡◌, ◌==◌, ⊤, ℕ, ◌+◌, ◌-◌, ◌^◌, ℤ, pos, ◌-ℤ◌, int_lt, nat_le, unsigned_abs, Bool, not, ◌||◌, if◌then◌else◌, List, [], ◌∷◌, ◌++◌, length, drop, Result, Ok, Err}
 use Rattle.csv.specs.Reading.{default_config, records, strip_bom}
 use Rattle.rt_geo.specs.Boxes.{greatest_coordinate, least_coordinate, rect_of}
 use Rattle.rt_geo.specs.Layers.{most_layer}
@@ -33,24 +33,20 @@ layer_in number fields =
     if length fields == 5 then Ok 0
     else map_value unsigned_abs (number_at number 6 (pos 0) (pos most_layer) fields)
 
--- the entry of enough fields, judged from left to right: an id of 64 bits, four sides and a layer; then the sides
-abbrev pub entry_in : (number : ℕ) → (fields : List (List ℕ)) → Result Entry TableFault
-entry_in number fields = do
-  id ← number_at number 1 (pos 0 -ℤ pos (2 ^ 63)) (pos (2 ^ 63 - 1)) fields
-  min_x ← coordinate_at number 2 fields
-  max_x ← coordinate_at number 3 fields
-  min_y ← coordinate_at number 4 fields
-  max_y ← coordinate_at number 5 fields
-  layer ← layer_in number fields
-  if int_lt max_x min_x then Err (fault.MinAboveMax number axis.X)
-      else if int_lt max_y min_y then Err (fault.MinAboveMax number axis.Y)
-      else Ok (record { id = id; bounds = rect_of min_x max_x min_y max_y; layer = layer })
-
--- the entry of a record, which has five fields, or six with a layer
+-- the entry of a record, which has five fields, or six with a layer, judged from left to right: an id of 64 bits, the
+-- four sides of its box and its layer; then the sides are compared
 abbrev pub entry_of_fields : (number : ℕ) → (fields : List (List ℕ)) → Result Entry TableFault
 entry_of_fields number fields =
-    if length fields == 5 || length fields == 6 then entry_in number fields
-    else Err (fault.FieldCount number (length fields))
+    if not (length fields == 5 || length fields == 6) then Err (fault.FieldCount number (length fields)) else do
+      id ← number_at number 1 (pos 0 -ℤ pos (2 ^ 63)) (pos (2 ^ 63 - 1)) fields
+      min_x ← coordinate_at number 2 fields
+      max_x ← coordinate_at number 3 fields
+      min_y ← coordinate_at number 4 fields
+      max_y ← coordinate_at number 5 fields
+      layer ← layer_in number fields
+      if int_lt max_x min_x then Err (fault.MinAboveMax number axis.X)
+          else if int_lt max_y min_y then Err (fault.MinAboveMax number axis.Y)
+          else Ok (record { id = id; bounds = rect_of min_x max_x min_y max_y; layer = layer })
 
 -- one record, judged after the entries so far: there is room for its entry, it has one, and the id is new
 abbrev pub judged : (max number : ℕ) → List Entry → (fields : List (List ℕ)) → Result Entry TableFault
@@ -71,17 +67,9 @@ abbrev pub table_of : List ℕ → (header : Bool) → (max : ℕ) → Result (L
 table_of bytes header max =
     if header then entries_from max 2 [] (drop 1 (records_of bytes)) else entries_from max 1 [] (records_of bytes)
 
--- whether a fault tells of the table's text; the other two tell of its reader and of memory, and may come at any time
-abbrev pub is_of_text : TableFault → Bool
-is_of_text fault.Read = false
-is_of_text fault.Memory = false
-is_of_text other = true
-
--- a fault that a step of the load may answer, one that reads nothing, where this is what the step gives: its own
--- fault, or want of memory
-abbrev pub IsRefusal : {A : Type 0} → TableFault → Result A TableFault → Type 0
-IsRefusal cause step = (cause ≡ fault.Memory) ⊎ (step ≡ Err cause)
-
--- a fault that a load may answer where this is the table: one that tells of the text is the table's own
+-- a fault that a load may answer where this is the table: a failed read and want of memory may come at any time, and any
+-- other fault is the table's own
 abbrev pub IsFaultOf : {A : Type 0} → TableFault → Result A TableFault → Type 0
-IsFaultOf cause table = is_of_text cause ≡ true → table ≡ Err cause
+IsFaultOf fault.Read table = ⊤
+IsFaultOf fault.Memory table = ⊤
+IsFaultOf own table = table ≡ Err own

@@ -16,9 +16,9 @@ ghost use Rattle.rt_geo.specs.Entries.{HasLayer};
 ghost use Rattle.rt_geo.specs.Layers.{most_layer};
 ghost use Rattle.rt_geo.specs.declared.entry.Entry.{Entry};
 ghost use Rattle.rt_tree.specs.Entries.{first_repeat, most_entries};
-ghost use Rattle.rt_text.specs.Loads.{EndsAt, after_ids, entry_after, first_number, number_of};
+ghost use Rattle.rt_text.specs.Loads.{EndsAt, IsRefusal, after_ids, entry_after, first_number, number_of};
 ghost use Rattle.rt_text.specs.Steps.{map_value};
-ghost use Rattle.rt_text.specs.Tables.{IsRefusal, IsFaultOf, entry_of_fields, layer_in, table_of};
+ghost use Rattle.rt_text.specs.Tables.{IsFaultOf, entry_of_fields, layer_in, table_of};
 
 use crate::numbers::{self, NumberFault};
 use csv::{ByteRecord, Reader, ReaderBuilder};

@@ -11,5 +11,5 @@ returns-in-Ok-clause-ending g c table queries before is_table is_queries is_befo
 pub returns-in-Err-clause-ending : goal.returns-in-Err-clause-ending
 returns-in-Err-clause-ending g c table queries before is_table is_queries is_before =
     ends_early c.args.settings.now table queries before c.outcome-in-Err.result c.in-Err.fault (c.in-Err.ensures.stops table is_table)
-    c.in-Err.ensures.reported.1 c.outcome-in-Err.ensures.fault c.outcome-in-Err.ensures.status
+    c.in-Err.ensures.of_load c.in-Err.ensures.memory c.outcome-in-Err.ensures.fault c.outcome-in-Err.ensures.status
     (g.S.Source.coming c.args.source.now) (g.K.Sink.written c.args.sink.now) is_queries is_before
