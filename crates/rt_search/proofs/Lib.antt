@@ -3,9 +3,9 @@ pub mod Answering
 pub mod Children
 pub mod Chosen
 pub mod Collectors
+pub mod Elements
 pub mod Falling
 pub mod FilledUp
-pub mod GivenAll
 pub mod Giving
 pub mod Heaps
 pub mod Joined
@@ -22,6 +22,5 @@ pub mod UnderWay
 pub mod Unscored
 pub mod WalkWhole
 pub mod Walks
-pub mod Widths
 pub mod Working
 pub mod ZeroScores

@@ -1,6 +1,7 @@
 -- A walk over a whole tree, from its root.
 use Rattle.std.proofs.Common.{◌≡◌, ◌<◌, ◌≤◌, ◌+◌, ◌-◌, ◌^◌, ◌==◌, ◌∙◌, ℕ, Bool, true, false, cond, None, []}
 use Rattle.std.proofs.Common.{length, refl, sym, ap, subst, arith}
+use Rattle.std.proofs.lemmas.Bool.{eqb-true}
 use Rattle.std.proofs.lemmas.List.Sorted.{length_permutation}
 use Rattle.rt_geo.specs.Laws.{Extent}
 use Rattle.rt_geo.specs.declared.geometry.Info.{Info}
@@ -11,21 +12,16 @@ use Rattle.rt_search.specs.Answers.{accepted, answer_cmp, answer_of, answers, sc
 use Rattle.rt_search.specs.Remaining.{IsOpenable, put_all}
 use Rattle.rt_search.specs.Walking.{answers_in_tree, answers_under, work_under}
 use Rattle.rt_search.specs.Work.{its_children, one_node, reached_from_root, root_verdict}
-use Rattle.rt_search.proofs.Answering.{among, among-IsPermutation}
+use Rattle.rt_search.proofs.Answering.{among-IsPermutation}
 use Rattle.rt_search.proofs.OrderedLists.{length-put_all, put_all-nil}
 use Rattle.rt_search.proofs.Orders.{answer_order}
 use Rattle.rt_search.proofs.Sizes.{count_is_fair, one_is_fair, size_under, work_le}
-use Rattle.rt_search.proofs.Starting.{empty_answers, nat_eq_false, nat_eq_true, root_sound, some_nodes}
+use Rattle.rt_search.proofs.Starting.{empty_answers, nat_eq_false, root_sound, some_nodes}
 use Rattle.std.proofs.lemmas.List.{length-map}
 
 module _ (accepts : Extent → Bool) (score : Extent → ℕ) (verdict : Info → Verdict) (t : Packed) (sound : IsSound t)
   where
     -- ---- the answers of a whole tree
-
-    in_order : 0 < length t.nodes → put_all answer_cmp (answers_under t accepts score (length t.nodes - 1)) []
-        ≡ put_all answer_cmp (among accepts score t.entries) []
-    in_order some = sym (among-IsPermutation accepts score (entries_under t (height t) (root_of t)) t.entries []
-        (sound.every some))
 
     -- in order they are those of a scan
     pub tree_answers : put_all answer_cmp (answers_in_tree t accepts score) [] ≡ answers t.entries accepts score None
@@ -33,9 +29,10 @@ module _ (accepts : Extent → Bool) (score : Extent → ℕ) (verdict : Info �
         let split : (b : Bool) → (length t.nodes == 0) ≡ b
         → put_all answer_cmp (cond b [] (answers_under t accepts score (length t.nodes - 1))) []
         ≡ answers t.entries accepts score None = elim [
-          | true ↦ λ h. sym (empty_answers accepts score verdict t sound (nat_eq_true h))
-          | false ↦ λ h. in_order (nat_eq_false h)
-              ∙ put_all-nil answer_cmp answer_order (scored t.entries accepts score)
+          | true ↦ λ h. sym (empty_answers accepts score verdict t sound (eqb-true _ 0 h))
+          | false ↦ λ h. put_all-nil answer_cmp answer_order (answers_under t accepts score (length t.nodes - 1))
+              ∙ among-IsPermutation accepts score (entries_under t (height t) (root_of t)) t.entries
+              (sound.every (nat_eq_false h))
         ] in
         split (length t.nodes == 0) refl
 

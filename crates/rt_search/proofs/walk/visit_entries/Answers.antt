@@ -72,8 +72,8 @@ loop-i-preserved g c =
     let fits : FitsSigned w64 c.index-entries-i.result.id = search rules in
     let verdict_is = rw (k.is, layers) at (rw (c.info-info.ensures, c.requires.leaf.tree.top_is) at e.verdict) in
     let one = rw k.is at (rw verdict_is at (rw c.is_kept.ensures at (simp (to_z-of_z, fits) at c.visit_entry.ensures))) in
-    let more = one_entry accepts score tree (g.G.Geometry.verdict geometry) (g.met.G.Geometry.lawful geometry)
-    c.requires.leaf.tree.sound v small c.args.node i c.requires.leaf.node c.requires.leaf.below (omega (arith, count, lt)) in
+    let more = one_entry (g.met.G.Geometry.lawful geometry) c.requires.leaf.tree.sound small c.requires.leaf.node
+    c.requires.leaf.below i (omega (arith, count, lt)) in
     let both = taken-append g.C.Collector.takes c.args.collector.now c.loop-i.collector c.visit_entry.new.self
     (answers_among tree accepts score c.args.node i) _ inv.taken one in
     record {

@@ -1,7 +1,7 @@
 use Rattle.std.proofs.Common.{FitsSigned, w64, rules, ℤ, ◌∷◌, ◌∙◌, sym, ap}
 use Rattle.std.proofs.lemmas.Int.{to_z-of_z}
 use Rattle.rt_search.specs.Remaining.{remaining}
-use Rattle.rt_search.proofs.GivenAll.{given}
+use Rattle.rt_search.proofs.Answering.{given}
 use Rattle.rt_search.proofs.full_search.FullSearch.next.Goals as goal
 
 pub returns-clause-answer : goal.returns-clause-answer
