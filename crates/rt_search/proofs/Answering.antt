@@ -1,6 +1,7 @@
 -- The answers among entries, and those that items stand for.
-use Rattle.std.proofs.Common.{◌≡◌, ◌<◌, ◌≤◌, ◌+◌, ℕ, ℤ, zero, suc, Bool, true, false, cond, List, [], ◌∷◌, ◌++◌, map, Some}
+use Rattle.std.proofs.Common.{◌≡◌, ◌<◌, ◌≤◌, ◌+◌, ℕ, ℤ, zero, suc, Bool, true, false, cond, List, [], ◌∷◌, ◌++◌, map, Option, Some, None}
 use Rattle.std.proofs.Common.{length, take, get_or, refl, sym, ◌∙◌, ap, subst, arith, IsPermutation}
+use Rattle.std.specs.Prelude.{IfNone, MatchOption}
 use Rattle.std.specs.List.{AllByRecursion, flat_map}
 use Rattle.std.specs.Ordering.{is_gt}
 use Rattle.std.proofs.lemmas.Bool.Decides.{nat_tests}
@@ -18,9 +19,8 @@ use Rattle.rt_tree.specs.Sorting.{put, sorted}
 use Rattle.rt_tree.specs.declared.tree.Node.{Node}
 use Rattle.rt_search.specs.Answers.{Answer, accepted, answer_cmp, answer_of, scored}
 use Rattle.rt_search.specs.Items.{item_at, item_cmp}
-use Rattle.rt_search.specs.Kept.{AllEntries, IsEntry, IsTakenOut, found_item}
+use Rattle.rt_search.specs.Kept.{AllEntries, IsEntry, IsTakenOut, taken_entry}
 use Rattle.rt_search.specs.Remaining.{AllSound, IsSoundAt, answers_at, height_at, put_all, remaining}
-use Rattle.rt_search.specs.declared.item.FoundEntry.{FoundEntry}
 use Rattle.rt_search.specs.declared.item.Item.{Item}
 use Rattle.rt_search.specs.declared.item.Place.{Place}
 use Rattle.rt_search.specs.declared.item.Place.TheVariants as place
@@ -195,13 +195,21 @@ module _ (accepts : Extent → Bool) (score : Extent → ℕ) where
     entry_sound s (place.Node n) h = absurd h
     entry_sound s (place.Entry id) h = tt
 
-    pub given : (e : FoundEntry) (items new : List Item) → AllEntries items → IsTakenOut (Some (found_item e)) items new
-        → remaining t accepts score items ≡ (e.id, e.score) ∷ remaining t accepts score new
-    given e items new all out =
+    -- what is taken out is given, or nothing is left
+    pub given : (out : Option Answer) (items new : List Item) → AllEntries items → IsTakenOut (taken_entry out) items new
+        → MatchOption out (remaining t accepts score items ≡ [])
+        (λ a. remaining t accepts score items ≡ a ∷ remaining t accepts score new)
+    given None items new all out = ap (remaining t accepts score) out.0
+    given (Some a) items new all out =
         ap (remaining t accepts score) out.0
-        ∙ take_entry e.id e.score new out.1
+        ∙ take_entry a.0 a.1 new out.1
         (all_map (λ x. IsEntry x.place) (λ x. IsSoundAt t accepts score x.score x.place) (λ x. entry_sound x.score x.place)
         new (subst AllEntries out.0 all).1)
+
+    pub none_left : (out : Option Answer) (items new : List Item) → IsTakenOut (taken_entry out) items new
+        → IfNone out (remaining t accepts score new ≡ [])
+    none_left None items new out = ap (remaining t accepts score) out.1
+    none_left (Some a) items new out = tt
 
     -- ---- a node that joins
 

@@ -17,7 +17,6 @@ use Rattle.rt_search.specs.Progress.{IsFound, IsNodeStep, IsOver, IsSearching, I
 use Rattle.rt_search.specs.Remaining.{IsOpenable, height_at, remaining, verdict_on}
 use Rattle.rt_search.specs.Walking.{answers_among}
 use Rattle.rt_search.specs.Work.{is_reached, its_children, one_node, reached_from_root}
-use Rattle.rt_search.specs.declared.item.FoundEntry.{FoundEntry}
 use Rattle.rt_search.specs.declared.item.Item.{Item}
 use Rattle.rt_search.specs.declared.item.Place.TheVariants as place
 use Rattle.rt_search.specs.declared.item.ScoredNode.{ScoredNode}
@@ -45,7 +44,7 @@ pub node_wanted : (out : Taken) (n : ScoredNode) (w w' : Option ℕ) → out.nod
     → w' ≡ wanted_after (taken_item out) w → w' ≡ w
 node_wanted out n w w' is h = h ∙ ap (λ o. wanted_after (node_or o (taken_entry out.entry)) w) is
 
-pub wanted_then : (out : Option FoundEntry) (w w' : Option ℕ) → w' ≡ wanted_after (taken_entry out) w
+pub wanted_then : (out : Option Answer) (w w' : Option ℕ) → w' ≡ wanted_after (taken_entry out) w
     → MatchOption out (w' ≡ w) (λ _. w' ≡ one_less w)
 wanted_then None w w' h = h
 wanted_then (Some e) w w' h = h
@@ -215,16 +214,16 @@ module _ {accepts : Extent → Bool} {score : Extent → ℕ} {verdict : Info �
       }
 
   -- an entry was taken out, or nothing
-  pub ended : (out : Option FoundEntry) (new : List Item) {opened asked capacity : ℕ} {wanted wanted' : Option ℕ}
+  pub ended : (out : Option Answer) (new : List Item) {opened asked capacity : ℕ} {wanted wanted' : Option ℕ}
       {to_come : List Answer} {items : List Item} → wanted ≢ Some 0
       → IsTakenOut (taken_entry out) items new
       → wanted' ≡ wanted_after (taken_entry out) wanted
       → IsUnderWay accepts score verdict t opened asked capacity wanted to_come items
       → MatchOption out (IsOver accepts score verdict t opened asked capacity wanted' to_come new)
-      (λ e. IsFound accepts score verdict t opened asked capacity wanted' to_come (e.id, e.score) new)
+      (λ a. IsFound accepts score verdict t opened asked capacity wanted' to_come a new)
   ended None new {opened} {asked} {capacity} {to_come = to_come} more took same u =
       subst (λ w. IsOver accepts score verdict t opened asked capacity w to_come new) (sym same)
       (over more took.0 took.1 u)
-  ended (Some e) new {opened} {asked} {capacity} {to_come = to_come} more took same u =
-      subst (λ w. IsFound accepts score verdict t opened asked capacity w to_come (e.id, e.score) new) (sym same)
+  ended (Some a) new {opened} {asked} {capacity} {to_come = to_come} more took same u =
+      subst (λ w. IsFound accepts score verdict t opened asked capacity w to_come a new) (sym same)
       (found more took.0 u)

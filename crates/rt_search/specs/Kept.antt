@@ -9,10 +9,10 @@ use Rattle.std.specs.declared.cmp.Reverse.{Reverse}
 use Rattle.std.specs.declared.collections.binary_heap.BinaryHeap.{BinaryHeap}
 use Rattle.std.specs.declared.vec.Vec.{Vec}
 use Rattle.rt_tree.specs.Sorting.{put, sorted}
-use Rattle.rt_search.specs.Items.{Waiting, item_at, item_cmp}
+use Rattle.rt_search.specs.Answers.{Answer}
+use Rattle.rt_search.specs.Items.{Waiting, item_at, item_cmp, item_of}
 use Rattle.rt_search.specs.Pooling.{Pooled, keys_in}
 use Rattle.rt_search.specs.Remaining.{put_all}
-use Rattle.rt_search.specs.declared.item.FoundEntry.{FoundEntry}
 use Rattle.rt_search.specs.declared.item.Item.{Item}
 use Rattle.rt_search.specs.declared.item.Place.{Place}
 use Rattle.rt_search.specs.declared.item.Place.TheVariants.{Node, Entry}
@@ -47,12 +47,9 @@ node_or (Some n) other = Some (item_at n.score (Node n.node))
 abbrev pub taken_node : Option ScoredNode → Option Item
 taken_node node = node_or node None
 
-abbrev pub found_item : FoundEntry → Item
-found_item e = item_at e.score (Entry e.id)
-
-abbrev pub taken_entry : Option FoundEntry → Option Item
+abbrev pub taken_entry : Option Answer → Option Item
 taken_entry None = None
-taken_entry (Some e) = Some (found_item e)
+taken_entry (Some a) = Some (item_of a)
 
 abbrev pub taken_item : Taken → Option Item
 taken_item t = node_or t.node (taken_entry t.entry)

@@ -43,8 +43,7 @@ fn pull<G: Geometry>(
     loop {
         let taken = frontier.take();
         let Some(node) = taken.node else {
-            let entry = taken.entry?;
-            return Some((entry.id, entry.score));
+            return taken.entry;
         };
         *opened += 1;
         open_node(tree, frontier, counted, top, node);

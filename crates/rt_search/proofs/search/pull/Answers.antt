@@ -1,5 +1,4 @@
-use Rattle.std.proofs.Common.{FitsSigned, w64, ◌<◌, ◌^◌, ◌∙◌, refl, subst, arith, rules}
-use Rattle.std.proofs.lemmas.Int.{to_z-of_z}
+use Rattle.std.proofs.Common.{◌<◌, ◌^◌, ◌∙◌, refl, subst, arith, rules}
 use Rattle.rt_search.specs.Limits.{IsEnough}
 use Rattle.rt_search.specs.Progress.{join_children}
 use Rattle.rt_search.proofs.UnderWay.{ended, falls_by_one, go_on, node_out, node_wanted, still_more, wanted_then}
@@ -70,22 +69,12 @@ returns-in_default g c =
     let v = c.loop-node.invariant in
     let e = c.take-taken.ensures in
     let t = rw c.in_default.is at e in
-    let fits : FitsSigned w64 c.in_ok-entry.entry.id = search rules in
+    let out = c.take-taken.result.entry in
     record {
-      step = λ to_come u. rw (to_z-of_z w64 c.in_ok-entry.entry.id fits, e.capacity) (rw c.in_ok-entry.was at
-          (ended (g.met.G.Geometry.lawful c.args.counted.now.geometry) c.args.tree.now c.take-taken.result.entry
-          c.take-taken.new.self.items (still_more _ _ v.wanted c.requires.more) t.taken t.wanted (v.state to_come u)));
-      wanted = rw c.in_ok-entry.was at (wanted_then c.take-taken.result.entry c.args.frontier.now.wanted
-          c.take-taken.new.self.wanted (rw v.wanted at t.wanted));
+      step = λ to_come u. rw e.capacity
+          (ended (g.met.G.Geometry.lawful c.args.counted.now.geometry) c.args.tree.now out c.take-taken.new.self.items
+          (still_more _ _ v.wanted c.requires.more) t.taken t.wanted (v.state to_come u));
+      wanted = wanted_then out c.args.frontier.now.wanted c.take-taken.new.self.wanted (rw v.wanted at t.wanted);
       capacity = e.capacity ∙ v.capacity;
       geometry = v.geometry;
     }
-
-pub returns-in_err-entry-clause-step : goal.returns-in_err-entry-clause-step
-returns-in_err-entry-clause-step g c = λ to_come u.
-    let v = c.loop-node.invariant in
-    let e = c.take-taken.ensures in
-    let t = rw c.in_default.is at e in
-    rw (c.from_residual.ensures, e.capacity) (rw c.in_err-entry.was at
-    (ended (g.met.G.Geometry.lawful c.args.counted.now.geometry) c.args.tree.now c.take-taken.result.entry
-    c.take-taken.new.self.items (still_more _ _ v.wanted c.requires.more) t.taken t.wanted (v.state to_come u)))
