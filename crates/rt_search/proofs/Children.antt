@@ -227,10 +227,10 @@ module _ {t : Packed} {accepts : Extent → Bool} {score : Extent → ℕ} {numb
       }
 
 pub asked : {t : Packed} {number : ℕ} {n : Node} {children : List PlainNode} → HasChildren t number n children → (i : ℕ)
-    (v : Verdict) {k top : ℕ} {x : PlainNode} {whole : Node} {info : Info} → i < length children
-    → x ≡ get_or children i x → k ≡ n.first + i → whole ≡ node_at t k → top ≡ (root_of t).level
-    → info ≡ info_under top v (extent_of_plain x whole.layers) (n.level - 1) → IsAsked t number i k x v info
-asked {t} {number} {n} here i v {k} {x = x} {whole = whole} lt read number_is whole_is top_is info_is =
+    (v : Verdict) {k : ℕ} {x : PlainNode} {whole : Node} {info : Info} → i < length children
+    → x ≡ get_or children i x → k ≡ n.first + i → whole ≡ node_at t k
+    → info ≡ info_under (root_of t).level v (extent_of_plain x whole.layers) (n.level - 1) → IsAsked t number i k x v info
+asked {t} {number} {n} here i v {k} {x = x} {whole = whole} lt read number_is whole_is info_is =
     let m = node_at t number in
     let few = subst (λ l. i < l) here.count lt in
     let first = ap (λ l. l.first) here.is in
@@ -247,8 +247,7 @@ asked {t} {number} {n} here i v {k} {x = x} {whole = whole} lt read number_is wh
       at = at;
       child = there;
       is = x_is;
-      info_is = info_is ∙ ap (λ l. info_under l v (extent_of_plain x whole.layers) (n.level - 1)) top_is
-          ∙ ap (info_under (root_of t).level v (extent_of_plain x whole.layers)) lower
+      info_is = info_is ∙ ap (info_under (root_of t).level v (extent_of_plain x whole.layers)) lower
           ∙ ap (λ l. info_under (root_of t).level v (extent_of_plain l whole.layers) (node_at t k).level) x_is
           ∙ ap (λ l. info_under (root_of t).level v (extent_of_plain (without_layers (node_at t k)) l.layers)
           (node_at t k).level) whole_is;

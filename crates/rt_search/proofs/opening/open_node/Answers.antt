@@ -40,7 +40,7 @@ overflow_add-first g c =
     let here = children_of c.requires.node c.node-node.ensures c.if-node-eq1.false c.child_nodes-children.ensures in
     let inside = here.inside in
     let lt = c.loop-i-test.true in
-    let few = c.requires.tree.sound.few_nodes in
+    let few = c.requires.sound.few_nodes in
     let low : c.node-node.result.first + c.loop-i.i < 2 ^ 32 = omega (arith, inside, lt, few) in
     search (rules, low)
 
@@ -56,10 +56,10 @@ ask_node-requires g c =
     let geometry = c.args.counted.now.geometry in
     let tree = c.args.tree.now in
     let number = c.args.taken.node.number.number in
-    let v = c.new-parent.result.verdict in
+    let v = c.verdict_on-parent.result in
     let here = children_of c.requires.node c.node-node.ensures c.if-node-eq1.false c.child_nodes-children.ensures in
-    let k = asked here c.loop-i.i c.new-parent.result.verdict c.loop-i-test.true c.index-children-i.is
-    c.new-number.ensures c.node-whole.ensures (c.new-parent.ensures.top ∙ c.requires.tree.top_is) c.info-info.ensures in
+    let k = asked here c.loop-i.i c.verdict_on-parent.result c.loop-i-test.true c.index-children-i.is
+    c.new-number.ensures c.node-whole.ensures c.info_under-info.ensures in
     let long = length-join_nodes (g.G.Geometry.verdict geometry) tree v (node_at tree number) c.loop-i.i
     c.args.frontier.now.items in
     let inv = c.loop-i.invariant in
@@ -71,8 +71,8 @@ ask_node-requires g c =
     record {
       honest = rw inv.geometry
           (honest_child (g.G.Geometry.accepts geometry) (g.G.Geometry.score geometry)
-          (extent_of_node (node_at tree number)) c.info-info.result v
-          (rw c.new-parent.ensures.verdict c.requires.node.below) (ap (λ i. i.parent_within) c.info-info.ensures)
+          (extent_of_node (node_at tree number)) c.info_under-info.result v
+          (rw c.verdict_on-parent.ensures c.requires.node.below) (ap (λ i. i.parent_within) c.info_under-info.ensures)
           (rw k.info_is k.child.within));
       room = rw inv.children.capacity (omega (arith, few, long, room, lt));
       asked = omega (arith, checks, checks_few, lt);
@@ -82,8 +82,8 @@ pub loop-i-preserved : goal.loop-i-preserved
 loop-i-preserved g c =
     let tree = c.args.tree.now in
     let here = children_of c.requires.node c.node-node.ensures c.if-node-eq1.false c.child_nodes-children.ensures in
-    let k = asked here c.loop-i.i c.new-parent.result.verdict c.loop-i-test.true c.index-children-i.is
-    c.new-number.ensures c.node-whole.ensures (c.new-parent.ensures.top ∙ c.requires.tree.top_is) c.info-info.ensures in
+    let k = asked here c.loop-i.i c.verdict_on-parent.result c.loop-i-test.true c.index-children-i.is
+    c.new-number.ensures c.node-whole.ensures c.info_under-info.ensures in
     let inv = c.loop-i.invariant in
     let h = rw (inv.geometry, inv.children.wanted) at c.ask_node.ensures in
     let checks = h.asked in
@@ -114,10 +114,10 @@ returns g c =
     record {
       children = record {
         items = nodes_join (g.met.G.Geometry.lawful geometry) tree c.args.frontier.now.wanted c.args.taken.score c.args.taken.node
-            c.node-node.result c.new-parent.result.verdict c.loop-i.frontier.items c.args.frontier.now.items
-            c.node-node.ensures c.if-node-eq1.false c.new-parent.ensures.verdict
+            c.node-node.result c.verdict_on-parent.result c.loop-i.frontier.items c.args.frontier.now.items
+            c.node-node.ensures c.if-node-eq1.false c.verdict_on-parent.ensures
             (subst (λ m. IsEnough c.args.frontier.now.wanted c.loop-i.frontier.items
-            (join_nodes verdict tree c.new-parent.result.verdict (node_at tree number) m c.args.frontier.now.items)) end
+            (join_nodes verdict tree c.verdict_on-parent.result (node_at tree number) m c.args.frontier.now.items)) end
             inv.children.items);
         wanted = inv.children.wanted;
         capacity = inv.children.capacity;

@@ -25,7 +25,7 @@ open_node-requires g c =
     (still_more _ _ v.wanted c.requires.more) (node_out c.take-taken.result n _ _ c.in-Some.is e.taken)
     (v.state c.requires.state.0 c.requires.state.1) in
     record {
-      tree = record { sound = k.tree; top_is = c.requires.top };
+      sound = k.tree;
       node = rw v.geometry k.node;
       room = rw e.capacity k.room;
       asked = k.asked_low;

@@ -37,7 +37,7 @@ walk_child-walk_under-requires g t c κs within =
         (
           within.1,
           (
-            c.requires.tree,
+            c.requires.sound,
             (
               rw (e.geometry, v) (openable law c.requires.node),
               (
@@ -107,12 +107,12 @@ pub walk_under-walk_child-requires : goal.walk_under-walk_child-requires
 walk_under-walk_child-requires g t c κs within =
     let law = g.met.G.Geometry.lawful c.args.counted.now.geometry in
     let tree = c.args.tree.now in
-    let sound = c.requires.tree.sound in
-    let v = c.args.parent.verdict in
+    let sound = c.requires.sound in
+    let v = c.args.parent in
     let small : v.score < 2 ^ 128 = search rules in
     let here = children_of c.requires.node c.node-node.ensures c.if-node-eq1.false c.child_nodes-children.ensures in
     let k = asked here c.loop-i.i v c.loop-i-test.true c.index-children-i.is c.new-child_number.ensures
-    c.node-whole.ensures c.requires.tree.top_is c.info-info.ensures in
+    c.node-whole.ensures c.info_under-info.ensures in
     let inv = c.loop-i.invariant in
     let room = g.V.Collector.room in
     let left = taken_room g.V.Collector.takes room g.met.V.Collector.fills c.args.visitor.now c.loop-i.visitor
@@ -122,15 +122,14 @@ walk_under-walk_child-requires g t c κs within =
     left c.requires.room c.requires.opened c.requires.asked in
     let lower = can.lower in
     let size : c.index-children-i.result.size ≡ (node_at tree c.new-child_number.result.number).size = ap (λ n. n.size) k.is in
-    let fits = can.room_is in
-    let top : c.info-info.result.top ≡ c.args.parent.top = ap (λ i. i.top) c.info-info.ensures in (
+    let fits = can.room_is in (
       omega (arith, lower, c.decreases),
       (
         within.0,
         (
           within.1,
           (
-            record { sound = sound; top_is = top ∙ c.requires.tree.top_is },
+            sound,
             (
               rw inv.geometry can.node,
               (size, (omega (arith, size, fits), rw inv.geometry (can.opened_few, can.asked_few))),
@@ -144,12 +143,12 @@ pub walk_under-loop-i-preserved : goal.walk_under-loop-i-preserved
 walk_under-loop-i-preserved g t c =
     let law = g.met.G.Geometry.lawful c.args.counted.now.geometry in
     let tree = c.args.tree.now in
-    let sound = c.requires.tree.sound in
-    let v = c.args.parent.verdict in
+    let sound = c.requires.sound in
+    let v = c.args.parent in
     let small : v.score < 2 ^ 128 = search rules in
     let here = children_of c.requires.node c.node-node.ensures c.if-node-eq1.false c.child_nodes-children.ensures in
     let k = asked here c.loop-i.i v c.loop-i-test.true c.index-children-i.is c.new-child_number.ensures
-    c.node-whole.ensures c.requires.tree.top_is c.info-info.ensures in
+    c.node-whole.ensures c.info_under-info.ensures in
     let inv = c.loop-i.invariant in
     let e = rw k.at at (rw k.info_is at (rw inv.geometry at c.walk_child.ensures)) in
     let opened = e.opened in
@@ -172,8 +171,8 @@ pub walk_under-returns : goal.walk_under-returns
 walk_under-returns g t c =
     let law = g.met.G.Geometry.lawful c.args.counted.now.geometry in
     let tree = c.args.tree.now in
-    let sound = c.requires.tree.sound in
-    let v = c.args.parent.verdict in
+    let sound = c.requires.sound in
+    let v = c.args.parent in
     let number = c.args.number.number in
     let small : v.score < 2 ^ 128 = search rules in
     let here = children_of c.requires.node c.node-node.ensures c.if-node-eq1.false c.child_nodes-children.ensures in

@@ -25,8 +25,8 @@ invariant-walk_under-loop-i g l =
       taken : HasTaken g.V.Collector.takes l.initial.visitor
           (under_all (g.G.Geometry.accepts geometry) (g.G.Geometry.score geometry) l.tree below children) l.visitor;
       opened : l.opened ≡ l.initial.opened
-          + sum_by (work_of_child opens one_node verdict l.tree l.parent.verdict below) children;
+          + sum_by (work_of_child opens one_node verdict l.tree l.parent below) children;
       asked : l.counted.asked ≡ l.initial.counted.asked + l.i
-          + sum_by (work_of_child opens its_children verdict l.tree l.parent.verdict below) children;
+          + sum_by (work_of_child opens its_children verdict l.tree l.parent below) children;
       geometry : l.counted.geometry ≡ l.initial.counted.geometry;
     }

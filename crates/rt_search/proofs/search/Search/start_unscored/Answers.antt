@@ -21,12 +21,8 @@ invariant_of-result g c =
     let first : IfSome new.wanted (λ n. c.args.limit ≡ Some n) = rw joined.wanted c.clear.ensures.wanted in
     let enough : IsEnough new.wanted new.items (join_answers (answers_in_tree tree accepts score) []) =
     rw (joined.wanted, ← c.clear.ensures.items) joined.items in
-    rw e.geometry (
-      begun (g.met.G.Geometry.lawful geometry) tree e.sound
-          c.requires.unscored c.args.limit c.walk-opened.result _ new.capacity new.wanted new.items room some first
-          e.opened e.asked enough,
-      c.top.ensures.root,
-    )
+    rw e.geometry (begun (g.met.G.Geometry.lawful geometry) tree e.sound c.requires.unscored c.args.limit
+    c.walk-opened.result _ new.capacity new.wanted new.items room some first e.opened e.asked enough)
 
 pub returns-clause-capacity : goal.returns-clause-capacity
 returns-clause-capacity g c =
