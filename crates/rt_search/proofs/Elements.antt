@@ -27,3 +27,8 @@ module _ {X : Type 0} where
   -- in another order
   pub all_moved : (P : X → Type 0) (xs ys : List X) → IsPermutation xs ys → AllByRecursion P xs → AllByRecursion P ys
   all_moved P xs ys h a = recursion_from_All P ys (All-permutation P xs ys h (All-from_recursion P xs a))
+
+  -- the last one, and those before it
+  pub all-last : (P : X → Type 0) (xs : List X) (x : X) → AllByRecursion P (xs ++ x ∷ []) → AllByRecursion P xs × P x
+  all-last P [] x h = (tt, h.0)
+  all-last P (y ∷ xs) x h = let k = all-last P xs x h.1 in ((h.0, k.0), k.1)

@@ -150,8 +150,10 @@ pub(crate) fn walk<V: Visitor, G: Geometry>(
     let Some(number) = tree.root() else {
         return opened;
     };
-    let (within, score) = (Within::Partly, 0);
-    let root = Verdict { within, score };
+    let root = Verdict {
+        within: Within::Partly,
+        score: 0,
+    };
     walk_under(tree, visitor, counted, &mut opened, number, root);
     opened
 }
