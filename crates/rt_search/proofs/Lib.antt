@@ -4,7 +4,7 @@ pub mod Children
 pub mod Chosen
 pub mod Collectors
 pub mod Elements
-pub mod Falling
+pub mod SortedLists
 pub mod FilledUp
 pub mod Giving
 pub mod Heaps

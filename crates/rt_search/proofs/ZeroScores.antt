@@ -1,16 +1,14 @@
 -- What a full search finds: entries of score 0, those of other scores of one word, and the wide.
-use Rattle.std.proofs.Common.{◌≡◌, ◌<◌, ◌≤◌, ◌^◌, ℕ, ℤ, false, List, [], ◌∷◌, length}
-use Rattle.std.proofs.Common.{sym, ◌∙◌, ap, subst, arith}
+use Rattle.std.proofs.Common.{◌≡◌, ◌<◌, ◌≤◌, ◌^◌, ℕ, ℤ, false, List, ◌∷◌}
+use Rattle.std.proofs.Common.{sym, subst, arith}
 use Rattle.std.specs.List.{AllByRecursion}
 use Rattle.std.specs.Ordering.{is_gt}
 use Rattle.std.specs.declared.cmp.Reverse.{Reverse}
-use Rattle.std.proofs.lemmas.List.Sorted.{IsPermutation-refl}
 use Rattle.rt_search.specs.Items.{item_cmp}
-use Rattle.rt_search.specs.Kept.{IsAhead, IsEntry, IsFalling, entry_item, hits_in, in_order, zero_item}
+use Rattle.rt_search.specs.Kept.{IsAhead, IsEntry, entry_item, hits_in, in_order, zero_item}
 use Rattle.rt_search.specs.Remaining.{put_all}
 use Rattle.rt_search.specs.declared.item.Item.{Item}
 use Rattle.rt_search.proofs.Elements.{all_each, all_map}
-use Rattle.rt_search.proofs.Falling.{none_last}
 use Rattle.rt_search.proofs.Heaps.{all_entries, in_order-all}
 use Rattle.rt_search.proofs.OrderedLists.{put_all-all}
 use Rattle.rt_search.proofs.Orders.{item_order, lower_before}
@@ -38,18 +36,3 @@ pub rest_above : (xs ys : List Item) → AllByRecursion (λ x. 0 < x.score) xs �
     → AllByRecursion (λ x. 0 < x.score) (put_all item_cmp xs ys)
 rest_above xs ys a b = put_all-all item_cmp item_order (λ x. 0 < x.score) xs ys a
     (all_map (λ x. 2 ^ 64 ≤ x.score) (λ x. 0 < x.score) (λ x m. omega (arith, m)) ys b)
-
--- ---- a list that is empty
-
-pub falling_none : {X : Type 0} (item : X → Item) (xs : List X) → length xs ≡ 0 → IsFalling item xs
-falling_none item [] n = tt
-falling_none item (x ∷ xs) n = absurd (omega (arith, n))
-
-pub none_in_order : {X : Type 0} (item : X → Item) (xs : List X) → length xs ≡ 0 → in_order item xs ≡ []
-none_in_order item xs n = none_last item xs xs (IsPermutation-refl xs) n
-
--- where there are no others
-pub wide_alone : (zeros keyed wide : List Item) → zeros ≡ [] → keyed ≡ []
-    → put_all item_cmp zeros (put_all item_cmp keyed wide) ≡ wide
-wide_alone zeros keyed wide z k =
-    ap (λ xs. put_all item_cmp xs (put_all item_cmp keyed wide)) z ∙ ap (λ xs. put_all item_cmp xs wide) k
