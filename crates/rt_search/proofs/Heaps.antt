@@ -10,7 +10,7 @@ use Rattle.std.proofs.lemmas.List.Sorted.{IsPermutation-map, length_permutation}
 use Rattle.rt_tree.proofs.SortingLemmas.{IsPermutation-sorted}
 use Rattle.rt_tree.specs.Sorting.{put}
 use Rattle.rt_search.specs.Items.{item_cmp}
-use Rattle.rt_search.specs.Kept.{IsEntry, IsFirstScore, IsHead, IsLeast, IsNode, IsTakenOut, entry_item, in_order, node_item, wide_item}
+use Rattle.rt_search.specs.Kept.{IsEntry, IsFirstScore, IsLeast, IsNode, IsTakenOut, entry_item, in_order, node_item, wide_item}
 use Rattle.rt_search.specs.contracts.item.ItemOrd.TheImpl.{ghosts as item_ghosts}
 use Rattle.rt_search.specs.declared.item.Item.{Item}
 use Rattle.rt_search.proofs.Elements.{all_each, all_map, all_moved}
@@ -30,11 +30,6 @@ map-all item P (x ∷ xs) a = (a.0, map-all item P xs a.1)
 
 pub least_scores : (x : Item) (ys : List Item) → IsLeast x ys → AllByRecursion (λ y. x.score ≤ y.score) ys
 least_scores x = all_map (λ y. is_gt (item_cmp x y) ≡ false) (λ y. x.score ≤ y.score) (score_upto x)
-
--- the first's score
-pub head_score : (x : Item) (ys : List Item) → IsHead x ys → IsFirstScore x.score ys
-head_score x [] h = absurd h
-head_score x (y ∷ ys) h = (ap (λ i. i.score) h.0, least_scores x ys h.1)
 
 -- ---- any collection, by the items that its elements are
 

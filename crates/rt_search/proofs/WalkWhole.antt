@@ -48,38 +48,26 @@ module _ (accepts : Extent → Bool) (score : Extent → ℕ) (verdict : Info �
     -- ---- from the root
 
     -- what holds of the node that a walk begins with
-    pub record IsWhole (opens : Verdict → Bool) (number : ℕ) (v : Verdict) : Type 0 where
-      pub node : IsOpenable t accepts score number v
+    pub record IsWhole (opens : Verdict → Bool) (number : ℕ) : Type 0 where
+      pub node : IsOpenable t accepts score number root_verdict
       pub few : (node_at t number).size ≤ length t.entries
-      pub opened_few : work_under opens one_node verdict t v number ≤ 2 ^ 32
-      pub asked_few : work_under opens its_children verdict t v number ≤ 2 ^ 32
-      pub answers_are : answers_under t accepts score number ≡ answers_in_tree t accepts score
-      pub opened_is : work_under opens one_node verdict t v number ≡ reached_from_root opens one_node verdict t
-      pub asked_is : work_under opens its_children verdict t v number ≡ reached_from_root opens its_children verdict t
+      pub opened_few : work_under opens one_node verdict t root_verdict number ≤ 2 ^ 32
+      pub asked_few : work_under opens its_children verdict t root_verdict number ≤ 2 ^ 32
 
     whole_work : (opens : Verdict → Bool) (cost : Node → ℕ) → 0 < length t.nodes
         → work_under opens cost verdict t root_verdict (length t.nodes - 1) ≡ reached_from_root opens cost verdict t
     whole_work opens cost some = (let none = some_nodes t some in rw none refl)
 
-    root_whole : (opens : Verdict → Bool) → 0 < length t.nodes → IsWhole opens (length t.nodes - 1) root_verdict
-    root_whole opens some =
+    pub whole : (opens : Verdict → Bool) (number : ℕ) → number + 1 ≡ length t.nodes → IsWhole opens number
+    whole opens number is =
+        let some : 0 < length t.nodes = omega (arith, is) in
         let size = size_under t (height t) (root_of t) (sound.root some) in
         let all = length_permutation _ _ (sound.every some) in
         let one = whole_work opens one_node some in
         let its = whole_work opens its_children some in
-        record {
+        subst (IsWhole opens) {x = length t.nodes - 1} (omega (arith, is)) (record {
           node = (root_sound accepts score verdict t sound some).0;
           few = omega (arith, size, all);
           opened_few = omega (arith, one, work_le opens one_node verdict t (one_is_fair t) sound);
           asked_few = omega (arith, its, work_le opens its_children verdict t (count_is_fair t) sound);
-          answers_are = (let none = some_nodes t some in rw none refl);
-          opened_is = one;
-          asked_is = its;
-        }
-
-    pub whole : (opens : Verdict → Bool) (number : ℕ) (v : Verdict) → number + 1 ≡ length t.nodes
-        → v ≡ root_verdict → IsWhole opens number v
-    whole opens number v is told =
-        let last : length t.nodes - 1 ≡ number = omega (arith, is) in
-        subst (IsWhole opens number) (sym told)
-        (subst (λ n. IsWhole opens n root_verdict) last (root_whole opens (omega (arith, is))))
+        })

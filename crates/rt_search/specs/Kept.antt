@@ -89,11 +89,6 @@ abbrev pub IsFirstScore : ℕ → List Item → Type 0
 IsFirstScore s [] = ⊥
 IsFirstScore s (x ∷ xs) = (s ≡ x.score) × AllByRecursion (λ y. s ≤ y.score) xs
 
--- x is the first, and comes after none of the others
-abbrev pub IsHead : Item → List Item → Type 0
-IsHead x [] = ⊥
-IsHead x (y ∷ ys) = (x ≡ y) × IsLeast x ys
-
 -- each comes after none of those behind it
 abbrev pub IsRising : List Item → Type 0
 IsRising [] = Unit {0}
