@@ -1,33 +1,33 @@
 -- The answers among entries, and those that items stand for.
-use Rattle.std.proofs.Common.{◌≡◌, ◌<◌, ◌≤◌, ◌+◌, ℕ, ℤ, zero, suc, Bool, true, false, cond, List, [], ◌∷◌, ◌++◌, map}
+use Rattle.std.proofs.Common.{◌≡◌, ◌<◌, ◌≤◌, ◌+◌, ℕ, ℤ, zero, suc, Bool, true, false, cond, List, [], ◌∷◌, ◌++◌, map, Option, Some, None}
 use Rattle.std.proofs.Common.{length, take, get_or, refl, sym, ◌∙◌, ap, subst, arith, IsPermutation}
-use Rattle.std.specs.List.{AllByRecursion, filter, flat_map}
+use Rattle.std.specs.Prelude.{IfNone, MatchOption}
+use Rattle.std.specs.List.{AllByRecursion, flat_map}
 use Rattle.std.specs.Ordering.{is_gt}
 use Rattle.std.proofs.lemmas.Bool.Decides.{nat_tests}
 use Rattle.std.proofs.lemmas.Grind.{flat_map-append}
 use Rattle.std.proofs.lemmas.List.{append-nil, map-append, take_more}
 use Rattle.std.proofs.lemmas.List.Elements.{filter-append}
+use Rattle.std.proofs.lemmas.List.Sorted.{IsPermutation-cons, IsPermutation-map, IsPermutation-middle}
+use Rattle.std.proofs.lemmas.List.Sorted.{IsPermutation-refl, IsPermutation-trans}
 use Rattle.rt_geo.specs.Laws.{Extent, IsBoxInside, IsPart, NoneAccepted, extent_of_entry}
 use Rattle.rt_geo.specs.Lemmas.Laws.{IsBoxInside-part}
 use Rattle.rt_geo.specs.declared.entry.Entry.{Entry}
 use Rattle.rt_tree.specs.Packed.{Packed, IsSubtree, child_nodes, entries_under, extent_of_node, node_at}
-use Rattle.rt_tree.specs.Sorting.{put}
+use Rattle.rt_tree.proofs.Permutations.{along_permutation}
+use Rattle.rt_tree.specs.Sorting.{put, sorted}
 use Rattle.rt_tree.specs.declared.tree.Node.{Node}
-use Rattle.rt_search.specs.Answers.{Answer, answer_cmp, scored}
+use Rattle.rt_search.specs.Answers.{Answer, accepted, answer_cmp, answer_of, scored}
 use Rattle.rt_search.specs.Items.{item_at, item_cmp}
+use Rattle.rt_search.specs.Kept.{AllEntries, IsEntry, IsTakenOut, taken_entry}
 use Rattle.rt_search.specs.Remaining.{AllSound, IsSoundAt, answers_at, height_at, put_all, remaining}
 use Rattle.rt_search.specs.declared.item.Item.{Item}
 use Rattle.rt_search.specs.declared.item.Place.{Place}
 use Rattle.rt_search.specs.declared.item.Place.TheVariants as place
 use Rattle.rt_search.specs.declared.item.WaitingNode.{WaitingNode}
-use Rattle.rt_search.proofs.OrderedLists.{built, built-IsPermutation, put-all, put-put, put_all-all, put_all-append}
-use Rattle.rt_search.proofs.OrderedLists.{put_all-put_all, put_cancel, put_least}
+use Rattle.rt_search.proofs.Elements.{all-append, all_map}
+use Rattle.rt_search.proofs.OrderedLists.{put-all, put_all-all, put_all-append, put_all-put_all, put_least}
 use Rattle.rt_search.proofs.Orders.{answer_order, item_order}
-
-pub all-append : {X : Type 0} (P : X → Type 0) (xs ys : List X) → AllByRecursion P xs → AllByRecursion P ys
-    → AllByRecursion P (xs ++ ys)
-all-append P [] ys a b = b
-all-append P (x ∷ xs) ys a b = (a.0, all-append P xs ys a.1 b)
 
 pub take_more_at : {X : Type 0} (xs : List X) (i : ℕ) (x : X) → i < length xs → x ≡ get_or xs i x → take (i + 1) xs
     ≡ take i xs ++ (x ∷ [])
@@ -39,13 +39,6 @@ take_more_at xs i x lt is = take_more xs i x lt ∙ ap (λ y. take i xs ++ (y �
 abbrev pub IsEntryInside : Extent → Entry → Type 0
 IsEntryInside extent e = IsBoxInside (extent_of_entry e) extent
 
--- entries inside a part are inside the whole
-each_more : (part whole : Extent) (es : List Entry) → IsPart part whole → AllByRecursion (IsEntryInside part) es
-    → AllByRecursion (IsEntryInside whole) es
-each_more part whole [] p a = tt
-each_more part whole (e ∷ es) p a =
-    (IsBoxInside-part (extent_of_entry e) part whole p a.0, each_more part whole es p a.1)
-
 each_inside : (t : Packed) (h : ℕ) (c : Extent)
     → ((k : Node) → IsSubtree t h k → AllByRecursion (IsEntryInside (extent_of_node k)) (entries_under t h k))
     → (ks : List Node) → AllByRecursion (IsSubtree t h) ks → AllByRecursion (λ k. IsPart (extent_of_node k) c) ks
@@ -53,7 +46,9 @@ each_inside : (t : Packed) (h : ℕ) (c : Extent)
 each_inside t h c each [] a b = tt
 each_inside t h c each (k ∷ ks) a b =
     all-append (IsEntryInside c) (entries_under t h k) (flat_map (entries_under t h) ks)
-    (each_more (extent_of_node k) c (entries_under t h k) b.0 (each k a.0)) (each_inside t h c each ks a.1 b.1)
+    (all_map (IsEntryInside (extent_of_node k)) (IsEntryInside c)
+    (λ e i. IsBoxInside-part (extent_of_entry e) (extent_of_node k) c b.0 i) (entries_under t h k) (each k a.0))
+    (each_inside t h c each ks a.1 b.1)
 
 -- each entry under a node is a box inside its bounds
 pub all_inside : (t : Packed) (h : ℕ) (n : Node) → IsSubtree t h n
@@ -69,11 +64,8 @@ module _ (accepts : Extent → Bool) (score : Extent → ℕ) where
 
   pub among-append : (es fs : List Entry) → among (es ++ fs) ≡ among es ++ among fs
   among-append es fs =
-      ap (map (λ (e : Entry). (e.id, score (extent_of_entry e))))
-      (filter-append (λ (e : Entry). accepts (extent_of_entry e)) es fs)
-      ∙ map-append (λ (e : Entry). (e.id, score (extent_of_entry e)))
-      (filter (λ (e : Entry). accepts (extent_of_entry e)) es)
-      (filter (λ (e : Entry). accepts (extent_of_entry e)) fs)
+      ap (map (answer_of score)) (filter-append (λ (e : Entry). accepts (extent_of_entry e)) es fs)
+      ∙ map-append (answer_of score) (accepted es accepts) (accepted fs accepts)
 
   pub among_accepted : (e : Entry) (es : List Entry) → accepts (extent_of_entry e) ≡ true → among (e ∷ es)
       ≡ (e.id, score (extent_of_entry e)) ∷ among es
@@ -103,51 +95,35 @@ module _ (accepts : Extent → Bool) (score : Extent → ℕ) where
 
   -- ---- the order of the entries doesn't matter
 
-  abbrev answering : Entry → List Answer → List Answer
-  answering e zs = cond (accepts (extent_of_entry e)) (put answer_cmp (e.id, score (extent_of_entry e)) zs) zs
+  abbrev kept : List Entry → List Entry
+  kept es = accepted es accepts
 
-  answering_comm : (a b : Entry) (z : List Answer) → answering a (answering b z) ≡ answering b (answering a z)
-  answering_comm a b z =
-      let p : Answer = (a.id, score (extent_of_entry a)) in
-      let q : Answer = (b.id, score (extent_of_entry b)) in
-      elim (accepts (extent_of_entry a)) as
-      (λ c. cond c (put answer_cmp p (answering b z)) (answering b z)
-      ≡ cond (accepts (extent_of_entry b)) (put answer_cmp q (cond c (put answer_cmp p z) z))
-      (cond c (put answer_cmp p z) z)) [
-        | true ↦ elim (accepts (extent_of_entry b)) as
-            (λ c. put answer_cmp p (cond c (put answer_cmp q z) z)
-            ≡ cond c (put answer_cmp q (put answer_cmp p z)) (put answer_cmp p z)) [
-              | true ↦ put-put answer_cmp answer_order p q z
-              | false ↦ refl
-            ]
-        | false ↦ refl
-      ]
-
-  answering_cancel : (e : Entry) (y z : List Answer) → answering e y ≡ answering e z → y ≡ z
-  answering_cancel e y z =
-      let p : Answer = (e.id, score (extent_of_entry e)) in
+  skip : (e : Entry) (es fs : List Entry) → IsPermutation (kept es) (kept fs)
+      → IsPermutation (kept (e ∷ es)) (kept (e ∷ fs))
+  skip e es fs h =
       elim (accepts (extent_of_entry e)) as
-      (λ c. cond c (put answer_cmp p y) y ≡ cond c (put answer_cmp p z) z → y ≡ z) [
-        | true ↦ put_cancel answer_cmp answer_order p y z
-        | false ↦ λ h. h
+      (λ b. IsPermutation (cond b (e ∷ kept es) (kept es)) (cond b (e ∷ kept fs) (kept fs))) [
+        | true ↦ IsPermutation-cons e (kept es) (kept fs) h
+        | false ↦ h
       ]
 
-  built_is : (es : List Entry) (z : List Answer) → built answering es z ≡ put_all answer_cmp (among es) z
-  built_is [] z = refl
-  built_is (e ∷ es) z =
-      let p : Answer = (e.id, score (extent_of_entry e)) in
-      let split : (b : Bool) → accepts (extent_of_entry e) ≡ b
-      → cond b (put answer_cmp p (put_all answer_cmp (among es) z)) (put_all answer_cmp (among es) z)
-      ≡ put_all answer_cmp (among (e ∷ es)) z = elim [
-        | true ↦ λ h. ap (λ l. put_all answer_cmp l z) (sym (among_accepted e es h))
-        | false ↦ λ h. ap (λ l. put_all answer_cmp l z) (sym (among_refused e es h))
-      ] in
-      ap (answering e) (built_is es z) ∙ split (accepts (extent_of_entry e)) refl
+  turn : (d e : Entry) (es : List Entry) → IsPermutation (kept (d ∷ e ∷ es)) (kept (e ∷ d ∷ es))
+  turn d e es = by (accepts (extent_of_entry d)) (accepts (extent_of_entry e))
+    where
+      by : (p q : Bool) → IsPermutation (cond p (d ∷ cond q (e ∷ kept es) (kept es)) (cond q (e ∷ kept es) (kept es)))
+          (cond q (e ∷ cond p (d ∷ kept es) (kept es)) (cond p (d ∷ kept es) (kept es)))
+      by true true = IsPermutation-middle (d ∷ []) e (kept es)
+      by true false = IsPermutation-refl _
+      by false q = IsPermutation-refl _
 
-  pub among-IsPermutation : (es fs : List Entry) (z : List Answer) → IsPermutation es fs
-      → put_all answer_cmp (among fs) z ≡ put_all answer_cmp (among es) z
-  among-IsPermutation es fs z h =
-      sym (built_is fs z) ∙ built-IsPermutation answering answering_comm answering_cancel es fs z h ∙ built_is es z
+  pub IsPermutation-accepted : (es fs : List Entry) → IsPermutation es fs → IsPermutation (kept es) (kept fs)
+  IsPermutation-accepted = along_permutation (λ es fs. IsPermutation (kept es) (kept fs))
+      (λ es. IsPermutation-refl (kept es)) skip turn (λ es fs gs h k. IsPermutation-trans _ _ _ h k)
+
+  pub among-IsPermutation : (es fs : List Entry) → IsPermutation es fs
+      → sorted answer_cmp (among es) ≡ sorted answer_cmp (among fs)
+  among-IsPermutation es fs h = answer_order.rearranged (among es) (among fs)
+      (IsPermutation-map (answer_of score) (kept es) (kept fs) (IsPermutation-accepted es fs h))
 
   -- ---- the answers that items stand for
 
@@ -183,11 +159,6 @@ module _ (accepts : Extent → Bool) (score : Extent → ℕ) where
     later : (i : ℤ) (s r : ℕ) (q : Answer) → s < r → r ≤ q.1 → is_gt (answer_cmp (i, s) q) ≡ false
     later i s r q h k = grind (arith, nat_tests)
 
-    all_later : (i : ℤ) (s r : ℕ) → s < r → (qs : List Answer) → AllByRecursion (λ q. r ≤ q.1) qs
-        → AllByRecursion (λ q. is_gt (answer_cmp (i, s) q) ≡ false) qs
-    all_later i s r h [] a = tt
-    all_later i s r h (q ∷ qs) a = (later i s r q h a.0, all_later i s r h qs a.1)
-
     pub before_node : (i : ℤ) (n : WaitingNode) (s r : ℕ)
         → is_gt (item_cmp (item_at s (place.Entry i)) (item_at r (place.Node n))) ≡ false → s < r
     before_node i n s r h = grind (arith, nat_tests)
@@ -197,8 +168,8 @@ module _ (accepts : Extent → Bool) (score : Extent → ℕ) where
         → AllByRecursion (λ q. is_gt (answer_cmp (i, s) q) ≡ false) (answers_at t accepts score r p)
     least_at i s r (place.Entry j) h k = (h, tt)
     least_at i s r (place.Node n) h k =
-        all_later i s r (before_node i n s r h) (answers_at t accepts score r (place.Node n))
-        (at_above r (place.Node n) k)
+        all_map (λ q. r ≤ q.1) (λ q. is_gt (answer_cmp (i, s) q) ≡ false) (λ q. later i s r q (before_node i n s r h))
+        (answers_at t accepts score r (place.Node n)) (at_above r (place.Node n) k)
 
     all_least : (i : ℤ) (s : ℕ) (xs : List Item)
         → AllByRecursion (λ y. is_gt (item_cmp (item_at s (place.Entry i)) y) ≡ false) xs
@@ -217,6 +188,28 @@ module _ (accepts : Extent → Bool) (score : Extent → ℕ) where
         ≡ (i, s) ∷ remaining t accepts score xs
     take_entry i s xs a b =
         put_least answer_cmp answer_order (i, s) (remaining t accepts score xs) (all_least i s xs a b)
+
+    -- ---- and where entries alone wait
+
+    entry_sound : (s : ℕ) (p : Place) → IsEntry p → IsSoundAt t accepts score s p
+    entry_sound s (place.Node n) h = absurd h
+    entry_sound s (place.Entry id) h = tt
+
+    -- what is taken out is given, or nothing is left
+    pub given : (out : Option Answer) (items new : List Item) → AllEntries items → IsTakenOut (taken_entry out) items new
+        → MatchOption out (remaining t accepts score items ≡ [])
+        (λ a. remaining t accepts score items ≡ a ∷ remaining t accepts score new)
+    given None items new all out = ap (remaining t accepts score) out.0
+    given (Some a) items new all out =
+        ap (remaining t accepts score) out.0
+        ∙ take_entry a.0 a.1 new out.1
+        (all_map (λ x. IsEntry x.place) (λ x. IsSoundAt t accepts score x.score x.place) (λ x. entry_sound x.score x.place)
+        new (subst AllEntries out.0 all).1)
+
+    pub none_left : (out : Option Answer) (items new : List Item) → IsTakenOut (taken_entry out) items new
+        → IfNone out (remaining t accepts score new ≡ [])
+    none_left None items new out = ap (remaining t accepts score) out.1
+    none_left (Some a) items new out = tt
 
     -- ---- a node that joins
 

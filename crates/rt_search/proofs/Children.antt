@@ -24,7 +24,7 @@ use Rattle.rt_tree.specs.declared.entries.LeafEntry.{LeafEntry}
 use Rattle.rt_tree.specs.declared.nodes.PlainNode.{PlainNode}
 use Rattle.rt_tree.specs.declared.tree.Node.{Node}
 use Rattle.rt_search.specs.Joining.{info_of_child, no_entry}
-use Rattle.rt_search.specs.Remaining.{IsBelow, height_at}
+use Rattle.rt_search.specs.Remaining.{IsBelow, IsOpenable, height_at}
 use Rattle.rt_search.specs.Work.{info_of_node, info_under}
 use Rattle.rt_search.proofs.Answering.{IsEntryInside}
 
@@ -169,26 +169,12 @@ child_at t n h i s lt =
       valid = subtree_valid t h k tree;
     }
 
-pub child_of : (t : Packed) (number i k : ℕ) → IsSubtree t (height_at t number) (node_at t number)
-    → 2 ≤ (node_at t number).level → i < (node_at t number).count → k ≡ (node_at t number).first + i
-    → IsChild t (node_at t number) (height_at t number - 1) i k
-child_of t number i k s level lt is =
+pub child : (t : Packed) (number : ℕ) → IsSubtree t (height_at t number) (node_at t number)
+    → 2 ≤ (node_at t number).level → (i : ℕ) → i < (node_at t number).count
+    → IsChild t (node_at t number) (height_at t number - 1) i ((node_at t number).first + i)
+child t number s level i lt =
     let n = node_at t number in
-    let h = height_at t number - 1 in
-    subst (λ m. IsChild t n h i m) (sym is) (child_at t n h i (inner_at t (height_at t number) n s level).1 lt)
-
--- a node that was read, and is not of level 1
-is_high : (t : Packed) (number : ℕ) (n : Node) → IsSubtree t (height_at t number) (node_at t number)
-    → n ≡ node_at t number → (n.level ≡ 1 → ⊥) → 2 ≤ (node_at t number).level
-is_high t number n s is above =
-    let level = subtree_level t (height_at t number) (node_at t number) s in
-    let same = ap (λ m. m.level) is in
-    omega (arith, level, same, above)
-
-pub children_inside : (t : Packed) (number : ℕ) (n : Node) → IsSubtree t (height_at t number) (node_at t number)
-    → n ≡ node_at t number → (n.level ≡ 1 → ⊥) → n.first + n.count ≤ length t.nodes
-children_inside t number n s is above =
-    rw is (inner_at t (height_at t number) (node_at t number) s (is_high t number n s is above)).1.range
+    child_at t n (height_at t number - 1) i (inner_at t (height_at t number) n s level).1 lt
 
 -- what is asked about a child that was read, its layers beside it
 abbrev pub extent_of_plain : PlainNode → Layers → Extent
@@ -204,48 +190,67 @@ pub record IsAsked (t : Packed) (number i k : ℕ) (x : PlainNode) (v : Verdict)
 
 -- a node above level 1 that was read, with its children
 pub record HasChildren (t : Packed) (number : ℕ) (n : Node) (children : List PlainNode) : Type 0 where
+  pub tree : IsSubtree t (height_at t number) (node_at t number)
+  pub is : n ≡ node_at t number
   pub high : 2 ≤ (node_at t number).level
+  pub lent : children ≡ map without_layers (child_nodes t (node_at t number))
   pub count : length children ≡ (node_at t number).count
   pub inside : n.first + length children ≤ length t.nodes
-  pub asked : (i k top : ℕ) (x : PlainNode) (whole : Node) (v : Verdict) (info : Info) → i < length children
-      → x ≡ get_or children i x → k ≡ n.first + i → whole ≡ node_at t k → top ≡ (root_of t).level
-      → info ≡ info_under top v (extent_of_plain x whole.layers) (n.level - 1) → IsAsked t number i k x v info
 
-pub children_of : (t : Packed) (number : ℕ) (n : Node) (children : List PlainNode)
-    → IsSubtree t (height_at t number) (node_at t number) → n ≡ node_at t number → (n.level ≡ 1 → ⊥)
-    → children ≡ map without_layers (child_nodes t n) → HasChildren t number n children
-children_of t number n children s is above lent =
+module _ {t : Packed} {accepts : Extent → Bool} {score : Extent → ℕ} {number : ℕ} {v : Verdict}
+    (opened : IsOpenable t accepts score number v) {n : Node} (is : n ≡ node_at t number) (above : n.level ≡ 1 → ⊥) where
+  is_high : 2 ≤ (node_at t number).level
+  is_high =
+      let level = subtree_level t (height_at t number) (node_at t number) opened.tree in
+      let same = ap (λ m. m.level) is in
+      omega (arith, level, same, above)
+
+  pub children_inside : n.first + n.count ≤ length t.nodes
+  children_inside = rw is (inner_at t (height_at t number) (node_at t number) opened.tree is_high).1.range
+
+  pub children_of : {children : List PlainNode} → children ≡ map without_layers (child_nodes t n)
+      → HasChildren t number n children
+  children_of lent =
+      let m = node_at t number in
+      let range = (inner_at t (height_at t number) m opened.tree is_high).1.range in
+      let same = lent ∙ ap (λ l. map without_layers (child_nodes t l)) is in
+      let count = ap length same ∙ length-map (child_nodes t m) without_layers
+      ∙ part_length t.nodes m.first m.count range in
+      let first = ap (λ l. l.first) is in
+      record {
+        tree = opened.tree;
+        is = is;
+        high = is_high;
+        lent = same;
+        count = count;
+        inside = omega (arith, range, count, first);
+      }
+
+pub asked : {t : Packed} {number : ℕ} {n : Node} {children : List PlainNode} → HasChildren t number n children → (i : ℕ)
+    (v : Verdict) {k : ℕ} {x : PlainNode} {whole : Node} {info : Info} → i < length children
+    → x ≡ get_or children i x → k ≡ n.first + i → whole ≡ node_at t k
+    → info ≡ info_under (root_of t).level v (extent_of_plain x whole.layers) (n.level - 1) → IsAsked t number i k x v info
+asked {t} {number} {n} here i v {k} {x = x} {whole = whole} lt read number_is whole_is info_is =
     let m = node_at t number in
-    let high = is_high t number n s is above in
-    let range = (inner_at t (height_at t number) m s high).1.range in
-    let same = lent ∙ ap (λ l. map without_layers (child_nodes t l)) is in
-    let count = ap length same ∙ length-map (child_nodes t m) without_layers ∙ part_length t.nodes m.first m.count range in
-    let first = ap (λ l. l.first) is in
+    let few = subst (λ l. i < l) here.count lt in
+    let first = ap (λ l. l.first) here.is in
+    let at : k ≡ m.first + i = omega (arith, first, number_is) in
+    let there = subst (IsChild t m (height_at t number - 1) i) (sym at) (child t number here.tree here.high i few) in
+    let x_is = subst (λ l. x ≡ get_or l i x) here.lent read
+    ∙ get_or-map without_layers (child_nodes t m) i (node_at t k) x there.place ∙ ap without_layers (sym there.is) in
+    let height = there.height in
+    let some = there.level in
+    let level = ap (λ l. l.level) here.is in
+    let lower : n.level - 1 ≡ (node_at t k).level = omega (arith, height, some, level) in
     record {
-      high = high;
-      count = count;
-      inside = omega (arith, range, count, first);
-      asked = λ i k top x whole v info lt read number_is whole_is top_is info_is.
-          let few = subst (λ l. i < l) count lt in
-          let at : k ≡ m.first + i = omega (arith, first, number_is) in
-          let child = child_of t number i k s high few at in
-          let x_is = subst (λ l. x ≡ get_or l i x) same read
-          ∙ get_or-map without_layers (child_nodes t m) i (node_at t k) x child.place ∙ ap without_layers (sym child.is) in
-          let height = child.height in
-          let some = child.level in
-          let level = ap (λ l. l.level) is in
-          let lower : n.level - 1 ≡ (node_at t k).level = omega (arith, height, some, level) in
-          record {
-            few = few;
-            at = at;
-            child = child;
-            is = x_is;
-            info_is = info_is ∙ ap (λ l. info_under l v (extent_of_plain x whole.layers) (n.level - 1)) top_is
-                ∙ ap (info_under (root_of t).level v (extent_of_plain x whole.layers)) lower
-                ∙ ap (λ l. info_under (root_of t).level v (extent_of_plain l whole.layers) (node_at t k).level) x_is
-                ∙ ap (λ l. info_under (root_of t).level v (extent_of_plain (without_layers (node_at t k)) l.layers)
-                (node_at t k).level) whole_is;
-          };
+      few = few;
+      at = at;
+      child = there;
+      is = x_is;
+      info_is = info_is ∙ ap (info_under (root_of t).level v (extent_of_plain x whole.layers)) lower
+          ∙ ap (λ l. info_under (root_of t).level v (extent_of_plain l whole.layers) (node_at t k).level) x_is
+          ∙ ap (λ l. info_under (root_of t).level v (extent_of_plain (without_layers (node_at t k)) l.layers)
+          (node_at t k).level) whole_is;
     }
 
 -- all children of a node

@@ -4,11 +4,13 @@ use Rattle.std.proofs.Common.{take, drop, Option, Some, None, refl, sym, ◌∙�
 use Rattle.std.specs.Prelude.{IfSome, slice_get}
 use Rattle.std.specs.Option.{option_map}
 use Rattle.std.proofs.lemmas.List.{length-drop}
+use Rattle.std.proofs.lemmas.List.Sorted.{length_permutation}
 use Rattle.rt_geo.specs.Laws.{Extent, extent_of_entry}
 use Rattle.rt_geo.specs.declared.entry.Entry.{Entry}
 use Rattle.rt_geo.specs.declared.geometry.Info.{Info}
 use Rattle.rt_geo.specs.declared.geometry.Verdict.{Verdict}
 use Rattle.rt_tree.specs.Packed.{Packed, IsSound}
+use Rattle.rt_tree.proofs.SortingLemmas.{IsPermutation-sorted}
 use Rattle.rt_tree.specs.Sorting.{limited}
 use Rattle.rt_tree.specs.declared.tree.Node.{Node}
 use Rattle.rt_search.specs.Answers.{Answer, answer_cmp, answers, scored}
@@ -17,8 +19,6 @@ use Rattle.rt_search.specs.Limits.{one_less}
 use Rattle.rt_search.specs.Work.{HasWorked, is_reached, its_children, one_node, search_work, reached_from_root}
 use Rattle.rt_search.specs.declared.item.Item.{Item}
 use Rattle.rt_search.proofs.Answering.{among_accepted, among_refused}
-use Rattle.rt_search.proofs.OrderedLists.{length-put_all, put_all-nil}
-use Rattle.rt_search.proofs.Orders.{answer_order}
 
 -- ---- lists that are given one by one
 
@@ -115,9 +115,8 @@ module _ (accepts : Extent → Bool) (score : Extent → ℕ) (verdict : Info �
 
   length-all : length all ≤ length t.entries
   length-all =
-      let long = ap length (put_all-nil answer_cmp answer_order (scored t.entries accepts score)) in
-      let same = length-put_all answer_cmp answer_order (scored t.entries accepts score) [] in
-      omega (arith, long, same, length-scored accepts score t.entries)
+      let long = length_permutation _ _ (IsPermutation-sorted answer_cmp (scored t.entries accepts score)) in
+      omega (arith, long, length-scored accepts score t.entries)
 
   -- ---- the work after so many answers
 
@@ -137,82 +136,86 @@ module _ (accepts : Extent → Bool) (score : Extent → ℕ) (verdict : Info �
       ap (slice_get all) (suc_less k) ∙ past_end all g k h (omega (arith, lt)) in
       ap (λ o. reached_from_root (is_reached (option_map (λ (b : Answer). b.1) o)) cost verdict t) (sym none)
 
-  -- ---- the steps
-
-  -- an answer is given
-  pub record IsGiven (limit : Option ℕ) (given opened asked capacity : ℕ) (wanted : Option ℕ) (a : Answer)
-      (items : List Item) : Type 0 where
-    pub going : IsGiving accepts score verdict t limit (given + 1) opened asked capacity wanted items
-    pub answer : drop given (answers t.entries accepts score limit)
-        ≡ a ∷ drop (given + 1) (answers t.entries accepts score limit)
-    pub worked : HasWorked accepts score verdict t (Some (given + 1)) opened asked
-
-  abbrev IsGivenAs : (limit : Option ℕ) (given next opened asked capacity : ℕ) (wanted : Option ℕ) (a : Answer)
-      (items : List Item) → Type 0
-  IsGivenAs limit given next opened asked capacity wanted a items =
-      IsGiving accepts score verdict t limit next opened asked capacity wanted items
-      × ((drop given (answers t.entries accepts score limit) ≡ a ∷ drop next (answers t.entries accepts score limit))
-      × HasWorked accepts score verdict t (Some next) opened asked)
-
-  pub give : (limit : Option ℕ) (given opened asked capacity : ℕ) (wanted : Option ℕ) (opened' asked' capacity' : ℕ)
-      (wanted' : Option ℕ) (a : Answer) (items new : List Item)
-      → IsGiving accepts score verdict t limit given opened asked capacity wanted items → limit ≢ Some given
-      → wanted' ≡ one_less wanted
-      → IsFound accepts score verdict t opened' asked' capacity' wanted' (drop given all) a new
-      → IsGiven limit given opened' asked' capacity' wanted' a new
-  give limit given opened asked capacity wanted opened' asked' capacity' wanted' a items new going more less found =
-      let there : drop given all ≡ a ∷ found.rest = found.first in
-      let worked : HasWorked accepts score verdict t (Some (suc given)) opened' asked' = record {
-        in_nodes = found.reached.nodes ∙ work_after one_node given a found.rest there;
-        in_checks = found.reached.checks ∙ work_after its_children given a found.rest there;
-      } in
-      let whole : IsGivenAs limit given (suc given) opened' asked' capacity' wanted' a new = (
-        record {
-          state = subst (λ l. IsUnderWay accepts score verdict t opened' asked' capacity' wanted' l new)
-              (sym (drop_step all given a found.rest there).1) found.state;
-          in_limit = next_in_limit limit given going.in_limit more;
-          still = subst (λ w. IfSome w (λ n. limit ≡ Some (suc given + n))) (sym less)
-              (next_still wanted limit given more going.still);
-          stopped = λ e. subst (λ l. HasWorked accepts score verdict t l opened' asked') (sym e) worked;
-        },
-        (limited_step limit given all a found.rest going.in_limit more there, worked),
-      ) in
-      let moved = subst (λ m. IsGivenAs limit given m opened' asked' capacity' wanted' a new) (sym (add-one given)) whole in
-      record { going = moved.0; answer = moved.1.0; worked = moved.1.1 }
-
   -- the numbers stay small
-  pub given_low : IsSound t → (given : ℕ) (a : Answer) (rest : List Answer) → drop given all ≡ a ∷ rest
+  given_few : IsSound t → (given : ℕ) (a : Answer) (rest : List Answer) → drop given all ≡ a ∷ rest
       → given + 1 ≤ 16777216
-  given_low sound given a rest there =
+  given_few sound given a rest there =
       let long = ap length there in
       let cut = length-drop given all in
       let few = sound.table.few in
       omega (arith, long, cut, few, length-all)
 
-  -- no answer is left
-  pub record HasEnded (limit : Option ℕ) (given opened asked capacity : ℕ) (wanted : Option ℕ) (items : List Item)
-      : Type 0 where
-    pub going : IsGiving accepts score verdict t limit given opened asked capacity wanted items
-    pub answer : drop given (answers t.entries accepts score limit) ≡ []
-    pub worked : HasWorked accepts score verdict t limit opened asked
+-- ---- the steps
 
-  pub end : (limit : Option ℕ) (given opened asked capacity : ℕ) (wanted : Option ℕ) (opened' asked' capacity' : ℕ)
-      (wanted' : Option ℕ) (items new : List Item)
-      → IsGiving accepts score verdict t limit given opened asked capacity wanted items → limit ≢ Some given
-      → wanted' ≡ wanted → IsOver accepts score verdict t opened' asked' capacity' wanted' (drop given all) new
-      → HasEnded limit given opened' asked' capacity' wanted' new
-  end limit given opened asked capacity wanted opened' asked' capacity' wanted' items new going more same over =
-      let worked : HasWorked accepts score verdict t limit opened' asked' = record {
-        in_nodes = over.reached.nodes ∙ work_in_all one_node limit given going.in_limit more over.none;
-        in_checks = over.reached.checks ∙ work_in_all its_children limit given going.in_limit more over.none;
-      } in
-      record {
-        going = record {
-          state = over.state;
-          in_limit = going.in_limit;
-          still = subst (λ w. IfSome w (λ n. limit ≡ Some (given + n))) (sym same) going.still;
-          stopped = λ e. worked;
-        };
-        answer = limited_end limit given all over.none;
-        worked = worked;
-      }
+-- an answer is given
+pub record IsGiven (accepts : Extent → Bool) (score : Extent → ℕ) (verdict : Info → Verdict) (t : Packed)
+    (limit : Option ℕ) (given next opened asked capacity : ℕ) (wanted : Option ℕ) (a : Answer) (items : List Item)
+    : Type 0 where
+  pub going : IsGiving accepts score verdict t limit next opened asked capacity wanted items
+  pub answer : drop given (answers t.entries accepts score limit) ≡ a ∷ drop next (answers t.entries accepts score limit)
+  pub worked : HasWorked accepts score verdict t (Some next) opened asked
+
+-- no answer is left
+pub record HasEnded (accepts : Extent → Bool) (score : Extent → ℕ) (verdict : Info → Verdict) (t : Packed)
+    (limit : Option ℕ) (given opened asked capacity : ℕ) (wanted : Option ℕ) (items : List Item) : Type 0 where
+  pub going : IsGiving accepts score verdict t limit given opened asked capacity wanted items
+  pub answer : drop given (answers t.entries accepts score limit) ≡ []
+  pub worked : HasWorked accepts score verdict t limit opened asked
+
+module _ {accepts : Extent → Bool} {score : Extent → ℕ} {verdict : Info → Verdict} {t : Packed} {limit : Option ℕ}
+    {given opened asked capacity : ℕ} {wanted : Option ℕ} {items : List Item}
+    (going : IsGiving accepts score verdict t limit given opened asked capacity wanted items) where
+  -- the number stays small
+  pub given_low : {opened' asked' capacity' : ℕ} {wanted' : Option ℕ} {a : Answer} {new : List Item}
+      → IsFound accepts score verdict t opened' asked' capacity' wanted'
+      (drop given (answers t.entries accepts score None)) a new → given + 1 ≤ 16777216
+  given_low {a = a} found = given_few accepts score verdict t going.state.state.tree given a found.rest found.first
+
+  module _ (more : limit ≢ Some given) {opened' asked' capacity' : ℕ} {wanted' : Option ℕ} {new : List Item} where
+    pub give : {a : Answer} → wanted' ≡ one_less wanted
+        → IsFound accepts score verdict t opened' asked' capacity' wanted'
+        (drop given (answers t.entries accepts score None)) a new
+        → IsGiven accepts score verdict t limit given (given + 1) opened' asked' capacity' wanted' a new
+    give {a} less found =
+        let all = answers t.entries accepts score None in
+        let there : drop given all ≡ a ∷ found.rest = found.first in
+        let after = λ (cost : Node → ℕ). work_after accepts score verdict t cost given a found.rest there in
+        let worked : HasWorked accepts score verdict t (Some (suc given)) opened' asked' = record {
+          in_nodes = found.reached.nodes ∙ after one_node;
+          in_checks = found.reached.checks ∙ after its_children;
+        } in
+        subst (λ m. IsGiven accepts score verdict t limit given m opened' asked' capacity' wanted' a new)
+        (sym (add-one given)) (record {
+          going = record {
+            state = subst (λ l. IsUnderWay accepts score verdict t opened' asked' capacity' wanted' l new)
+                (sym (drop_step all given a found.rest there).1) found.state;
+            in_limit = next_in_limit limit given going.in_limit more;
+            still = subst (λ w. IfSome w (λ n. limit ≡ Some (suc given + n))) (sym less)
+                (next_still wanted limit given more going.still);
+            stopped = λ e. subst (λ l. HasWorked accepts score verdict t l opened' asked') (sym e) worked;
+          };
+          answer = limited_step limit given all a found.rest going.in_limit more there;
+          worked = worked;
+        })
+
+    pub end : wanted' ≡ wanted
+        → IsOver accepts score verdict t opened' asked' capacity' wanted'
+        (drop given (answers t.entries accepts score None)) new
+        → HasEnded accepts score verdict t limit given opened' asked' capacity' wanted' new
+    end same over =
+        let all = λ (cost : Node → ℕ).
+        work_in_all accepts score verdict t cost limit given going.in_limit more over.none in
+        let worked : HasWorked accepts score verdict t limit opened' asked' = record {
+          in_nodes = over.reached.nodes ∙ all one_node;
+          in_checks = over.reached.checks ∙ all its_children;
+        } in
+        record {
+          going = record {
+            state = over.state;
+            in_limit = going.in_limit;
+            still = subst (λ w. IfSome w (λ n. limit ≡ Some (given + n))) (sym same) going.still;
+            stopped = λ e. worked;
+          };
+          answer = limited_end limit given (answers t.entries accepts score None) over.none;
+          worked = worked;
+        }

@@ -1,32 +1,25 @@
 -- What is kept in any order, seen as items in order.
 use Rattle.std.proofs.Common.{Some, ◌≡◌, ◌≤◌, ℕ, false, List, [], ◌∷◌, map, length, sym, ◌∙◌, ap}
-use Rattle.std.proofs.Common.{subst, arith, Result, Ok, Err, IsPermutation}
+use Rattle.std.proofs.Common.{Result, Ok, Err, IsPermutation}
 use Rattle.std.specs.Prelude.{IsOk, OnOk}
 use Rattle.std.specs.List.{AllByRecursion}
 use Rattle.std.specs.Ordering.{is_gt, is_lt, nat_cmp}
 use Rattle.std.specs.declared.cmp.Reverse.{Reverse}
 use Rattle.std.proofs.lemmas.List.{length-map}
-use Rattle.std.proofs.lemmas.List.Sorted.{IsPermutation-map}
-use Rattle.rt_tree.specs.Sorting.{put, sorted}
+use Rattle.std.proofs.lemmas.List.Sorted.{IsPermutation-map, length_permutation}
+use Rattle.rt_tree.proofs.SortingLemmas.{IsPermutation-sorted}
+use Rattle.rt_tree.specs.Sorting.{put}
 use Rattle.rt_search.specs.Items.{item_cmp}
-use Rattle.rt_search.specs.Kept.{IsEntry, IsFirstScore, IsHead, IsLeast, IsNode, IsTakenOut, entry_item, in_order, node_item, wide_item}
+use Rattle.rt_search.specs.Kept.{IsEntry, IsFirstScore, IsLeast, IsNode, IsTakenOut, entry_item, in_order, node_item, wide_item}
 use Rattle.rt_search.specs.contracts.item.ItemOrd.TheImpl.{ghosts as item_ghosts}
 use Rattle.rt_search.specs.declared.item.Item.{Item}
-use Rattle.rt_search.proofs.OrderedLists.{length-put_all, put_all-IsPermutation, put_all-all, put_all-nil, put_least}
+use Rattle.rt_search.proofs.Elements.{all_each, all_map, all_moved}
+use Rattle.rt_search.proofs.OrderedLists.{put_least}
 use Rattle.rt_search.proofs.Orders.{entry_derived, item_order, node_derived, score_upto, wide_derived}
 
 pub on_ok : {T E P : Type 0} (r : Result T E) → IsOk r → OnOk r P → P
 on_ok (Ok x) h p = p
 on_ok (Err e) h p = cc
-
-sorted-IsPermutation : (xs ys : List Item) → IsPermutation xs ys → sorted item_cmp ys ≡ sorted item_cmp xs
-sorted-IsPermutation xs ys h =
-    sym (put_all-nil item_cmp item_order ys) ∙ put_all-IsPermutation item_cmp item_order xs ys [] h
-    ∙ put_all-nil item_cmp item_order xs
-
-pub sorted-all : (P : Item → Type 0) (xs : List Item) → AllByRecursion P xs → AllByRecursion P (sorted item_cmp xs)
-sorted-all P xs a = subst (AllByRecursion P) (put_all-nil item_cmp item_order xs)
-    (put_all-all item_cmp item_order P xs [] a tt)
 
 map-all : {X : Type 0} (item : X → Item) (P : Item → Type 0) (xs : List X) → AllByRecursion (λ x. P (item x)) xs
     → AllByRecursion P (map item xs)
@@ -36,13 +29,7 @@ map-all item P (x ∷ xs) a = (a.0, map-all item P xs a.1)
 -- ---- scores
 
 pub least_scores : (x : Item) (ys : List Item) → IsLeast x ys → AllByRecursion (λ y. x.score ≤ y.score) ys
-least_scores x [] a = tt
-least_scores x (y ∷ ys) a = (score_upto x y a.0, least_scores x ys a.1)
-
--- the first's score
-pub head_score : (x : Item) (ys : List Item) → IsHead x ys → IsFirstScore x.score ys
-head_score x [] h = absurd h
-head_score x (y ∷ ys) h = (ap (λ i. i.score) h.0, least_scores x ys h.1)
+least_scores x = all_map (λ y. is_gt (item_cmp x y) ≡ false) (λ y. x.score ≤ y.score) (score_upto x)
 
 -- ---- any collection, by the items that its elements are
 
@@ -52,12 +39,10 @@ IsLeastOf item x = AllByRecursion (λ y. is_gt (item_cmp x (item y)) ≡ false)
 
 module _ {X : Type 0} (item : X → Item) where
   pub length-in_order : (xs : List X) → length (in_order item xs) ≡ length xs
-  length-in_order xs =
-      ap length (sym (put_all-nil item_cmp item_order (map item xs)))
-      ∙ omega (arith, length-put_all item_cmp item_order (map item xs) [], length-map xs item)
+  length-in_order xs = length_permutation _ _ (IsPermutation-sorted item_cmp (map item xs)) ∙ length-map xs item
 
   pub same_order : (old new : List X) → IsPermutation old new → in_order item new ≡ in_order item old
-  same_order old new h = sorted-IsPermutation (map item old) (map item new) (IsPermutation-map item old new h)
+  same_order old new h = sym (item_order.rearranged (map item old) (map item new) (IsPermutation-map item old new h))
 
   pub pushed : (x : X) (old new : List X) → IsPermutation (x ∷ old) new → in_order item new
       ≡ put item_cmp (item x) (in_order item old)
@@ -65,7 +50,7 @@ module _ {X : Type 0} (item : X → Item) where
 
   pub in_order-all : (P : Item → Type 0) (xs : List X) → AllByRecursion (λ x. P (item x)) xs
       → AllByRecursion P (in_order item xs)
-  in_order-all P xs a = sorted-all P (map item xs) (map-all item P xs a)
+  in_order-all P xs a = all_moved P _ _ (IsPermutation-sorted item_cmp (map item xs)) (map-all item P xs a)
 
   pub popped_least : (top : X) (new : List X) → IsLeastOf item (item top) new → IsLeast (item top) (in_order item new)
   popped_least top new a = in_order-all (λ y. is_gt (item_cmp (item top) y) ≡ false) new a
@@ -84,23 +69,22 @@ module _ {X : Type 0} (item : X → Item) where
 
 pub nodes_after : (k : ℕ) (ns : List (Reverse ℕ)) → AllByRecursion (λ j. is_lt (nat_cmp j.0 k) ≡ false) ns
     → IsLeastOf node_item (node_item (record { 0 = k })) ns
-nodes_after k [] a = tt
-nodes_after k (n ∷ ns) a = (node_derived n (record { 0 = k }) a.0, nodes_after k ns a.1)
+nodes_after k = all_map (λ j. is_lt (nat_cmp j.0 k) ≡ false)
+    (λ n. is_gt (item_cmp (node_item (record { 0 = k })) (node_item n)) ≡ false) (λ n. node_derived n (record { 0 = k }))
 
 pub entries_after : (k : ℕ) (es : List (Reverse ℕ)) → AllByRecursion (λ j. is_lt (nat_cmp j.0 k) ≡ false) es
     → IsLeastOf entry_item (entry_item (record { 0 = k })) es
-entries_after k [] a = tt
-entries_after k (e ∷ es) a = (entry_derived e (record { 0 = k }) ∙ a.0, entries_after k es a.1)
+entries_after k = all_map (λ j. is_lt (nat_cmp j.0 k) ≡ false)
+    (λ e. is_gt (item_cmp (entry_item (record { 0 = k })) (entry_item e)) ≡ false)
+    (λ e a. entry_derived e (record { 0 = k }) ∙ a)
 
 pub wide_after : (top : Reverse Item) (xs : List (Reverse Item))
     → AllByRecursion (λ y. is_lt (item_ghosts.cmp y.0 top.0) ≡ false) xs → IsLeastOf wide_item (wide_item top) xs
-wide_after top [] a = tt
-wide_after top (x ∷ xs) a = (wide_derived x top ∙ a.0, wide_after top xs a.1)
+wide_after top = all_map (λ y. is_lt (item_ghosts.cmp y.0 top.0) ≡ false)
+    (λ y. is_gt (item_cmp (wide_item top) (wide_item y)) ≡ false) (λ x a. wide_derived x top ∙ a)
 
 pub all_nodes : (ns : List (Reverse ℕ)) → AllByRecursion (λ n. IsNode (node_item n).place) ns
-all_nodes [] = tt
-all_nodes (n ∷ ns) = (tt, all_nodes ns)
+all_nodes = all_each (λ n. IsNode (node_item n).place) (λ n. tt)
 
 pub all_entries : (ns : List (Reverse ℕ)) → AllByRecursion (λ n. IsEntry (entry_item n).place) ns
-all_entries [] = tt
-all_entries (n ∷ ns) = (tt, all_entries ns)
+all_entries = all_each (λ n. IsEntry (entry_item n).place) (λ n. tt)

@@ -1,6 +1,7 @@
 -- What opening a node means for the answers to come.
 use Rattle.std.proofs.Common.{◌≡◌, ◌<◌, ◌≤◌, ◌+◌, ◌-◌, ◌^◌, ℕ, zero, suc, Bool, true, false, cond, List, [], ◌∷◌}
 use Rattle.std.proofs.Common.{length, take, refl, sym, ◌∙◌, ap, subst, arith, add-one}
+use Rattle.std.proofs.lemmas.Bool.{cond-false, cond-true}
 use Rattle.rt_geo.specs.Laws.{Extent, IsLawful, IsQuestion, NoneAccepted, extent_of}
 use Rattle.rt_geo.specs.declared.geometry.Info.{Info}
 use Rattle.rt_geo.specs.declared.geometry.Verdict.{Verdict}
@@ -20,7 +21,7 @@ use Rattle.rt_search.specs.declared.item.Place.TheVariants as place
 use Rattle.rt_search.proofs.Answering.{AllSound-put, among, node_dropped, remaining-put}
 use Rattle.rt_search.proofs.Answering.{node_kept, one_more, under_all, under_all-append, under_all-none, under_all-one}
 use Rattle.rt_search.proofs.Answering.{under_all-whole}
-use Rattle.rt_search.proofs.Children.{IsChild, all_children, child_of, height_suc, node_question}
+use Rattle.rt_search.proofs.Children.{all_children, child, height_suc, node_question}
 
 pub kept_not : (w : Within) → is_kept w ≡ false → w ≡ Not
 kept_not Not h = refl
@@ -39,13 +40,7 @@ verdict_with s w = record { within = w; score = s }
 pub verdict_told : (v : Verdict) (k : ℕ) → is_kept v.within ≡ true → verdict_on v.score (waiting_node k v.within) ≡ v
 verdict_told v k h = ap (verdict_with v.score) (within_told v.within h)
 
-pub taken : {X : Type 0} (b : Bool) (x y : X) → b ≡ true → cond b x y ≡ x
-taken b x y h = rw h refl
-
-pub left_out : {X : Type 0} (b : Bool) (x y : X) → b ≡ false → cond b x y ≡ y
-left_out b x y h = rw h refl
-
-module _ (accepts : Extent → Bool) (score : Extent → ℕ) (verdict : Info → Verdict)
+module _ {accepts : Extent → Bool} {score : Extent → ℕ} {verdict : Info → Verdict}
     (law : IsLawful accepts score verdict) (t : Packed) where
   -- answers
   pub answers_joined : (answers : List Answer) (xs : List Item) → remaining t accepts score (join_answers answers xs)
@@ -74,10 +69,10 @@ module _ (accepts : Extent → Bool) (score : Extent → ℕ) (verdict : Info �
       let split : (b : Bool) → is_kept v.within ≡ b → R (join_node v k xs)
       ≡ put_all answer_cmp (among accepts score (entries_under t (height_at t k) (node_at t k))) (R xs) = elim [
         | true ↦ λ h. node_kept accepts score t (waiting_node k v.within) v.score xs (join_node v k xs)
-            (taken (is_kept v.within) put_in xs h)
+            (cond-true (is_kept v.within) put_in xs h)
         | false ↦ λ h.
             let never = law.faithful.pruning info question high (kept_not v.within h) in
-            ap R (left_out (is_kept v.within) put_in xs h)
+            ap R (cond-false (is_kept v.within) put_in xs h)
             ∙ node_dropped accepts score t k tree (subst (NoneAccepted accepts) at never) (R xs)
       ] in
       split (is_kept v.within) refl
@@ -113,15 +108,11 @@ module _ (accepts : Extent → Bool) (score : Extent → ℕ) (verdict : Info �
     -- ---- the children of a higher node
 
     module _ (number : ℕ) (opened : IsOpenable t accepts score number v) (high : 2 ≤ (node_at t number).level) where
-      child : (i : ℕ) → i < (node_at t number).count
-          → IsChild t (node_at t number) (height_at t number - 1) i ((node_at t number).first + i)
-      child i lt = child_of t number i ((node_at t number).first + i) opened.tree high lt refl
-
       child_question : (i : ℕ) → i < (node_at t number).count
           → IsQuestion accepts (info_of_node t v (node_at t ((node_at t number).first + i)))
       child_question i lt =
           node_question accepts score t sound v small (node_at t number) (height_at t number - 1) i
-          ((node_at t number).first + i) opened.low opened.below (child i lt)
+          ((node_at t number).first + i) opened.low opened.below (child t number opened.tree high i lt)
 
       nodes_upto : (xs : List Item) (i : ℕ) → i ≤ (node_at t number).count
           → remaining t accepts score (join_nodes verdict t v (node_at t number) i xs)
@@ -134,7 +125,7 @@ module _ (accepts : Extent → Bool) (score : Extent → ℕ) (verdict : Info �
           let lt : i < (node_at t number).count = omega arith in
           let m = (node_at t number).first + i in
           let h = height_at t number - 1 in
-          let k = child i lt in
+          let k = child t number opened.tree high i lt in
           let before = join_nodes verdict t v (node_at t number) i xs in
           let now = node_joined m (info_of_node t v (node_at t m)) before refl k.level (child_question i lt) k.tree in
           let there : under_all accepts score t h (node_at t m ∷ [])
@@ -165,7 +156,7 @@ module _ (accepts : Extent → Bool) (score : Extent → ℕ) (verdict : Info �
       nodes_sound xs (suc i) le a =
           let lt : i < (node_at t number).count = omega arith in
           let m = (node_at t number).first + i in
-          let k = child i lt in
+          let k = child t number opened.tree high i lt in
           let low = opened.low in
           let lower = k.lower in
           node_sound m (info_of_node t v (node_at t m))

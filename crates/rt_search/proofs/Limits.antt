@@ -17,7 +17,7 @@ use Rattle.rt_search.specs.Work.{info_of_node, is_kept}
 use Rattle.rt_search.specs.declared.item.Item.{Item}
 use Rattle.rt_search.specs.declared.item.Place.{Place}
 use Rattle.rt_search.specs.declared.item.Place.TheVariants.{Node, Entry}
-use Rattle.rt_search.proofs.Falling.{rising_put}
+use Rattle.rt_search.proofs.SortedLists.{rising_put}
 use Rattle.rt_search.proofs.OrderedLists.{length-put, length-put_all, put_all-put}
 use Rattle.rt_search.proofs.Orders.{item_order}
 

@@ -1,16 +1,18 @@
 -- Two lists in order, seen as one.
-use Rattle.std.proofs.Common.{◌≡◌, ◌<◌, ◌≤◌, ◌+◌, ℕ, Bool, true, false, cond, Option, Some, None, List, [], ◌∷◌, length}
+use Rattle.std.proofs.Common.{◌≡◌, ◌<◌, ◌≤◌, ◌+◌, ◌^◌, ℕ, Bool, true, false, cond, Option, Some, None, List, [], ◌∷◌, length}
 use Rattle.std.proofs.Common.{refl, sym, ◌∙◌, ap, subst, arith, Ordering}
-use Rattle.std.specs.Prelude.{MatchBool}
+use Rattle.std.specs.Prelude.{IfSome, MatchBool, MatchOption}
 use Rattle.std.specs.List.{AllByRecursion}
 use Rattle.std.specs.Ordering.{is_gt}
+use Rattle.std.proofs.lemmas.Bool.{false≢true}
 use Rattle.rt_tree.specs.Sorting.{put}
 use Rattle.rt_search.specs.Items.{item_cmp}
 use Rattle.rt_search.specs.Kept.{IsAhead, IsEntry, IsFirstScore, IsLeast, IsNode, IsTakenOut, offered}
 use Rattle.rt_search.specs.Remaining.{put_all}
 use Rattle.rt_search.specs.declared.item.Item.{Item}
-use Rattle.rt_search.proofs.OrderedLists.{IsOrder, length-put, length-put_all, put-put, put_all-all, put_all-put}
-use Rattle.rt_search.proofs.OrderedLists.{put_least}
+use Rattle.rt_search.proofs.Elements.{all_both, all_map}
+use Rattle.rt_search.proofs.OrderedLists.{IsOrder, length-put, length-put_all, put-all, put-put, put_all-all}
+use Rattle.rt_search.proofs.OrderedLists.{put_all-put, put_least}
 use Rattle.rt_search.proofs.Orders.{item_order, lower_before, node_before}
 
 -- x joins the left list, or the whole
@@ -121,8 +123,8 @@ fewer_right r xs old ys capacity t h =
 
 -- what comes after none of what another comes after none of
 pub all_after : (x y : Item) (ys : List Item) → is_gt (item_cmp x y) ≡ false → IsLeast y ys → IsLeast x ys
-all_after x y [] h a = tt
-all_after x y (z ∷ ys) h a = (item_order.trans x y z h a.0, all_after x y ys h a.1)
+all_after x y ys h = all_map (λ z. is_gt (item_cmp y z) ≡ false) (λ z. is_gt (item_cmp x z) ≡ false)
+    (λ z a. item_order.trans x y z h a) ys
 
 all_scores : (s : ℕ) (xs : List Item) → IsFirstScore s xs → AllByRecursion (λ y. s ≤ y.score) xs
 all_scores s [] h = tt
@@ -130,16 +132,12 @@ all_scores s (x ∷ xs) h = let e = h.0 in (omega (arith, e), h.1)
 
 node_least : (x : Item) (ys : List Item) (r : ℕ) → IsNode x.place → AllByRecursion (λ y. IsEntry y.place) ys
     → x.score ≤ r → AllByRecursion (λ y. r ≤ y.score) ys → IsLeast x ys
-node_least x [] r p q h a = tt
-node_least x (y ∷ ys) r p q h a =
-    let m = a.0 in
-    (node_before x.score y.score x.place y.place p q.0 (omega (arith, h, m)), node_least x ys r p q.1 h a.1)
+node_least x ys r p q h = all_both (λ y. IsEntry y.place) (λ y. r ≤ y.score) (λ y. is_gt (item_cmp x y) ≡ false)
+    (λ y e m. node_before x.score y.score x.place y.place p e (omega (arith, h, m))) ys q
 
 pub lower_least : (x : Item) (ys : List Item) (r : ℕ) → x.score < r → AllByRecursion (λ y. r ≤ y.score) ys → IsLeast x ys
-lower_least x [] r h a = tt
-lower_least x (y ∷ ys) r h a =
-    let m = a.0 in
-    (lower_before x y (omega (arith, h, m)), lower_least x ys r h a.1)
+lower_least x ys r h = all_map (λ y. r ≤ y.score) (λ y. is_gt (item_cmp x y) ≡ false)
+    (λ y m. lower_before x y (omega (arith, h, m))) ys
 
 -- nodes before entries of no lower score
 pub nodes_ahead : (s r : ℕ) (xs ys : List Item) → IsFirstScore s xs → IsFirstScore r ys
@@ -159,3 +157,41 @@ entries_ahead s r xs (y ∷ ys) f g h =
 pub by_test : (b : Bool) (P Q : Type 0) → (b ≡ true → P) → (b ≡ false → Q) → MatchBool b P Q
 by_test true P Q p q = p refl
 by_test false P Q p q = q refl
+
+-- ---- items whose score is one word, and others, which come after them
+
+-- items behind one whose score is one word
+pub low_ahead : (x : Item) (old new wide : List Item) → old ≡ x ∷ new → x.score < 2 ^ 64
+    → AllByRecursion (λ y. 2 ^ 64 ≤ y.score) wide → IsAhead old wide
+low_ahead x old new wide e low high = subst (λ l. IsAhead l wide) (sym e) (lower_least x wide (2 ^ 64) low high)
+
+-- where one was taken from the narrow items, these are ahead
+pub narrow_ahead : (r : Option Item) (old new wide : List Item) → MatchOption r (true ≡ false) (λ _. true ≡ true)
+    → IsTakenOut r old new → IfSome r (λ x. x.score < 2 ^ 64) → AllByRecursion (λ y. 2 ^ 64 ≤ y.score) wide
+    → IsAhead old wide
+narrow_ahead None old new wide some t low high = absurd (false≢true (sym some))
+narrow_ahead (Some x) old new wide some t low high = low_ahead x old new wide t.0 low high
+
+-- where there was none, the wide items are
+pub wide_ahead : (narrow wide : List Item) → narrow ≡ [] → IsAhead wide narrow
+wide_ahead narrow [] e = e
+wide_ahead narrow (x ∷ wide) e = subst (IsLeast x) (sym e) tt
+
+pub none_taken : (r : Option Item) (old new : List Item) → MatchOption r (false ≡ false) (λ _. false ≡ true)
+    → IsTakenOut r old new → (old ≡ []) × (new ≡ [])
+none_taken None old new none t = t
+none_taken (Some x) old new none t = absurd (false≢true none)
+
+-- ---- what holds of each item
+
+-- also of those left
+pub left-all : (P : Item → Type 0) (r : Option Item) (old new : List Item) → IsTakenOut r old new
+    → AllByRecursion P old → AllByRecursion P new
+left-all P None old new t a = subst (AllByRecursion P) (sym t.1) tt
+left-all P (Some x) old new t a = (subst (AllByRecursion P) t.0 a).1
+
+-- and with one that joins where it is wanted
+pub offered-all : (P : Item → Type 0) (b : Bool) (x : Item) (xs : List Item) → P x → AllByRecursion P xs
+    → AllByRecursion P (offered b x xs)
+offered-all P true x xs p a = put-all item_cmp item_order P x xs p a
+offered-all P false x xs p a = a

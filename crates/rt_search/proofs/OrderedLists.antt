@@ -1,26 +1,23 @@
 -- Lists that are kept in an order which tells all elements apart.
-use Rattle.std.proofs.Common.{◌≡◌, ◌<◌, ◌+◌, true, false, cond, List, [], ◌∷◌, ◌++◌, ℕ, zero, suc, length}
-use Rattle.std.proofs.Common.{get_or, set, refl, sym, ◌∙◌, ap, arith, ⊎_elim, Ordering, Less, Equal, Greater}
-use Rattle.std.proofs.Common.{IsPermutation}
+use Rattle.std.proofs.Common.{◌≡◌, ◌+◌, true, false, cond, List, [], ◌∷◌, ◌++◌, ℕ, length, get_or}
+use Rattle.std.proofs.Common.{refl, sym, ◌∙◌, ap, arith, Ordering, Less, Equal, Greater, IsPermutation}
 use Rattle.std.specs.Cmp.{IsTotalOrder}
-use Rattle.std.specs.List.{AllByRecursion, swap, sum_by}
+use Rattle.std.specs.List.{AllByRecursion, sum_by}
 use Rattle.std.specs.Ordering.{is_gt, is_lt, ordering_reverse}
-use Rattle.std.proofs.lemmas.Bool.{cases_eq}
 use Rattle.std.proofs.lemmas.Cmp.{upto}
-use Rattle.std.proofs.lemmas.List.{length-set, get_or-set_same, get_or-set_other}
-use Rattle.std.proofs.lemmas.List.Edits.{swap_is}
-use Rattle.std.proofs.lemmas.List.Sorted.{IsPermutation-keeps}
 use Rattle.std.proofs.lemmas.List.Sums.{sum_by-cons}
 use Rattle.std.proofs.lemmas.Map.Lookups.{CmpEqualImpliesEq}
 use Rattle.rt_tree.specs.Sorting.{put, sorted}
+use Rattle.rt_tree.proofs.SortingLemmas.{sorted-IsPermutation}
 use Rattle.rt_search.specs.Remaining.{put_all}
 
--- an order, by the test whether one comes after another
+-- an order, by the test whether one comes after another; a list and its rearrangement, in order, are one
 pub record IsOrder {X : Type 0} (cmp : X → X → Ordering) : Type 0 where
   pub one_way : (x y : X) → is_gt (cmp x y) ≡ true → is_gt (cmp y x) ≡ false
   pub tie : (x y : X) → is_gt (cmp x y) ≡ false → is_gt (cmp y x) ≡ false → x ≡ y
   pub trans : (x y z : X) → is_gt (cmp x y) ≡ false → is_gt (cmp y z) ≡ false → is_gt (cmp x z) ≡ false
   pub turned : (x y : X) → is_lt (cmp y x) ≡ is_gt (cmp x y)
+  pub rearranged : (xs ys : List X) → IsPermutation xs ys → sorted cmp xs ≡ sorted cmp ys
 
 reverse_is_lt : (o : Ordering) → is_lt (ordering_reverse o) ≡ is_gt o
 reverse_is_lt Less = refl
@@ -47,6 +44,8 @@ order_of {X} cmp total apart =
       tie = λ x y e f. apart x y (tied (cmp x y) e (turn y x ∙ f));
       trans = upto total;
       turned = turn;
+      rearranged = λ xs ys.
+          sorted-IsPermutation cmp total xs ys (λ i j d h k. apart (get_or xs i d) (get_or xs j d));
     }
 
 module _ {X : Type 0} (cmp : X → X → Ordering) (o : IsOrder cmp) where
@@ -102,25 +101,6 @@ module _ {X : Type 0} (cmp : X → X → Ordering) (o : IsOrder cmp) where
   put_least x [] a = refl
   put_least x (y ∷ ys) a = put_least_cons x y ys a.0
 
-  -- ---- the element can be taken back
-
-  abbrev unput : X → List X → List X
-  unput x [] = []
-  unput x (y ∷ ys) = cond (is_gt (cmp x y)) (y ∷ unput x ys) ys
-
-  not_after_itself : (x : X) → is_gt (cmp x x) ≡ false
-  not_after_itself x = grind (arith, o.one_way)
-
-  unput_cons : (x y : X) (ys : List X) → unput x (put cmp x ys) ≡ ys → unput x (put cmp x (y ∷ ys)) ≡ y ∷ ys
-  unput_cons x y ys h = let s = not_after_itself x in grind (arith, s, h)
-
-  unput-put : (x : X) (ys : List X) → unput x (put cmp x ys) ≡ ys
-  unput-put x [] = rw not_after_itself refl
-  unput-put x (y ∷ ys) = unput_cons x y ys (unput-put x ys)
-
-  pub put_cancel : (x : X) (ys zs : List X) → put cmp x ys ≡ put cmp x zs → ys ≡ zs
-  put_cancel x ys zs h = sym (unput-put x ys) ∙ ap (unput x) h ∙ unput-put x zs
-
   -- ---- lengths and sums
 
   pub length-put : (x : X) (ys : List X) → length (put cmp x ys) ≡ length ys + 1
@@ -142,53 +122,3 @@ module _ {X : Type 0} (cmp : X → X → Ordering) (o : IsOrder cmp) where
         | true ↦ omega (arith, sum_by-put f x ys, sum_by-cons f y (put cmp x ys), sum_by-cons f y ys)
         | false ↦ sum_by-cons f x (y ∷ ys)
       ]
-
--- ---- what is built from a list step by step, where the steps may come in any order and can be taken back
-
-abbrev pub built : {E Z : Type 0} → (E → Z → Z) → List E → Z → Z
-built step [] z = z
-built step (e ∷ es) z = step e (built step es z)
-
-module _ {E Z : Type 0} (step : E → Z → Z) (comm : (a b : E) (z : Z) → step a (step b z) ≡ step b (step a z))
-    (cancel : (e : E) (y z : Z) → step e y ≡ step e z → y ≡ z) where
-  built-set : (xs : List E) (i : ℕ) (d v : E) (z : Z) → i < length xs
-      → step (get_or xs i d) (built step (set xs i v) z) ≡ step v (built step xs z)
-  built-set [] i d v z h = absurd (omega (arith, h))
-  built-set (x ∷ xs) zero d v z h = comm x v (built step xs z)
-  built-set (x ∷ xs) (suc i) d v z h =
-      comm (get_or xs i d) x (built step (set xs i v) z) ∙ ap (step x) (built-set xs i d v z (omega (arith, h)))
-      ∙ comm x v (built step xs z)
-
-  built-swap : (l : List E) (i j : ℕ) (d : E) (z : Z) → i < length l → j < length l → built step (swap l i j) z
-      ≡ built step l z
-  built-swap l i j d z p q =
-      let w : List E = set l i (get_or l j d) in
-      let long : length w ≡ length l = length-set l i (get_or l j d) in
-      let there : get_or w j d ≡ get_or l j d =
-      ⊎_elim (λ e. ap (λ n. get_or w n d) e ∙ get_or-set_same l i (get_or l j d) d p)
-      (λ n. get_or-set_other l i j (get_or l j d) d n) (cases_eq j i) in
-      let first = built-set l i d (get_or l j d) z p in
-      let second = built-set w j d (get_or l i d) z (omega arith) in
-      ap (λ m. built step m z) (sym (swap_is l i j d p q))
-      ∙ cancel (get_or l j d) _ _
-      (ap (λ g. step g (built step (set w j (get_or l i d)) z)) (sym there) ∙ second ∙ first)
-
-  built_swap : (l : List E) (i j : ℕ) (z : Z) → i < length l → j < length l → built step (swap l i j) z ≡ built step l z
-  built_swap [] i j z p q = refl
-  built_swap (x ∷ l) i j z p q = built-swap (x ∷ l) i j x z p q
-
-  pub built-IsPermutation : (xs ys : List E) (z : Z) → IsPermutation xs ys → built step ys z ≡ built step xs z
-  built-IsPermutation xs ys z h =
-      IsPermutation-keeps xs (λ l. built step l z ≡ built step xs z) refl (λ l i j p q k. built_swap l i j z p q ∙ k)
-      ys h
-
-module _ {X : Type 0} (cmp : X → X → Ordering) (o : IsOrder cmp) where
-  put_all-built : (xs zs : List X) → built (put cmp) xs zs ≡ put_all cmp xs zs
-  put_all-built [] zs = refl
-  put_all-built (x ∷ xs) zs = ap (put cmp x) (put_all-built xs zs)
-
-  -- a list and its rearrangement, in order, are one
-  pub put_all-IsPermutation : (xs ys zs : List X) → IsPermutation xs ys → put_all cmp ys zs ≡ put_all cmp xs zs
-  put_all-IsPermutation xs ys zs h =
-      sym (put_all-built ys zs) ∙ built-IsPermutation (put cmp) (put-put cmp o) (put_cancel cmp o) xs ys zs h
-      ∙ put_all-built xs zs

@@ -1,6 +1,6 @@
 -- Keys, seen as items in order.
 use Rattle.std.proofs.Common.{◌≡◌, ◌≤◌, ℕ, Bool, true, false, cond, Option, Some, None, List, [], ◌∷◌, ⊎_elim}
-use Rattle.std.proofs.Common.{refl, sym, ◌∙◌, ap, subst, arith}
+use Rattle.std.proofs.Common.{refl, sym, ◌∙◌, ap, arith}
 use Rattle.std.specs.Prelude.{MatchOption}
 use Rattle.std.specs.List.{AllByRecursion}
 use Rattle.std.specs.Ordering.{is_gt}
@@ -10,7 +10,7 @@ use Rattle.rt_search.specs.Items.{item_cmp}
 use Rattle.rt_search.specs.Kept.{IsFirstScore, in_order}
 use Rattle.rt_search.specs.Pooling.{HasLeastScore, score_in}
 use Rattle.rt_search.specs.declared.item.Item.{Item}
-use Rattle.rt_search.proofs.Falling.{first_put, lesser_right}
+use Rattle.rt_search.proofs.Elements.{all_map}
 use Rattle.rt_search.proofs.Heaps.{in_order-all}
 use Rattle.rt_search.proofs.OrderedLists.{put-all}
 use Rattle.rt_search.proofs.Orders.{item_order, score_upto}
@@ -29,12 +29,18 @@ put_first s x (y ∷ ys) e a =
     ] in
     split (is_gt (item_cmp x y)) refl
 
-module _ (item : Reverse ℕ → Item) (scored : (k : Reverse ℕ) → score_in k ≡ (item k).score) where
-  all_scored : (s : ℕ) (ks : List (Reverse ℕ)) → AllByRecursion (λ k. s ≤ score_in k) ks
-      → AllByRecursion (λ k. s ≤ (item k).score) ks
-  all_scored s [] a = tt
-  all_scored s (k ∷ ks) a = let m = a.0 in (omega (arith, scored k, m), all_scored s ks a.1)
+-- it stays the first where x joins, whose score is no lower
+first_stays : (s : ℕ) (x : Item) (ys : List Item) → s ≤ x.score → IsFirstScore s ys → IsFirstScore s (put item_cmp x ys)
+first_stays s x [] h f = absurd f
+first_stays s x (y ∷ ys) h f =
+    let first = f.0 in
+    let split : (b : Bool) → is_gt (item_cmp x y) ≡ b → IsFirstScore s (cond b (y ∷ put item_cmp x ys) (x ∷ y ∷ ys)) = elim [
+      | true ↦ λ t. (first, put-all item_cmp item_order (λ z. s ≤ z.score) x ys h f.1)
+      | false ↦ λ t. (let up = score_upto x y t in (omega (arith, up, first, h), (omega (arith, first), f.1)))
+    ] in
+    split (is_gt (item_cmp x y)) refl
 
+module _ (item : Reverse ℕ → Item) (scored : (k : Reverse ℕ) → score_in k ≡ (item k).score) where
   -- the least score is that of the first item
   pub first_of_least : (s : ℕ) (ks : List (Reverse ℕ)) → HasLeastScore s ks → IsFirstScore s (in_order item ks)
   first_of_least s [] h = absurd h.0
@@ -42,10 +48,9 @@ module _ (item : Reverse ℕ → Item) (scored : (k : Reverse ℕ) → score_in 
       let m = h.1.0 in
       ⊎_elim
       (λ e. put_first s (item k) (in_order item ks) (sym e ∙ scored k)
-      (in_order-all item (λ y. s ≤ y.score) ks (all_scored s ks h.1.1)))
-      (λ r. subst (λ n. IsFirstScore n (put item_cmp (item k) (in_order item ks)))
-      (lesser_right s (item k).score (omega (arith, scored k, m)))
-      (first_put (Some s) (item k) (in_order item ks) (first_of_least s ks (r, h.1.1))))
+      (in_order-all item (λ y. s ≤ y.score) ks
+      (all_map (λ j. s ≤ score_in j) (λ j. s ≤ (item j).score) (λ j m. omega (arith, scored j, m)) ks h.1.1)))
+      (λ r. first_stays s (item k) (in_order item ks) (omega (arith, scored k, m)) (first_of_least s ks (r, h.1.1)))
       h.0
 
   pub firsts : (r : Option ℕ) (ks : List (Reverse ℕ)) → MatchOption r (ks ≡ []) (λ s. HasLeastScore s ks)

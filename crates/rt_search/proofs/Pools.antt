@@ -1,5 +1,5 @@
 -- Keys, those that are near and those that are far.
-use Rattle.std.proofs.Common.{◌≡◌, ◌<◌, ◌≤◌, ◌+◌, ◌-◌, ◌*◌, ◌/◌, ◌^◌, ◌%◌, inl, inr, ℕ, zero, suc, Bool, true, false, cond, nat_lt}
+use Rattle.std.proofs.Common.{◌≡◌, ◌<◌, ◌≤◌, ◌+◌, ◌-◌, ◌*◌, ◌/◌, ◌^◌, ◌%◌, inl, inr, ℕ, Bool, true, false, cond, nat_lt}
 use Rattle.std.proofs.Common.{Option, Some, None, List, [], ◌∷◌, ◌++◌, length, take, drop, set, get_or, refl, sym, ◌∙◌, ap, ⊎_elim}
 use Rattle.std.proofs.Common.{subst, arith, IsPermutation}
 use Rattle.std.specs.Prelude.{MatchOption}
@@ -9,32 +9,18 @@ use Rattle.std.specs.declared.cmp.Reverse.{Reverse}
 use Rattle.std.proofs.Math.Nat.{mod-lt}
 use Rattle.std.proofs.lemmas.Bool.{ltb-false, ltb-true}
 use Rattle.std.proofs.lemmas.Bool.Decides.{nat_tests}
-use Rattle.std.proofs.lemmas.List.{append_assoc, length-set, length-take-le, take-append-drop, take-append-le, take-set}
-use Rattle.std.proofs.lemmas.List.Elements.{All-from_recursion, recursion_from_All}
-use Rattle.std.proofs.lemmas.List.Sorted.{All-permutation, IsPermutation-append_left, IsPermutation-append_right}
+use Rattle.std.proofs.lemmas.List.{append_assoc, nil_from_length, length-set, length-take-le, take-append-drop, take-append-le, take-set}
+use Rattle.std.proofs.lemmas.List.Sorted.{IsPermutation-append_left, IsPermutation-append_right}
 use Rattle.std.proofs.lemmas.List.Sorted.{IsPermutation-middle, IsPermutation-to_front}
 use Rattle.std.proofs.lemmas.List.Sorted.{IsPermutation-sym, IsPermutation-trans, length_permutation}
 use Rattle.std.proofs.lemmas.Nat.{div-add-mod'}
 use Rattle.rt_search.specs.Kept.{lesser}
 use Rattle.rt_search.specs.Pooling.{HasLeastScore, HasScore, IsFar, IsLowest, score_in}
+use Rattle.rt_search.proofs.Elements.{all-append, all_map, all_moved}
 
 -- ---- lists
 
-pub all_moved : {X : Type 0} (P : X → Type 0) (xs ys : List X) → IsPermutation xs ys → AllByRecursion P xs
-    → AllByRecursion P ys
-all_moved P xs ys h a = recursion_from_All P ys (All-permutation P xs ys h (All-from_recursion P xs a))
-
-pub all_append : {X : Type 0} (P : X → Type 0) (xs ys : List X) → AllByRecursion P xs → AllByRecursion P ys
-    → AllByRecursion P (xs ++ ys)
-all_append P [] ys a b = b
-all_append P (x ∷ xs) ys a b = (a.0, all_append P xs ys a.1 b)
-
--- what is put into the first of two lists
-pub put_left : {X : Type 0} (x : X) (xs ys zs : List X) → IsPermutation (x ∷ xs) ys
-    → IsPermutation (x ∷ xs ++ zs) (ys ++ zs)
-put_left x xs ys zs h = IsPermutation-append_left zs (x ∷ xs) ys h
-
--- at the end of the second
+-- what is put at the end of the second of two lists
 pub put_right : {X : Type 0} (x : X) (xs zs : List X) → IsPermutation (x ∷ xs ++ zs) (xs ++ (zs ++ x ∷ []))
 put_right x xs zs =
     subst (IsPermutation (x ∷ xs ++ zs)) (append_assoc xs zs (x ∷ []))
@@ -45,12 +31,7 @@ pub moved_over : {X : Type 0} (x : X) (xs ys zs ws : List X) → IsPermutation z
     → IsPermutation (xs ++ zs) (ys ++ ws)
 moved_over x xs ys zs ws h k =
     IsPermutation-trans _ _ _ (IsPermutation-append_right xs zs (x ∷ ws) h)
-    (IsPermutation-trans _ _ _ (IsPermutation-middle xs x ws) (put_left x xs ys ws k))
-
-pub same_read : {X : Type 0} (xs : List X) (i : ℕ) (d e : X) → i < length xs → get_or xs i d ≡ get_or xs i e
-same_read [] i d e h = absurd (omega (arith, h))
-same_read (x ∷ xs) zero d e h = refl
-same_read (x ∷ xs) (suc i) d e h = same_read xs i d e (omega (arith, h))
+    (IsPermutation-trans _ _ _ (IsPermutation-middle xs x ws) (IsPermutation-append_left ws (x ∷ xs) ys k))
 
 -- what stands before the one that is taken out stays
 pub take-swap_remove : {X : Type 0} (xs : List X) (i : ℕ) (d : X) → i < length xs
@@ -109,7 +90,7 @@ pub top_of : (e : ℕ) (top : Reverse ℕ) (near far : List (Reverse ℕ)) → 0
 top_of e top [] far some h a low high = absurd (omega (arith, some))
 top_of e top (k ∷ near) far some h a low high =
     let s : score_in top ≤ e = rw h low.0 in
-    (h, all_append (λ j. is_lt (nat_cmp j.0 top.0) ≡ false) near far a.1 (far_after e top.0 far s high))
+    (h, all-append (λ j. is_lt (nat_cmp j.0 top.0) ≡ false) near far a.1 (far_after e top.0 far s high))
 
 pub top_score : (k : ℕ) (ks : List (Reverse ℕ)) → IsTop k ks → HasLeastScore (k / 2 ^ 64) ks
 top_score k [] h = absurd h
@@ -118,16 +99,12 @@ top_score k (j ∷ js) h =
     (inl (ap (λ n. n / 2 ^ 64) (sym e)), (omega (arith, ap (λ n. n / 2 ^ 64) e), lowest_scores k js h.1))
 
 -- what is taken from those near is the least of all
-pub taken_near : (top : Reverse ℕ) (old near far : List (Reverse ℕ)) → IsPermutation old (top ∷ near)
-    → IsPermutation (old ++ far) (top ∷ near ++ far)
-taken_near top old near far h = IsPermutation-append_left far old (top ∷ near) h
-
 pub taken_lowest : (e : ℕ) (top : Reverse ℕ) (old near far : List (Reverse ℕ)) → IsPermutation old (top ∷ near)
     → IsLowest top.0 near → AllByRecursion (λ k. score_in k ≤ e) old → AllByRecursion (λ k. e < score_in k) far
     → IsLowest top.0 (near ++ far)
 taken_lowest e top old near far h a low high =
     let s = (all_moved (λ k. score_in k ≤ e) old (top ∷ near) h low).0 in
-    all_append (λ j. is_lt (nat_cmp j.0 top.0) ≡ false) near far a (far_after e top.0 far s high)
+    all-append (λ j. is_lt (nat_cmp j.0 top.0) ≡ false) near far a (far_after e top.0 far s high)
 
 -- ---- the least score of those far
 
@@ -143,11 +120,6 @@ has_last : (ks : List (Reverse ℕ)) (k : Reverse ℕ) → HasScore (score_in k)
 has_last [] k = inl refl
 has_last (j ∷ ks) k = inr (has_last ks k)
 
-scores_down : (s r : ℕ) (ks : List (Reverse ℕ)) → s ≤ r → AllByRecursion (λ k. r ≤ score_in k) ks
-    → AllByRecursion (λ k. s ≤ score_in k) ks
-scores_down s r [] h a = tt
-scores_down s r (k ∷ ks) h a = let m = a.0 in (omega (arith, h, m), scores_down s r ks h a.1)
-
 -- after one more
 least_more : (r : Option ℕ) (ks : List (Reverse ℕ)) (k : Reverse ℕ) → MatchOption r (ks ≡ []) (λ s. HasLeastScore s ks)
     → HasLeastScore (lesser r (score_in k)) (ks ++ k ∷ [])
@@ -157,19 +129,20 @@ least_more (Some r) ks k h =
       | true ↦ λ e.
           let low = ltb-true (score_in k) r e in (
             has_last ks k,
-            all_append (λ j. score_in k ≤ score_in j) ks (k ∷ [])
-                (scores_down (score_in k) r ks (omega (arith, low)) h.1) (omega arith, tt),
+            all-append (λ j. score_in k ≤ score_in j) ks (k ∷ [])
+                (all_map (λ j. r ≤ score_in j) (λ j. score_in k ≤ score_in j) (λ j m. omega (arith, low, m)) ks h.1)
+                (omega arith, tt),
           )
       | false ↦ λ e.
           let high = ltb-false (score_in k) r e in
-          (has_left r ks (k ∷ []) h.0, all_append (λ j. r ≤ score_in j) ks (k ∷ []) h.1 (omega (arith, high), tt))
+          (has_left r ks (k ∷ []) h.0, all-append (λ j. r ≤ score_in j) ks (k ∷ []) h.1 (omega (arith, high), tt))
     ] in
     split (nat_lt (score_in k) r) refl
 
 pub far_more : (e : ℕ) (r : Option ℕ) (ks : List (Reverse ℕ)) (k : Reverse ℕ) → IsFar ks e r → e < score_in k
     → IsFar (ks ++ k ∷ []) e (Some (lesser r (score_in k)))
 far_more e r ks k h m = record {
-  high = all_append (λ j. e < score_in j) ks (k ∷ []) h.high (m, tt);
+  high = all-append (λ j. e < score_in j) ks (k ∷ []) h.high (m, tt);
   known = least_more r ks k h.known;
 }
 
@@ -188,9 +161,5 @@ some_near s e near far ks js h le p a none =
     IsPermutation-sym (near ++ far) js (subst (λ l. IsPermutation (near ++ far) (l ++ js)) none p) in
     absurd (not_far s e (near ++ far) (has_right s near far h) le (all_moved (λ k. e < score_in k) js (near ++ far) q a))
 
-pub no_elements : {X : Type 0} (xs : List X) → length xs ≡ 0 → xs ≡ []
-no_elements [] h = refl
-no_elements (x ∷ xs) h = absurd (omega (arith, h))
-
 pub none_kept : {X : Type 0} (xs ys : List X) → IsPermutation xs ys → ys ≡ [] → xs ≡ []
-none_kept xs ys h e = no_elements xs (omega (arith, length_permutation xs ys h, ap length e))
+none_kept xs ys h e = nil_from_length xs (omega (arith, length_permutation xs ys h, ap length e))

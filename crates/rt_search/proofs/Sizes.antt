@@ -21,6 +21,7 @@ use Rattle.rt_search.specs.declared.item.Place.{Place}
 use Rattle.rt_search.specs.declared.item.Place.TheVariants as place
 use Rattle.rt_search.specs.declared.item.WaitingNode.{WaitingNode}
 use Rattle.rt_search.proofs.Children.{part_length}
+use Rattle.rt_search.proofs.Elements.{all_map}
 
 cond_le : (b : Bool) (m n : ℕ) → m ≤ n → cond b m 0 ≤ n
 cond_le true m n h = h
@@ -32,11 +33,6 @@ positive_sum : (ks : List Node) → AllByRecursion (λ k. 0 < k.size) ks → len
 positive_sum [] a = omega arith
 positive_sum (k ∷ ks) a = omega (arith, sum_by-cons (λ (k : Node). k.size) k ks, positive_sum ks a.1, a.0)
 
-all_positive : (t : Packed) (h : ℕ) → ((k : Node) → IsSubtree t h k → (0 < k.size) × (k.count ≤ k.size))
-    → (ks : List Node) → AllByRecursion (IsSubtree t h) ks → AllByRecursion (λ k. 0 < k.size) ks
-all_positive t h f [] a = tt
-all_positive t h f (k ∷ ks) a = ((f k a.0).0, all_positive t h f ks a.1)
-
 -- a node has an entry under it, and no fewer than it has children
 pub size_counts : (t : Packed) (h : ℕ) (n : Node) → IsSubtree t h n → (0 < n.size) × (n.count ≤ n.size)
 size_counts t zero n s = let e = s.size in let p = s.some in (omega (arith, e, p), omega (arith, e, p))
@@ -44,7 +40,8 @@ size_counts t (suc h) n s =
     let e = s.size in
     let p = s.some in
     let long = part_length t.nodes n.first n.count s.range in
-    let sum = positive_sum (child_nodes t n) (all_positive t h (λ k. size_counts t h k) (child_nodes t n) s.below) in
+    let sum = positive_sum (child_nodes t n)
+    (all_map (IsSubtree t h) (λ k. 0 < k.size) (λ k b. (size_counts t h k b).0) (child_nodes t n) s.below) in
     (omega (arith, e, p, long, sum), omega (arith, e, p, long, sum))
 
 sizes_under : (t : Packed) (h : ℕ) → ((k : Node) → IsSubtree t h k → k.size ≡ length (entries_under t h k))

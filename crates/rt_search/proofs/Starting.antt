@@ -2,7 +2,7 @@
 use Rattle.std.proofs.Common.{◌≡◌, ◌<◌, ◌≤◌, ◌+◌, ℕ, zero, suc, Bool, true, false, cond, ◌==◌, List, [], ◌∷◌}
 use Rattle.std.proofs.Common.{length, Option, Some, None, refl, sym, ◌∙◌, ap, subst, arith}
 use Rattle.std.specs.Prelude.{IfSome}
-use Rattle.std.specs.List.{AllByRecursion}
+use Rattle.std.proofs.lemmas.Bool.{eq-eqb, eqb-true}
 use Rattle.std.proofs.lemmas.Bool.Decides.{nat_tests}
 use Rattle.std.proofs.lemmas.List.Sorted.{length_permutation}
 use Rattle.std.proofs.lemmas.List.Sums.{sum_by-cons}
@@ -15,12 +15,13 @@ use Rattle.rt_search.specs.Answers.{answer_cmp, answers, scored}
 use Rattle.rt_search.specs.Joining.{root_item, root_items}
 use Rattle.rt_search.specs.Kept.{IsRising}
 use Rattle.rt_search.specs.Limits.{IsEnough}
-use Rattle.rt_search.specs.Progress.{IsGiving, IsInLimit, IsOnCourse, IsSearching, held, size_at, work_at, work_left}
+use Rattle.rt_search.specs.Progress.{AddsUp, IsGiving, IsInLimit, IsOnCourse, IsSearching, held, size_at, work_at, work_left}
 use Rattle.rt_search.specs.Remaining.{AllSound, remaining}
 use Rattle.rt_search.specs.Work.{HasWorked, is_reached, is_within_bound, its_children, one_node}
 use Rattle.rt_search.specs.Work.{root_verdict, reached_from_root, reached}
 use Rattle.rt_search.specs.declared.item.Item.{Item}
 use Rattle.rt_search.proofs.Answering.{among-IsPermutation}
+use Rattle.rt_search.proofs.Elements.{all_each}
 use Rattle.rt_search.proofs.OrderedLists.{put_all-nil}
 use Rattle.rt_search.proofs.Orders.{answer_order}
 use Rattle.rt_search.proofs.Sizes.{size_under}
@@ -32,17 +33,10 @@ within_zero (Some b) = grind (arith, nat_tests)
 reached_zero : (bound : Option ℕ) → is_reached bound root_verdict ≡ true
 reached_zero bound = within_zero bound
 
-pub all_each : {X : Type 0} (P : X → Type 0) → ((x : X) → P x) → (xs : List X) → AllByRecursion P xs
-all_each P f [] = tt
-all_each P f (x ∷ xs) = (f x, all_each P f xs)
-
 -- ---- the root, which waits
 
 pub some_nodes : (t : Packed) → 0 < length t.nodes → (length t.nodes == 0) ≡ false
 some_nodes t some = grind (arith, nat_tests)
-
-no_nodes : (t : Packed) → length t.nodes ≡ 0 → (length t.nodes == 0) ≡ true
-no_nodes t none = grind (arith, nat_tests)
 
 pub root_work : (opens : Verdict → Bool) (cost : Node → ℕ) (verdict : Info → Verdict) (t : Packed)
     → opens root_verdict ≡ true → 0 < length t.nodes → work_left opens cost verdict t (root_item t ∷ [])
@@ -57,9 +51,6 @@ root_work opens cost verdict t open' some =
 
 from_none : {m n : ℕ} → m ≡ n → 0 + m ≡ n
 from_none h = omega (arith, h)
-
-pub nat_eq_true : {n : ℕ} → (n == 0) ≡ true → n ≡ 0
-nat_eq_true h = grind (arith, nat_tests)
 
 pub nat_eq_false : {n : ℕ} → (n == 0) ≡ false → 0 < n
 nat_eq_false h = grind (arith, nat_tests)
@@ -78,8 +69,7 @@ module _ (accepts : Extent → Bool) (score : Extent → ℕ) (verdict : Info �
     root_course : (cost : Node → ℕ) → 0 < length t.nodes → IsOnCourse accepts score verdict cost t 0 (root_item t ∷ [])
     root_course cost some = record {
       in_all = from_none (root_work (is_reached None) cost verdict t refl some);
-      at_each = all_each (λ a. 0 + work_left (is_reached (Some a.1)) cost verdict t (root_item t ∷ [])
-          ≡ reached_from_root (is_reached (Some a.1)) cost verdict t)
+      at_each = all_each (λ a. AddsUp verdict cost t 0 (root_item t ∷ []) (Some a.1))
           (λ a. from_none (root_work (is_reached (Some a.1)) cost verdict t (reached_zero (Some a.1)) some))
           (remaining t accepts score (root_item t ∷ []));
     }
@@ -118,11 +108,11 @@ module _ (accepts : Extent → Bool) (score : Extent → ℕ) (verdict : Info �
     pub root_answers : 0 < length t.nodes → remaining t accepts score (root_item t ∷ [])
         ≡ answers t.entries accepts score None
     root_answers some =
-        sym (among-IsPermutation accepts score (entries_under t (height t) (root_of t)) t.entries [] (sound.every some))
-        ∙ put_all-nil answer_cmp answer_order (scored t.entries accepts score)
+        put_all-nil answer_cmp answer_order (scored (entries_under t (height t) (root_of t)) accepts score)
+        ∙ among-IsPermutation accepts score (entries_under t (height t) (root_of t)) t.entries (sound.every some)
 
     empty_course : (cost : Node → ℕ) → length t.nodes ≡ 0 → IsOnCourse accepts score verdict cost t 0 []
-    empty_course cost none = let none' = no_nodes t none in record { in_all = rw none' refl; at_each = tt }
+    empty_course cost none = let none' = eq-eqb (length t.nodes) 0 none in record { in_all = rw none' refl; at_each = tt }
 
     pub empty_state : (capacity : ℕ) → length t.nodes ≡ 0 → IsSearching accepts score verdict t 0 0 capacity []
     empty_state capacity none =
@@ -152,7 +142,7 @@ module _ (accepts : Extent → Bool) (score : Extent → ℕ) (verdict : Info �
     start_state capacity room =
         let split : (b : Bool) → (length t.nodes == 0) ≡ b
         → IsSearching accepts score verdict t 0 0 capacity (cond b [] (root_item t ∷ [])) = elim [
-          | true ↦ λ h. empty_state capacity (nat_eq_true h)
+          | true ↦ λ h. empty_state capacity (eqb-true _ 0 h)
           | false ↦ λ h. root_state capacity (nat_eq_false h) room
         ] in
         split (length t.nodes == 0) refl
@@ -161,7 +151,7 @@ module _ (accepts : Extent → Bool) (score : Extent → ℕ) (verdict : Info �
     start_answers =
         let split : (b : Bool) → (length t.nodes == 0) ≡ b → remaining t accepts score (cond b [] (root_item t ∷ []))
         ≡ answers t.entries accepts score None = elim [
-          | true ↦ λ h. sym (empty_answers (nat_eq_true h))
+          | true ↦ λ h. sym (empty_answers (eqb-true _ 0 h))
           | false ↦ λ h. root_answers (nat_eq_false h)
         ] in
         split (length t.nodes == 0) refl

@@ -3,7 +3,7 @@ use Rattle.std.proofs.Common.{◌≡◌, ◌<◌, ◌≤◌, ◌+◌, ◌^◌, �
 use Rattle.std.proofs.Common.{List, [], ◌∷◌, length, Option, Some, None, refl, sym, ◌∙◌, ap, subst, arith}
 use Rattle.std.specs.List.{AllByRecursion}
 use Rattle.std.specs.Ordering.{is_gt}
-use Rattle.std.proofs.lemmas.Bool.Decides.{nat_tests}
+use Rattle.std.proofs.lemmas.Bool.{cond-false, cond-true, le-leb, lt-leb}
 use Rattle.std.proofs.lemmas.List.Sums.{sum_by-cons}
 use Rattle.rt_geo.specs.Laws.{Extent, IsLawful}
 use Rattle.rt_geo.specs.declared.geometry.Info.{Info}
@@ -14,7 +14,7 @@ use Rattle.rt_tree.specs.declared.tree.Node.{Node}
 use Rattle.rt_search.specs.Answers.{Answer, answer_cmp}
 use Rattle.rt_search.specs.Items.{item_at, item_cmp}
 use Rattle.rt_search.specs.Joining.{join_answers, join_nodes}
-use Rattle.rt_search.specs.Progress.{IsNodeStep, IsOnCourse, IsSearching, IsTaken, held, work_at, work_left}
+use Rattle.rt_search.specs.Progress.{AddsUp, IsNodeStep, IsOnCourse, IsSearching, IsTaken, held, work_at, work_left}
 use Rattle.rt_search.specs.Remaining.{AllSound, answers_at, height_at, put_all, remaining, verdict_on}
 use Rattle.rt_search.specs.Walking.{answers_among}
 use Rattle.rt_search.specs.Work.{is_kept, is_reached, is_within_bound, its_children, one_node, reached_from_root, reached}
@@ -24,7 +24,8 @@ use Rattle.rt_search.specs.declared.item.Place.TheVariants as place
 use Rattle.rt_search.specs.declared.item.WaitingNode.{WaitingNode}
 use Rattle.rt_search.proofs.Answering.{at_above, before_node, take_entry}
 use Rattle.rt_search.proofs.Children.{leaf_node}
-use Rattle.rt_search.proofs.Joined.{answers_joined, answers_sound, left_out, nodes_joined, nodes_sound, taken}
+use Rattle.rt_search.proofs.Elements.{all_both, all_map}
+use Rattle.rt_search.proofs.Joined.{answers_joined, answers_sound, nodes_joined, nodes_sound}
 use Rattle.rt_search.proofs.OrderedLists.{put_all-all}
 use Rattle.rt_search.proofs.Orders.{answer_order, score_upto}
 use Rattle.rt_search.proofs.Sizes.{count_is_fair, done_le, held_cons, one_is_fair, room_for}
@@ -45,35 +46,14 @@ reached_is bound s n = (let k = kept_within n.is_full in rw k refl)
 closed_by : (bound : Option ℕ) (v : Verdict) → is_kept v.within ≡ false → is_reached bound v ≡ false
 closed_by bound v h = rw h refl
 
-within_true : (b s : ℕ) → s ≤ b → is_within_bound (Some b) s ≡ true
-within_true b s h = grind (arith, nat_tests)
-
-within_false : (b s : ℕ) → b < s → is_within_bound (Some b) s ≡ false
-within_false b s h = grind (arith, nat_tests)
-
 reached_below : (b s : ℕ) (n : WaitingNode) → s ≤ b → is_reached (Some b) (verdict_on s n) ≡ true
-reached_below b s n h = reached_is (Some b) s n ∙ within_true b s h
+reached_below b s n h = reached_is (Some b) s n ∙ le-leb s b h
 
 reached_above : (b s : ℕ) (n : WaitingNode) → b < s → is_reached (Some b) (verdict_on s n) ≡ false
-reached_above b s n h = reached_is (Some b) s n ∙ within_false b s h
+reached_above b s n h = reached_is (Some b) s n ∙ lt-leb s b h
 
--- ---- lists
-
-all_two : {X : Type 0} (P Q R : X → Type 0) → ((x : X) → P x → Q x → R x) → (xs : List X) → AllByRecursion P xs
-    → AllByRecursion Q xs → AllByRecursion R xs
-all_two P Q R f [] a b = tt
-all_two P Q R f (x ∷ xs) a b = (f x a.0 b.0, all_two P Q R f xs a.1 b.1)
-
-all_units : {X : Type 0} (xs : List X) → AllByRecursion (λ (x : X). Unit {0}) xs
-all_units [] = tt
-all_units (x ∷ xs) = (tt, all_units xs)
-
-module _ (accepts : Extent → Bool) (score : Extent → ℕ) (verdict : Info → Verdict)
+module _ {accepts : Extent → Bool} {score : Extent → ℕ} {verdict : Info → Verdict}
     (law : IsLawful accepts score verdict) (t : Packed) where
-  all_up : (s r : ℕ) → s ≤ r → (qs : List Answer) → AllByRecursion (λ q. r ≤ q.1) qs → AllByRecursion (λ q. s ≤ q.1) qs
-  all_up s r h [] a = tt
-  all_up s r h (q ∷ qs) a = (omega (arith, h, a.0), all_up s r h qs a.1)
-
   -- no answer to come is below the least item's score
   above_least : (x : Item) (xs : List Item) → AllByRecursion (λ y. is_gt (item_cmp x y) ≡ false) xs
       → AllSound t accepts score xs → AllByRecursion (λ q. x.score ≤ q.1) (remaining t accepts score xs)
@@ -81,7 +61,8 @@ module _ (accepts : Extent → Bool) (score : Extent → ℕ) (verdict : Info �
   above_least x (y ∷ ys) a b =
       put_all-all answer_cmp answer_order (λ q. x.score ≤ q.1) (answers_at t accepts score y.score y.place)
       (remaining t accepts score ys)
-      (all_up x.score y.score (score_upto x y a.0)
+      (all_map (λ q. y.score ≤ q.1) (λ q. x.score ≤ q.1)
+      (λ q m. let up = score_upto x y a.0 in omega (arith, up, m))
       (answers_at t accepts score y.score y.place) (at_above accepts score t y.score y.place b.0))
       (above_least x ys a.1 b.1)
 
@@ -102,7 +83,7 @@ module _ (accepts : Extent → Bool) (score : Extent → ℕ) (verdict : Info �
       → work_at (is_reached (Some s)) cost verdict t r p ≡ 0
   none_at cost i s r (place.Entry j) h = refl
   none_at cost i s r (place.Node n) h =
-      left_out (is_reached (Some s) (verdict_on r n))
+      cond-false (is_reached (Some s) (verdict_on r n))
       (reached (is_reached (Some s)) cost verdict t (height_at t n.number.number) (verdict_on r n)
       (node_at t n.number.number)) 0
       (reached_above s r n (before_node accepts score t i n s r h))
@@ -128,21 +109,15 @@ module _ (accepts : Extent → Bool) (score : Extent → ℕ) (verdict : Info �
       let x = item_at s (place.Entry i) in
       let next : remaining t accepts score (x ∷ xs) ≡ (i, s) ∷ remaining t accepts score xs =
       take_entry accepts score t i s xs least sound in
-      let each = subst (AllByRecursion
-      (λ p. done + work_left (is_reached (Some p.1)) cost verdict t (x ∷ xs)
-      ≡ reached_from_root (is_reached (Some p.1)) cost verdict t)) next course.at_each in
-      let head : done + work_left (is_reached (Some s)) cost verdict t (x ∷ xs)
-      ≡ reached_from_root (is_reached (Some s)) cost verdict t = each.0 in
+      let each = subst (AllByRecursion (λ p. AddsUp verdict cost t done (x ∷ xs) (Some p.1))) next course.at_each in
+      let head : AddsUp verdict cost t done (x ∷ xs) (Some s) = each.0 in
       let none = no_work cost i s xs least in
       let first = cons_of cost (Some s) x xs in (
         record {
           in_all = (let h = course.in_all in let k = cons_of cost None x xs in omega (arith, h, k));
-          at_each = all_two (λ p. done + work_left (is_reached (Some p.1)) cost verdict t (x ∷ xs)
-              ≡ reached_from_root (is_reached (Some p.1)) cost verdict t) (λ p. Unit {0})
-              (λ p. done + work_left (is_reached (Some p.1)) cost verdict t xs
-              ≡ reached_from_root (is_reached (Some p.1)) cost verdict t)
-              (λ p h _. let k = cons_of cost (Some p.1) x xs in omega (arith, h, k)) (remaining t accepts score xs)
-              each.1 (all_units (remaining t accepts score xs));
+          at_each = all_map (λ p. AddsUp verdict cost t done (x ∷ xs) (Some p.1))
+              (λ p. AddsUp verdict cost t done xs (Some p.1))
+              (λ p h. let k = cons_of cost (Some p.1) x xs in omega (arith, h, k)) (remaining t accepts score xs) each.1;
         },
         omega (arith, head, none, first),
       )
@@ -154,10 +129,10 @@ module _ (accepts : Extent → Bool) (score : Extent → ℕ) (verdict : Info �
       pub opened_is : opened ≡ reached_from_root (is_reached (Some s)) one_node verdict t
       pub asked_is : asked ≡ reached_from_root (is_reached (Some s)) its_children verdict t
 
-  pub entry_step : (opened asked capacity : ℕ) (i : ℤ) (s : ℕ) (xs : List Item)
+  pub entry_step : {opened asked capacity : ℕ} {i : ℤ} {s : ℕ} {xs : List Item}
       → IsTaken accepts score verdict t opened asked capacity (item_at s (place.Entry i)) xs
       → IsEntryStep opened asked capacity i s (remaining t accepts score (item_at s (place.Entry i) ∷ xs)) xs
-  entry_step opened asked capacity i s xs k =
+  entry_step {opened} {asked} {capacity} {i} {s} {xs} k =
       let sound = k.state.sound.1 in
       let o = entry_course one_node i s opened xs k.least sound k.state.opening in
       let a = entry_course its_children i s asked xs k.least sound k.state.asking in
@@ -189,6 +164,7 @@ module _ (accepts : Extent → Bool) (score : Extent → ℕ) (verdict : Info �
       → IsOnCourse accepts score verdict cost t (done + cost (node_at t n.number.number)) new
   node_course cost s n done xs new least sound same moves course =
       let x = item_at s (place.Node n) in
+      let after = done + cost (node_at t n.number.number) in
       let W : Option ℕ → ℕ =
       λ bound. reached (is_reached bound) cost verdict t (height_at t n.number.number) (verdict_on s n)
       (node_at t n.number.number) in
@@ -198,25 +174,21 @@ module _ (accepts : Extent → Bool) (score : Extent → ℕ) (verdict : Info �
             let c = cons_of cost None x xs in
             let j = moves None in
             let all : cond (is_reached None (verdict_on s n)) (W None) 0 ≡ W None =
-            taken (is_reached None (verdict_on s n)) (W None) 0 (reached_is None s n) in
+            cond-true (is_reached None (verdict_on s n)) (W None) 0 (reached_is None s n) in
             omega (arith, h, c, j, all));
-        at_each = subst (AllByRecursion
-            (λ p. (done + cost (node_at t n.number.number)) + work_left (is_reached (Some p.1)) cost verdict t new
-            ≡ reached_from_root (is_reached (Some p.1)) cost verdict t)) (sym same)
-            (all_two (λ p. done + work_left (is_reached (Some p.1)) cost verdict t (x ∷ xs)
-            ≡ reached_from_root (is_reached (Some p.1)) cost verdict t) (λ p. s ≤ p.1)
-            (λ p. (done + cost (node_at t n.number.number)) + work_left (is_reached (Some p.1)) cost verdict t new
-            ≡ reached_from_root (is_reached (Some p.1)) cost verdict t)
+        at_each = subst (AllByRecursion (λ p. AddsUp verdict cost t after new (Some p.1))) (sym same)
+            (all_both (λ p. AddsUp verdict cost t done (x ∷ xs) (Some p.1)) (λ p. s ≤ p.1)
+            (λ p. AddsUp verdict cost t after new (Some p.1))
             (λ p h le.
             let c = cons_of cost (Some p.1) x xs in
             let j = moves (Some p.1) in
             let all : cond (is_reached (Some p.1) (verdict_on s n)) (W (Some p.1)) 0 ≡ W (Some p.1) =
-            taken (is_reached (Some p.1) (verdict_on s n)) (W (Some p.1)) 0 (reached_below p.1 s n le) in
+            cond-true (is_reached (Some p.1) (verdict_on s n)) (W (Some p.1)) 0 (reached_below p.1 s n le) in
             omega (arith, h, c, j, all))
             (remaining t accepts score (x ∷ xs)) course.at_each (above_all x xs least sound));
       }
 
-  node_step : (opened asked capacity s : ℕ) (n : WaitingNode) (xs new : List Item)
+  node_step : {opened asked capacity s : ℕ} {n : WaitingNode} {xs : List Item} (new : List Item)
       → IsTaken accepts score verdict t opened asked capacity (item_at s (place.Node n)) xs
       → remaining t accepts score new ≡ remaining t accepts score (item_at s (place.Node n) ∷ xs)
       → AllSound t accepts score new
@@ -226,7 +198,7 @@ module _ (accepts : Extent → Bool) (score : Extent → ℕ) (verdict : Info �
       ≡ work_left (is_reached bound) cost verdict t xs + reached (is_reached bound) cost verdict t
       (height_at t n.number.number) (verdict_on s n) (node_at t n.number.number))
       → IsNodeStep accepts score verdict t opened asked capacity s n xs new
-  node_step opened asked capacity s n xs new k same sound size moves = record {
+  node_step {opened} {asked} {capacity} {s} {n} {xs} new k same sound size moves = record {
     state = record {
       tree = k.state.tree;
       sound = sound;
@@ -238,12 +210,12 @@ module _ (accepts : Extent → Bool) (score : Extent → ℕ) (verdict : Info �
     same = same;
   }
 
-  pub leaf_step : (opened asked capacity s : ℕ) (n : WaitingNode) (xs : List Item) → s < 2 ^ 128
+  pub leaf_step : {opened asked capacity s : ℕ} {n : WaitingNode} {xs : List Item} → s < 2 ^ 128
       → (node_at t n.number.number).level ≡ 1
       → IsTaken accepts score verdict t opened asked capacity (item_at s (place.Node n)) xs
       → IsNodeStep accepts score verdict t opened asked capacity s n xs
       (join_answers (answers_among t accepts score (node_at t n.number.number) (node_at t n.number.number).count) xs)
-  leaf_step opened asked capacity s n xs small low k =
+  leaf_step {s = s} {n = n} {xs = xs} small low k =
       let number = n.number.number in
       let node = node_at t number in
       let v = verdict_on s n in
@@ -251,10 +223,10 @@ module _ (accepts : Extent → Bool) (score : Extent → ℕ) (verdict : Info �
       let leaf = leaf_node t (height_at t number) node here.tree low in
       let flat : height_at t number ≡ 0 = leaf.0 in
       let found = answers_among t accepts score node node.count in
-      node_step opened asked capacity s n xs _ k
-      (answers_joined accepts score verdict law t found xs
+      node_step _ k
+      (answers_joined law t found xs
       ∙ ap (λ l. put_all answer_cmp l (remaining t accepts score xs)) (answers_all accepts score t number here.tree low))
-      (answers_sound accepts score verdict law t found xs k.state.sound.1)
+      (answers_sound law t found xs k.state.sound.1)
       (let h = held-join_answers verdict t v found xs in let e = few_among accepts score t number here.tree low in
       omega (arith, h, e))
       (λ cost bound.
@@ -263,19 +235,19 @@ module _ (accepts : Extent → Bool) (score : Extent → ℕ) (verdict : Info �
       ap (λ h. reached (is_reached bound) cost verdict t h v node) flat in
       omega (arith, e, z))
 
-  pub inner_step : (opened asked capacity s : ℕ) (n : WaitingNode) (xs : List Item) → s < 2 ^ 128
+  pub inner_step : {opened asked capacity s : ℕ} {n : WaitingNode} {xs : List Item} → s < 2 ^ 128
       → 2 ≤ (node_at t n.number.number).level
       → IsTaken accepts score verdict t opened asked capacity (item_at s (place.Node n)) xs
       → IsNodeStep accepts score verdict t opened asked capacity s n xs
       (join_nodes verdict t (verdict_on s n) (node_at t n.number.number) (node_at t n.number.number).count xs)
-  inner_step opened asked capacity s n xs small high k =
+  inner_step {s = s} {n = n} {xs = xs} small high k =
       let number = n.number.number in
       let node = node_at t number in
       let v = verdict_on s n in
       let here = k.state.sound.0 in
-      node_step opened asked capacity s n xs _ k
-      (nodes_joined accepts score verdict law t k.state.tree v small number here high xs)
-      (nodes_sound accepts score verdict law t k.state.tree v small number here high xs node.count
+      node_step _ k
+      (nodes_joined law t k.state.tree v small number here high xs)
+      (nodes_sound law t k.state.tree v small number here high xs node.count
       (omega arith) k.state.sound.1)
       (held-join_nodes verdict t v number here.tree high xs)
       (λ cost bound. work-join_nodes verdict t v number here.tree high (is_reached bound) (closed_by bound) cost
@@ -287,10 +259,10 @@ module _ (accepts : Extent → Bool) (score : Extent → ℕ) (verdict : Info �
     pub asked_low : asked + (node_at t number).count ≤ 2 ^ 32
     pub room : length xs + (node_at t number).count ≤ capacity
 
-  pub can_open : (opened asked capacity s : ℕ) (n : WaitingNode) (xs : List Item)
+  pub can_open : {opened asked capacity s : ℕ} {n : WaitingNode} {xs : List Item}
       → IsTaken accepts score verdict t opened asked capacity (item_at s (place.Node n)) xs
       → CanOpen opened asked capacity n.number.number xs
-  can_open opened asked capacity s n xs k = record {
+  can_open {opened} {asked} {capacity} {s} {n} {xs} k = record {
     opened_low = done_le (is_reached None) one_node verdict t (one_is_fair t) k.state.tree opened s n xs
         (reached_is None s n) k.state.opening.in_all;
     asked_low = done_le (is_reached None) its_children verdict t (count_is_fair t) k.state.tree asked s n xs

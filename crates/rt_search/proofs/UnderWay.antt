@@ -2,7 +2,7 @@
 use Rattle.std.proofs.Common.{◌≡◌, ◌≢◌, ◌<◌, ◌≤◌, ◌+◌, ◌-◌, ◌^◌, ◌==◌, ℕ, ℤ, Bool, true, false, cond, List, [], ◌∷◌, length, map}
 use Rattle.std.proofs.Common.{Option, Some, None, refl, sym, ◌∙◌, ap, subst, arith}
 use Rattle.std.specs.Prelude.{MatchOption}
-use Rattle.std.proofs.lemmas.Bool.Decides.{nat_tests}
+use Rattle.std.proofs.lemmas.Bool.{eq-eqb, eqb-false, eqb-true, ne_eqb}
 use Rattle.rt_geo.specs.Laws.{Extent, IsLawful}
 use Rattle.rt_geo.specs.declared.geometry.Info.{Info}
 use Rattle.rt_geo.specs.declared.geometry.Verdict.{Verdict}
@@ -17,7 +17,6 @@ use Rattle.rt_search.specs.Progress.{IsFound, IsNodeStep, IsOver, IsSearching, I
 use Rattle.rt_search.specs.Remaining.{IsOpenable, height_at, remaining, verdict_on}
 use Rattle.rt_search.specs.Walking.{answers_among}
 use Rattle.rt_search.specs.Work.{is_reached, its_children, one_node, reached_from_root}
-use Rattle.rt_search.specs.declared.item.FoundEntry.{FoundEntry}
 use Rattle.rt_search.specs.declared.item.Item.{Item}
 use Rattle.rt_search.specs.declared.item.Place.TheVariants as place
 use Rattle.rt_search.specs.declared.item.ScoredNode.{ScoredNode}
@@ -45,22 +44,10 @@ pub node_wanted : (out : Taken) (n : ScoredNode) (w w' : Option ℕ) → out.nod
     → w' ≡ wanted_after (taken_item out) w → w' ≡ w
 node_wanted out n w w' is h = h ∙ ap (λ o. wanted_after (node_or o (taken_entry out.entry)) w) is
 
-pub wanted_then : (out : Option FoundEntry) (w w' : Option ℕ) → w' ≡ wanted_after (taken_entry out) w
+pub wanted_then : (out : Option Answer) (w w' : Option ℕ) → w' ≡ wanted_after (taken_entry out) w
     → MatchOption out (w' ≡ w) (λ _. w' ≡ one_less w)
 wanted_then None w w' h = h
 wanted_then (Some e) w w' h = h
-
-is_level : (m : ℕ) → (m == 1) ≡ true → m ≡ 1
-is_level m h = grind (arith, nat_tests)
-
-level_is : (m : ℕ) → m ≡ 1 → (m == 1) ≡ true
-level_is m h = grind (arith, nat_tests)
-
-level_is_not : (m : ℕ) → m ≢ 1 → (m == 1) ≡ false
-level_is_not m h = grind (arith, nat_tests)
-
-is_no_level : (m : ℕ) → (m == 1) ≡ false → m ≢ 1
-is_no_level m h = grind (arith, nat_tests)
 
 module _ (accepts : Extent → Bool) (score : Extent → ℕ) (verdict : Info → Verdict) (t : Packed) (wanted : Option ℕ)
     (s : ℕ) (n : WaitingNode) where
@@ -86,23 +73,23 @@ module _ (accepts : Extent → Bool) (score : Extent → ℕ) (verdict : Info �
         | false ↦ rising_nodes verdict t v m wanted m.count xs h
       ]
 
-module _ (accepts : Extent → Bool) (score : Extent → ℕ) (verdict : Info → Verdict)
+module _ {accepts : Extent → Bool} {score : Extent → ℕ} {verdict : Info → Verdict}
     (law : IsLawful accepts score verdict) (t : Packed) where
   -- ---- a node is opened
 
-  children_step : (opened asked capacity s : ℕ) (n : WaitingNode) (xs : List Item) → s < 2 ^ 128
+  children_step : {opened asked capacity s : ℕ} {n : WaitingNode} {xs : List Item} → s < 2 ^ 128
       → IsTaken accepts score verdict t opened asked capacity (item_at s (place.Node n)) xs
       → IsNodeStep accepts score verdict t opened asked capacity s n xs (join_children accepts score verdict t s n xs)
-  children_step opened asked capacity s n xs small k =
+  children_step {opened} {asked} {capacity} {s} {n} {xs} small k =
       let m = node_at t n.number.number in
       let v = verdict_on s n in
       let level = subtree_level t (height_at t n.number.number) m k.state.sound.0.tree in
       let split : (b : Bool) → (m.level == 1) ≡ b → IsNodeStep accepts score verdict t opened asked capacity s n xs
       (cond b (join_answers (answers_among t accepts score m m.count) xs) (join_nodes verdict t v m m.count xs)) = elim [
-        | true ↦ λ e. leaf_step accepts score verdict law t opened asked capacity s n xs small (is_level m.level e) k
+        | true ↦ λ e. leaf_step law t small (eqb-true m.level 1 e) k
         | false ↦ λ e.
-            let other = is_no_level m.level e in
-            inner_step accepts score verdict law t opened asked capacity s n xs small (omega (arith, level, other)) k
+            let other = eqb-false m.level 1 e in
+            inner_step law t small (omega (arith, level, other)) k
       ] in
       split (m.level == 1) refl
 
@@ -115,7 +102,7 @@ module _ (accepts : Extent → Bool) (score : Extent → ℕ) (verdict : Info �
       subst (λ (l : node.Node). IsEnough wanted new (cond (l.level == 1)
       (join_answers (answers_among t accepts score l l.count) xs)
       (join_nodes verdict t (verdict_on s n) l l.count xs)))
-      is (rw (level_is m.level low) h)
+      is (rw (eq-eqb m.level 1 low) h)
 
   pub nodes_join : (wanted : Option ℕ) (s : ℕ) (n : WaitingNode) (m : node.Node) (v : Verdict) (new xs : List Item)
       → m ≡ node_at t n.number.number → m.level ≢ 1 → v ≡ verdict_on s n
@@ -124,7 +111,7 @@ module _ (accepts : Extent → Bool) (score : Extent → ℕ) (verdict : Info �
   nodes_join wanted s n m v new xs is high same h =
       let l = node_at t n.number.number in
       let k = subst (λ u. IsEnough wanted new (join_nodes verdict t u l l.count xs)) same h in
-      let other : (l.level == 1) ≡ false = subst (λ (i : node.Node). (i.level == 1) ≡ false) is (level_is_not m.level high) in
+      let other : (l.level == 1) ≡ false = subst (λ (i : node.Node). (i.level == 1) ≡ false) is (ne_eqb m.level 1 high) in
       rw other k
 
   -- what opening it requires, and what it leads to
@@ -140,11 +127,11 @@ module _ (accepts : Extent → Bool) (score : Extent → ℕ) (verdict : Info �
         → IsUnderWay accepts score verdict t (opened + 1) (asked + (node_at t n.number.number).count) capacity wanted
         to_come new
 
-  pub go_on : (opened asked capacity : ℕ) (wanted : Option ℕ) (to_come : List Answer) (s : ℕ) (n : WaitingNode)
-      (items xs : List Item) → s < 2 ^ 128 → wanted ≢ Some 0 → items ≡ item_at s (place.Node n) ∷ xs
+  pub go_on : {opened asked capacity : ℕ} {wanted : Option ℕ} {to_come : List Answer} {s : ℕ} {n : WaitingNode}
+      {items xs : List Item} → s < 2 ^ 128 → wanted ≢ Some 0 → items ≡ item_at s (place.Node n) ∷ xs
       → IsUnderWay accepts score verdict t opened asked capacity wanted to_come items
       → CanGoOn opened asked capacity wanted to_come s n xs
-  go_on opened asked capacity wanted to_come s n items xs small more is u =
+  go_on {opened} {asked} {capacity} {wanted} {to_come} {s} {n} {items} {xs} small more is u =
       let x = item_at s (place.Node n) in
       let k = first_kept wanted x xs u.all more (subst (λ l. IsEnough wanted l u.all) is u.enough) in
       let ys = k.0 in
@@ -153,8 +140,8 @@ module _ (accepts : Extent → Bool) (score : Extent → ℕ) (verdict : Info �
         least = up.0;
         state = subst (IsSearching accepts score verdict t opened asked capacity) k.1.0 u.state;
       } in
-      let can = can_open accepts score verdict law t opened asked capacity s n ys taken in
-      let step = children_step opened asked capacity s n ys small taken in
+      let can = can_open law t taken in
+      let step = children_step small taken in
       let few = k.1.1.few in
       let room = can.room in
       record {
@@ -177,19 +164,20 @@ module _ (accepts : Extent → Bool) (score : Extent → ℕ) (verdict : Info �
 
   -- ---- an entry is taken out
 
-  found : (opened asked capacity : ℕ) (wanted : Option ℕ) (to_come : List Answer) (i : ℤ) (s : ℕ)
-      (items xs : List Item) → wanted ≢ Some 0 → items ≡ item_at s (place.Entry i) ∷ xs
+  found : {opened asked capacity : ℕ} {wanted : Option ℕ} {to_come : List Answer} {i : ℤ} {s : ℕ}
+      {items xs : List Item} → wanted ≢ Some 0 → items ≡ item_at s (place.Entry i) ∷ xs
       → IsUnderWay accepts score verdict t opened asked capacity wanted to_come items
       → IsFound accepts score verdict t opened asked capacity (one_less wanted) to_come (i, s) xs
-  found opened asked capacity wanted to_come i s items xs more is u =
+  found {opened} {asked} {capacity} {wanted} {to_come} {i} {s} {items} {xs} more is u =
       let x = item_at s (place.Entry i) in
       let k = first_kept wanted x xs u.all more (subst (λ l. IsEnough wanted l u.all) is u.enough) in
       let ys = k.0 in
       let up = subst IsRising k.1.0 u.rising in
-      let step = entry_step accepts score verdict law t opened asked capacity i s ys (record {
+      let taken : IsTaken accepts score verdict t opened asked capacity x ys = record {
         least = up.0;
         state = subst (IsSearching accepts score verdict t opened asked capacity) k.1.0 u.state;
-      }) in
+      } in
+      let step = entry_step law t taken in
       record {
         rest = remaining t accepts score ys;
         first = sym u.follows ∙ ap (remaining t accepts score) k.1.0 ∙ step.answer;
@@ -202,11 +190,11 @@ module _ (accepts : Extent → Bool) (score : Extent → ℕ) (verdict : Info �
   no_work_left : (cost : node.Node → ℕ) (all : List Item) → all ≡ [] → work_left (is_reached None) cost verdict t all ≡ 0
   no_work_left cost all e = ap (work_left (is_reached None) cost verdict t) e
 
-  over : (opened asked capacity : ℕ) (wanted : Option ℕ) (to_come : List Answer) (items new : List Item)
+  over : {opened asked capacity : ℕ} {wanted : Option ℕ} {to_come : List Answer} {items new : List Item}
       → wanted ≢ Some 0 → items ≡ [] → new ≡ []
       → IsUnderWay accepts score verdict t opened asked capacity wanted to_come items
       → IsOver accepts score verdict t opened asked capacity wanted to_come new
-  over opened asked capacity wanted to_come items new more none none' u =
+  over {wanted = wanted} more none none' u =
       let end = none_left wanted u.all more (subst (λ l. IsEnough wanted l u.all) none u.enough) in
       let o = u.state.opening.in_all in
       let a = u.state.asking.in_all in
@@ -226,16 +214,16 @@ module _ (accepts : Extent → Bool) (score : Extent → ℕ) (verdict : Info �
       }
 
   -- an entry was taken out, or nothing
-  pub ended : (out : Option FoundEntry) (opened asked capacity : ℕ) (wanted wanted' : Option ℕ) (to_come : List Answer)
-      (items new : List Item) → wanted ≢ Some 0
+  pub ended : (out : Option Answer) (new : List Item) {opened asked capacity : ℕ} {wanted wanted' : Option ℕ}
+      {to_come : List Answer} {items : List Item} → wanted ≢ Some 0
       → IsTakenOut (taken_entry out) items new
       → wanted' ≡ wanted_after (taken_entry out) wanted
       → IsUnderWay accepts score verdict t opened asked capacity wanted to_come items
       → MatchOption out (IsOver accepts score verdict t opened asked capacity wanted' to_come new)
-      (λ e. IsFound accepts score verdict t opened asked capacity wanted' to_come (e.id, e.score) new)
-  ended None opened asked capacity wanted wanted' to_come items new more took same u =
+      (λ a. IsFound accepts score verdict t opened asked capacity wanted' to_come a new)
+  ended None new {opened} {asked} {capacity} {to_come = to_come} more took same u =
       subst (λ w. IsOver accepts score verdict t opened asked capacity w to_come new) (sym same)
-      (over opened asked capacity wanted to_come items new more took.0 took.1 u)
-  ended (Some e) opened asked capacity wanted wanted' to_come items new more took same u =
-      subst (λ w. IsFound accepts score verdict t opened asked capacity w to_come (e.id, e.score) new) (sym same)
-      (found opened asked capacity wanted to_come e.id e.score items new more took.0 u)
+      (over more took.0 took.1 u)
+  ended (Some a) new {opened} {asked} {capacity} {to_come = to_come} more took same u =
+      subst (λ w. IsFound accepts score verdict t opened asked capacity w to_come a new) (sym same)
+      (found more took.0 u)

@@ -14,17 +14,18 @@ use Rattle.rt_search.specs.Answers.{accepted, answer_of, answers}
 use Rattle.rt_search.specs.Items.{item_of}
 use Rattle.rt_search.specs.Joining.{join_answers}
 use Rattle.rt_search.specs.Limits.{IsEnough}
-use Rattle.rt_search.specs.Progress.{IsGiving, IsOnCourse, held, work_left}
+use Rattle.rt_search.specs.Progress.{AddsUp, IsGiving, IsOnCourse, held, work_left}
 use Rattle.rt_search.specs.Remaining.{remaining}
 use Rattle.rt_search.specs.Walking.{answers_in_tree}
 use Rattle.rt_search.specs.Work.{HasWorked, IsUnscored, info_of_node, is_kept, is_reached, is_within_bound, its_children}
 use Rattle.rt_search.specs.Work.{last_score, one_node, reached, reached_from_root, root_verdict, search_work}
 use Rattle.rt_search.specs.declared.item.Item.{Item}
 use Rattle.rt_search.proofs.Children.{subtree_level}
+use Rattle.rt_search.proofs.Elements.{all_each}
 use Rattle.rt_search.proofs.Giving.{length-scored}
 use Rattle.rt_search.proofs.Joined.{answers_joined, answers_sound}
 use Rattle.rt_search.proofs.Limits.{rising_put_all}
-use Rattle.rt_search.proofs.Starting.{all_each, from_first, nat_eq_false, none_given, within_zero}
+use Rattle.rt_search.proofs.Starting.{from_first, nat_eq_false, none_given, within_zero}
 use Rattle.rt_search.proofs.WalkWhole.{tree_answers, tree_count}
 use Rattle.rt_search.proofs.Working.{held-join_answers, work-join_answers}
 
@@ -78,7 +79,7 @@ module _ (verdict : Info → Verdict) (unscored : IsUnscored verdict) (t : Packe
 
 -- ---- all were opened
 
-module _ (accepts : Extent → Bool) (score : Extent → ℕ) (verdict : Info → Verdict)
+module _ {accepts : Extent → Bool} {score : Extent → ℕ} {verdict : Info → Verdict}
     (law : IsLawful accepts score verdict) (t : Packed) (sound : IsSound t)
     (unscored : IsUnscored verdict) where
   abbrev gathered : List Item
@@ -114,8 +115,7 @@ module _ (accepts : Extent → Bool) (score : Extent → ℕ) (verdict : Info �
       → IsOnCourse accepts score verdict cost t done gathered
   course cost done h = record {
     in_all = omega (arith, h, none_left None cost);
-    at_each = all_each (λ a. done + work_left (is_reached (Some a.1)) cost verdict t gathered
-        ≡ reached_from_root (is_reached (Some a.1)) cost verdict t)
+    at_each = all_each (λ a. AddsUp verdict cost t done gathered (Some a.1))
         (λ a. omega (arith, h, none_left (Some a.1) cost, reached_within (Some a.1) cost))
         (remaining t accepts score gathered);
   }
@@ -141,13 +141,13 @@ module _ (accepts : Extent → Bool) (score : Extent → ℕ) (verdict : Info �
       all = gathered;
       state = record {
         tree = sound;
-        sound = answers_sound accepts score verdict law t (answers_in_tree t accepts score) [] tt;
+        sound = answers_sound law t (answers_in_tree t accepts score) [] tt;
         room = room_for_all capacity room;
         opening = course one_node opened nodes;
         asking = course its_children asked checks;
       };
       rising = rising_put_all (map item_of (answers_in_tree t accepts score)) [] tt;
-      follows = answers_joined accepts score verdict law t (answers_in_tree t accepts score) []
+      follows = answers_joined law t (answers_in_tree t accepts score) []
           ∙ tree_answers accepts score verdict t sound;
       enough = enough;
     };

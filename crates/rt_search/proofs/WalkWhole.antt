@@ -1,6 +1,7 @@
 -- A walk over a whole tree, from its root.
 use Rattle.std.proofs.Common.{◌≡◌, ◌<◌, ◌≤◌, ◌+◌, ◌-◌, ◌^◌, ◌==◌, ◌∙◌, ℕ, Bool, true, false, cond, None, []}
 use Rattle.std.proofs.Common.{length, refl, sym, ap, subst, arith}
+use Rattle.std.proofs.lemmas.Bool.{eqb-true}
 use Rattle.std.proofs.lemmas.List.Sorted.{length_permutation}
 use Rattle.rt_geo.specs.Laws.{Extent}
 use Rattle.rt_geo.specs.declared.geometry.Info.{Info}
@@ -11,21 +12,16 @@ use Rattle.rt_search.specs.Answers.{accepted, answer_cmp, answer_of, answers, sc
 use Rattle.rt_search.specs.Remaining.{IsOpenable, put_all}
 use Rattle.rt_search.specs.Walking.{answers_in_tree, answers_under, work_under}
 use Rattle.rt_search.specs.Work.{its_children, one_node, reached_from_root, root_verdict}
-use Rattle.rt_search.proofs.Answering.{among, among-IsPermutation}
+use Rattle.rt_search.proofs.Answering.{among-IsPermutation}
 use Rattle.rt_search.proofs.OrderedLists.{length-put_all, put_all-nil}
 use Rattle.rt_search.proofs.Orders.{answer_order}
 use Rattle.rt_search.proofs.Sizes.{count_is_fair, one_is_fair, size_under, work_le}
-use Rattle.rt_search.proofs.Starting.{empty_answers, nat_eq_false, nat_eq_true, root_sound, some_nodes}
+use Rattle.rt_search.proofs.Starting.{empty_answers, nat_eq_false, root_sound, some_nodes}
 use Rattle.std.proofs.lemmas.List.{length-map}
 
 module _ (accepts : Extent → Bool) (score : Extent → ℕ) (verdict : Info → Verdict) (t : Packed) (sound : IsSound t)
   where
     -- ---- the answers of a whole tree
-
-    in_order : 0 < length t.nodes → put_all answer_cmp (answers_under t accepts score (length t.nodes - 1)) []
-        ≡ put_all answer_cmp (among accepts score t.entries) []
-    in_order some = sym (among-IsPermutation accepts score (entries_under t (height t) (root_of t)) t.entries []
-        (sound.every some))
 
     -- in order they are those of a scan
     pub tree_answers : put_all answer_cmp (answers_in_tree t accepts score) [] ≡ answers t.entries accepts score None
@@ -33,9 +29,10 @@ module _ (accepts : Extent → Bool) (score : Extent → ℕ) (verdict : Info �
         let split : (b : Bool) → (length t.nodes == 0) ≡ b
         → put_all answer_cmp (cond b [] (answers_under t accepts score (length t.nodes - 1))) []
         ≡ answers t.entries accepts score None = elim [
-          | true ↦ λ h. sym (empty_answers accepts score verdict t sound (nat_eq_true h))
-          | false ↦ λ h. in_order (nat_eq_false h)
-              ∙ put_all-nil answer_cmp answer_order (scored t.entries accepts score)
+          | true ↦ λ h. sym (empty_answers accepts score verdict t sound (eqb-true _ 0 h))
+          | false ↦ λ h. put_all-nil answer_cmp answer_order (answers_under t accepts score (length t.nodes - 1))
+              ∙ among-IsPermutation accepts score (entries_under t (height t) (root_of t)) t.entries
+              (sound.every (nat_eq_false h))
         ] in
         split (length t.nodes == 0) refl
 
@@ -51,38 +48,26 @@ module _ (accepts : Extent → Bool) (score : Extent → ℕ) (verdict : Info �
     -- ---- from the root
 
     -- what holds of the node that a walk begins with
-    pub record IsWhole (opens : Verdict → Bool) (number : ℕ) (v : Verdict) : Type 0 where
-      pub node : IsOpenable t accepts score number v
+    pub record IsWhole (opens : Verdict → Bool) (number : ℕ) : Type 0 where
+      pub node : IsOpenable t accepts score number root_verdict
       pub few : (node_at t number).size ≤ length t.entries
-      pub opened_few : work_under opens one_node verdict t v number ≤ 2 ^ 32
-      pub asked_few : work_under opens its_children verdict t v number ≤ 2 ^ 32
-      pub answers_are : answers_under t accepts score number ≡ answers_in_tree t accepts score
-      pub opened_is : work_under opens one_node verdict t v number ≡ reached_from_root opens one_node verdict t
-      pub asked_is : work_under opens its_children verdict t v number ≡ reached_from_root opens its_children verdict t
+      pub opened_few : work_under opens one_node verdict t root_verdict number ≤ 2 ^ 32
+      pub asked_few : work_under opens its_children verdict t root_verdict number ≤ 2 ^ 32
 
     whole_work : (opens : Verdict → Bool) (cost : Node → ℕ) → 0 < length t.nodes
         → work_under opens cost verdict t root_verdict (length t.nodes - 1) ≡ reached_from_root opens cost verdict t
     whole_work opens cost some = (let none = some_nodes t some in rw none refl)
 
-    root_whole : (opens : Verdict → Bool) → 0 < length t.nodes → IsWhole opens (length t.nodes - 1) root_verdict
-    root_whole opens some =
+    pub whole : (opens : Verdict → Bool) (number : ℕ) → number + 1 ≡ length t.nodes → IsWhole opens number
+    whole opens number is =
+        let some : 0 < length t.nodes = omega (arith, is) in
         let size = size_under t (height t) (root_of t) (sound.root some) in
         let all = length_permutation _ _ (sound.every some) in
         let one = whole_work opens one_node some in
         let its = whole_work opens its_children some in
-        record {
+        subst (IsWhole opens) {x = length t.nodes - 1} (omega (arith, is)) (record {
           node = (root_sound accepts score verdict t sound some).0;
           few = omega (arith, size, all);
           opened_few = omega (arith, one, work_le opens one_node verdict t (one_is_fair t) sound);
           asked_few = omega (arith, its, work_le opens its_children verdict t (count_is_fair t) sound);
-          answers_are = (let none = some_nodes t some in rw none refl);
-          opened_is = one;
-          asked_is = its;
-        }
-
-    pub whole : (opens : Verdict → Bool) (number : ℕ) (v : Verdict) → number + 1 ≡ length t.nodes
-        → v ≡ root_verdict → IsWhole opens number v
-    whole opens number v is told =
-        let last : length t.nodes - 1 ≡ number = omega (arith, is) in
-        subst (IsWhole opens number) (sym told)
-        (subst (λ n. IsWhole opens n root_verdict) last (root_whole opens (omega (arith, is))))
+        })

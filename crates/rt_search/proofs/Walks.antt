@@ -1,28 +1,31 @@
 -- What a walk finds under a node, child by child.
-use Rattle.std.proofs.Common.{◌≡◌, ◌<◌, ◌≤◌, ◌+◌, ◌-◌, ◌^◌, ◌==◌, ℕ, zero, suc, Bool, true, false, cond, List, [], ◌∷◌, ◌++◌}
+use Rattle.std.proofs.Common.{◌≡◌, ◌<◌, ◌≤◌, ◌+◌, ◌-◌, ◌^◌, ℕ, zero, suc, Bool, true, false, List, [], ◌∷◌, ◌++◌}
 use Rattle.std.proofs.Common.{length, take, get_or, refl, sym, ◌∙◌, ap, subst, arith, add-one, length-append}
 use Rattle.std.specs.List.{AllByRecursion, sum_by}
+use Rattle.std.proofs.lemmas.Bool.{cond-false, cond-true}
 use Rattle.std.proofs.lemmas.List.{get_or_default, length-take, take_all}
+use Rattle.std.proofs.lemmas.List.Sums.{sum_by-cons}
 use Rattle.rt_geo.specs.Laws.{AllAccepted, Extent, IsLawful, IsQuestion, NoneAccepted, extent_of, extent_of_entry}
 use Rattle.rt_geo.specs.declared.entry.Entry.{Entry}
 use Rattle.rt_geo.specs.declared.geometry.Info.{Info}
 use Rattle.rt_geo.specs.declared.geometry.Verdict.{Verdict}
 use Rattle.rt_tree.specs.Packed.{Packed, IsLeafNode, IsSound, IsSubtree, child_entries, child_nodes, entries_under}
 use Rattle.rt_tree.specs.Packed.{extent_of_node, node_at}
+use Rattle.rt_tree.specs.declared.nodes.PlainNode.{PlainNode}
 use Rattle.rt_tree.specs.declared.tree.Node.{Node}
 use Rattle.rt_search.specs.Answers.{Answer}
 use Rattle.rt_search.specs.Joining.{info_of_child, no_entry}
 use Rattle.rt_search.specs.Remaining.{IsBelow, IsOpenable, height_at}
 use Rattle.rt_search.specs.Walking.{HasTaken, IsCheckable, IsFilling, IsKnown, answer_if, answers_among, answers_under}
-use Rattle.rt_search.specs.Walking.{over_children, work_at_child, work_of_child, work_under}
+use Rattle.rt_search.specs.Walking.{work_at_child, work_of_child, work_under}
 use Rattle.rt_search.specs.Work.{info_of_node, is_kept, its_children, one_node, reached}
 use Rattle.rt_search.proofs.Answering.{IsEntryInside, all_inside, among, among-append, among_accepted, among_none}
 use Rattle.rt_search.proofs.Answering.{among_refused, take_more_at, under_all, under_all-append, under_all-none}
 use Rattle.rt_search.proofs.Answering.{under_all-one, under_all-whole}
-use Rattle.rt_search.proofs.Children.{IsChild, IsLeafAt, all_children, child_of, entry_question, height_suc, inner_at}
+use Rattle.rt_search.proofs.Children.{IsAsked, IsLeafAt, all_children, child, entry_question, height_suc, inner_at}
 use Rattle.rt_search.proofs.Children.{leaf_at, leaf_node, node_question, part_at, part_length}
 use Rattle.rt_search.proofs.Giving.{length-scored}
-use Rattle.rt_search.proofs.Joined.{kept_not, left_out, taken}
+use Rattle.rt_search.proofs.Joined.{kept_not}
 use Rattle.rt_search.proofs.Sizes.{size_under}
 use Rattle.rt_search.proofs.Working.{sum_more}
 
@@ -40,20 +43,14 @@ taken_room takes room fills old new [] h = rw h (omega arith)
 taken_room takes room fills old new (x ∷ xs) h =
     omega (arith, fills old h.0 x h.1.0, taken_room takes room fills h.0 new xs h.1.1)
 
--- ---- sums over children
+-- ---- what a walk costs
 
-over_more : (f : ℕ → ℕ) (n : Node) (i j : ℕ) → i ≤ j → over_children f n i ≤ over_children f n j
-over_more f n i zero le = (let e : i ≡ 0 = omega (arith, le) in rw e (omega arith))
-over_more f n i (suc j) le =
-    let split : (b : Bool) → (i == suc j) ≡ b → over_children f n i ≤ over_children f n (suc j) = elim [
-      | true ↦ λ h. (let e : i ≡ suc j = grind (arith, h) in rw e (omega arith))
-      | false ↦ λ h. (let lt : i ≤ j = grind (arith, h, le) in omega (arith, over_more f n i j lt))
-    ] in
-    split (i == suc j) refl
-
--- one more child is within the whole
-over_one : (f : ℕ → ℕ) (n : Node) (i j : ℕ) → i < j → over_children f n i + f (n.first + i) ≤ over_children f n j
-over_one f n i j lt = over_more f n (suc i) j lt
+-- the front of a list costs no more than the list
+sum_by-front : {X : Type 0} (f : X → ℕ) (i : ℕ) (xs : List X) → sum_by f (take i xs) ≤ sum_by f xs
+sum_by-front f zero xs = omega arith
+sum_by-front f (suc i) [] = omega arith
+sum_by-front f (suc i) (x ∷ xs) =
+    omega (arith, sum_by-cons f x (take i xs), sum_by-cons f x xs, sum_by-front f i xs)
 
 -- a child that is opened
 pub at_child : (opens : Verdict → Bool) (cost : Node → ℕ) (verdict : Info → Verdict) (t : Packed) (w : Verdict) (k : ℕ)
@@ -104,42 +101,43 @@ module _ (accepts : Extent → Bool) (score : Extent → ℕ) (t : Packed) where
       ap length (among_accepted accepts score e es (full (extent_of_entry e) a.0))
       ∙ ap (λ n. suc n) (all_among c full es a.1)
 
-  module _ (verdict : Info → Verdict) (law : IsLawful accepts score verdict) where
-    -- ---- an entry that was asked about
+module _ {accepts : Extent → Bool} {score : Extent → ℕ} {verdict : Info → Verdict}
+    (law : IsLawful accepts score verdict) where
+  -- ---- an entry that was asked about
 
-    entry_answer : (e : Entry) (info : Info) → extent_of info ≡ extent_of_entry e → info.level ≡ 0
-        → IsQuestion accepts info
-        → answer_if (is_kept (verdict info).within) e.id (verdict info).score ≡ among accepts score (e ∷ [])
-    entry_answer e info at low question =
-        let v = verdict info in
-        let one : List Answer = (e.id, v.score) ∷ [] in
-        let split : (b : Bool) → accepts (extent_of_entry e) ≡ b
-        → answer_if (is_kept v.within) e.id v.score ≡ among accepts score (e ∷ []) = elim [
-          | true ↦ λ h.
-              let here = subst (λ c. accepts c ≡ true) (sym at) h in
-              taken (is_kept v.within) one [] (kept (is_kept v.within) h refl)
-              ∙ ap (λ s. (e.id, s) ∷ []) (law.exact info question low here ∙ ap score at)
-              ∙ sym (among_accepted accepts score e [] h)
-          | false ↦ λ h.
-              let none = (law.faithful.leaf info question low).1 (subst (λ c. accepts c ≡ false) (sym at) h) in
-              left_out (is_kept v.within) one [] (ap is_kept none) ∙ sym (among_refused accepts score e [] h)
-        ] in
-        split (accepts (extent_of_entry e)) refl
-      where
-        yes_no : {b : Bool} → b ≡ false → b ≡ true → ⊥
-        yes_no f g = cc
+  entry_answer : (e : Entry) (info : Info) → extent_of info ≡ extent_of_entry e → info.level ≡ 0
+      → IsQuestion accepts info
+      → answer_if (is_kept (verdict info).within) e.id (verdict info).score ≡ among accepts score (e ∷ [])
+  entry_answer e info at low question =
+      let v = verdict info in
+      let one : List Answer = (e.id, v.score) ∷ [] in
+      let split : (b : Bool) → accepts (extent_of_entry e) ≡ b
+      → answer_if (is_kept v.within) e.id v.score ≡ among accepts score (e ∷ []) = elim [
+        | true ↦ λ h.
+            let here = subst (λ c. accepts c ≡ true) (sym at) h in
+            cond-true (is_kept v.within) one [] (kept (is_kept v.within) h refl)
+            ∙ ap (λ s. (e.id, s) ∷ []) (law.exact info question low here ∙ ap score at)
+            ∙ sym (among_accepted accepts score e [] h)
+        | false ↦ λ h.
+            let none = (law.faithful.leaf info question low).1 (subst (λ c. accepts c ≡ false) (sym at) h) in
+            cond-false (is_kept v.within) one [] (ap is_kept none) ∙ sym (among_refused accepts score e [] h)
+      ] in
+      split (accepts (extent_of_entry e)) refl
+    where
+      yes_no : {b : Bool} → b ≡ false → b ≡ true → ⊥
+      yes_no f g = cc
 
-        kept : (b : Bool) → accepts (extent_of_entry e) ≡ true → is_kept (verdict info).within ≡ b → b ≡ true
-        kept true h k = refl
-        kept false h k = absurd
-            (let no = (law.faithful.leaf info question low).0 (kept_not (verdict info).within k) in
-            yes_no (subst (λ c. accepts c ≡ false) at no) h)
+      kept : (b : Bool) → accepts (extent_of_entry e) ≡ true → is_kept (verdict info).within ≡ b → b ≡ true
+      kept true h k = refl
+      kept false h k = absurd
+          (let no = (law.faithful.leaf info question low).0 (kept_not (verdict info).within k) in
+          yes_no (subst (λ c. accepts c ≡ false) at no) h)
 
-    -- ---- a node that was asked about
+  -- ---- a node that was asked about
 
-    pub known : (k : ℕ) (info : Info) → IsCheckable t accepts k info
-        → IsKnown (verdict info).within (node_at t k).size (answers_under t accepts score k)
-    known k info can =
+  module _ {t : Packed} {k : ℕ} {info : Info} (can : IsCheckable t accepts k info) where
+    pub known : IsKnown (verdict info).within (node_at t k).size (answers_under t accepts score k)
+    known =
         let n = node_at t k in
         let es = entries_under t (height_at t k) n in
         let inside = all_inside t (height_at t k) n can.tree in
@@ -148,11 +146,12 @@ module _ (accepts : Extent → Bool) (score : Extent → ℕ) (t : Packed) where
               (subst (NoneAccepted accepts) can.extent (law.faithful.pruning info can.question can.high is)) es inside;
           all = λ is.
               let full = subst (AllAccepted accepts) can.extent (law.faithful.fullness info can.question can.high is) in
-              all_among (extent_of_node n) full es inside ∙ sym (size_under t (height_at t k) n can.tree);
+              all_among accepts score t (extent_of_node n) full es inside
+              ∙ sym (size_under t (height_at t k) n can.tree);
         }
 
-    pub openable : (k : ℕ) (info : Info) → IsCheckable t accepts k info → IsOpenable t accepts score k (verdict info)
-    openable k info can =
+    pub openable : IsOpenable t accepts score k (verdict info)
+    openable =
         let below : IsBelow accepts score (extent_of info) (verdict info) =
         record {
           full = λ f. law.faithful.fullness info can.question can.high f;
@@ -165,200 +164,170 @@ module _ (accepts : Extent → Bool) (score : Extent → ℕ) (t : Packed) where
           below = subst (λ c. IsBelow accepts score c (verdict info)) can.extent below;
         }
 
-    module _ (sound : IsSound t) (v : Verdict) (small : v.score < 2 ^ 128) where
-      -- ---- one more entry
+  module _ {t : Packed} (sound : IsSound t) where
+    -- ---- one more entry
 
-      entry_at : (n : Node) (i : ℕ) → IsLeafNode t n → i < n.count
-          → IsLeafAt t n i (get_or (child_entries t n) i no_entry)
-      entry_at n i leaf lt =
-          let e = get_or (child_entries t n) i no_entry in
-          let range = leaf.range in
-          let same : e ≡ get_or t.entries (n.first + i) no_entry = part_at t.entries n.first n.count i no_entry lt in
-          let read : get_or t.entries (n.first + i) e ≡ e =
-          get_or_default t.entries (n.first + i) e no_entry (omega (arith, range, lt)) ∙ sym same in
-          leaf_at t n i e sound.table leaf lt read
+    entry_at : (n : Node) (i : ℕ) → IsLeafNode t n → i < n.count
+        → IsLeafAt t n i (get_or (child_entries t n) i no_entry)
+    entry_at n i leaf lt =
+        let e = get_or (child_entries t n) i no_entry in
+        let range = leaf.range in
+        let same : e ≡ get_or t.entries (n.first + i) no_entry = part_at t.entries n.first n.count i no_entry lt in
+        let read : get_or t.entries (n.first + i) e ≡ e =
+        get_or_default t.entries (n.first + i) e no_entry (omega (arith, range, lt)) ∙ sym same in
+        leaf_at t n i e sound.table leaf lt read
 
-      pub one_entry : (n : Node) (i : ℕ) → IsLeafNode t n → IsBelow accepts score (extent_of_node n) v → i < n.count
-          → let e = get_or (child_entries t n) i no_entry in let w = verdict (info_of_child t v e) in
-          answers_among t accepts score n i ++ answer_if (is_kept w.within) e.id w.score
-          ≡ answers_among t accepts score n (i + 1)
-      one_entry n i leaf below lt =
-          let es = child_entries t n in
-          let e = get_or es i no_entry in
-          let at = entry_at n i leaf lt in
-          let one = entry_answer e (info_of_child t v e) refl refl
-          (entry_question accepts score t sound v small n e i below at) in
-          ap (λ l. among accepts score (take i es) ++ l) one
-          ∙ sym (among-append accepts score (take i es) (e ∷ []))
-          ∙ ap (among accepts score) (sym (take_more_at es i e at.place at.is))
+    pub one_entry : {v : Verdict} → v.score < 2 ^ 128 → {n : Node} → IsLeafNode t n
+        → IsBelow accepts score (extent_of_node n) v → (i : ℕ) → i < n.count
+        → let e = get_or (child_entries t n) i no_entry in let w = verdict (info_of_child t v e) in
+        answers_among t accepts score n i ++ answer_if (is_kept w.within) e.id w.score
+        ≡ answers_among t accepts score n (i + 1)
+    one_entry {v} small {n} leaf below i lt =
+        let es = child_entries t n in
+        let e = get_or es i no_entry in
+        let at = entry_at n i leaf lt in
+        let one = entry_answer e (info_of_child t v e) refl refl
+        (entry_question accepts score t sound v small n e i below at) in
+        ap (λ l. among accepts score (take i es) ++ l) one
+        ∙ sym (among-append accepts score (take i es) (e ∷ []))
+        ∙ ap (among accepts score) (sym (take_more_at es i e at.place at.is))
 
-      module _ (number : ℕ) (opened : IsOpenable t accepts score number v) where
-        -- ---- the children of a higher node
+    -- ---- the children of a higher node
 
-        module _ (high : 2 ≤ (node_at t number).level) where
-          child : (i : ℕ) → i < (node_at t number).count
-              → IsChild t (node_at t number) (height_at t number - 1) i ((node_at t number).first + i)
-          child i lt = child_of t number i ((node_at t number).first + i) opened.tree high lt refl
+    module _ {v : Verdict} (small : v.score < 2 ^ 128) {number : ℕ} (opened : IsOpenable t accepts score number v)
+        (high : 2 ≤ (node_at t number).level) where
+      -- each may be asked about
+      checkable : (i : ℕ) → i < (node_at t number).count
+          → let k = (node_at t number).first + i in IsCheckable t accepts k (info_of_node t v (node_at t k))
+      checkable i lt =
+          let k = child t number opened.tree high i lt in
+          let low = opened.low in
+          let lower = k.lower in
+          record {
+            inside = k.number;
+            tree = k.tree;
+            low = omega (arith, low, lower);
+            high = k.level;
+            extent = refl;
+            question =
+                node_question accepts score t sound v small (node_at t number) (height_at t number - 1) i
+                ((node_at t number).first + i) opened.low opened.below k;
+          }
 
-          -- each may be asked about
-          checkable : (i : ℕ) → i < (node_at t number).count
-              → let k = (node_at t number).first + i in IsCheckable t accepts k (info_of_node t v (node_at t k))
-          checkable i lt =
-              let k = child i lt in
-              let low = opened.low in
-              let lower = k.lower in
-              record {
-                inside = k.number;
-                tree = k.tree;
-                low = omega (arith, low, lower);
-                high = k.level;
-                extent = refl;
-                question =
-                    node_question accepts score t sound v small (node_at t number) (height_at t number - 1) i
-                    ((node_at t number).first + i) opened.low opened.below k;
-              }
+      -- ---- their work
 
-          sums : (f : ℕ → ℕ) (g : Node → ℕ)
-              → ((i : ℕ) → i < (node_at t number).count
-              → let k = (node_at t number).first + i in f k ≡ g (node_at t k)) → (i : ℕ) → i ≤ (node_at t number).count
-              → over_children f (node_at t number) i ≡ sum_by g (take i (child_nodes t (node_at t number)))
-          sums f g same zero le = refl
-          sums f g same (suc i) le =
-              let lt : i < (node_at t number).count = omega arith in
-              omega (
-                arith,
-                same i lt,
-                sums f g same i (omega arith),
-                sum_more verdict t v number opened.tree high g i lt,
-              )
+      -- that of the first so many
+      abbrev pub work_upto : (opens : Verdict → Bool) (cost : Node → ℕ) → ℕ → ℕ
+      work_upto opens cost i = sum_by (work_of_child opens cost verdict t v (height_at t number - 1))
+          (take i (child_nodes t (node_at t number)))
 
-          all_sums : (f : ℕ → ℕ) (g : Node → ℕ)
-              → ((i : ℕ) → i < (node_at t number).count
-              → let k = (node_at t number).first + i in f k ≡ g (node_at t k))
-              → over_children f (node_at t number) (node_at t number).count
-              ≡ sum_by g (child_nodes t (node_at t number))
-          all_sums f g same =
-              sums f g same (node_at t number).count (omega arith)
-              ∙ ap (sum_by g) (all_children t number opened.tree high (node_at t number).count (omega arith))
+      pub work_more : (opens : Verdict → Bool) (cost : Node → ℕ) (i : ℕ) → i < (node_at t number).count
+          → let k = (node_at t number).first + i in work_upto opens cost (i + 1)
+          ≡ work_upto opens cost i
+          + work_at_child opens cost verdict t (verdict (info_of_node t v (node_at t k))) k
+      work_more opens cost i lt =
+          let k = (node_at t number).first + i in
+          rw (add-one i)
+          (sum_more verdict t v number opened.tree high (work_of_child opens cost verdict t v (height_at t number - 1)) i lt
+          ∙ ap (λ h. work_upto opens cost i + work_of_child opens cost verdict t v h (node_at t k))
+          (sym (child t number opened.tree high i lt).height))
 
-          pub inner_work : (opens : Verdict → Bool) (cost : Node → ℕ) → work_under opens cost verdict t v number
-              ≡ cost (node_at t number)
-              + over_children (work_of_child opens cost verdict t v) (node_at t number) (node_at t number).count
-          inner_work opens cost =
-              let n = node_at t number in
-              let h = height_at t number - 1 in
-              let below : Node → ℕ = λ k. (let w = verdict (info_of_node t v k) in
-              cond (opens w) (reached opens cost verdict t h w k) 0) in
-              let all = all_sums (work_of_child opens cost verdict t v) below
-              (λ i lt. (let k = node_at t (n.first + i) in let w = verdict (info_of_node t v k) in
-              ap (λ m. cond (opens w) (reached opens cost verdict t m w k) 0) (child i lt).height)) in
-              let whole : work_under opens cost verdict t v number ≡ cost n + sum_by below (child_nodes t n) =
-              ap (λ m. reached opens cost verdict t m v n) (height_suc t number opened.tree high) in
-              omega (arith, all, whole)
+      pub work_all : (opens : Verdict → Bool) (cost : Node → ℕ) → work_under opens cost verdict t v number
+          ≡ cost (node_at t number) + work_upto opens cost (node_at t number).count
+      work_all opens cost =
+          ap (λ h. reached opens cost verdict t h v (node_at t number)) (height_suc t number opened.tree high)
+          ∙ ap (λ l. cost (node_at t number)
+          + sum_by (work_of_child opens cost verdict t v (height_at t number - 1)) l)
+          (sym (all_children t number opened.tree high (node_at t number).count (omega arith)))
 
-          -- ---- their answers
+      -- ---- their answers
 
-          -- those of the first so many
-          abbrev pub answers_upto : ℕ → List Answer
-          answers_upto i =
-              under_all accepts score t (height_at t number - 1) (take i (child_nodes t (node_at t number)))
+      -- those of the first so many
+      abbrev pub answers_upto : ℕ → List Answer
+      answers_upto i =
+          under_all accepts score t (height_at t number - 1) (take i (child_nodes t (node_at t number)))
 
-          pub upto_none : answers_upto 0 ≡ []
-          upto_none = under_all-none accepts score t (height_at t number - 1)
+      pub upto_more : (i : ℕ) → i < (node_at t number).count
+          → answers_upto i ++ answers_under t accepts score ((node_at t number).first + i) ≡ answers_upto (i + 1)
+      upto_more i lt =
+          let ks = child_nodes t (node_at t number) in
+          let m = node_at t ((node_at t number).first + i) in
+          let h = height_at t number - 1 in
+          let k = child t number opened.tree high i lt in
+          let there : under_all accepts score t h (m ∷ [])
+          ≡ answers_under t accepts score ((node_at t number).first + i) =
+          under_all-one accepts score t h m ∙ ap (λ l. among accepts score (entries_under t l m)) (sym k.height) in
+          ap (λ l. under_all accepts score t h (take i ks) ++ l) (sym there)
+          ∙ sym (under_all-append accepts score t h (take i ks) (m ∷ []))
+          ∙ ap (under_all accepts score t h) (sym (take_more_at ks i m k.place k.is))
 
-          pub upto_more : (i : ℕ) → i < (node_at t number).count
-              → answers_upto i ++ answers_under t accepts score ((node_at t number).first + i) ≡ answers_upto (i + 1)
-          upto_more i lt =
-              let ks = child_nodes t (node_at t number) in
-              let m = node_at t ((node_at t number).first + i) in
-              let h = height_at t number - 1 in
-              let k = child i lt in
-              let there : under_all accepts score t h (m ∷ [])
-              ≡ answers_under t accepts score ((node_at t number).first + i) =
-              under_all-one accepts score t h m ∙ ap (λ l. among accepts score (entries_under t l m)) (sym k.height) in
-              ap (λ l. under_all accepts score t h (take i ks) ++ l) (sym there)
-              ∙ sym (under_all-append accepts score t h (take i ks) (m ∷ []))
-              ∙ ap (under_all accepts score t h) (sym (take_more_at ks i m k.place k.is))
+      pub upto_all : answers_upto (node_at t number).count ≡ answers_under t accepts score number
+      upto_all =
+          let n = node_at t number in
+          let h = height_at t number - 1 in
+          ap (under_all accepts score t h) (all_children t number opened.tree high n.count (omega arith))
+          ∙ under_all-whole accepts score t h n
+          ∙ ap (λ m. among accepts score (entries_under t m n)) (sym (height_suc t number opened.tree high))
 
-          pub upto_all : answers_upto (node_at t number).count ≡ answers_under t accepts score number
-          upto_all =
-              let n = node_at t number in
-              let h = height_at t number - 1 in
-              ap (under_all accepts score t h) (all_children t number opened.tree high n.count (omega arith))
-              ∙ under_all-whole accepts score t h n
-              ∙ ap (λ m. among accepts score (entries_under t m n)) (sym (height_suc t number opened.tree high))
+      few_upto : (i : ℕ) → i ≤ (node_at t number).count
+          → length (answers_upto i) ≤ sum_by (λ k. k.size) (take i (child_nodes t (node_at t number)))
+      few_upto zero le = omega (arith, ap length (under_all-none accepts score t (height_at t number - 1)))
+      few_upto (suc i) le =
+          let lt : i < (node_at t number).count = omega arith in
+          let k = (node_at t number).first + i in
+          let more = rw (add-one i) at (ap length (upto_more i lt)) in
+          let long = length-append (answers_upto i) (answers_under t accepts score k) in
+          let sizes = sum_more verdict t v number opened.tree high (λ k. k.size) i lt in
+          let few = few_under accepts score t k (child t number opened.tree high i lt).tree in
+          let rest = few_upto i (omega arith) in
+          omega (arith, more, long, few, sizes, rest)
 
-          few_upto : (i : ℕ) → i ≤ (node_at t number).count
-              → length (answers_upto i) ≤ over_children (λ k. (node_at t k).size) (node_at t number) i
-          few_upto zero le = omega (arith, ap length upto_none)
-          few_upto (suc i) le =
-              let lt : i < (node_at t number).count = omega arith in
-              let k = (node_at t number).first + i in
-              let more = ap length (upto_more i lt) in
-              let long = length-append (answers_upto i) (answers_under t accepts score k) in
-              rw (← add-one i) (omega (arith, more, long, few_under k (child i lt).tree, few_upto i (omega arith)))
+      -- the answers of the first and a further child are no more than the node's size
+      room_for_child : (i : ℕ) → i < (node_at t number).count
+          → length (answers_upto i) + (node_at t ((node_at t number).first + i)).size ≤ (node_at t number).size
+      room_for_child i lt =
+          let sizes = sum_more verdict t v number opened.tree high (λ k. k.size) i lt in
+          let size = (inner_at t (height_at t number) (node_at t number) opened.tree high).1.size in
+          let part = sum_by-front (λ (k : Node). k.size) (suc i) (child_nodes t (node_at t number)) in
+          omega (arith, sizes, size, part, few_upto i (omega (arith, lt)))
 
-          -- the answers of the first and a further child are no more than the node's size
-          room_for_child : (i : ℕ) → i < (node_at t number).count
-              → length (answers_upto i) + (node_at t ((node_at t number).first + i)).size ≤ (node_at t number).size
-          room_for_child i lt =
-              let n = node_at t number in
-              let sizes : ℕ → ℕ = λ k. (node_at t k).size in
-              let all = all_sums sizes (λ k. k.size) (λ j h. refl) in
-              let size = (inner_at t (height_at t number) n opened.tree high).1.size in
-              omega (arith, all, size, few_upto i (omega (arith, lt)), over_one sizes n i n.count lt)
+      -- ---- the loop over them
 
-          -- ---- the loop over them
+      module _ (opens : Verdict → Bool) where
+        -- what walk_child requires of one
+        pub record CanVisit (begun asked room k : ℕ) (info : Info) : Type 0 where
+          pub node : IsCheckable t accepts k info
+          pub room_is : (node_at t k).size ≤ room
+          pub opened_few : begun + work_at_child opens one_node verdict t (verdict info) k ≤ 2 ^ 32
+          pub asked_few : asked + 1 + work_at_child opens its_children verdict t (verdict info) k ≤ 2 ^ 32
+          pub lower : (node_at t k).level < (node_at t number).level
 
-          module _ (opens : Verdict → Bool) where
-            -- what walk_child requires of one
-            pub record CanVisit (begun asked room k : ℕ) (info : Info) : Type 0 where
-              pub node : IsCheckable t accepts k info
-              pub room_is : (node_at t k).size ≤ room
-              pub opened_few : begun + work_at_child opens one_node verdict t (verdict info) k ≤ 2 ^ 32
-              pub asked_few : asked + 1 + work_at_child opens its_children verdict t (verdict info) k ≤ 2 ^ 32
-              pub lower : (node_at t k).level < (node_at t number).level
+        -- one more is part of the whole
+        within : (cost : Node → ℕ) (i : ℕ) → i < (node_at t number).count
+            → let k = (node_at t number).first + i in cost (node_at t number) + work_upto opens cost i
+            + work_at_child opens cost verdict t (verdict (info_of_node t v (node_at t k))) k
+            ≤ work_under opens cost verdict t v number
+        within cost i lt =
+            let part = sum_by-front (work_of_child opens cost verdict t v (height_at t number - 1)) (i + 1)
+            (child_nodes t (node_at t number)) in
+            let whole = ap (λ h. reached opens cost verdict t h v (node_at t number))
+            (height_suc t number opened.tree high) in
+            omega (arith, part, whole, work_more opens cost i lt)
 
-            one_child : (i begun asked room room' : ℕ) → i < (node_at t number).count
-                → room ≤ room' + length (answers_upto i) → (node_at t number).size ≤ room
-                → begun + work_under opens one_node verdict t v number ≤ 2 ^ 32
-                → asked + work_under opens its_children verdict t v number ≤ 2 ^ 32
-                → let n = node_at t number in let k = n.first + i in
-                CanVisit (begun + 1 + over_children (work_of_child opens one_node verdict t v) n i)
-                (asked + i + over_children (work_of_child opens its_children verdict t v) n i) room' k
-                (info_of_node t v (node_at t k))
-            one_child i begun asked room room' lt places fits opened_fits asked_fits =
-                let n = node_at t number in
-                let one = inner_work opens one_node in
-                let its = inner_work opens its_children in
-                record {
-                  node = checkable i lt;
-                  room_is = omega (arith, places, fits, room_for_child i lt);
-                  opened_few = omega (
-                    arith,
-                    opened_fits,
-                    one,
-                    over_one (work_of_child opens one_node verdict t v) n i n.count lt,
-                  );
-                  asked_few = omega (
-                    arith,
-                    asked_fits,
-                    its,
-                    lt,
-                    over_one (work_of_child opens its_children verdict t v) n i n.count lt,
-                  );
-                  lower = (child i lt).lower;
-                }
-
-            pub visit : (i k begun begun' asked asked' room room' : ℕ) (info : Info) → i < (node_at t number).count
-                → k ≡ (node_at t number).first + i → info ≡ info_of_node t v (node_at t k)
-                → begun' ≡ begun + 1 + over_children (work_of_child opens one_node verdict t v) (node_at t number) i
-                → asked' ≡ asked + i + over_children (work_of_child opens its_children verdict t v) (node_at t number) i
-                → room ≤ room' + length (answers_upto i) → (node_at t number).size ≤ room
-                → begun + work_under opens one_node verdict t v number ≤ 2 ^ 32
-                → asked + work_under opens its_children verdict t v number ≤ 2 ^ 32
-                → CanVisit begun' asked' room' k info
-            visit i k begun begun' asked asked' room room' info lt at is b a places fits opened_fits asked_fits =
-                subst (CanVisit begun' asked' room' k) (sym is)
-                (subst (λ m. CanVisit begun' asked' room' m (info_of_node t v (node_at t m))) (sym at)
-                (rw (b, a) (one_child i begun asked room room' lt places fits opened_fits asked_fits)))
+        pub visit : {i k : ℕ} {x : PlainNode} {info : Info} → IsAsked t number i k x v info
+            → (begun begun' asked asked' room room' : ℕ) → begun' ≡ begun + 1 + work_upto opens one_node i
+            → asked' ≡ asked + i + work_upto opens its_children i
+            → room ≤ room' + length (answers_upto i) → (node_at t number).size ≤ room
+            → begun + work_under opens one_node verdict t v number ≤ 2 ^ 32
+            → asked + work_under opens its_children verdict t v number ≤ 2 ^ 32
+            → CanVisit begun' asked' room' k info
+        visit {i} {k} {info = info} is begun begun' asked asked' room room' b a places fits opened_fits asked_fits =
+            let few = is.few in
+            subst (CanVisit begun' asked' room' k) (sym is.info_is)
+            (subst (λ m. CanVisit begun' asked' room' m (info_of_node t v (node_at t m))) (sym is.at) (record {
+              node = checkable i few;
+              room_is = omega (arith, places, fits, room_for_child i few);
+              opened_few = omega (arith, b, opened_fits, within one_node i few);
+              asked_few = omega (arith, a, asked_fits, few, within its_children i few);
+              lower = (child t number opened.tree high i few).lower;
+            }))

@@ -13,11 +13,12 @@ use Rattle.rt_search.specs.Items.{item_at, item_cmp, item_of}
 use Rattle.rt_search.specs.Joining.{join_answers, join_nodes}
 use Rattle.rt_search.specs.Progress.{held, size_at, work_at, work_left}
 use Rattle.rt_search.specs.Remaining.{height_at, waiting_node}
+use Rattle.rt_search.specs.Walking.{work_of_child}
 use Rattle.rt_search.specs.Work.{info_of_node, is_kept, reached}
 use Rattle.rt_search.specs.declared.item.Item.{Item}
 use Rattle.rt_search.specs.declared.item.Place.TheVariants as place
 use Rattle.rt_search.proofs.Answering.{take_more_at}
-use Rattle.rt_search.proofs.Children.{IsChild, all_children, child_of, height_suc, inner_at}
+use Rattle.rt_search.proofs.Children.{all_children, child, height_suc, inner_at}
 use Rattle.rt_search.proofs.Joined.{verdict_told}
 use Rattle.rt_search.proofs.OrderedLists.{length-put, sum_by-put}
 use Rattle.rt_search.proofs.Orders.{item_order}
@@ -74,15 +75,11 @@ module _ (verdict : Info → Verdict) (t : Packed) (v : Verdict) where
 
   module _ (number : ℕ) (tree : IsSubtree t (height_at t number) (node_at t number))
       (high : 2 ≤ (node_at t number).level) where
-    each : (i : ℕ) → i < (node_at t number).count
-        → IsChild t (node_at t number) (height_at t number - 1) i ((node_at t number).first + i)
-    each i lt = child_of t number i ((node_at t number).first + i) tree high lt refl
-
     pub sum_more : (f : Node → ℕ) (i : ℕ) → i < (node_at t number).count
         → sum_by f (take (suc i) (child_nodes t (node_at t number)))
         ≡ sum_by f (take i (child_nodes t (node_at t number))) + f (node_at t ((node_at t number).first + i))
     sum_more f i lt =
-        let k = each i lt in
+        let k = child t number tree high i lt in
         let m = node_at t ((node_at t number).first + i) in
         rw (← add-one i) (ap (sum_by f) (take_more_at (child_nodes t (node_at t number)) i m k.place k.is)
         ∙ sum_by-append f (take i (child_nodes t (node_at t number))) (m ∷ [])
@@ -119,7 +116,7 @@ module _ (verdict : Info → Verdict) (t : Packed) (v : Verdict) where
     module _ (opens : Verdict → Bool) (closed : (v : Verdict) → is_kept v.within ≡ false → opens v ≡ false) (cost : Node → ℕ) where
       -- what a child brings to the work
       abbrev brings : ℕ → Node → ℕ
-      brings h k = let w = verdict (info_of_node t v k) in cond (opens w) (reached opens cost verdict t h w k) 0
+      brings = work_of_child opens cost verdict t v
 
       abbrev under_verdict : ℕ → Verdict → ℕ
       under_verdict m w = cond (opens w) (reached opens cost verdict t (height_at t m) w (node_at t m)) 0
@@ -146,20 +143,12 @@ module _ (verdict : Info → Verdict) (t : Packed) (v : Verdict) where
           let lt : i < (node_at t number).count = omega arith in
           let m = (node_at t number).first + i in
           let w = verdict (info_of_node t v (node_at t m)) in
-          let k = each i lt in
+          let k = child t number tree high i lt in
           let adds = joined_adds (λ x. work_at opens cost verdict t x.score x.place) (is_kept w.within) (waiting w m)
           (join_nodes verdict t v (node_at t number) i xs) in
           let same : brings (height_at t m) (node_at t m) ≡ brings (height_at t number - 1) (node_at t m) =
           ap (λ h. brings h (node_at t m)) k.height in
-          omega (
-            arith,
-            adds,
-            brought m,
-            same,
-            work_upto xs i (omega arith),
-            sum_more
-                (brings (height_at t number - 1)) i lt,
-          )
+          omega (arith, adds, brought m, same, work_upto xs i (omega arith), sum_more (brings (height_at t number - 1)) i lt)
 
       pub work-join_nodes : (xs : List Item)
           → work_left opens cost verdict t

@@ -1,64 +1,38 @@
 -- What a full search finds: entries of score 0, those of other scores of one word, and the wide.
-use Rattle.std.proofs.Common.{◌≡◌, ◌<◌, ◌≤◌, ◌^◌, ℕ, ℤ, List, [], ◌∷◌, length}
-use Rattle.std.proofs.Common.{sym, ◌∙◌, ap, subst, arith}
+use Rattle.std.proofs.Common.{◌≡◌, ◌<◌, ◌≤◌, ◌^◌, ℕ, ℤ, false, List, ◌∷◌}
+use Rattle.std.proofs.Common.{sym, subst, arith}
 use Rattle.std.specs.List.{AllByRecursion}
+use Rattle.std.specs.Ordering.{is_gt}
 use Rattle.std.specs.declared.cmp.Reverse.{Reverse}
-use Rattle.std.proofs.lemmas.List.Sorted.{IsPermutation-refl}
 use Rattle.rt_search.specs.Items.{item_cmp}
-use Rattle.rt_search.specs.Kept.{IsAhead, IsEntry, IsFalling, IsLeast, entry_item, hits_in, in_order, zero_item}
+use Rattle.rt_search.specs.Kept.{IsAhead, IsEntry, entry_item, hits_in, in_order, zero_item}
 use Rattle.rt_search.specs.Remaining.{put_all}
 use Rattle.rt_search.specs.declared.item.Item.{Item}
-use Rattle.rt_search.proofs.Falling.{none_last}
+use Rattle.rt_search.proofs.Elements.{all_each, all_map}
 use Rattle.rt_search.proofs.Heaps.{all_entries, in_order-all}
 use Rattle.rt_search.proofs.OrderedLists.{put_all-all}
 use Rattle.rt_search.proofs.Orders.{item_order, lower_before}
-
-zero_entries : (ids : List (Reverse ℤ)) → AllByRecursion (λ r. IsEntry (zero_item r).place) ids
-zero_entries [] = tt
-zero_entries (r ∷ ids) = (tt, zero_entries ids)
 
 -- each is an entry
 pub hits_entries : (ids : List (Reverse ℤ)) (keys : List (Reverse ℕ)) (wide : List Item)
     → AllByRecursion (λ x. IsEntry x.place) wide → AllByRecursion (λ x. IsEntry x.place) (hits_in ids keys wide)
 hits_entries ids keys wide a =
     put_all-all item_cmp item_order (λ x. IsEntry x.place) (in_order zero_item ids) _
-    (in_order-all zero_item (λ x. IsEntry x.place) ids (zero_entries ids))
+    (in_order-all zero_item (λ x. IsEntry x.place) ids
+    (all_each (λ r. IsEntry (zero_item r).place) (λ r. tt) ids))
     (put_all-all item_cmp item_order (λ x. IsEntry x.place) (in_order entry_item keys) wide
     (in_order-all entry_item (λ x. IsEntry x.place) keys (all_entries keys)) a)
 
 -- ---- which are ahead
 
-zero_least : (x : Item) (ys : List Item) → 0 ≡ x.score → AllByRecursion (λ y. 0 < y.score) ys → IsLeast x ys
-zero_least x [] h a = tt
-zero_least x (y ∷ ys) h a =
-    let m = a.0 in
-    (lower_before x y (omega (arith, h, m)), zero_least x ys h a.1)
-
 -- those of score 0
 pub zero_ahead : (x : Item) (old new ys : List Item) → old ≡ x ∷ new → 0 ≡ x.score
     → AllByRecursion (λ y. 0 < y.score) ys → IsAhead old ys
-zero_ahead x old new ys e h a = subst (λ l. IsAhead l ys) (sym e) (zero_least x ys h a)
-
-wide_above : (xs : List Item) → AllByRecursion (λ x. 2 ^ 64 ≤ x.score) xs → AllByRecursion (λ x. 0 < x.score) xs
-wide_above [] a = tt
-wide_above (x ∷ xs) a = let m = a.0 in (omega (arith, m), wide_above xs a.1)
+zero_ahead x old new ys e h a = subst (λ l. IsAhead l ys) (sym e)
+    (all_map (λ y. 0 < y.score) (λ y. is_gt (item_cmp x y) ≡ false) (λ y m. lower_before x y (omega (arith, h, m))) ys a)
 
 -- as the others score more
 pub rest_above : (xs ys : List Item) → AllByRecursion (λ x. 0 < x.score) xs → AllByRecursion (λ x. 2 ^ 64 ≤ x.score) ys
     → AllByRecursion (λ x. 0 < x.score) (put_all item_cmp xs ys)
-rest_above xs ys a b = put_all-all item_cmp item_order (λ x. 0 < x.score) xs ys a (wide_above ys b)
-
--- ---- a list that is empty
-
-pub falling_none : {X : Type 0} (item : X → Item) (xs : List X) → length xs ≡ 0 → IsFalling item xs
-falling_none item [] n = tt
-falling_none item (x ∷ xs) n = absurd (omega (arith, n))
-
-pub none_in_order : {X : Type 0} (item : X → Item) (xs : List X) → length xs ≡ 0 → in_order item xs ≡ []
-none_in_order item xs n = none_last item xs xs (IsPermutation-refl xs) n
-
--- where there are no others
-pub wide_alone : (zeros keyed wide : List Item) → zeros ≡ [] → keyed ≡ []
-    → put_all item_cmp zeros (put_all item_cmp keyed wide) ≡ wide
-wide_alone zeros keyed wide z k =
-    ap (λ xs. put_all item_cmp xs (put_all item_cmp keyed wide)) z ∙ ap (λ xs. put_all item_cmp xs wide) k
+rest_above xs ys a b = put_all-all item_cmp item_order (λ x. 0 < x.score) xs ys a
+    (all_map (λ x. 2 ^ 64 ≤ x.score) (λ x. 0 < x.score) (λ x m. omega (arith, m)) ys b)

@@ -3,16 +3,17 @@ use Rattle.std.specs.Prelude.{◌≡◌, ◌<◌, ◌≤◌, ◌/◌, ◌%◌, �
 use Rattle.std.specs.Prelude.{Option, Some, None, List, [], ◌∷◌, length, map, vec_capacity}
 use Rattle.std.specs.BinaryHeap.{IsHeap, heap_capacity, heap_items, heap_len}
 use Rattle.std.specs.List.{AllByRecursion}
-use Rattle.std.specs.Ordering.{is_gt}
+use Rattle.std.specs.List.Sorted.{IsSorted}
+use Rattle.std.specs.Ordering.{int_cmp, is_gt}
 use Rattle.std.specs.declared.cmp.Ordering.{Ordering}
 use Rattle.std.specs.declared.cmp.Reverse.{Reverse}
 use Rattle.std.specs.declared.collections.binary_heap.BinaryHeap.{BinaryHeap}
 use Rattle.std.specs.declared.vec.Vec.{Vec}
 use Rattle.rt_tree.specs.Sorting.{put, sorted}
-use Rattle.rt_search.specs.Items.{Waiting, item_at, item_cmp}
-use Rattle.rt_search.specs.Pooling.{Pooled, keys_in}
+use Rattle.rt_search.specs.Answers.{Answer}
+use Rattle.rt_search.specs.Items.{Waiting, item_at, item_cmp, item_of}
+use Rattle.rt_search.specs.Pooling.{Pooled, key_cmp, keys_in}
 use Rattle.rt_search.specs.Remaining.{put_all}
-use Rattle.rt_search.specs.declared.item.FoundEntry.{FoundEntry}
 use Rattle.rt_search.specs.declared.item.Item.{Item}
 use Rattle.rt_search.specs.declared.item.Place.{Place}
 use Rattle.rt_search.specs.declared.item.Place.TheVariants.{Node, Entry}
@@ -47,12 +48,9 @@ node_or (Some n) other = Some (item_at n.score (Node n.node))
 abbrev pub taken_node : Option ScoredNode → Option Item
 taken_node node = node_or node None
 
-abbrev pub found_item : FoundEntry → Item
-found_item e = item_at e.score (Entry e.id)
-
-abbrev pub taken_entry : Option FoundEntry → Option Item
+abbrev pub taken_entry : Option Answer → Option Item
 taken_entry None = None
-taken_entry (Some e) = Some (found_item e)
+taken_entry (Some a) = Some (item_of a)
 
 abbrev pub taken_item : Taken → Option Item
 taken_item t = node_or t.node (taken_entry t.entry)
@@ -90,11 +88,6 @@ IsTakenOut (Some x) old new = (old ≡ x ∷ new) × IsLeast x new
 abbrev pub IsFirstScore : ℕ → List Item → Type 0
 IsFirstScore s [] = ⊥
 IsFirstScore s (x ∷ xs) = (s ≡ x.score) × AllByRecursion (λ y. s ≤ y.score) xs
-
--- x is the first, and comes after none of the others
-abbrev pub IsHead : Item → List Item → Type 0
-IsHead x [] = ⊥
-IsHead x (y ∷ ys) = (x ≡ y) × IsLeast x ys
 
 -- each comes after none of those behind it
 abbrev pub IsRising : List Item → Type 0
@@ -139,24 +132,21 @@ pub record IsKept {X A : Type 0} (cmp : X → X → Ordering) (heap : BinaryHeap
   pub counted : heap_len heap ≡ length (heap_items heap)
   pub few : length (heap_items heap) ≤ capacity
 
--- ---- in a list
-
--- none comes after one that stands before it
-abbrev pub IsFalling : {X : Type 0} → (X → Item) → List X → Type 0
-IsFalling item [] = Unit {0}
-IsFalling item (x ∷ xs) = AllByRecursion (λ y. is_gt (item_cmp (item y) (item x)) ≡ false) xs × IsFalling item xs
-
 -- ---- what a full search finds
 
 -- ids of entries of score 0, keys of those of other scores of one word, and the wide
 abbrev pub hits_in : (ids : List (Reverse ℤ)) → (keys : List (Reverse ℕ)) → (wide : List Item) → List Item
 hits_in ids keys wide = put_all item_cmp (in_order zero_item ids) (put_all item_cmp (in_order entry_item keys) wide)
 
--- in order, or not; each has room for so many, and they hold together no more
+-- the lowest id is the last of a sorted list
+abbrev pub id_cmp : Reverse ℤ → Reverse ℤ → Ordering
+id_cmp i j = int_cmp j.0 i.0
+
+-- sorted, or not; each has room for so many, and they hold together no more
 pub record HasHits {A B : Type 0} (ids : Vec (Reverse ℤ) A) (keys : Vec (Reverse ℕ) B) (wide : Waiting)
     (is_sorted : Bool) (capacity : ℕ) : Type 0 where
-  pub ids_fall : is_sorted ≡ true → IsFalling zero_item ids.items
-  pub keys_fall : is_sorted ≡ true → IsFalling entry_item keys.items
+  pub ids_sorted : is_sorted ≡ true → IsSorted id_cmp ids.items
+  pub keys_sorted : is_sorted ≡ true → IsSorted key_cmp keys.items
   pub ids_room : capacity ≤ vec_capacity ids
   pub keys_room : capacity ≤ vec_capacity keys
   pub wide_room : wide.capacity ≡ capacity

@@ -1,12 +1,13 @@
 -- What has to wait where a limit is known. Nothing that a public call promises speaks of this.
 use Rattle.std.specs.Prelude.{◌≡◌, ◌+◌, ◌-◌, ◌≤◌, ℕ, zero, suc, if◌then◌else◌, Option, Some, None, List, [], ◌∷◌}
-use Rattle.std.specs.Prelude.{length, vec_capacity}
+use Rattle.std.specs.Prelude.{drop, length, take, vec_capacity}
+use Rattle.std.specs.List.{AllByRecursion}
 use Rattle.std.specs.Ordering.{is_gt}
 use Rattle.std.specs.declared.cmp.Reverse.{Reverse}
 use Rattle.std.specs.declared.vec.Vec.{Vec}
 use Rattle.rt_tree.specs.Sorting.{put}
 use Rattle.rt_search.specs.Items.{Limited, Waiting, item_cmp}
-use Rattle.rt_search.specs.Kept.{IsFalling, entry_item, in_order}
+use Rattle.rt_search.specs.Kept.{entry_item, in_order}
 use Rattle.rt_search.specs.Pooling.{keys_in}
 use Rattle.rt_search.specs.Pooling as pooling
 use Rattle.rt_search.specs.declared.entries.Keeping.{Keeping}
@@ -77,11 +78,20 @@ pub record Chosen : Type 0 where
   pub items : List Item
   pub wanted : ℕ
 
--- keys in order, no more than are wanted, and there is room for as many as can be wanted
-pub record IsChosen {A : Type 0} (keys : Vec (Reverse ℕ) A) (wanted : ℕ) : Type 0 where
-  pub falling : IsFalling entry_item keys.items
-  pub few : length keys.items ≤ wanted
-  pub low : wanted ≤ 128
+-- each key is at most those behind it
+abbrev pub IsClimbing : List (Reverse ℕ) → Type 0
+IsClimbing [] = Unit {0}
+IsClimbing (k ∷ ks) = AllByRecursion (λ j. k.0 ≤ j.0) ks × IsClimbing ks
+
+abbrev pub but_last : List (Reverse ℕ) → List (Reverse ℕ)
+but_last ks = take (length ks - 1) ks
+
+-- those that weren't taken out climb, all are no more than were wanted, and there is room for as many as can be wanted
+pub record IsChosen {A : Type 0} (keys : Vec (Reverse ℕ) A) (taken limit : ℕ) : Type 0 where
+  pub climbing : IsClimbing (drop taken keys.items)
+  pub past : taken ≤ length keys.items
+  pub few : length keys.items ≤ limit
+  pub low : limit ≤ 128
   pub room : 128 ≤ vec_capacity keys
 
 -- ---- in one of two ways

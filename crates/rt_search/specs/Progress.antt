@@ -47,13 +47,17 @@ held t = sum_by (λ x. size_at t x.place)
 
 -- ---- a search
 
--- the work done and the work to come are the work of all, without a bound and up to the score of each answer to come
+-- the work done and the work to come, up to a bound, are the work of all
+abbrev pub AddsUp : (verdict : Info → Verdict) → (cost : Node → ℕ) → Packed → (done : ℕ) → List Item
+    → (bound : Option ℕ) → Type 0
+AddsUp verdict cost t done items bound =
+    done + work_left (is_reached bound) cost verdict t items ≡ reached_from_root (is_reached bound) cost verdict t
+
+-- without a bound, and up to the score of each answer to come
 pub record IsOnCourse (accepts : Extent → Bool) (score : Extent → ℕ) (verdict : Info → Verdict) (cost : Node → ℕ)
     (t : Packed) (done : ℕ) (items : List Item) : Type 0 where
-  pub in_all : done + work_left (is_reached None) cost verdict t items ≡ reached_from_root (is_reached None) cost verdict t
-  pub at_each : AllByRecursion
-      (λ a. done + work_left (is_reached (Some a.1)) cost verdict t items
-      ≡ reached_from_root (is_reached (Some a.1)) cost verdict t) (remaining t accepts score items)
+  pub in_all : AddsUp verdict cost t done items None
+  pub at_each : AllByRecursion (λ a. AddsUp verdict cost t done items (Some a.1)) (remaining t accepts score items)
 
 -- what holds between two answers
 pub record IsSearching (accepts : Extent → Bool) (score : Extent → ℕ) (verdict : Info → Verdict) (t : Packed)

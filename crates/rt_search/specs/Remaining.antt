@@ -6,7 +6,7 @@ use Rattle.rt_geo.specs.Laws.{AllAccepted, Extent, IsBoxInside}
 use Rattle.rt_geo.specs.declared.geometry.Verdict.{Verdict}
 use Rattle.rt_geo.specs.declared.geometry.Within.{Within}
 use Rattle.rt_geo.specs.declared.geometry.Within.TheVariants.{Not, Partly, Fully}
-use Rattle.rt_tree.specs.Packed.{Packed, IsLeafNode, IsSound, IsSubtree, entries_under, extent_of_node, node_at, root_of}
+use Rattle.rt_tree.specs.Packed.{Packed, IsLeafNode, IsSound, IsSubtree, entries_under, extent_of_node, node_at}
 use Rattle.rt_tree.specs.declared.tree.Node.{Node}
 use Rattle.rt_tree.specs.Sorting.{put}
 use Rattle.rt_search.specs.Answers.{Answer, answer_cmp, scored}
@@ -40,11 +40,6 @@ pub record IsBelow (accepts : Extent → Bool) (score : Extent → ℕ) (extent 
   pub full : v.within ≡ Fully → AllAccepted accepts extent
   pub least : (b : Extent) → IsBoxInside b extent → accepts b ≡ true → v.score ≤ score b
 
--- a sound tree, whose root is on this level
-pub record IsRooted (t : Packed) (top : ℕ) : Type 0 where
-  pub sound : IsSound t
-  pub top_is : top ≡ (root_of t).level
-
 -- what holds of a node that may be opened under a verdict
 pub record IsOpenable (t : Packed) (accepts : Extent → Bool) (score : Extent → ℕ) (number : ℕ) (v : Verdict) : Type 0
   where
@@ -53,12 +48,12 @@ pub record IsOpenable (t : Packed) (accepts : Extent → Bool) (score : Extent �
     pub low : (node_at t number).level ≤ 24
     pub below : IsBelow accepts score (extent_of_node (node_at t number)) v
 
--- the same of a node of level 1, by itself, in a tree whose root is on this level
-pub record IsOpenableLeaf (t : Packed) (top : ℕ) (accepts : Extent → Bool) (score : Extent → ℕ) (n : Node) (v : Verdict)
-    : Type 0 where
-  pub tree : IsRooted t top
-  pub node : IsLeafNode t n
-  pub below : IsBelow accepts score (extent_of_node n) v
+-- the same of a node of level 1, by itself
+pub record IsOpenableLeaf (t : Packed) (accepts : Extent → Bool) (score : Extent → ℕ) (n : Node) (v : Verdict) : Type 0
+  where
+    pub sound : IsSound t
+    pub node : IsLeafNode t n
+    pub below : IsBelow accepts score (extent_of_node n) v
 
 -- what holds of an item
 abbrev pub IsSoundAt : Packed → (accepts : Extent → Bool) → (score : Extent → ℕ) → ℕ → Place → Type 0

@@ -1,5 +1,5 @@
 -- What a walk over the nodes leaves with its visitor. Nothing that a public call promises speaks of this.
-use Rattle.std.specs.Prelude.{◌≡◌, ◌+◌, ◌-◌, ◌<◌, ◌≤◌, ◌==◌, ℕ, ℤ, zero, suc, Bool, if◌then◌else◌, List, [], ◌∷◌}
+use Rattle.std.specs.Prelude.{◌≡◌, ◌+◌, ◌-◌, ◌<◌, ◌≤◌, ◌==◌, ℕ, ℤ, Bool, if◌then◌else◌, List, [], ◌∷◌}
 use Rattle.std.specs.Prelude.{length, take}
 use Rattle.rt_geo.specs.Laws.{Extent, IsQuestion, extent_of}
 use Rattle.rt_geo.specs.declared.geometry.Info.{Info}
@@ -61,16 +61,12 @@ abbrev pub work_at_child : (opens : Verdict → Bool) → (cost : Node → ℕ) 
     → Verdict → (number : ℕ) → ℕ
 work_at_child opens cost verdict t v number = if opens v then work_under opens cost verdict t v number else 0
 
--- the sum over the first so many children of a node above level 1, by their numbers
-abbrev pub over_children : (ℕ → ℕ) → Node → (so_many : ℕ) → ℕ
-over_children f n zero = 0
-over_children f n (suc i) = over_children f n i + f (n.first + i)
-
--- what the work under each costs
+-- what it costs under a child of a node that has this verdict, with so many levels of nodes below the child
 abbrev pub work_of_child : (opens : Verdict → Bool) → (cost : Node → ℕ) → (verdict : Info → Verdict) → Packed
-    → Verdict → (number : ℕ) → ℕ
-work_of_child opens cost verdict t of_node number =
-    work_at_child opens cost verdict t (verdict (info_of_node t of_node (node_at t number))) number
+    → Verdict → (below : ℕ) → Node → ℕ
+work_of_child opens cost verdict t of_node below child =
+    let of_child = verdict (info_of_node t of_node child) in
+    if opens of_child then reached opens cost verdict t below of_child child else 0
 
 -- what holds of a node that may be asked about
 pub record IsCheckable (t : Packed) (accepts : Extent → Bool) (number : ℕ) (info : Info) : Type 0 where

@@ -6,7 +6,7 @@ ghost use Rattle.rt_search.specs.Work.{asked_by_count, opened_by_count};
 
 use crate::counts::Count;
 use crate::frontier::Frontier;
-use crate::walk::{Collector, Parent, Visitor, visit_entries, walk};
+use crate::walk::{Collector, Visitor, visit_entries, walk};
 use rt_geo::{Counted, Geometry, Verdict, Within};
 use rt_tree::{Node, Tree};
 
@@ -56,7 +56,7 @@ impl Visitor for Tally {
         tree: &Tree,
         counted: &mut Counted<'_, G>,
         node: Node,
-        parent: Parent,
+        parent: Verdict,
     ) {
         let mut tally = *self;
         visit_entries(tree, &mut tally, counted, node, parent);

@@ -10,7 +10,7 @@ ghost use Rattle.rt_search.specs.Remaining.{remaining};
 ghost use Rattle.rt_search.specs.Work.{HasWorked};
 
 use crate::hits::Hits;
-use crate::item::{FoundEntry, Taken, WaitingNode};
+use crate::item::{Taken, WaitingNode};
 use crate::queue::Queue;
 use crate::walk::{Collector, Visitor, is_kept, walk};
 use rt_geo::{Counted, Geometry, Verdict};
@@ -139,7 +139,7 @@ impl Frontier {
     }
 
     #[inline(always)]
-    pub(crate) fn take_hit(&mut self) -> Option<FoundEntry>
+    pub(crate) fn take_hit(&mut self) -> Option<(i64, u128)>
         ensures taken { IsTakenOut (taken_entry result) self.old.hits self.new.hits }
         ensures entries { AllEntries self.old.hits }
         ensures capacity { self.new.capacity ≡ self.old.capacity }

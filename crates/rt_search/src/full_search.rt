@@ -81,8 +81,7 @@ impl<'a, G: Geometry> FullSearch<'a, G> {
         ensures geometry { self.new.geometry ≡ self.old.geometry }
         ensures capacity { self.new.capacity ≡ self.old.capacity }
     {
-        let entry = self.frontier.take_hit()?;
-        Some((entry.id, entry.score))
+        self.frontier.take_hit()
     }
 
     /// The frontier, for the next search, and the geometry with the number of its checks.

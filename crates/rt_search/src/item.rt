@@ -1,8 +1,7 @@
 //! What waits in a frontier.
 
-ghost use Rattle.std.specs.Prelude.{◌≡◌, MatchOption, false, true, ℕ, Option, if◌then◌else◌};
+ghost use Rattle.std.specs.Prelude.{◌≡◌, MatchOption, false, true};
 ghost use Rattle.rt_search.specs.Kept.{taken_item};
-ghost use Rattle.rt_search.specs.Limits.{one_less, wanted_after};
 
 use rt_tree::NodeNo;
 
@@ -43,56 +42,17 @@ pub struct ScoredNode {
     pub node: WaitingNode,
 }
 
-/// An entry that was found.
-#[derive(Clone, Copy)]
-pub struct FoundEntry {
-    /// Its score.
-    pub score: u128,
-    /// Its id.
-    pub id: i64,
-}
-
 /// What was taken out of a frontier: a node, or else an entry, or else nothing, as nothing waited. The two stand side
 /// by side, and not in an enum, so that each stays in registers.
 #[derive(Clone, Copy)]
 pub struct Taken {
     /// The node.
     pub node: Option<ScoredNode>,
-    /// The entry, where there is no node.
-    pub entry: Option<FoundEntry>,
+    /// The id and the score of the entry, where there is no node.
+    pub entry: Option<(i64, u128)>,
 }
 
 impl Taken {
-    /// This item, or nothing.
-    pub fn of(item: Option<Item>) -> Taken
-        ensures { taken_item result ≡ item }
-    {
-        let Some(item) = item else {
-            return Taken {
-                node: None,
-                entry: None,
-            };
-        };
-        let score = item.score;
-        match item.place {
-            Place::Node(node) => Taken {
-                node: Some(ScoredNode { score, node }),
-                entry: None,
-            },
-            Place::Entry(id) => Taken {
-                node: None,
-                entry: Some(FoundEntry { score, id }),
-            },
-        }
-    }
-
-    /// Whether it is an entry.
-    pub fn is_entry(self) -> bool
-        ensures { (w : Option ℕ) → wanted_after (taken_item self) w ≡ (if result then one_less w else w) }
-    {
-        self.node.is_none() && self.entry.is_some()
-    }
-
     /// Whether anything was taken out.
     #[inline(always)]
     pub fn is_any(self) -> bool

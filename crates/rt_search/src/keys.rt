@@ -5,10 +5,10 @@
 
 ghost use Rattle.std.specs.Prelude.{◌≡◌, ◌<◌, ◌/◌, ◌^◌};
 ghost use Rattle.rt_search.specs.declared.item.Place.TheVariants as place;
-ghost use Rattle.rt_search.specs.Items.{item_at};
-ghost use Rattle.rt_search.specs.Kept.{entry_item, found_item, lesser, node_item};
+ghost use Rattle.rt_search.specs.Items.{item_at, item_of};
+ghost use Rattle.rt_search.specs.Kept.{entry_item, lesser, node_item};
 
-use crate::item::{FoundEntry, ScoredNode, WaitingNode};
+use crate::item::{ScoredNode, WaitingNode};
 use rt_tree::NodeNo;
 
 // How many tails there are, and so how far a key rises from one score to the next.
@@ -34,16 +34,14 @@ pub fn entry_key(score: u64, id: i64) -> u128
     u128::from(score) * TAILS + u128::from(above_least)
 }
 
-/// The entry of a key.
+/// The id and the score of an entry's key.
 #[inline(always)]
-pub fn entry_of(key: u128) -> FoundEntry
-    ensures item { found_item result ≡ entry_item (record { 0 = key }) }
-    ensures low { result.score < 2 ^ 64 }
+pub fn entry_of(key: u128) -> (i64, u128)
+    ensures item { item_of result ≡ entry_item (record { 0 = key }) }
+    ensures low { result.1 < 2 ^ 64 }
 {
-    FoundEntry {
-        score: key / TAILS,
-        id: ((key % TAILS) as i128 + i128::from(i64::MIN)) as i64,
-    }
+    let id = ((key % TAILS) as i128 + i128::from(i64::MIN)) as i64;
+    (id, key / TAILS)
 }
 
 /// A node's key: its tail is its number, and below it 1 where all that lies under it is accepted, otherwise 0.

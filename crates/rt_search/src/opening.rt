@@ -3,33 +3,31 @@
 
 ghost use Rattle.std.specs.Prelude.{◌≡◌, ◌+◌, ◌-◌, ◌<◌, ◌≤◌, ◌^◌, [], length};
 ghost use Rattle.rt_geo.specs.Laws.{IsHonest};
-ghost use Rattle.rt_tree.specs.Packed.{IsSound, node_at, root_of};
+ghost use Rattle.rt_tree.specs.Packed.{IsSound, node_at};
 ghost use Rattle.rt_search.specs.Items.{limited};
 ghost use Rattle.rt_search.specs.Joining.{join_node, root_items};
 ghost use Rattle.rt_search.specs.Limits.{KeepsEnough};
 ghost use Rattle.rt_search.specs.Progress.{join_children};
-ghost use Rattle.rt_search.specs.Remaining.{IsOpenable, IsRooted, verdict_on};
+ghost use Rattle.rt_search.specs.Remaining.{IsOpenable, verdict_on};
 
 use crate::frontier::Frontier;
 use crate::item::{ScoredNode, WaitingNode};
-use crate::walk::{Parent, visit_entries};
-use rt_geo::{Counted, Geometry, Info, Within};
+use crate::walk::{info_under, visit_entries};
+use rt_geo::{Counted, Geometry, Info, Verdict, Within};
 use rt_tree::{NodeNo, Tree};
 
-/// Puts the root into an empty frontier, if there is one, and returns its level.
-pub(crate) fn put_root(tree: &Tree, frontier: &mut Frontier) -> u8
+/// Puts the root into an empty frontier, if there is one.
+pub(crate) fn put_root(tree: &Tree, frontier: &mut Frontier)
     requires empty { frontier.old.items ≡ [] }
     requires capacity { length tree.now.entries ≤ frontier.old.capacity }
     ensures sound { IsSound tree.now }
     ensures root { KeepsEnough (root_items tree.now) (limited frontier.old) (limited frontier.new) }
-    ensures top { result ≡ (root_of tree.now).level }
 {
     let Some(number) = tree.root() else {
-        return 0;
+        return;
     };
     let is_full = false;
     frontier.put_node(0, WaitingNode { number, is_full });
-    tree.node(number).level
 }
 
 /// Opens a node that was taken out.
@@ -37,10 +35,9 @@ pub(crate) fn open_node<G: Geometry>(
     tree: &Tree,
     frontier: &mut Frontier,
     counted: &mut Counted<'_, G>,
-    top: u8,
     taken: ScoredNode,
 )
-    requires tree { IsRooted tree.now top }
+    requires sound { IsSound tree.now }
     requires node { let g = counted.old.geometry in
         IsOpenable tree.now (G.accepts g) (G.score g) taken.node.number.number (verdict_on taken.score taken.node) }
     requires room { length frontier.old.items + (node_at tree.now taken.node.number.number).count
@@ -53,7 +50,7 @@ pub(crate) fn open_node<G: Geometry>(
     ensures geometry { counted.new.geometry ≡ counted.old.geometry }
 {
     let node = tree.node(taken.node.number);
-    let parent = Parent::new(top, taken.score, taken.node);
+    let parent = verdict_on(taken.score, taken.node);
     if node.level == 1 {
         visit_entries(tree, frontier, counted, node, parent);
         return;
@@ -65,9 +62,21 @@ pub(crate) fn open_node<G: Geometry>(
     for (i, child) in children.iter().enumerate() {
         let number = NodeNo::new(first + i as u32);
         let whole = tree.node(number);
-        let info = parent.info(child.bounds, whole.layers, level);
+        let info = info_under(tree, parent, child.bounds, whole.layers, level);
         ask_node(frontier, counted, number, &info);
     }
+}
+
+// What is known of a node that waited with a score.
+fn verdict_on(score: u128, node: WaitingNode) -> Verdict
+    ensures { result ≡ verdict_on score node }
+{
+    let within = if node.is_full {
+        Within::Fully
+    } else {
+        Within::Partly
+    };
+    Verdict { within, score }
 }
 
 // Asks about a node, and puts it in where it may hold answers.

@@ -201,9 +201,23 @@ fn take_wide(entries: &mut Entries, wide: &mut Wide) -> Taken
     ensures entries_capacity { entries.new.capacity ≡ entries.old.capacity }
     ensures wide_capacity { wide.new.capacity ≡ wide.old.capacity }
 {
-    let taken = Taken::of(wide.take());
-    if taken.is_entry() {
-        entries.want_one_less();
+    let Some(Item { score, place }) = wide.take() else {
+        return Taken {
+            node: None,
+            entry: None,
+        };
+    };
+    match place {
+        Place::Node(node) => Taken {
+            node: Some(ScoredNode { score, node }),
+            entry: None,
+        },
+        Place::Entry(id) => {
+            entries.want_one_less();
+            Taken {
+                node: None,
+                entry: Some((id, score)),
+            }
+        }
     }
-    taken
 }

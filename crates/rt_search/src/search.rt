@@ -2,7 +2,6 @@
 
 ghost use Rattle.std.specs.Prelude.{◌≡◌, ◌≢◌, ◌+◌, ◌<◌, ◌≤◌, [], ◌∷◌, List, None, Some, IfNone, IfSome, MatchOption};
 ghost use Rattle.std.specs.Prelude.{length};
-ghost use Rattle.rt_tree.specs.Packed.{root_of};
 ghost use Rattle.rt_search.specs.Answers.{Answer, answers};
 ghost use Rattle.rt_search.specs.Limits.{one_less};
 ghost use Rattle.rt_search.specs.Progress.{IsFound, IsOver, IsUnderWay};
@@ -21,9 +20,7 @@ fn pull<G: Geometry>(
     frontier: &mut Frontier,
     counted: &mut Counted<'_, G>,
     opened: &mut u64,
-    top: u8,
 ) -> Option<(i64, u128)>
-    requires top { top ≡ (root_of tree.now).level }
     requires more { frontier.old.wanted ≢ Some 0 }
     requires state { let g = counted.old.geometry in (to_come : List Answer) ×
         IsUnderWay (G.accepts g) (G.score g) (G.verdict g) tree.now opened.old counted.old.asked
@@ -43,11 +40,10 @@ fn pull<G: Geometry>(
     loop {
         let taken = frontier.take();
         let Some(node) = taken.node else {
-            let entry = taken.entry?;
-            return Some((entry.id, entry.score));
+            return taken.entry;
         };
         *opened += 1;
-        open_node(tree, frontier, counted, top, node);
+        open_node(tree, frontier, counted, node);
     }
 }
 
@@ -62,12 +58,10 @@ pub struct Search<'a, G: Geometry> {
     limit: Option<u64>,
     given: u64,
     opened: u64,
-    top: u8,
 }
 
 impl<'a, G: Geometry> Model for Search<'a, G> {
-    ghost use Rattle.std.specs.Prelude.{◌≡◌, drop};
-    ghost use Rattle.rt_tree.specs.Packed.{root_of};
+    ghost use Rattle.std.specs.Prelude.{drop};
     ghost use Rattle.rt_search.specs.Answers.{answers};
     ghost use Rattle.rt_search.specs.Progress.{IsGiving};
     ghost use Rattle.rt_search.specs.Searching.{Searching};
@@ -87,7 +81,7 @@ impl<'a, G: Geometry> Model for Search<'a, G> {
 
     ghost invariant = { λ s. let g = s.counted.geometry in
         IsGiving (G.accepts g) (G.score g) (G.verdict g) s.tree.now s.limit s.given s.opened s.counted.asked
-        s.frontier.capacity s.frontier.wanted s.frontier.items × (s.top ≡ (root_of s.tree.now).level) };
+        s.frontier.capacity s.frontier.wanted s.frontier.items };
 }
 
 impl<'a, G: Geometry> Search<'a, G> {
@@ -114,7 +108,7 @@ impl<'a, G: Geometry> Search<'a, G> {
     {
         let mut frontier = frontier;
         frontier.clear(limit);
-        let top = put_root(tree, &mut frontier);
+        put_root(tree, &mut frontier);
         Search {
             tree,
             frontier,
@@ -122,7 +116,6 @@ impl<'a, G: Geometry> Search<'a, G> {
             limit,
             given: 0,
             opened: 0,
-            top,
         }
     }
 
@@ -165,7 +158,6 @@ impl<'a, G: Geometry> Search<'a, G> {
             limit,
             given: 0,
             opened,
-            top: tree.top(),
         }
     }
 
@@ -198,7 +190,6 @@ impl<'a, G: Geometry> Search<'a, G> {
             &mut self.frontier,
             &mut self.counted,
             &mut self.opened,
-            self.top,
         )?;
         self.given += 1;
         Some(answer)
@@ -224,7 +215,6 @@ impl<'a, G: Geometry> Search<'a, G> {
             limit: _,
             given: _,
             opened: _,
-            top: _,
         } = self;
         (frontier, counted)
     }

@@ -7,14 +7,13 @@
 ghost use Rattle.std.specs.Prelude.{◌≡◌, ◌+◌, ◌-◌, ◌<◌, ◌≤◌, ◌^◌, ℕ, Bool, List, [], if◌then◌else◌, length};
 ghost use Rattle.rt_geo.specs.Laws.{Extent};
 ghost use Rattle.rt_geo.specs.declared.geometry.Verdict.{Verdict};
-ghost use Rattle.rt_tree.specs.Packed.{IsSound, node_at};
+ghost use Rattle.rt_tree.specs.Packed.{IsSound, node_at, root_of};
 ghost use Rattle.rt_search.specs.Answers.{Answer};
-ghost use Rattle.rt_search.specs.Remaining.{IsOpenable, IsOpenableLeaf, IsRooted, verdict_on};
+ghost use Rattle.rt_search.specs.Remaining.{IsOpenable, IsOpenableLeaf};
 ghost use Rattle.rt_search.specs.Walking.{HasTaken, IsCheckable, IsFilling, IsKnown, answer_if, answers_among};
 ghost use Rattle.rt_search.specs.Walking.{answers_in_tree, answers_under, work_at_child, work_under};
 ghost use Rattle.rt_search.specs.Work.{info_under, is_kept, its_children, one_node, reached_from_root};
 
-use crate::item::WaitingNode;
 use rt_geo::{Bounds, Counted, Geometry, Info, Layers, Verdict, Within};
 use rt_tree::{Node, NodeNo, Tree};
 
@@ -54,10 +53,10 @@ pub(crate) trait Visitor: Collector {
         tree: &Tree,
         counted: &mut Counted<'_, G>,
         node: Node,
-        parent: Parent,
+        parent: Verdict,
     )
         requires leaf { let g = counted.old.geometry in
-            IsOpenableLeaf tree.now parent.top (G.accepts g) (G.score g) node parent.verdict }
+            IsOpenableLeaf tree.now (G.accepts g) (G.score g) node parent }
         requires room { node.count ≤ Self.room self.old }
         requires asked { counted.old.asked + node.count ≤ 2 ^ 64 - 1 }
         ensures taken { let g = counted.old.geometry in
@@ -69,45 +68,25 @@ pub(crate) trait Visitor: Collector {
     }
 }
 
-/// What a question about a child says of its parent.
-#[derive(Clone, Copy)]
-pub(crate) struct Parent {
-    /// The level of the root.
-    pub top: u8,
-    /// The verdict on the node.
-    pub verdict: Verdict,
-}
-
-impl Parent {
-    /// A node that waited with a score.
-    pub fn new(top: u8, score: u128, node: WaitingNode) -> Parent
-        ensures top { result.top ≡ top }
-        ensures verdict { result.verdict ≡ verdict_on score node }
-    {
-        let within = if node.is_full {
-            Within::Fully
-        } else {
-            Within::Partly
-        };
-        Parent {
-            top,
-            verdict: Verdict { within, score },
-        }
-    }
-
-    /// What is asked about a child.
-    pub fn info(&self, bounds: Bounds, layers: Layers, level: u8) -> Info
-        ensures { let extent : Extent = record { bounds = bounds; layers = layers } in
-            result ≡ info_under self.now.top self.now.verdict extent level }
-    {
-        Info {
-            bounds,
-            layers,
-            level,
-            top: self.top,
-            parent_within: self.verdict.within,
-            parent_score: self.verdict.score,
-        }
+/// What is asked about a child of a node that has this verdict.
+#[inline(always)]
+pub(crate) fn info_under(
+    tree: &Tree,
+    parent: Verdict,
+    bounds: Bounds,
+    layers: Layers,
+    level: u8,
+) -> Info
+    ensures { let extent : Extent = record { bounds = bounds; layers = layers } in
+        result ≡ info_under (root_of tree.now).level parent extent level }
+{
+    Info {
+        bounds,
+        layers,
+        level,
+        top: tree.top(),
+        parent_within: parent.within,
+        parent_score: parent.score,
     }
 }
 
@@ -130,10 +109,10 @@ pub(crate) fn visit_entries<C: Collector, G: Geometry>(
     collector: &mut C,
     counted: &mut Counted<'_, G>,
     node: Node,
-    parent: Parent,
+    parent: Verdict,
 )
     requires leaf { let g = counted.old.geometry in
-        IsOpenableLeaf tree.now parent.top (G.accepts g) (G.score g) node parent.verdict }
+        IsOpenableLeaf tree.now (G.accepts g) (G.score g) node parent }
     requires room { node.count ≤ C.room collector.old }
     requires asked { counted.old.asked + node.count ≤ 2 ^ 64 - 1 }
     ensures taken { let g = counted.old.geometry in
@@ -145,7 +124,7 @@ pub(crate) fn visit_entries<C: Collector, G: Geometry>(
     let entries = tree.child_entries(node);
     for (i, entry) in entries.iter().enumerate() {
         let layers = tree.layers_at(first + i as u32);
-        let info = parent.info(entry.bounds, layers, 0);
+        let info = info_under(tree, parent, entry.bounds, layers, 0);
         let verdict = counted.check(&info);
         collector.visit_entry(is_kept(verdict.within), verdict.score, entry.id);
     }
@@ -171,8 +150,10 @@ pub(crate) fn walk<V: Visitor, G: Geometry>(
     let Some(number) = tree.root() else {
         return opened;
     };
-    let is_full = false;
-    let root = Parent::new(tree.node(number).level, 0, WaitingNode { number, is_full });
+    let root = Verdict {
+        within: Within::Partly,
+        score: 0,
+    };
     walk_under(tree, visitor, counted, &mut opened, number, root);
     opened
 }
@@ -185,22 +166,22 @@ fn walk_under<V: Visitor, G: Geometry>(
     counted: &mut Counted<'_, G>,
     opened: &mut u64,
     number: NodeNo,
-    parent: Parent,
+    parent: Verdict,
 )
-    requires tree { IsRooted tree.now parent.top }
+    requires sound { IsSound tree.now }
     requires node { let g = counted.old.geometry in
-        IsOpenable tree.now (G.accepts g) (G.score g) number.number parent.verdict }
+        IsOpenable tree.now (G.accepts g) (G.score g) number.number parent }
     requires room { (node_at tree.now number.number).size ≤ V.room visitor.old }
     requires opened { opened.old
-        + work_under V.opens one_node (G.verdict counted.old.geometry) tree.now parent.verdict number.number ≤ 2 ^ 32 }
+        + work_under V.opens one_node (G.verdict counted.old.geometry) tree.now parent number.number ≤ 2 ^ 32 }
     requires asked { counted.old.asked
-        + work_under V.opens its_children (G.verdict counted.old.geometry) tree.now parent.verdict number.number ≤ 2 ^ 32 }
+        + work_under V.opens its_children (G.verdict counted.old.geometry) tree.now parent number.number ≤ 2 ^ 32 }
     ensures taken { let g = counted.old.geometry in
         HasTaken V.takes visitor.old (answers_under tree.now (G.accepts g) (G.score g) number.number) visitor.new }
     ensures opened { opened.new ≡ opened.old
-        + work_under V.opens one_node (G.verdict counted.old.geometry) tree.now parent.verdict number.number }
+        + work_under V.opens one_node (G.verdict counted.old.geometry) tree.now parent number.number }
     ensures asked { counted.new.asked ≡ counted.old.asked
-        + work_under V.opens its_children (G.verdict counted.old.geometry) tree.now parent.verdict number.number }
+        + work_under V.opens its_children (G.verdict counted.old.geometry) tree.now parent number.number }
     ensures geometry { counted.new.geometry ≡ counted.old.geometry }
 {
     let node = tree.node(number);
@@ -216,7 +197,7 @@ fn walk_under<V: Visitor, G: Geometry>(
     for (i, child) in children.iter().enumerate() {
         let child_number = NodeNo::new(first + i as u32);
         let whole = tree.node(child_number);
-        let info = parent.info(child.bounds, whole.layers, level);
+        let info = info_under(tree, parent, child.bounds, whole.layers, level);
         walk_child(
             tree,
             visitor,
@@ -240,7 +221,7 @@ fn walk_child<V: Visitor, G: Geometry>(
     size: u32,
     info: &Info,
 )
-    requires tree { IsRooted tree.now info.now.top }
+    requires sound { IsSound tree.now }
     requires node { IsCheckable tree.now (G.accepts counted.old.geometry) number.number info.now }
     requires size { size ≡ (node_at tree.now number.number).size }
     requires room { size ≤ V.room visitor.old }
@@ -258,14 +239,6 @@ fn walk_child<V: Visitor, G: Geometry>(
 {
     let verdict = counted.check(info);
     if visitor.visit_node(verdict, size) {
-        let top = info.top;
-        walk_under(
-            tree,
-            visitor,
-            counted,
-            opened,
-            number,
-            Parent { top, verdict },
-        );
+        walk_under(tree, visitor, counted, opened, number, verdict);
     }
 }

@@ -3,7 +3,7 @@ use Rattle.rt_tree.specs.Packed.{extent_of_node, node_at}
 use Rattle.rt_search.specs.Joining.{join_nodes}
 use Rattle.rt_search.specs.Limits.{IsEnough}
 use Rattle.rt_search.specs.Walking.{answers_among}
-use Rattle.rt_search.proofs.Children.{children_inside, children_of, honest_child}
+use Rattle.rt_search.proofs.Children.{asked, children_inside, children_of, honest_child}
 use Rattle.rt_search.proofs.Collectors.{entries_join}
 use Rattle.rt_search.proofs.Limits.{enough_node}
 use Rattle.rt_search.proofs.UnderWay.{leaf_joins, nodes_join}
@@ -21,8 +21,7 @@ returns-then-node-eq1 g c =
     (answers_among c.args.tree.now accepts score n n.count) e.taken in
     record {
       children = record {
-        items = leaf_joins accepts score (g.G.Geometry.verdict geometry) (g.met.G.Geometry.lawful geometry)
-            c.args.tree.now c.args.frontier.now.wanted c.args.taken.score c.args.taken.node n
+        items = leaf_joins (g.met.G.Geometry.lawful geometry) c.args.tree.now c.args.frontier.now.wanted c.args.taken.score c.args.taken.node n
             c.visit_entries.new.collector.items c.args.frontier.now.items c.node-node.ensures c.if-node-eq1.true
             joined.items;
         wanted = joined.wanted;
@@ -34,25 +33,20 @@ returns-then-node-eq1 g c =
 
 pub child_nodes-children-requires : goal.child_nodes-children-requires
 child_nodes-children-requires g c =
-    children_inside c.args.tree.now c.args.taken.node.number.number c.node-node.result c.requires.node.tree
-    c.node-node.ensures c.if-node-eq1.false
+    children_inside c.requires.node c.node-node.ensures c.if-node-eq1.false
 
 pub overflow_add-first : goal.overflow_add-first
 overflow_add-first g c =
-    let here = children_of c.args.tree.now c.args.taken.node.number.number c.node-node.result
-    c.child_nodes-children.result.now c.requires.node.tree c.node-node.ensures c.if-node-eq1.false
-    c.child_nodes-children.ensures in
+    let here = children_of c.requires.node c.node-node.ensures c.if-node-eq1.false c.child_nodes-children.ensures in
     let inside = here.inside in
     let lt = c.loop-i-test.true in
-    let few = c.requires.tree.sound.few_nodes in
+    let few = c.requires.sound.few_nodes in
     let low : c.node-node.result.first + c.loop-i.i < 2 ^ 32 = omega (arith, inside, lt, few) in
     search (rules, low)
 
 pub node-whole-requires : goal.node-whole-requires
 node-whole-requires g c =
-    let here = children_of c.args.tree.now c.args.taken.node.number.number c.node-node.result
-    c.child_nodes-children.result.now c.requires.node.tree c.node-node.ensures c.if-node-eq1.false
-    c.child_nodes-children.ensures in
+    let here = children_of c.requires.node c.node-node.ensures c.if-node-eq1.false c.child_nodes-children.ensures in
     let inside = here.inside in
     let lt = c.loop-i-test.true in
     omega (arith, inside, lt, c.new-number.ensures)
@@ -62,41 +56,37 @@ ask_node-requires g c =
     let geometry = c.args.counted.now.geometry in
     let tree = c.args.tree.now in
     let number = c.args.taken.node.number.number in
-    let v = c.new-parent.result.verdict in
-    let here = children_of tree number c.node-node.result c.child_nodes-children.result.now c.requires.node.tree
-    c.node-node.ensures c.if-node-eq1.false c.child_nodes-children.ensures in
-    let k = here.asked c.loop-i.i c.new-number.result.number c.new-parent.result.top c.index-children-i.result
-    c.node-whole.result v c.info-info.result c.loop-i-test.true c.index-children-i.is c.new-number.ensures
-    c.node-whole.ensures (c.new-parent.ensures.top ∙ c.requires.tree.top_is) c.info-info.ensures in
+    let v = c.verdict_on-parent.result in
+    let here = children_of c.requires.node c.node-node.ensures c.if-node-eq1.false c.child_nodes-children.ensures in
+    let k = asked here c.loop-i.i c.verdict_on-parent.result c.loop-i-test.true c.index-children-i.is
+    c.new-number.ensures c.node-whole.ensures c.info_under-info.ensures in
     let long = length-join_nodes (g.G.Geometry.verdict geometry) tree v (node_at tree number) c.loop-i.i
     c.args.frontier.now.items in
     let inv = c.loop-i.invariant in
     let few = inv.children.items.few in
     let room = c.requires.room in
-    let asked = inv.asked in
-    let asked_few = c.requires.asked in
+    let checks = inv.asked in
+    let checks_few = c.requires.asked in
     let lt = k.few in
     record {
       honest = rw inv.geometry
           (honest_child (g.G.Geometry.accepts geometry) (g.G.Geometry.score geometry)
-          (extent_of_node (node_at tree number)) c.info-info.result v
-          (rw c.new-parent.ensures.verdict c.requires.node.below) (ap (λ i. i.parent_within) c.info-info.ensures)
+          (extent_of_node (node_at tree number)) c.info_under-info.result v
+          (rw c.verdict_on-parent.ensures c.requires.node.below) (ap (λ i. i.parent_within) c.info_under-info.ensures)
           (rw k.info_is k.child.within));
       room = rw inv.children.capacity (omega (arith, few, long, room, lt));
-      asked = omega (arith, asked, asked_few, lt);
+      asked = omega (arith, checks, checks_few, lt);
     }
 
 pub loop-i-preserved : goal.loop-i-preserved
 loop-i-preserved g c =
     let tree = c.args.tree.now in
-    let here = children_of tree c.args.taken.node.number.number c.node-node.result c.child_nodes-children.result.now
-    c.requires.node.tree c.node-node.ensures c.if-node-eq1.false c.child_nodes-children.ensures in
-    let k = here.asked c.loop-i.i c.new-number.result.number c.new-parent.result.top c.index-children-i.result
-    c.node-whole.result c.new-parent.result.verdict c.info-info.result c.loop-i-test.true c.index-children-i.is
-    c.new-number.ensures c.node-whole.ensures (c.new-parent.ensures.top ∙ c.requires.tree.top_is) c.info-info.ensures in
+    let here = children_of c.requires.node c.node-node.ensures c.if-node-eq1.false c.child_nodes-children.ensures in
+    let k = asked here c.loop-i.i c.verdict_on-parent.result c.loop-i-test.true c.index-children-i.is
+    c.new-number.ensures c.node-whole.ensures c.info_under-info.ensures in
     let inv = c.loop-i.invariant in
     let h = rw (inv.geometry, inv.children.wanted) at c.ask_node.ensures in
-    let asked = h.asked in
+    let checks = h.asked in
     let before = inv.asked in
     record {
       children = record {
@@ -106,7 +96,7 @@ loop-i-preserved g c =
         capacity = h.node.capacity ∙ inv.children.capacity;
       };
       geometry = h.geometry;
-      asked = omega (arith, asked, before);
+      asked = omega (arith, checks, before);
     }
 
 pub returns : goal.returns
@@ -115,25 +105,23 @@ returns g c =
     let verdict = g.G.Geometry.verdict geometry in
     let tree = c.args.tree.now in
     let number = c.args.taken.node.number.number in
-    let here = children_of tree number c.node-node.result c.child_nodes-children.result.now c.requires.node.tree
-    c.node-node.ensures c.if-node-eq1.false c.child_nodes-children.ensures in
+    let here = children_of c.requires.node c.node-node.ensures c.if-node-eq1.false c.child_nodes-children.ensures in
     let count = here.count in
     let no = c.loop-i-test.false in
     let inv = c.loop-i.invariant in
-    let asked = inv.asked in
+    let checks = inv.asked in
     let end : c.loop-i.i ≡ (node_at tree number).count = omega (arith, no, c.loop-i.auto.i-end, count) in
     record {
       children = record {
-        items = nodes_join (g.G.Geometry.accepts geometry) (g.G.Geometry.score geometry) verdict
-            (g.met.G.Geometry.lawful geometry) tree c.args.frontier.now.wanted c.args.taken.score c.args.taken.node
-            c.node-node.result c.new-parent.result.verdict c.loop-i.frontier.items c.args.frontier.now.items
-            c.node-node.ensures c.if-node-eq1.false c.new-parent.ensures.verdict
+        items = nodes_join (g.met.G.Geometry.lawful geometry) tree c.args.frontier.now.wanted c.args.taken.score c.args.taken.node
+            c.node-node.result c.verdict_on-parent.result c.loop-i.frontier.items c.args.frontier.now.items
+            c.node-node.ensures c.if-node-eq1.false c.verdict_on-parent.ensures
             (subst (λ m. IsEnough c.args.frontier.now.wanted c.loop-i.frontier.items
-            (join_nodes verdict tree c.new-parent.result.verdict (node_at tree number) m c.args.frontier.now.items)) end
+            (join_nodes verdict tree c.verdict_on-parent.result (node_at tree number) m c.args.frontier.now.items)) end
             inv.children.items);
         wanted = inv.children.wanted;
         capacity = inv.children.capacity;
       };
-      asked = omega (arith, asked, end);
+      asked = omega (arith, checks, end);
       geometry = inv.geometry;
     }

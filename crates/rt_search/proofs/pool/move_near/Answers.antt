@@ -1,11 +1,12 @@
 use Rattle.std.proofs.Common.{◌≡◌, ◌<◌, ◌≤◌, [], ◌∷◌, ◌++◌, length, take, ap, sym, ◌∙◌, subst, arith, IsPermutation}
 use Rattle.std.specs.Prelude.{IsOk}
 use Rattle.std.specs.BinaryHeap.{heap_items}
-use Rattle.std.proofs.lemmas.List.{length-append, take_more}
+use Rattle.std.proofs.lemmas.List.{get_or_default, length-append, take_more}
 use Rattle.std.proofs.lemmas.List.Sorted.{IsPermutation-swap_remove, IsPermutation-trans, length_permutation}
 use Rattle.rt_search.specs.Pooling.{IsFar, score_in}
 use Rattle.rt_search.proofs.Heaps.{on_ok}
-use Rattle.rt_search.proofs.Pools.{all_moved, far_more, moved_over, same_read, take-swap_remove}
+use Rattle.rt_search.proofs.Elements.{all_moved}
+use Rattle.rt_search.proofs.Pools.{far_more, moved_over, take-swap_remove}
 use Rattle.rt_search.proofs.pool.move_near.Goals as goal
 
 pub loop-at-preserved-then-score-edge : goal.loop-at-preserved-then-score-edge
@@ -34,7 +35,7 @@ loop-at-preserved-then-score-edge c =
     let edge = c.if-score-edge.true in
     let score = c.score_of-score.ensures in
     let read : c.index.result.now ≡ key =
-    c.index.ensures ∙ same_read far at c.index.result.now key inside ∙ sym e.value in
+    c.index.ensures ∙ get_or_default far at c.index.result.now key inside ∙ sym e.value in
     let low : score_in key ≤ c.args.edge = rw (← read) (omega (arith, score, edge)) in
     let grown = c.push-pushed.ensures.capacity in
     let left = length_permutation _ _ out in

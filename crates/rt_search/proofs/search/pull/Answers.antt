@@ -1,5 +1,4 @@
-use Rattle.std.proofs.Common.{FitsSigned, w64, ◌<◌, ◌^◌, ◌∙◌, refl, subst, arith, rules}
-use Rattle.std.proofs.lemmas.Int.{to_z-of_z}
+use Rattle.std.proofs.Common.{◌<◌, ◌^◌, ◌∙◌, refl, subst, arith, rules}
 use Rattle.rt_search.specs.Limits.{IsEnough}
 use Rattle.rt_search.specs.Progress.{join_children}
 use Rattle.rt_search.proofs.UnderWay.{ended, falls_by_one, go_on, node_out, node_wanted, still_more, wanted_then}
@@ -7,32 +6,26 @@ use Rattle.rt_search.proofs.search.pull.Goals as goal
 
 pub overflow_add-opened : goal.overflow_add-opened
 overflow_add-opened g c =
-    let geometry = c.args.counted.now.geometry in
     let v = c.loop-node.invariant in
     let e = c.take-taken.ensures in
     let n = c.in-Some.node in
     let small : n.score < 2 ^ 128 = search rules in
-    let k = go_on (g.G.Geometry.accepts geometry) (g.G.Geometry.score geometry) (g.G.Geometry.verdict geometry)
-    (g.met.G.Geometry.lawful geometry) c.args.tree.now c.loop-node.opened c.loop-node.counted.asked
-    c.loop-node.frontier.capacity c.loop-node.frontier.wanted c.requires.state.0 n.score n.node c.loop-node.frontier.items
-    c.take-taken.new.self.items small (still_more _ _ v.wanted c.requires.more)
-    (node_out c.take-taken.result n _ _ c.in-Some.is e.taken) (v.state c.requires.state.0 c.requires.state.1) in
+    let k = go_on (g.met.G.Geometry.lawful c.args.counted.now.geometry) c.args.tree.now small
+    (still_more _ _ v.wanted c.requires.more) (node_out c.take-taken.result n _ _ c.in-Some.is e.taken)
+    (v.state c.requires.state.0 c.requires.state.1) in
     (let low = k.opened_low in omega (arith, low))
 
 pub open_node-requires : goal.open_node-requires
 open_node-requires g c =
-    let geometry = c.args.counted.now.geometry in
     let v = c.loop-node.invariant in
     let e = c.take-taken.ensures in
     let n = c.in-Some.node in
     let small : n.score < 2 ^ 128 = search rules in
-    let k = go_on (g.G.Geometry.accepts geometry) (g.G.Geometry.score geometry) (g.G.Geometry.verdict geometry)
-    (g.met.G.Geometry.lawful geometry) c.args.tree.now c.loop-node.opened c.loop-node.counted.asked
-    c.loop-node.frontier.capacity c.loop-node.frontier.wanted c.requires.state.0 n.score n.node c.loop-node.frontier.items
-    c.take-taken.new.self.items small (still_more _ _ v.wanted c.requires.more)
-    (node_out c.take-taken.result n _ _ c.in-Some.is e.taken) (v.state c.requires.state.0 c.requires.state.1) in
+    let k = go_on (g.met.G.Geometry.lawful c.args.counted.now.geometry) c.args.tree.now small
+    (still_more _ _ v.wanted c.requires.more) (node_out c.take-taken.result n _ _ c.in-Some.is e.taken)
+    (v.state c.requires.state.0 c.requires.state.1) in
     record {
-      tree = record { sound = k.tree; top_is = c.requires.top };
+      sound = k.tree;
       node = rw v.geometry k.node;
       room = rw e.capacity k.room;
       asked = k.asked_low;
@@ -40,21 +33,17 @@ open_node-requires g c =
 
 pub loop-node-smaller : goal.loop-node-smaller
 loop-node-smaller g c =
-    let geometry = c.args.counted.now.geometry in
     let v = c.loop-node.invariant in
     let e = c.take-taken.ensures in
     let n = c.in-Some.node in
     let small : n.score < 2 ^ 128 = search rules in
-    let k = go_on (g.G.Geometry.accepts geometry) (g.G.Geometry.score geometry) (g.G.Geometry.verdict geometry)
-    (g.met.G.Geometry.lawful geometry) c.args.tree.now c.loop-node.opened c.loop-node.counted.asked
-    c.loop-node.frontier.capacity c.loop-node.frontier.wanted c.requires.state.0 n.score n.node c.loop-node.frontier.items
-    c.take-taken.new.self.items small (still_more _ _ v.wanted c.requires.more)
-    (node_out c.take-taken.result n _ _ c.in-Some.is e.taken) (v.state c.requires.state.0 c.requires.state.1) in
+    let k = go_on (g.met.G.Geometry.lawful c.args.counted.now.geometry) c.args.tree.now small
+    (still_more _ _ v.wanted c.requires.more) (node_out c.take-taken.result n _ _ c.in-Some.is e.taken)
+    (v.state c.requires.state.0 c.requires.state.1) in
     falls_by_one _ _ _ refl k.opened_upto
 
 pub loop-node-preserved : goal.loop-node-preserved
 loop-node-preserved g c =
-    let geometry = c.args.counted.now.geometry in
     let v = c.loop-node.invariant in
     let e = c.take-taken.ensures in
     let n = c.in-Some.node in
@@ -66,11 +55,9 @@ loop-node-preserved g c =
     (rw same at o.children.items) in
     record {
       state = λ to_come u.
-          let k = go_on (g.G.Geometry.accepts geometry) (g.G.Geometry.score geometry) (g.G.Geometry.verdict geometry)
-          (g.met.G.Geometry.lawful geometry) c.args.tree.now c.loop-node.opened c.loop-node.counted.asked
-          c.loop-node.frontier.capacity c.loop-node.frontier.wanted to_come n.score n.node c.loop-node.frontier.items
-          c.take-taken.new.self.items small (still_more _ _ v.wanted c.requires.more)
-          (node_out c.take-taken.result n _ _ c.in-Some.is e.taken) (v.state to_come u) in
+          let k = go_on (g.met.G.Geometry.lawful c.args.counted.now.geometry) c.args.tree.now small
+          (still_more _ _ v.wanted c.requires.more) (node_out c.take-taken.result n _ _ c.in-Some.is e.taken)
+          (v.state to_come u) in
           rw (o.asked, o.children.capacity, e.capacity, o.children.wanted, same) (k.next _ items);
       wanted = o.children.wanted ∙ same ∙ v.wanted;
       capacity = o.children.capacity ∙ e.capacity ∙ v.capacity;
@@ -79,33 +66,15 @@ loop-node-preserved g c =
 
 pub returns-in_default : goal.returns-in_default
 returns-in_default g c =
-    let geometry = c.args.counted.now.geometry in
     let v = c.loop-node.invariant in
     let e = c.take-taken.ensures in
     let t = rw c.in_default.is at e in
-    let fits : FitsSigned w64 c.in_ok-entry.entry.id = search rules in
+    let out = c.take-taken.result.entry in
     record {
-      step = λ to_come u. rw (to_z-of_z w64 c.in_ok-entry.entry.id fits, e.capacity) (rw c.in_ok-entry.was at
-          (ended (g.G.Geometry.accepts geometry) (g.G.Geometry.score geometry) (g.G.Geometry.verdict geometry)
-          (g.met.G.Geometry.lawful geometry) c.args.tree.now c.take-taken.result.entry c.loop-node.opened
-          c.loop-node.counted.asked c.loop-node.frontier.capacity c.loop-node.frontier.wanted
-          c.take-taken.new.self.wanted to_come c.loop-node.frontier.items c.take-taken.new.self.items
-          (still_more _ _ v.wanted c.requires.more) t.taken t.wanted (v.state to_come u)));
-      wanted = rw c.in_ok-entry.was at (wanted_then c.take-taken.result.entry c.args.frontier.now.wanted
-          c.take-taken.new.self.wanted (rw v.wanted at t.wanted));
+      step = λ to_come u. rw e.capacity
+          (ended (g.met.G.Geometry.lawful c.args.counted.now.geometry) c.args.tree.now out c.take-taken.new.self.items
+          (still_more _ _ v.wanted c.requires.more) t.taken t.wanted (v.state to_come u));
+      wanted = wanted_then out c.args.frontier.now.wanted c.take-taken.new.self.wanted (rw v.wanted at t.wanted);
       capacity = e.capacity ∙ v.capacity;
       geometry = v.geometry;
     }
-
-pub returns-in_err-entry-clause-step : goal.returns-in_err-entry-clause-step
-returns-in_err-entry-clause-step g c = λ to_come u.
-    let geometry = c.args.counted.now.geometry in
-    let v = c.loop-node.invariant in
-    let e = c.take-taken.ensures in
-    let t = rw c.in_default.is at e in
-    rw (c.from_residual.ensures, e.capacity) (rw c.in_err-entry.was at
-    (ended (g.G.Geometry.accepts geometry) (g.G.Geometry.score geometry) (g.G.Geometry.verdict geometry)
-    (g.met.G.Geometry.lawful geometry) c.args.tree.now c.take-taken.result.entry c.loop-node.opened
-    c.loop-node.counted.asked c.loop-node.frontier.capacity c.loop-node.frontier.wanted
-    c.take-taken.new.self.wanted to_come c.loop-node.frontier.items c.take-taken.new.self.items
-    (still_more _ _ v.wanted c.requires.more) t.taken t.wanted (v.state to_come u)))

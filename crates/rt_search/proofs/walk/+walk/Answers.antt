@@ -1,19 +1,18 @@
-use Rattle.std.proofs.Common.{◌≡◌, ◌<◌, ◌-◌, ◌^◌, ◌∙◌, add-one, ap, refl, sym, subst, arith, rules}
+use Rattle.std.proofs.Common.{ℕ, ◌≡◌, ◌<◌, ◌-◌, ◌^◌, ◌∙◌, ap, refl, sym, subst, arith, rules}
 use Rattle.rt_tree.specs.Packed.{node_at}
+use Rattle.rt_tree.specs.declared.tree.Node.{Node}
 use Rattle.rt_search.specs.Remaining.{height_at}
-use Rattle.rt_search.specs.Walking.{HasTaken, answers_among, answers_under}
+use Rattle.rt_search.specs.Walking.{HasTaken, answers_among}
 use Rattle.rt_search.specs.Work.{its_children, one_node}
 use Rattle.rt_search.proofs.Answering.{under_all-none}
-use Rattle.rt_search.proofs.Children.{children_inside, children_of}
-use Rattle.rt_search.proofs.Walks.{answers_all, answers_upto, at_child, inner_work, known, openable, taken-append}
-use Rattle.rt_search.proofs.Walks.{taken_room, upto_all, upto_more, visit}
+use Rattle.rt_search.proofs.Children.{asked, children_inside, children_of}
+use Rattle.rt_search.proofs.Walks.{answers_all, answers_upto, at_child, known, openable, taken-append, taken_room}
+use Rattle.rt_search.proofs.Walks.{upto_all, upto_more, visit, work_all, work_more}
 use Rattle.rt_search.proofs.walk.+walk.Goals as goal
 
 pub walk_child-walk_under-requires : goal.walk_child-walk_under-requires
 walk_child-walk_under-requires g t c κs within =
     let geometry = c.args.counted.now.geometry in
-    let accepts = g.G.Geometry.accepts geometry in
-    let score = g.G.Geometry.score geometry in
     let verdict = g.G.Geometry.verdict geometry in
     let law = g.met.G.Geometry.lawful geometry in
     let tree = c.args.tree.now in
@@ -23,8 +22,8 @@ walk_child-walk_under-requires g t c κs within =
     let v : c.check-verdict.result ≡ verdict info = e.verdict in
     let opens = sym c.visit_node.ensures.opens ∙ c.if-visit_node.true in
     let stays : c.visit_node.new.self ≡ c.args.visitor.now =
-    rw c.if-visit_node.true at (c.visit_node.ensures.taken (answers_under tree accepts score number)
-    (rw (v, c.requires.size) (known accepts score tree verdict law number info c.requires.node))) in
+    rw c.if-visit_node.true at
+    (c.visit_node.ensures.taken _ (rw (← v, ← c.requires.size) at (known law c.requires.node))) in
     let size = c.requires.size in
     let room = c.requires.room in
     let one = at_child g.V.Visitor.opens one_node verdict tree (verdict info) number (rw v at opens) in
@@ -38,9 +37,9 @@ walk_child-walk_under-requires g t c κs within =
         (
           within.1,
           (
-            c.requires.tree,
+            c.requires.sound,
             (
-              rw (e.geometry, v) (openable accepts score tree verdict law number info c.requires.node),
+              rw (e.geometry, v) (openable law c.requires.node),
               (
                 rw stays (omega (arith, size, room)),
                 (
@@ -56,29 +55,17 @@ walk_child-walk_under-requires g t c κs within =
 
 pub walk_child-returns-then-visit_node-clause-taken : goal.walk_child-returns-then-visit_node-clause-taken
 walk_child-returns-then-visit_node-clause-taken g t c =
-    let geometry = c.args.counted.now.geometry in
-    let accepts = g.G.Geometry.accepts geometry in
-    let score = g.G.Geometry.score geometry in
-    let tree = c.args.tree.now in
-    let number = c.args.number.number in
-    let is_known = known accepts score tree (g.G.Geometry.verdict geometry) (g.met.G.Geometry.lawful geometry) number
-    c.args.info.now c.requires.node in
+    let is_known = known (g.met.G.Geometry.lawful c.args.counted.now.geometry) c.requires.node in
     let stays : c.visit_node.new.self ≡ c.args.visitor.now =
-    rw c.if-visit_node.true at (c.visit_node.ensures.taken (answers_under tree accepts score number)
-    (rw (c.check-verdict.ensures.verdict, c.requires.size) is_known)) in
+    rw c.if-visit_node.true at
+    (c.visit_node.ensures.taken _ (rw (← c.check-verdict.ensures.verdict, ← c.requires.size) at is_known)) in
     rw (stays, c.check-verdict.ensures.geometry) at c.walk_under.ensures.taken
 
 pub walk_child-returns-else-visit_node-clause-taken : goal.walk_child-returns-else-visit_node-clause-taken
 walk_child-returns-else-visit_node-clause-taken g t c =
-    let geometry = c.args.counted.now.geometry in
-    let accepts = g.G.Geometry.accepts geometry in
-    let score = g.G.Geometry.score geometry in
-    let tree = c.args.tree.now in
-    let number = c.args.number.number in
-    let is_known = known accepts score tree (g.G.Geometry.verdict geometry) (g.met.G.Geometry.lawful geometry) number
-    c.args.info.now c.requires.node in
-    rw c.if-visit_node.false at (c.visit_node.ensures.taken (answers_under tree accepts score number)
-    (rw (c.check-verdict.ensures.verdict, c.requires.size) is_known))
+    let is_known = known (g.met.G.Geometry.lawful c.args.counted.now.geometry) c.requires.node in
+    rw c.if-visit_node.false at
+    (c.visit_node.ensures.taken _ (rw (← c.check-verdict.ensures.verdict, ← c.requires.size) at is_known))
 
 pub walk_under-returns-then-node-eq1-clause-taken : goal.walk_under-returns-then-node-eq1-clause-taken
 walk_under-returns-then-node-eq1-clause-taken g t c =
@@ -95,13 +82,11 @@ walk_under-returns-then-node-eq1-clause-taken g t c =
 
 pub walk_under-child_nodes-children-requires : goal.walk_under-child_nodes-children-requires
 walk_under-child_nodes-children-requires g t c =
-    children_inside c.args.tree.now c.args.number.number c.node-node.result c.requires.node.tree c.node-node.ensures
-    c.if-node-eq1.false
+    children_inside c.requires.node c.node-node.ensures c.if-node-eq1.false
 
 pub walk_under-node-whole-requires : goal.walk_under-node-whole-requires
 walk_under-node-whole-requires g t c =
-    let here = children_of c.args.tree.now c.args.number.number c.node-node.result c.child_nodes-children.result.now
-    c.requires.node.tree c.node-node.ensures c.if-node-eq1.false c.child_nodes-children.ensures in
+    let here = children_of c.requires.node c.node-node.ensures c.if-node-eq1.false c.child_nodes-children.ensures in
     let inside = here.inside in
     let lt = c.loop-i-test.true in
     omega (arith, inside, lt, c.new-child_number.ensures)
@@ -120,43 +105,34 @@ walk_under-loop-i-init g t c =
 
 pub walk_under-walk_child-requires : goal.walk_under-walk_child-requires
 walk_under-walk_child-requires g t c κs within =
-    let geometry = c.args.counted.now.geometry in
-    let accepts = g.G.Geometry.accepts geometry in
-    let score = g.G.Geometry.score geometry in
-    let verdict = g.G.Geometry.verdict geometry in
-    let law = g.met.G.Geometry.lawful geometry in
+    let law = g.met.G.Geometry.lawful c.args.counted.now.geometry in
     let tree = c.args.tree.now in
-    let v = c.args.parent.verdict in
-    let number = c.args.number.number in
+    let sound = c.requires.sound in
+    let v = c.args.parent in
     let small : v.score < 2 ^ 128 = search rules in
-    let here = children_of tree number c.node-node.result c.child_nodes-children.result.now c.requires.node.tree
-    c.node-node.ensures c.if-node-eq1.false c.child_nodes-children.ensures in
-    let child = c.new-child_number.result.number in
-    let k = here.asked c.loop-i.i child c.args.parent.top c.index-children-i.result c.node-whole.result v
-    c.info-info.result c.loop-i-test.true c.index-children-i.is c.new-child_number.ensures c.node-whole.ensures
-    c.requires.tree.top_is c.info-info.ensures in
+    let here = children_of c.requires.node c.node-node.ensures c.if-node-eq1.false c.child_nodes-children.ensures in
+    let k = asked here c.loop-i.i v c.loop-i-test.true c.index-children-i.is c.new-child_number.ensures
+    c.node-whole.ensures c.info_under-info.ensures in
     let inv = c.loop-i.invariant in
-    let left = taken_room g.V.Collector.takes g.V.Collector.room g.met.V.Collector.fills c.args.visitor.now
-    c.loop-i.visitor (answers_upto accepts score tree verdict law c.requires.tree.sound v small number c.requires.node
-    here.high c.loop-i.i) inv.taken in
-    let can = visit accepts score tree verdict law c.requires.tree.sound v small number c.requires.node here.high
-    g.V.Visitor.opens c.loop-i.i child c.args.opened.now c.loop-i.opened c.args.counted.now.asked c.loop-i.counted.asked
-    (g.V.Collector.room c.args.visitor.now) (g.V.Collector.room c.loop-i.visitor) c.info-info.result k.few k.at
-    k.info_is inv.opened inv.asked left c.requires.room c.requires.opened c.requires.asked in
+    let room = g.V.Collector.room in
+    let left = taken_room g.V.Collector.takes room g.met.V.Collector.fills c.args.visitor.now c.loop-i.visitor
+    (answers_upto law sound small c.requires.node here.high c.loop-i.i) inv.taken in
+    let can = visit law sound small c.requires.node here.high g.V.Visitor.opens k c.args.opened.now c.loop-i.opened
+    c.args.counted.now.asked c.loop-i.counted.asked (room c.args.visitor.now) (room c.loop-i.visitor) inv.opened inv.asked
+    left c.requires.room c.requires.opened c.requires.asked in
     let lower = can.lower in
-    let size : c.index-children-i.result.size ≡ (node_at tree child).size = ap (λ n. n.size) k.is in
-    let room = can.room_is in
-    let top : c.info-info.result.top ≡ c.args.parent.top = ap (λ i. i.top) c.info-info.ensures in (
+    let size : c.index-children-i.result.size ≡ (node_at tree c.new-child_number.result.number).size = ap (λ n. n.size) k.is in
+    let fits = can.room_is in (
       omega (arith, lower, c.decreases),
       (
         within.0,
         (
           within.1,
           (
-            record { sound = c.requires.tree.sound; top_is = top ∙ c.requires.tree.top_is },
+            sound,
             (
               rw inv.geometry can.node,
-              (size, (omega (arith, size, room), rw inv.geometry (can.opened_few, can.asked_few))),
+              (size, (omega (arith, size, fits), rw inv.geometry (can.opened_few, can.asked_few))),
             ),
           ),
         ),
@@ -165,65 +141,52 @@ walk_under-walk_child-requires g t c κs within =
 
 pub walk_under-loop-i-preserved : goal.walk_under-loop-i-preserved
 walk_under-loop-i-preserved g t c =
-    let geometry = c.args.counted.now.geometry in
-    let accepts = g.G.Geometry.accepts geometry in
-    let score = g.G.Geometry.score geometry in
-    let verdict = g.G.Geometry.verdict geometry in
-    let law = g.met.G.Geometry.lawful geometry in
+    let law = g.met.G.Geometry.lawful c.args.counted.now.geometry in
     let tree = c.args.tree.now in
-    let v = c.args.parent.verdict in
-    let number = c.args.number.number in
+    let sound = c.requires.sound in
+    let v = c.args.parent in
     let small : v.score < 2 ^ 128 = search rules in
-    let here = children_of tree number c.node-node.result c.child_nodes-children.result.now c.requires.node.tree
-    c.node-node.ensures c.if-node-eq1.false c.child_nodes-children.ensures in
-    let k = here.asked c.loop-i.i c.new-child_number.result.number c.args.parent.top c.index-children-i.result
-    c.node-whole.result v c.info-info.result c.loop-i-test.true c.index-children-i.is c.new-child_number.ensures
-    c.node-whole.ensures c.requires.tree.top_is c.info-info.ensures in
+    let here = children_of c.requires.node c.node-node.ensures c.if-node-eq1.false c.child_nodes-children.ensures in
+    let k = asked here c.loop-i.i v c.loop-i-test.true c.index-children-i.is c.new-child_number.ensures
+    c.node-whole.ensures c.info_under-info.ensures in
     let inv = c.loop-i.invariant in
     let e = rw k.at at (rw k.info_is at (rw inv.geometry at c.walk_child.ensures)) in
     let opened = e.opened in
-    let asked = e.asked in
+    let checks = e.asked in
     let before = inv.opened in
-    let asked_before = inv.asked in
-    let upto = answers_upto accepts score tree verdict law c.requires.tree.sound v small number c.requires.node
-    here.high in
-    let more = upto_more accepts score tree verdict law c.requires.tree.sound v small number c.requires.node here.high
-    c.loop-i.i k.few in
+    let checks_before = inv.asked in
+    let more = λ (cost : Node → ℕ).
+    work_more law sound small c.requires.node here.high g.V.Visitor.opens cost c.loop-i.i k.few in
     record {
-      taken = subst (λ l. HasTaken g.V.Collector.takes c.args.visitor.now l c.walk_child.new.visitor) more
-          (taken-append g.V.Collector.takes c.args.visitor.now c.loop-i.visitor c.walk_child.new.visitor
-          (upto c.loop-i.i) _ inv.taken e.taken);
-      opened = rw (add-one c.loop-i.i) (omega (arith, opened, before));
-      asked = rw (add-one c.loop-i.i) (omega (arith, asked, asked_before));
+      taken = subst (λ l. HasTaken g.V.Collector.takes c.args.visitor.now l c.walk_child.new.visitor)
+          (upto_more law sound small c.requires.node here.high c.loop-i.i k.few)
+          (taken-append g.V.Collector.takes c.args.visitor.now c.loop-i.visitor c.walk_child.new.visitor _ _ inv.taken
+          e.taken);
+      opened = omega (arith, opened, before, more one_node);
+      asked = omega (arith, checks, checks_before, more its_children);
       geometry = e.geometry;
     }
 
 pub walk_under-returns : goal.walk_under-returns
 walk_under-returns g t c =
-    let geometry = c.args.counted.now.geometry in
-    let accepts = g.G.Geometry.accepts geometry in
-    let score = g.G.Geometry.score geometry in
-    let verdict = g.G.Geometry.verdict geometry in
-    let law = g.met.G.Geometry.lawful geometry in
+    let law = g.met.G.Geometry.lawful c.args.counted.now.geometry in
     let tree = c.args.tree.now in
-    let v = c.args.parent.verdict in
+    let sound = c.requires.sound in
+    let v = c.args.parent in
     let number = c.args.number.number in
     let small : v.score < 2 ^ 128 = search rules in
-    let here = children_of tree number c.node-node.result c.child_nodes-children.result.now c.requires.node.tree
-    c.node-node.ensures c.if-node-eq1.false c.child_nodes-children.ensures in
+    let here = children_of c.requires.node c.node-node.ensures c.if-node-eq1.false c.child_nodes-children.ensures in
     let count = here.count in
     let over = c.loop-i-test.false in
     let end : c.loop-i.i ≡ (node_at tree number).count = omega (arith, count, over, c.loop-i.auto.i-end) in
     let inv = rw end at c.loop-i.invariant in
     let opened = inv.opened in
     let asked = inv.asked in
-    let work = inner_work accepts score tree verdict law c.requires.tree.sound v small number c.requires.node here.high
-    g.V.Visitor.opens in
+    let all = work_all law sound small c.requires.node here.high g.V.Visitor.opens in
     record {
       taken = subst (λ l. HasTaken g.V.Collector.takes c.args.visitor.now l c.loop-i.visitor)
-          (upto_all accepts score tree verdict law c.requires.tree.sound v small number c.requires.node here.high)
-          inv.taken;
-      opened = omega (arith, opened, work one_node);
-      asked = omega (arith, asked, work its_children);
+          (upto_all law sound small c.requires.node here.high) inv.taken;
+      opened = omega (arith, opened, all one_node);
+      asked = omega (arith, asked, all its_children);
       geometry = inv.geometry;
     }

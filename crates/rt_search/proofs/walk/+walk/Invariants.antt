@@ -1,7 +1,8 @@
 use Rattle.std.proofs.Common.{◌≡◌, ◌+◌, ◌-◌, ◌*◌, take}
+use Rattle.std.specs.List.{sum_by}
 use Rattle.rt_tree.specs.Packed.{child_nodes, node_at}
 use Rattle.rt_search.specs.Remaining.{height_at}
-use Rattle.rt_search.specs.Walking.{HasTaken, over_children, work_of_child}
+use Rattle.rt_search.specs.Walking.{HasTaken, work_of_child}
 use Rattle.rt_search.specs.Work.{its_children, one_node}
 use Rattle.rt_search.proofs.Answering.{under_all}
 use Rattle.rt_search.proofs.walk.+walk.Given as goal
@@ -17,14 +18,15 @@ invariant-walk_under-loop-i g l =
     let geometry = l.initial.counted.geometry in
     let verdict = g.G.Geometry.verdict geometry in
     let opens = g.V.Visitor.opens in
-    let n = node_at l.tree l.fn.number.number in
+    let number = l.fn.number.number in
+    let below = height_at l.tree number - 1 in
+    let children = take l.i (child_nodes l.tree (node_at l.tree number)) in
     record {
       taken : HasTaken g.V.Collector.takes l.initial.visitor
-          (under_all (g.G.Geometry.accepts geometry) (g.G.Geometry.score geometry) l.tree
-          (height_at l.tree l.fn.number.number - 1) (take l.i (child_nodes l.tree n))) l.visitor;
+          (under_all (g.G.Geometry.accepts geometry) (g.G.Geometry.score geometry) l.tree below children) l.visitor;
       opened : l.opened ≡ l.initial.opened
-          + over_children (work_of_child opens one_node verdict l.tree l.parent.verdict) n l.i;
+          + sum_by (work_of_child opens one_node verdict l.tree l.parent below) children;
       asked : l.counted.asked ≡ l.initial.counted.asked + l.i
-          + over_children (work_of_child opens its_children verdict l.tree l.parent.verdict) n l.i;
+          + sum_by (work_of_child opens its_children verdict l.tree l.parent below) children;
       geometry : l.counted.geometry ≡ l.initial.counted.geometry;
     }

@@ -10,15 +10,15 @@ use Rattle.rt_search.proofs.walk.visit_entries.Goals as goal
 pub check-verdict-requires-clause-honest : goal.check-verdict-requires-clause-honest
 check-verdict-requires-clause-honest g c =
     let k = leaf_read c.args.tree.now c.args.node c.loop-i.i c.index-entries-i.result
-    c.child_entries-entries.result.now c.requires.leaf.tree.sound.table c.requires.leaf.node c.child_entries-entries.ensures
+    c.child_entries-entries.result.now c.requires.leaf.sound.table c.requires.leaf.node c.child_entries-entries.ensures
     c.loop-i-test.true c.index-entries-i.is in
     let layers = subst (λ o. IfSome o (λ e. c.layers_at-layers.result ≡ (extent_of_entry e).layers)) k.found
     c.layers_at-layers.ensures in
     rw c.loop-i.invariant.geometry
     (honest_child (g.G.Geometry.accepts c.args.counted.now.geometry)
-    (g.G.Geometry.score c.args.counted.now.geometry) (extent_of_node c.args.node) c.info-info.result
-    c.args.parent.verdict c.requires.leaf.below (ap (λ i. i.parent_within) c.info-info.ensures)
-    (rw (c.info-info.ensures, k.is, layers) k.at.within))
+    (g.G.Geometry.score c.args.counted.now.geometry) (extent_of_node c.args.node) c.info_under-info.result
+    c.args.parent c.requires.leaf.below (ap (λ i. i.parent_within) c.info_under-info.ensures)
+    (rw (c.info_under-info.ensures, k.is, layers) k.at.within))
 
 pub check-verdict-requires-clause-room : goal.check-verdict-requires-clause-room
 check-verdict-requires-clause-room g c =
@@ -58,22 +58,22 @@ loop-i-preserved g c =
     let score = g.G.Geometry.score geometry in
     let tree = c.args.tree.now in
     let i = c.loop-i.i in
-    let v = c.args.parent.verdict in
+    let v = c.args.parent in
     let small : v.score < 2 ^ 128 = search rules in
     let count = entries_count tree c.args.node c.child_entries-entries.result.now c.requires.leaf.node
     c.child_entries-entries.ensures in
     let lt = c.loop-i-test.true in
     let k = leaf_read tree c.args.node i c.index-entries-i.result c.child_entries-entries.result.now
-    c.requires.leaf.tree.sound.table c.requires.leaf.node c.child_entries-entries.ensures lt c.index-entries-i.is in
+    c.requires.leaf.sound.table c.requires.leaf.node c.child_entries-entries.ensures lt c.index-entries-i.is in
     let layers = subst (λ o. IfSome o (λ e. c.layers_at-layers.result ≡ (extent_of_entry e).layers)) k.found
     c.layers_at-layers.ensures in
     let inv = c.loop-i.invariant in
     let e = rw inv.geometry at c.check-verdict.ensures in
     let fits : FitsSigned w64 c.index-entries-i.result.id = search rules in
-    let verdict_is = rw (k.is, layers) at (rw (c.info-info.ensures, c.requires.leaf.tree.top_is) at e.verdict) in
+    let verdict_is = rw (k.is, layers) at (rw c.info_under-info.ensures at e.verdict) in
     let one = rw k.is at (rw verdict_is at (rw c.is_kept.ensures at (simp (to_z-of_z, fits) at c.visit_entry.ensures))) in
-    let more = one_entry accepts score tree (g.G.Geometry.verdict geometry) (g.met.G.Geometry.lawful geometry)
-    c.requires.leaf.tree.sound v small c.args.node i c.requires.leaf.node c.requires.leaf.below (omega (arith, count, lt)) in
+    let more = one_entry (g.met.G.Geometry.lawful geometry) c.requires.leaf.sound small c.requires.leaf.node
+    c.requires.leaf.below i (omega (arith, count, lt)) in
     let both = taken-append g.C.Collector.takes c.args.collector.now c.loop-i.collector c.visit_entry.new.self
     (answers_among tree accepts score c.args.node i) _ inv.taken one in
     record {

@@ -2,28 +2,20 @@ use Rattle.std.proofs.Common.{arith}
 use Rattle.rt_search.proofs.WalkWhole.{whole}
 use Rattle.rt_search.proofs.walk.walk.Goals as goal
 
-pub walk_under-requires-clause-room : goal.walk_under-requires-clause-room
-walk_under-requires-clause-room g c =
+pub walk_under-requires : goal.walk_under-requires
+walk_under-requires g c =
     let geometry = c.args.counted.now.geometry in
-    let few = (whole (g.G.Geometry.accepts geometry) (g.G.Geometry.score geometry) (g.G.Geometry.verdict geometry)
-    c.args.tree.now c.in-Some.ensures.sound g.V.Visitor.opens c.in-Some.number.number c.new-root.result.verdict
-    c.in-Some.ensures.number c.new-root.ensures.verdict).few in
+    let k = whole (g.G.Geometry.accepts geometry) (g.G.Geometry.score geometry) (g.G.Geometry.verdict geometry)
+    c.args.tree.now c.in-Some.ensures.sound g.V.Visitor.opens c.in-Some.number.number c.in-Some.ensures.number in
+    let few = k.few in
     let room = c.requires.room in
-    omega (arith, few, room)
-
-pub walk_under-requires-clause-opened : goal.walk_under-requires-clause-opened
-walk_under-requires-clause-opened g c =
-    let geometry = c.args.counted.now.geometry in
-    let few = (whole (g.G.Geometry.accepts geometry) (g.G.Geometry.score geometry) (g.G.Geometry.verdict geometry)
-    c.args.tree.now c.in-Some.ensures.sound g.V.Visitor.opens c.in-Some.number.number c.new-root.result.verdict
-    c.in-Some.ensures.number c.new-root.ensures.verdict).opened_few in
-    omega (arith, few)
-
-pub walk_under-requires-clause-asked : goal.walk_under-requires-clause-asked
-walk_under-requires-clause-asked g c =
-    let geometry = c.args.counted.now.geometry in
-    let few = (whole (g.G.Geometry.accepts geometry) (g.G.Geometry.score geometry) (g.G.Geometry.verdict geometry)
-    c.args.tree.now c.in-Some.ensures.sound g.V.Visitor.opens c.in-Some.number.number c.new-root.result.verdict
-    c.in-Some.ensures.number c.new-root.ensures.verdict).asked_few in
+    let opened = k.opened_few in
+    let asked = k.asked_few in
     let none = c.requires.asked in
-    omega (arith, none, few)
+    record {
+      sound = c.in-Some.ensures.sound;
+      node = k.node;
+      room = omega (arith, few, room);
+      opened = omega (arith, opened);
+      asked = omega (arith, none, asked);
+    }

@@ -26,5 +26,5 @@ returns-clause-answers g c =
     let found = answers_in_tree tree accepts score in
     let joined = hits_join c.clear-2.new.self c.walk.new.visitor found e.taken in
     ap (remaining tree accepts score) (joined.0 ∙ ap (join_answers found) c.clear-2.ensures.items)
-    ∙ answers_joined accepts score verdict (g.met.G.Geometry.lawful geometry) tree found []
+    ∙ answers_joined (g.met.G.Geometry.lawful geometry) tree found []
     ∙ tree_answers accepts score verdict tree e.sound

@@ -2,10 +2,10 @@ use Rattle.std.proofs.Common.{◌∷◌, ◌++◌, subst, arith, IsPermutation}
 use Rattle.std.specs.Prelude.{IsOk}
 use Rattle.std.specs.BinaryHeap.{heap_items}
 use Rattle.std.proofs.lemmas.List.{length-append}
-use Rattle.std.proofs.lemmas.List.Sorted.{length_permutation}
+use Rattle.std.proofs.lemmas.List.Sorted.{IsPermutation-append_left, length_permutation}
 use Rattle.rt_search.specs.Pooling.{keys_in}
 use Rattle.rt_search.proofs.Heaps.{on_ok}
-use Rattle.rt_search.proofs.Pools.{far_more, put_left, put_right}
+use Rattle.rt_search.proofs.Pools.{far_more, put_right}
 use Rattle.rt_search.proofs.pool.Pool.put.Goals as goal
 
 pub returns-then-score-self-clause-keys : goal.returns-then-score-self-clause-keys
@@ -20,7 +20,7 @@ returns-then-score-self-clause-keys c =
     c.push-pushed.ensures.succeeds (omega (arith, h, length-append near far, counted, room)) in
     subst (λ w. IsPermutation (record { 0 = c.args.key } ∷ keys_in w) (heap_items c.push-pushed.new.self ++ far))
     c.self.view_is
-    (put_left _ near _ far (on_ok c.push-pushed.result ok c.push-pushed.ensures.permutation))
+    (IsPermutation-append_left far (record { 0 = c.args.key } ∷ near) _ (on_ok c.push-pushed.result ok c.push-pushed.ensures.permutation))
 
 pub invariant_of-self-2 : goal.invariant_of-self-2
 invariant_of-self-2 c =

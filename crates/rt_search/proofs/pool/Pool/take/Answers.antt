@@ -1,15 +1,17 @@
 use Rattle.std.proofs.Common.{◌≡◌, ◌≤◌, [], ◌∷◌, ◌++◌, ap, sym, ◌∙◌, arith}
 use Rattle.std.specs.BinaryHeap.{heap_items}
-use Rattle.std.proofs.lemmas.List.Sorted.{IsPermutation-trans, length_permutation}
+use Rattle.std.proofs.lemmas.List.{nil_from_length}
+use Rattle.std.proofs.lemmas.List.Sorted.{IsPermutation-append_left, IsPermutation-trans, length_permutation}
 use Rattle.rt_search.specs.Pooling.{score_in}
-use Rattle.rt_search.proofs.Pools.{all_moved, no_elements, none_kept, taken_lowest, taken_near}
+use Rattle.rt_search.proofs.Elements.{all_moved}
+use Rattle.rt_search.proofs.Pools.{none_kept, taken_lowest}
 use Rattle.rt_search.proofs.pool.Pool.take.Goals as goal
 
 pub returns-in_default-clause-keys : goal.returns-in_default-clause-keys
 returns-in_default-clause-keys c =
     let counted = c.self.invariant.inside.counted in
     let none = c.in_default.ensures.none in
-    let near : heap_items c.self.inside.near ≡ [] = no_elements _ (sym counted ∙ none) in
+    let near : heap_items c.self.inside.near ≡ [] = nil_from_length _ (sym counted ∙ none) in
     let far = rw (← c.self.view_is) at c.fill.ensures.filled near in
     none_kept _ _ (rw (← c.self.view_is) at c.fill.ensures.same) (ap (λ l. l ++ c.self.inside.far.items) near ∙ far)
 
@@ -21,8 +23,7 @@ invariant_of-self-2 c =
     let few = k.few in
     let room = k.near_room in
     let fewer = length_permutation _ _ e.permutation in
-    let total = length_permutation _ _ (taken_near c.in-Some.top (heap_items c.self.inside.near) _
-    c.self.inside.far.items e.permutation) in
+    let total = length_permutation _ _ (IsPermutation-append_left c.self.inside.far.items _ _ e.permutation) in
     let long = e.len in
     record {
       inside = record {
@@ -43,7 +44,7 @@ returns-clause-keys c =
     let far = c.self.inside.far.items in
     let same = rw (← c.self.view_is) at c.fill.ensures.same in
     IsPermutation-trans _ (near ++ far) _ same
-    (taken_near c.in-Some.top near (heap_items c.pop.new.self) far c.in-Some.ensures.permutation)
+    (IsPermutation-append_left far near (c.in-Some.top ∷ heap_items c.pop.new.self) c.in-Some.ensures.permutation)
 
 pub returns-clause-least : goal.returns-clause-least
 returns-clause-least c =

@@ -4,8 +4,8 @@ use Rattle.rt_search.specs.Kept.{IsTakenOut, in_order, node_item, taken_item}
 use Rattle.rt_search.specs.Pooling.{keys_in}
 use Rattle.rt_search.specs.Remaining.{put_all}
 use Rattle.rt_search.proofs.Limits.{none_merged, still_none}
-use Rattle.rt_search.proofs.Merging.{fewer_left, fewer_right, taken_left, taken_right}
-use Rattle.rt_search.proofs.Widths.{left-all, narrow_ahead, none_taken, wide_ahead}
+use Rattle.rt_search.proofs.Merging.{fewer_left, fewer_right, left-all, narrow_ahead, none_taken}
+use Rattle.rt_search.proofs.Merging.{taken_left, taken_right, wide_ahead}
 use Rattle.rt_search.proofs.queue.Queue.take.Goals as goal
 
 pub invariant_of-self : goal.invariant_of-self

@@ -15,79 +15,54 @@ none_given Q (Some x) e p = cc
 pub pull-requires-clause-more : goal.pull-requires-clause-more
 pull-requires-clause-more g c =
     let more : c.self.inside.limit ≢ Some c.self.inside.given = search rules in
-    more_wanted _ _ c.self.inside.given more c.self.invariant.0.still
+    more_wanted _ _ c.self.inside.given more c.self.invariant.still
 
 pub overflow_add-self : goal.overflow_add-self
 overflow_add-self g c =
-    let geometry = c.self.inside.counted.geometry in
-    let found = c.in_ok-answer.ensures.step _ c.self.invariant.0.state in
-    let low = given_low (g.G.Geometry.accepts geometry) (g.G.Geometry.score geometry) (g.G.Geometry.verdict geometry)
-    c.self.inside.tree.now c.self.invariant.0.state.state.tree c.self.inside.given c.in_ok-answer.answer found.rest
-    found.first in
+    let going = c.self.invariant in
+    let low = given_low going (c.in_ok-answer.ensures.step _ going.state) in
     search (rules, low)
 
 pub invariant_of-self-2 : goal.invariant_of-self-2
 invariant_of-self-2 g c =
-    let geometry = c.self.inside.counted.geometry in
     let e = c.in_ok-answer.ensures in
     let more : c.self.inside.limit ≢ Some c.self.inside.given = search rules in
-    let going = c.self.invariant.0 in
-    let k = give (g.G.Geometry.accepts geometry) (g.G.Geometry.score geometry) (g.G.Geometry.verdict geometry)
-    c.self.inside.tree.now c.self.inside.limit c.self.inside.given _ _ _ _ _ _ _ _ c.in_ok-answer.answer _ _
-    going more e.wanted (e.step _ going.state) in
-    rw c.pull.ensures.geometry (k.going, c.self.invariant.1)
+    let going = c.self.invariant in
+    let k = give going more e.wanted (e.step _ going.state) in
+    rw c.pull.ensures.geometry k.going
 
 pub returns-clause-answer : goal.returns-clause-answer
 returns-clause-answer g c =
-    let geometry = c.self.inside.counted.geometry in
     let e = c.in_ok-answer.ensures in
     let more : c.self.inside.limit ≢ Some c.self.inside.given = search rules in
-    let going = c.self.invariant.0 in
-    let k = give (g.G.Geometry.accepts geometry) (g.G.Geometry.score geometry) (g.G.Geometry.verdict geometry)
-    c.self.inside.tree.now c.self.inside.limit c.self.inside.given _ _ _ _ _ _ _ _ c.in_ok-answer.answer _ _
-    going more e.wanted (e.step _ going.state) in
-    rw (c.pull.ensures.geometry, ← c.self.view_is) k.answer
+    let going = c.self.invariant in
+    rw (c.pull.ensures.geometry, ← c.self.view_is) (give going more e.wanted (e.step _ going.state)).answer
 
 pub returns-clause-worked : goal.returns-clause-worked
 returns-clause-worked g c =
-    let geometry = c.self.inside.counted.geometry in
     let e = c.in_ok-answer.ensures in
     let more : c.self.inside.limit ≢ Some c.self.inside.given = search rules in
-    let going = c.self.invariant.0 in
-    let k = give (g.G.Geometry.accepts geometry) (g.G.Geometry.score geometry) (g.G.Geometry.verdict geometry)
-    c.self.inside.tree.now c.self.inside.limit c.self.inside.given _ _ _ _ _ _ _ _ c.in_ok-answer.answer _ _
-    going more e.wanted (e.step _ going.state) in
-    rw (← c.self.view_is) k.worked
+    let going = c.self.invariant in
+    rw (← c.self.view_is) (give going more e.wanted (e.step _ going.state)).worked
 
 pub returns-in_err-answer-clause-answer : goal.returns-in_err-answer-clause-answer
 returns-in_err-answer-clause-answer g c =
-    let geometry = c.self.inside.counted.geometry in
     let e = c.in_err-answer.ensures in
     let more : c.self.inside.limit ≢ Some c.self.inside.given = search rules in
-    let going = c.self.invariant.0 in
-    let k = end (g.G.Geometry.accepts geometry) (g.G.Geometry.score geometry) (g.G.Geometry.verdict geometry)
-    c.self.inside.tree.now c.self.inside.limit c.self.inside.given _ _ _ _ _ _ _ _ _ _ going more e.wanted
-    (e.step _ going.state) in
+    let going = c.self.invariant in
+    let k = end going more e.wanted (e.step _ going.state) in
     none_given _ c.from_residual.result (search rules) (rw (← c.self.view_is) k.answer)
 
 pub returns-in_err-answer-clause-none : goal.returns-in_err-answer-clause-none
 returns-in_err-answer-clause-none g c =
-    let geometry = c.self.inside.counted.geometry in
     let e = c.in_err-answer.ensures in
     let more : c.self.inside.limit ≢ Some c.self.inside.given = search rules in
-    let going = c.self.invariant.0 in
-    let k = end (g.G.Geometry.accepts geometry) (g.G.Geometry.score geometry) (g.G.Geometry.verdict geometry)
-    c.self.inside.tree.now c.self.inside.limit c.self.inside.given _ _ _ _ _ _ _ _ _ _ going more e.wanted
-    (e.step _ going.state) in
-    if_none c.from_residual.result (rw c.pull.ensures.geometry k.answer)
+    let going = c.self.invariant in
+    if_none c.from_residual.result (rw c.pull.ensures.geometry (end going more e.wanted (e.step _ going.state)).answer)
 
 pub returns-in_err-answer-clause-worked_in_all : goal.returns-in_err-answer-clause-worked_in_all
 returns-in_err-answer-clause-worked_in_all g c =
-    let geometry = c.self.inside.counted.geometry in
     let e = c.in_err-answer.ensures in
     let more : c.self.inside.limit ≢ Some c.self.inside.given = search rules in
-    let going = c.self.invariant.0 in
-    let k = end (g.G.Geometry.accepts geometry) (g.G.Geometry.score geometry) (g.G.Geometry.verdict geometry)
-    c.self.inside.tree.now c.self.inside.limit c.self.inside.given _ _ _ _ _ _ _ _ _ _ going more e.wanted
-    (e.step _ going.state) in
-    if_none c.from_residual.result (rw (← c.self.view_is) k.worked)
+    let going = c.self.invariant in
+    if_none c.from_residual.result (rw (← c.self.view_is) (end going more e.wanted (e.step _ going.state)).worked)

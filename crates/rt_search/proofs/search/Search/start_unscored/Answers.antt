@@ -21,12 +21,8 @@ invariant_of-result g c =
     let first : IfSome new.wanted (λ n. c.args.limit ≡ Some n) = rw joined.wanted c.clear.ensures.wanted in
     let enough : IsEnough new.wanted new.items (join_answers (answers_in_tree tree accepts score) []) =
     rw (joined.wanted, ← c.clear.ensures.items) joined.items in
-    rw e.geometry (
-      begun accepts score (g.G.Geometry.verdict geometry) (g.met.G.Geometry.lawful geometry) tree e.sound
-          c.requires.unscored c.args.limit c.walk-opened.result _ new.capacity new.wanted new.items room some first
-          e.opened e.asked enough,
-      c.top.ensures.root,
-    )
+    rw e.geometry (begun (g.met.G.Geometry.lawful geometry) tree e.sound c.requires.unscored c.args.limit
+    c.walk-opened.result _ new.capacity new.wanted new.items room some first e.opened e.asked enough)
 
 pub returns-clause-capacity : goal.returns-clause-capacity
 returns-clause-capacity g c =
@@ -40,6 +36,5 @@ returns-clause-worked g c =
     let geometry = c.args.counted.geometry in
     let e = c.walk-opened.ensures in
     let some : c.args.limit ≢ Some 0 = search rules in
-    all_worked (g.G.Geometry.accepts geometry) (g.G.Geometry.score geometry) (g.G.Geometry.verdict geometry)
-    (g.met.G.Geometry.lawful geometry) c.args.tree.now e.sound c.requires.unscored c.args.limit c.walk-opened.result _
+    all_worked (g.met.G.Geometry.lawful geometry) c.args.tree.now e.sound c.requires.unscored c.args.limit c.walk-opened.result _
     some e.opened e.asked
