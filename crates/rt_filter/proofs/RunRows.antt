@@ -88,7 +88,7 @@ row_levels_of_sixteen = run_over_boxes (codes "levels") ∙ refl
 row_no_queries : run_of usual boxes [] ≡ whole_run [] false
 row_no_queries = run_over_boxes [] ∙ refl
 
-row_repeated : run_over (Err (fault.Repeated 6)) (codes "find all") ≡ record { written = []; outcome = record { status = 3; fault = Some (Table (fault.Repeated 6)) } }
+row_repeated : run_over (Err (fault.Repeated 6)) (codes "find all") ≡ ([], record { status = 3; fault = Some (Table (fault.Repeated 6)) })
 row_repeated = refl
 
 row_fault_line : run_fault_line (Table (fault.Repeated 6)) ≡ line (codes "rtfilter: table record 6: repeated id")
