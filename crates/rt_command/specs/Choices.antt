@@ -9,10 +9,6 @@ pub record Choices : Type 0 where
   pub fanout : ℕ
   pub max_entries : ℕ
 
--- settings with these values
-abbrev pub choices_of : (header : Bool) → (fanout max_entries : ℕ) → Choices
-choices_of header fanout max_entries = record { header = header; fanout = fanout; max_entries = max_entries }
-
 -- the least and the greatest number of children that a node may have
 abbrev pub least_fanout : ℕ
 least_fanout = 2

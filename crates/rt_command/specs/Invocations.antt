@@ -1,5 +1,5 @@
 -- What the words of the command line ask for, by clap's own definition of a simple command.
-use Rattle.std.specs.Option.{option_and_then}
+use Rattle.std.specs.Option.{option_and_then, option_map_or}
 use Rattle.std.specs.Prelude.{◌≡◌, ◌⊎◌, ℕ, ℤ, pos, Bool, true, false, List, [], ◌∷◌, fold, codes, Option, Some, None, is_some}
 use Rattle.std.specs.Str.{bytes_eq}
 use Rattle.std.specs.Str.Parse.{signed_digits_value}
@@ -9,7 +9,7 @@ use Rattle.clap.specs.declared.builder.value_parser.ValueParser.TheVariants as v
 use Rattle.clap.specs.declared.error.kind.ErrorKind.{ErrorKind}
 use Rattle.clap.specs.declared.error.kind.ErrorKind.TheVariants as kind
 use Rattle.rt_tree.specs.Entries.{most_entries}
-use Rattle.rt_command.specs.Choices.{choices_of, greatest_fanout, least_fanout}
+use Rattle.rt_command.specs.Choices.{Choices, greatest_fanout, least_fanout}
 use Rattle.rt_command.specs.declared.invocation.ArgFault.{ArgFault}
 use Rattle.rt_command.specs.declared.invocation.ArgFault.TheVariants as fault
 use Rattle.rt_command.specs.declared.invocation.Invocation.{Invocation}
@@ -51,9 +51,8 @@ abbrev pub ◌>>=◌ : {A B : Type 0} → Option A → (A → Option B) → Opti
 found >>= next = option_and_then next found
 
 -- a flag that is given has the text `true`, as clap writes it
-abbrev pub is_given : Option (List ℕ) → Bool
-is_given (Some text) = bytes_eq text (codes "true")
-is_given None = false
+abbrev pub is_given : (id : List ℕ) → List Row → Bool
+is_given id rows = option_map_or (λ text. bytes_eq text (codes "true")) (first_of id rows) false
 
 -- a number that isn't below 0
 abbrev pub natural : ℤ → Option ℕ
@@ -70,7 +69,7 @@ invocation_in rows = do
   fanout ← option_number (codes "fanout") rows
   max_entries ← option_number (codes "max-entries") rows
   table ← first_of (codes "table") rows
-  let settings = choices_of (is_given (first_of (codes "header") rows)) fanout max_entries
+  let settings : Choices = record { header = is_given (codes "header") rows; fanout = fanout; max_entries = max_entries }
   Some (record { settings = settings; table = table; queries = first_of (codes "queries") rows })
 
 -- what the words ask for: the values that clap's own definition of a simple command's matches gives

@@ -180,7 +180,7 @@ fn word_arg<'a>(alloc: Global, name: &'a str, required: bool) -> Arg<'a>
 // The settings that the matches give.
 fn settings(matches: &ArgMatches<'_>) -> Settings
     requires { AreFilled (rows_of (found_of matches.now)) }
-    ensures header { result.header ≡ is_given (first_of (codes "header") (rows_of (found_of matches.now))) }
+    ensures header { result.header ≡ is_given (codes "header") (rows_of (found_of matches.now)) }
     ensures fanout { option_number (codes "fanout") (rows_of (found_of matches.now)) ≡ Some result.fanout }
     ensures max_entries { option_number (codes "max-entries") (rows_of (found_of matches.now)) ≡ Some result.max_entries }
 {
@@ -189,7 +189,7 @@ fn settings(matches: &ArgMatches<'_>) -> Settings
 
 // Whether the flag is given. A flag that isn't has the text `false`.
 fn header(matches: &ArgMatches<'_>) -> bool
-    ensures { result ≡ is_given (first_of (codes "header") (rows_of (found_of matches.now))) }
+    ensures { result ≡ is_given (codes "header") (rows_of (found_of matches.now)) }
 {
     match matches.get_str("header") {
         Some(text) => text == "true",

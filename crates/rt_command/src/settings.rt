@@ -2,7 +2,7 @@
 
 ghost use Rattle.std.specs.Prelude.{◌≡◌};
 ghost use Rattle.std.specs.Option.{SomeIff};
-ghost use Rattle.rt_command.specs.Choices.{AreAllowed, choices_of};
+ghost use Rattle.rt_command.specs.Choices.{AreAllowed, Choices};
 
 use rt_tree::Table;
 use std::marker::Model;
@@ -16,13 +16,14 @@ pub struct Settings {
 }
 
 impl Model for Settings {
-    ghost use Rattle.rt_command.specs.Choices.{AreAllowed, Choices, choices_of};
+    ghost use Rattle.rt_command.specs.Choices.{AreAllowed, Choices};
 
     ghost Value = { Choices };
 
-    ghost view = { λ s. choices_of s.header s.fanout s.max_entries };
+    ghost view = { λ s. record { header = s.header; fanout = s.fanout; max_entries = s.max_entries } };
 
-    ghost invariant = { λ s. AreAllowed (choices_of s.header s.fanout s.max_entries) };
+    ghost invariant = { λ s.
+        AreAllowed (record { header = s.header; fanout = s.fanout; max_entries = s.max_entries }) };
 
     ghost inverse = { λ c. record { header = c.header; fanout = c.fanout; max_entries = c.max_entries } };
 }
@@ -41,7 +42,7 @@ impl Settings {
     /// node (2 to 64) and the most entries of the table (1 to 16,777,216). `None` where one is out of its
     /// range, and nowhere else.
     pub fn new(header: bool, fanout: u8, max_entries: u32) -> Option<Settings>
-        ensures { let given = choices_of header fanout max_entries in
+        ensures { let given : Choices = record { header = header; fanout = fanout; max_entries = max_entries } in
             SomeIff result (AreAllowed given) given }
     {
         if fanout < Settings::LEAST_FANOUT || fanout > Settings::GREATEST_FANOUT {

@@ -9,12 +9,12 @@ use Rattle.rt_text.specs.declared.tables.TableFault.{TableFault}
 use Rattle.rt_text.specs.declared.tables.TableFault.TheVariants as load
 use Rattle.rt_tree.specs.Packed.{Packed}
 use Rattle.rt_tree.specs.Packing.{pack_of}
-use Rattle.rt_filter.specs.Endings.{Ends, EndsAs, EndsEarly, EndsWith, Happened, Serves, Tells, is_of_load}
+use Rattle.rt_filter.specs.Endings.{Ends, EndsEarly, EndsWith, Happened, Serves, Tells}
 use Rattle.rt_filter.specs.Faults.{run_fault, status_of}
 use Rattle.rt_filter.specs.Lines.{numbered_lines}
 use Rattle.rt_filter.specs.Replies.{Loaded, any_fault, output, tree_of}
 use Rattle.rt_filter.specs.Runs.{Run, loaded_of, run_of, run_over}
-use Rattle.rt_filter.specs.Stages.{HasLoaded, Stops, run_fault_of}
+use Rattle.rt_filter.specs.Stages.{HasLoaded, Stops, is_of_load, run_fault_of}
 use Rattle.rt_filter.specs.declared.filter.Outcome.{Outcome}
 use Rattle.rt_filter.specs.declared.filter.RunFault.{RunFault}
 use Rattle.rt_filter.specs.declared.filter.RunFault.TheVariants as run
@@ -31,7 +31,7 @@ loaded_with choices table = do
 
 -- a run that ends with this status and fault
 abbrev ended_with : (written : List ℕ) → Option RunFault → (status : ℕ) → Run
-ended_with written fault status = record { written = written; outcome = record { status = status; fault = fault } }
+ended_with written fault status = (written, record { status = status; fault = fault })
 
 -- a run that reads and writes all
 abbrev pub whole_run : (written : List ℕ) → (bad : Bool) → Run
@@ -72,7 +72,7 @@ module _ (choices : Choices) (table queries before : List ℕ) (status : ℕ) wh
 
   -- a fault of the table's text is the run's own, and so is the status
   text : (cause : TableFault) → loaded_of choices table ≡ Err cause → status ≡ 3
-      → EndsEarly nothing × EndsAs (run_of choices table queries) nothing (ended (run.Table cause))
+      → EndsEarly nothing × (run_of choices table queries ≡ ended_with [] (Some (run.Table cause)) status)
   text cause own is = (
     (refl, refl),
     ap (λ loaded. run_over loaded queries) own ∙ ap (ended_with [] (Some (run.Table cause))) (sym is),

@@ -2,7 +2,7 @@
 use Rattle.std.proofs.Common.{◌≡◌, ◌∙◌, pos, false, true, ap, List, [], ◌∷◌, ◌++◌, ℕ, refl}
 use Rattle.std.specs.Prelude.{Ok, Err, Some, None, codes}
 use Rattle.std.specs.Fmt.{digits}
-use Rattle.rt_command.specs.Choices.{Choices, choices_of}
+use Rattle.rt_command.specs.Choices.{Choices}
 use Rattle.rt_geo.specs.Layers.{all_layers}
 use Rattle.rt_geo.specs.Orders.{near, order_score}
 use Rattle.rt_geo.specs.Regions.{region_accepts}
@@ -76,7 +76,7 @@ row_numbers = refl
 -- ---- whole runs
 
 abbrev usual : Choices
-usual = choices_of false 16 16777216
+usual = record { header = false; fanout = 16; max_entries = 16777216 }
 
 run_over_boxes : (queries : List ℕ) → run_of usual boxes queries ≡ run_over (Ok (record { entries = boxes_entries; fanout = 16 })) queries
 run_over_boxes queries = ap (λ table. run_over (loaded_with usual table) queries) boxes_load
@@ -88,7 +88,7 @@ row_levels_of_sixteen = run_over_boxes (codes "levels") ∙ refl
 row_no_queries : run_of usual boxes [] ≡ whole_run [] false
 row_no_queries = run_over_boxes [] ∙ refl
 
-row_repeated : run_over (Err (fault.Repeated 6)) (codes "find all") ≡ record { written = []; outcome = record { status = 3; fault = Some (Table (fault.Repeated 6)) } }
+row_repeated : run_over (Err (fault.Repeated 6)) (codes "find all") ≡ ([], record { status = 3; fault = Some (Table (fault.Repeated 6)) })
 row_repeated = refl
 
 row_fault_line : run_fault_line (Table (fault.Repeated 6)) ≡ line (codes "rtfilter: table record 6: repeated id")

@@ -1,5 +1,5 @@
 -- Entries in another order are answered the same: what a tree holds is what was packed.
-use Rattle.std.proofs.Common.{◌≡◌, ◌≤◌, ◌∙◌, ◌++◌, ℕ, Bool, true, false, cond, List, [], ◌∷◌, map, Option, None, Some, refl, ap, ap₂, subst, sym, get_or}
+use Rattle.std.proofs.Common.{◌≡◌, ◌≤◌, ◌∙◌, ◌++◌, ℕ, Bool, true, false, cond, List, [], ◌∷◌, take, map, Option, None, Some, refl, ap, ap₂, subst, sym, get_or}
 use Rattle.std.proofs.lemmas.List.Concat.{flat_map-cons}
 use Rattle.std.specs.List.{IsDistinct}
 use Rattle.std.specs.List.Sorted.{IsPermutation}
@@ -121,10 +121,8 @@ serves_same one other what bad (Some serve.Write) same s = record {
   replies = rw (same (numbered_lines what.consumed (is_empty what.rest))) s.replies;
   faults = s.faults;
   earlier = s.earlier;
-  last = s.last;
-  parts = s.parts;
   one_pull = s.one_pull;
-  answered = rw (same (numbered_lines s.earlier false)) s.answered;
+  answered = rw (same (numbered_lines (take s.earlier what.consumed) false)) s.answered;
 }
 
 module _ (tree : Packed) (loaded : Loaded) (sound : IsSound tree) (packed : tree ≡ tree_of loaded) where

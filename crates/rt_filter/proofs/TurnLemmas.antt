@@ -4,7 +4,7 @@ use Rattle.std.specs.Prelude.{IfSome, if◌then◌else◌, nat_lt}
 use Rattle.std.specs.Io.{StartsWith}
 use Rattle.std.specs.Io.KnownBytes.{Consumes, IsAtEnd}
 use Rattle.std.specs.List.{enumerate_from, slice_split}
-use Rattle.std.proofs.Math.Seq.{take-append-add}
+use Rattle.std.proofs.Math.Seq.{take-append-add, take-append_seam}
 use Rattle.std.proofs.lemmas.Bool.{ltb-true}
 use Rattle.std.proofs.lemmas.List.{append_cancel_left, length-append, length-take, length-take-le, take-take, take_more_set}
 use Rattle.std.proofs.lemmas.Slice.{take-put_mid, take-put_mid_below}
@@ -244,11 +244,9 @@ module _ (loaded : Loaded) (queries before : List ℕ) (coming written : Option 
         record {
           replies = gone.prefix;
           faults = cut.faults;
-          earlier = s.consumed;
-          last = given;
-          parts = refl;
-          one_pull = few;
-          answered = gone.answered;
+          earlier = length s.consumed;
+          one_pull = omega (arith, length-append s.consumed given, few);
+          answered = rw (take-append_seam s.consumed given) gone.answered;
         },
       )
 

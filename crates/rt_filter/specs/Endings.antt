@@ -1,5 +1,5 @@
 -- How serving the queries may end, and a whole run.
-use Rattle.std.specs.Prelude.{◌≡◌, ◌+◌, ◌≤◌, ℕ, List, [], ◌++◌, length, Bool, true, false, Option, Some, None, IfSome, IsSome, Result, IsOkAnd}
+use Rattle.std.specs.Prelude.{◌≡◌, ◌+◌, ◌≤◌, ℕ, List, [], ◌++◌, length, take, Bool, true, false, Option, Some, None, IfSome, IsSome, Result, IsOkAnd}
 use Rattle.std.specs.Io.{StartsWith}
 use Rattle.std.specs.Io.KnownBytes.{Consumes}
 use Rattle.rt_command.specs.Choices.{Choices}
@@ -49,11 +49,10 @@ pub record ServesLines (loaded : Loaded) (what : Happened) (bad ended : Bool) : 
 pub record ServesPrefix (loaded : Loaded) (what : Happened) (bad : Bool) : Type 0 where
   pub replies : StartsWith (output loaded (numbered_lines what.consumed (is_empty what.rest))) what.out
   pub faults : bad ≡ true → any_fault (numbered_lines what.consumed (is_empty what.rest)) ≡ true
-  pub earlier : List ℕ
-  pub last : List ℕ
-  pub parts : what.consumed ≡ earlier ++ last
-  pub one_pull : length last ≤ longest_line + 1
-  pub answered : StartsWith what.out (output loaded (numbered_lines earlier false))
+  -- so many bytes were consumed before the last pull
+  pub earlier : ℕ
+  pub one_pull : length what.consumed ≤ earlier + (longest_line + 1)
+  pub answered : StartsWith what.out (output loaded (numbered_lines (take earlier what.consumed) false))
 
 -- how serving ends: all was read, a pull failed or the turns were used up, or a push or a flush failed
 abbrev pub ServesWith : Loaded → Happened → (bad : Bool) → Option ServeFault → Type 0
@@ -70,10 +69,6 @@ Serves loaded queries before coming written served =
 
 -- ---- a whole run
 
--- what went out, the status and the fault are those of this run
-abbrev pub EndsAs : Run → Happened → Outcome → Type 0
-EndsAs run what outcome = run ≡ record { written = what.out; outcome = outcome }
-
 -- no query was read, and nothing was written
 abbrev pub EndsEarly : Happened → Type 0
 EndsEarly what = (what.consumed ≡ []) × (what.out ≡ [])
@@ -84,9 +79,9 @@ EndsServing loaded what cause = IsOkAnd loaded (λ loaded. (bad : Bool) × Serve
 
 -- the row of each fault; `run` is the run in which nothing fails outside
 abbrev pub EndsWith : Result Loaded TableFault → (run : Run) → Happened → Outcome → Option RunFault → Type 0
-EndsWith loaded run what outcome None = (what.rest ≡ []) × EndsAs run what outcome
+EndsWith loaded run what outcome None = (what.rest ≡ []) × (run ≡ (what.out, outcome))
 EndsWith loaded run what outcome (Some (Table load.Read)) = EndsEarly what
-EndsWith loaded run what outcome (Some (Table of_text)) = EndsEarly what × EndsAs run what outcome
+EndsWith loaded run what outcome (Some (Table of_text)) = EndsEarly what × (run ≡ (what.out, outcome))
 EndsWith loaded run what outcome (Some Read) = EndsServing loaded what serve.Read
 EndsWith loaded run what outcome (Some Write) = EndsServing loaded what serve.Write
 EndsWith loaded run what outcome (Some Memory) = EndsEarly what
@@ -97,9 +92,3 @@ Ends choices table queries before coming written outcome =
     (what : Happened)
     × Tells queries before coming written (outcome.fault ≡ Some Read) (outcome.fault ≡ Some Write) what
     × EndsWith (loaded_of choices table) (run_of choices table queries) what outcome outcome.fault
-
--- the fault comes while the table is loaded, before the first query is read
-abbrev pub is_of_load : Option RunFault → Bool
-is_of_load (Some (Table cause)) = true
-is_of_load (Some Memory) = true
-is_of_load other = false

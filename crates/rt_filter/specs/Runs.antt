@@ -10,16 +10,15 @@ use Rattle.rt_filter.specs.declared.filter.Outcome.{Outcome}
 use Rattle.rt_filter.specs.declared.filter.RunFault.TheVariants.{Table}
 
 -- what a run writes, and its status and the fault that it reports
-pub record Run : Type 0 where
-  pub written : List ℕ
-  pub outcome : Outcome
+abbrev pub Run : Type 0
+Run = List ℕ × Outcome
 
 -- a run over the fault of the table, or over what was loaded: its status is then 1 where some line is faulty, else 0
 abbrev pub run_over : Result Loaded TableFault → List ℕ → Run
-run_over (Err cause) queries = record { written = []; outcome = record { status = 3; fault = Some (Table cause) } }
+run_over (Err cause) queries = ([], record { status = 3; fault = Some (Table cause) })
 run_over (Ok loaded) queries =
     let lines = numbered_lines queries true in
-    record { written = output loaded lines; outcome = record { status = if any_fault lines then 1 else 0; fault = None } }
+    (output loaded lines, record { status = if any_fault lines then 1 else 0; fault = None })
 
 -- what the settings load of a table's bytes, or the first fault of the table
 abbrev pub loaded_of : Choices → (table : List ℕ) → Result Loaded TableFault

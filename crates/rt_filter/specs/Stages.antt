@@ -13,7 +13,7 @@ use Rattle.rt_filter.specs.Pushes.{WentPrefix}
 use Rattle.rt_filter.specs.Replies.{Loaded, any_fault, judged_line, output, tree_of}
 use Rattle.rt_filter.specs.Runs.{loaded_of}
 use Rattle.rt_filter.specs.declared.filter.RunFault.{RunFault}
-use Rattle.rt_filter.specs.declared.filter.RunFault.TheVariants.{Table, Read, Write}
+use Rattle.rt_filter.specs.declared.filter.RunFault.TheVariants.{Table, Read, Write, Memory}
 use Rattle.rt_filter.specs.declared.serving.ServeFault.{ServeFault}
 use Rattle.rt_filter.specs.declared.serving.ServeFault.TheVariants as serve
 
@@ -28,6 +28,12 @@ pub record HasLoaded (choices : Choices) (table : List ℕ) (tree : Packed) : Ty
   pub loaded : Loaded
   pub same : loaded_of choices table ≡ Ok loaded
   pub packed : tree ≡ tree_of loaded
+
+-- the fault comes while the table is loaded, before the first query is read
+abbrev pub is_of_load : Option RunFault → Bool
+is_of_load (Some (Table cause)) = true
+is_of_load (Some Memory) = true
+is_of_load other = false
 
 -- why nothing was loaded: a fault of the table's text is the one that it has
 abbrev pub Stops : Choices → (table : List ℕ) → RunFault → Type 0

@@ -1,9 +1,10 @@
 //! A whole run: a table and queries in, answers out.
 
 ghost use Rattle.std.specs.Prelude.{◌≡◌, ◌+◌, ◌-◌, ◌<◌, ◌≤◌, ◌^◌, ◌⊎◌, ◌≢◌, ℕ, List, Some, None, IfOk, IfErr, MatchOption, length, if◌then◌else◌, true, false};
-ghost use Rattle.rt_filter.specs.Endings.{Ends, ConsumedAtLeast, is_of_load};
+ghost use Rattle.rt_filter.specs.Endings.{Ends, ConsumedAtLeast};
 ghost use Rattle.rt_filter.specs.Faults.{run_fault_line, status_of};
-ghost use Rattle.rt_filter.specs.Stages.{HasLoaded, Stops, run_fault_of};
+ghost use Rattle.rt_filter.specs.Stages.{HasLoaded, Stops, is_of_load, run_fault_of};
+ghost use Rattle.rt_filter.specs.declared.filter.RunFault.{RunFault};
 
 use crate::serving::{ServeFault, Served, serve};
 use rt_command::Settings;
@@ -74,9 +75,9 @@ pub fn run<R: Read + Drop, S: Source, K: Sink>(
     // What was pushed is flushed, unless a push or a flush failed.
     ensures flushed { result.fault ≢ Some RunFault.Write → K.waits sink.old ≡ false → K.waits sink.new ≡ false }
 
-    // A table that can't be had leaves the queries unread, and nothing is written.
-    ensures unread { is_of_load result.fault ≡ true → source.new ≡ source.old }
-    ensures unwritten { is_of_load result.fault ≡ true → sink.new ≡ sink.old }
+    // A fault of neither a read nor a write, so one of the load, leaves the queries unread, and nothing is written.
+    ensures untouched { (fault : RunFault) → result.fault ≡ Some fault → fault ≢ RunFault.Read → fault ≢ RunFault.Write
+        → (source.new ≡ source.old) × (sink.new ≡ sink.old) }
 {
     match load(alloc, settings, reader) {
         Ok((tree, frontier)) => serve(&tree, frontier, source, sink, turns).outcome(),

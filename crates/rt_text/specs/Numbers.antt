@@ -1,15 +1,15 @@
 -- Numbers as text.
-use Rattle.std.specs.Prelude.{ℕ, ℤ, int_le, ◌&&◌, Bool, false, if◌then◌else◌, List, [], ◌∷◌, Option, Some, None, Result, Ok, Err}
+use Rattle.std.specs.Prelude.{ℕ, ℤ, int_le, ◌&&◌, Bool, not, if◌then◌else◌, List, Option, Some, None, Result, Ok, Err}
 use Rattle.std.specs.Char.{is_ascii_digit}
 use Rattle.std.specs.List.{list_all}
 use Rattle.std.specs.Str.Parse.{digits_value, signed_digits_value, without_leading_sign}
+use Rattle.rt_text.specs.Words.{is_empty}
 use Rattle.rt_text.specs.declared.numbers.NumberFault.{NumberFault}
 use Rattle.rt_text.specs.declared.numbers.NumberFault.TheVariants as fault
 
 -- one or more ASCII digits, and nothing else
 abbrev pub is_numeral : List ℕ → Bool
-is_numeral [] = false
-is_numeral (c ∷ cs) = list_all is_ascii_digit (c ∷ cs)
+is_numeral text = not (is_empty text) && list_all is_ascii_digit text
 
 -- the number that digits write
 abbrev pub digits_number : List ℕ → Option ℕ

@@ -8,7 +8,7 @@ use Rattle.rt_command.specs.Choices.{Choices}
 use Rattle.rt_command.proofs.invocation.settings_of.Goals as goal
 
 -- an invocation is that of its parts
-joined : (rows : List Row) (settings : Choices) (table : List ℕ) (queries : Option (List ℕ)) → settings.header ≡ is_given (first_of (codes "header") rows)
+joined : (rows : List Row) (settings : Choices) (table : List ℕ) (queries : Option (List ℕ)) → settings.header ≡ is_given (codes "header") rows
     → option_number (codes "fanout") rows ≡ Some settings.fanout → option_number (codes "max-entries") rows ≡ Some settings.max_entries
     → Some table ≡ first_of (codes "table") rows → queries ≡ first_of (codes "queries") rows
     → invocation_in rows ≡ Some (record { settings = settings; table = table; queries = queries })
