@@ -77,17 +77,8 @@ suc_less g = omega arith
 
 -- ---- how many are still wanted
 
-some_is : (m n : ℕ) → ◌≡◌ {A = Option ℕ} (Some m) (Some n) → m ≡ n
-some_is m n e = cc
-
 same_number : (g n : ℕ) → n ≡ 0 → g + n ≡ g
 same_number g n e = omega (arith, e)
-
-pub more_wanted : (wanted limit : Option ℕ) (g : ℕ) → limit ≢ Some g → IfSome wanted (λ n. limit ≡ Some (g + n))
-    → wanted ≢ Some 0
-more_wanted None limit g more h = λ e. cc
-more_wanted (Some n) limit g more h =
-    λ e. more (h ∙ ap Some (same_number g n (some_is n 0 e)))
 
 next_still : (wanted limit : Option ℕ) (g : ℕ) → limit ≢ Some g → IfSome wanted (λ n. limit ≡ Some (g + n))
     → IfSome (one_less wanted) (λ n. limit ≡ Some (suc g + n))

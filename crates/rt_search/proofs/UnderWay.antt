@@ -44,11 +44,6 @@ pub node_wanted : (out : Taken) (n : ScoredNode) (w w' : Option ℕ) → out.nod
     → w' ≡ wanted_after (taken_item out) w → w' ≡ w
 node_wanted out n w w' is h = h ∙ ap (λ o. wanted_after (node_or o (taken_entry out.entry)) w) is
 
-pub wanted_then : (out : Option Answer) (w w' : Option ℕ) → w' ≡ wanted_after (taken_entry out) w
-    → MatchOption out (w' ≡ w) (λ _. w' ≡ one_less w)
-wanted_then None w w' h = h
-wanted_then (Some e) w w' h = h
-
 module _ (accepts : Extent → Bool) (score : Extent → ℕ) (verdict : Info → Verdict) (t : Packed) (wanted : Option ℕ)
     (s : ℕ) (n : WaitingNode) where
   enough_children : (xs ys : List Item) → IsEnough wanted xs ys

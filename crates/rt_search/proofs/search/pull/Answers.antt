@@ -1,7 +1,7 @@
 use Rattle.std.proofs.Common.{◌<◌, ◌^◌, ◌∙◌, refl, subst, arith, rules}
 use Rattle.rt_search.specs.Limits.{IsEnough}
 use Rattle.rt_search.specs.Progress.{join_children}
-use Rattle.rt_search.proofs.UnderWay.{ended, falls_by_one, go_on, node_out, node_wanted, still_more, wanted_then}
+use Rattle.rt_search.proofs.UnderWay.{ended, falls_by_one, go_on, node_out, node_wanted, still_more}
 use Rattle.rt_search.proofs.search.pull.Goals as goal
 
 pub overflow_add-opened : goal.overflow_add-opened
@@ -64,17 +64,10 @@ loop-node-preserved g c =
       geometry = o.geometry ∙ v.geometry;
     }
 
-pub returns-in_default : goal.returns-in_default
-returns-in_default g c =
+pub returns-in_default-clause-step : goal.returns-in_default-clause-step
+returns-in_default-clause-step g c = λ to_come u.
     let v = c.loop-node.invariant in
-    let e = c.take-taken.ensures in
-    let t = rw c.in_default.is at e in
-    let out = c.take-taken.result.entry in
-    record {
-      step = λ to_come u. rw e.capacity
-          (ended (g.met.G.Geometry.lawful c.args.counted.now.geometry) c.args.tree.now out c.take-taken.new.self.items
-          (still_more _ _ v.wanted c.requires.more) t.taken t.wanted (v.state to_come u));
-      wanted = wanted_then out c.args.frontier.now.wanted c.take-taken.new.self.wanted (rw v.wanted at t.wanted);
-      capacity = e.capacity ∙ v.capacity;
-      geometry = v.geometry;
-    }
+    let t = rw c.in_default.is at c.take-taken.ensures in
+    rw c.take-taken.ensures.capacity
+    (ended (g.met.G.Geometry.lawful c.args.counted.now.geometry) c.args.tree.now c.take-taken.result.entry
+    c.take-taken.new.self.items (still_more _ _ v.wanted c.requires.more) t.taken t.wanted (v.state to_come u))
