@@ -2,7 +2,7 @@
 use Rattle.std.proofs.Common.{◌≡◌, ◌≢◌, ◌<◌, ◌≤◌, ◌+◌, ◌-◌, ◌^◌, ◌==◌, ℕ, ℤ, Bool, true, false, cond, List, [], ◌∷◌, length, map}
 use Rattle.std.proofs.Common.{Option, Some, None, refl, sym, ◌∙◌, ap, subst, arith}
 use Rattle.std.specs.Prelude.{MatchOption}
-use Rattle.std.proofs.lemmas.Bool.{eq-eqb, eqb-false, eqb-true, ne_eqb}
+use Rattle.std.proofs.lemmas.Bool.{cond_both, eq-eqb, eqb-false, eqb-true, ne_eqb}
 use Rattle.rt_geo.specs.Laws.{Extent, IsLawful}
 use Rattle.rt_geo.specs.declared.geometry.Info.{Info}
 use Rattle.rt_geo.specs.declared.geometry.Verdict.{Verdict}
@@ -62,11 +62,9 @@ module _ (accepts : Extent → Bool) (score : Extent → ℕ) (verdict : Info �
   rising_children xs h =
       let m = node_at t n.number.number in
       let v = verdict_on s n in
-      elim (m.level == 1) as
-      (λ b. IsRising (cond b (join_answers (answers_among t accepts score m m.count) xs) (join_nodes verdict t v m m.count xs))) [
-        | true ↦ rising_put_all (map item_of (answers_among t accepts score m m.count)) xs h
-        | false ↦ rising_nodes verdict t v m wanted m.count xs h
-      ]
+      cond_both (m.level == 1) (join_answers (answers_among t accepts score m m.count) xs) (join_nodes verdict t v m m.count xs)
+      IsRising (λ e. rising_put_all (map item_of (answers_among t accepts score m m.count)) xs h)
+      (λ e. rising_nodes verdict t v m wanted m.count xs h)
 
 module _ {accepts : Extent → Bool} {score : Extent → ℕ} {verdict : Info → Verdict}
     (law : IsLawful accepts score verdict) (t : Packed) where
@@ -79,14 +77,10 @@ module _ {accepts : Extent → Bool} {score : Extent → ℕ} {verdict : Info �
       let m = node_at t n.number.number in
       let v = verdict_on s n in
       let level = subtree_level t (height_at t n.number.number) m k.state.sound.0.tree in
-      let split : (b : Bool) → (m.level == 1) ≡ b → IsNodeStep accepts score verdict t opened asked capacity s n xs
-      (cond b (join_answers (answers_among t accepts score m m.count) xs) (join_nodes verdict t v m m.count xs)) = elim [
-        | true ↦ λ e. leaf_step law t small (eqb-true m.level 1 e) k
-        | false ↦ λ e.
-            let other = eqb-false m.level 1 e in
-            inner_step law t small (omega (arith, level, other)) k
-      ] in
-      split (m.level == 1) refl
+      cond_both (m.level == 1) (join_answers (answers_among t accepts score m m.count) xs) (join_nodes verdict t v m m.count xs)
+      (IsNodeStep accepts score verdict t opened asked capacity s n xs)
+      (λ e. leaf_step law t small (eqb-true m.level 1 e) k)
+      (λ e. let other = eqb-false m.level 1 e in inner_step law t small (omega (arith, level, other)) k)
 
   -- what the calls leave is what is defined
   pub leaf_joins : (wanted : Option ℕ) (s : ℕ) (n : WaitingNode) (m : node.Node) (new xs : List Item)
