@@ -20,7 +20,6 @@ use Rattle.rt_search.specs.Work.{is_reached, its_children, one_node, reached_fro
 use Rattle.rt_search.specs.declared.item.Item.{Item}
 use Rattle.rt_search.specs.declared.item.Place.TheVariants as place
 use Rattle.rt_search.specs.declared.item.ScoredNode.{ScoredNode}
-use Rattle.rt_search.specs.declared.item.Taken.{Taken}
 use Rattle.rt_search.specs.declared.item.WaitingNode.{WaitingNode}
 use Rattle.rt_search.proofs.Children.{subtree_level}
 use Rattle.rt_search.proofs.Limits.{enough_nodes, enough_put_all, enough_trans, first_kept, none_left, rising_nodes}
@@ -36,13 +35,13 @@ falls_by_one all o o' e h = omega (arith, e, h)
 
 -- ---- what was taken out of a frontier
 
-pub node_out : (out : Taken) (n : ScoredNode) (items xs : List Item) → out.node ≡ Some n
+pub node_out : (out : Option ScoredNode × Option Answer) (n : ScoredNode) (items xs : List Item) → out.0 ≡ Some n
     → IsTakenOut (taken_item out) items xs → items ≡ item_at n.score (place.Node n.node) ∷ xs
-node_out out n items xs is t = (subst (λ o. IsTakenOut (node_or o (taken_entry out.entry)) items xs) is t).0
+node_out out n items xs is t = (subst (λ o. IsTakenOut (node_or o (taken_entry out.1)) items xs) is t).0
 
-pub node_wanted : (out : Taken) (n : ScoredNode) (w w' : Option ℕ) → out.node ≡ Some n
+pub node_wanted : (out : Option ScoredNode × Option Answer) (n : ScoredNode) (w w' : Option ℕ) → out.0 ≡ Some n
     → w' ≡ wanted_after (taken_item out) w → w' ≡ w
-node_wanted out n w w' is h = h ∙ ap (λ o. wanted_after (node_or o (taken_entry out.entry)) w) is
+node_wanted out n w w' is h = h ∙ ap (λ o. wanted_after (node_or o (taken_entry out.1)) w) is
 
 module _ (accepts : Extent → Bool) (score : Extent → ℕ) (verdict : Info → Verdict) (t : Packed) (wanted : Option ℕ)
     (s : ℕ) (n : WaitingNode) where
