@@ -4,6 +4,7 @@ use Rattle.std.proofs.Common.{length, take, get_or, refl, sym, ◌∙◌, ap, su
 use Rattle.std.specs.Prelude.{IfNone, MatchOption}
 use Rattle.std.specs.List.{AllByRecursion, flat_map}
 use Rattle.std.specs.Ordering.{is_gt}
+use Rattle.std.proofs.lemmas.Bool.{cond_both}
 use Rattle.std.proofs.lemmas.Bool.Decides.{nat_tests}
 use Rattle.std.proofs.lemmas.Grind.{flat_map-append}
 use Rattle.std.proofs.lemmas.List.{append-nil, map-append, take_more}
@@ -26,7 +27,8 @@ use Rattle.rt_search.specs.declared.item.Place.{Place}
 use Rattle.rt_search.specs.declared.item.Place.TheVariants as place
 use Rattle.rt_search.specs.declared.item.WaitingNode.{WaitingNode}
 use Rattle.rt_search.proofs.Elements.{all-append, all_map}
-use Rattle.rt_search.proofs.OrderedLists.{put-all, put_all-all, put_all-append, put_all-put_all, put_least}
+use Rattle.rt_search.proofs.OrderedLists.{put-all, put_all-all, put_all-append, put_all-put_all, put_cases}
+use Rattle.rt_search.proofs.OrderedLists.{put_least}
 use Rattle.rt_search.proofs.Orders.{answer_order, item_order}
 
 pub take_more_at : {X : Type 0} (xs : List X) (i : ℕ) (x : X) → i < length xs → x ≡ get_or xs i x → take (i + 1) xs
@@ -80,12 +82,9 @@ module _ (accepts : Extent → Bool) (score : Extent → ℕ) where
   among_above c s low [] a = tt
   among_above c s low (e ∷ es) a =
       let rest = among_above c s low es a.1 in
-      let P : List Answer → Type 0 = AllByRecursion (λ a. s ≤ a.1) in
-      let split : (b : Bool) → accepts (extent_of_entry e) ≡ b → P (among (e ∷ es)) = elim [
-        | true ↦ λ h. subst P (sym (among_accepted e es h)) (low (extent_of_entry e) a.0 h, rest)
-        | false ↦ λ h. subst P (sym (among_refused e es h)) rest
-      ] in
-      split (accepts (extent_of_entry e)) refl
+      cond_both (accepts (extent_of_entry e)) (e ∷ accepted es accepts) (accepted es accepts)
+      (λ l. AllByRecursion (λ a. s ≤ a.1) (map (answer_of score) l)) (λ h. (low (extent_of_entry e) a.0 h, rest))
+      (λ h. rest)
 
   -- where no box inside is accepted there is no answer
   pub among_none : (c : Extent) → NoneAccepted accepts c → (es : List Entry) → AllByRecursion (IsEntryInside c) es
@@ -143,12 +142,9 @@ module _ (accepts : Extent → Bool) (score : Extent → ℕ) where
         let R = remaining t accepts score in
         let A = answers_at t accepts score x.score x.place in
         let B = answers_at t accepts score y.score y.place in
-        elim (is_gt (item_cmp x y)) as
-        (λ b. R (cond b (y ∷ put item_cmp x ys) (x ∷ y ∷ ys))
-        ≡ put_all answer_cmp A (put_all answer_cmp B (R ys))) [
-          | true ↦ ap (put_all answer_cmp B) (remaining-put x ys) ∙ put_all-put_all answer_cmp answer_order B A (R ys)
-          | false ↦ refl
-        ]
+        put_cases item_cmp (λ l. R l ≡ put_all answer_cmp A (put_all answer_cmp B (R ys))) x y ys
+        (λ e. ap (put_all answer_cmp B) (remaining-put x ys) ∙ put_all-put_all answer_cmp answer_order B A (R ys))
+        (λ e. refl)
 
     pub AllSound-put : (x : Item) (xs : List Item) → IsSoundAt t accepts score x.score x.place
         → AllSound t accepts score xs → AllSound t accepts score (put item_cmp x xs)
@@ -212,12 +208,6 @@ module _ (accepts : Extent → Bool) (score : Extent → ℕ) where
     none_left (Some a) items new out = tt
 
     -- ---- a node that joins
-
-    pub node_kept : (n : WaitingNode) (s : ℕ) (old new : List Item) → new
-        ≡ put item_cmp (item_at s (place.Node n)) old → remaining t accepts score new
-        ≡ put_all answer_cmp (among (entries_under t (height_at t n.number.number) (node_at t n.number.number)))
-        (remaining t accepts score old)
-    node_kept n s old new put_in = ap (remaining t accepts score) put_in ∙ remaining-put (item_at s (place.Node n)) old
 
     -- a node with no accepted box inside its bounds may be left out
     pub node_dropped : (k : ℕ) → IsSubtree t (height_at t k) (node_at t k)

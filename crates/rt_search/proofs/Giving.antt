@@ -1,9 +1,10 @@
 -- A search gives its answers one after the other, up to its limit.
-use Rattle.std.proofs.Common.{◌≡◌, ◌≢◌, ◌<◌, ◌≤◌, ◌+◌, ◌-◌, ℕ, zero, suc, Bool, true, false, List, [], ◌∷◌, length}
+use Rattle.std.proofs.Common.{◌≡◌, ◌≢◌, ◌<◌, ◌≤◌, ◌+◌, ◌-◌, ℕ, zero, suc, Bool, List, [], ◌∷◌, length}
 use Rattle.std.proofs.Common.{take, drop, Option, Some, None, refl, sym, ◌∙◌, ap, subst, arith, add-one}
 use Rattle.std.specs.Prelude.{IfSome, slice_get}
 use Rattle.std.specs.Option.{option_map}
-use Rattle.std.proofs.lemmas.List.{length-drop}
+use Rattle.std.proofs.lemmas.List.{length-drop, length-map}
+use Rattle.std.proofs.lemmas.List.Sums.{count_by-le-length, length-filter}
 use Rattle.std.proofs.lemmas.List.Sorted.{length_permutation}
 use Rattle.rt_geo.specs.Laws.{Extent, extent_of_entry}
 use Rattle.rt_geo.specs.declared.entry.Entry.{Entry}
@@ -13,12 +14,11 @@ use Rattle.rt_tree.specs.Packed.{Packed, IsSound}
 use Rattle.rt_tree.proofs.SortingLemmas.{IsPermutation-sorted}
 use Rattle.rt_tree.specs.Sorting.{limited}
 use Rattle.rt_tree.specs.declared.tree.Node.{Node}
-use Rattle.rt_search.specs.Answers.{Answer, answer_cmp, answers, scored}
+use Rattle.rt_search.specs.Answers.{Answer, accepted, answer_cmp, answer_of, answers, scored}
 use Rattle.rt_search.specs.Progress.{IsFound, IsGiving, IsInLimit, IsOver, IsUnderWay}
 use Rattle.rt_search.specs.Limits.{one_less}
 use Rattle.rt_search.specs.Work.{HasWorked, is_reached, its_children, one_node, search_work, reached_from_root}
 use Rattle.rt_search.specs.declared.item.Item.{Item}
-use Rattle.rt_search.proofs.Answering.{among_accepted, among_refused}
 
 -- ---- lists that are given one by one
 
@@ -77,17 +77,8 @@ suc_less g = omega arith
 
 -- ---- how many are still wanted
 
-some_is : (m n : ℕ) → ◌≡◌ {A = Option ℕ} (Some m) (Some n) → m ≡ n
-some_is m n e = cc
-
 same_number : (g n : ℕ) → n ≡ 0 → g + n ≡ g
 same_number g n e = omega (arith, e)
-
-pub more_wanted : (wanted limit : Option ℕ) (g : ℕ) → limit ≢ Some g → IfSome wanted (λ n. limit ≡ Some (g + n))
-    → wanted ≢ Some 0
-more_wanted None limit g more h = λ e. cc
-more_wanted (Some n) limit g more h =
-    λ e. more (h ∙ ap Some (same_number g n (some_is n 0 e)))
 
 next_still : (wanted limit : Option ℕ) (g : ℕ) → limit ≢ Some g → IfSome wanted (λ n. limit ≡ Some (g + n))
     → IfSome (one_less wanted) (λ n. limit ≡ Some (suc g + n))
@@ -97,15 +88,12 @@ next_still (Some (suc n)) limit g more h = h ∙ ap Some (omega arith)
 
 module _ (accepts : Extent → Bool) (score : Extent → ℕ) where
   pub length-scored : (es : List Entry) → length (scored es accepts score) ≤ length es
-  length-scored [] = omega arith
-  length-scored (e ∷ es) =
-      let rest = length-scored es in
-      let split : (b : Bool) → accepts (extent_of_entry e) ≡ b
-      → length (scored (e ∷ es) accepts score) ≤ length (e ∷ es) = elim [
-        | true ↦ λ h. (let l = ap length (among_accepted accepts score e es h) in omega (arith, l, rest))
-        | false ↦ λ h. (let l = ap length (among_refused accepts score e es h) in omega (arith, l, rest))
-      ] in
-      split (accepts (extent_of_entry e)) refl
+  length-scored es = omega (
+    arith,
+    length-map (accepted es accepts) (answer_of score),
+    length-filter (λ (e : Entry). accepts (extent_of_entry e)) es,
+    count_by-le-length (λ (e : Entry). accepts (extent_of_entry e)) es,
+  )
 
 module _ (accepts : Extent → Bool) (score : Extent → ℕ) (verdict : Info → Verdict) (t : Packed) where
   abbrev all : List Answer

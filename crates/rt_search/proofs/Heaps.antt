@@ -1,5 +1,5 @@
 -- What is kept in any order, seen as items in order.
-use Rattle.std.proofs.Common.{Some, ◌≡◌, ◌≤◌, ℕ, false, List, [], ◌∷◌, map, length, sym, ◌∙◌, ap}
+use Rattle.std.proofs.Common.{Some, ◌≡◌, ◌≤◌, ℕ, false, List, [], ◌∷◌, map, length, sym, ◌∙◌}
 use Rattle.std.proofs.Common.{Result, Ok, Err, IsPermutation}
 use Rattle.std.specs.Prelude.{IsOk, OnOk}
 use Rattle.std.specs.List.{AllByRecursion}
@@ -10,7 +10,7 @@ use Rattle.std.proofs.lemmas.List.Sorted.{IsPermutation-map, length_permutation}
 use Rattle.rt_tree.proofs.SortingLemmas.{IsPermutation-sorted}
 use Rattle.rt_tree.specs.Sorting.{put}
 use Rattle.rt_search.specs.Items.{item_cmp}
-use Rattle.rt_search.specs.Kept.{IsEntry, IsFirstScore, IsLeast, IsNode, IsTakenOut, entry_item, in_order, node_item, wide_item}
+use Rattle.rt_search.specs.Kept.{IsEntry, IsLeast, IsNode, IsTakenOut, entry_item, in_order, node_item, wide_item}
 use Rattle.rt_search.specs.contracts.item.ItemOrd.TheImpl.{ghosts as item_ghosts}
 use Rattle.rt_search.specs.declared.item.Item.{Item}
 use Rattle.rt_search.proofs.Elements.{all_each, all_map, all_moved}

@@ -1,7 +1,7 @@
 -- What opening a node means for the answers to come.
 use Rattle.std.proofs.Common.{◌≡◌, ◌<◌, ◌≤◌, ◌+◌, ◌-◌, ◌^◌, ℕ, zero, suc, Bool, true, false, cond, List, [], ◌∷◌}
 use Rattle.std.proofs.Common.{length, take, refl, sym, ◌∙◌, ap, subst, arith, add-one}
-use Rattle.std.proofs.lemmas.Bool.{cond-false, cond-true}
+use Rattle.std.proofs.lemmas.Bool.{cond_both}
 use Rattle.rt_geo.specs.Laws.{Extent, IsLawful, IsQuestion, NoneAccepted, extent_of}
 use Rattle.rt_geo.specs.declared.geometry.Info.{Info}
 use Rattle.rt_geo.specs.declared.geometry.Verdict.{Verdict}
@@ -19,7 +19,7 @@ use Rattle.rt_search.specs.Work.{info_of_node, is_kept}
 use Rattle.rt_search.specs.declared.item.Item.{Item}
 use Rattle.rt_search.specs.declared.item.Place.TheVariants as place
 use Rattle.rt_search.proofs.Answering.{AllSound-put, among, node_dropped, remaining-put}
-use Rattle.rt_search.proofs.Answering.{node_kept, one_more, under_all, under_all-append, under_all-none, under_all-one}
+use Rattle.rt_search.proofs.Answering.{one_more, under_all, under_all-append, under_all-none, under_all-one}
 use Rattle.rt_search.proofs.Answering.{under_all-whole}
 use Rattle.rt_search.proofs.Children.{all_children, child, height_suc, node_question}
 
@@ -66,16 +66,12 @@ module _ {accepts : Extent → Bool} {score : Extent → ℕ} {verdict : Info �
       let v = verdict info in
       let R = remaining t accepts score in
       let put_in = put item_cmp (item_at v.score (place.Node (waiting_node k v.within))) xs in
-      let split : (b : Bool) → is_kept v.within ≡ b → R (join_node v k xs)
-      ≡ put_all answer_cmp (among accepts score (entries_under t (height_at t k) (node_at t k))) (R xs) = elim [
-        | true ↦ λ h. node_kept accepts score t (waiting_node k v.within) v.score xs (join_node v k xs)
-            (cond-true (is_kept v.within) put_in xs h)
-        | false ↦ λ h.
-            let never = law.faithful.pruning info question high (kept_not v.within h) in
-            ap R (cond-false (is_kept v.within) put_in xs h)
-            ∙ node_dropped accepts score t k tree (subst (NoneAccepted accepts) at never) (R xs)
-      ] in
-      split (is_kept v.within) refl
+      cond_both (is_kept v.within) put_in xs
+      (λ l. R l ≡ put_all answer_cmp (among accepts score (entries_under t (height_at t k) (node_at t k))) (R xs))
+      (λ h. remaining-put accepts score t (item_at v.score (place.Node (waiting_node k v.within))) xs)
+      (λ h.
+      let never = law.faithful.pruning info question high (kept_not v.within h) in
+      node_dropped accepts score t k tree (subst (NoneAccepted accepts) at never) (R xs))
 
   node_sound : (k : ℕ) (info : Info) (xs : List Item) → extent_of info ≡ extent_of_node (node_at t k) → 0 < info.level
       → IsQuestion accepts info → k < length t.nodes → IsSubtree t (height_at t k) (node_at t k)
@@ -90,19 +86,15 @@ module _ {accepts : Extent → Bool} {score : Extent → ℕ} {verdict : Info �
         least =
             λ b h y. law.admissibility info question high b h y;
       } in
-      let split : (b : Bool) → is_kept v.within ≡ b → AllSound t accepts score (cond b put_in xs) = elim [
-        | true ↦ λ h. AllSound-put accepts score t (item_at v.score (place.Node (waiting_node k v.within))) xs
-            (subst (IsOpenable t accepts score k) (sym (verdict_told v k h))
-            (record {
-              inside = inside;
-              tree = tree;
-              low = low;
-              below =
-                  subst (λ c. IsBelow accepts score c v) at below;
-            })) a
-        | false ↦ λ h. a
-      ] in
-      split (is_kept v.within) refl
+      cond_both (is_kept v.within) put_in xs (AllSound t accepts score)
+      (λ h. AllSound-put accepts score t (item_at v.score (place.Node (waiting_node k v.within))) xs
+      (subst (IsOpenable t accepts score k) (sym (verdict_told v k h)) (record {
+        inside = inside;
+        tree = tree;
+        low = low;
+        below = subst (λ c. IsBelow accepts score c v) at below;
+      })) a)
+      (λ h. a)
 
   module _ (sound : IsSound t) (v : Verdict) (small : v.score < 2 ^ 128) where
     -- ---- the children of a higher node

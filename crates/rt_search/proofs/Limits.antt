@@ -1,6 +1,6 @@
 -- What may be left out where a limit is known.
 use Rattle.std.proofs.Common.{◌≡◌, ◌≢◌, ◌≤◌, ◌<◌, ◌+◌, ◌-◌, ℕ, zero, suc, Bool, true, false, cond, Option, Some, None, List}
-use Rattle.std.proofs.Common.{[], ◌∷◌, length, refl, sym, ◌∙◌, ap, subst, arith}
+use Rattle.std.proofs.Common.{Ordering, [], ◌∷◌, length, refl, sym, ◌∙◌, ap, subst, arith}
 use Rattle.std.specs.Ordering.{is_gt}
 use Rattle.std.specs.declared.cmp.Reverse.{Reverse}
 use Rattle.rt_geo.specs.declared.geometry.Info.{Info}
@@ -18,7 +18,7 @@ use Rattle.rt_search.specs.declared.item.Item.{Item}
 use Rattle.rt_search.specs.declared.item.Place.{Place}
 use Rattle.rt_search.specs.declared.item.Place.TheVariants.{Node, Entry}
 use Rattle.rt_search.proofs.SortedLists.{rising_put}
-use Rattle.rt_search.proofs.OrderedLists.{length-put, length-put_all, put_all-put}
+use Rattle.rt_search.proofs.OrderedLists.{IsOrder, length-put, length-put_all, put_all-put}
 use Rattle.rt_search.proofs.Orders.{item_order}
 
 -- ---- the front of a list
@@ -74,67 +74,26 @@ left_out_behind x (y ∷ ys) (suc n) h =
 
 -- ---- how many entries stand before an item
 
+module _ (cmp : Item → Item → Ordering) (o : IsOrder cmp) (size : Item → ℕ) where
+  abbrev before : Item → List Item → ℕ
+  before x [] = 0
+  before x (y ∷ ys) = cond (is_gt (cmp x y)) (size y + before x ys) 0
+
+  before_put_cons : (x z y : Item) (ys : List Item)
+      → before x (put cmp z ys) ≡ cond (is_gt (cmp x z)) (size z) 0 + before x ys
+      → before x (put cmp z (y ∷ ys)) ≡ cond (is_gt (cmp x z)) (size z) 0 + before x (y ∷ ys)
+  before_put_cons x z y ys h = grind (arith, o.one_way, o.trans)
+
+  before-put : (x z : Item) (ys : List Item) → before x (put cmp z ys) ≡ cond (is_gt (cmp x z)) (size z) 0 + before x ys
+  before-put x z [] = grind arith
+  before-put x z (y ∷ ys) = before_put_cons x z y ys (before-put x z ys)
+
 abbrev pub here : Item → Item → ℕ
 here x z = cond (is_gt (item_cmp x z)) (entries_at z.place) 0
 
-here_none : (x z : Item) → is_gt (item_cmp x z) ≡ false → here x z ≡ 0
-here_none x z h = rw h refl
-
-here_one : (x z : Item) → is_gt (item_cmp x z) ≡ true → here x z ≡ entries_at z.place
-here_one x z h = rw h refl
-
-before_some : (x y : Item) (ys : List Item) → is_gt (item_cmp x y) ≡ true
-    → entries_before x (y ∷ ys) ≡ entries_at y.place + entries_before x ys
-before_some x y ys h = rw h refl
-
-before_none : (x y : Item) (ys : List Item) → is_gt (item_cmp x y) ≡ false → entries_before x (y ∷ ys) ≡ 0
-before_none x y ys h = rw h refl
-
--- z joins behind y
-before_behind : (x z y : Item) (ys zs : List Item) → is_gt (item_cmp z y) ≡ true
-    → entries_before x zs ≡ here x z + entries_before x ys
-    → entries_before x (y ∷ zs) ≡ here x z + entries_before x (y ∷ ys)
-before_behind x z y ys zs e h =
-    let split : (b : Bool) → is_gt (item_cmp x y) ≡ b
-    → entries_before x (y ∷ zs) ≡ here x z + entries_before x (y ∷ ys) = elim [
-      | true ↦ λ k. omega (arith, h, before_some x y zs k, before_some x y ys k)
-      | false ↦ λ k.
-          let none = here_none x z (item_order.trans x y z k (item_order.one_way z y e)) in
-          omega (arith, none, before_none x y zs k, before_none x y ys k)
-    ] in
-    split (is_gt (item_cmp x y)) refl
-
--- z joins before y
-before_ahead : (x z y : Item) (ys : List Item) → is_gt (item_cmp z y) ≡ false
-    → entries_before x (z ∷ y ∷ ys) ≡ here x z + entries_before x (y ∷ ys)
-before_ahead x z y ys e =
-    let split : (b : Bool) → is_gt (item_cmp x z) ≡ b
-    → entries_before x (z ∷ y ∷ ys) ≡ here x z + entries_before x (y ∷ ys) = elim [
-      | true ↦ λ k. omega (arith, before_some x z (y ∷ ys) k, here_one x z k)
-      | false ↦ λ k.
-          let none = before_none x y ys (item_order.trans x z y k e) in
-          omega (arith, none, before_none x z (y ∷ ys) k, here_none x z k)
-    ] in
-    split (is_gt (item_cmp x z)) refl
-
-before_only : (x z : Item) → entries_before x (z ∷ []) ≡ here x z + 0
-before_only x z =
-    let split : (b : Bool) → is_gt (item_cmp x z) ≡ b → entries_before x (z ∷ []) ≡ here x z + 0 = elim [
-      | true ↦ λ k. omega (arith, before_some x z [] k, here_one x z k)
-      | false ↦ λ k. omega (arith, before_none x z [] k, here_none x z k)
-    ] in
-    split (is_gt (item_cmp x z)) refl
-
 pub entries_before-put : (x z : Item) (ys : List Item) → entries_before x (put item_cmp z ys)
     ≡ here x z + entries_before x ys
-entries_before-put x z [] = before_only x z
-entries_before-put x z (y ∷ ys) =
-    let split : (b : Bool) → is_gt (item_cmp z y) ≡ b → entries_before x (cond b (y ∷ put item_cmp z ys) (z ∷ y ∷ ys))
-    ≡ here x z + entries_before x (y ∷ ys) = elim [
-      | true ↦ λ e. before_behind x z y ys (put item_cmp z ys) e (entries_before-put x z ys)
-      | false ↦ λ e. before_ahead x z y ys e
-    ] in
-    split (is_gt (item_cmp z y)) refl
+entries_before-put = before-put item_cmp item_order (λ z. entries_at z.place)
 
 -- those in either of two lists stand before it in both
 pub before_right : (x : Item) (xs ys : List Item) → entries_before x ys ≤ entries_before x (put_all item_cmp xs ys)

@@ -1,5 +1,5 @@
 -- Two lists in order, seen as one.
-use Rattle.std.proofs.Common.{◌≡◌, ◌<◌, ◌≤◌, ◌+◌, ◌^◌, ℕ, Bool, true, false, cond, Option, Some, None, List, [], ◌∷◌, length}
+use Rattle.std.proofs.Common.{◌≡◌, ◌<◌, ◌≤◌, ◌+◌, ◌^◌, ℕ, Bool, true, false, Option, Some, None, List, [], ◌∷◌, length}
 use Rattle.std.proofs.Common.{refl, sym, ◌∙◌, ap, subst, arith, Ordering}
 use Rattle.std.specs.Prelude.{IfSome, MatchBool, MatchOption}
 use Rattle.std.specs.List.{AllByRecursion}
@@ -12,7 +12,7 @@ use Rattle.rt_search.specs.Remaining.{put_all}
 use Rattle.rt_search.specs.declared.item.Item.{Item}
 use Rattle.rt_search.proofs.Elements.{all_both, all_map}
 use Rattle.rt_search.proofs.OrderedLists.{IsOrder, length-put, length-put_all, put-all, put-put, put_all-all}
-use Rattle.rt_search.proofs.OrderedLists.{put_all-put, put_least}
+use Rattle.rt_search.proofs.OrderedLists.{put_all-put, put_cases, put_least}
 use Rattle.rt_search.proofs.Orders.{item_order, lower_before, node_before}
 
 -- x joins the left list, or the whole
@@ -20,11 +20,8 @@ pub put-put_all : {X : Type 0} (cmp : X → X → Ordering) (o : IsOrder cmp) (x
     → put_all cmp (put cmp x xs) zs ≡ put cmp x (put_all cmp xs zs)
 put-put_all cmp o x [] zs = refl
 put-put_all cmp o x (y ∷ xs) zs =
-    elim (is_gt (cmp x y)) as
-    (λ b. put_all cmp (cond b (y ∷ put cmp x xs) (x ∷ y ∷ xs)) zs ≡ put cmp x (put cmp y (put_all cmp xs zs))) [
-      | true ↦ ap (put cmp y) (put-put_all cmp o x xs zs) ∙ put-put cmp o y x (put_all cmp xs zs)
-      | false ↦ refl
-    ]
+    put_cases cmp (λ l. put_all cmp l zs ≡ put cmp x (put cmp y (put_all cmp xs zs))) x y xs
+    (λ e. ap (put cmp y) (put-put_all cmp o x xs zs) ∙ put-put cmp o y x (put_all cmp xs zs)) (λ e. refl)
 
 pub length-merged : (xs ys : List Item) → length (put_all item_cmp xs ys) ≡ length xs + length ys
 length-merged xs ys = length-put_all item_cmp item_order xs ys

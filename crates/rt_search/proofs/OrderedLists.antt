@@ -1,9 +1,10 @@
 -- Lists that are kept in an order which tells all elements apart.
-use Rattle.std.proofs.Common.{◌≡◌, ◌+◌, true, false, cond, List, [], ◌∷◌, ◌++◌, ℕ, length, get_or}
+use Rattle.std.proofs.Common.{◌≡◌, ◌+◌, true, false, List, [], ◌∷◌, ◌++◌, ℕ, length, get_or}
 use Rattle.std.proofs.Common.{refl, sym, ◌∙◌, ap, arith, Ordering, Less, Equal, Greater, IsPermutation}
 use Rattle.std.specs.Cmp.{IsTotalOrder}
 use Rattle.std.specs.List.{AllByRecursion, sum_by}
 use Rattle.std.specs.Ordering.{is_gt, is_lt, ordering_reverse}
+use Rattle.std.proofs.lemmas.Bool.{cond_both}
 use Rattle.std.proofs.lemmas.Cmp.{upto}
 use Rattle.std.proofs.lemmas.List.Sums.{sum_by-cons}
 use Rattle.std.proofs.lemmas.Map.Lookups.{CmpEqualImpliesEq}
@@ -48,6 +49,12 @@ order_of {X} cmp total apart =
           sorted-IsPermutation cmp total xs ys (λ i j d h k. apart (get_or xs i d) (get_or xs j d));
     }
 
+-- what holds wherever x is put
+pub put_cases : {X : Type 0} (cmp : X → X → Ordering) (P : List X → Type 0) (x y : X) (ys : List X)
+    → (is_gt (cmp x y) ≡ true → P (y ∷ put cmp x ys)) → (is_gt (cmp x y) ≡ false → P (x ∷ y ∷ ys))
+    → P (put cmp x (y ∷ ys))
+put_cases cmp P x y ys = cond_both (is_gt (cmp x y)) (y ∷ put cmp x ys) (x ∷ y ∷ ys) P
+
 module _ {X : Type 0} (cmp : X → X → Ordering) (o : IsOrder cmp) where
   put_put_nil : (x y : X) → put cmp x (put cmp y []) ≡ put cmp y (put cmp x [])
   put_put_nil x y = grind (arith, o.one_way, o.tie)
@@ -83,10 +90,7 @@ module _ {X : Type 0} (cmp : X → X → Ordering) (o : IsOrder cmp) where
   pub put-all : (P : X → Type 0) (x : X) (ys : List X) → P x → AllByRecursion P ys → AllByRecursion P (put cmp x ys)
   put-all P x [] p a = (p, tt)
   put-all P x (y ∷ ys) p a =
-      elim (is_gt (cmp x y)) as (λ b. AllByRecursion P (cond b (y ∷ put cmp x ys) (x ∷ y ∷ ys))) [
-        | true ↦ (a.0, put-all P x ys p a.1)
-        | false ↦ (p, a)
-      ]
+      put_cases cmp (AllByRecursion P) x y ys (λ e. (a.0, put-all P x ys p a.1)) (λ e. (p, a))
 
   pub put_all-all : (P : X → Type 0) (xs ys : List X) → AllByRecursion P xs → AllByRecursion P ys
       → AllByRecursion P (put_all cmp xs ys)
@@ -106,10 +110,7 @@ module _ {X : Type 0} (cmp : X → X → Ordering) (o : IsOrder cmp) where
   pub length-put : (x : X) (ys : List X) → length (put cmp x ys) ≡ length ys + 1
   length-put x [] = refl
   length-put x (y ∷ ys) =
-      elim (is_gt (cmp x y)) as (λ b. length (cond b (y ∷ put cmp x ys) (x ∷ y ∷ ys)) ≡ length (y ∷ ys) + 1) [
-        | true ↦ omega (arith, length-put x ys)
-        | false ↦ omega arith
-      ]
+      put_cases cmp (λ l. length l ≡ length (y ∷ ys) + 1) x y ys (λ e. omega (arith, length-put x ys)) (λ e. omega arith)
 
   pub length-put_all : (xs ys : List X) → length (put_all cmp xs ys) ≡ length xs + length ys
   length-put_all [] ys = omega arith
@@ -118,7 +119,6 @@ module _ {X : Type 0} (cmp : X → X → Ordering) (o : IsOrder cmp) where
   pub sum_by-put : (f : X → ℕ) (x : X) (ys : List X) → sum_by f (put cmp x ys) ≡ f x + sum_by f ys
   sum_by-put f x [] = omega arith
   sum_by-put f x (y ∷ ys) =
-      elim (is_gt (cmp x y)) as (λ b. sum_by f (cond b (y ∷ put cmp x ys) (x ∷ y ∷ ys)) ≡ f x + sum_by f (y ∷ ys)) [
-        | true ↦ omega (arith, sum_by-put f x ys, sum_by-cons f y (put cmp x ys), sum_by-cons f y ys)
-        | false ↦ sum_by-cons f x (y ∷ ys)
-      ]
+      put_cases cmp (λ l. sum_by f l ≡ f x + sum_by f (y ∷ ys)) x y ys
+      (λ e. omega (arith, sum_by-put f x ys, sum_by-cons f y (put cmp x ys), sum_by-cons f y ys))
+      (λ e. sum_by-cons f x (y ∷ ys))

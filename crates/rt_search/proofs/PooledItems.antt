@@ -1,9 +1,8 @@
 -- Keys, seen as items in order.
-use Rattle.std.proofs.Common.{◌≡◌, ◌≤◌, ℕ, Bool, true, false, cond, Option, Some, None, List, [], ◌∷◌, ⊎_elim}
-use Rattle.std.proofs.Common.{refl, sym, ◌∙◌, ap, arith}
+use Rattle.std.proofs.Common.{◌≡◌, ◌≤◌, ℕ, Option, Some, None, List, [], ◌∷◌, ⊎_elim}
+use Rattle.std.proofs.Common.{sym, ◌∙◌, ap, arith}
 use Rattle.std.specs.Prelude.{MatchOption}
 use Rattle.std.specs.List.{AllByRecursion}
-use Rattle.std.specs.Ordering.{is_gt}
 use Rattle.std.specs.declared.cmp.Reverse.{Reverse}
 use Rattle.rt_tree.specs.Sorting.{put}
 use Rattle.rt_search.specs.Items.{item_cmp}
@@ -12,7 +11,7 @@ use Rattle.rt_search.specs.Pooling.{HasLeastScore, score_in}
 use Rattle.rt_search.specs.declared.item.Item.{Item}
 use Rattle.rt_search.proofs.Elements.{all_map}
 use Rattle.rt_search.proofs.Heaps.{in_order-all}
-use Rattle.rt_search.proofs.OrderedLists.{put-all}
+use Rattle.rt_search.proofs.OrderedLists.{put-all, put_cases}
 use Rattle.rt_search.proofs.Orders.{item_order, score_upto}
 
 -- x has the least score
@@ -20,25 +19,19 @@ put_first : (s : ℕ) (x : Item) (ys : List Item) → s ≡ x.score → AllByRec
     → IsFirstScore s (put item_cmp x ys)
 put_first s x [] e a = (e, tt)
 put_first s x (y ∷ ys) e a =
-    let split : (b : Bool) → is_gt (item_cmp x y) ≡ b → IsFirstScore s (cond b (y ∷ put item_cmp x ys) (x ∷ y ∷ ys)) = elim [
-      | true ↦ λ t.
-          let f = score_upto y x (item_order.one_way x y t) in
-          let m = a.0 in
-          (omega (arith, e, f, m), put-all item_cmp item_order (λ z. s ≤ z.score) x ys (omega (arith, e)) a.1)
-      | false ↦ λ t. (e, a)
-    ] in
-    split (is_gt (item_cmp x y)) refl
+    put_cases item_cmp (IsFirstScore s) x y ys (λ t.
+    let f = score_upto y x (item_order.one_way x y t) in
+    let m = a.0 in
+    (omega (arith, e, f, m), put-all item_cmp item_order (λ z. s ≤ z.score) x ys (omega (arith, e)) a.1)) (λ t. (e, a))
 
 -- it stays the first where x joins, whose score is no lower
 first_stays : (s : ℕ) (x : Item) (ys : List Item) → s ≤ x.score → IsFirstScore s ys → IsFirstScore s (put item_cmp x ys)
 first_stays s x [] h f = absurd f
 first_stays s x (y ∷ ys) h f =
     let first = f.0 in
-    let split : (b : Bool) → is_gt (item_cmp x y) ≡ b → IsFirstScore s (cond b (y ∷ put item_cmp x ys) (x ∷ y ∷ ys)) = elim [
-      | true ↦ λ t. (first, put-all item_cmp item_order (λ z. s ≤ z.score) x ys h f.1)
-      | false ↦ λ t. (let up = score_upto x y t in (omega (arith, up, first, h), (omega (arith, first), f.1)))
-    ] in
-    split (is_gt (item_cmp x y)) refl
+    put_cases item_cmp (IsFirstScore s) x y ys
+    (λ t. (first, put-all item_cmp item_order (λ z. s ≤ z.score) x ys h f.1))
+    (λ t. let up = score_upto x y t in (omega (arith, up, first, h), (omega (arith, first), f.1)))
 
 module _ (item : Reverse ℕ → Item) (scored : (k : Reverse ℕ) → score_in k ≡ (item k).score) where
   -- the least score is that of the first item

@@ -1,9 +1,10 @@
 -- A search begins, and gives its answers one after the other.
-use Rattle.std.proofs.Common.{◌≡◌, ◌<◌, ◌≤◌, ◌+◌, ℕ, zero, suc, Bool, true, false, cond, ◌==◌, List, [], ◌∷◌}
-use Rattle.std.proofs.Common.{length, Option, Some, None, refl, sym, ◌∙◌, ap, subst, arith}
+use Rattle.std.proofs.Common.{◌≡◌, ◌<◌, ◌≤◌, ◌+◌, ℕ, Bool, true, false, cond, ◌==◌, List, [], ◌∷◌}
+use Rattle.std.proofs.Common.{length, Option, Some, None, refl, sym, ◌∙◌, ap, subst, arith, ⊎_elim}
 use Rattle.std.specs.Prelude.{IfSome}
-use Rattle.std.proofs.lemmas.Bool.{eq-eqb, eqb-true}
+use Rattle.std.proofs.lemmas.Bool.{cases_lt, cond_both, eq-eqb, eqb-true}
 use Rattle.std.proofs.lemmas.Bool.Decides.{nat_tests}
+use Rattle.std.proofs.lemmas.List.{nil_from_length}
 use Rattle.std.proofs.lemmas.List.Sorted.{length_permutation}
 use Rattle.std.proofs.lemmas.List.Sums.{sum_by-cons}
 use Rattle.rt_geo.specs.Laws.{Extent}
@@ -125,43 +126,26 @@ module _ (accepts : Extent → Bool) (score : Extent → ℕ) (verdict : Info �
               empty_course its_children none;
         }
 
-    nothing : (es : List _) → length es ≡ 0 → answers es accepts score None ≡ []
-    nothing [] h = refl
-    nothing (e ∷ es) h = absurd (omega (arith, h))
-
     pub empty_answers : length t.nodes ≡ 0 → answers t.entries accepts score None ≡ []
-    empty_answers none = nothing t.entries (
-        let split : (n : ℕ) → length t.entries ≡ n → length t.entries ≡ 0 = elim [
-          | zero ↦ λ h. h
-          | suc m ↦ λ h. absurd (let some = sound.some.1 (omega (arith, h)) in omega (arith, some, none))
-        ] in
-        split (length t.entries) refl)
+    empty_answers none =
+        let no_more : length t.entries ≡ 0 = ⊎_elim (λ h. absurd (let some = sound.some.1 h in omega (arith, some, none)))
+        (λ h. omega (arith, h)) (cases_lt 0 (length t.entries)) in
+        ap (λ es. answers es accepts score None) (nil_from_length t.entries no_more)
 
     pub start_state : (capacity : ℕ) → length t.entries ≤ capacity
         → IsSearching accepts score verdict t 0 0 capacity (root_items t)
     start_state capacity room =
-        let split : (b : Bool) → (length t.nodes == 0) ≡ b
-        → IsSearching accepts score verdict t 0 0 capacity (cond b [] (root_item t ∷ [])) = elim [
-          | true ↦ λ h. empty_state capacity (eqb-true _ 0 h)
-          | false ↦ λ h. root_state capacity (nat_eq_false h) room
-        ] in
-        split (length t.nodes == 0) refl
+        cond_both (length t.nodes == 0) [] (root_item t ∷ []) (IsSearching accepts score verdict t 0 0 capacity)
+        (λ h. empty_state capacity (eqb-true _ 0 h)) (λ h. root_state capacity (nat_eq_false h) room)
 
     pub start_answers : remaining t accepts score (root_items t) ≡ answers t.entries accepts score None
     start_answers =
-        let split : (b : Bool) → (length t.nodes == 0) ≡ b → remaining t accepts score (cond b [] (root_item t ∷ []))
-        ≡ answers t.entries accepts score None = elim [
-          | true ↦ λ h. sym (empty_answers (eqb-true _ 0 h))
-          | false ↦ λ h. root_answers (nat_eq_false h)
-        ] in
-        split (length t.nodes == 0) refl
+        cond_both (length t.nodes == 0) [] (root_item t ∷ [])
+        (λ l. remaining t accepts score l ≡ answers t.entries accepts score None)
+        (λ h. sym (empty_answers (eqb-true _ 0 h))) (λ h. root_answers (nat_eq_false h))
 
     root_rising : IsRising (root_items t)
-    root_rising =
-        elim (length t.nodes == 0) as (λ b. IsRising (cond b [] (root_item t ∷ []))) [
-          | true ↦ tt
-          | false ↦ (tt, tt)
-        ]
+    root_rising = cond_both (length t.nodes == 0) [] (root_item t ∷ []) IsRising (λ h. tt) (λ h. (tt, tt))
 
     -- a search has begun
     pub started : (limit : Option ℕ) (capacity : ℕ) (wanted : Option ℕ) (items : List Item)

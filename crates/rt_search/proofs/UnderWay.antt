@@ -2,7 +2,7 @@
 use Rattle.std.proofs.Common.{◌≡◌, ◌≢◌, ◌<◌, ◌≤◌, ◌+◌, ◌-◌, ◌^◌, ◌==◌, ℕ, ℤ, Bool, true, false, cond, List, [], ◌∷◌, length, map}
 use Rattle.std.proofs.Common.{Option, Some, None, refl, sym, ◌∙◌, ap, subst, arith}
 use Rattle.std.specs.Prelude.{MatchOption}
-use Rattle.std.proofs.lemmas.Bool.{eq-eqb, eqb-false, eqb-true, ne_eqb}
+use Rattle.std.proofs.lemmas.Bool.{cond_both, eq-eqb, eqb-false, eqb-true, ne_eqb}
 use Rattle.rt_geo.specs.Laws.{Extent, IsLawful}
 use Rattle.rt_geo.specs.declared.geometry.Info.{Info}
 use Rattle.rt_geo.specs.declared.geometry.Verdict.{Verdict}
@@ -20,7 +20,6 @@ use Rattle.rt_search.specs.Work.{is_reached, its_children, one_node, reached_fro
 use Rattle.rt_search.specs.declared.item.Item.{Item}
 use Rattle.rt_search.specs.declared.item.Place.TheVariants as place
 use Rattle.rt_search.specs.declared.item.ScoredNode.{ScoredNode}
-use Rattle.rt_search.specs.declared.item.Taken.{Taken}
 use Rattle.rt_search.specs.declared.item.WaitingNode.{WaitingNode}
 use Rattle.rt_search.proofs.Children.{subtree_level}
 use Rattle.rt_search.proofs.Limits.{enough_nodes, enough_put_all, enough_trans, first_kept, none_left, rising_nodes}
@@ -36,18 +35,13 @@ falls_by_one all o o' e h = omega (arith, e, h)
 
 -- ---- what was taken out of a frontier
 
-pub node_out : (out : Taken) (n : ScoredNode) (items xs : List Item) → out.node ≡ Some n
+pub node_out : (out : Option ScoredNode × Option Answer) (n : ScoredNode) (items xs : List Item) → out.0 ≡ Some n
     → IsTakenOut (taken_item out) items xs → items ≡ item_at n.score (place.Node n.node) ∷ xs
-node_out out n items xs is t = (subst (λ o. IsTakenOut (node_or o (taken_entry out.entry)) items xs) is t).0
+node_out out n items xs is t = (subst (λ o. IsTakenOut (node_or o (taken_entry out.1)) items xs) is t).0
 
-pub node_wanted : (out : Taken) (n : ScoredNode) (w w' : Option ℕ) → out.node ≡ Some n
+pub node_wanted : (out : Option ScoredNode × Option Answer) (n : ScoredNode) (w w' : Option ℕ) → out.0 ≡ Some n
     → w' ≡ wanted_after (taken_item out) w → w' ≡ w
-node_wanted out n w w' is h = h ∙ ap (λ o. wanted_after (node_or o (taken_entry out.entry)) w) is
-
-pub wanted_then : (out : Option Answer) (w w' : Option ℕ) → w' ≡ wanted_after (taken_entry out) w
-    → MatchOption out (w' ≡ w) (λ _. w' ≡ one_less w)
-wanted_then None w w' h = h
-wanted_then (Some e) w w' h = h
+node_wanted out n w w' is h = h ∙ ap (λ o. wanted_after (node_or o (taken_entry out.1)) w) is
 
 module _ (accepts : Extent → Bool) (score : Extent → ℕ) (verdict : Info → Verdict) (t : Packed) (wanted : Option ℕ)
     (s : ℕ) (n : WaitingNode) where
@@ -67,11 +61,9 @@ module _ (accepts : Extent → Bool) (score : Extent → ℕ) (verdict : Info �
   rising_children xs h =
       let m = node_at t n.number.number in
       let v = verdict_on s n in
-      elim (m.level == 1) as
-      (λ b. IsRising (cond b (join_answers (answers_among t accepts score m m.count) xs) (join_nodes verdict t v m m.count xs))) [
-        | true ↦ rising_put_all (map item_of (answers_among t accepts score m m.count)) xs h
-        | false ↦ rising_nodes verdict t v m wanted m.count xs h
-      ]
+      cond_both (m.level == 1) (join_answers (answers_among t accepts score m m.count) xs) (join_nodes verdict t v m m.count xs)
+      IsRising (λ e. rising_put_all (map item_of (answers_among t accepts score m m.count)) xs h)
+      (λ e. rising_nodes verdict t v m wanted m.count xs h)
 
 module _ {accepts : Extent → Bool} {score : Extent → ℕ} {verdict : Info → Verdict}
     (law : IsLawful accepts score verdict) (t : Packed) where
@@ -84,14 +76,10 @@ module _ {accepts : Extent → Bool} {score : Extent → ℕ} {verdict : Info �
       let m = node_at t n.number.number in
       let v = verdict_on s n in
       let level = subtree_level t (height_at t n.number.number) m k.state.sound.0.tree in
-      let split : (b : Bool) → (m.level == 1) ≡ b → IsNodeStep accepts score verdict t opened asked capacity s n xs
-      (cond b (join_answers (answers_among t accepts score m m.count) xs) (join_nodes verdict t v m m.count xs)) = elim [
-        | true ↦ λ e. leaf_step law t small (eqb-true m.level 1 e) k
-        | false ↦ λ e.
-            let other = eqb-false m.level 1 e in
-            inner_step law t small (omega (arith, level, other)) k
-      ] in
-      split (m.level == 1) refl
+      cond_both (m.level == 1) (join_answers (answers_among t accepts score m m.count) xs) (join_nodes verdict t v m m.count xs)
+      (IsNodeStep accepts score verdict t opened asked capacity s n xs)
+      (λ e. leaf_step law t small (eqb-true m.level 1 e) k)
+      (λ e. let other = eqb-false m.level 1 e in inner_step law t small (omega (arith, level, other)) k)
 
   -- what the calls leave is what is defined
   pub leaf_joins : (wanted : Option ℕ) (s : ℕ) (n : WaitingNode) (m : node.Node) (new xs : List Item)

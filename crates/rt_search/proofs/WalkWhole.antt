@@ -1,7 +1,7 @@
 -- A walk over a whole tree, from its root.
-use Rattle.std.proofs.Common.{◌≡◌, ◌<◌, ◌≤◌, ◌+◌, ◌-◌, ◌^◌, ◌==◌, ◌∙◌, ℕ, Bool, true, false, cond, None, []}
+use Rattle.std.proofs.Common.{◌≡◌, ◌<◌, ◌≤◌, ◌+◌, ◌-◌, ◌^◌, ◌==◌, ◌∙◌, ℕ, Bool, None, []}
 use Rattle.std.proofs.Common.{length, refl, sym, ap, subst, arith}
-use Rattle.std.proofs.lemmas.Bool.{eqb-true}
+use Rattle.std.proofs.lemmas.Bool.{cond_both, eqb-true}
 use Rattle.std.proofs.lemmas.List.Sorted.{length_permutation}
 use Rattle.rt_geo.specs.Laws.{Extent}
 use Rattle.rt_geo.specs.declared.geometry.Info.{Info}
@@ -26,15 +26,12 @@ module _ (accepts : Extent → Bool) (score : Extent → ℕ) (verdict : Info �
     -- in order they are those of a scan
     pub tree_answers : put_all answer_cmp (answers_in_tree t accepts score) [] ≡ answers t.entries accepts score None
     tree_answers =
-        let split : (b : Bool) → (length t.nodes == 0) ≡ b
-        → put_all answer_cmp (cond b [] (answers_under t accepts score (length t.nodes - 1))) []
-        ≡ answers t.entries accepts score None = elim [
-          | true ↦ λ h. sym (empty_answers accepts score verdict t sound (eqb-true _ 0 h))
-          | false ↦ λ h. put_all-nil answer_cmp answer_order (answers_under t accepts score (length t.nodes - 1))
-              ∙ among-IsPermutation accepts score (entries_under t (height t) (root_of t)) t.entries
-              (sound.every (nat_eq_false h))
-        ] in
-        split (length t.nodes == 0) refl
+        cond_both (length t.nodes == 0) [] (answers_under t accepts score (length t.nodes - 1))
+        (λ l. put_all answer_cmp l [] ≡ answers t.entries accepts score None)
+        (λ h. sym (empty_answers accepts score verdict t sound (eqb-true _ 0 h)))
+        (λ h. put_all-nil answer_cmp answer_order (answers_under t accepts score (length t.nodes - 1))
+        ∙ among-IsPermutation accepts score (entries_under t (height t) (root_of t)) t.entries
+        (sound.every (nat_eq_false h)))
 
     -- and as many
     pub tree_count : length (answers_in_tree t accepts score) ≡ length (accepted t.entries accepts)

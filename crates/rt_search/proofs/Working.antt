@@ -2,6 +2,7 @@
 use Rattle.std.proofs.Common.{◌≡◌, ◌<◌, ◌≤◌, ◌+◌, ◌-◌, ℕ, zero, suc, Bool, true, false, cond, List, [], ◌∷◌, length}
 use Rattle.std.proofs.Common.{take, refl, ◌∙◌, ap, arith, add-one}
 use Rattle.std.specs.List.{sum_by}
+use Rattle.std.proofs.lemmas.Bool.{cond_both}
 use Rattle.std.proofs.lemmas.List.Sums.{sum_by-append}
 use Rattle.rt_geo.specs.declared.geometry.Info.{Info}
 use Rattle.rt_geo.specs.declared.geometry.Verdict.{Verdict}
@@ -126,13 +127,9 @@ module _ (verdict : Info → Verdict) (t : Packed) (v : Verdict) where
           ≡ brings (height_at t m) (node_at t m)
       brought m =
           let w = verdict (info_of_node t v (node_at t m)) in
-          let split : (b : Bool) → is_kept w.within ≡ b
-          → cond b (work_at opens cost verdict t w.score (place.Node (waiting_node m w.within))) 0
-          ≡ under_verdict m w = elim [
-            | true ↦ λ h. ap (under_verdict m) (verdict_told w m h)
-            | false ↦ λ h. (let c = closed w h in rw c refl)
-          ] in
-          split (is_kept w.within) refl
+          cond_both (is_kept w.within) (work_at opens cost verdict t w.score (place.Node (waiting_node m w.within))) 0
+          (λ n. n ≡ under_verdict m w) (λ h. ap (under_verdict m) (verdict_told w m h))
+          (λ h. let c = closed w h in rw c refl)
 
       work_upto : (xs : List Item) (i : ℕ) → i ≤ (node_at t number).count
           → work_left opens cost verdict t (join_nodes verdict t v (node_at t number) i xs)

@@ -18,7 +18,6 @@ use Rattle.rt_search.specs.declared.item.Item.{Item}
 use Rattle.rt_search.specs.declared.item.Place.{Place}
 use Rattle.rt_search.specs.declared.item.Place.TheVariants.{Node, Entry}
 use Rattle.rt_search.specs.declared.item.ScoredNode.{ScoredNode}
-use Rattle.rt_search.specs.declared.item.Taken.{Taken}
 use Rattle.rt_search.specs.declared.item.WaitingNode.{WaitingNode}
 
 -- the node of a tail: its number, and below it whether it is full
@@ -52,8 +51,8 @@ abbrev pub taken_entry : Option Answer → Option Item
 taken_entry None = None
 taken_entry (Some a) = Some (item_of a)
 
-abbrev pub taken_item : Taken → Option Item
-taken_item t = node_or t.node (taken_entry t.entry)
+abbrev pub taken_item : Option ScoredNode × Option Answer → Option Item
+taken_item taken = node_or taken.0 (taken_entry taken.1)
 
 -- what is kept, as items in order
 abbrev pub in_order : {X : Type 0} → (X → Item) → List X → List Item

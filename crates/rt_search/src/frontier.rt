@@ -122,14 +122,6 @@ impl Frontier {
     }
 
     #[inline(always)]
-    pub(crate) fn put_entry(&mut self, score: u128, id: i64)
-        requires { length self.old.items < self.old.capacity }
-        ensures { IsPut (item_at score (place.Entry id)) (limited self.old) (limited self.new) }
-    {
-        self.rooms.queue.put_entry(score, id);
-    }
-
-    #[inline(always)]
     pub(crate) fn take(&mut self) -> Taken
         ensures taken { IsTakenOut (taken_item result) self.old.items self.new.items }
         ensures wanted { self.new.wanted ≡ wanted_after (taken_item result) self.old.wanted }
@@ -160,7 +152,7 @@ impl Collector for Frontier {
     #[inline(always)]
     fn visit_entry(&mut self, is_kept: bool, score: u128, id: i64) {
         if is_kept {
-            self.put_entry(score, id);
+            self.rooms.queue.put_entry(score, id);
         }
     }
 

@@ -1,8 +1,5 @@
 //! What waits in a frontier.
 
-ghost use Rattle.std.specs.Prelude.{◌≡◌, MatchOption, false, true};
-ghost use Rattle.rt_search.specs.Kept.{taken_item};
-
 use rt_tree::NodeNo;
 
 /// A node that waits to be opened.
@@ -42,22 +39,6 @@ pub struct ScoredNode {
     pub node: WaitingNode,
 }
 
-/// What was taken out of a frontier: a node, or else an entry, or else nothing, as nothing waited. The two stand side
-/// by side, and not in an enum, so that each stays in registers.
-#[derive(Clone, Copy)]
-pub struct Taken {
-    /// The node.
-    pub node: Option<ScoredNode>,
-    /// The id and the score of the entry, where there is no node.
-    pub entry: Option<(i64, u128)>,
-}
-
-impl Taken {
-    /// Whether anything was taken out.
-    #[inline(always)]
-    pub fn is_any(self) -> bool
-        ensures { MatchOption (taken_item self) (result ≡ false) (λ _. result ≡ true) }
-    {
-        self.node.is_some() || self.entry.is_some()
-    }
-}
+/// What was taken out of a frontier: a node, or else the id and the score of an entry, or else nothing, as nothing
+/// waited. The two stand side by side, and not in an enum, so that each stays in registers.
+pub type Taken = (Option<ScoredNode>, Option<(i64, u128)>);

@@ -73,8 +73,5 @@ pub fn node_of(key: u128) -> ScoredNode
 pub fn lesser(first: Option<u64>, score: u64) -> u64
     ensures { result ≡ lesser first score }
 {
-    let Some(first) = first else {
-        return score;
-    };
-    if score < first { score } else { first }
+    first.map_or(score, |first| first.min(score))
 }

@@ -1,6 +1,6 @@
 //! What waits in a best-first search.
 
-ghost use Rattle.std.specs.Prelude.{◌≡◌, ◌<◌, ◌≤◌, ◌^◌, [], false, length, IfOk, IfSome, MatchBool, None, Some, true};
+ghost use Rattle.std.specs.Prelude.{◌≡◌, ◌<◌, ◌≤◌, ◌^◌, [], false, length, IfOk, IfSome, MatchBool, MatchOption, None, Some, true};
 ghost use Rattle.rt_search.specs.declared.item.Place.TheVariants as place;
 ghost use Rattle.rt_search.specs.Items.{item_at};
 ghost use Rattle.rt_search.specs.Kept.{IsAhead, IsTakenOut, in_order, narrow, node_item, taken_item, taken_node};
@@ -135,7 +135,7 @@ impl Queue {
         ensures capacity { self.new.capacity ≡ self.old.capacity }
     {
         let taken = take_narrow(&mut self.nodes, &mut self.entries);
-        if taken.is_any() {
+        if is_any(taken) {
             return taken;
         }
         take_wide(&mut self.entries, &mut self.wide)
@@ -153,15 +153,18 @@ fn take_narrow(nodes: &mut Pool, entries: &mut Entries) -> Taken
     ensures entries { entries.new.capacity ≡ entries.old.capacity }
 {
     if is_node_next(nodes, entries) {
-        return Taken {
-            node: take_node(nodes),
-            entry: None,
-        };
+        return (take_node(nodes), None);
     }
-    Taken {
-        node: None,
-        entry: entries.take(),
-    }
+    (None, entries.take())
+}
+
+// Whether anything was taken out.
+#[inline(always)]
+fn is_any(taken: Taken) -> bool
+    ensures { MatchOption (taken_item taken) (result ≡ false) (λ _. result ≡ true) }
+{
+    let (node, entry) = taken;
+    node.is_some() || entry.is_some()
 }
 
 // Whether a node is next: one waits whose score is at most that of each entry found.
@@ -202,22 +205,13 @@ fn take_wide(entries: &mut Entries, wide: &mut Wide) -> Taken
     ensures wide_capacity { wide.new.capacity ≡ wide.old.capacity }
 {
     let Some(Item { score, place }) = wide.take() else {
-        return Taken {
-            node: None,
-            entry: None,
-        };
+        return (None, None);
     };
     match place {
-        Place::Node(node) => Taken {
-            node: Some(ScoredNode { score, node }),
-            entry: None,
-        },
+        Place::Node(node) => (Some(ScoredNode { score, node }), None),
         Place::Entry(id) => {
             entries.want_one_less();
-            Taken {
-                node: None,
-                entry: Some((id, score)),
-            }
+            (None, Some((id, score)))
         }
     }
 }

@@ -38,9 +38,9 @@ fn pull<G: Geometry>(
     ensures geometry { counted.new.geometry ≡ counted.old.geometry }
 {
     loop {
-        let taken = frontier.take();
-        let Some(node) = taken.node else {
-            return taken.entry;
+        let (node, entry) = frontier.take();
+        let Some(node) = node else {
+            return entry;
         };
         *opened += 1;
         open_node(tree, frontier, counted, node);

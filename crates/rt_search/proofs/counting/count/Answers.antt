@@ -4,13 +4,6 @@ use Rattle.rt_search.proofs.Collectors.{tally_counts}
 use Rattle.rt_search.proofs.WalkWhole.{tree_count}
 use Rattle.rt_search.proofs.counting.count.Goals as goal
 
-pub walk-opened-requires-clause-room : goal.walk-opened-requires-clause-room
-walk-opened-requires-clause-room g c =
-    let room = c.requires.capacity in
-    let same = c.clear.ensures.capacity in
-    let low = c.clear.ensures.low in
-    omega (arith, room, same, low)
-
 pub returns-clause-accepted : goal.returns-clause-accepted
 returns-clause-accepted g c =
     let geometry = c.args.counted.now.geometry in

@@ -10,25 +10,19 @@ use Rattle.rt_search.proofs.UnderWay.{leaf_joins, nodes_join}
 use Rattle.rt_search.proofs.Working.{length-join_nodes}
 use Rattle.rt_search.proofs.opening.open_node.Goals as goal
 
-pub returns-then-node-eq1 : goal.returns-then-node-eq1
-returns-then-node-eq1 g c =
+pub returns-then-node-eq1-clause-children : goal.returns-then-node-eq1-clause-children
+returns-then-node-eq1-clause-children g c =
     let geometry = c.args.counted.now.geometry in
-    let accepts = g.G.Geometry.accepts geometry in
-    let score = g.G.Geometry.score geometry in
     let n = c.node-node.result in
-    let e = c.visit_entries.ensures in
     let joined = entries_join c.args.frontier.now c.visit_entries.new.collector
-    (answers_among c.args.tree.now accepts score n n.count) e.taken in
+    (answers_among c.args.tree.now (g.G.Geometry.accepts geometry) (g.G.Geometry.score geometry) n n.count)
+    c.visit_entries.ensures.taken in
     record {
-      children = record {
-        items = leaf_joins (g.met.G.Geometry.lawful geometry) c.args.tree.now c.args.frontier.now.wanted c.args.taken.score c.args.taken.node n
-            c.visit_entries.new.collector.items c.args.frontier.now.items c.node-node.ensures c.if-node-eq1.true
-            joined.items;
-        wanted = joined.wanted;
-        capacity = joined.capacity;
-      };
-      asked = e.asked ∙ ap (λ m. c.args.counted.now.asked + m.count) c.node-node.ensures;
-      geometry = e.geometry;
+      items = leaf_joins (g.met.G.Geometry.lawful geometry) c.args.tree.now c.args.frontier.now.wanted c.args.taken.score
+          c.args.taken.node n c.visit_entries.new.collector.items c.args.frontier.now.items c.node-node.ensures
+          c.if-node-eq1.true joined.items;
+      wanted = joined.wanted;
+      capacity = joined.capacity;
     }
 
 pub child_nodes-children-requires : goal.child_nodes-children-requires

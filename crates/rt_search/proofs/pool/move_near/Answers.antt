@@ -52,12 +52,6 @@ loop-at-preserved-then-score-edge c =
       far_capacity = e.capacity ∙ i.far_capacity;
     }
 
-pub loop-at-smaller : goal.loop-at-smaller
-loop-at-smaller c =
-    let test = c.loop-at-test.true in
-    let len = c.len.ensures in
-    omega (arith, test, len)
-
 pub loop-at-preserved : goal.loop-at-preserved
 loop-at-preserved c =
     let i = c.loop-at.invariant in

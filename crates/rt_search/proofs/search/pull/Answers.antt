@@ -1,28 +1,28 @@
 use Rattle.std.proofs.Common.{◌<◌, ◌^◌, ◌∙◌, refl, subst, arith, rules}
 use Rattle.rt_search.specs.Limits.{IsEnough}
 use Rattle.rt_search.specs.Progress.{join_children}
-use Rattle.rt_search.proofs.UnderWay.{ended, falls_by_one, go_on, node_out, node_wanted, still_more, wanted_then}
+use Rattle.rt_search.proofs.UnderWay.{ended, falls_by_one, go_on, node_out, node_wanted, still_more}
 use Rattle.rt_search.proofs.search.pull.Goals as goal
 
 pub overflow_add-opened : goal.overflow_add-opened
 overflow_add-opened g c =
     let v = c.loop-node.invariant in
-    let e = c.take-taken.ensures in
+    let e = c.take-node.ensures in
     let n = c.in-Some.node in
     let small : n.score < 2 ^ 128 = search rules in
     let k = go_on (g.met.G.Geometry.lawful c.args.counted.now.geometry) c.args.tree.now small
-    (still_more _ _ v.wanted c.requires.more) (node_out c.take-taken.result n _ _ c.in-Some.is e.taken)
+    (still_more _ _ v.wanted c.requires.more) (node_out c.take-node.result n _ _ c.in-Some.is e.taken)
     (v.state c.requires.state.0 c.requires.state.1) in
     (let low = k.opened_low in omega (arith, low))
 
 pub open_node-requires : goal.open_node-requires
 open_node-requires g c =
     let v = c.loop-node.invariant in
-    let e = c.take-taken.ensures in
+    let e = c.take-node.ensures in
     let n = c.in-Some.node in
     let small : n.score < 2 ^ 128 = search rules in
     let k = go_on (g.met.G.Geometry.lawful c.args.counted.now.geometry) c.args.tree.now small
-    (still_more _ _ v.wanted c.requires.more) (node_out c.take-taken.result n _ _ c.in-Some.is e.taken)
+    (still_more _ _ v.wanted c.requires.more) (node_out c.take-node.result n _ _ c.in-Some.is e.taken)
     (v.state c.requires.state.0 c.requires.state.1) in
     record {
       sound = k.tree;
@@ -34,29 +34,29 @@ open_node-requires g c =
 pub loop-node-smaller : goal.loop-node-smaller
 loop-node-smaller g c =
     let v = c.loop-node.invariant in
-    let e = c.take-taken.ensures in
+    let e = c.take-node.ensures in
     let n = c.in-Some.node in
     let small : n.score < 2 ^ 128 = search rules in
     let k = go_on (g.met.G.Geometry.lawful c.args.counted.now.geometry) c.args.tree.now small
-    (still_more _ _ v.wanted c.requires.more) (node_out c.take-taken.result n _ _ c.in-Some.is e.taken)
+    (still_more _ _ v.wanted c.requires.more) (node_out c.take-node.result n _ _ c.in-Some.is e.taken)
     (v.state c.requires.state.0 c.requires.state.1) in
     falls_by_one _ _ _ refl k.opened_upto
 
 pub loop-node-preserved : goal.loop-node-preserved
 loop-node-preserved g c =
     let v = c.loop-node.invariant in
-    let e = c.take-taken.ensures in
+    let e = c.take-node.ensures in
     let n = c.in-Some.node in
     let small : n.score < 2 ^ 128 = search rules in
     let o = c.open_node.ensures in
-    let same = node_wanted c.take-taken.result n _ _ c.in-Some.is e.wanted in
+    let same = node_wanted c.take-node.result n _ _ c.in-Some.is e.wanted in
     let items = subst (λ y. IsEnough c.loop-node.frontier.wanted c.open_node.new.frontier.items
-    (join_children (g.G.Geometry.accepts y) (g.G.Geometry.score y) (g.G.Geometry.verdict y) c.args.tree.now n.score n.node c.take-taken.new.self.items)) v.geometry
+    (join_children (g.G.Geometry.accepts y) (g.G.Geometry.score y) (g.G.Geometry.verdict y) c.args.tree.now n.score n.node c.take-node.new.self.items)) v.geometry
     (rw same at o.children.items) in
     record {
       state = λ to_come u.
           let k = go_on (g.met.G.Geometry.lawful c.args.counted.now.geometry) c.args.tree.now small
-          (still_more _ _ v.wanted c.requires.more) (node_out c.take-taken.result n _ _ c.in-Some.is e.taken)
+          (still_more _ _ v.wanted c.requires.more) (node_out c.take-node.result n _ _ c.in-Some.is e.taken)
           (v.state to_come u) in
           rw (o.asked, o.children.capacity, e.capacity, o.children.wanted, same) (k.next _ items);
       wanted = o.children.wanted ∙ same ∙ v.wanted;
@@ -64,17 +64,10 @@ loop-node-preserved g c =
       geometry = o.geometry ∙ v.geometry;
     }
 
-pub returns-in_default : goal.returns-in_default
-returns-in_default g c =
+pub returns-in_default-clause-step : goal.returns-in_default-clause-step
+returns-in_default-clause-step g c = λ to_come u.
     let v = c.loop-node.invariant in
-    let e = c.take-taken.ensures in
-    let t = rw c.in_default.is at e in
-    let out = c.take-taken.result.entry in
-    record {
-      step = λ to_come u. rw e.capacity
-          (ended (g.met.G.Geometry.lawful c.args.counted.now.geometry) c.args.tree.now out c.take-taken.new.self.items
-          (still_more _ _ v.wanted c.requires.more) t.taken t.wanted (v.state to_come u));
-      wanted = wanted_then out c.args.frontier.now.wanted c.take-taken.new.self.wanted (rw v.wanted at t.wanted);
-      capacity = e.capacity ∙ v.capacity;
-      geometry = v.geometry;
-    }
+    let t = rw c.in_default.is at c.take-node.ensures in
+    rw c.take-node.ensures.capacity
+    (ended (g.met.G.Geometry.lawful c.args.counted.now.geometry) c.args.tree.now c.take-node.result.1
+    c.take-node.new.self.items (still_more _ _ v.wanted c.requires.more) t.taken t.wanted (v.state to_come u))

@@ -2,11 +2,11 @@ use Rattle.std.proofs.Common.{ℕ, ◌≡◌, ◌<◌, ◌-◌, ◌^◌, ◌∙�
 use Rattle.rt_tree.specs.Packed.{node_at}
 use Rattle.rt_tree.specs.declared.tree.Node.{Node}
 use Rattle.rt_search.specs.Remaining.{height_at}
-use Rattle.rt_search.specs.Walking.{HasTaken, answers_among}
+use Rattle.rt_search.specs.Walking.{HasTaken}
 use Rattle.rt_search.specs.Work.{its_children, one_node}
 use Rattle.rt_search.proofs.Answering.{under_all-none}
 use Rattle.rt_search.proofs.Children.{asked, children_inside, children_of}
-use Rattle.rt_search.proofs.Walks.{answers_all, answers_upto, at_child, known, openable, taken-append, taken_room}
+use Rattle.rt_search.proofs.Walks.{answers_upto, at_child, known, openable, taken-append, taken_room}
 use Rattle.rt_search.proofs.Walks.{upto_all, upto_more, visit, work_all, work_more}
 use Rattle.rt_search.proofs.walk.+walk.Goals as goal
 
@@ -66,19 +66,6 @@ walk_child-returns-else-visit_node-clause-taken g t c =
     let is_known = known (g.met.G.Geometry.lawful c.args.counted.now.geometry) c.requires.node in
     rw c.if-visit_node.false at
     (c.visit_node.ensures.taken _ (rw (← c.check-verdict.ensures.verdict, ← c.requires.size) at is_known))
-
-pub walk_under-returns-then-node-eq1-clause-taken : goal.walk_under-returns-then-node-eq1-clause-taken
-walk_under-returns-then-node-eq1-clause-taken g t c =
-    let geometry = c.args.counted.now.geometry in
-    let accepts = g.G.Geometry.accepts geometry in
-    let score = g.G.Geometry.score geometry in
-    let tree = c.args.tree.now in
-    let number = c.args.number.number in
-    let is = c.node-node.ensures in
-    let all = answers_all accepts score tree number c.requires.node.tree
-    (sym (ap (λ n. n.level) is) ∙ c.if-node-eq1.true) in
-    subst (λ l. HasTaken g.V.Collector.takes c.args.visitor.now l c.visit_leaf.new.self)
-    (ap (λ n. answers_among tree accepts score n n.count) is ∙ all) c.visit_leaf.ensures.taken
 
 pub walk_under-child_nodes-children-requires : goal.walk_under-child_nodes-children-requires
 walk_under-child_nodes-children-requires g t c =

@@ -29,14 +29,6 @@ check-verdict-requires-clause-room g c =
     let room = c.requires.asked in
     omega (arith, asked, room, lt, count)
 
-pub layers_at-layers-requires : goal.layers_at-layers-requires
-layers_at-layers-requires g c =
-    let count = entries_count c.args.tree.now c.args.node c.child_entries-entries.result.now c.requires.leaf.node
-    c.child_entries-entries.ensures in
-    let range = c.requires.leaf.node.range in
-    let lt = c.loop-i-test.true in
-    omega (arith, range, lt, count)
-
 pub visit_entry-requires : goal.visit_entry-requires
 visit_entry-requires g c =
     let geometry = c.args.counted.now.geometry in
@@ -81,17 +73,6 @@ loop-i-preserved g c =
       geometry = e.geometry;
       asked = (let asked = e.asked in omega (arith, asked));
     }
-
-pub returns-clause-taken : goal.returns-clause-taken
-returns-clause-taken g c =
-    let geometry = c.args.counted.now.geometry in
-    let count = entries_count c.args.tree.now c.args.node c.child_entries-entries.result.now c.requires.leaf.node
-    c.child_entries-entries.ensures in
-    let no = c.loop-i-test.false in
-    let end = c.loop-i.auto.i-end in
-    subst (λ m. HasTaken g.C.Collector.takes c.args.collector.now (answers_among c.args.tree.now
-    (g.G.Geometry.accepts geometry) (g.G.Geometry.score geometry) c.args.node m) c.loop-i.collector)
-    (omega (arith, no, end, count)) c.loop-i.invariant.taken
 
 pub returns-clause-asked : goal.returns-clause-asked
 returns-clause-asked g c =

@@ -1,7 +1,7 @@
 use Rattle.std.proofs.Common.{[], ◌≡◌, ◌∷◌, subst}
 use Rattle.std.specs.Prelude.{MatchOption}
 use Rattle.rt_search.specs.Remaining.{remaining}
-use Rattle.rt_search.proofs.Answering.{given, none_left}
+use Rattle.rt_search.proofs.Answering.{given}
 use Rattle.rt_search.proofs.full_search.FullSearch.next.Goals as goal
 
 pub returns-clause-answer : goal.returns-clause-answer
@@ -14,9 +14,3 @@ returns-clause-answer g c =
     subst (λ s. MatchOption c.take_hit.result (s.to_come ≡ [])
     (λ a. s.to_come ≡ a ∷ remaining tree accepts score c.take_hit.new.self.hits)) c.self.view_is
     (given accepts score tree c.take_hit.result c.self.inside.frontier.hits c.take_hit.new.self.hits e.entries e.taken)
-
-pub returns-clause-none : goal.returns-clause-none
-returns-clause-none g c =
-    let geometry = c.self.inside.counted.geometry in
-    none_left (g.G.Geometry.accepts geometry) (g.G.Geometry.score geometry) c.self.inside.tree.now c.take_hit.result
-    c.self.inside.frontier.hits c.take_hit.new.self.hits c.take_hit.ensures.taken

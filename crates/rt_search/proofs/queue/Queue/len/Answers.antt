@@ -5,18 +5,6 @@ use Rattle.rt_search.proofs.Heaps.{length-in_order}
 use Rattle.rt_search.proofs.Merging.{length-merged}
 use Rattle.rt_search.proofs.queue.Queue.len.Goals as goal
 
-pub overflow_add-result : goal.overflow_add-result
-overflow_add-result c =
-    let nodes = keys_in c.self.inside.nodes in
-    let entries = c.self.inside.entries.items in
-    let l = length-in_order node_item nodes in
-    let n = length-merged (in_order node_item nodes) entries in
-    let m = length-merged c.self.inside.wide.items (narrow nodes entries) in
-    let k = c.self.invariant in
-    let a = c.len.ensures.value in
-    let b = c.len-2.ensures.value in
-    omega (arith, l, n, m, k.few, k.low, a, b)
-
 pub overflow_cast-result : goal.overflow_cast-result
 overflow_cast-result c =
     let nodes = keys_in c.self.inside.nodes in

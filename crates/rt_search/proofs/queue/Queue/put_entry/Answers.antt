@@ -1,4 +1,4 @@
-use Rattle.std.proofs.Common.{ℤ, ◌∙◌, ap, rules, subst, arith, FitsSigned, w64}
+use Rattle.std.proofs.Common.{ℤ, ◌∙◌, ap, rules, subst, FitsSigned, w64}
 use Rattle.std.proofs.lemmas.Int.{to_z-of_z}
 use Rattle.rt_tree.specs.Sorting.{put}
 use Rattle.rt_search.specs.Items.{item_at, item_cmp}
@@ -10,11 +10,6 @@ use Rattle.rt_search.specs.declared.item.Place.TheVariants as place
 use Rattle.rt_search.proofs.Limits.{enough_fits, enough_joined}
 use Rattle.rt_search.proofs.Merging.{right_fits}
 use Rattle.rt_search.proofs.queue.Queue.put_entry.Goals as goal
-
-pub put_wide-requires-clause-wide : goal.put_wide-requires-clause-wide
-put_wide-requires-clause-wide c =
-    let t = c.if-score-ge-WIDE.true in
-    omega (arith, t)
 
 pub put-requires : goal.put-requires
 put-requires c =

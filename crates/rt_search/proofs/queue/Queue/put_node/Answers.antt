@@ -13,11 +13,6 @@ use Rattle.rt_search.proofs.OrderedLists.{put_all-put}
 use Rattle.rt_search.proofs.Orders.{item_order}
 use Rattle.rt_search.proofs.queue.Queue.put_node.Goals as goal
 
-pub put_wide-requires-clause-wide : goal.put_wide-requires-clause-wide
-put_wide-requires-clause-wide c =
-    let t = c.if-score-ge-WIDE.true in
-    omega (arith, t)
-
 pub put-requires : goal.put-requires
 put-requires c =
     let h = rw (← c.self.view_is) at c.requires in

@@ -1,4 +1,4 @@
-use Rattle.std.proofs.Common.{◌≤◌, ◌^◌, length, ◌∙◌, ap, sym, subst, rules}
+use Rattle.std.proofs.Common.{◌≤◌, ◌^◌, length, ◌∙◌, ap, sym, subst}
 use Rattle.rt_search.specs.Items.{item_cmp}
 use Rattle.rt_search.specs.Kept.{IsTakenOut, in_order, node_item, taken_item}
 use Rattle.rt_search.specs.Pooling.{keys_in}
@@ -59,8 +59,8 @@ invariant_of-self-2 c =
       high = left-all (λ x. 2 ^ 64 ≤ x.score) r wide c.take_wide.new.wide.items w.taken k.high;
     }
 
-pub returns : goal.returns
-returns c =
+pub returns-clause-taken : goal.returns-clause-taken
+returns-clause-taken c =
     let r = taken_item c.take_wide.result in
     let e = c.take_narrow-taken.ensures in
     let w = c.take_wide.ensures in
@@ -70,10 +70,6 @@ returns c =
     let rest = put_all item_cmp nodes c.take_wide.new.entries.items in
     let none = none_taken (taken_item c.take_narrow-taken.result) _ _ c.if-is_any.ensures e.taken in
     let empty = still_none nodes c.take_narrow-taken.new.entries.items c.take_wide.new.entries.items none.1 w.entries in
-    record {
-      taken = subst (λ l. IsTakenOut r l (put_all item_cmp new rest))
-          (ap (put_all item_cmp wide) (empty ∙ sym none.0) ∙ ap (λ w. w.items) c.self.view_is)
-          (taken_left r wide new rest w.taken (wide_ahead rest wide empty));
-      wanted = search rules;
-      capacity = ap (λ w. w.capacity) c.self.view_is;
-    }
+    subst (λ l. IsTakenOut r l (put_all item_cmp new rest))
+    (ap (put_all item_cmp wide) (empty ∙ sym none.0) ∙ ap (λ w. w.items) c.self.view_is)
+    (taken_left r wide new rest w.taken (wide_ahead rest wide empty))

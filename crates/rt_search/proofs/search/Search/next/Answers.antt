@@ -1,6 +1,6 @@
 use Rattle.std.proofs.Common.{◌≡◌, ◌≢◌, Option, Some, None, rules}
 use Rattle.std.specs.Prelude.{IfNone, MatchOption}
-use Rattle.rt_search.proofs.Giving.{end, give, given_low, more_wanted}
+use Rattle.rt_search.proofs.Giving.{end, give, given_low}
 use Rattle.rt_search.proofs.search.Search.next.Goals as goal
 
 -- what holds in any case holds where there is none
@@ -11,11 +11,6 @@ if_none (Some x) p = tt
 none_given : {X P : Type 0} (Q : X → Type 0) (o : Option X) → o ≡ None → P → MatchOption o P Q
 none_given Q None e p = p
 none_given Q (Some x) e p = cc
-
-pub pull-requires-clause-more : goal.pull-requires-clause-more
-pull-requires-clause-more g c =
-    let more : c.self.inside.limit ≢ Some c.self.inside.given = search rules in
-    more_wanted _ _ c.self.inside.given more c.self.invariant.still
 
 pub overflow_add-self : goal.overflow_add-self
 overflow_add-self g c =
