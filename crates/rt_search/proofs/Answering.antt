@@ -238,15 +238,3 @@ module _ (accepts : Extent → Bool) (score : Extent → ℕ) where
     pub under_all-whole : (h : ℕ) (n : Node) → under_all h (child_nodes t n) ≡ among (entries_under t (suc h) n)
     unfolding under_all
     under_all-whole h n = refl
-
--- one more child: what it brings joins what the children before brought
-pub one_more : {X : Type 0} (G : List X → List Answer) → ((xs ys : List X) → G (xs ++ ys) ≡ G xs ++ G ys)
-    → (xs : List X) (i : ℕ) (x : X) → i < length xs → x ≡ get_or xs i x → (start before after : List Answer) → before
-    ≡ put_all answer_cmp (G (take i xs)) start → after ≡ put_all answer_cmp (G (x ∷ [])) before → after
-    ≡ put_all answer_cmp (G (take (i + 1) xs)) start
-one_more G joins xs i x lt is start before after h k =
-    let cut : take (i + 1) xs ≡ take i xs ++ (x ∷ []) = take_more_at xs i x lt is in
-    k ∙ ap (put_all answer_cmp (G (x ∷ []))) h
-    ∙ put_all-put_all answer_cmp answer_order (G (x ∷ [])) (G (take i xs)) start
-    ∙ sym (put_all-append answer_cmp answer_order (G (take i xs)) (G (x ∷ [])) start)
-    ∙ ap (λ l. put_all answer_cmp l start) (sym (joins (take i xs) (x ∷ [])) ∙ ap G (sym cut))

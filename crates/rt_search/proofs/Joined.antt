@@ -1,5 +1,5 @@
 -- What opening a node means for the answers to come.
-use Rattle.std.proofs.Common.{◌≡◌, ◌<◌, ◌≤◌, ◌+◌, ◌-◌, ◌^◌, ℕ, zero, suc, Bool, true, false, cond, List, [], ◌∷◌}
+use Rattle.std.proofs.Common.{◌≡◌, ◌<◌, ◌≤◌, ◌+◌, ◌-◌, ◌^◌, ℕ, zero, suc, Bool, true, false, cond, List, [], ◌∷◌, ◌++◌}
 use Rattle.std.proofs.Common.{length, take, refl, sym, ◌∙◌, ap, subst, arith, add-one}
 use Rattle.std.proofs.lemmas.Bool.{cond_both}
 use Rattle.rt_geo.specs.Laws.{Extent, IsLawful, IsQuestion, NoneAccepted, extent_of}
@@ -15,13 +15,15 @@ use Rattle.rt_search.specs.Items.{item_at, item_cmp, item_of}
 use Rattle.rt_search.specs.Joining.{join_answers, join_node, join_nodes}
 use Rattle.rt_search.specs.Remaining.{AllSound, IsBelow, IsOpenable, height_at, is_fully, put_all, remaining}
 use Rattle.rt_search.specs.Remaining.{verdict_on, waiting_node}
+use Rattle.rt_search.specs.Walking.{answers_under}
 use Rattle.rt_search.specs.Work.{info_of_node, is_kept}
 use Rattle.rt_search.specs.declared.item.Item.{Item}
 use Rattle.rt_search.specs.declared.item.Place.TheVariants as place
-use Rattle.rt_search.proofs.Answering.{AllSound-put, among, node_dropped, remaining-put}
-use Rattle.rt_search.proofs.Answering.{one_more, under_all, under_all-append, under_all-none, under_all-one}
-use Rattle.rt_search.proofs.Answering.{under_all-whole}
+use Rattle.rt_search.proofs.Answering.{AllSound-put, among, node_dropped, remaining-put, take_more_at, under_all}
+use Rattle.rt_search.proofs.Answering.{under_all-append, under_all-none, under_all-one, under_all-whole}
 use Rattle.rt_search.proofs.Children.{all_children, child, height_suc, node_question}
+use Rattle.rt_search.proofs.OrderedLists.{put_all-append, put_all-put_all}
+use Rattle.rt_search.proofs.Orders.{answer_order}
 
 pub kept_not : (w : Within) → is_kept w ≡ false → w ≡ Not
 kept_not Not h = refl
@@ -39,6 +41,35 @@ verdict_with s w = record { within = w; score = s }
 
 pub verdict_told : (v : Verdict) (k : ℕ) → is_kept v.within ≡ true → verdict_on v.score (waiting_node k v.within) ≡ v
 verdict_told v k h = ap (verdict_with v.score) (within_told v.within h)
+
+-- ---- the answers under the children of a higher node
+
+module _ {t : Packed} {accepts : Extent → Bool} {score : Extent → ℕ} {number : ℕ} {v : Verdict}
+    (opened : IsOpenable t accepts score number v) (high : 2 ≤ (node_at t number).level) where
+  -- those of the first so many
+  abbrev pub answers_upto : ℕ → List Answer
+  answers_upto i = under_all accepts score t (height_at t number - 1) (take i (child_nodes t (node_at t number)))
+
+  pub upto_more : (i : ℕ) → i < (node_at t number).count
+      → answers_upto i ++ answers_under t accepts score ((node_at t number).first + i) ≡ answers_upto (i + 1)
+  upto_more i lt =
+      let ks = child_nodes t (node_at t number) in
+      let m = node_at t ((node_at t number).first + i) in
+      let h = height_at t number - 1 in
+      let k = child t number opened.tree high i lt in
+      let there : under_all accepts score t h (m ∷ []) ≡ answers_under t accepts score ((node_at t number).first + i) =
+      under_all-one accepts score t h m ∙ ap (λ l. among accepts score (entries_under t l m)) (sym k.height) in
+      ap (λ l. under_all accepts score t h (take i ks) ++ l) (sym there)
+      ∙ sym (under_all-append accepts score t h (take i ks) (m ∷ []))
+      ∙ ap (under_all accepts score t h) (sym (take_more_at ks i m k.place k.is))
+
+  pub upto_all : answers_upto (node_at t number).count ≡ answers_under t accepts score number
+  upto_all =
+      let n = node_at t number in
+      let h = height_at t number - 1 in
+      ap (under_all accepts score t h) (all_children t number opened.tree high n.count (omega arith))
+      ∙ under_all-whole accepts score t h n
+      ∙ ap (λ m. among accepts score (entries_under t m n)) (sym (height_suc t number opened.tree high))
 
 module _ {accepts : Extent → Bool} {score : Extent → ℕ} {verdict : Info → Verdict}
     (law : IsLawful accepts score verdict) (t : Packed) where
@@ -108,39 +139,28 @@ module _ {accepts : Extent → Bool} {score : Extent → ℕ} {verdict : Info �
 
       nodes_upto : (xs : List Item) (i : ℕ) → i ≤ (node_at t number).count
           → remaining t accepts score (join_nodes verdict t v (node_at t number) i xs)
-          ≡ put_all answer_cmp (under_all accepts score t (height_at t number - 1)
-          (take i (child_nodes t (node_at t number)))) (remaining t accepts score xs)
+          ≡ put_all answer_cmp (answers_upto opened high i) (remaining t accepts score xs)
       nodes_upto xs zero le =
           ap (λ l. put_all answer_cmp l (remaining t accepts score xs))
           (sym (under_all-none accepts score t (height_at t number - 1)))
       nodes_upto xs (suc i) le =
           let lt : i < (node_at t number).count = omega arith in
           let m = (node_at t number).first + i in
-          let h = height_at t number - 1 in
           let k = child t number opened.tree high i lt in
-          let before = join_nodes verdict t v (node_at t number) i xs in
-          let now = node_joined m (info_of_node t v (node_at t m)) before refl k.level (child_question i lt) k.tree in
-          let there : under_all accepts score t h (node_at t m ∷ [])
-          ≡ among accepts score (entries_under t (height_at t m) (node_at t m)) =
-          under_all-one accepts score t h (node_at t m)
-          ∙ ap (λ l. among accepts score (entries_under t l (node_at t m))) (sym k.height) in
-          rw (← add-one i) (one_more (under_all accepts score t h) (under_all-append accepts score t h)
-          (child_nodes t (node_at t number)) i (node_at t m) k.place k.is (remaining t accepts score xs)
-          (remaining t accepts score before) _ (nodes_upto xs i (omega arith))
-          (now ∙ ap (λ l. put_all answer_cmp l (remaining t accepts score before)) (sym there)))
+          let R = remaining t accepts score in
+          let those = answers_under t accepts score m in
+          node_joined m (info_of_node t v (node_at t m)) (join_nodes verdict t v (node_at t number) i xs) refl k.level
+          (child_question i lt) k.tree
+          ∙ ap (put_all answer_cmp those) (nodes_upto xs i (omega arith))
+          ∙ put_all-put_all answer_cmp answer_order those (answers_upto opened high i) (R xs)
+          ∙ sym (put_all-append answer_cmp answer_order (answers_upto opened high i) those (R xs))
+          ∙ ap (λ l. put_all answer_cmp l (R xs)) (rw (add-one i) at (upto_more opened high i lt))
 
       pub nodes_joined : (xs : List Item)
           → remaining t accepts score (join_nodes verdict t v (node_at t number) (node_at t number).count xs)
-          ≡ put_all answer_cmp (among accepts score (entries_under t (height_at t number) (node_at t number)))
-          (remaining t accepts score xs)
-      nodes_joined xs =
-          let n = node_at t number in
-          let h = height_at t number - 1 in
-          let all = all_children t number opened.tree high n.count (omega arith) in
-          nodes_upto xs n.count (omega arith)
-          ∙ ap (λ l. put_all answer_cmp l (remaining t accepts score xs))
-          (ap (under_all accepts score t h) all ∙ under_all-whole accepts score t h n
-          ∙ ap (λ m. among accepts score (entries_under t m n)) (sym (height_suc t number opened.tree high)))
+          ≡ put_all answer_cmp (answers_under t accepts score number) (remaining t accepts score xs)
+      nodes_joined xs = nodes_upto xs (node_at t number).count (omega arith)
+          ∙ ap (λ l. put_all answer_cmp l (remaining t accepts score xs)) (upto_all opened high)
 
       pub nodes_sound : (xs : List Item) (i : ℕ) → i ≤ (node_at t number).count → AllSound t accepts score xs
           → AllSound t accepts score (join_nodes verdict t v (node_at t number) i xs)

@@ -1,15 +1,18 @@
 -- Two lists in order, seen as one.
-use Rattle.std.proofs.Common.{◌≡◌, ◌<◌, ◌≤◌, ◌+◌, ◌^◌, ℕ, Bool, true, false, Option, Some, None, List, [], ◌∷◌, length}
+use Rattle.std.proofs.Common.{◌≡◌, ◌<◌, ◌≤◌, ◌+◌, ◌^◌, ℕ, ℤ, Bool, true, false, Option, Some, None, List, [], ◌∷◌, length}
 use Rattle.std.proofs.Common.{refl, sym, ◌∙◌, ap, subst, arith, Ordering}
 use Rattle.std.specs.Prelude.{IfSome, MatchBool, MatchOption}
 use Rattle.std.specs.List.{AllByRecursion}
+use Rattle.std.specs.declared.cmp.Reverse.{Reverse}
 use Rattle.std.specs.Ordering.{is_gt}
 use Rattle.std.proofs.lemmas.Bool.{false≢true}
 use Rattle.rt_tree.specs.Sorting.{put}
 use Rattle.rt_search.specs.Items.{item_cmp}
-use Rattle.rt_search.specs.Kept.{IsAhead, IsEntry, IsFirstScore, IsLeast, IsNode, IsTakenOut, offered}
+use Rattle.rt_search.specs.Kept.{IsAhead, IsEntry, IsFirstScore, IsLeast, IsNode, IsTakenOut, entry_item, hits_in}
+use Rattle.rt_search.specs.Kept.{in_order, narrow, node_item, offered, queued, zero_item}
 use Rattle.rt_search.specs.Remaining.{put_all}
 use Rattle.rt_search.specs.declared.item.Item.{Item}
+use Rattle.rt_search.proofs.Heaps.{length-in_order}
 use Rattle.rt_search.proofs.Elements.{all_both, all_map}
 use Rattle.rt_search.proofs.OrderedLists.{IsOrder, length-put, length-put_all, put-all, put-put, put_all-all}
 use Rattle.rt_search.proofs.OrderedLists.{put_all-put, put_cases, put_least}
@@ -26,11 +29,24 @@ put-put_all cmp o x (y ∷ xs) zs =
 pub length-merged : (xs ys : List Item) → length (put_all item_cmp xs ys) ≡ length xs + length ys
 length-merged xs ys = length-put_all item_cmp item_order xs ys
 
-pub left_fits : (xs ys : List Item) (capacity : ℕ) → length (put_all item_cmp xs ys) < capacity → length xs < capacity
-left_fits xs ys capacity h = omega (arith, length-merged xs ys)
+pub length-queued : (nodes : List (Reverse ℕ)) (entries wide : List Item) → length (queued nodes entries wide)
+    ≡ length nodes + length entries + length wide
+length-queued nodes entries wide = omega (
+  arith,
+  length-merged wide (narrow nodes entries),
+  length-merged (in_order node_item nodes) entries,
+  length-in_order node_item nodes,
+)
 
-pub right_fits : (xs ys : List Item) (capacity : ℕ) → length (put_all item_cmp xs ys) < capacity → length ys < capacity
-right_fits xs ys capacity h = omega (arith, length-merged xs ys)
+pub length-hits : (ids : List (Reverse ℤ)) (keys : List (Reverse ℕ)) (wide : List Item) → length (hits_in ids keys wide)
+    ≡ length ids + length keys + length wide
+length-hits ids keys wide = omega (
+  arith,
+  length-merged (in_order zero_item ids) (put_all item_cmp (in_order entry_item keys) wide),
+  length-merged (in_order entry_item keys) wide,
+  length-in_order zero_item ids,
+  length-in_order entry_item keys,
+)
 
 -- one more fits
 pub joined_fits : (x : Item) (xs ys : List Item) (capacity : ℕ) → ys ≡ put item_cmp x xs → length xs < capacity
@@ -50,10 +66,9 @@ pub offered_right : (b : Bool) (x : Item) (xs ys : List Item)
 offered_right true x xs ys = put_all-put item_cmp item_order xs x ys
 offered_right false x xs ys = refl
 
-pub offered_fits : (b : Bool) (x : Item) (xs ys : List Item) (capacity : ℕ) → ys ≡ offered b x xs
-    → length xs < capacity → length ys ≤ capacity
-offered_fits true x xs ys capacity e h = joined_fits x xs ys capacity e h
-offered_fits false x xs ys capacity e h = rw e (omega (arith, h))
+pub one_longer : (b : Bool) (x : Item) (xs ys : List Item) → ys ≡ offered b x xs → length ys ≤ length xs + 1
+one_longer true x xs ys e = omega (arith, ap length e, length-put item_cmp item_order x xs)
+one_longer false x xs ys e = omega (arith, ap length e)
 
 -- ---- the first of the list that is ahead is the first of both
 

@@ -76,6 +76,11 @@ one_is_fair t h n s = let p = (size_counts t h n s).0 in omega (arith, p)
 pub count_is_fair : (t : Packed) → IsFair t its_children
 count_is_fair t h n s = (size_counts t h n s).1
 
+pub work_cons : (opens : Verdict → Bool) (cost : Node → ℕ) (verdict : Info → Verdict) (t : Packed) (x : Item)
+    (xs : List Item) → work_left opens cost verdict t (x ∷ xs)
+    ≡ work_at opens cost verdict t x.score x.place + work_left opens cost verdict t xs
+work_cons opens cost verdict t x xs = sum_by-cons (λ (y : Item). work_at opens cost verdict t y.score y.place) x xs
+
 module _ (opens : Verdict → Bool) (cost : Node → ℕ) (verdict : Info → Verdict) (t : Packed) (fair : IsFair t cost) where
   each_le : (h : ℕ) → ((k : Node) (v : Verdict) → IsSubtree t h k
       → reached opens cost verdict t h v k ≤ (h + 1) * k.size) → (v : Verdict) (ks : List Node)
@@ -122,10 +127,6 @@ module _ (opens : Verdict → Bool) (cost : Node → ℕ) (verdict : Info → Ve
   cost_le_work zero v n = omega arith
   cost_le_work (suc h) v n = omega arith
 
-  pub work_cons : (x : Item) (xs : List Item) → work_left opens cost verdict t (x ∷ xs)
-      ≡ work_at opens cost verdict t x.score x.place + work_left opens cost verdict t xs
-  work_cons x xs = sum_by-cons (λ (y : Item). work_at opens cost verdict t y.score y.place) x xs
-
   opened_at : (s : ℕ) (n : WaitingNode) → opens (verdict_on s n) ≡ true
       → work_at opens cost verdict t s (place.Node n)
       ≡ reached opens cost verdict t (height_at t n.number.number) (verdict_on s n) (node_at t n.number.number)
@@ -136,7 +137,7 @@ module _ (opens : Verdict → Bool) (cost : Node → ℕ) (verdict : Info → Ve
       → done + work_left opens cost verdict t (item_at s (place.Node n) ∷ xs) ≡ reached_from_root opens cost verdict t
       → done + cost (node_at t n.number.number) ≤ reached_from_root opens cost verdict t
   done_upto done s n xs open' course =
-      let cons = work_cons (item_at s (place.Node n)) xs in
+      let cons = work_cons opens cost verdict t (item_at s (place.Node n)) xs in
       let here = opened_at s n open' in
       let least = cost_le_work (height_at t n.number.number) (verdict_on s n) (node_at t n.number.number) in
       omega (arith, cons, here, least, course)

@@ -4,7 +4,6 @@ use Rattle.std.proofs.Common.{List, [], ◌∷◌, length, Option, Some, None, r
 use Rattle.std.specs.List.{AllByRecursion}
 use Rattle.std.specs.Ordering.{is_gt}
 use Rattle.std.proofs.lemmas.Bool.{cond-false, cond-true, le-leb, lt-leb}
-use Rattle.std.proofs.lemmas.List.Sums.{sum_by-cons}
 use Rattle.rt_geo.specs.Laws.{Extent, IsLawful}
 use Rattle.rt_geo.specs.declared.geometry.Info.{Info}
 use Rattle.rt_geo.specs.declared.geometry.Verdict.{Verdict}
@@ -28,7 +27,7 @@ use Rattle.rt_search.proofs.Elements.{all_both, all_map}
 use Rattle.rt_search.proofs.Joined.{answers_joined, answers_sound, nodes_joined, nodes_sound}
 use Rattle.rt_search.proofs.OrderedLists.{put_all-all}
 use Rattle.rt_search.proofs.Orders.{answer_order, score_upto}
-use Rattle.rt_search.proofs.Sizes.{count_is_fair, done_le, held_cons, one_is_fair, room_for}
+use Rattle.rt_search.proofs.Sizes.{count_is_fair, done_le, held_cons, one_is_fair, room_for, work_cons}
 use Rattle.rt_search.proofs.Walks.{answers_all, few_among}
 use Rattle.rt_search.proofs.Working.{held-join_answers, held-join_nodes, work-join_answers, work-join_nodes}
 
@@ -73,11 +72,6 @@ module _ {accepts : Extent → Bool} {score : Extent → ℕ} {verdict : Info �
       (remaining t accepts score xs)
       (at_above accepts score t x.score x.place b.0) (above_least x xs a b.1)
 
-  cons_of : (cost : Node → ℕ) (bound : Option ℕ) (x : Item) (xs : List Item)
-      → work_left (is_reached bound) cost verdict t (x ∷ xs)
-      ≡ work_at (is_reached bound) cost verdict t x.score x.place + work_left (is_reached bound) cost verdict t xs
-  cons_of cost bound x xs = sum_by-cons (λ (y : Item). work_at (is_reached bound) cost verdict t y.score y.place) x xs
-
   none_at : (cost : Node → ℕ) (i : ℤ) (s r : ℕ) (p : Place)
       → is_gt (item_cmp (item_at s (place.Entry i)) (item_at r p)) ≡ false
       → work_at (is_reached (Some s)) cost verdict t r p ≡ 0
@@ -94,7 +88,7 @@ module _ {accepts : Extent → Bool} {score : Extent → ℕ} {verdict : Info �
       → work_left (is_reached (Some s)) cost verdict t xs ≡ 0
   no_work cost i s [] a = refl
   no_work cost i s (y ∷ ys) a =
-      let cons = cons_of cost (Some s) y ys in
+      let cons = work_cons (is_reached (Some s)) cost verdict t y ys in
       let h = no_work cost i s ys a.1 in
       let k = none_at cost i s y.score y.place a.0 in
       omega (arith, cons, h, k)
@@ -112,12 +106,12 @@ module _ {accepts : Extent → Bool} {score : Extent → ℕ} {verdict : Info �
       let each = subst (AllByRecursion (λ p. AddsUp verdict cost t done (x ∷ xs) (Some p.1))) next course.at_each in
       let head : AddsUp verdict cost t done (x ∷ xs) (Some s) = each.0 in
       let none = no_work cost i s xs least in
-      let first = cons_of cost (Some s) x xs in (
+      let first = work_cons (is_reached (Some s)) cost verdict t x xs in (
         record {
-          in_all = (let h = course.in_all in let k = cons_of cost None x xs in omega (arith, h, k));
+          in_all = (let h = course.in_all in let k = work_cons (is_reached None) cost verdict t x xs in omega (arith, h, k));
           at_each = all_map (λ p. AddsUp verdict cost t done (x ∷ xs) (Some p.1))
               (λ p. AddsUp verdict cost t done xs (Some p.1))
-              (λ p h. let k = cons_of cost (Some p.1) x xs in omega (arith, h, k)) (remaining t accepts score xs) each.1;
+              (λ p h. let k = work_cons (is_reached (Some p.1)) cost verdict t x xs in omega (arith, h, k)) (remaining t accepts score xs) each.1;
         },
         omega (arith, head, none, first),
       )
@@ -171,7 +165,7 @@ module _ {accepts : Extent → Bool} {score : Extent → ℕ} {verdict : Info �
       record {
         in_all = (
             let h = course.in_all in
-            let c = cons_of cost None x xs in
+            let c = work_cons (is_reached None) cost verdict t x xs in
             let j = moves None in
             let all : cond (is_reached None (verdict_on s n)) (W None) 0 ≡ W None =
             cond-true (is_reached None (verdict_on s n)) (W None) 0 (reached_is None s n) in
@@ -180,7 +174,7 @@ module _ {accepts : Extent → Bool} {score : Extent → ℕ} {verdict : Info �
             (all_both (λ p. AddsUp verdict cost t done (x ∷ xs) (Some p.1)) (λ p. s ≤ p.1)
             (λ p. AddsUp verdict cost t after new (Some p.1))
             (λ p h le.
-            let c = cons_of cost (Some p.1) x xs in
+            let c = work_cons (is_reached (Some p.1)) cost verdict t x xs in
             let j = moves (Some p.1) in
             let all : cond (is_reached (Some p.1) (verdict_on s n)) (W (Some p.1)) 0 ≡ W (Some p.1) =
             cond-true (is_reached (Some p.1) (verdict_on s n)) (W (Some p.1)) 0 (reached_below p.1 s n le) in

@@ -31,46 +31,46 @@ use Rattle.rt_search.proofs.Working.{held-join_answers, work-join_answers}
 
 -- ---- any bound opens what none does
 
-module _ (verdict : Info → Verdict) (unscored : IsUnscored verdict) (t : Packed) (b : ℕ) (cost : Node → ℕ) where
-  opens_alike : (i : Info) → 0 < i.level → is_reached (Some b) (verdict i) ≡ is_reached None (verdict i)
+module _ (verdict : Info → Verdict) (unscored : IsUnscored verdict) (t : Packed) (within : Option ℕ) (cost : Node → ℕ) where
+  opens_alike : (i : Info) → 0 < i.level → is_reached within (verdict i) ≡ is_reached None (verdict i)
   opens_alike i node =
-      ap (λ s. is_kept (verdict i).within && is_within_bound (Some b) s) (unscored i node)
-      ∙ ap (λ w. is_kept (verdict i).within && w) (within_zero (Some b))
+      ap (λ s. is_kept (verdict i).within && is_within_bound within s) (unscored i node)
+      ∙ ap (λ w. is_kept (verdict i).within && w) (within_zero within)
 
   abbrev below : (bound : Option ℕ) → (h : ℕ) → Verdict → Node → ℕ
   below bound h v k =
       let w = verdict (info_of_node t v k) in cond (is_reached bound w) (reached (is_reached bound) cost verdict t h w k) 0
 
   children_alike : (h : ℕ) → ((v : Verdict) (n : Node) → IsSubtree t h n
-      → reached (is_reached (Some b)) cost verdict t h v n ≡ reached (is_reached None) cost verdict t h v n)
+      → reached (is_reached within) cost verdict t h v n ≡ reached (is_reached None) cost verdict t h v n)
       → (v : Verdict) (ks : List Node) → AllByRecursion (IsSubtree t h) ks
-      → sum_by (below (Some b) h v) ks ≡ sum_by (below None h v) ks
+      → sum_by (below within h v) ks ≡ sum_by (below None h v) ks
   children_alike h f v [] sub = refl
   children_alike h f v (k ∷ ks) sub =
       let i = info_of_node t v k in
       let w = verdict i in
       let level = subtree_level t h k sub.0 in
-      let same = ap (λ o. cond o (reached (is_reached (Some b)) cost verdict t h w k) 0) (opens_alike i (omega (arith, level)))
+      let same = ap (λ o. cond o (reached (is_reached within) cost verdict t h w k) 0) (opens_alike i (omega (arith, level)))
       ∙ ap (λ m. cond (is_reached None w) m 0) (f w k sub.0) in
       omega (
         arith,
-        sum_by-cons (below (Some b) h v) k ks,
+        sum_by-cons (below within h v) k ks,
         sum_by-cons (below None h v) k ks,
         children_alike h f v ks sub.1,
         same,
       )
 
   reached_alike : (h : ℕ) (v : Verdict) (n : Node) → IsSubtree t h n
-      → reached (is_reached (Some b)) cost verdict t h v n ≡ reached (is_reached None) cost verdict t h v n
+      → reached (is_reached within) cost verdict t h v n ≡ reached (is_reached None) cost verdict t h v n
   reached_alike zero v n sub = refl
   reached_alike (suc h) v n sub =
       ap (λ m. cost n + m) (children_alike h (λ w k. reached_alike h w k) v (child_nodes t n) sub.below)
 
   whole_alike : IsSound t
-      → reached_from_root (is_reached (Some b)) cost verdict t ≡ reached_from_root (is_reached None) cost verdict t
+      → reached_from_root (is_reached within) cost verdict t ≡ reached_from_root (is_reached None) cost verdict t
   whole_alike sound =
       let split : (e : Bool) → (length t.nodes == 0) ≡ e
-      → cond e 0 (reached (is_reached (Some b)) cost verdict t (height t) root_verdict (root_of t))
+      → cond e 0 (reached (is_reached within) cost verdict t (height t) root_verdict (root_of t))
       ≡ cond e 0 (reached (is_reached None) cost verdict t (height t) root_verdict (root_of t)) = elim [
         | true ↦ λ h. refl
         | false ↦ λ h. reached_alike (height t) root_verdict (root_of t) (sound.root (nat_eq_false h))
@@ -85,18 +85,13 @@ module _ {accepts : Extent → Bool} {score : Extent → ℕ} {verdict : Info �
   abbrev gathered : List Item
   gathered = join_answers (answers_in_tree t accepts score) []
 
-  reached_within : (bound : Option ℕ) (cost : Node → ℕ)
-      → reached_from_root (is_reached bound) cost verdict t ≡ reached_from_root (is_reached None) cost verdict t
-  reached_within None cost = refl
-  reached_within (Some b) cost = whole_alike verdict unscored t b cost sound
-
   -- the work of a search for so many answers is the whole, unless it is for none
   work : (limit : Option ℕ) → limit ≢ Some 0 → (cost : Node → ℕ)
       → search_work cost accepts score verdict t limit ≡ reached_from_root (is_reached None) cost verdict t
   work None some cost = refl
   work (Some zero) some cost = absurd (some refl)
   work (Some (suc more)) some cost =
-      reached_within (last_score (answers t.entries accepts score None) (Some (suc more))) cost
+      whole_alike verdict unscored t (last_score (answers t.entries accepts score None) (Some (suc more))) cost sound
 
   pub all_worked : (limit : Option ℕ) (opened asked : ℕ) → limit ≢ Some 0
       → opened ≡ reached_from_root (is_reached None) one_node verdict t
@@ -116,7 +111,7 @@ module _ {accepts : Extent → Bool} {score : Extent → ℕ} {verdict : Info �
   course cost done h = record {
     in_all = omega (arith, h, none_left None cost);
     at_each = all_each (λ a. AddsUp verdict cost t done gathered (Some a.1))
-        (λ a. omega (arith, h, none_left (Some a.1) cost, reached_within (Some a.1) cost))
+        (λ a. omega (arith, h, none_left (Some a.1) cost, whole_alike verdict unscored t (Some a.1) cost sound))
         (remaining t accepts score gathered);
   }
 

@@ -4,7 +4,7 @@ use Rattle.std.proofs.Common.{length, take, get_or, refl, sym, ◌∙◌, ap, su
 use Rattle.std.specs.List.{AllByRecursion, sum_by}
 use Rattle.std.proofs.lemmas.Bool.{cond-false, cond-true}
 use Rattle.std.proofs.lemmas.List.{get_or_default, length-take, take_all}
-use Rattle.std.proofs.lemmas.List.Sums.{sum_by-cons}
+use Rattle.std.proofs.lemmas.List.Sums.{sum_by-take-drop}
 use Rattle.rt_geo.specs.Laws.{AllAccepted, Extent, IsLawful, IsQuestion, NoneAccepted, extent_of, extent_of_entry}
 use Rattle.rt_geo.specs.declared.entry.Entry.{Entry}
 use Rattle.rt_geo.specs.declared.geometry.Info.{Info}
@@ -25,7 +25,7 @@ use Rattle.rt_search.proofs.Answering.{under_all-one, under_all-whole}
 use Rattle.rt_search.proofs.Children.{IsAsked, IsLeafAt, all_children, child, entry_question, height_suc, inner_at}
 use Rattle.rt_search.proofs.Children.{leaf_at, leaf_node, node_question, part_at, part_length}
 use Rattle.rt_search.proofs.Giving.{length-scored}
-use Rattle.rt_search.proofs.Joined.{kept_not}
+use Rattle.rt_search.proofs.Joined.{answers_upto, kept_not, upto_more}
 use Rattle.rt_search.proofs.Sizes.{size_under}
 use Rattle.rt_search.proofs.Working.{sum_more}
 
@@ -44,13 +44,6 @@ taken_room takes room fills old new (x ∷ xs) h =
     omega (arith, fills old h.0 x h.1.0, taken_room takes room fills h.0 new xs h.1.1)
 
 -- ---- what a walk costs
-
--- the front of a list costs no more than the list
-sum_by-front : {X : Type 0} (f : X → ℕ) (i : ℕ) (xs : List X) → sum_by f (take i xs) ≤ sum_by f xs
-sum_by-front f zero xs = omega arith
-sum_by-front f (suc i) [] = omega arith
-sum_by-front f (suc i) (x ∷ xs) =
-    omega (arith, sum_by-cons f x (take i xs), sum_by-cons f x xs, sum_by-front f i xs)
 
 -- a child that is opened
 pub at_child : (opens : Verdict → Bool) (cost : Node → ℕ) (verdict : Info → Verdict) (t : Packed) (w : Verdict) (k : ℕ)
@@ -242,41 +235,14 @@ module _ {accepts : Extent → Bool} {score : Extent → ℕ} {verdict : Info �
 
       -- ---- their answers
 
-      -- those of the first so many
-      abbrev pub answers_upto : ℕ → List Answer
-      answers_upto i =
-          under_all accepts score t (height_at t number - 1) (take i (child_nodes t (node_at t number)))
-
-      pub upto_more : (i : ℕ) → i < (node_at t number).count
-          → answers_upto i ++ answers_under t accepts score ((node_at t number).first + i) ≡ answers_upto (i + 1)
-      upto_more i lt =
-          let ks = child_nodes t (node_at t number) in
-          let m = node_at t ((node_at t number).first + i) in
-          let h = height_at t number - 1 in
-          let k = child t number opened.tree high i lt in
-          let there : under_all accepts score t h (m ∷ [])
-          ≡ answers_under t accepts score ((node_at t number).first + i) =
-          under_all-one accepts score t h m ∙ ap (λ l. among accepts score (entries_under t l m)) (sym k.height) in
-          ap (λ l. under_all accepts score t h (take i ks) ++ l) (sym there)
-          ∙ sym (under_all-append accepts score t h (take i ks) (m ∷ []))
-          ∙ ap (under_all accepts score t h) (sym (take_more_at ks i m k.place k.is))
-
-      pub upto_all : answers_upto (node_at t number).count ≡ answers_under t accepts score number
-      upto_all =
-          let n = node_at t number in
-          let h = height_at t number - 1 in
-          ap (under_all accepts score t h) (all_children t number opened.tree high n.count (omega arith))
-          ∙ under_all-whole accepts score t h n
-          ∙ ap (λ m. among accepts score (entries_under t m n)) (sym (height_suc t number opened.tree high))
-
       few_upto : (i : ℕ) → i ≤ (node_at t number).count
-          → length (answers_upto i) ≤ sum_by (λ k. k.size) (take i (child_nodes t (node_at t number)))
+          → length (answers_upto opened high i) ≤ sum_by (λ k. k.size) (take i (child_nodes t (node_at t number)))
       few_upto zero le = omega (arith, ap length (under_all-none accepts score t (height_at t number - 1)))
       few_upto (suc i) le =
           let lt : i < (node_at t number).count = omega arith in
           let k = (node_at t number).first + i in
-          let more = rw (add-one i) at (ap length (upto_more i lt)) in
-          let long = length-append (answers_upto i) (answers_under t accepts score k) in
+          let more = rw (add-one i) at (ap length (upto_more opened high i lt)) in
+          let long = length-append (answers_upto opened high i) (answers_under t accepts score k) in
           let sizes = sum_more verdict t v number opened.tree high (λ k. k.size) i lt in
           let few = few_under accepts score t k (child t number opened.tree high i lt).tree in
           let rest = few_upto i (omega arith) in
@@ -284,11 +250,11 @@ module _ {accepts : Extent → Bool} {score : Extent → ℕ} {verdict : Info �
 
       -- the answers of the first and a further child are no more than the node's size
       room_for_child : (i : ℕ) → i < (node_at t number).count
-          → length (answers_upto i) + (node_at t ((node_at t number).first + i)).size ≤ (node_at t number).size
+          → length (answers_upto opened high i) + (node_at t ((node_at t number).first + i)).size ≤ (node_at t number).size
       room_for_child i lt =
           let sizes = sum_more verdict t v number opened.tree high (λ k. k.size) i lt in
           let size = (inner_at t (height_at t number) (node_at t number) opened.tree high).1.size in
-          let part = sum_by-front (λ (k : Node). k.size) (suc i) (child_nodes t (node_at t number)) in
+          let part = sum_by-take-drop (λ (k : Node). k.size) (child_nodes t (node_at t number)) (suc i) in
           omega (arith, sizes, size, part, few_upto i (omega (arith, lt)))
 
       -- ---- the loop over them
@@ -308,26 +274,28 @@ module _ {accepts : Extent → Bool} {score : Extent → ℕ} {verdict : Info �
             + work_at_child opens cost verdict t (verdict (info_of_node t v (node_at t k))) k
             ≤ work_under opens cost verdict t v number
         within cost i lt =
-            let part = sum_by-front (work_of_child opens cost verdict t v (height_at t number - 1)) (i + 1)
-            (child_nodes t (node_at t number)) in
+            let part = sum_by-take-drop (work_of_child opens cost verdict t v (height_at t number - 1))
+            (child_nodes t (node_at t number)) (i + 1) in
             let whole = ap (λ h. reached opens cost verdict t h v (node_at t number))
             (height_suc t number opened.tree high) in
             omega (arith, part, whole, work_more opens cost i lt)
 
-        pub visit : {i k : ℕ} {x : PlainNode} {info : Info} → IsAsked t number i k x v info
-            → (begun begun' asked asked' room room' : ℕ) → begun' ≡ begun + 1 + work_upto opens one_node i
+        pub visit : {i k : ℕ} {x : PlainNode} {info : Info} → IsAsked t number i k x v info → {S : Type 0}
+            (takes : S → Answer → S → Type 0) (room : S → ℕ) → IsFilling takes room → (old new : S)
+            → HasTaken takes old (answers_upto opened high i) new → (node_at t number).size ≤ room old
+            → (begun begun' asked asked' : ℕ) → begun' ≡ begun + 1 + work_upto opens one_node i
             → asked' ≡ asked + i + work_upto opens its_children i
-            → room ≤ room' + length (answers_upto i) → (node_at t number).size ≤ room
             → begun + work_under opens one_node verdict t v number ≤ 2 ^ 32
             → asked + work_under opens its_children verdict t v number ≤ 2 ^ 32
-            → CanVisit begun' asked' room' k info
-        visit {i} {k} {info = info} is begun begun' asked asked' room room' b a places fits opened_fits asked_fits =
+            → CanVisit begun' asked' (room new) k info
+        visit {i} {k} {info = info} is takes room fills old new taken fits begun begun' asked asked' b a begun_fits asked_fits =
             let few = is.few in
-            subst (CanVisit begun' asked' room' k) (sym is.info_is)
-            (subst (λ m. CanVisit begun' asked' room' m (info_of_node t v (node_at t m))) (sym is.at) (record {
+            let places = taken_room takes room fills old new (answers_upto opened high i) taken in
+            subst (CanVisit begun' asked' (room new) k) (sym is.info_is)
+            (subst (λ m. CanVisit begun' asked' (room new) m (info_of_node t v (node_at t m))) (sym is.at) (record {
               node = checkable i few;
               room_is = omega (arith, places, fits, room_for_child i few);
-              opened_few = omega (arith, b, opened_fits, within one_node i few);
+              opened_few = omega (arith, b, begun_fits, within one_node i few);
               asked_few = omega (arith, a, asked_fits, few, within its_children i few);
               lower = (child t number opened.tree high i few).lower;
             }))

@@ -6,8 +6,8 @@ use Rattle.rt_search.specs.Walking.{HasTaken}
 use Rattle.rt_search.specs.Work.{its_children, one_node}
 use Rattle.rt_search.proofs.Answering.{under_all-none}
 use Rattle.rt_search.proofs.Children.{asked, children_inside, children_of}
-use Rattle.rt_search.proofs.Walks.{answers_upto, at_child, known, openable, taken-append, taken_room}
-use Rattle.rt_search.proofs.Walks.{upto_all, upto_more, visit, work_all, work_more}
+use Rattle.rt_search.proofs.Joined.{upto_all, upto_more}
+use Rattle.rt_search.proofs.Walks.{at_child, known, openable, taken-append, visit, work_all, work_more}
 use Rattle.rt_search.proofs.walk.+walk.Goals as goal
 
 pub walk_child-walk_under-requires : goal.walk_child-walk_under-requires
@@ -101,12 +101,10 @@ walk_under-walk_child-requires g t c κs within =
     let k = asked here c.loop-i.i v c.loop-i-test.true c.index-children-i.is c.new-child_number.ensures
     c.node-whole.ensures c.info_under-info.ensures in
     let inv = c.loop-i.invariant in
-    let room = g.V.Collector.room in
-    let left = taken_room g.V.Collector.takes room g.met.V.Collector.fills c.args.visitor.now c.loop-i.visitor
-    (answers_upto law sound small c.requires.node here.high c.loop-i.i) inv.taken in
-    let can = visit law sound small c.requires.node here.high g.V.Visitor.opens k c.args.opened.now c.loop-i.opened
-    c.args.counted.now.asked c.loop-i.counted.asked (room c.args.visitor.now) (room c.loop-i.visitor) inv.opened inv.asked
-    left c.requires.room c.requires.opened c.requires.asked in
+    let can = visit law sound small c.requires.node here.high g.V.Visitor.opens k g.V.Collector.takes
+    g.V.Collector.room g.met.V.Collector.fills c.args.visitor.now c.loop-i.visitor inv.taken c.requires.room
+    c.args.opened.now c.loop-i.opened c.args.counted.now.asked c.loop-i.counted.asked inv.opened inv.asked
+    c.requires.opened c.requires.asked in
     let lower = can.lower in
     let size : c.index-children-i.result.size ≡ (node_at tree c.new-child_number.result.number).size = ap (λ n. n.size) k.is in
     let fits = can.room_is in (
@@ -146,7 +144,7 @@ walk_under-loop-i-preserved g t c =
     work_more law sound small c.requires.node here.high g.V.Visitor.opens cost c.loop-i.i k.few in
     record {
       taken = subst (λ l. HasTaken g.V.Collector.takes c.args.visitor.now l c.walk_child.new.visitor)
-          (upto_more law sound small c.requires.node here.high c.loop-i.i k.few)
+          (upto_more c.requires.node here.high c.loop-i.i k.few)
           (taken-append g.V.Collector.takes c.args.visitor.now c.loop-i.visitor c.walk_child.new.visitor _ _ inv.taken
           e.taken);
       opened = omega (arith, opened, before, more one_node);
@@ -172,7 +170,7 @@ walk_under-returns g t c =
     let all = work_all law sound small c.requires.node here.high g.V.Visitor.opens in
     record {
       taken = subst (λ l. HasTaken g.V.Collector.takes c.args.visitor.now l c.loop-i.visitor)
-          (upto_all law sound small c.requires.node here.high) inv.taken;
+          (upto_all c.requires.node here.high) inv.taken;
       opened = omega (arith, opened, all one_node);
       asked = omega (arith, asked, all its_children);
       geometry = inv.geometry;

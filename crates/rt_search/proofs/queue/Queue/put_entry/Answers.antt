@@ -1,4 +1,4 @@
-use Rattle.std.proofs.Common.{ℤ, ◌∙◌, ap, rules, subst, FitsSigned, w64}
+use Rattle.std.proofs.Common.{◌≤◌, ◌+◌, length, arith, ℤ, ◌∙◌, ap, rules, subst, FitsSigned, w64}
 use Rattle.std.proofs.lemmas.Int.{to_z-of_z}
 use Rattle.rt_tree.specs.Sorting.{put}
 use Rattle.rt_search.specs.Items.{item_at, item_cmp}
@@ -8,31 +8,32 @@ use Rattle.rt_search.specs.Limits.{IsEnough}
 use Rattle.rt_search.specs.Remaining.{put_all}
 use Rattle.rt_search.specs.declared.item.Place.TheVariants as place
 use Rattle.rt_search.proofs.Limits.{enough_fits, enough_joined}
-use Rattle.rt_search.proofs.Merging.{right_fits}
+use Rattle.rt_search.proofs.Merging.{length-queued}
 use Rattle.rt_search.proofs.queue.Queue.put_entry.Goals as goal
 
 pub put-requires : goal.put-requires
 put-requires c =
     let h = rw (← c.self.view_is) at c.requires in
-    let nodes = in_order node_item (keys_in c.self.inside.nodes) in
-    let entries = c.self.inside.entries.items in
-    let n = c.self.inside.capacity in
-    rw c.self.invariant.entries_room
-    (right_fits nodes entries n (right_fits c.self.inside.wide.items (put_all item_cmp nodes entries) n h))
+    let long = length-queued (keys_in c.self.inside.nodes) c.self.inside.entries.items c.self.inside.wide.items in
+    let room = c.self.invariant.entries_room in
+    omega (arith, h, long, room)
 
 pub invariant_of-self : goal.invariant_of-self
 invariant_of-self c =
     let h = rw (← c.self.view_is) at c.requires in
     let k = c.self.invariant in
     let e = c.put.ensures in
-    let w = c.self.inside.entries.wanted in
+    let nodes = keys_in c.self.inside.nodes in
+    let long = length-queued nodes c.self.inside.entries.items c.self.inside.wide.items in
+    let longer = length-queued nodes c.put.new.self.items c.self.inside.wide.items in
+    let one_more : length c.put.new.self.items ≤ length c.self.inside.entries.items + 1 =
+    enough_fits c.self.inside.entries.wanted _ c.self.inside.entries.items _ (length c.self.inside.entries.items + 1)
+    e.items (omega arith) in
     record {
       nodes_room = k.nodes_room;
       entries_room = e.capacity ∙ k.entries_room;
       wide_room = k.wide_room;
-      few =
-          enough_fits w _ _ _ _
-          (enough_joined w _ c.self.inside.wide.items _ _ (enough_joined w _ (in_order node_item (keys_in c.self.inside.nodes)) _ _ e.items)) h;
+      few = omega (arith, h, long, longer, one_more);
       low = k.low;
       high = k.high;
     }

@@ -1,4 +1,5 @@
 use Rattle.std.proofs.Common.{◌∙◌, ap, refl, subst, arith}
+use Rattle.std.proofs.lemmas.List.Sorted.{length_permutation}
 use Rattle.rt_tree.specs.Sorting.{put}
 use Rattle.rt_search.specs.Items.{item_at, item_cmp}
 use Rattle.rt_search.specs.Limits.{IsPut}
@@ -6,9 +7,9 @@ use Rattle.rt_search.specs.Kept.{in_order, node_item}
 use Rattle.rt_search.specs.Pooling.{keys_in}
 use Rattle.rt_search.specs.Remaining.{put_all}
 use Rattle.rt_search.specs.declared.item.Place.TheVariants as place
-use Rattle.rt_search.proofs.Heaps.{length-in_order, pushed}
+use Rattle.rt_search.proofs.Heaps.{pushed}
 use Rattle.rt_search.proofs.Limits.{enough_beyond, enough_same}
-use Rattle.rt_search.proofs.Merging.{joined_fits, left_fits, put-put_all, right_fits}
+use Rattle.rt_search.proofs.Merging.{length-queued, put-put_all}
 use Rattle.rt_search.proofs.OrderedLists.{put_all-put}
 use Rattle.rt_search.proofs.Orders.{item_order}
 use Rattle.rt_search.proofs.queue.Queue.put_node.Goals as goal
@@ -16,31 +17,25 @@ use Rattle.rt_search.proofs.queue.Queue.put_node.Goals as goal
 pub put-requires : goal.put-requires
 put-requires c =
     let h = rw (← c.self.view_is) at c.requires in
-    let keys = keys_in c.self.inside.nodes in
-    let nodes = in_order node_item keys in
-    let entries = c.self.inside.entries.items in
-    let n = c.self.inside.capacity in
-    let fits = left_fits nodes entries n (right_fits c.self.inside.wide.items (put_all item_cmp nodes entries) n h) in
-    let long = length-in_order node_item keys in
+    let long = length-queued (keys_in c.self.inside.nodes) c.self.inside.entries.items c.self.inside.wide.items in
     let room = c.self.invariant.nodes_room in
-    omega (arith, fits, long, room)
+    omega (arith, h, long, room)
 
 pub invariant_of-self : goal.invariant_of-self
 invariant_of-self c =
     let h = rw (← c.self.view_is) at c.requires in
     let k = c.self.invariant in
     let e = c.put.ensures in
-    let nodes = in_order node_item (keys_in c.self.inside.nodes) in
     let entries = c.self.inside.entries.items in
     let wide = c.self.inside.wide.items in
-    let same = ap (λ xs. put_all item_cmp wide (put_all item_cmp xs entries)) (pushed node_item _ _ _ e.keys)
-    ∙ ap (put_all item_cmp wide) (put-put_all item_cmp item_order _ nodes entries)
-    ∙ put_all-put item_cmp item_order wide _ (put_all item_cmp nodes entries) in
+    let long = length-queued (keys_in c.self.inside.nodes) entries wide in
+    let longer = length-queued (keys_in c.put.new.self) entries wide in
+    let one_more = length_permutation _ _ e.keys in
     record {
       nodes_room = e.capacity ∙ k.nodes_room;
       entries_room = k.entries_room;
       wide_room = k.wide_room;
-      few = joined_fits _ _ _ _ same h;
+      few = omega (arith, h, long, longer, one_more);
       low = k.low;
       high = k.high;
     }

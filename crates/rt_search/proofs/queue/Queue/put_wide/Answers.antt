@@ -1,4 +1,4 @@
-use Rattle.std.proofs.Common.{◌≤◌, ◌^◌, refl, sym, ◌∙◌, ap, subst}
+use Rattle.std.proofs.Common.{◌≤◌, ◌^◌, length, refl, sym, ◌∙◌, ap, subst, arith}
 use Rattle.std.specs.List.{AllByRecursion}
 use Rattle.rt_tree.specs.Sorting.{put}
 use Rattle.rt_search.specs.Items.{item_at, item_cmp}
@@ -7,30 +7,33 @@ use Rattle.rt_search.specs.Kept.{in_order, node_item}
 use Rattle.rt_search.specs.Pooling.{keys_in}
 use Rattle.rt_search.specs.Remaining.{put_all}
 use Rattle.rt_search.proofs.Limits.{enough_beyond, enough_same}
-use Rattle.rt_search.proofs.Merging.{joined_fits, left_fits, put-put_all}
-use Rattle.rt_search.proofs.OrderedLists.{put-all}
+use Rattle.rt_search.proofs.Merging.{length-queued, put-put_all}
+use Rattle.rt_search.proofs.OrderedLists.{length-put, put-all}
 use Rattle.rt_search.proofs.Orders.{item_order}
 use Rattle.rt_search.proofs.queue.Queue.put_wide.Goals as goal
 
 pub put-requires : goal.put-requires
 put-requires c =
     let h = rw (← c.self.view_is) at c.requires.room in
-    let narrow = put_all item_cmp (in_order node_item (keys_in c.self.inside.nodes)) c.self.inside.entries.items in
-    rw c.self.invariant.wide_room (left_fits c.self.inside.wide.items narrow c.self.inside.capacity h)
+    let long = length-queued (keys_in c.self.inside.nodes) c.self.inside.entries.items c.self.inside.wide.items in
+    let room = c.self.invariant.wide_room in
+    omega (arith, h, long, room)
 
 pub invariant_of-self : goal.invariant_of-self
 invariant_of-self c =
     let h = rw (← c.self.view_is) at c.requires.room in
     let k = c.self.invariant in
     let e = c.put.ensures in
-    let narrow = put_all item_cmp (in_order node_item (keys_in c.self.inside.nodes)) c.self.inside.entries.items in
+    let nodes = keys_in c.self.inside.nodes in
     let wide = c.self.inside.wide.items in
-    let same = ap (λ xs. put_all item_cmp xs narrow) e.items ∙ put-put_all item_cmp item_order _ wide narrow in
+    let long = length-queued nodes c.self.inside.entries.items wide in
+    let longer = length-queued nodes c.self.inside.entries.items c.put.new.self.items in
+    let one_more = ap length e.items ∙ length-put item_cmp item_order _ wide in
     record {
       nodes_room = k.nodes_room;
       entries_room = k.entries_room;
       wide_room = e.capacity ∙ k.wide_room;
-      few = joined_fits _ _ _ _ same h;
+      few = omega (arith, h, long, longer, one_more);
       low = k.low;
       high =
           subst (AllByRecursion (λ x. 2 ^ 64 ≤ x.score)) (sym e.items)
