@@ -27,7 +27,7 @@ use Rattle.rt_search.specs.declared.item.Place.{Place}
 use Rattle.rt_search.specs.declared.item.Place.TheVariants as place
 use Rattle.rt_search.specs.declared.item.WaitingNode.{WaitingNode}
 use Rattle.rt_search.proofs.Elements.{all-append, all_map}
-use Rattle.rt_search.proofs.OrderedLists.{put-all, put_all-all, put_all-append, put_all-put_all, put_cases}
+use Rattle.rt_search.proofs.OrderedLists.{put-all, put_all-all, put_all-put_all, put_cases}
 use Rattle.rt_search.proofs.OrderedLists.{put_least}
 use Rattle.rt_search.proofs.Orders.{answer_order, item_order}
 

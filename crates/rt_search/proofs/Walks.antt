@@ -20,8 +20,7 @@ use Rattle.rt_search.specs.Walking.{HasTaken, IsCheckable, IsFilling, IsKnown, a
 use Rattle.rt_search.specs.Walking.{work_at_child, work_of_child, work_under}
 use Rattle.rt_search.specs.Work.{info_of_node, is_kept, its_children, one_node, reached}
 use Rattle.rt_search.proofs.Answering.{IsEntryInside, all_inside, among, among-append, among_accepted, among_none}
-use Rattle.rt_search.proofs.Answering.{among_refused, take_more_at, under_all, under_all-append, under_all-none}
-use Rattle.rt_search.proofs.Answering.{under_all-one, under_all-whole}
+use Rattle.rt_search.proofs.Answering.{among_refused, take_more_at, under_all-none}
 use Rattle.rt_search.proofs.Children.{IsAsked, IsLeafAt, all_children, child, entry_question, height_suc, inner_at}
 use Rattle.rt_search.proofs.Children.{leaf_at, leaf_node, node_question, part_at, part_length}
 use Rattle.rt_search.proofs.Giving.{length-scored}
