@@ -6,8 +6,8 @@ use Rattle.std.specs.Io.KnownBytes.{Appends, Consumes, IsAtEnd}
 abbrev pub IsSameIfTold : Option (List ℕ) → Option (List ℕ) → Type 0
 IsSameIfTold old new = IfSome new (λ after. IfSome old (λ before. after ≡ before))
 
--- a pull of n bytes: the next n bytes stand in front of the room, none only where none are to come; a failure consumes
--- nothing, where they are still told
+-- a pull of n bytes: the next n bytes stand at the front of the room, none only where none are to come; a failure
+-- consumes nothing, where they are still told
 abbrev pub Pulls : {E : Type 0} → Option (List ℕ) → Option (List ℕ) → Result ℕ E → List ℕ → Type 0
 Pulls old new pulled room =
     MatchResult pulled (λ n. Consumes old new (take n room) × (n ≡ 0 → IsAtEnd new)) (λ _. IsSameIfTold old new)

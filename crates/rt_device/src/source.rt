@@ -15,7 +15,7 @@ pub trait Source {
     // How many pulls failed.
     ghost failed: { Self → ℕ };
 
-    /// Puts the next bytes in front of the room, and returns how many: 0 only where none are to come.
+    /// Puts the next bytes at the front of the room, and returns how many: 0 only where none are to come.
     fn pull(&mut self, room: &mut [u8]) -> Result<usize, ReadFault>
         requires room { 0 < length room.old }
         requires count { failed self.old < 2 ^ 64 - 1 }

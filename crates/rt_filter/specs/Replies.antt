@@ -46,7 +46,8 @@ abbrev pub levels_reply : (line : ℕ) → (sizes : List ℕ) → List ℕ
 levels_reply line sizes =
     flat_map (λ level. level_line level.0 level.1) (reverse (enumerate_from 0 sizes)) ++ ok_line line (length sizes)
 
--- what is known of the boxes below a node: whether they are in the region and on these layers, and their least score
+-- what is known of the boxes below a node: whether they are in the region and on these layers, and a score
+-- that is at most that of each
 abbrev pub verdict_of : Region → Layers → (estimate : Info → ℕ) → Info → Verdict
 verdict_of region layers estimate = guided_verdict (on_layers_state (region_state region) layers) estimate
 

@@ -2,7 +2,7 @@
 
 ghost use Rattle.std.specs.Prelude.{◌≡◌, ◌+◌, ◌-◌, ◌<◌, ◌≤◌, ◌^◌, ◌⊎◌, ◌≢◌, ℕ, List, Some, None, IfOk, IfErr, MatchOption, length, if◌then◌else◌, true, false};
 ghost use Rattle.rt_filter.specs.Endings.{Ends, ConsumedAtLeast};
-ghost use Rattle.rt_filter.specs.Faults.{run_fault_line, status_of};
+ghost use Rattle.rt_filter.specs.Faults.{run_fault, run_fault_line, status_of};
 ghost use Rattle.rt_filter.specs.Stages.{HasLoaded, Stops, is_of_load, run_fault_of};
 ghost use Rattle.rt_filter.specs.declared.filter.RunFault.{RunFault};
 
@@ -54,8 +54,9 @@ pub fn run<R: Read + Drop, S: Source, K: Sink>(
     requires source_count { S.failed source.old < 2 ^ 64 - 1 }
     requires sink_count { K.failed sink.old < 2 ^ 64 - 1 }
 
-    // The headline. Where the three devices tell their bytes, the run ends as `run_of` of the bytes: what
-    // is written, the fault and the status. After a failed push or flush, what went out is a prefix of that.
+    // The headline. Where the three devices tell their bytes and nothing fails, the run ends as `run_of` of the bytes:
+    // what is written, the fault and the status. After a failed push or flush a prefix of that went out, after a failed
+    // pull or used-up turns the replies to the complete lines, and where the load fails, nothing.
     ensures ending { (table queries before : List ℕ)
         → R.remaining reader ≡ Some table → S.coming source.old ≡ Some queries → K.written sink.old ≡ Some before
         → Ends settings.now table queries before (S.coming source.new) (K.written sink.new) result }
@@ -65,14 +66,14 @@ pub fn run<R: Read + Drop, S: Source, K: Sink>(
     ensures memory { result.fault ≢ Some (RunFault.Table TableFault.Memory) }
 
     // Each failure of a device is reported, and no other. A source may also be given up when the turns are used up.
-    ensures failed_push { result.fault ≡ Some RunFault.Write → K.failed sink.new ≡ K.failed sink.old + 1 }
-    ensures no_failed_push { result.fault ≢ Some RunFault.Write → K.failed sink.new ≡ K.failed sink.old }
+    ensures pushes { (result.fault ≡ Some RunFault.Write → K.failed sink.new ≡ K.failed sink.old + 1)
+        × (result.fault ≢ Some RunFault.Write → K.failed sink.new ≡ K.failed sink.old) }
     ensures pulls { (S.failed source.new ≡ S.failed source.old)
         ⊎ ((S.failed source.new ≡ S.failed source.old + 1) × (result.fault ≡ Some RunFault.Read)) }
     ensures turns { result.fault ≡ Some RunFault.Read → S.failed source.new ≡ S.failed source.old
         → ConsumedAtLeast turns (S.coming source.old) (S.coming source.new) }
 
-    // What was pushed is flushed, unless a push or a flush failed.
+    // What was pushed is flushed, unless a push or a flush failed, or something waited for a flush before.
     ensures flushed { result.fault ≢ Some RunFault.Write → K.waits sink.old ≡ false → K.waits sink.new ≡ false }
 
     // A fault of neither a read nor a write, so one of the load, leaves the queries unread, and nothing is written.
@@ -135,16 +136,12 @@ impl RunFault {
             RunFault::Write => 5,
             RunFault::Memory => 6,
         };
-        Outcome {
-            status,
-            fault: Some(self),
-        }
+        let fault = Some(self);
+        Outcome { status, fault }
     }
 }
 
 impl From<TableFault> for RunFault {
-    ghost use Rattle.rt_filter.specs.Faults.{run_fault};
-
     ghost from_gives = { λ fault result. result ≡ run_fault fault };
 
     fn from(fault: TableFault) -> RunFault {
@@ -156,9 +153,7 @@ impl From<TableFault> for RunFault {
 }
 
 impl From<AllocError> for RunFault {
-    ghost use Rattle.rt_filter.specs.declared.filter.RunFault.TheVariants as run_fault;
-
-    ghost from_gives = { λ _ result. result ≡ run_fault.Memory };
+    ghost from_gives = { λ _ result. result ≡ RunFault.Memory };
 
     fn from(_: AllocError) -> RunFault {
         RunFault::Memory

@@ -1,6 +1,7 @@
 //! What each query is answered.
 //!
-//! The region and the order of a query are matched once, so that the check of each box is compiled for them.
+//! The region and the order of a query are matched once, so that the check of each box is compiled for them. Of a query
+//! on some layers the region is matched for each box, and of a cost both are.
 
 ghost use Rattle.std.specs.Prelude.{◌≡◌, ◌-◌, ◌<◌, ◌≤◌, ◌^◌, IfOk, length, true};
 ghost use Rattle.rt_geo.specs.OnLayers.{on_layers_accepts};
@@ -90,7 +91,7 @@ fn push_levels<K: Sink>(tree: &Tree, line: u128, sink: &mut K) -> Result<(), Wri
     push_line(&ok_line(line, u64::from(count)), sink)
 }
 
-// Pushes the report on the boxes of a region that are on these layers. Inlined, so that which report it is is known there.
+// Pushes the report on the boxes of a region that are on these layers. Inlined, so that the kind of report is known.
 #[inline(always)]
 fn push_report<K: Sink>(
     tree: &Tree,
@@ -212,7 +213,7 @@ fn push_count<S: Shape + Drop, K: Sink>(
 }
 
 // Pushes a line for each answer of one geometry, and then their number. Where all are wanted, all are found first. Where
-// no node has a score, as in the orders by id and by area, all nodes are opened first.
+// no node has a score, as in the orders by id and by area, all nodes that may hold answers are opened first.
 fn find<G: Geometry + Drop, K: Sink>(
     tree: &Tree,
     frontier: Frontier,

@@ -80,14 +80,14 @@ pub fn serve<S: Source, K: Sink>(
         → Serves loaded queries before (S.coming source.new) (K.written sink.new) result }
 
     // Each failure of a device is reported, and no other. A source may also be given up when the turns are used up.
-    ensures failed_push { result.fault ≡ Some ServeFault.Write → K.failed sink.new ≡ K.failed sink.old + 1 }
-    ensures no_failed_push { result.fault ≢ Some ServeFault.Write → K.failed sink.new ≡ K.failed sink.old }
+    ensures pushes { (result.fault ≡ Some ServeFault.Write → K.failed sink.new ≡ K.failed sink.old + 1)
+        × (result.fault ≢ Some ServeFault.Write → K.failed sink.new ≡ K.failed sink.old) }
     ensures pulls { (S.failed source.new ≡ S.failed source.old)
         ⊎ ((S.failed source.new ≡ S.failed source.old + 1) × (result.fault ≡ Some ServeFault.Read)) }
     ensures turns { result.fault ≡ Some ServeFault.Read → S.failed source.new ≡ S.failed source.old
         → ConsumedAtLeast turns (S.coming source.old) (S.coming source.new) }
 
-    // What was pushed is flushed, unless a push or a flush failed: after whatever number of turns.
+    // What was pushed is flushed, unless a push or a flush failed, or something waited for a flush before.
     ensures flushed { result.fault ≢ Some ServeFault.Write → K.waits sink.old ≡ false → K.waits sink.new ≡ false }
 {
     // (called, so that it is known that the tree is the packed one of its own entries)
@@ -95,7 +95,7 @@ pub fn serve<S: Source, K: Sink>(
     let mut frontier = frontier;
     let mut progress = Progress::default();
     let mut room = [0u8; MOST_PULLED];
-    // (so many bytes in front of the room are the beginning of the next line)
+    // (so many bytes at the front of the room are the beginning of the next line)
     let mut partial = 0;
     for _turn in 0..turns {
         let Ok(n) = source.pull(&mut room[partial..]) else {
@@ -214,10 +214,8 @@ impl Progress {
         ensures bad { result.bad ≡ self.now.bad }
         ensures fault { result.fault ≡ fault }
     {
-        Served {
-            bad: self.bad,
-            fault,
-        }
+        let bad = self.bad;
+        Served { bad, fault }
     }
 
     // Hands on what was pushed, if anything was.

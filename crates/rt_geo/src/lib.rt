@@ -19,7 +19,7 @@
 //! `Polygons`, `HalfPlanes`, `Regions`, `OnLayers`, `Orders`, `Discs`, `Counted`. They are in whole numbers without
 //! bounds; that each `Bounds` is a box of the plane of 32-bit coordinates is a fact of its own (`HasBox`
 //! of an entry, `IsWellFormed` of an info), which the readers of the sides and [`Entry::info`] tell. What stands below
-//! `specs/Lemmas` is proved and has not to be believed.
+//! `specs/Lemmas` is proved, and needn't be believed.
 #![tactic(auto)]
 
 mod bounds;

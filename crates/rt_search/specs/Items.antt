@@ -31,8 +31,8 @@ place_cmp (Entry i) (Entry j) = int_cmp i j
 abbrev pub item_cmp : Item → Item → Ordering
 item_cmp = then_cmp (on (λ x. x.score) nat_cmp) (on (λ x. x.place) place_cmp)
 
--- a frontier: what waits, in the order in which it is taken out, how many entries are still wanted, where what comes
--- behind so many isn't kept, what a full search found, in order, and how many items have room
+-- a frontier: what waits, in the order in which it is taken out, how many entries are still wanted, where that
+-- is known: what comes behind so many needn't be kept; what a full search found, in order; how many items have room
 pub record SearchRoom : Type 0 where
   pub items : List Item
   pub wanted : Option ℕ

@@ -32,7 +32,7 @@ abbrev pub front_of : (wanted : Option ℕ) → List Item → List Item
 front_of None items = items
 front_of (Some n) items = front items n
 
--- the same as all, as far as is wanted, and no more
+-- the same as all, as far as is wanted, and not longer than all
 pub record IsEnough (wanted : Option ℕ) (items all : List Item) : Type 0 where
   pub same : front_of wanted items ≡ front_of wanted all
   pub few : length items ≤ length all

@@ -89,8 +89,8 @@ pub record IsTaken (accepts : Extent → Bool) (score : Extent → ℕ) (verdict
   pub least : AllByRecursion (λ y. is_gt (item_cmp x y) ≡ false) items
   pub state : IsSearching accepts score verdict t opened asked capacity (x ∷ items)
 
--- a search that keeps no more than its limit makes necessary: what waits is enough of what would wait without a limit,
--- and that stands for the answers to come
+-- a search that needn't keep more than its limit makes necessary: what waits is enough of what would wait without a
+-- limit, and that stands for the answers to come
 pub record IsUnderWay (accepts : Extent → Bool) (score : Extent → ℕ) (verdict : Info → Verdict) (t : Packed)
     (opened asked capacity : ℕ) (wanted : Option ℕ) (to_come : List Answer) (items : List Item) : Type 0 where
   pub all : List Item

@@ -8,8 +8,8 @@ use crate::search::Search;
 use rt_geo::{Counted, Geometry};
 use rt_tree::Tree;
 
-/// How many nodes a search opens for so many answers, or for all where there is no limit, and the frontier. What the
-/// frontier held is given up.
+/// How many nodes a search opens for so many answers, or for all where there is no limit, and the frontier. What
+/// waited in the frontier is given up.
 pub fn cost<G: Geometry>(
     tree: &Tree,
     frontier: Frontier,

@@ -64,8 +64,8 @@ impl Visitor for Tally {
     }
 }
 
-/// Counts the entries that are accepted. A node that is FULLY adds its size, and isn't opened. What the frontier held
-/// is given up.
+/// Counts the entries that are accepted. A node that is FULLY adds its size, and isn't opened. What waited in the
+/// frontier is given up.
 pub fn count<G: Geometry>(
     tree: &Tree,
     frontier: &mut Frontier,
@@ -79,7 +79,7 @@ pub fn count<G: Geometry>(
     ensures capacity { frontier.new.capacity ≡ frontier.old.capacity }
     ensures geometry { counted.new.geometry ≡ counted.old.geometry }
 {
-    // (a count goes down level by level, and lets no node wait)
+    // (a count goes down by recursion, and lets no node wait)
     frontier.clear(None);
     let mut tally = Tally { accepted: 0 };
     let opened = walk(tree, &mut tally, counted);

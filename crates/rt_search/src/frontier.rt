@@ -18,11 +18,11 @@ use rt_tree::Tree;
 use std::alloc::{AllocError, Global};
 use std::marker::Model;
 
-/// The room in which searches and counts work, one after the other. It is made once, and never grows.
+/// The room in which searches work, one after the other; a count only clears it. It is made once, and never grows.
 ///
-/// It is seen as the items that wait in it, in the order in which they are taken out, how many entries are wanted, where
-/// no more are kept, what a full search found, and its capacity. It is one pointer to them, as it is handed on with each
-/// query.
+/// It is seen as the items that wait in it, in the order in which they are taken out, how many entries are still
+/// wanted, where that is known, what a full search found, and its capacity. It is one pointer to them, as it is handed
+/// on with each query.
 #[derive(Drop)]
 pub struct Frontier {
     rooms: Box<Rooms>,
@@ -86,7 +86,7 @@ impl Frontier {
         self.len() == 0
     }
 
-    // For a search up to a limit, if there is one. Where the limit is low, no more is kept than it makes necessary.
+    // For a search up to a limit, if there is one. Where it is known how many entries are wanted, it is the limit.
     pub(crate) fn clear(&mut self, limit: Option<u64>)
         ensures items { self.new.items ≡ [] }
         ensures wanted { IfSome self.new.wanted (λ n. limit ≡ Some n) }

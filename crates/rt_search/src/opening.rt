@@ -56,7 +56,7 @@ pub(crate) fn open_node<G: Geometry>(
         return;
     }
     let first = node.first;
-    // (as each child's, so that a geometry's test for an entry goes when it is inlined)
+    // (the level of each child, computed and not read, so that the compiler sees that none is an entry)
     let level = node.level - 1;
     let children = tree.child_nodes(node);
     for (i, child) in children.iter().enumerate() {

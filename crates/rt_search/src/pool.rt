@@ -11,12 +11,12 @@ use std::cmp::Reverse;
 use std::collections::BinaryHeap;
 use std::marker::Model;
 
-// How many times the least score the edge moves to: the square of how many times its distance.
+// The edge moves to so many times the least score: for squares of distances, to twice the distance.
 const FARTHER: u64 = 4;
 
 /// Keys of which the least are taken out. Those whose score is at most the edge are near, in a heap, and the others
 /// far, in no order. Most that a search finds are far and never wanted, so that they cost no more than to be written
-/// down. Once no more are near, the edge moves out, and those that are near then are.
+/// down. Once none is near, the edge moves out, and the keys up to it move into the heap.
 ///
 /// It is seen as its keys, the near before the far, and its capacity, which is that of both.
 #[derive(Drop)]
@@ -140,8 +140,8 @@ fn edge_beyond(least: u64) -> u64
     least.saturating_mul(FARTHER)
 }
 
-// Moves the keys of scores up to the edge to those near, and returns the least score of the others. Out of line, as it is
-// rare.
+// Moves the keys of scores up to the edge to those near, and returns the least score of the others. Out of line, as it
+// is rare.
 #[inline(never)]
 fn move_near(
     near: &mut BinaryHeap<Reverse<u128>>,

@@ -6,7 +6,6 @@ ghost use Rattle.rt_search.specs.Items.{item_at};
 ghost use Rattle.rt_search.specs.Kept.{IsAhead, IsTakenOut, in_order, narrow, node_item, taken_item, taken_node};
 ghost use Rattle.rt_search.specs.Limits.{IsPut, wanted_after};
 ghost use Rattle.rt_search.specs.Pooling.{keys_in};
-ghost use Rattle.rt_tree.specs.Sorting.{put};
 
 use crate::entries::Entries;
 use crate::item::{Item, Place, ScoredNode, Taken, WaitingNode};
@@ -19,7 +18,7 @@ use std::marker::Model;
 /// A priority queue of nodes that wait and entries that were found. The few items of either kind whose score is more
 /// than one word stand apart, since they come after all others.
 ///
-/// It is seen as the items that they are, in order, how many entries are wanted, where no more are kept, and its
+/// It is seen as the items that they are, in order, how many entries are still wanted, where that is known, and its
 /// capacity, which is that of each of the three.
 #[derive(Drop)]
 pub struct Queue {

@@ -1,6 +1,6 @@
 //! Best-first search.
 
-ghost use Rattle.std.specs.Prelude.{◌≡◌, ◌≢◌, ◌+◌, ◌<◌, ◌≤◌, [], ◌∷◌, List, None, Some, IfNone, IfSome, MatchOption};
+ghost use Rattle.std.specs.Prelude.{◌≡◌, ◌≢◌, ◌+◌, ◌≤◌, [], ◌∷◌, List, None, Some, IfNone, IfSome, MatchOption};
 ghost use Rattle.std.specs.Prelude.{length};
 ghost use Rattle.rt_search.specs.Answers.{Answer, answers};
 ghost use Rattle.rt_search.specs.Limits.{one_less};
@@ -85,8 +85,8 @@ impl<'a, G: Geometry> Model for Search<'a, G> {
 }
 
 impl<'a, G: Geometry> Search<'a, G> {
-    /// A search for so many answers, or for all where there is no limit. What the frontier held is given up. No node is
-    /// opened yet.
+    /// A search for so many answers, or for all where there is no limit. What waited in the frontier is given up. No node
+    /// is opened yet.
     pub fn start(
         tree: &'a Tree,
         frontier: Frontier,
@@ -169,7 +169,8 @@ impl<'a, G: Geometry> Search<'a, G> {
         ensures given { MatchOption result (self.new.given ≡ self.old.given)
             (λ _. self.new.given ≡ self.old.given + 1) }
 
-        // After an answer the work is that of a search for so many answers, after the last that of the whole search.
+        // After an answer the work is that of a search for so many answers, and once `None` is returned that of the
+        // whole search.
         ensures worked { let g = self.old.geometry in
             IfSome result (λ _. HasWorked (G.accepts g) (G.score g) (G.verdict g) self.old.tree (Some self.new.given)
             self.new.opened self.new.asked) }

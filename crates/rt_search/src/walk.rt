@@ -1,4 +1,4 @@
-//! Walking over the nodes of a tree: what the children of an opened node are asked, and who takes what is found.
+//! Walking over the nodes of a tree: what is asked about the children of an opened node, and who takes what is found.
 //!
 //! A full search, a count and a search in whose order no node has a score walk from the root downwards. What they do at
 //! a node and with an entry is their [`Visitor`]. A best-first search opens one node at a time, in an order of its own,
@@ -191,7 +191,7 @@ fn walk_under<V: Visitor, G: Geometry>(
         return;
     }
     let first = node.first;
-    // (as each child's, so that a geometry's test for an entry goes when it is inlined)
+    // (the level of each child, computed and not read, so that the compiler sees that none is an entry)
     let level = node.level - 1;
     let children = tree.child_nodes(node);
     for (i, child) in children.iter().enumerate() {
