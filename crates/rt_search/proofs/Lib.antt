@@ -4,7 +4,6 @@ pub mod Children
 pub mod Chosen
 pub mod Collectors
 pub mod Elements
-pub mod FilledUp
 pub mod Giving
 pub mod Heaps
 pub mod Joined
