@@ -51,11 +51,10 @@ pub leaf_at : (t : Packed) (n : Node) (i : ℕ) (e : Entry) → IsTable t.entrie
     → get_or t.entries (n.first + i) e ≡ e → IsLeafAt t n i e
 leaf_at t n i e table s lt read =
     let long = part_length t.entries n.first n.count s.range in
-    let range = s.range in
     let here : i < length (child_entries t n) = omega (arith, long) in
     let is : get_or (child_entries t n) i e ≡ e = part_at t.entries n.first n.count i e lt ∙ read in
     let within = All-from_recursion (IsEntryInside (extent_of_node n)) (child_entries t n) s.within i e here in
-    let inside : n.first + i < length t.entries = omega (arith, range, lt) in
+    let inside : n.first + i < length t.entries = omega (arith, s.range, lt) in
     record {
       place = here;
       is = sym is;
@@ -85,9 +84,8 @@ leaf_read t n i x lent table s entries lt read =
     let e = get_or children i no_entry in
     let few = subst (λ m. i < m) (entries_count t n lent s entries) lt in
     let long = part_length t.entries n.first n.count s.range in
-    let range = s.range in
     let there : i < length children = omega (arith, long, few) in
-    let inside : n.first + i < length t.entries = omega (arith, range, few) in
+    let inside : n.first + i < length t.entries = omega (arith, s.range, few) in
     let same : get_or t.entries (n.first + i) e ≡ e = sym (part_at t.entries n.first n.count i e few)
     ∙ get_or_default children i e no_entry there in
     record {
@@ -155,7 +153,6 @@ child_at t n h i s lt =
     let IsWithin = λ (m : Node). IsPart (extent_of_node m) (extent_of_node n) in
     let within = All-from_recursion IsWithin (child_nodes t n) s.within i k here in
     let level = subtree_level t h k tree in
-    let above = s.level in
     let height : height_at t (n.first + i) ≡ h = omega (arith, level) in
     record {
       place = here;
@@ -165,7 +162,7 @@ child_at t n h i s lt =
       within = subst IsWithin is within;
       height = height;
       level = omega (arith, level);
-      lower = omega (arith, level, above);
+      lower = omega (arith, level, s.level);
       valid = subtree_valid t h k tree;
     }
 
@@ -238,10 +235,8 @@ asked {t} {number} {n} here i v {k} {x = x} {whole = whole} lt read number_is wh
     let there = subst (IsChild t m (height_at t number - 1) i) (sym at) (child t number here.tree here.high i few) in
     let x_is = subst (λ l. x ≡ get_or l i x) here.lent read
     ∙ get_or-map without_layers (child_nodes t m) i (node_at t k) x there.place ∙ ap without_layers (sym there.is) in
-    let height = there.height in
-    let some = there.level in
     let level = ap (λ l. l.level) here.is in
-    let lower : n.level - 1 ≡ (node_at t k).level = omega (arith, height, some, level) in
+    let lower : n.level - 1 ≡ (node_at t k).level = omega (arith, there.height, there.level, level) in
     record {
       few = few;
       at = at;
@@ -300,14 +295,13 @@ module _ (accepts : Extent → Bool) (score : Extent → ℕ) (t : Packed) (soun
       → IsChild t n h i k → IsQuestion accepts (info_of_node t v (node_at t k))
   node_question n h i k low below at =
       let top = sound.few_levels in
-      let lower = at.lower in
       record {
         well_formed = record {
           box = at.valid;
           coordinates = subtree_coordinates t (height_at t k) (node_at t k) at.tree;
           layers = subtree_layers t (height_at t k) (node_at t k) at.tree;
           one = (let above = at.level in λ low. absurd (omega (arith, low, above)));
-          level = omega (arith, lower, low);
+          level = omega (arith, at.lower, low);
           top = omega (arith, top);
           parent_score = small;
         };

@@ -130,8 +130,7 @@ module _ (accepts : Extent → Bool) (score : Extent → ℕ) (verdict : Info �
   given_few sound given a rest there =
       let long = ap length there in
       let cut = length-drop given all in
-      let few = sound.table.few in
-      omega (arith, long, cut, few, length-all)
+      omega (arith, long, cut, sound.table.few, length-all)
 
 -- ---- the steps
 

@@ -169,8 +169,6 @@ module _ {accepts : Extent → Bool} {score : Extent → ℕ} {verdict : Info �
           let lt : i < (node_at t number).count = omega arith in
           let m = (node_at t number).first + i in
           let k = child t number opened.tree high i lt in
-          let low = opened.low in
-          let lower = k.lower in
           node_sound m (info_of_node t v (node_at t m))
           (join_nodes verdict t v (node_at t number) i xs) refl k.level (child_question i lt) k.number
-          k.tree (omega (arith, low, lower)) (nodes_sound xs i (omega arith) a)
+          k.tree (omega (arith, opened.low, k.lower)) (nodes_sound xs i (omega arith) a)

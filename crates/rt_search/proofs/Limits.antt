@@ -114,9 +114,7 @@ enough_itself wanted xs = record { same = refl; few = omega arith }
 pub enough_trans : (wanted : Option ℕ) (xs ys zs : List Item) → IsEnough wanted xs ys → IsEnough wanted ys zs
     → IsEnough wanted xs zs
 enough_trans wanted xs ys zs h k =
-    let a = h.few in
-    let b = k.few in
-    record { same = h.same ∙ k.same; few = omega (arith, a, b) }
+    record { same = h.same ∙ k.same; few = omega (arith, h.few, k.few) }
 
 pub enough_put : (wanted : Option ℕ) (x : Item) (xs ys : List Item) → IsEnough wanted xs ys
     → IsEnough wanted (put item_cmp x xs) (put item_cmp x ys)
@@ -162,8 +160,7 @@ enough_joined wanted x zs old new h =
 pub enough_fits : (wanted : Option ℕ) (x : Item) (old new : List Item) (capacity : ℕ)
     → IsEnough wanted new (put item_cmp x old) → length old < capacity → length new ≤ capacity
 enough_fits wanted x old new capacity h lt =
-    let few = h.few in
-    omega (arith, few, lt, length-put item_cmp item_order x old)
+    omega (arith, h.few, lt, length-put item_cmp item_order x old)
 
 -- of an empty list and another neither has any
 pub none_merged : (xs ys : List Item) → put_all item_cmp xs ys ≡ [] → ys ≡ []

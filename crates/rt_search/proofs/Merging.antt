@@ -156,15 +156,13 @@ pub nodes_ahead : (s r : ℕ) (xs ys : List Item) → IsFirstScore s xs → IsFi
     → AllByRecursion (λ x. IsNode x.place) xs → AllByRecursion (λ y. IsEntry y.place) ys → s ≤ r → IsAhead xs ys
 nodes_ahead s r [] ys f g p q h = absurd f
 nodes_ahead s r (x ∷ xs) ys f g p q h =
-    let e = f.0 in
-    node_least x ys r p.0 q (omega (arith, e, h)) (all_scores r ys g)
+    node_least x ys r p.0 q (omega (arith, f.0, h)) (all_scores r ys g)
 
 -- entries before nodes of higher scores
 pub entries_ahead : (s r : ℕ) (xs ys : List Item) → IsFirstScore s xs → IsFirstScore r ys → r < s → IsAhead ys xs
 entries_ahead s r xs [] f g h = absurd g
 entries_ahead s r xs (y ∷ ys) f g h =
-    let e = g.0 in
-    lower_least y xs s (omega (arith, e, h)) (all_scores s xs f)
+    lower_least y xs s (omega (arith, g.0, h)) (all_scores s xs f)
 
 pub by_test : (b : Bool) (P Q : Type 0) → (b ≡ true → P) → (b ≡ false → Q) → MatchBool b P Q
 by_test true P Q p q = p refl

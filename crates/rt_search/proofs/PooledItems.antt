@@ -21,8 +21,7 @@ put_first s x [] e a = (e, tt)
 put_first s x (y ∷ ys) e a =
     put_cases item_cmp (IsFirstScore s) x y ys (λ t.
     let f = score_upto y x (item_order.one_way x y t) in
-    let m = a.0 in
-    (omega (arith, e, f, m), put-all item_cmp item_order (λ z. s ≤ z.score) x ys (omega (arith, e)) a.1)) (λ t. (e, a))
+    (omega (arith, e, f, a.0), put-all item_cmp item_order (λ z. s ≤ z.score) x ys (omega (arith, e)) a.1)) (λ t. (e, a))
 
 -- it stays the first where x joins, whose score is no lower
 first_stays : (s : ℕ) (x : Item) (ys : List Item) → s ≤ x.score → IsFirstScore s ys → IsFirstScore s (put item_cmp x ys)

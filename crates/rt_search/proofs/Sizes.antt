@@ -37,12 +37,10 @@ positive_sum (k ∷ ks) a = omega (arith, sum_by-cons (λ (k : Node). k.size) k 
 pub size_counts : (t : Packed) (h : ℕ) (n : Node) → IsSubtree t h n → (0 < n.size) × (n.count ≤ n.size)
 size_counts t zero n s = let e = s.size in let p = s.some in (omega (arith, e, p), omega (arith, e, p))
 size_counts t (suc h) n s =
-    let e = s.size in
-    let p = s.some in
     let long = part_length t.nodes n.first n.count s.range in
     let sum = positive_sum (child_nodes t n)
     (all_map (IsSubtree t h) (λ k. 0 < k.size) (λ k b. (size_counts t h k b).0) (child_nodes t n) s.below) in
-    (omega (arith, e, p, long, sum), omega (arith, e, p, long, sum))
+    (omega (arith, s.size, s.some, long, sum), omega (arith, s.size, s.some, long, sum))
 
 sizes_under : (t : Packed) (h : ℕ) → ((k : Node) → IsSubtree t h k → k.size ≡ length (entries_under t h k))
     → (ks : List Node) → AllByRecursion (IsSubtree t h) ks → sum_by (λ k. k.size) ks
@@ -113,10 +111,8 @@ module _ (opens : Verdict → Bool) (cost : Node → ℕ) (verdict : Info → Ve
             let root = sound.root some in
             let all = length_permutation _ _ (sound.every some) in
             let size = size_under t (height t) (root_of t) root in
-            let few = sound.table.few in
-            let levels = sound.few_levels in
-            let small : (root_of t).size ≤ 16777216 = omega (arith, all, size, few) in
-            let low : height t + 1 ≤ 25 = omega (arith, levels) in
+            let small : (root_of t).size ≤ 16777216 = omega (arith, all, size, sound.table.few) in
+            let low : height t + 1 ≤ 25 = omega (arith, sound.few_levels) in
             let most = mul-le _ _ _ _ low small in
             let here = work_from_le (height t) (root_of t) root_verdict root in
             rw h (omega (arith, most, here))

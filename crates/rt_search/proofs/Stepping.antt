@@ -164,12 +164,11 @@ module _ {accepts : Extent → Bool} {score : Extent → ℕ} {verdict : Info �
       (node_at t n.number.number) in
       record {
         in_all = (
-            let h = course.in_all in
             let c = work_cons (is_reached None) cost verdict t x xs in
             let j = moves None in
             let all : cond (is_reached None (verdict_on s n)) (W None) 0 ≡ W None =
             cond-true (is_reached None (verdict_on s n)) (W None) 0 (reached_is None s n) in
-            omega (arith, h, c, j, all));
+            omega (arith, course.in_all, c, j, all));
         at_each = subst (AllByRecursion (λ p. AddsUp verdict cost t after new (Some p.1))) (sym same)
             (all_both (λ p. AddsUp verdict cost t done (x ∷ xs) (Some p.1)) (λ p. s ≤ p.1)
             (λ p. AddsUp verdict cost t after new (Some p.1))

@@ -130,12 +130,11 @@ module _ {accepts : Extent → Bool} {score : Extent → ℕ} {verdict : Info �
       } in
       let can = can_open law t taken in
       let step = children_step small taken in
-      let few = k.1.1.few in
       let room = can.room in
       record {
         tree = taken.state.tree;
         node = taken.state.sound.0;
-        room = omega (arith, few, room);
+        room = omega (arith, k.1.1.few, room);
         opened_low = can.opened_low;
         asked_low = can.asked_low;
         opened_upto = done_upto (is_reached None) one_node verdict t (one_is_fair t) opened s n ys (reached_is None s n)
@@ -184,8 +183,6 @@ module _ {accepts : Extent → Bool} {score : Extent → ℕ} {verdict : Info �
       → IsOver accepts score verdict t opened asked capacity wanted to_come new
   over {wanted = wanted} more none none' u =
       let end = none_left wanted u.all more (subst (λ l. IsEnough wanted l u.all) none u.enough) in
-      let o = u.state.opening.in_all in
-      let a = u.state.asking.in_all in
       record {
         none = sym u.follows ∙ ap (remaining t accepts score) end;
         state = record {
@@ -196,8 +193,8 @@ module _ {accepts : Extent → Bool} {score : Extent → ℕ} {verdict : Info �
           enough = subst (λ l. IsEnough wanted l u.all) (none ∙ sym none') u.enough;
         };
         reached = record {
-          nodes = omega (arith, o, no_work_left one_node u.all end);
-          checks = omega (arith, a, no_work_left its_children u.all end);
+          nodes = omega (arith, u.state.opening.in_all, no_work_left one_node u.all end);
+          checks = omega (arith, u.state.asking.in_all, no_work_left its_children u.all end);
         };
       }
 

@@ -163,10 +163,9 @@ module _ {accepts : Extent → Bool} {score : Extent → ℕ} {verdict : Info �
         → IsLeafAt t n i (get_or (child_entries t n) i no_entry)
     entry_at n i leaf lt =
         let e = get_or (child_entries t n) i no_entry in
-        let range = leaf.range in
         let same : e ≡ get_or t.entries (n.first + i) no_entry = part_at t.entries n.first n.count i no_entry lt in
         let read : get_or t.entries (n.first + i) e ≡ e =
-        get_or_default t.entries (n.first + i) e no_entry (omega (arith, range, lt)) ∙ sym same in
+        get_or_default t.entries (n.first + i) e no_entry (omega (arith, leaf.range, lt)) ∙ sym same in
         leaf_at t n i e sound.table leaf lt read
 
     pub one_entry : {v : Verdict} → v.score < 2 ^ 128 → {n : Node} → IsLeafNode t n
@@ -194,11 +193,10 @@ module _ {accepts : Extent → Bool} {score : Extent → ℕ} {verdict : Info �
       checkable i lt =
           let k = child t number opened.tree high i lt in
           let low = opened.low in
-          let lower = k.lower in
           record {
             inside = k.number;
             tree = k.tree;
-            low = omega (arith, low, lower);
+            low = omega (arith, low, k.lower);
             high = k.level;
             extent = refl;
             question =

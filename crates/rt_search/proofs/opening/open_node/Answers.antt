@@ -32,18 +32,13 @@ child_nodes-children-requires g c =
 pub overflow_add-first : goal.overflow_add-first
 overflow_add-first g c =
     let here = children_of c.requires.node c.node-node.ensures c.if-node-eq1.false c.child_nodes-children.ensures in
-    let inside = here.inside in
-    let lt = c.loop-i-test.true in
-    let few = c.requires.sound.few_nodes in
-    let low : c.node-node.result.first + c.loop-i.i < 2 ^ 32 = omega (arith, inside, lt, few) in
+    let low : c.node-node.result.first + c.loop-i.i < 2 ^ 32 = omega (arith, here.inside, c.loop-i-test.true, c.requires.sound.few_nodes) in
     search (rules, low)
 
 pub node-whole-requires : goal.node-whole-requires
 node-whole-requires g c =
     let here = children_of c.requires.node c.node-node.ensures c.if-node-eq1.false c.child_nodes-children.ensures in
-    let inside = here.inside in
-    let lt = c.loop-i-test.true in
-    omega (arith, inside, lt, c.new-number.ensures)
+    omega (arith, here.inside, c.loop-i-test.true, c.new-number.ensures)
 
 pub ask_node-requires : goal.ask_node-requires
 ask_node-requires g c =
@@ -57,19 +52,15 @@ ask_node-requires g c =
     let long = length-join_nodes (g.G.Geometry.verdict geometry) tree v (node_at tree number) c.loop-i.i
     c.args.frontier.now.items in
     let inv = c.loop-i.invariant in
-    let few = inv.children.items.few in
     let room = c.requires.room in
-    let checks = inv.asked in
-    let checks_few = c.requires.asked in
-    let lt = k.few in
     record {
       honest = rw inv.geometry
           (honest_child (g.G.Geometry.accepts geometry) (g.G.Geometry.score geometry)
           (extent_of_node (node_at tree number)) c.info_under-info.result v
           (rw c.verdict_on-parent.ensures c.requires.node.below) (ap (λ i. i.parent_within) c.info_under-info.ensures)
           (rw k.info_is k.child.within));
-      room = rw inv.children.capacity (omega (arith, few, long, room, lt));
-      asked = omega (arith, checks, checks_few, lt);
+      room = rw inv.children.capacity (omega (arith, inv.children.items.few, long, room, k.few));
+      asked = omega (arith, inv.asked, c.requires.asked, k.few);
     }
 
 pub loop-i-preserved : goal.loop-i-preserved
@@ -80,8 +71,6 @@ loop-i-preserved g c =
     c.new-number.ensures c.node-whole.ensures c.info_under-info.ensures in
     let inv = c.loop-i.invariant in
     let h = rw (inv.geometry, inv.children.wanted) at c.ask_node.ensures in
-    let checks = h.asked in
-    let before = inv.asked in
     record {
       children = record {
         items = rw add-one (enough_node c.args.frontier.now.wanted _ _ _ _ _ inv.children.items
@@ -90,7 +79,7 @@ loop-i-preserved g c =
         capacity = h.node.capacity ∙ inv.children.capacity;
       };
       geometry = h.geometry;
-      asked = omega (arith, checks, before);
+      asked = omega (arith, h.asked, inv.asked);
     }
 
 pub returns : goal.returns
@@ -100,11 +89,8 @@ returns g c =
     let tree = c.args.tree.now in
     let number = c.args.taken.node.number.number in
     let here = children_of c.requires.node c.node-node.ensures c.if-node-eq1.false c.child_nodes-children.ensures in
-    let count = here.count in
-    let no = c.loop-i-test.false in
     let inv = c.loop-i.invariant in
-    let checks = inv.asked in
-    let end : c.loop-i.i ≡ (node_at tree number).count = omega (arith, no, c.loop-i.auto.i-end, count) in
+    let end : c.loop-i.i ≡ (node_at tree number).count = omega (arith, c.loop-i-test.false, c.loop-i.auto.i-end, here.count) in
     record {
       children = record {
         items = nodes_join (g.met.G.Geometry.lawful geometry) tree c.args.frontier.now.wanted c.args.taken.score c.args.taken.node
@@ -116,6 +102,6 @@ returns g c =
         wanted = inv.children.wanted;
         capacity = inv.children.capacity;
       };
-      asked = omega (arith, checks, end);
+      asked = omega (arith, inv.asked, end);
       geometry = inv.geometry;
     }

@@ -24,12 +24,8 @@ walk_child-walk_under-requires g t c κs within =
     let stays : c.visit_node.new.self ≡ c.args.visitor.now =
     rw c.if-visit_node.true at
     (c.visit_node.ensures.taken _ (rw (← v, ← c.requires.size) at (known law c.requires.node))) in
-    let size = c.requires.size in
-    let room = c.requires.room in
     let one = at_child g.V.Visitor.opens one_node verdict tree (verdict info) number (rw v at opens) in
     let its = at_child g.V.Visitor.opens its_children verdict tree (verdict info) number (rw v at opens) in
-    let asked = e.asked in
-    let opened_few = c.requires.opened in
     let asked_few = c.requires.asked in (
       omega (arith, c.decreases),
       (
@@ -41,10 +37,10 @@ walk_child-walk_under-requires g t c κs within =
             (
               rw (e.geometry, v) (openable law c.requires.node),
               (
-                rw stays (omega (arith, size, room)),
+                rw stays (omega (arith, c.requires.size, c.requires.room)),
                 (
-                  rw (e.geometry, v) (omega (arith, one, opened_few)),
-                  rw (e.geometry, v) (omega (arith, its, asked, asked_few)),
+                  rw (e.geometry, v) (omega (arith, one, c.requires.opened)),
+                  rw (e.geometry, v) (omega (arith, its, e.asked, asked_few)),
                 ),
               ),
             ),
@@ -74,9 +70,7 @@ walk_under-child_nodes-children-requires g t c =
 pub walk_under-node-whole-requires : goal.walk_under-node-whole-requires
 walk_under-node-whole-requires g t c =
     let here = children_of c.requires.node c.node-node.ensures c.if-node-eq1.false c.child_nodes-children.ensures in
-    let inside = here.inside in
-    let lt = c.loop-i-test.true in
-    omega (arith, inside, lt, c.new-child_number.ensures)
+    omega (arith, here.inside, c.loop-i-test.true, c.new-child_number.ensures)
 
 pub walk_under-loop-i-init : goal.walk_under-loop-i-init
 walk_under-loop-i-init g t c =
@@ -105,10 +99,9 @@ walk_under-walk_child-requires g t c κs within =
     g.V.Collector.room g.met.V.Collector.fills c.args.visitor.now c.loop-i.visitor inv.taken c.requires.room
     c.args.opened.now c.loop-i.opened c.args.counted.now.asked c.loop-i.counted.asked inv.opened inv.asked
     c.requires.opened c.requires.asked in
-    let lower = can.lower in
     let size : c.index-children-i.result.size ≡ (node_at tree c.new-child_number.result.number).size = ap (λ n. n.size) k.is in
     let fits = can.room_is in (
-      omega (arith, lower, c.decreases),
+      omega (arith, can.lower, c.decreases),
       (
         within.0,
         (
@@ -137,9 +130,6 @@ walk_under-loop-i-preserved g t c =
     let inv = c.loop-i.invariant in
     let e = rw k.at at (rw k.info_is at (rw inv.geometry at c.walk_child.ensures)) in
     let opened = e.opened in
-    let checks = e.asked in
-    let before = inv.opened in
-    let checks_before = inv.asked in
     let more = λ (cost : Node → ℕ).
     work_more law sound small c.requires.node here.high g.V.Visitor.opens cost c.loop-i.i k.few in
     record {
@@ -147,8 +137,8 @@ walk_under-loop-i-preserved g t c =
           (upto_more c.requires.node here.high c.loop-i.i k.few)
           (taken-append g.V.Collector.takes c.args.visitor.now c.loop-i.visitor c.walk_child.new.visitor _ _ inv.taken
           e.taken);
-      opened = omega (arith, opened, before, more one_node);
-      asked = omega (arith, checks, checks_before, more its_children);
+      opened = omega (arith, opened, inv.opened, more one_node);
+      asked = omega (arith, e.asked, inv.asked, more its_children);
       geometry = e.geometry;
     }
 
@@ -161,9 +151,7 @@ walk_under-returns g t c =
     let number = c.args.number.number in
     let small : v.score < 2 ^ 128 = search rules in
     let here = children_of c.requires.node c.node-node.ensures c.if-node-eq1.false c.child_nodes-children.ensures in
-    let count = here.count in
-    let over = c.loop-i-test.false in
-    let end : c.loop-i.i ≡ (node_at tree number).count = omega (arith, count, over, c.loop-i.auto.i-end) in
+    let end : c.loop-i.i ≡ (node_at tree number).count = omega (arith, here.count, c.loop-i-test.false, c.loop-i.auto.i-end) in
     let inv = rw end at c.loop-i.invariant in
     let opened = inv.opened in
     let asked = inv.asked in

@@ -24,10 +24,7 @@ pub check-verdict-requires-clause-room : goal.check-verdict-requires-clause-room
 check-verdict-requires-clause-room g c =
     let count = entries_count c.args.tree.now c.args.node c.child_entries-entries.result.now c.requires.leaf.node
     c.child_entries-entries.ensures in
-    let lt = c.loop-i-test.true in
-    let asked = c.loop-i.invariant.asked in
-    let room = c.requires.asked in
-    omega (arith, asked, room, lt, count)
+    omega (arith, c.loop-i.invariant.asked, c.requires.asked, c.loop-i-test.true, count)
 
 pub visit_entry-requires : goal.visit_entry-requires
 visit_entry-requires g c =
@@ -35,13 +32,11 @@ visit_entry-requires g c =
     let tree = c.args.tree.now in
     let count = entries_count tree c.args.node c.child_entries-entries.result.now c.requires.leaf.node
     c.child_entries-entries.ensures in
-    let lt = c.loop-i-test.true in
     let found = answers_among tree (g.G.Geometry.accepts geometry) (g.G.Geometry.score geometry) c.args.node c.loop-i.i in
     let left = taken_room g.C.Collector.takes g.C.Collector.room g.met.C.Collector.fills c.args.collector.now
     c.loop-i.collector found c.loop-i.invariant.taken in
     let few = few_entries (g.G.Geometry.accepts geometry) (g.G.Geometry.score geometry) tree c.args.node c.loop-i.i in
-    let room = c.requires.room in
-    omega (arith, count, lt, left, few, room)
+    omega (arith, count, c.loop-i-test.true, left, few, c.requires.room)
 
 pub loop-i-preserved : goal.loop-i-preserved
 loop-i-preserved g c =
@@ -78,7 +73,4 @@ pub returns-clause-asked : goal.returns-clause-asked
 returns-clause-asked g c =
     let count = entries_count c.args.tree.now c.args.node c.child_entries-entries.result.now c.requires.leaf.node
     c.child_entries-entries.ensures in
-    let no = c.loop-i-test.false in
-    let end = c.loop-i.auto.i-end in
-    let asked = c.loop-i.invariant.asked in
-    omega (arith, asked, no, end, count)
+    omega (arith, c.loop-i.invariant.asked, c.loop-i-test.false, c.loop-i.auto.i-end, count)

@@ -14,10 +14,8 @@ returns-then-score-self-clause-keys c =
     let h = rw (← c.self.view_is) at c.requires in
     let near = heap_items c.self.inside.near in
     let far = c.self.inside.far.items in
-    let counted = k.inside.counted in
-    let room = k.near_room in
     let ok : IsOk c.push-pushed.result =
-    c.push-pushed.ensures.succeeds (omega (arith, h, length-append near far, counted, room)) in
+    c.push-pushed.ensures.succeeds (omega (arith, h, length-append near far, k.inside.counted, k.near_room)) in
     subst (λ w. IsPermutation (record { 0 = c.args.key } ∷ keys_in w) (heap_items c.push-pushed.new.self ++ far))
     c.self.view_is
     (IsPermutation-append_left far (record { 0 = c.args.key } ∷ near) _ (on_ok c.push-pushed.result ok c.push-pushed.ensures.permutation))
@@ -30,7 +28,6 @@ invariant_of-self-2 c =
     let near = heap_items c.self.inside.near in
     let far = c.self.inside.far.items in
     let score = c.score_of-score.ensures in
-    let beyond = c.if-score-self.false in
     let room = k.far_room in
     let longer = length_permutation _ _ (put_right (record { 0 = c.args.key }) near far) in
     record {
@@ -38,7 +35,7 @@ invariant_of-self-2 c =
       outside =
           rw (e.items, c.lesser.ensures, score)
           (far_more c.self.inside.edge c.self.inside.least far (record { 0 = c.args.key }) k.outside
-          (omega (arith, score, beyond)));
+          (omega (arith, score, c.if-score-self.false)));
       near_room = k.near_room;
       far_room = rw e.capacity room;
       few = rw e.items (omega (arith, h, longer));

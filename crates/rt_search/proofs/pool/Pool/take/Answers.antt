@@ -24,11 +24,10 @@ invariant_of-self-2 c =
     let room = k.near_room in
     let fewer = length_permutation _ _ e.permutation in
     let total = length_permutation _ _ (IsPermutation-append_left c.self.inside.far.items _ _ e.permutation) in
-    let long = e.len in
     record {
       inside = record {
         ordered = (e.heap_order k.inside.ordered).0;
-        counted = omega (arith, counted, fewer, long);
+        counted = omega (arith, counted, fewer, e.len);
         low = (all_moved (λ j. score_in j ≤ c.self.inside.edge) (heap_items c.self.inside.near) (c.in-Some.top ∷ _)
             e.permutation k.inside.low).1;
       };

@@ -15,8 +15,7 @@ pub put-requires : goal.put-requires
 put-requires c =
     let h = rw (← c.self.view_is) at c.requires in
     let long = length-queued (keys_in c.self.inside.nodes) c.self.inside.entries.items c.self.inside.wide.items in
-    let room = c.self.invariant.entries_room in
-    omega (arith, h, long, room)
+    omega (arith, h, long, c.self.invariant.entries_room)
 
 pub invariant_of-self : goal.invariant_of-self
 invariant_of-self c =
