@@ -50,8 +50,7 @@ pub record IsLeafAt (t : Packed) (n : Node) (i : ℕ) (e : Entry) : Type 0 where
 pub leaf_at : (t : Packed) (n : Node) (i : ℕ) (e : Entry) → IsTable t.entries → IsLeafNode t n → i < n.count
     → get_or t.entries (n.first + i) e ≡ e → IsLeafAt t n i e
 leaf_at t n i e table s lt read =
-    let long = part_length t.entries n.first n.count s.range in
-    let here : i < length (child_entries t n) = omega (arith, long) in
+    let here : i < length (child_entries t n) = omega (arith, part_length t.entries n.first n.count s.range) in
     let is : get_or (child_entries t n) i e ≡ e = part_at t.entries n.first n.count i e lt ∙ read in
     let within = All-from_recursion (IsEntryInside (extent_of_node n)) (child_entries t n) s.within i e here in
     let inside : n.first + i < length t.entries = omega (arith, s.range, lt) in
@@ -83,8 +82,7 @@ leaf_read t n i x lent table s entries lt read =
     let children = child_entries t n in
     let e = get_or children i no_entry in
     let few = subst (λ m. i < m) (entries_count t n lent s entries) lt in
-    let long = part_length t.entries n.first n.count s.range in
-    let there : i < length children = omega (arith, long, few) in
+    let there : i < length children = omega (arith, part_length t.entries n.first n.count s.range, few) in
     let inside : n.first + i < length t.entries = omega (arith, s.range, few) in
     let same : get_or t.entries (n.first + i) e ≡ e = sym (part_at t.entries n.first n.count i e few)
     ∙ get_or_default children i e no_entry there in
@@ -143,8 +141,7 @@ child_at : (t : Packed) (n : Node) (h i : ℕ) → IsInnerNode t h (IsSubtree t 
     → IsChild t n h i (n.first + i)
 child_at t n h i s lt =
     let k = node_at t (n.first + i) in
-    let long = part_length t.nodes n.first n.count s.range in
-    let here : i < length (child_nodes t n) = omega (arith, long) in
+    let here : i < length (child_nodes t n) = omega (arith, part_length t.nodes n.first n.count s.range) in
     let number : n.first + i < length t.nodes = (let r = s.range in omega (arith, r)) in
     let is : get_or (child_nodes t n) i k ≡ k = part_at t.nodes n.first n.count i k lt
     ∙ get_or_default t.nodes (n.first + i) k no_node number in
@@ -254,8 +251,7 @@ pub all_children : (t : Packed) (number : ℕ) → IsSubtree t (height_at t numb
     → take i (child_nodes t (node_at t number)) ≡ child_nodes t (node_at t number)
 all_children t number s level i le =
     let n = node_at t number in
-    let inner = (inner_at t (height_at t number) n s level).1 in
-    let long = part_length t.nodes n.first n.count inner.range in
+    let long = part_length t.nodes n.first n.count ((inner_at t (height_at t number) n s level).1).range in
     take_all i (child_nodes t n) (omega (arith, long))
 
 pub height_suc : (t : Packed) (number : ℕ) → IsSubtree t (height_at t number) (node_at t number)
@@ -276,7 +272,6 @@ module _ (accepts : Extent → Bool) (score : Extent → ℕ) (t : Packed) (soun
   pub entry_question : (n : Node) (e : Entry) (i : ℕ) → IsBelow accepts score (extent_of_node n) v → IsLeafAt t n i e
       → IsQuestion accepts (info_of_child t v e)
   entry_question n e i below at =
-      let top = sound.few_levels in
       record {
         well_formed = record {
           box = at.box.box;
@@ -285,7 +280,7 @@ module _ (accepts : Extent → Bool) (score : Extent → ℕ) (t : Packed) (soun
           one = λ _. record { layer = e.layer; few = at.few; is = refl };
           level = omega arith;
           top =
-              omega (arith, top);
+              omega (arith, sound.few_levels);
           parent_score = small;
         };
         honest = honest_child accepts score (extent_of_node n) (info_of_child t v e) v below refl at.within;
@@ -294,7 +289,6 @@ module _ (accepts : Extent → Bool) (score : Extent → ℕ) (t : Packed) (soun
   pub node_question : (n : Node) (h i k : ℕ) → n.level ≤ 24 → IsBelow accepts score (extent_of_node n) v
       → IsChild t n h i k → IsQuestion accepts (info_of_node t v (node_at t k))
   node_question n h i k low below at =
-      let top = sound.few_levels in
       record {
         well_formed = record {
           box = at.valid;
@@ -302,7 +296,7 @@ module _ (accepts : Extent → Bool) (score : Extent → ℕ) (t : Packed) (soun
           layers = subtree_layers t (height_at t k) (node_at t k) at.tree;
           one = (let above = at.level in λ low. absurd (omega (arith, low, above)));
           level = omega (arith, at.lower, low);
-          top = omega (arith, top);
+          top = omega (arith, sound.few_levels);
           parent_score = small;
         };
         honest = honest_child accepts score (extent_of_node n) (info_of_node t v (node_at t k)) v below refl at.within;

@@ -119,18 +119,15 @@ module _ (accepts : Extent → Bool) (score : Extent → ℕ) (verdict : Info �
   work_in_all cost None g le n h = refl
   work_in_all cost (Some zero) g le n h = absurd (let lt = below_limit zero g le n in omega (arith, lt))
   work_in_all cost (Some (suc k)) g le n h =
-      let lt = below_limit (suc k) g le n in
       let none : slice_get all (suc k - 1) ≡ None =
-      ap (slice_get all) (suc_less k) ∙ past_end all g k h (omega (arith, lt)) in
+      ap (slice_get all) (suc_less k) ∙ past_end all g k h (omega (arith, below_limit (suc k) g le n)) in
       ap (λ o. reached_from_root (is_reached (option_map (λ (b : Answer). b.1) o)) cost verdict t) (sym none)
 
   -- the numbers stay small
   given_few : IsSound t → (given : ℕ) (a : Answer) (rest : List Answer) → drop given all ≡ a ∷ rest
       → given + 1 ≤ 16777216
   given_few sound given a rest there =
-      let long = ap length there in
-      let cut = length-drop given all in
-      omega (arith, long, cut, sound.table.few, length-all)
+      omega (arith, ap length there, length-drop given all, sound.table.few, length-all)
 
 -- ---- the steps
 

@@ -119,10 +119,9 @@ enough_trans wanted xs ys zs h k =
 pub enough_put : (wanted : Option ℕ) (x : Item) (xs ys : List Item) → IsEnough wanted xs ys
     → IsEnough wanted (put item_cmp x xs) (put item_cmp x ys)
 enough_put wanted x xs ys h =
-    let few = h.few in
     record {
       same = same_put x xs ys wanted h.same;
-      few = omega (arith, few, length-put item_cmp item_order x xs, length-put item_cmp item_order x ys);
+      few = omega (arith, h.few, length-put item_cmp item_order x xs, length-put item_cmp item_order x ys);
     }
 
 pub enough_put_all : (wanted : Option ℕ) (zs xs ys : List Item) → IsEnough wanted xs ys

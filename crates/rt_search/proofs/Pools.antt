@@ -39,8 +39,7 @@ pub take-swap_remove : {X : Type 0} (xs : List X) (i : ℕ) (d : X) → i < leng
 take-swap_remove xs i d h =
     let n = length xs - 1 in
     let ys = set xs i (get_or xs n d) in
-    let long = length-set xs i (get_or xs n d) in
-    let cut = length-take-le n ys (omega (arith, long)) in
+    let cut = length-take-le n ys (omega (arith, length-set xs i (get_or xs n d))) in
     sym (take-append-le i (take n ys) (drop n ys) (omega (arith, cut, h))) ∙ ap (take i) (take-append-drop n ys)
     ∙ take-set xs i (get_or xs n d)
 

@@ -113,9 +113,7 @@ module _ (opens : Verdict → Bool) (cost : Node → ℕ) (verdict : Info → Ve
             let size = size_under t (height t) (root_of t) root in
             let small : (root_of t).size ≤ 16777216 = omega (arith, all, size, sound.table.few) in
             let low : height t + 1 ≤ 25 = omega (arith, sound.few_levels) in
-            let most = mul-le _ _ _ _ low small in
-            let here = work_from_le (height t) (root_of t) root_verdict root in
-            rw h (omega (arith, most, here))
+            rw h (omega (arith, mul-le _ _ _ _ low small, work_from_le (height t) (root_of t) root_verdict root))
       ] in
       split (length t.nodes == 0) refl
 
@@ -133,10 +131,8 @@ module _ (opens : Verdict → Bool) (cost : Node → ℕ) (verdict : Info → Ve
       → done + work_left opens cost verdict t (item_at s (place.Node n) ∷ xs) ≡ reached_from_root opens cost verdict t
       → done + cost (node_at t n.number.number) ≤ reached_from_root opens cost verdict t
   done_upto done s n xs open' course =
-      let cons = work_cons opens cost verdict t (item_at s (place.Node n)) xs in
-      let here = opened_at s n open' in
       let least = cost_le_work (height_at t n.number.number) (verdict_on s n) (node_at t n.number.number) in
-      omega (arith, cons, here, least, course)
+      omega (arith, work_cons opens cost verdict t (item_at s (place.Node n)) xs, opened_at s n open', least, course)
 
   -- and keeps the work done small
   pub done_le : IsSound t → (done s : ℕ) (n : WaitingNode) (xs : List Item) → opens (verdict_on s n) ≡ true
@@ -165,7 +161,5 @@ module _ (accepts : Extent → Bool) (score : Extent → ℕ) (t : Packed) where
       → AllSound t accepts score (item_at s (place.Node n) ∷ xs) → held t (item_at s (place.Node n) ∷ xs) ≤ capacity
       → length xs + (node_at t n.number.number).count ≤ capacity
   room_for capacity s n xs sound room =
-      let cons = held_cons (item_at s (place.Node n)) xs in
-      let long = length_le_held xs sound.1 in
       let count = (size_counts t (height_at t n.number.number) (node_at t n.number.number) sound.0.tree).1 in
-      omega (arith, cons, long, count, room)
+      omega (arith, held_cons (item_at s (place.Node n)) xs, length_le_held xs sound.1, count, room)

@@ -46,8 +46,7 @@ root_work opens cost verdict t open' some =
     let W = reached opens cost verdict t (height t) root_verdict (root_of t) in
     let one = sum_by-cons (λ (x : Item). work_at opens cost verdict t x.score x.place) (root_item t) [] in
     let all : cond (opens root_verdict) W 0 ≡ W = rw open' refl in
-    let some' = some_nodes t some in
-    let whole : reached_from_root opens cost verdict t ≡ W = rw some' refl in
+    let whole : reached_from_root opens cost verdict t ≡ W = rw (some_nodes t some) refl in
     omega (arith, one, all, whole)
 
 from_none : {m n : ℕ} → m ≡ n → 0 + m ≡ n
@@ -91,10 +90,9 @@ module _ (accepts : Extent → Bool) (score : Extent → ℕ) (verdict : Info �
     pub root_room : (capacity : ℕ) → 0 < length t.nodes → length t.entries ≤ capacity
         → held t (root_item t ∷ []) ≤ capacity
     root_room capacity some room =
-        let size = size_under t (height t) (root_of t) (sound.root some) in
         let all = length_permutation _ _ (sound.every some) in
         let held_is = sum_by-cons (λ (x : Item). size_at t x.place) (root_item t) [] in
-        omega (arith, size, all, held_is, room)
+        omega (arith, size_under t (height t) (root_of t) (sound.root some), all, held_is, room)
 
     pub root_state : (capacity : ℕ) → 0 < length t.nodes → length t.entries ≤ capacity
         → IsSearching accepts score verdict t 0 0 capacity (root_item t ∷ [])

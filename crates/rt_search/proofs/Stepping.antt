@@ -88,10 +88,8 @@ module _ {accepts : Extent → Bool} {score : Extent → ℕ} {verdict : Info �
       → work_left (is_reached (Some s)) cost verdict t xs ≡ 0
   no_work cost i s [] a = refl
   no_work cost i s (y ∷ ys) a =
-      let cons = work_cons (is_reached (Some s)) cost verdict t y ys in
-      let h = no_work cost i s ys a.1 in
       let k = none_at cost i s y.score y.place a.0 in
-      omega (arith, cons, h, k)
+      omega (arith, work_cons (is_reached (Some s)) cost verdict t y ys, no_work cost i s ys a.1, k)
 
   -- ---- an entry is taken out
 
@@ -164,20 +162,16 @@ module _ {accepts : Extent → Bool} {score : Extent → ℕ} {verdict : Info �
       (node_at t n.number.number) in
       record {
         in_all = (
-            let c = work_cons (is_reached None) cost verdict t x xs in
-            let j = moves None in
             let all : cond (is_reached None (verdict_on s n)) (W None) 0 ≡ W None =
             cond-true (is_reached None (verdict_on s n)) (W None) 0 (reached_is None s n) in
-            omega (arith, course.in_all, c, j, all));
+            omega (arith, course.in_all, work_cons (is_reached None) cost verdict t x xs, moves None, all));
         at_each = subst (AllByRecursion (λ p. AddsUp verdict cost t after new (Some p.1))) (sym same)
             (all_both (λ p. AddsUp verdict cost t done (x ∷ xs) (Some p.1)) (λ p. s ≤ p.1)
             (λ p. AddsUp verdict cost t after new (Some p.1))
             (λ p h le.
-            let c = work_cons (is_reached (Some p.1)) cost verdict t x xs in
-            let j = moves (Some p.1) in
             let all : cond (is_reached (Some p.1) (verdict_on s n)) (W (Some p.1)) 0 ≡ W (Some p.1) =
             cond-true (is_reached (Some p.1) (verdict_on s n)) (W (Some p.1)) 0 (reached_below p.1 s n le) in
-            omega (arith, h, c, j, all))
+            omega (arith, h, work_cons (is_reached (Some p.1)) cost verdict t x xs, moves (Some p.1), all))
             (remaining t accepts score (x ∷ xs)) course.at_each (above_all x xs least sound));
       }
 
@@ -235,12 +229,11 @@ module _ {accepts : Extent → Bool} {score : Extent → ℕ} {verdict : Info �
       (join_nodes verdict t (verdict_on s n) (node_at t n.number.number) (node_at t n.number.number).count xs)
   inner_step {s = s} {n = n} {xs = xs} small high k =
       let number = n.number.number in
-      let node = node_at t number in
       let v = verdict_on s n in
       let here = k.state.sound.0 in
       node_step _ k
       (nodes_joined law t k.state.tree v small number here high xs)
-      (nodes_sound law t k.state.tree v small number here high xs node.count
+      (nodes_sound law t k.state.tree v small number here high xs (node_at t number).count
       (omega arith) k.state.sound.1)
       (held-join_nodes verdict t v number here.tree high xs)
       (λ cost bound. work-join_nodes verdict t v number here.tree high (is_reached bound) (closed_by bound) cost

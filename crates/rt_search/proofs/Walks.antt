@@ -82,9 +82,7 @@ module _ (accepts : Extent → Bool) (score : Extent → ℕ) (t : Packed) where
   pub few_entries : (n : Node) (i : ℕ) → length (answers_among t accepts score n i) ≤ i
   few_entries n i =
       let es = child_entries t n in
-      let some = length-scored accepts score (take i es) in
-      let long = length-take i es in
-      omega (arith, some, long)
+      omega (arith, length-scored accepts score (take i es), length-take i es)
 
   all_among : (c : Extent) → AllAccepted accepts c → (es : List Entry) → AllByRecursion (IsEntryInside c) es
       → length (among accepts score es) ≡ length es
@@ -192,11 +190,10 @@ module _ {accepts : Extent → Bool} {score : Extent → ℕ} {verdict : Info �
           → let k = (node_at t number).first + i in IsCheckable t accepts k (info_of_node t v (node_at t k))
       checkable i lt =
           let k = child t number opened.tree high i lt in
-          let low = opened.low in
           record {
             inside = k.number;
             tree = k.tree;
-            low = omega (arith, low, k.lower);
+            low = omega (arith, opened.low, k.lower);
             high = k.level;
             extent = refl;
             question =
@@ -242,8 +239,7 @@ module _ {accepts : Extent → Bool} {score : Extent → ℕ} {verdict : Info �
           let long = length-append (answers_upto opened high i) (answers_under t accepts score k) in
           let sizes = sum_more verdict t v number opened.tree high (λ k. k.size) i lt in
           let few = few_under accepts score t k (child t number opened.tree high i lt).tree in
-          let rest = few_upto i (omega arith) in
-          omega (arith, more, long, few, sizes, rest)
+          omega (arith, more, long, few, sizes, few_upto i (omega arith))
 
       -- the answers of the first and a further child are no more than the node's size
       room_for_child : (i : ℕ) → i < (node_at t number).count

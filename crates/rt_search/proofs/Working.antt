@@ -109,9 +109,8 @@ module _ (verdict : Info → Verdict) (t : Packed) (v : Verdict) where
         (node_at t number).size
     held-join_nodes xs =
         let n = node_at t number in
-        let inner = (inner_at t (height_at t number) n tree high).1 in
         let all = ap (sum_by (λ k. k.size)) (all_children t number tree high n.count (omega arith)) in
-        omega (arith, held_upto xs n.count (omega arith), all, inner.size)
+        omega (arith, held_upto xs n.count (omega arith), all, ((inner_at t (height_at t number) n tree high).1).size)
 
     module _ (opens : Verdict → Bool) (closed : (v : Verdict) → is_kept v.within ≡ false → opens v ≡ false) (cost : Node → ℕ) where
       -- what a child brings to the work

@@ -52,14 +52,13 @@ ask_node-requires g c =
     let long = length-join_nodes (g.G.Geometry.verdict geometry) tree v (node_at tree number) c.loop-i.i
     c.args.frontier.now.items in
     let inv = c.loop-i.invariant in
-    let room = c.requires.room in
     record {
       honest = rw inv.geometry
           (honest_child (g.G.Geometry.accepts geometry) (g.G.Geometry.score geometry)
           (extent_of_node (node_at tree number)) c.info_under-info.result v
           (rw c.verdict_on-parent.ensures c.requires.node.below) (ap (λ i. i.parent_within) c.info_under-info.ensures)
           (rw k.info_is k.child.within));
-      room = rw inv.children.capacity (omega (arith, inv.children.items.few, long, room, k.few));
+      room = rw inv.children.capacity (omega (arith, inv.children.items.few, long, c.requires.room, k.few));
       asked = omega (arith, inv.asked, c.requires.asked, k.few);
     }
 

@@ -121,7 +121,6 @@ pub walk_under-loop-i-preserved : goal.walk_under-loop-i-preserved
 walk_under-loop-i-preserved g t c =
     let law = g.met.G.Geometry.lawful c.args.counted.now.geometry in
     let tree = c.args.tree.now in
-    let sound = c.requires.sound in
     let v = c.args.parent in
     let small : v.score < 2 ^ 128 = search rules in
     let here = children_of c.requires.node c.node-node.ensures c.if-node-eq1.false c.child_nodes-children.ensures in
@@ -129,15 +128,14 @@ walk_under-loop-i-preserved g t c =
     c.node-whole.ensures c.info_under-info.ensures in
     let inv = c.loop-i.invariant in
     let e = rw k.at at (rw k.info_is at (rw inv.geometry at c.walk_child.ensures)) in
-    let opened = e.opened in
     let more = λ (cost : Node → ℕ).
-    work_more law sound small c.requires.node here.high g.V.Visitor.opens cost c.loop-i.i k.few in
+    work_more law c.requires.sound small c.requires.node here.high g.V.Visitor.opens cost c.loop-i.i k.few in
     record {
       taken = subst (λ l. HasTaken g.V.Collector.takes c.args.visitor.now l c.walk_child.new.visitor)
           (upto_more c.requires.node here.high c.loop-i.i k.few)
           (taken-append g.V.Collector.takes c.args.visitor.now c.loop-i.visitor c.walk_child.new.visitor _ _ inv.taken
           e.taken);
-      opened = omega (arith, opened, inv.opened, more one_node);
+      opened = omega (arith, e.opened, inv.opened, more one_node);
       asked = omega (arith, e.asked, inv.asked, more its_children);
       geometry = e.geometry;
     }
@@ -153,13 +151,11 @@ walk_under-returns g t c =
     let here = children_of c.requires.node c.node-node.ensures c.if-node-eq1.false c.child_nodes-children.ensures in
     let end : c.loop-i.i ≡ (node_at tree number).count = omega (arith, here.count, c.loop-i-test.false, c.loop-i.auto.i-end) in
     let inv = rw end at c.loop-i.invariant in
-    let opened = inv.opened in
-    let asked = inv.asked in
     let all = work_all law sound small c.requires.node here.high g.V.Visitor.opens in
     record {
       taken = subst (λ l. HasTaken g.V.Collector.takes c.args.visitor.now l c.loop-i.visitor)
           (upto_all c.requires.node here.high) inv.taken;
-      opened = omega (arith, opened, all one_node);
-      asked = omega (arith, asked, all its_children);
+      opened = omega (arith, inv.opened, all one_node);
+      asked = omega (arith, inv.asked, all its_children);
       geometry = inv.geometry;
     }

@@ -4,6 +4,5 @@ use Rattle.rt_search.proofs.counting.TallyVisitor.visit_node.Goals as goal
 
 pub returns-in-Fully-clause-taken : goal.returns-in-Fully-clause-taken
 returns-in-Fully-clause-taken c answers known =
-    let all = known.all c.in-Fully.is in
     tally_counted c.args.self.now (record { accepted = c.args.self.now.accepted + c.from.result }) answers
-    (omega (arith, all, c.from.ensures))
+    (omega (arith, known.all c.in-Fully.is, c.from.ensures))

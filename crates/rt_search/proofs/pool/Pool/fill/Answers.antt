@@ -8,15 +8,12 @@ pub invariant_of-self : goal.invariant_of-self
 invariant_of-self c =
     let k = c.self.invariant in
     let e = c.move_near-self-inside.ensures in
-    let far_room = k.far_room in
-    let few = k.few in
-    let total = length_permutation _ _ e.same in
     record {
       inside = e.near;
       outside = e.far;
       near_room = omega (arith, k.near_room, e.near_capacity);
-      far_room = rw e.far_capacity far_room;
-      few = omega (arith, few, total);
+      far_room = rw e.far_capacity k.far_room;
+      few = omega (arith, k.few, length_permutation _ _ e.same);
     }
 
 pub returns-clause-filled : goal.returns-clause-filled

@@ -25,11 +25,9 @@ invariant_of-self-2 c =
     let k = c.self.invariant in
     let h = rw (← c.self.view_is) at c.requires in
     let e = c.push_reserved.ensures in
-    let near = heap_items c.self.inside.near in
     let far = c.self.inside.far.items in
     let score = c.score_of-score.ensures in
-    let room = k.far_room in
-    let longer = length_permutation _ _ (put_right (record { 0 = c.args.key }) near far) in
+    let longer = length_permutation _ _ (put_right (record { 0 = c.args.key }) (heap_items c.self.inside.near) far) in
     record {
       inside = k.inside;
       outside =
@@ -37,14 +35,13 @@ invariant_of-self-2 c =
           (far_more c.self.inside.edge c.self.inside.least far (record { 0 = c.args.key }) k.outside
           (omega (arith, score, c.if-score-self.false)));
       near_room = k.near_room;
-      far_room = rw e.capacity room;
+      far_room = rw e.capacity k.far_room;
       few = rw e.items (omega (arith, h, longer));
     }
 
 pub returns-clause-keys : goal.returns-clause-keys
 returns-clause-keys c =
     let near = heap_items c.self.inside.near in
-    let far = c.self.inside.far.items in
     subst (λ w. IsPermutation (record { 0 = c.args.key } ∷ keys_in w) (near ++ c.push_reserved.new.self.items))
     c.self.view_is
-    (rw c.push_reserved.ensures.items (put_right (record { 0 = c.args.key }) near far))
+    (rw c.push_reserved.ensures.items (put_right (record { 0 = c.args.key }) near c.self.inside.far.items))

@@ -27,14 +27,13 @@ invariant_of-self c =
     let e = c.put.ensures in
     let entries = c.self.inside.entries.items in
     let wide = c.self.inside.wide.items in
-    let long = length-queued (keys_in c.self.inside.nodes) entries wide in
     let longer = length-queued (keys_in c.put.new.self) entries wide in
     let one_more = length_permutation _ _ e.keys in
     record {
       nodes_room = e.capacity ∙ k.nodes_room;
       entries_room = k.entries_room;
       wide_room = k.wide_room;
-      few = omega (arith, h, long, longer, one_more);
+      few = omega (arith, h, length-queued (keys_in c.self.inside.nodes) entries wide, longer, one_more);
       low = k.low;
       high = k.high;
     }

@@ -25,14 +25,13 @@ invariant_of-self c =
     let e = c.put.ensures in
     let nodes = keys_in c.self.inside.nodes in
     let wide = c.self.inside.wide.items in
-    let long = length-queued nodes c.self.inside.entries.items wide in
     let longer = length-queued nodes c.self.inside.entries.items c.put.new.self.items in
     let one_more = ap length e.items ∙ length-put item_cmp item_order _ wide in
     record {
       nodes_room = k.nodes_room;
       entries_room = k.entries_room;
       wide_room = e.capacity ∙ k.wide_room;
-      few = omega (arith, h, long, longer, one_more);
+      few = omega (arith, h, length-queued nodes c.self.inside.entries.items wide, longer, one_more);
       low = k.low;
       high =
           subst (AllByRecursion (λ x. 2 ^ 64 ≤ x.score)) (sym e.items)
