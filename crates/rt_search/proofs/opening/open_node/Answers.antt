@@ -29,17 +29,6 @@ pub child_nodes-children-requires : goal.child_nodes-children-requires
 child_nodes-children-requires g c =
     children_inside c.requires.node c.node-node.ensures c.if-node-eq1.false
 
-pub overflow_add-first : goal.overflow_add-first
-overflow_add-first g c =
-    let here = children_of c.requires.node c.node-node.ensures c.if-node-eq1.false c.child_nodes-children.ensures in
-    let low : c.node-node.result.first + c.loop-i.i < 2 ^ 32 = omega (arith, here.inside, c.loop-i-test.true, c.requires.sound.few_nodes) in
-    search (rules, low)
-
-pub node-whole-requires : goal.node-whole-requires
-node-whole-requires g c =
-    let here = children_of c.requires.node c.node-node.ensures c.if-node-eq1.false c.child_nodes-children.ensures in
-    omega (arith, here.inside, c.loop-i-test.true, c.new-number.ensures)
-
 pub ask_node-requires : goal.ask_node-requires
 ask_node-requires g c =
     let geometry = c.args.counted.now.geometry in

@@ -67,11 +67,6 @@ pub walk_under-child_nodes-children-requires : goal.walk_under-child_nodes-child
 walk_under-child_nodes-children-requires g t c =
     children_inside c.requires.node c.node-node.ensures c.if-node-eq1.false
 
-pub walk_under-node-whole-requires : goal.walk_under-node-whole-requires
-walk_under-node-whole-requires g t c =
-    let here = children_of c.requires.node c.node-node.ensures c.if-node-eq1.false c.child_nodes-children.ensures in
-    omega (arith, here.inside, c.loop-i-test.true, c.new-child_number.ensures)
-
 pub walk_under-loop-i-init : goal.walk_under-loop-i-init
 walk_under-loop-i-init g t c =
     let geometry = c.args.counted.now.geometry in

@@ -68,9 +68,3 @@ loop-i-preserved g c =
       geometry = e.geometry;
       asked = (let asked = e.asked in omega (arith, asked));
     }
-
-pub returns-clause-asked : goal.returns-clause-asked
-returns-clause-asked g c =
-    let count = entries_count c.args.tree.now c.args.node c.child_entries-entries.result.now c.requires.leaf.node
-    c.child_entries-entries.ensures in
-    omega (arith, c.loop-i.invariant.asked, c.loop-i-test.false, c.loop-i.auto.i-end, count)
