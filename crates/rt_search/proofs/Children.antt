@@ -53,7 +53,7 @@ leaf_at t n i e table s lt read =
     let here : i < length (child_entries t n) = omega (arith, part_length t.entries n.first n.count s.range) in
     let is : get_or (child_entries t n) i e ≡ e = part_at t.entries n.first n.count i e lt ∙ read in
     let within = All-from_recursion (IsEntryInside (extent_of_node n)) (child_entries t n) s.within i e here in
-    let inside : n.first + i < length t.entries = omega (arith, s.range, lt) in
+    let inside : n.first + i < length t.entries = omega arith in
     record {
       place = here;
       is = sym is;
@@ -82,8 +82,8 @@ leaf_read t n i x lent table s entries lt read =
     let children = child_entries t n in
     let e = get_or children i no_entry in
     let few = subst (λ m. i < m) (entries_count t n lent s entries) lt in
-    let there : i < length children = omega (arith, part_length t.entries n.first n.count s.range, few) in
-    let inside : n.first + i < length t.entries = omega (arith, s.range, few) in
+    let there : i < length children = omega (arith, part_length t.entries n.first n.count s.range) in
+    let inside : n.first + i < length t.entries = omega arith in
     let same : get_or t.entries (n.first + i) e ≡ e = sym (part_at t.entries n.first n.count i e few)
     ∙ get_or_default children i e no_entry there in
     record {
@@ -116,14 +116,14 @@ one_less h = omega arith
 -- a node above level 1
 pub inner_at : (t : Packed) (h : ℕ) (n : Node) → IsSubtree t h n → 2 ≤ n.level → h ≡ suc (h - 1)
     × IsInnerNode t (h - 1) (IsSubtree t (h - 1)) n
-inner_at t zero n s level = absurd (let e = s.level in omega (arith, e, level))
+inner_at t zero n s level = absurd (let e = s.level in omega arith)
 inner_at t (suc h) n s level =
     (ap suc (sym (one_less h)), subst (λ m. IsInnerNode t m (IsSubtree t m) n) (sym (one_less h)) s)
 
 -- a node of level 1
 pub leaf_node : (t : Packed) (h : ℕ) (n : Node) → IsSubtree t h n → n.level ≡ 1 → (h ≡ 0) × IsLeafNode t n
 leaf_node t zero n s e = (refl, s)
-leaf_node t (suc h) n s e = absurd (let l = s.level in omega (arith, l, e))
+leaf_node t (suc h) n s e = absurd (let l = s.level in omega arith)
 
 -- the child whose number is k
 pub record IsChild (t : Packed) (n : Node) (h i k : ℕ) : Type 0 where
@@ -142,7 +142,7 @@ child_at : (t : Packed) (n : Node) (h i : ℕ) → IsInnerNode t h (IsSubtree t 
 child_at t n h i s lt =
     let k = node_at t (n.first + i) in
     let here : i < length (child_nodes t n) = omega (arith, part_length t.nodes n.first n.count s.range) in
-    let number : n.first + i < length t.nodes = (let r = s.range in omega (arith, r)) in
+    let number : n.first + i < length t.nodes = (let r = s.range in omega arith) in
     let is : get_or (child_nodes t n) i k ≡ k = part_at t.nodes n.first n.count i k lt
     ∙ get_or_default t.nodes (n.first + i) k no_node number in
     let tree : IsSubtree t h k =
@@ -150,7 +150,7 @@ child_at t n h i s lt =
     let IsWithin = λ (m : Node). IsPart (extent_of_node m) (extent_of_node n) in
     let within = All-from_recursion IsWithin (child_nodes t n) s.within i k here in
     let level = subtree_level t h k tree in
-    let height : height_at t (n.first + i) ≡ h = omega (arith, level) in
+    let height : height_at t (n.first + i) ≡ h = omega arith in
     record {
       place = here;
       number = number;
@@ -158,8 +158,8 @@ child_at t n h i s lt =
       tree = subst (λ m. IsSubtree t m k) (sym height) tree;
       within = subst IsWithin is within;
       height = height;
-      level = omega (arith, level);
-      lower = omega (arith, level, s.level);
+      level = omega arith;
+      lower = omega arith;
       valid = subtree_valid t h k tree;
     }
 
@@ -197,7 +197,7 @@ module _ {t : Packed} {accepts : Extent → Bool} {score : Extent → ℕ} {numb
   is_high =
       let level = subtree_level t (height_at t number) (node_at t number) opened.tree in
       let same = ap (λ m. m.level) is in
-      omega (arith, level, same, above)
+      omega arith
 
   pub children_inside : n.first + n.count ≤ length t.nodes
   children_inside = rw is (inner_at t (height_at t number) (node_at t number) opened.tree is_high).1.range
@@ -217,7 +217,7 @@ module _ {t : Packed} {accepts : Extent → Bool} {score : Extent → ℕ} {numb
         high = is_high;
         lent = same;
         count = count;
-        inside = omega (arith, range, count, first);
+        inside = omega arith;
       }
 
 pub asked : {t : Packed} {number : ℕ} {n : Node} {children : List PlainNode} → HasChildren t number n children → (i : ℕ)
@@ -228,12 +228,12 @@ asked {t} {number} {n} here i v {k} {x = x} {whole = whole} lt read number_is wh
     let m = node_at t number in
     let few = subst (λ l. i < l) here.count lt in
     let first = ap (λ l. l.first) here.is in
-    let at : k ≡ m.first + i = omega (arith, first, number_is) in
+    let at : k ≡ m.first + i = omega arith in
     let there = subst (IsChild t m (height_at t number - 1) i) (sym at) (child t number here.tree here.high i few) in
     let x_is = subst (λ l. x ≡ get_or l i x) here.lent read
     ∙ get_or-map without_layers (child_nodes t m) i (node_at t k) x there.place ∙ ap without_layers (sym there.is) in
     let level = ap (λ l. l.level) here.is in
-    let lower : n.level - 1 ≡ (node_at t k).level = omega (arith, there.height, there.level, level) in
+    let lower : n.level - 1 ≡ (node_at t k).level = omega arith in
     record {
       few = few;
       at = at;
@@ -252,7 +252,7 @@ pub all_children : (t : Packed) (number : ℕ) → IsSubtree t (height_at t numb
 all_children t number s level i le =
     let n = node_at t number in
     let long = part_length t.nodes n.first n.count ((inner_at t (height_at t number) n s level).1).range in
-    take_all i (child_nodes t n) (omega (arith, long))
+    take_all i (child_nodes t n) (omega arith)
 
 pub height_suc : (t : Packed) (number : ℕ) → IsSubtree t (height_at t number) (node_at t number)
     → 2 ≤ (node_at t number).level → height_at t number ≡ suc (height_at t number - 1)
@@ -280,7 +280,7 @@ module _ (accepts : Extent → Bool) (score : Extent → ℕ) (t : Packed) (soun
           one = λ _. record { layer = e.layer; few = at.few; is = refl };
           level = omega arith;
           top =
-              omega (arith, sound.few_levels);
+              omega arith;
           parent_score = small;
         };
         honest = honest_child accepts score (extent_of_node n) (info_of_child t v e) v below refl at.within;
@@ -294,9 +294,9 @@ module _ (accepts : Extent → Bool) (score : Extent → ℕ) (t : Packed) (soun
           box = at.valid;
           coordinates = subtree_coordinates t (height_at t k) (node_at t k) at.tree;
           layers = subtree_layers t (height_at t k) (node_at t k) at.tree;
-          one = (let above = at.level in λ low. absurd (omega (arith, low, above)));
-          level = omega (arith, at.lower, low);
-          top = omega (arith, sound.few_levels);
+          one = (let above = at.level in λ low. absurd (omega arith));
+          level = omega arith;
+          top = omega arith;
           parent_score = small;
         };
         honest = honest_child accepts score (extent_of_node n) (info_of_node t v (node_at t k)) v below refl at.within;

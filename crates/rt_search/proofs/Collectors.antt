@@ -20,17 +20,17 @@ adds_one old a new = new.accepted ≡ old.accepted + 1
 pub tally_counts : (old new : Tally) (xs : List Answer) → HasTaken adds_one old xs new
     → new.accepted ≡ old.accepted + length xs
 tally_counts old new [] h = omega (arith, ap (λ t. t.accepted) h)
-tally_counts old new (x ∷ xs) h = omega (arith, h.1.0, tally_counts h.0 new xs h.1.1)
+tally_counts old new (x ∷ xs) h = omega (arith, tally_counts h.0 new xs h.1.1)
 
 pub tally_counted : (old new : Tally) (xs : List Answer) → new.accepted ≡ old.accepted + length xs
     → HasTaken adds_one old xs new
-tally_counted old new [] h = ap (λ (n : ℕ). record { accepted = n }) (omega (arith, h))
+tally_counted old new [] h = ap (λ (n : ℕ). record { accepted = n }) (omega arith)
 tally_counted old new (x ∷ xs) h = (
   record { accepted = old.accepted + 1 },
   (
     refl,
     tally_counted (record { accepted = old.accepted + 1 }) new xs
-        (omega (arith, h)),
+        (omega arith),
   ),
 )
 

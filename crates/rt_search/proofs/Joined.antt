@@ -171,4 +171,4 @@ module _ {accepts : Extent → Bool} {score : Extent → ℕ} {verdict : Info �
           let k = child t number opened.tree high i lt in
           node_sound m (info_of_node t v (node_at t m))
           (join_nodes verdict t v (node_at t number) i xs) refl k.level (child_question i lt) k.number
-          k.tree (omega (arith, opened.low, k.lower)) (nodes_sound xs i (omega arith) a)
+          k.tree (omega arith) (nodes_sound xs i (omega arith) a)

@@ -32,9 +32,9 @@ front-front : (xs : List Item) (m n : ℕ) → m ≤ n → front (front xs n) m 
 front-front [] m n h = refl
 front-front (x ∷ xs) zero zero h = refl
 front-front (x ∷ xs) zero (suc n) h = refl
-front-front (x ∷ xs) (suc m) zero h = absurd (omega (arith, h))
+front-front (x ∷ xs) (suc m) zero h = absurd (omega arith)
 front-front (x ∷ xs) (suc m) (suc n) h =
-    ap (λ l. x ∷ l) (front-front xs (suc m - entries_at x.place) (suc n - entries_at x.place) (omega (arith, h)))
+    ap (λ l. x ∷ l) (front-front xs (suc m - entries_at x.place) (suc n - entries_at x.place) (omega arith))
 
 -- what joins the front joins the list
 front-put : (x : Item) (xs : List Item) (n : ℕ) → front (put item_cmp x (front xs n)) n ≡ front (put item_cmp x xs) n
@@ -62,13 +62,13 @@ same_put x xs ys (Some n) h =
 pub left_out_behind : (x : Item) (xs : List Item) (n : ℕ) → n ≤ entries_before x xs
     → front xs n ≡ front (put item_cmp x xs) n
 left_out_behind x [] zero h = refl
-left_out_behind x [] (suc n) h = absurd (omega (arith, h))
+left_out_behind x [] (suc n) h = absurd (omega arith)
 left_out_behind x (y ∷ ys) zero h = sym (front_zero (put item_cmp x (y ∷ ys)))
 left_out_behind x (y ∷ ys) (suc n) h =
     let split : (b : Bool) → suc n ≤ cond b (entries_at y.place + entries_before x ys) 0
     → front (y ∷ ys) (suc n) ≡ front (cond b (y ∷ put item_cmp x ys) (x ∷ y ∷ ys)) (suc n) = elim [
-      | true ↦ λ k. ap (λ l. y ∷ l) (left_out_behind x ys (suc n - entries_at y.place) (omega (arith, k)))
-      | false ↦ λ k. absurd (omega (arith, k))
+      | true ↦ λ k. ap (λ l. y ∷ l) (left_out_behind x ys (suc n - entries_at y.place) (omega arith))
+      | false ↦ λ k. absurd (omega arith)
     ] in
     split (is_gt (item_cmp x y)) h
 
@@ -104,7 +104,7 @@ before_right x (z ∷ xs) ys =
 pub behind_right : (wanted : Option ℕ) (x : Item) (xs ys : List Item) → IsBehind wanted x ys
     → IsBehind wanted x (put_all item_cmp xs ys)
 behind_right None x xs ys h = h
-behind_right (Some n) x xs ys h = omega (arith, h, before_right x xs ys)
+behind_right (Some n) x xs ys h = omega (arith, before_right x xs ys)
 
 -- ---- enough is kept
 
@@ -114,14 +114,14 @@ enough_itself wanted xs = record { same = refl; few = omega arith }
 pub enough_trans : (wanted : Option ℕ) (xs ys zs : List Item) → IsEnough wanted xs ys → IsEnough wanted ys zs
     → IsEnough wanted xs zs
 enough_trans wanted xs ys zs h k =
-    record { same = h.same ∙ k.same; few = omega (arith, h.few, k.few) }
+    record { same = h.same ∙ k.same; few = omega arith }
 
 pub enough_put : (wanted : Option ℕ) (x : Item) (xs ys : List Item) → IsEnough wanted xs ys
     → IsEnough wanted (put item_cmp x xs) (put item_cmp x ys)
 enough_put wanted x xs ys h =
     record {
       same = same_put x xs ys wanted h.same;
-      few = omega (arith, h.few, length-put item_cmp item_order x xs, length-put item_cmp item_order x ys);
+      few = omega (arith, length-put item_cmp item_order x xs, length-put item_cmp item_order x ys);
     }
 
 pub enough_put_all : (wanted : Option ℕ) (zs xs ys : List Item) → IsEnough wanted xs ys
@@ -159,12 +159,12 @@ enough_joined wanted x zs old new h =
 pub enough_fits : (wanted : Option ℕ) (x : Item) (old new : List Item) (capacity : ℕ)
     → IsEnough wanted new (put item_cmp x old) → length old < capacity → length new ≤ capacity
 enough_fits wanted x old new capacity h lt =
-    omega (arith, h.few, lt, length-put item_cmp item_order x old)
+    omega (arith, length-put item_cmp item_order x old)
 
 -- of an empty list and another neither has any
 pub none_merged : (xs ys : List Item) → put_all item_cmp xs ys ≡ [] → ys ≡ []
 none_merged xs [] h = refl
-none_merged xs (y ∷ ys) h = absurd (let n = ap length h in omega (arith, n, length-put_all item_cmp item_order xs (y ∷ ys)))
+none_merged xs (y ∷ ys) h = absurd (let n = ap length h in omega (arith, length-put_all item_cmp item_order xs (y ∷ ys)))
 
 pub still_none : (xs ys zs : List Item) → put_all item_cmp xs ys ≡ [] → zs ≡ [] → put_all item_cmp xs zs ≡ []
 still_none xs ys zs h e = ap (put_all item_cmp xs) (e ∙ sym (none_merged xs ys h)) ∙ h
@@ -243,7 +243,7 @@ first_kept (Some (suc n)) x xs (y ∷ ys) more h =
         ap (λ z. z ∷ ys) (sym k.0),
         subst (λ w. IsEnough w xs ys) (sym (less_entries x.place (suc n))) (record {
           same = k.1 ∙ ap (λ (z : Item). front ys (suc n - entries_at z.place)) (sym k.0);
-          few = omega (arith, few);
+          few = omega arith;
         }),
       ),
     )

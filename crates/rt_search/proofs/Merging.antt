@@ -118,18 +118,18 @@ taken_right (Some x) xs old ys t h = (right_taken x xs old ys t.0 t.1 h, right_l
 
 -- no more are left than there were
 pub fewer : (r : Option Item) (old new : List Item) → IsTakenOut r old new → length new ≤ length old
-fewer None old new t = (let none = ap length t.1 in omega (arith, none))
-fewer (Some x) old new t = (let long = ap length t.0 in omega (arith, long))
+fewer None old new t = (let none = ap length t.1 in omega arith)
+fewer (Some x) old new t = (let long = ap length t.0 in omega arith)
 
 pub fewer_left : (r : Option Item) (old xs ys : List Item) (capacity : ℕ) → IsTakenOut r old xs
     → length (put_all item_cmp old ys) ≤ capacity → length (put_all item_cmp xs ys) ≤ capacity
 fewer_left r old xs ys capacity t h =
-    omega (arith, h, fewer r old xs t, length-merged old ys, length-merged xs ys)
+    omega (arith, fewer r old xs t, length-merged old ys, length-merged xs ys)
 
 pub fewer_right : (r : Option Item) (xs old ys : List Item) (capacity : ℕ) → IsTakenOut r old ys
     → length (put_all item_cmp xs old) ≤ capacity → length (put_all item_cmp xs ys) ≤ capacity
 fewer_right r xs old ys capacity t h =
-    omega (arith, h, fewer r old ys t, length-merged xs old, length-merged xs ys)
+    omega (arith, fewer r old ys t, length-merged xs old, length-merged xs ys)
 
 -- ---- which list is ahead
 
@@ -140,29 +140,29 @@ all_after x y ys h = all_map (λ z. is_gt (item_cmp y z) ≡ false) (λ z. is_gt
 
 all_scores : (s : ℕ) (xs : List Item) → IsFirstScore s xs → AllByRecursion (λ y. s ≤ y.score) xs
 all_scores s [] h = tt
-all_scores s (x ∷ xs) h = let e = h.0 in (omega (arith, e), h.1)
+all_scores s (x ∷ xs) h = let e = h.0 in (omega arith, h.1)
 
 node_least : (x : Item) (ys : List Item) (r : ℕ) → IsNode x.place → AllByRecursion (λ y. IsEntry y.place) ys
     → x.score ≤ r → AllByRecursion (λ y. r ≤ y.score) ys → IsLeast x ys
 node_least x ys r p q h = all_both (λ y. IsEntry y.place) (λ y. r ≤ y.score) (λ y. is_gt (item_cmp x y) ≡ false)
-    (λ y e m. node_before x.score y.score x.place y.place p e (omega (arith, h, m))) ys q
+    (λ y e m. node_before x.score y.score x.place y.place p e (omega arith)) ys q
 
 pub lower_least : (x : Item) (ys : List Item) (r : ℕ) → x.score < r → AllByRecursion (λ y. r ≤ y.score) ys → IsLeast x ys
 lower_least x ys r h = all_map (λ y. r ≤ y.score) (λ y. is_gt (item_cmp x y) ≡ false)
-    (λ y m. lower_before x y (omega (arith, h, m))) ys
+    (λ y m. lower_before x y (omega arith)) ys
 
 -- nodes before entries of no lower score
 pub nodes_ahead : (s r : ℕ) (xs ys : List Item) → IsFirstScore s xs → IsFirstScore r ys
     → AllByRecursion (λ x. IsNode x.place) xs → AllByRecursion (λ y. IsEntry y.place) ys → s ≤ r → IsAhead xs ys
 nodes_ahead s r [] ys f g p q h = absurd f
 nodes_ahead s r (x ∷ xs) ys f g p q h =
-    node_least x ys r p.0 q (omega (arith, f.0, h)) (all_scores r ys g)
+    node_least x ys r p.0 q (omega arith) (all_scores r ys g)
 
 -- entries before nodes of higher scores
 pub entries_ahead : (s r : ℕ) (xs ys : List Item) → IsFirstScore s xs → IsFirstScore r ys → r < s → IsAhead ys xs
 entries_ahead s r xs [] f g h = absurd g
 entries_ahead s r xs (y ∷ ys) f g h =
-    lower_least y xs s (omega (arith, g.0, h)) (all_scores s xs f)
+    lower_least y xs s (omega arith) (all_scores s xs f)
 
 pub by_test : (b : Bool) (P Q : Type 0) → (b ≡ true → P) → (b ≡ false → Q) → MatchBool b P Q
 by_test true P Q p q = p refl

@@ -40,7 +40,7 @@ take-swap_remove xs i d h =
     let n = length xs - 1 in
     let ys = set xs i (get_or xs n d) in
     let cut = length-take-le n ys (omega (arith, length-set xs i (get_or xs n d))) in
-    sym (take-append-le i (take n ys) (drop n ys) (omega (arith, cut, h))) ∙ ap (take i) (take-append-drop n ys)
+    sym (take-append-le i (take n ys) (drop n ys) (omega arith)) ∙ ap (take i) (take-append-drop n ys)
     ∙ take-set xs i (get_or xs n d)
 
 -- ---- keys by their scores
@@ -70,7 +70,7 @@ score_rises k j e =
 pub far_after : (e k : ℕ) (js : List (Reverse ℕ)) → k / 2 ^ 64 ≤ e → AllByRecursion (λ j. e < score_in j) js
     → IsLowest k js
 far_after e k [] h a = tt
-far_after e k (j ∷ js) h a = let m = a.0 in (lower_score k j.0 (omega (arith, h, m)), far_after e k js h a.1)
+far_after e k (j ∷ js) h a = let m = a.0 in (lower_score k j.0 (omega arith), far_after e k js h a.1)
 
 lowest_scores : (k : ℕ) (js : List (Reverse ℕ)) → IsLowest k js → AllByRecursion (λ j. k / 2 ^ 64 ≤ score_in j) js
 lowest_scores k [] a = tt
@@ -86,7 +86,7 @@ IsTop k (j ∷ js) = (record { 0 = k } ≡ j) × IsLowest k js
 pub top_of : (e : ℕ) (top : Reverse ℕ) (near far : List (Reverse ℕ)) → 0 < length near → top ≡ get_or near 0 top
     → IsLowest top.0 near → AllByRecursion (λ k. score_in k ≤ e) near → AllByRecursion (λ k. e < score_in k) far
     → IsTop top.0 (near ++ far)
-top_of e top [] far some h a low high = absurd (omega (arith, some))
+top_of e top [] far some h a low high = absurd (omega arith)
 top_of e top (k ∷ near) far some h a low high =
     let s : score_in top ≤ e = rw h low.0 in
     (h, all-append (λ j. is_lt (nat_cmp j.0 top.0) ≡ false) near far a.1 (far_after e top.0 far s high))
@@ -129,12 +129,12 @@ least_more (Some r) ks k h =
           let low = ltb-true (score_in k) r e in (
             has_last ks k,
             all-append (λ j. score_in k ≤ score_in j) ks (k ∷ [])
-                (all_map (λ j. r ≤ score_in j) (λ j. score_in k ≤ score_in j) (λ j m. omega (arith, low, m)) ks h.1)
+                (all_map (λ j. r ≤ score_in j) (λ j. score_in k ≤ score_in j) (λ j m. omega arith) ks h.1)
                 (omega arith, tt),
           )
       | false ↦ λ e.
           let high = ltb-false (score_in k) r e in
-          (has_left r ks (k ∷ []) h.0, all-append (λ j. r ≤ score_in j) ks (k ∷ []) h.1 (omega (arith, high), tt))
+          (has_left r ks (k ∷ []) h.0, all-append (λ j. r ≤ score_in j) ks (k ∷ []) h.1 (omega arith, tt))
     ] in
     split (nat_lt (score_in k) r) refl
 
@@ -149,7 +149,7 @@ far_more e r ks k h m = record {
 not_far : (s e : ℕ) (ks : List (Reverse ℕ)) → HasScore s ks → s ≤ e → AllByRecursion (λ k. e < score_in k) ks → ⊥
 not_far s e [] h le a = h
 not_far s e (k ∷ ks) h le a =
-    ⊎_elim (λ i. absurd (omega (arith, i, a.0, le))) (λ r. not_far s e ks r le a.1) h
+    ⊎_elim (λ i. absurd (omega arith)) (λ r. not_far s e ks r le a.1) h
 
 -- once the edge has passed the least score some are near
 pub some_near : (s e : ℕ) (near far ks js : List (Reverse ℕ)) → HasScore s far → s ≤ e

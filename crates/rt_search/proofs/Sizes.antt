@@ -31,16 +31,16 @@ cond_le false m n h = omega arith
 
 positive_sum : (ks : List Node) → AllByRecursion (λ k. 0 < k.size) ks → length ks ≤ sum_by (λ k. k.size) ks
 positive_sum [] a = omega arith
-positive_sum (k ∷ ks) a = omega (arith, sum_by-cons (λ (k : Node). k.size) k ks, positive_sum ks a.1, a.0)
+positive_sum (k ∷ ks) a = omega (arith, sum_by-cons (λ (k : Node). k.size) k ks, positive_sum ks a.1)
 
 -- a node has an entry under it, and no fewer than it has children
 pub size_counts : (t : Packed) (h : ℕ) (n : Node) → IsSubtree t h n → (0 < n.size) × (n.count ≤ n.size)
-size_counts t zero n s = let e = s.size in let p = s.some in (omega (arith, e, p), omega (arith, e, p))
+size_counts t zero n s = let e = s.size in let p = s.some in (omega arith, omega arith)
 size_counts t (suc h) n s =
     let long = part_length t.nodes n.first n.count s.range in
     let sum = positive_sum (child_nodes t n)
     (all_map (IsSubtree t h) (λ k. 0 < k.size) (λ k b. (size_counts t h k b).0) (child_nodes t n) s.below) in
-    (omega (arith, s.size, s.some, long, sum), omega (arith, s.size, s.some, long, sum))
+    (omega arith, omega arith)
 
 sizes_under : (t : Packed) (h : ℕ) → ((k : Node) → IsSubtree t h k → k.size ≡ length (entries_under t h k))
     → (ks : List Node) → AllByRecursion (IsSubtree t h) ks → sum_by (λ k. k.size) ks
@@ -59,7 +59,7 @@ sizes_under t h f (k ∷ ks) a =
 -- a node's size is the number of entries under it
 pub size_under : (t : Packed) (h : ℕ) (n : Node) → IsSubtree t h n → n.size ≡ length (entries_under t h n)
 size_under t zero n s = let e = s.size in let long = part_length t.entries n.first n.count s.range in
-    omega (arith, e, long)
+    omega arith
 size_under t (suc h) n s = s.size ∙ sizes_under t h (λ k. size_under t h k) (child_nodes t n) s.below
 
 -- ---- work
@@ -69,7 +69,7 @@ abbrev IsFair : Packed → (cost : Node → ℕ) → Type 0
 IsFair t cost = (h : ℕ) (n : Node) → IsSubtree t h n → cost n ≤ n.size
 
 pub one_is_fair : (t : Packed) → IsFair t one_node
-one_is_fair t h n s = let p = (size_counts t h n s).0 in omega (arith, p)
+one_is_fair t h n s = let p = (size_counts t h n s).0 in omega arith
 
 pub count_is_fair : (t : Packed) → IsFair t its_children
 count_is_fair t h n s = (size_counts t h n s).1
@@ -93,14 +93,14 @@ module _ (opens : Verdict → Bool) (cost : Node → ℕ) (verdict : Info → Ve
       (λ (k : Node). let w = verdict (info_of_node t v k) in
       cond (opens w) (reached opens cost verdict t h w k) 0) k ks in
       let sizes = ap (λ n. (h + 1) * n) (sum_by-cons (λ (k : Node). k.size) k ks) in
-      omega (arith, here, more, sizes, each_le h f v ks a.1)
+      omega (arith, each_le h f v ks a.1)
 
   work_from_le : (h : ℕ) (n : Node) (v : Verdict) → IsSubtree t h n
       → reached opens cost verdict t h v n ≤ (h + 1) * n.size
   work_from_le zero n v sub = omega (arith, fair zero n sub)
   work_from_le (suc h) n v sub =
       let sizes = ap (λ m. (h + 1) * m) sub.size in
-      omega (arith, fair (suc h) n sub, each_le h (λ k w. work_from_le h k w) v (child_nodes t n) sub.below, sizes)
+      omega (arith, fair (suc h) n sub, each_le h (λ k w. work_from_le h k w) v (child_nodes t n) sub.below)
 
   pub work_le : IsSound t → reached_from_root opens cost verdict t ≤ 2 ^ 32
   work_le sound =
@@ -111,8 +111,8 @@ module _ (opens : Verdict → Bool) (cost : Node → ℕ) (verdict : Info → Ve
             let root = sound.root some in
             let all = length_permutation _ _ (sound.every some) in
             let size = size_under t (height t) (root_of t) root in
-            let small : (root_of t).size ≤ 16777216 = omega (arith, all, size, sound.table.few) in
-            let low : height t + 1 ≤ 25 = omega (arith, sound.few_levels) in
+            let small : (root_of t).size ≤ 16777216 = omega arith in
+            let low : height t + 1 ≤ 25 = omega arith in
             rw h (omega (arith, mul-le _ _ _ _ low small, work_from_le (height t) (root_of t) root_verdict root))
       ] in
       split (length t.nodes == 0) refl
@@ -132,7 +132,7 @@ module _ (opens : Verdict → Bool) (cost : Node → ℕ) (verdict : Info → Ve
       → done + cost (node_at t n.number.number) ≤ reached_from_root opens cost verdict t
   done_upto done s n xs open' course =
       let least = cost_le_work (height_at t n.number.number) (verdict_on s n) (node_at t n.number.number) in
-      omega (arith, work_cons opens cost verdict t (item_at s (place.Node n)) xs, opened_at s n open', least, course)
+      omega (arith, work_cons opens cost verdict t (item_at s (place.Node n)) xs, opened_at s n open')
 
   -- and keeps the work done small
   pub done_le : IsSound t → (done s : ℕ) (n : WaitingNode) (xs : List Item) → opens (verdict_on s n) ≡ true
@@ -162,4 +162,4 @@ module _ (accepts : Extent → Bool) (score : Extent → ℕ) (t : Packed) where
       → length xs + (node_at t n.number.number).count ≤ capacity
   room_for capacity s n xs sound room =
       let count = (size_counts t (height_at t n.number.number) (node_at t n.number.number) sound.0.tree).1 in
-      omega (arith, held_cons (item_at s (place.Node n)) xs, length_le_held xs sound.1, count, room)
+      omega (arith, held_cons (item_at s (place.Node n)) xs, length_le_held xs sound.1)

@@ -47,10 +47,10 @@ root_work opens cost verdict t open' some =
     let one = sum_by-cons (λ (x : Item). work_at opens cost verdict t x.score x.place) (root_item t) [] in
     let all : cond (opens root_verdict) W 0 ≡ W = rw open' refl in
     let whole : reached_from_root opens cost verdict t ≡ W = rw (some_nodes t some) refl in
-    omega (arith, one, all, whole)
+    omega arith
 
 from_none : {m n : ℕ} → m ≡ n → 0 + m ≡ n
-from_none h = omega (arith, h)
+from_none h = omega arith
 
 pub nat_eq_false : {n : ℕ} → (n == 0) ≡ false → 0 < n
 nat_eq_false h = grind (arith, nat_tests)
@@ -78,7 +78,7 @@ module _ (accepts : Extent → Bool) (score : Extent → ℕ) (verdict : Info �
     root_sound some =
         let levels = sound.few_levels in (
           record {
-            inside = omega (arith, some);
+            inside = omega arith;
             tree = sound.root some;
             low = levels;
             below =
@@ -92,7 +92,7 @@ module _ (accepts : Extent → Bool) (score : Extent → ℕ) (verdict : Info �
     root_room capacity some room =
         let all = length_permutation _ _ (sound.every some) in
         let held_is = sum_by-cons (λ (x : Item). size_at t x.place) (root_item t) [] in
-        omega (arith, size_under t (height t) (root_of t) (sound.root some), all, held_is, room)
+        omega (arith, size_under t (height t) (root_of t) (sound.root some))
 
     pub root_state : (capacity : ℕ) → 0 < length t.nodes → length t.entries ≤ capacity
         → IsSearching accepts score verdict t 0 0 capacity (root_item t ∷ [])
@@ -126,8 +126,8 @@ module _ (accepts : Extent → Bool) (score : Extent → ℕ) (verdict : Info �
 
     pub empty_answers : length t.nodes ≡ 0 → answers t.entries accepts score None ≡ []
     empty_answers none =
-        let no_more : length t.entries ≡ 0 = ⊎_elim (λ h. absurd (let some = sound.some.1 h in omega (arith, some, none)))
-        (λ h. omega (arith, h)) (cases_lt 0 (length t.entries)) in
+        let no_more : length t.entries ≡ 0 = ⊎_elim (λ h. absurd (let some = sound.some.1 h in omega arith))
+        (λ h. omega arith) (cases_lt 0 (length t.entries)) in
         ap (λ es. answers es accepts score None) (nil_from_length t.entries no_more)
 
     pub start_state : (capacity : ℕ) → length t.entries ≤ capacity

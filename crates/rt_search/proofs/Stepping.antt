@@ -61,7 +61,7 @@ module _ {accepts : Extent → Bool} {score : Extent → ℕ} {verdict : Info �
       put_all-all answer_cmp answer_order (λ q. x.score ≤ q.1) (answers_at t accepts score y.score y.place)
       (remaining t accepts score ys)
       (all_map (λ q. y.score ≤ q.1) (λ q. x.score ≤ q.1)
-      (λ q m. let up = score_upto x y a.0 in omega (arith, up, m))
+      (λ q m. let up = score_upto x y a.0 in omega arith)
       (answers_at t accepts score y.score y.place) (at_above accepts score t y.score y.place b.0))
       (above_least x ys a.1 b.1)
 
@@ -89,7 +89,7 @@ module _ {accepts : Extent → Bool} {score : Extent → ℕ} {verdict : Info �
   no_work cost i s [] a = refl
   no_work cost i s (y ∷ ys) a =
       let k = none_at cost i s y.score y.place a.0 in
-      omega (arith, work_cons (is_reached (Some s)) cost verdict t y ys, no_work cost i s ys a.1, k)
+      omega (arith, work_cons (is_reached (Some s)) cost verdict t y ys, no_work cost i s ys a.1)
 
   -- ---- an entry is taken out
 
@@ -106,12 +106,12 @@ module _ {accepts : Extent → Bool} {score : Extent → ℕ} {verdict : Info �
       let none = no_work cost i s xs least in
       let first = work_cons (is_reached (Some s)) cost verdict t x xs in (
         record {
-          in_all = (let h = course.in_all in let k = work_cons (is_reached None) cost verdict t x xs in omega (arith, h, k));
+          in_all = (let h = course.in_all in let k = work_cons (is_reached None) cost verdict t x xs in omega arith);
           at_each = all_map (λ p. AddsUp verdict cost t done (x ∷ xs) (Some p.1))
               (λ p. AddsUp verdict cost t done xs (Some p.1))
-              (λ p h. let k = work_cons (is_reached (Some p.1)) cost verdict t x xs in omega (arith, h, k)) (remaining t accepts score xs) each.1;
+              (λ p h. let k = work_cons (is_reached (Some p.1)) cost verdict t x xs in omega arith) (remaining t accepts score xs) each.1;
         },
-        omega (arith, head, none, first),
+        omega arith,
       )
 
   pub record IsEntryStep (opened asked capacity : ℕ) (i : ℤ) (s : ℕ) (start : List Answer) (xs : List Item) : Type 0
@@ -135,7 +135,7 @@ module _ {accepts : Extent → Bool} {score : Extent → ℕ} {verdict : Info �
           sound = sound;
           room =
               (let r = k.state.room in let h = held_cons accepts score t (item_at s (place.Entry i)) xs in
-              omega (arith, r, h));
+              omega arith);
           opening = o.0;
           asking = a.0;
         };
@@ -164,14 +164,14 @@ module _ {accepts : Extent → Bool} {score : Extent → ℕ} {verdict : Info �
         in_all = (
             let all : cond (is_reached None (verdict_on s n)) (W None) 0 ≡ W None =
             cond-true (is_reached None (verdict_on s n)) (W None) 0 (reached_is None s n) in
-            omega (arith, course.in_all, work_cons (is_reached None) cost verdict t x xs, moves None, all));
+            omega (arith, work_cons (is_reached None) cost verdict t x xs, moves None));
         at_each = subst (AllByRecursion (λ p. AddsUp verdict cost t after new (Some p.1))) (sym same)
             (all_both (λ p. AddsUp verdict cost t done (x ∷ xs) (Some p.1)) (λ p. s ≤ p.1)
             (λ p. AddsUp verdict cost t after new (Some p.1))
             (λ p h le.
             let all : cond (is_reached (Some p.1) (verdict_on s n)) (W (Some p.1)) 0 ≡ W (Some p.1) =
             cond-true (is_reached (Some p.1) (verdict_on s n)) (W (Some p.1)) 0 (reached_below p.1 s n le) in
-            omega (arith, h, work_cons (is_reached (Some p.1)) cost verdict t x xs, moves (Some p.1), all))
+            omega (arith, work_cons (is_reached (Some p.1)) cost verdict t x xs, moves (Some p.1)))
             (remaining t accepts score (x ∷ xs)) course.at_each (above_all x xs least sound));
       }
 
@@ -190,7 +190,7 @@ module _ {accepts : Extent → Bool} {score : Extent → ℕ} {verdict : Info �
       tree = k.state.tree;
       sound = sound;
       room = (let r = k.state.room in let h = held_cons accepts score t (item_at s (place.Node n)) xs in
-          omega (arith, r, h, size));
+          omega arith);
       opening = node_course one_node s n opened xs new k.least k.state.sound same (moves one_node) k.state.opening;
       asking = node_course its_children s n asked xs new k.least k.state.sound same (moves its_children) k.state.asking;
     };
@@ -215,12 +215,12 @@ module _ {accepts : Extent → Bool} {score : Extent → ℕ} {verdict : Info �
       ∙ ap (λ l. put_all answer_cmp l (remaining t accepts score xs)) (answers_all accepts score t number here.tree low))
       (answers_sound law t found xs k.state.sound.1)
       (let h = held-join_answers verdict t v found xs in let e = few_among accepts score t number here.tree low in
-      omega (arith, h, e))
+      omega arith)
       (λ cost bound.
       let e = work-join_answers verdict t v (is_reached bound) cost found xs in
       let z : reached (is_reached bound) cost verdict t (height_at t number) v node ≡ cost node =
       ap (λ h. reached (is_reached bound) cost verdict t h v node) flat in
-      omega (arith, e, z))
+      omega arith)
 
   pub inner_step : {opened asked capacity s : ℕ} {n : WaitingNode} {xs : List Item} → s < 2 ^ 128
       → 2 ≤ (node_at t n.number.number).level

@@ -31,7 +31,7 @@ pub still_more : (w w' : Option ℕ) → w' ≡ w → w ≢ Some 0 → w' ≢ So
 still_more w w' same more = λ e. more (sym same ∙ e)
 
 pub falls_by_one : (all o o' : ℕ) → o' ≡ o + 1 → o + 1 ≤ all → all - o' < all - o
-falls_by_one all o o' e h = omega (arith, e, h)
+falls_by_one all o o' e h = omega arith
 
 -- ---- what was taken out of a frontier
 
@@ -79,7 +79,7 @@ module _ {accepts : Extent → Bool} {score : Extent → ℕ} {verdict : Info �
       cond_both (m.level == 1) (join_answers (answers_among t accepts score m m.count) xs) (join_nodes verdict t v m m.count xs)
       (IsNodeStep accepts score verdict t opened asked capacity s n xs)
       (λ e. leaf_step law t small (eqb-true m.level 1 e) k)
-      (λ e. let other = eqb-false m.level 1 e in inner_step law t small (omega (arith, level, other)) k)
+      (λ e. let other = eqb-false m.level 1 e in inner_step law t small (omega arith) k)
 
   -- what the calls leave is what is defined
   pub leaf_joins : (wanted : Option ℕ) (s : ℕ) (n : WaitingNode) (m : node.Node) (new xs : List Item)
@@ -134,7 +134,7 @@ module _ {accepts : Extent → Bool} {score : Extent → ℕ} {verdict : Info �
       record {
         tree = taken.state.tree;
         node = taken.state.sound.0;
-        room = omega (arith, k.1.1.few, room);
+        room = omega arith;
         opened_low = can.opened_low;
         asked_low = can.asked_low;
         opened_upto = done_upto (is_reached None) one_node verdict t (one_is_fair t) opened s n ys (reached_is None s n)
@@ -193,8 +193,8 @@ module _ {accepts : Extent → Bool} {score : Extent → ℕ} {verdict : Info �
           enough = subst (λ l. IsEnough wanted l u.all) (none ∙ sym none') u.enough;
         };
         reached = record {
-          nodes = omega (arith, u.state.opening.in_all, no_work_left one_node u.all end);
-          checks = omega (arith, u.state.asking.in_all, no_work_left its_children u.all end);
+          nodes = omega (arith, no_work_left one_node u.all end);
+          checks = omega (arith, no_work_left its_children u.all end);
         };
       }
 

@@ -60,7 +60,7 @@ module _ (accepts : Extent → Bool) (score : Extent → ℕ) (t : Packed) where
       let n = node_at t number in
       let leaf = leaf_node t (height_at t number) n tree low in
       let long = part_length t.entries n.first n.count leaf.1.range in
-      ap (among accepts score) (take_all n.count (child_entries t n) (omega (arith, long)))
+      ap (among accepts score) (take_all n.count (child_entries t n) (omega arith))
       ∙ ap (λ h. among accepts score (entries_under t h n)) (sym leaf.0)
 
   -- no more are accepted than there are
@@ -163,7 +163,7 @@ module _ {accepts : Extent → Bool} {score : Extent → ℕ} {verdict : Info �
         let e = get_or (child_entries t n) i no_entry in
         let same : e ≡ get_or t.entries (n.first + i) no_entry = part_at t.entries n.first n.count i no_entry lt in
         let read : get_or t.entries (n.first + i) e ≡ e =
-        get_or_default t.entries (n.first + i) e no_entry (omega (arith, leaf.range, lt)) ∙ sym same in
+        get_or_default t.entries (n.first + i) e no_entry (omega arith) ∙ sym same in
         leaf_at t n i e sound.table leaf lt read
 
     pub one_entry : {v : Verdict} → v.score < 2 ^ 128 → {n : Node} → IsLeafNode t n
@@ -193,7 +193,7 @@ module _ {accepts : Extent → Bool} {score : Extent → ℕ} {verdict : Info �
           record {
             inside = k.number;
             tree = k.tree;
-            low = omega (arith, opened.low, k.lower);
+            low = omega arith;
             high = k.level;
             extent = refl;
             question =
@@ -239,7 +239,7 @@ module _ {accepts : Extent → Bool} {score : Extent → ℕ} {verdict : Info �
           let long = length-append (answers_upto opened high i) (answers_under t accepts score k) in
           let sizes = sum_more verdict t v number opened.tree high (λ k. k.size) i lt in
           let few = few_under accepts score t k (child t number opened.tree high i lt).tree in
-          omega (arith, more, long, few, sizes, few_upto i (omega arith))
+          omega (arith, few_upto i (omega arith))
 
       -- the answers of the first and a further child are no more than the node's size
       room_for_child : (i : ℕ) → i < (node_at t number).count
@@ -248,7 +248,7 @@ module _ {accepts : Extent → Bool} {score : Extent → ℕ} {verdict : Info �
           let sizes = sum_more verdict t v number opened.tree high (λ k. k.size) i lt in
           let size = (inner_at t (height_at t number) (node_at t number) opened.tree high).1.size in
           let part = sum_by-take-drop (λ (k : Node). k.size) (child_nodes t (node_at t number)) (suc i) in
-          omega (arith, sizes, size, part, few_upto i (omega (arith, lt)))
+          omega (arith, few_upto i (omega (arith, lt)))
 
       -- ---- the loop over them
 
@@ -271,7 +271,7 @@ module _ {accepts : Extent → Bool} {score : Extent → ℕ} {verdict : Info �
             (child_nodes t (node_at t number)) (i + 1) in
             let whole = ap (λ h. reached opens cost verdict t h v (node_at t number))
             (height_suc t number opened.tree high) in
-            omega (arith, part, whole, work_more opens cost i lt)
+            omega (arith, work_more opens cost i lt)
 
         pub visit : {i k : ℕ} {x : PlainNode} {info : Info} → IsAsked t number i k x v info → {S : Type 0}
             (takes : S → Answer → S → Type 0) (room : S → ℕ) → IsFilling takes room → (old new : S)
@@ -287,8 +287,8 @@ module _ {accepts : Extent → Bool} {score : Extent → ℕ} {verdict : Info �
             subst (CanVisit begun' asked' (room new) k) (sym is.info_is)
             (subst (λ m. CanVisit begun' asked' (room new) m (info_of_node t v (node_at t m))) (sym is.at) (record {
               node = checkable i few;
-              room_is = omega (arith, places, fits, room_for_child i few);
-              opened_few = omega (arith, b, begun_fits, within one_node i few);
-              asked_few = omega (arith, a, asked_fits, few, within its_children i few);
+              room_is = omega (arith, room_for_child i few);
+              opened_few = omega (arith, within one_node i few);
+              asked_few = omega (arith, within its_children i few);
               lower = (child t number opened.tree high i few).lower;
             }))

@@ -110,7 +110,7 @@ module _ (verdict : Info → Verdict) (t : Packed) (v : Verdict) where
     held-join_nodes xs =
         let n = node_at t number in
         let all = ap (sum_by (λ k. k.size)) (all_children t number tree high n.count (omega arith)) in
-        omega (arith, held_upto xs n.count (omega arith), all, ((inner_at t (height_at t number) n tree high).1).size)
+        omega (arith, held_upto xs n.count (omega arith), ((inner_at t (height_at t number) n tree high).1).size)
 
     module _ (opens : Verdict → Bool) (closed : (v : Verdict) → is_kept v.within ≡ false → opens v ≡ false) (cost : Node → ℕ) where
       -- what a child brings to the work
@@ -143,7 +143,7 @@ module _ (verdict : Info → Verdict) (t : Packed) (v : Verdict) where
           (join_nodes verdict t v (node_at t number) i xs) in
           let same : brings (height_at t m) (node_at t m) ≡ brings (height_at t number - 1) (node_at t m) =
           ap (λ h. brings h (node_at t m)) k.height in
-          omega (arith, adds, brought m, same, work_upto xs i (omega arith), sum_more (brings (height_at t number - 1)) i lt)
+          omega (arith, brought m, work_upto xs i (omega arith), sum_more (brings (height_at t number - 1)) i lt)
 
       pub work-join_nodes : (xs : List Item)
           → work_left opens cost verdict t
@@ -157,4 +157,4 @@ module _ (verdict : Info → Verdict) (t : Packed) (v : Verdict) where
           let whole : reached opens cost verdict t (height_at t number) v n
           ≡ reached opens cost verdict t (suc h) v n =
           ap (λ m. reached opens cost verdict t m v n) (height_suc t number tree high) in
-          omega (arith, work_upto xs n.count (omega arith), all, whole)
+          omega (arith, work_upto xs n.count (omega arith))

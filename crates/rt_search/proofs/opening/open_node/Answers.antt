@@ -47,8 +47,8 @@ ask_node-requires g c =
           (extent_of_node (node_at tree number)) c.info_under-info.result v
           (rw c.verdict_on-parent.ensures c.requires.node.below) (ap (λ i. i.parent_within) c.info_under-info.ensures)
           (rw k.info_is k.child.within));
-      room = rw inv.children.capacity (omega (arith, inv.children.items.few, long, c.requires.room, k.few));
-      asked = omega (arith, inv.asked, c.requires.asked, k.few);
+      room = rw inv.children.capacity (omega arith);
+      asked = omega arith;
     }
 
 pub loop-i-preserved : goal.loop-i-preserved
@@ -67,7 +67,7 @@ loop-i-preserved g c =
         capacity = h.node.capacity ∙ inv.children.capacity;
       };
       geometry = h.geometry;
-      asked = omega (arith, h.asked, inv.asked);
+      asked = omega arith;
     }
 
 pub returns : goal.returns
@@ -78,7 +78,7 @@ returns g c =
     let number = c.args.taken.node.number.number in
     let here = children_of c.requires.node c.node-node.ensures c.if-node-eq1.false c.child_nodes-children.ensures in
     let inv = c.loop-i.invariant in
-    let end : c.loop-i.i ≡ (node_at tree number).count = omega (arith, c.loop-i-test.false, c.loop-i.auto.i-end, here.count) in
+    let end : c.loop-i.i ≡ (node_at tree number).count = omega arith in
     record {
       children = record {
         items = nodes_join (g.met.G.Geometry.lawful geometry) tree c.args.frontier.now.wanted c.args.taken.score c.args.taken.node
@@ -90,6 +90,6 @@ returns g c =
         wanted = inv.children.wanted;
         capacity = inv.children.capacity;
       };
-      asked = omega (arith, inv.asked, end);
+      asked = omega arith;
       geometry = inv.geometry;
     }

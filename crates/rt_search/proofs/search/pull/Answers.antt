@@ -12,7 +12,7 @@ overflow_add-opened g c =
     let k = go_on (g.met.G.Geometry.lawful c.args.counted.now.geometry) c.args.tree.now small
     (still_more _ _ v.wanted c.requires.more) (node_out c.take-node.result n _ _ c.in-Some.is c.take-node.ensures.taken)
     (v.state c.requires.state.0 c.requires.state.1) in
-    (let low = k.opened_low in omega (arith, low))
+    (let low = k.opened_low in omega arith)
 
 pub open_node-requires : goal.open_node-requires
 open_node-requires g c =

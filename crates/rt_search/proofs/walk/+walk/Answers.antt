@@ -27,7 +27,7 @@ walk_child-walk_under-requires g t c κs within =
     let one = at_child g.V.Visitor.opens one_node verdict tree (verdict info) number (rw v at opens) in
     let its = at_child g.V.Visitor.opens its_children verdict tree (verdict info) number (rw v at opens) in
     let asked_few = c.requires.asked in (
-      omega (arith, c.decreases),
+      omega arith,
       (
         within.0,
         (
@@ -37,10 +37,10 @@ walk_child-walk_under-requires g t c κs within =
             (
               rw (e.geometry, v) (openable law c.requires.node),
               (
-                rw stays (omega (arith, c.requires.size, c.requires.room)),
+                rw stays (omega arith),
                 (
-                  rw (e.geometry, v) (omega (arith, one, c.requires.opened)),
-                  rw (e.geometry, v) (omega (arith, its, e.asked, asked_few)),
+                  rw (e.geometry, v) (omega arith),
+                  rw (e.geometry, v) (omega arith),
                 ),
               ),
             ),
@@ -96,7 +96,7 @@ walk_under-walk_child-requires g t c κs within =
     c.requires.opened c.requires.asked in
     let size : c.index-children-i.result.size ≡ (node_at tree c.new-child_number.result.number).size = ap (λ n. n.size) k.is in
     let fits = can.room_is in (
-      omega (arith, can.lower, c.decreases),
+      omega arith,
       (
         within.0,
         (
@@ -105,7 +105,7 @@ walk_under-walk_child-requires g t c κs within =
             sound,
             (
               rw inv.geometry can.node,
-              (size, (omega (arith, size, fits), rw inv.geometry (can.opened_few, can.asked_few))),
+              (size, (omega arith, rw inv.geometry (can.opened_few, can.asked_few))),
             ),
           ),
         ),
@@ -130,8 +130,8 @@ walk_under-loop-i-preserved g t c =
           (upto_more c.requires.node here.high c.loop-i.i k.few)
           (taken-append g.V.Collector.takes c.args.visitor.now c.loop-i.visitor c.walk_child.new.visitor _ _ inv.taken
           e.taken);
-      opened = omega (arith, e.opened, inv.opened, more one_node);
-      asked = omega (arith, e.asked, inv.asked, more its_children);
+      opened = omega (arith, more one_node);
+      asked = omega (arith, more its_children);
       geometry = e.geometry;
     }
 
@@ -144,13 +144,13 @@ walk_under-returns g t c =
     let number = c.args.number.number in
     let small : v.score < 2 ^ 128 = search rules in
     let here = children_of c.requires.node c.node-node.ensures c.if-node-eq1.false c.child_nodes-children.ensures in
-    let end : c.loop-i.i ≡ (node_at tree number).count = omega (arith, here.count, c.loop-i-test.false, c.loop-i.auto.i-end) in
+    let end : c.loop-i.i ≡ (node_at tree number).count = omega arith in
     let inv = rw end at c.loop-i.invariant in
     let all = work_all law sound small c.requires.node here.high g.V.Visitor.opens in
     record {
       taken = subst (λ l. HasTaken g.V.Collector.takes c.args.visitor.now l c.loop-i.visitor)
           (upto_all c.requires.node here.high) inv.taken;
-      opened = omega (arith, inv.opened, all one_node);
-      asked = omega (arith, inv.asked, all its_children);
+      opened = omega (arith, all one_node);
+      asked = omega (arith, all its_children);
       geometry = inv.geometry;
     }

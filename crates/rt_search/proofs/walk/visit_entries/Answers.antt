@@ -24,7 +24,7 @@ pub check-verdict-requires-clause-room : goal.check-verdict-requires-clause-room
 check-verdict-requires-clause-room g c =
     let count = entries_count c.args.tree.now c.args.node c.child_entries-entries.result.now c.requires.leaf.node
     c.child_entries-entries.ensures in
-    omega (arith, c.loop-i.invariant.asked, c.requires.asked, c.loop-i-test.true, count)
+    omega arith
 
 pub visit_entry-requires : goal.visit_entry-requires
 visit_entry-requires g c =
@@ -36,7 +36,7 @@ visit_entry-requires g c =
     let left = taken_room g.C.Collector.takes g.C.Collector.room g.met.C.Collector.fills c.args.collector.now
     c.loop-i.collector found c.loop-i.invariant.taken in
     let few = few_entries (g.G.Geometry.accepts geometry) (g.G.Geometry.score geometry) tree c.args.node c.loop-i.i in
-    omega (arith, count, c.loop-i-test.true, left, few, c.requires.room)
+    omega arith
 
 pub loop-i-preserved : goal.loop-i-preserved
 loop-i-preserved g c =
@@ -60,11 +60,11 @@ loop-i-preserved g c =
     let verdict_is = rw (k.is, layers) at (rw c.info_under-info.ensures at e.verdict) in
     let one = rw k.is at (rw verdict_is at (rw c.is_kept.ensures at (simp (to_z-of_z, fits) at c.visit_entry.ensures))) in
     let more = one_entry (g.met.G.Geometry.lawful geometry) c.requires.leaf.sound small c.requires.leaf.node
-    c.requires.leaf.below i (omega (arith, count, lt)) in
+    c.requires.leaf.below i (omega arith) in
     let both = taken-append g.C.Collector.takes c.args.collector.now c.loop-i.collector c.visit_entry.new.self
     (answers_among tree accepts score c.args.node i) _ inv.taken one in
     record {
       taken = subst (λ l. HasTaken g.C.Collector.takes c.args.collector.now l c.visit_entry.new.self) more both;
       geometry = e.geometry;
-      asked = (let asked = e.asked in omega (arith, asked));
+      asked = (let asked = e.asked in omega arith);
     }

@@ -10,7 +10,7 @@ walk_under-requires g c =
     record {
       sound = c.in-Some.ensures.sound;
       node = k.node;
-      room = omega (arith, k.few, c.requires.room);
-      opened = omega (arith, k.opened_few);
-      asked = omega (arith, c.requires.asked, k.asked_few);
+      room = omega arith;
+      opened = omega arith;
+      asked = omega arith;
     }

@@ -11,9 +11,9 @@ invariant_of-self c =
     record {
       inside = e.near;
       outside = e.far;
-      near_room = omega (arith, k.near_room, e.near_capacity);
+      near_room = omega arith;
       far_room = rw e.far_capacity k.far_room;
-      few = omega (arith, k.few, length_permutation _ _ e.same);
+      few = omega (arith, length_permutation _ _ e.same);
     }
 
 pub returns-clause-filled : goal.returns-clause-filled

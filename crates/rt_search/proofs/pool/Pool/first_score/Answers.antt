@@ -10,7 +10,7 @@ returns c =
     let e = c.peek.ensures in
     let near = heap_items c.self.inside.near in
     let far = c.self.inside.far.items in
-    let some : 0 < length near = omega (arith, c.in-Some.ensures.variant.0 refl, k.inside.counted) in
+    let some : 0 < length near = omega (arith, c.in-Some.ensures.variant.0 refl) in
     let top = c.in-Some.top.now in
     subst (λ w. HasLeastScore c.score_of.result (keys_in w)) c.self.view_is
     (rw c.score_of.ensures

@@ -15,7 +15,7 @@ returns-then-score-self-clause-keys c =
     let near = heap_items c.self.inside.near in
     let far = c.self.inside.far.items in
     let ok : IsOk c.push-pushed.result =
-    c.push-pushed.ensures.succeeds (omega (arith, h, length-append near far, k.inside.counted, k.near_room)) in
+    c.push-pushed.ensures.succeeds (omega (arith, length-append near far)) in
     subst (λ w. IsPermutation (record { 0 = c.args.key } ∷ keys_in w) (heap_items c.push-pushed.new.self ++ far))
     c.self.view_is
     (IsPermutation-append_left far (record { 0 = c.args.key } ∷ near) _ (on_ok c.push-pushed.result ok c.push-pushed.ensures.permutation))
@@ -33,10 +33,10 @@ invariant_of-self-2 c =
       outside =
           rw (e.items, c.lesser.ensures, score)
           (far_more c.self.inside.edge c.self.inside.least far (record { 0 = c.args.key }) k.outside
-          (omega (arith, score, c.if-score-self.false)));
+          (omega arith));
       near_room = k.near_room;
       far_room = rw e.capacity k.far_room;
-      few = rw e.items (omega (arith, h, longer));
+      few = rw e.items (omega arith);
     }
 
 pub returns-clause-keys : goal.returns-clause-keys

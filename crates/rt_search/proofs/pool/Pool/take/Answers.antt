@@ -22,14 +22,14 @@ invariant_of-self-2 c =
     record {
       inside = record {
         ordered = (e.heap_order k.inside.ordered).0;
-        counted = omega (arith, k.inside.counted, length_permutation _ _ e.permutation, e.len);
+        counted = omega (arith, length_permutation _ _ e.permutation);
         low = (all_moved (λ j. score_in j ≤ c.self.inside.edge) (heap_items c.self.inside.near) (c.in-Some.top ∷ _)
             e.permutation k.inside.low).1;
       };
       outside = k.outside;
       near_room = rw e.capacity k.near_room;
       far_room = k.far_room;
-      few = omega (arith, k.few, total);
+      few = omega arith;
     }
 
 pub returns-clause-keys : goal.returns-clause-keys

@@ -18,7 +18,7 @@ pub put-requires : goal.put-requires
 put-requires c =
     let h = rw (← c.self.view_is) at c.requires in
     let long = length-queued (keys_in c.self.inside.nodes) c.self.inside.entries.items c.self.inside.wide.items in
-    omega (arith, h, long, c.self.invariant.nodes_room)
+    omega arith
 
 pub invariant_of-self : goal.invariant_of-self
 invariant_of-self c =
@@ -33,7 +33,7 @@ invariant_of-self c =
       nodes_room = e.capacity ∙ k.nodes_room;
       entries_room = k.entries_room;
       wide_room = k.wide_room;
-      few = omega (arith, h, length-queued (keys_in c.self.inside.nodes) entries wide, longer, one_more);
+      few = omega (arith, length-queued (keys_in c.self.inside.nodes) entries wide);
       low = k.low;
       high = k.high;
     }

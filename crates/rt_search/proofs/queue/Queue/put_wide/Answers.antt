@@ -16,7 +16,7 @@ pub put-requires : goal.put-requires
 put-requires c =
     let h = rw (← c.self.view_is) at c.requires.room in
     let long = length-queued (keys_in c.self.inside.nodes) c.self.inside.entries.items c.self.inside.wide.items in
-    omega (arith, h, long, c.self.invariant.wide_room)
+    omega arith
 
 pub invariant_of-self : goal.invariant_of-self
 invariant_of-self c =
@@ -31,7 +31,7 @@ invariant_of-self c =
       nodes_room = k.nodes_room;
       entries_room = k.entries_room;
       wide_room = e.capacity ∙ k.wide_room;
-      few = omega (arith, h, length-queued nodes c.self.inside.entries.items wide, longer, one_more);
+      few = omega (arith, length-queued nodes c.self.inside.entries.items wide);
       low = k.low;
       high =
           subst (AllByRecursion (λ x. 2 ^ 64 ≤ x.score)) (sym e.items)

@@ -12,4 +12,4 @@ returns-clause-value c =
 pub returns-clause-room : goal.returns-clause-room
 returns-clause-room c =
     let n = length-in_order wide_item (heap_items c.self.inside.heap) in
-    rw (← c.self.view_is) (omega (arith, n, c.self.invariant.few))
+    rw (← c.self.view_is) (omega arith)

@@ -21,7 +21,7 @@ invariant_of-self c =
       ordered = search rules;
       room = search rules;
       counted = search rules;
-      few = omega (arith, long, h, n);
+      few = omega arith;
     }
 
 pub returns-clause-items : goal.returns-clause-items
