@@ -53,7 +53,6 @@ ask_node-requires g c =
 
 pub loop-i-preserved : goal.loop-i-preserved
 loop-i-preserved g c =
-    let tree = c.args.tree.now in
     let here = children_of c.requires.node c.node-node.ensures c.if-node-eq1.false c.child_nodes-children.ensures in
     let k = asked here c.loop-i.i c.verdict_on-parent.result c.loop-i-test.true c.index-children-i.is
     c.new-number.ensures c.node-whole.ensures c.info_under-info.ensures in

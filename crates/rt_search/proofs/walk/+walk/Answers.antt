@@ -115,7 +115,6 @@ walk_under-walk_child-requires g t c κs within =
 pub walk_under-loop-i-preserved : goal.walk_under-loop-i-preserved
 walk_under-loop-i-preserved g t c =
     let law = g.met.G.Geometry.lawful c.args.counted.now.geometry in
-    let tree = c.args.tree.now in
     let v = c.args.parent in
     let small : v.score < 2 ^ 128 = search rules in
     let here = children_of c.requires.node c.node-node.ensures c.if-node-eq1.false c.child_nodes-children.ensures in

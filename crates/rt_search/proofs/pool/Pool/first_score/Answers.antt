@@ -7,7 +7,6 @@ use Rattle.rt_search.proofs.pool.Pool.first_score.Goals as goal
 pub returns : goal.returns
 returns c =
     let k = c.self.invariant in
-    let e = c.peek.ensures in
     let near = heap_items c.self.inside.near in
     let far = c.self.inside.far.items in
     let some : 0 < length near = omega (arith, c.in-Some.ensures.variant.0 refl) in
