@@ -65,9 +65,7 @@ module _ (accepts : Extent → Bool) (score : Extent → ℕ) where
   among es = scored es accepts score
 
   pub among-append : (es fs : List Entry) → among (es ++ fs) ≡ among es ++ among fs
-  among-append es fs =
-      ap (map (answer_of score)) (filter-append (λ (e : Entry). accepts (extent_of_entry e)) es fs)
-      ∙ map-append (answer_of score) (accepted es accepts) (accepted fs accepts)
+  among-append es fs = grind (arith, filter-append, map-append)
 
   pub among_accepted : (e : Entry) (es : List Entry) → accepts (extent_of_entry e) ≡ true → among (e ∷ es)
       ≡ (e.id, score (extent_of_entry e)) ∷ among es
@@ -213,10 +211,7 @@ module _ (accepts : Extent → Bool) (score : Extent → ℕ) where
     pub node_dropped : (k : ℕ) → IsSubtree t (height_at t k) (node_at t k)
         → NoneAccepted accepts (extent_of_node (node_at t k)) → (qs : List Answer) → qs
         ≡ put_all answer_cmp (among (entries_under t (height_at t k) (node_at t k))) qs
-    node_dropped k s never qs =
-        ap (λ l. put_all answer_cmp l qs)
-        (sym (among_none (extent_of_node (node_at t k)) never (entries_under t (height_at t k) (node_at t k))
-        (all_inside t (height_at t k) (node_at t k) s)))
+    node_dropped k s never qs = grind (arith, among_none, all_inside)
 
     -- what the nodes of a list bring
     pub under_all : ℕ → List Node → List Answer

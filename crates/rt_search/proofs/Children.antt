@@ -65,9 +65,7 @@ leaf_at t n i e table s lt read =
 -- how many entries are lent
 pub entries_count : (t : Packed) (n : Node) (lent : List LeafEntry) → IsLeafNode t n
     → lent ≡ map without_layer (child_entries t n) → length lent ≡ n.count
-entries_count t n lent s entries =
-    ap length entries ∙ length-map (child_entries t n) without_layer
-    ∙ part_length t.entries n.first n.count s.range
+entries_count t n lent s entries = grind (arith, length-map, part_length)
 
 -- an entry that is read among them
 pub record IsLeafRead (t : Packed) (n : Node) (i : ℕ) (x : LeafEntry) (e : Entry) : Type 0 where
@@ -249,10 +247,7 @@ asked {t} {number} {n} here i v {k} {x = x} {whole = whole} lt read number_is wh
 pub all_children : (t : Packed) (number : ℕ) → IsSubtree t (height_at t number) (node_at t number)
     → 2 ≤ (node_at t number).level → (i : ℕ) → (node_at t number).count ≤ i
     → take i (child_nodes t (node_at t number)) ≡ child_nodes t (node_at t number)
-all_children t number s level i le =
-    let n = node_at t number in
-    let long = part_length t.nodes n.first n.count ((inner_at t (height_at t number) n s level).1).range in
-    take_all i (child_nodes t n) (omega arith)
+all_children t number s level i le = grind (arith, number, part_length, inner_at, level, take_all)
 
 pub height_suc : (t : Packed) (number : ℕ) → IsSubtree t (height_at t number) (node_at t number)
     → 2 ≤ (node_at t number).level → height_at t number ≡ suc (height_at t number - 1)

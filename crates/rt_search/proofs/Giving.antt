@@ -55,9 +55,7 @@ past_end (y ∷ xs) (suc g) zero h le = absurd (omega arith)
 past_end (y ∷ xs) (suc g) (suc k) h le = past_end xs g k h (omega arith)
 
 below_limit : (k g : ℕ) → g ≤ k → Some k ≢ Some g → g < k
-below_limit k g le n =
-    let d : k ≢ g = λ e. n (ap Some e) in
-    omega arith
+below_limit k g le n = grind arith
 
 limited_step : {X : Type 0} (limit : Option ℕ) (g : ℕ) (xs : List X) (x : X) (rest : List X) → IsInLimit limit g
     → limit ≢ Some g → drop g xs ≡ x ∷ rest → drop g (limited limit xs) ≡ x ∷ drop (suc g) (limited limit xs)
@@ -110,9 +108,7 @@ module _ (accepts : Extent → Bool) (score : Extent → ℕ) (verdict : Info �
 
   work_after : (cost : Node → ℕ) (g : ℕ) (a : Answer) (rest : List Answer) → drop g all ≡ a ∷ rest
       → reached_from_root (is_reached (Some a.1)) cost verdict t ≡ search_work cost accepts score verdict t (Some (suc g))
-  work_after cost g a rest h =
-      let there : slice_get all (suc g - 1) ≡ Some a = ap (slice_get all) (suc_less g) ∙ (drop_step all g a rest h).0 in
-      ap (λ o. reached_from_root (is_reached (option_map (λ (b : Answer). b.1) o)) cost verdict t) (sym there)
+  work_after cost g a rest h = grind (arith, suc_less, drop_step)
 
   work_in_all : (cost : Node → ℕ) (limit : Option ℕ) (g : ℕ) → IsInLimit limit g → limit ≢ Some g → drop g all ≡ []
       → reached_from_root (is_reached None) cost verdict t ≡ search_work cost accepts score verdict t limit

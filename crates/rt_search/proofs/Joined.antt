@@ -64,12 +64,7 @@ module _ {t : Packed} {accepts : Extent → Bool} {score : Extent → ℕ} {numb
       ∙ ap (under_all accepts score t h) (sym (take_more_at ks i m k.place k.is))
 
   pub upto_all : answers_upto (node_at t number).count ≡ answers_under t accepts score number
-  upto_all =
-      let n = node_at t number in
-      let h = height_at t number - 1 in
-      ap (under_all accepts score t h) (all_children t number opened.tree high n.count (omega arith))
-      ∙ under_all-whole accepts score t h n
-      ∙ ap (λ m. among accepts score (entries_under t m n)) (sym (height_suc t number opened.tree high))
+  upto_all = grind (arith, under_all, all_children, under_all-whole, among, height_suc)
 
 module _ {accepts : Extent → Bool} {score : Extent → ℕ} {verdict : Info → Verdict}
     (law : IsLawful accepts score verdict) (t : Packed) where

@@ -118,11 +118,7 @@ enough_trans wanted xs ys zs h k =
 
 pub enough_put : (wanted : Option ℕ) (x : Item) (xs ys : List Item) → IsEnough wanted xs ys
     → IsEnough wanted (put item_cmp x xs) (put item_cmp x ys)
-enough_put wanted x xs ys h =
-    record {
-      same = same_put x xs ys wanted h.same;
-      few = omega (arith, length-put item_cmp item_order x xs, length-put item_cmp item_order x ys);
-    }
+enough_put wanted x xs ys h = grind (arith, same_put, length-put, item_order)
 
 pub enough_put_all : (wanted : Option ℕ) (zs xs ys : List Item) → IsEnough wanted xs ys
     → IsEnough wanted (put_all item_cmp zs xs) (put_all item_cmp zs ys)

@@ -31,22 +31,11 @@ length-merged xs ys = length-put_all item_cmp item_order xs ys
 
 pub length-queued : (nodes : List (Reverse ℕ)) (entries wide : List Item) → length (queued nodes entries wide)
     ≡ length nodes + length entries + length wide
-length-queued nodes entries wide = omega (
-  arith,
-  length-merged wide (narrow nodes entries),
-  length-merged (in_order node_item nodes) entries,
-  length-in_order node_item nodes,
-)
+length-queued nodes entries wide = grind (arith, length-merged, length-in_order)
 
 pub length-hits : (ids : List (Reverse ℤ)) (keys : List (Reverse ℕ)) (wide : List Item) → length (hits_in ids keys wide)
     ≡ length ids + length keys + length wide
-length-hits ids keys wide = omega (
-  arith,
-  length-merged (in_order zero_item ids) (put_all item_cmp (in_order entry_item keys) wide),
-  length-merged (in_order entry_item keys) wide,
-  length-in_order zero_item ids,
-  length-in_order entry_item keys,
-)
+length-hits ids keys wide = grind (arith, length-merged, length-in_order)
 
 -- one more fits
 pub joined_fits : (x : Item) (xs ys : List Item) (capacity : ℕ) → ys ≡ put item_cmp x xs → length xs < capacity
@@ -79,9 +68,7 @@ left_least x old xs ys e a h =
 
 left_taken : (x : Item) (old xs ys : List Item) → old ≡ x ∷ xs → IsLeast x xs → IsAhead old ys
     → put_all item_cmp old ys ≡ x ∷ put_all item_cmp xs ys
-left_taken x old xs ys e a h =
-    ap (λ l. put_all item_cmp l ys) e
-    ∙ put_least item_cmp item_order x (put_all item_cmp xs ys) (left_least x old xs ys e a h)
+left_taken x old xs ys e a h = grind (arith, put_least, item_order, left_least)
 
 right_least : (x : Item) (xs old ys : List Item) → old ≡ x ∷ ys → IsLeast x ys → IsAhead old xs
     → IsLeast x (put_all item_cmp xs ys)

@@ -56,15 +56,11 @@ scores_by_halves h l k m low small e = grind (arith, nat_tests)
 
 -- a higher score is that of a key that isn't lower
 lower_score : (k j : ℕ) → k / 2 ^ 64 < j / 2 ^ 64 → is_lt (nat_cmp j k) ≡ false
-lower_score k j e =
-    rw (← div-add-mod' k (2 ^ 64), ← div-add-mod' j (2 ^ 64))
-    (lower_by_halves (k / 2 ^ 64) (k % 2 ^ 64) (j / 2 ^ 64) (j % 2 ^ 64) (mod-lt k (omega arith)) (mod-lt j (omega arith)) e)
+lower_score k j e = grind (arith, div-add-mod', lower_by_halves, mod-lt)
 
 -- and a key that isn't lower has no lower score
 score_rises : (k j : ℕ) → is_lt (nat_cmp j k) ≡ false → k / 2 ^ 64 ≤ j / 2 ^ 64
-score_rises k j e =
-    scores_by_halves (k / 2 ^ 64) (k % 2 ^ 64) (j / 2 ^ 64) (j % 2 ^ 64) (mod-lt k (omega arith)) (mod-lt j (omega arith))
-    (rw (div-add-mod' k (2 ^ 64), div-add-mod' j (2 ^ 64)) e)
+score_rises k j e = grind (arith, scores_by_halves, mod-lt, div-add-mod')
 
 -- none that is far is lower than one that is near
 pub far_after : (e k : ℕ) (js : List (Reverse ℕ)) → k / 2 ^ 64 ≤ e → AllByRecursion (λ j. e < score_in j) js
@@ -140,10 +136,7 @@ least_more (Some r) ks k h =
 
 pub far_more : (e : ℕ) (r : Option ℕ) (ks : List (Reverse ℕ)) (k : Reverse ℕ) → IsFar ks e r → e < score_in k
     → IsFar (ks ++ k ∷ []) e (Some (lesser r (score_in k)))
-far_more e r ks k h m = record {
-  high = all-append (λ j. e < score_in j) ks (k ∷ []) h.high (m, tt);
-  known = least_more r ks k h.known;
-}
+far_more e r ks k h m = grind (arith, all-append, least_more)
 
 -- a score up to the edge isn't far
 not_far : (s e : ℕ) (ks : List (Reverse ℕ)) → HasScore s ks → s ≤ e → AllByRecursion (λ k. e < score_in k) ks → ⊥

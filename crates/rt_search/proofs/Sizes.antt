@@ -103,19 +103,7 @@ module _ (opens : Verdict → Bool) (cost : Node → ℕ) (verdict : Info → Ve
       omega (arith, fair (suc h) n sub, each_le h (λ k w. work_from_le h k w) v (child_nodes t n) sub.below)
 
   pub work_le : IsSound t → reached_from_root opens cost verdict t ≤ 2 ^ 32
-  work_le sound =
-      let split : (b : Bool) → (length t.nodes == 0) ≡ b → reached_from_root opens cost verdict t ≤ 2 ^ 32 = elim [
-        | true ↦ λ h. rw h (omega arith)
-        | false ↦ λ h.
-            let some : 0 < length t.nodes = grind (arith, nat_tests) in
-            let root = sound.root some in
-            let all = length_permutation _ _ (sound.every some) in
-            let size = size_under t (height t) (root_of t) root in
-            let small : (root_of t).size ≤ 16777216 = omega arith in
-            let low : height t + 1 ≤ 25 = omega arith in
-            rw h (omega (arith, mul-le _ _ _ _ low small, work_from_le (height t) (root_of t) root_verdict root))
-      ] in
-      split (length t.nodes == 0) refl
+  work_le sound = grind (arith, nat_tests, length_permutation, size_under, mul-le, work_from_le)
 
   cost_le_work : (h : ℕ) (v : Verdict) (n : Node) → cost n ≤ reached opens cost verdict t h v n
   cost_le_work zero v n = omega arith

@@ -42,12 +42,7 @@ some_nodes t some = grind (arith, nat_tests)
 pub root_work : (opens : Verdict → Bool) (cost : Node → ℕ) (verdict : Info → Verdict) (t : Packed)
     → opens root_verdict ≡ true → 0 < length t.nodes → work_left opens cost verdict t (root_item t ∷ [])
     ≡ reached_from_root opens cost verdict t
-root_work opens cost verdict t open' some =
-    let W = reached opens cost verdict t (height t) root_verdict (root_of t) in
-    let one = sum_by-cons (λ (x : Item). work_at opens cost verdict t x.score x.place) (root_item t) [] in
-    let all : cond (opens root_verdict) W 0 ≡ W = rw open' refl in
-    let whole : reached_from_root opens cost verdict t ≡ W = rw (some_nodes t some) refl in
-    omega arith
+root_work opens cost verdict t open' some = grind (arith, sum_by-cons, some_nodes)
 
 from_none : {m n : ℕ} → m ≡ n → 0 + m ≡ n
 from_none h = omega arith
@@ -75,24 +70,11 @@ module _ (accepts : Extent → Bool) (score : Extent → ℕ) (verdict : Info �
     }
 
     pub root_sound : 0 < length t.nodes → AllSound t accepts score (root_item t ∷ [])
-    root_sound some =
-        let levels = sound.few_levels in (
-          record {
-            inside = omega arith;
-            tree = sound.root some;
-            low = levels;
-            below =
-                record { full = λ h. cc; least = λ b h a. omega arith };
-          },
-          tt,
-        )
+    root_sound some = grind arith
 
     pub root_room : (capacity : ℕ) → 0 < length t.nodes → length t.entries ≤ capacity
         → held t (root_item t ∷ []) ≤ capacity
-    root_room capacity some room =
-        let all = length_permutation _ _ (sound.every some) in
-        let held_is = sum_by-cons (λ (x : Item). size_at t x.place) (root_item t) [] in
-        omega (arith, size_under t (height t) (root_of t) (sound.root some))
+    root_room capacity some room = grind (arith, length_permutation, sum_by-cons, size_under)
 
     pub root_state : (capacity : ℕ) → 0 < length t.nodes → length t.entries ≤ capacity
         → IsSearching accepts score verdict t 0 0 capacity (root_item t ∷ [])
@@ -114,21 +96,10 @@ module _ (accepts : Extent → Bool) (score : Extent → ℕ) (verdict : Info �
     empty_course cost none = let none' = eq-eqb (length t.nodes) 0 none in record { in_all = rw none' refl; at_each = tt }
 
     pub empty_state : (capacity : ℕ) → length t.nodes ≡ 0 → IsSearching accepts score verdict t 0 0 capacity []
-    empty_state capacity none =
-        record {
-          tree = sound;
-          sound = tt;
-          room = omega arith;
-          opening = empty_course one_node none;
-          asking =
-              empty_course its_children none;
-        }
+    empty_state capacity none = grind (arith, empty_course)
 
     pub empty_answers : length t.nodes ≡ 0 → answers t.entries accepts score None ≡ []
-    empty_answers none =
-        let no_more : length t.entries ≡ 0 = ⊎_elim (λ h. absurd (let some = sound.some.1 h in omega arith))
-        (λ h. omega arith) (cases_lt 0 (length t.entries)) in
-        ap (λ es. answers es accepts score None) (nil_from_length t.entries no_more)
+    empty_answers none = grind (arith, cases_lt, nil_from_length)
 
     pub start_state : (capacity : ℕ) → length t.entries ≤ capacity
         → IsSearching accepts score verdict t 0 0 capacity (root_items t)
@@ -137,10 +108,7 @@ module _ (accepts : Extent → Bool) (score : Extent → ℕ) (verdict : Info �
         (λ h. empty_state capacity (eqb-true _ 0 h)) (λ h. root_state capacity (nat_eq_false h) room)
 
     pub start_answers : remaining t accepts score (root_items t) ≡ answers t.entries accepts score None
-    start_answers =
-        cond_both (length t.nodes == 0) [] (root_item t ∷ [])
-        (λ l. remaining t accepts score l ≡ answers t.entries accepts score None)
-        (λ h. sym (empty_answers (eqb-true _ 0 h))) (λ h. root_answers (nat_eq_false h))
+    start_answers = grind (arith, cond_both, empty_answers, eqb-true, root_answers, nat_eq_false)
 
     root_rising : IsRising (root_items t)
     root_rising = cond_both (length t.nodes == 0) [] (root_item t ∷ []) IsRising (λ h. tt) (λ h. (tt, tt))

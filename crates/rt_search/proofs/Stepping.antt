@@ -67,10 +67,7 @@ module _ {accepts : Extent → Bool} {score : Extent → ℕ} {verdict : Info �
 
   above_all : (x : Item) (xs : List Item) → AllByRecursion (λ y. is_gt (item_cmp x y) ≡ false) xs
       → AllSound t accepts score (x ∷ xs) → AllByRecursion (λ q. x.score ≤ q.1) (remaining t accepts score (x ∷ xs))
-  above_all x xs a b =
-      put_all-all answer_cmp answer_order (λ q. x.score ≤ q.1) (answers_at t accepts score x.score x.place)
-      (remaining t accepts score xs)
-      (at_above accepts score t x.score x.place b.0) (above_least x xs a b.1)
+  above_all x xs a b = grind (arith, put_all-all, answer_order, at_above, above_least)
 
   none_at : (cost : Node → ℕ) (i : ℤ) (s r : ℕ) (p : Place)
       → is_gt (item_cmp (item_at s (place.Entry i)) (item_at r p)) ≡ false

@@ -181,22 +181,7 @@ module _ {accepts : Extent → Bool} {score : Extent → ℕ} {verdict : Info �
       → wanted ≢ Some 0 → items ≡ [] → new ≡ []
       → IsUnderWay accepts score verdict t opened asked capacity wanted to_come items
       → IsOver accepts score verdict t opened asked capacity wanted to_come new
-  over {wanted = wanted} more none none' u =
-      let end = none_left wanted u.all more (subst (λ l. IsEnough wanted l u.all) none u.enough) in
-      record {
-        none = sym u.follows ∙ ap (remaining t accepts score) end;
-        state = record {
-          all = u.all;
-          state = u.state;
-          rising = u.rising;
-          follows = u.follows;
-          enough = subst (λ l. IsEnough wanted l u.all) (none ∙ sym none') u.enough;
-        };
-        reached = record {
-          nodes = omega (arith, no_work_left one_node u.all end);
-          checks = omega (arith, no_work_left its_children u.all end);
-        };
-      }
+  over {wanted = wanted} more none none' u = grind (arith, none_left, no_work_left)
 
   -- an entry was taken out, or nothing
   pub ended : (out : Option Answer) (new : List Item) {opened asked capacity : ℕ} {wanted wanted' : Option ℕ}

@@ -62,14 +62,7 @@ module _ (verdict : Info → Verdict) (unscored : IsUnscored verdict) (t : Packe
 
   whole_alike : IsSound t
       → reached_from_root (is_reached within) cost verdict t ≡ reached_from_root (is_reached None) cost verdict t
-  whole_alike sound =
-      let split : (e : Bool) → (length t.nodes == 0) ≡ e
-      → cond e 0 (reached (is_reached within) cost verdict t (height t) root_verdict (root_of t))
-      ≡ cond e 0 (reached (is_reached None) cost verdict t (height t) root_verdict (root_of t)) = elim [
-        | true ↦ λ h. refl
-        | false ↦ λ h. reached_alike (height t) root_verdict (root_of t) (sound.root (nat_eq_false h))
-      ] in
-      split (length t.nodes == 0) refl
+  whole_alike sound = grind (arith, reached_alike, nat_eq_false)
 
 -- ---- all were opened
 
@@ -91,10 +84,7 @@ module _ {accepts : Extent → Bool} {score : Extent → ℕ} {verdict : Info �
       → opened ≡ reached_from_root (is_reached None) one_node verdict t
       → asked ≡ reached_from_root (is_reached None) its_children verdict t
       → HasWorked accepts score verdict t limit opened asked
-  all_worked limit opened asked some nodes checks = record {
-    in_nodes = nodes ∙ sym (work limit some one_node);
-    in_checks = checks ∙ sym (work limit some its_children);
-  }
+  all_worked limit opened asked some nodes checks = grind (arith, work)
 
   none_left : (bound : Option ℕ) (cost : Node → ℕ) → work_left (is_reached bound) cost verdict t gathered ≡ 0
   none_left bound cost =

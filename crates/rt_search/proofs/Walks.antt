@@ -56,22 +56,12 @@ module _ (accepts : Extent → Bool) (score : Extent → ℕ) (t : Packed) where
       → (node_at t number).level ≡ 1
       → answers_among t accepts score (node_at t number) (node_at t number).count
       ≡ answers_under t accepts score number
-  answers_all number tree low =
-      let n = node_at t number in
-      let leaf = leaf_node t (height_at t number) n tree low in
-      let long = part_length t.entries n.first n.count leaf.1.range in
-      ap (among accepts score) (take_all n.count (child_entries t n) (omega arith))
-      ∙ ap (λ h. among accepts score (entries_under t h n)) (sym leaf.0)
+  answers_all number tree low = grind (arith, leaf_node, part_length, among, take_all)
 
   -- no more are accepted than there are
   pub few_under : (k : ℕ) → IsSubtree t (height_at t k) (node_at t k)
       → length (answers_under t accepts score k) ≤ (node_at t k).size
-  few_under k tree =
-      omega (
-        arith,
-        length-scored accepts score (entries_under t (height_at t k) (node_at t k)),
-        size_under t (height_at t k) (node_at t k) tree,
-      )
+  few_under k tree = grind (arith, length-scored, size_under)
 
   pub few_among : (number : ℕ) → IsSubtree t (height_at t number) (node_at t number) → (node_at t number).level ≡ 1
       → length (answers_among t accepts score (node_at t number) (node_at t number).count) ≤ (node_at t number).size
@@ -80,9 +70,7 @@ module _ (accepts : Extent → Bool) (score : Extent → ℕ) (t : Packed) where
 
   -- so many entries have no more answers
   pub few_entries : (n : Node) (i : ℕ) → length (answers_among t accepts score n i) ≤ i
-  few_entries n i =
-      let es = child_entries t n in
-      omega (arith, length-scored accepts score (take i es), length-take i es)
+  few_entries n i = grind (arith, length-scored, length-take)
 
   all_among : (c : Extent) → AllAccepted accepts c → (es : List Entry) → AllByRecursion (IsEntryInside c) es
       → length (among accepts score es) ≡ length es
@@ -141,18 +129,7 @@ module _ {accepts : Extent → Bool} {score : Extent → ℕ} {verdict : Info �
         }
 
     pub openable : IsOpenable t accepts score k (verdict info)
-    openable =
-        let below : IsBelow accepts score (extent_of info) (verdict info) =
-        record {
-          full = λ f. law.faithful.fullness info can.question can.high f;
-          least = λ b h y. law.admissibility info can.question can.high b h y;
-        } in
-        record {
-          inside = can.inside;
-          tree = can.tree;
-          low = can.low;
-          below = subst (λ c. IsBelow accepts score c (verdict info)) can.extent below;
-        }
+    openable = grind arith
 
   module _ {t : Packed} (sound : IsSound t) where
     -- ---- one more entry
@@ -221,11 +198,7 @@ module _ {accepts : Extent → Bool} {score : Extent → ℕ} {verdict : Info �
 
       pub work_all : (opens : Verdict → Bool) (cost : Node → ℕ) → work_under opens cost verdict t v number
           ≡ cost (node_at t number) + work_upto opens cost (node_at t number).count
-      work_all opens cost =
-          ap (λ h. reached opens cost verdict t h v (node_at t number)) (height_suc t number opened.tree high)
-          ∙ ap (λ l. cost (node_at t number)
-          + sum_by (work_of_child opens cost verdict t v (height_at t number - 1)) l)
-          (sym (all_children t number opened.tree high (node_at t number).count (omega arith)))
+      work_all opens cost = grind (arith, height_suc, all_children)
 
       -- ---- their answers
 

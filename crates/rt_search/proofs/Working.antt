@@ -107,10 +107,7 @@ module _ (verdict : Info → Verdict) (t : Packed) (v : Verdict) where
     pub held-join_nodes : (xs : List Item)
         → held t (join_nodes verdict t v (node_at t number) (node_at t number).count xs) ≤ held t xs +
         (node_at t number).size
-    held-join_nodes xs =
-        let n = node_at t number in
-        let all = ap (sum_by (λ k. k.size)) (all_children t number tree high n.count (omega arith)) in
-        omega (arith, held_upto xs n.count (omega arith), ((inner_at t (height_at t number) n tree high).1).size)
+    held-join_nodes xs = grind (arith, all_children, held_upto, inner_at)
 
     module _ (opens : Verdict → Bool) (closed : (v : Verdict) → is_kept v.within ≡ false → opens v ≡ false) (cost : Node → ℕ) where
       -- what a child brings to the work
@@ -123,11 +120,7 @@ module _ (verdict : Info → Verdict) (t : Packed) (v : Verdict) where
       brought : (m : ℕ) → let w = verdict (info_of_node t v (node_at t m)) in
           cond (is_kept w.within) (work_at opens cost verdict t w.score (place.Node (waiting_node m w.within))) 0
           ≡ brings (height_at t m) (node_at t m)
-      brought m =
-          let w = verdict (info_of_node t v (node_at t m)) in
-          cond_both (is_kept w.within) (work_at opens cost verdict t w.score (place.Node (waiting_node m w.within))) 0
-          (λ n. n ≡ under_verdict m w) (λ h. ap (under_verdict m) (verdict_told w m h))
-          (λ h. let c = closed w h in rw c refl)
+      brought m = grind (arith, cond_both, verdict_told)
 
       work_upto : (xs : List Item) (i : ℕ) → i ≤ (node_at t number).count
           → work_left opens cost verdict t (join_nodes verdict t v (node_at t number) i xs)
@@ -150,11 +143,4 @@ module _ (verdict : Info → Verdict) (t : Packed) (v : Verdict) where
           (join_nodes verdict t v (node_at t number) (node_at t number).count xs) + cost (node_at t number)
           ≡ work_left opens cost verdict t xs + reached opens cost verdict t (height_at t number) v
           (node_at t number)
-      work-join_nodes xs =
-          let n = node_at t number in
-          let h = height_at t number - 1 in
-          let all = ap (sum_by (brings h)) (all_children t number tree high n.count (omega arith)) in
-          let whole : reached opens cost verdict t (height_at t number) v n
-          ≡ reached opens cost verdict t (suc h) v n =
-          ap (λ m. reached opens cost verdict t m v n) (height_suc t number tree high) in
-          omega (arith, work_upto xs n.count (omega arith))
+      work-join_nodes xs = grind (arith, all_children, height_suc, work_upto)

@@ -34,5 +34,4 @@ zero_ahead x old new ys e h a = subst (λ l. IsAhead l ys) (sym e)
 -- as the others score more
 pub rest_above : (xs ys : List Item) → AllByRecursion (λ x. 0 < x.score) xs → AllByRecursion (λ x. 2 ^ 64 ≤ x.score) ys
     → AllByRecursion (λ x. 0 < x.score) (put_all item_cmp xs ys)
-rest_above xs ys a b = put_all-all item_cmp item_order (λ x. 0 < x.score) xs ys a
-    (all_map (λ x. 2 ^ 64 ≤ x.score) (λ x. 0 < x.score) (λ x m. omega arith) ys b)
+rest_above xs ys a b = grind (arith, put_all-all, item_order, all_map)

@@ -21,10 +21,7 @@ check-verdict-requires-clause-honest g c =
     (rw (c.info_under-info.ensures, k.is, layers) k.at.within))
 
 pub check-verdict-requires-clause-room : goal.check-verdict-requires-clause-room
-check-verdict-requires-clause-room g c =
-    let count = entries_count c.args.tree.now c.args.node c.child_entries-entries.result.now c.requires.leaf.node
-    c.child_entries-entries.ensures in
-    omega arith
+check-verdict-requires-clause-room g c = grind (arith, entries_count)
 
 pub visit_entry-requires : goal.visit_entry-requires
 visit_entry-requires g c =

@@ -5,16 +5,7 @@ use Rattle.rt_search.proofs.Pools.{some_near}
 use Rattle.rt_search.proofs.pool.Pool.fill.Goals as goal
 
 pub invariant_of-self : goal.invariant_of-self
-invariant_of-self c =
-    let k = c.self.invariant in
-    let e = c.move_near-self-inside.ensures in
-    record {
-      inside = e.near;
-      outside = e.far;
-      near_room = omega arith;
-      far_room = rw e.far_capacity k.far_room;
-      few = omega (arith, length_permutation _ _ e.same);
-    }
+invariant_of-self c = grind (arith, length_permutation)
 
 pub returns-clause-filled : goal.returns-clause-filled
 returns-clause-filled c =

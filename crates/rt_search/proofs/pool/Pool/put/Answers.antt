@@ -40,8 +40,4 @@ invariant_of-self-2 c =
     }
 
 pub returns-clause-keys : goal.returns-clause-keys
-returns-clause-keys c =
-    let near = heap_items c.self.inside.near in
-    subst (λ w. IsPermutation (record { 0 = c.args.key } ∷ keys_in w) (near ++ c.push_reserved.new.self.items))
-    c.self.view_is
-    (rw c.push_reserved.ensures.items (put_right (record { 0 = c.args.key }) near c.self.inside.far.items))
+returns-clause-keys c = grind (arith, put_right)

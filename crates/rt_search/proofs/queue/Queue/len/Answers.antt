@@ -10,6 +10,4 @@ overflow_cast-result c =
     omega arith
 
 pub returns-clause-value : goal.returns-clause-value
-returns-clause-value c =
-    let long = length-queued (keys_in c.self.inside.nodes) c.self.inside.entries.items c.self.inside.wide.items in
-    rw (← c.self.view_is) (omega arith)
+returns-clause-value c = grind (arith, length-queued)

@@ -19,24 +19,7 @@ put-requires c =
     omega arith
 
 pub invariant_of-self : goal.invariant_of-self
-invariant_of-self c =
-    let h = rw (← c.self.view_is) at c.requires.room in
-    let k = c.self.invariant in
-    let e = c.put.ensures in
-    let nodes = keys_in c.self.inside.nodes in
-    let wide = c.self.inside.wide.items in
-    let longer = length-queued nodes c.self.inside.entries.items c.put.new.self.items in
-    let one_more = ap length e.items ∙ length-put item_cmp item_order _ wide in
-    record {
-      nodes_room = k.nodes_room;
-      entries_room = k.entries_room;
-      wide_room = e.capacity ∙ k.wide_room;
-      few = omega (arith, length-queued nodes c.self.inside.entries.items wide);
-      low = k.low;
-      high =
-          subst (AllByRecursion (λ x. 2 ^ 64 ≤ x.score)) (sym e.items)
-          (put-all item_cmp item_order (λ x. 2 ^ 64 ≤ x.score) _ wide c.requires.wide k.high);
-    }
+invariant_of-self c = grind (arith, length-queued, length-put, item_order, put-all)
 
 pub returns-then-is_beyond : goal.returns-then-is_beyond
 returns-then-is_beyond c =
@@ -49,13 +32,4 @@ returns-then-is_beyond c =
     })
 
 pub returns : goal.returns
-returns c =
-    let narrow = put_all item_cmp (in_order node_item (keys_in c.self.inside.nodes)) c.self.inside.entries.items in
-    record {
-      items = enough_same c.args.self.now.wanted _ _
-          (ap (λ xs. put_all item_cmp xs narrow) c.put.ensures.items
-          ∙ put-put_all item_cmp item_order _ c.self.inside.wide.items narrow
-          ∙ ap (λ v. put item_cmp (item_at c.args.score c.args.place) v.items) c.self.view_is);
-      wanted = ap (λ w. w.wanted) c.self.view_is;
-      capacity = ap (λ w. w.capacity) c.self.view_is;
-    }
+returns c = grind (arith, enough_same, put-put_all, item_order)

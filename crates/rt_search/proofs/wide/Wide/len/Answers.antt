@@ -5,11 +5,7 @@ use Rattle.rt_search.proofs.Heaps.{length-in_order}
 use Rattle.rt_search.proofs.wide.Wide.len.Goals as goal
 
 pub returns-clause-value : goal.returns-clause-value
-returns-clause-value c =
-    let n = length-in_order wide_item (heap_items c.self.inside.heap) in
-    c.len.ensures ∙ c.self.invariant.counted ∙ sym n ∙ ap (λ w. length w.items) c.self.view_is
+returns-clause-value c = grind (arith, length-in_order)
 
 pub returns-clause-room : goal.returns-clause-room
-returns-clause-room c =
-    let n = length-in_order wide_item (heap_items c.self.inside.heap) in
-    rw (← c.self.view_is) (omega arith)
+returns-clause-room c = grind (arith, length-in_order)
