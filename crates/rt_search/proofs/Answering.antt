@@ -180,8 +180,7 @@ module _ (accepts : Extent → Bool) (score : Extent → ℕ) where
         → AllByRecursion (λ y. is_gt (item_cmp (item_at s (place.Entry i)) y) ≡ false) xs
         → AllSound t accepts score xs → remaining t accepts score (item_at s (place.Entry i) ∷ xs)
         ≡ (i, s) ∷ remaining t accepts score xs
-    take_entry i s xs a b =
-        put_least answer_cmp answer_order (i, s) (remaining t accepts score xs) (all_least i s xs a b)
+    take_entry i s xs a b = grind (arith, put_least, answer_order, all_least)
 
     -- ---- and where entries alone wait
 

@@ -154,8 +154,7 @@ module _ {accepts : Extent → Bool} {score : Extent → ℕ} {verdict : Info �
       pub nodes_joined : (xs : List Item)
           → remaining t accepts score (join_nodes verdict t v (node_at t number) (node_at t number).count xs)
           ≡ put_all answer_cmp (answers_under t accepts score number) (remaining t accepts score xs)
-      nodes_joined xs = nodes_upto xs (node_at t number).count (omega arith)
-          ∙ ap (λ l. put_all answer_cmp l (remaining t accepts score xs)) (upto_all opened high)
+      nodes_joined xs = grind (arith, nodes_upto, upto_all)
 
       pub nodes_sound : (xs : List Item) (i : ℕ) → i ≤ (node_at t number).count → AllSound t accepts score xs
           → AllSound t accepts score (join_nodes verdict t v (node_at t number) i xs)

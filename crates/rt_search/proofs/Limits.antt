@@ -113,8 +113,7 @@ enough_itself wanted xs = record { same = refl; few = omega arith }
 
 pub enough_trans : (wanted : Option ℕ) (xs ys zs : List Item) → IsEnough wanted xs ys → IsEnough wanted ys zs
     → IsEnough wanted xs zs
-enough_trans wanted xs ys zs h k =
-    record { same = h.same ∙ k.same; few = omega arith }
+enough_trans wanted xs ys zs h k = grind arith
 
 pub enough_put : (wanted : Option ℕ) (x : Item) (xs ys : List Item) → IsEnough wanted xs ys
     → IsEnough wanted (put item_cmp x xs) (put item_cmp x ys)

@@ -63,8 +63,7 @@ one_longer false x xs ys e = omega (arith, ap length e)
 
 left_least : (x : Item) (old xs ys : List Item) → old ≡ x ∷ xs → IsLeast x xs → IsAhead old ys
     → IsLeast x (put_all item_cmp xs ys)
-left_least x old xs ys e a h =
-    put_all-all item_cmp item_order (λ y. is_gt (item_cmp x y) ≡ false) xs ys a (subst (λ l. IsAhead l ys) e h)
+left_least x old xs ys e a h = grind (arith, put_all-all, item_order)
 
 left_taken : (x : Item) (old xs ys : List Item) → old ≡ x ∷ xs → IsLeast x xs → IsAhead old ys
     → put_all item_cmp old ys ≡ x ∷ put_all item_cmp xs ys
@@ -72,8 +71,7 @@ left_taken x old xs ys e a h = grind (arith, put_least, item_order, left_least)
 
 right_least : (x : Item) (xs old ys : List Item) → old ≡ x ∷ ys → IsLeast x ys → IsAhead old xs
     → IsLeast x (put_all item_cmp xs ys)
-right_least x xs old ys e a h =
-    put_all-all item_cmp item_order (λ y. is_gt (item_cmp x y) ≡ false) xs ys (subst (λ l. IsAhead l xs) e h) a
+right_least x xs old ys e a h = grind (arith, put_all-all, item_order)
 
 right_taken : (x : Item) (xs old ys : List Item) → old ≡ x ∷ ys → IsLeast x ys → IsAhead old xs
     → put_all item_cmp xs old ≡ x ∷ put_all item_cmp xs ys
@@ -86,8 +84,7 @@ none_left : (xs ys : List Item) → xs ≡ [] → IsAhead xs ys → put_all item
 none_left xs ys e h = ap (λ l. put_all item_cmp l ys) e ∙ subst (λ l. IsAhead l ys) e h
 
 none_right : (xs ys : List Item) → ys ≡ [] → IsAhead ys xs → put_all item_cmp xs ys ≡ []
-none_right xs ys e h =
-    ap (put_all item_cmp xs) e ∙ ap (λ l. put_all item_cmp l []) (subst (λ l. IsAhead l xs) e h)
+none_right xs ys e h = grind arith
 
 -- ---- what a call that takes from one of the lists takes from both
 
@@ -122,8 +119,7 @@ fewer_right r xs old ys capacity t h =
 
 -- what comes after none of what another comes after none of
 pub all_after : (x y : Item) (ys : List Item) → is_gt (item_cmp x y) ≡ false → IsLeast y ys → IsLeast x ys
-all_after x y ys h = all_map (λ z. is_gt (item_cmp y z) ≡ false) (λ z. is_gt (item_cmp x z) ≡ false)
-    (λ z a. item_order.trans x y z h a) ys
+all_after x y ys h = grind (arith, all_map, item_order)
 
 all_scores : (s : ℕ) (xs : List Item) → IsFirstScore s xs → AllByRecursion (λ y. s ≤ y.score) xs
 all_scores s [] h = tt
@@ -131,12 +127,10 @@ all_scores s (x ∷ xs) h = let e = h.0 in (omega arith, h.1)
 
 node_least : (x : Item) (ys : List Item) (r : ℕ) → IsNode x.place → AllByRecursion (λ y. IsEntry y.place) ys
     → x.score ≤ r → AllByRecursion (λ y. r ≤ y.score) ys → IsLeast x ys
-node_least x ys r p q h = all_both (λ y. IsEntry y.place) (λ y. r ≤ y.score) (λ y. is_gt (item_cmp x y) ≡ false)
-    (λ y e m. node_before x.score y.score x.place y.place p e (omega arith)) ys q
+node_least x ys r p q h = grind (arith, all_both, node_before)
 
 pub lower_least : (x : Item) (ys : List Item) (r : ℕ) → x.score < r → AllByRecursion (λ y. r ≤ y.score) ys → IsLeast x ys
-lower_least x ys r h = all_map (λ y. r ≤ y.score) (λ y. is_gt (item_cmp x y) ≡ false)
-    (λ y m. lower_before x y (omega arith)) ys
+lower_least x ys r h = grind (arith, all_map, lower_before)
 
 -- nodes before entries of no lower score
 pub nodes_ahead : (s r : ℕ) (xs ys : List Item) → IsFirstScore s xs → IsFirstScore r ys

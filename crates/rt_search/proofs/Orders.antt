@@ -49,8 +49,7 @@ answer_order = order_of answer_cmp answer_total answer_exact
 -- ---- items
 
 node_total : IsTotalOrder node_cmp
-node_total = then_total (on_total (λ (n : WaitingNode). n.number.number) nat_cmp_total)
-    (on_total (λ (n : WaitingNode). n.is_full) bool_cmp_total)
+node_total = grind (arith, then_total, on_total, nat_cmp_total)
 
 abbrev waiting : ℕ → Bool → WaitingNode
 waiting number is_full = record { number = record { number = number }; is_full = is_full }
@@ -182,4 +181,4 @@ wide_derived d e = grind (arith, not_after, items_derived)
 
 -- and an entry of score 0, by its id alone
 pub zero_derived : (d e : Reverse ℤ) → is_gt (item_cmp (zero_item e) (zero_item d)) ≡ is_lt (int_cmp d.0 e.0)
-zero_derived d e = not_after (zero_item e) (zero_item d)
+zero_derived d e = grind (arith, not_after)

@@ -58,10 +58,7 @@ walk_child-returns-then-visit_node-clause-taken g t c =
     rw (stays, c.check-verdict.ensures.geometry) at c.walk_under.ensures.taken
 
 pub walk_child-returns-else-visit_node-clause-taken : goal.walk_child-returns-else-visit_node-clause-taken
-walk_child-returns-else-visit_node-clause-taken g t c =
-    let is_known = known (g.met.G.Geometry.lawful c.args.counted.now.geometry) c.requires.node in
-    rw c.if-visit_node.false at
-    (c.visit_node.ensures.taken _ (rw (← c.check-verdict.ensures.verdict, ← c.requires.size) at is_known))
+walk_child-returns-else-visit_node-clause-taken g t c = search (rules, known)
 
 pub walk_under-child_nodes-children-requires : goal.walk_under-child_nodes-children-requires
 walk_under-child_nodes-children-requires g t c =
