@@ -8,8 +8,8 @@ use Rattle.std.specs.Ordering.{is_gt}
 use Rattle.std.proofs.lemmas.Bool.{false≢true}
 use Rattle.rt_tree.specs.Sorting.{put}
 use Rattle.rt_search.specs.Items.{item_cmp}
-use Rattle.rt_search.specs.Kept.{IsAhead, IsEntry, IsFirstScore, IsLeast, IsNode, IsTakenOut, entry_item, hits_in}
-use Rattle.rt_search.specs.Kept.{in_order, narrow, node_item, offered, queued, zero_item}
+use Rattle.rt_search.specs.Kept.{IsAhead, IsEntry, IsFirstScore, IsLeast, IsNode, IsTakenOut, hits_in}
+use Rattle.rt_search.specs.Kept.{narrow, offered, queued}
 use Rattle.rt_search.specs.Remaining.{put_all}
 use Rattle.rt_search.specs.declared.item.Item.{Item}
 use Rattle.rt_search.proofs.Heaps.{length-in_order}

@@ -1,6 +1,6 @@
 -- A search begins, and gives its answers one after the other.
-use Rattle.std.proofs.Common.{◌≡◌, ◌<◌, ◌≤◌, ◌+◌, ℕ, Bool, true, false, cond, ◌==◌, List, [], ◌∷◌}
-use Rattle.std.proofs.Common.{length, Option, Some, None, refl, sym, ◌∙◌, ap, subst, arith, ⊎_elim}
+use Rattle.std.proofs.Common.{◌≡◌, ◌<◌, ◌≤◌, ◌+◌, ℕ, Bool, true, false, ◌==◌, List, [], ◌∷◌}
+use Rattle.std.proofs.Common.{length, Option, Some, None, refl, sym, ◌∙◌, ap, subst, arith}
 use Rattle.std.specs.Prelude.{IfSome}
 use Rattle.std.proofs.lemmas.Bool.{cases_lt, cond_both, eq-eqb, eqb-true}
 use Rattle.std.proofs.lemmas.Bool.Decides.{nat_tests}
@@ -16,10 +16,10 @@ use Rattle.rt_search.specs.Answers.{answer_cmp, answers, scored}
 use Rattle.rt_search.specs.Joining.{root_item, root_items}
 use Rattle.rt_search.specs.Kept.{IsRising}
 use Rattle.rt_search.specs.Limits.{IsEnough}
-use Rattle.rt_search.specs.Progress.{AddsUp, IsGiving, IsInLimit, IsOnCourse, IsSearching, held, size_at, work_at, work_left}
+use Rattle.rt_search.specs.Progress.{AddsUp, IsGiving, IsInLimit, IsOnCourse, IsSearching, held, work_left}
 use Rattle.rt_search.specs.Remaining.{AllSound, remaining}
 use Rattle.rt_search.specs.Work.{HasWorked, is_reached, is_within_bound, its_children, one_node}
-use Rattle.rt_search.specs.Work.{root_verdict, reached_from_root, reached}
+use Rattle.rt_search.specs.Work.{root_verdict, reached_from_root}
 use Rattle.rt_search.specs.declared.item.Item.{Item}
 use Rattle.rt_search.proofs.Answering.{among-IsPermutation}
 use Rattle.rt_search.proofs.Elements.{all_each}

@@ -16,7 +16,7 @@ use Rattle.rt_search.specs.Limits.{IsEnough, one_less, wanted_after}
 use Rattle.rt_search.specs.Progress.{IsFound, IsNodeStep, IsOver, IsSearching, IsTaken, IsUnderWay, join_children, work_left}
 use Rattle.rt_search.specs.Remaining.{IsOpenable, height_at, remaining, verdict_on}
 use Rattle.rt_search.specs.Walking.{answers_among}
-use Rattle.rt_search.specs.Work.{is_reached, its_children, one_node, reached_from_root}
+use Rattle.rt_search.specs.Work.{is_reached, one_node, reached_from_root}
 use Rattle.rt_search.specs.declared.item.Item.{Item}
 use Rattle.rt_search.specs.declared.item.Place.TheVariants as place
 use Rattle.rt_search.specs.declared.item.ScoredNode.{ScoredNode}

@@ -1,4 +1,4 @@
-use Rattle.std.proofs.Common.{◌≡◌, ◌+◌, ◌∙◌, ap, subst, arith, rules, add-one, ◌<◌, ◌^◌}
+use Rattle.std.proofs.Common.{◌≡◌, ◌∙◌, ap, subst, arith, add-one}
 use Rattle.rt_tree.specs.Packed.{extent_of_node, node_at}
 use Rattle.rt_search.specs.Joining.{join_nodes}
 use Rattle.rt_search.specs.Limits.{IsEnough}

@@ -1,4 +1,4 @@
-use Rattle.std.proofs.Common.{◌+◌, arith}
+use Rattle.std.proofs.Common.{arith}
 use Rattle.rt_search.proofs.Collectors.{tally_counted}
 use Rattle.rt_search.proofs.counting.TallyVisitor.visit_node.Goals as goal
 

@@ -1,6 +1,4 @@
-use Rattle.std.proofs.Common.{◌<◌, ◌++◌, length, refl, subst, arith}
-use Rattle.std.specs.BinaryHeap.{heap_items}
-use Rattle.rt_search.specs.Pooling.{HasLeastScore, keys_in}
+use Rattle.std.proofs.Common.{arith}
 use Rattle.rt_search.proofs.Pools.{top_of, top_score}
 use Rattle.rt_search.proofs.pool.Pool.first_score.Goals as goal
 

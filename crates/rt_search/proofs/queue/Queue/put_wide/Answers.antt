@@ -1,11 +1,7 @@
-use Rattle.std.proofs.Common.{◌≤◌, ◌^◌, length, refl, sym, ◌∙◌, ap, subst, arith}
-use Rattle.std.specs.List.{AllByRecursion}
-use Rattle.rt_tree.specs.Sorting.{put}
-use Rattle.rt_search.specs.Items.{item_at, item_cmp}
+use Rattle.std.proofs.Common.{refl, subst, arith}
+use Rattle.rt_search.specs.Items.{item_at}
 use Rattle.rt_search.specs.Limits.{IsPut}
-use Rattle.rt_search.specs.Kept.{in_order, node_item}
 use Rattle.rt_search.specs.Pooling.{keys_in}
-use Rattle.rt_search.specs.Remaining.{put_all}
 use Rattle.rt_search.proofs.Limits.{enough_beyond, enough_same}
 use Rattle.rt_search.proofs.Merging.{length-queued, put-put_all}
 use Rattle.rt_search.proofs.OrderedLists.{length-put, put-all}

@@ -1,4 +1,4 @@
-use Rattle.std.proofs.Common.{◌≡◌, ◌≢◌, ◌≤◌, ◌∙◌, [], Some, length, rules}
+use Rattle.std.proofs.Common.{◌≡◌, ◌≢◌, ◌≤◌, [], Some, length, rules}
 use Rattle.std.specs.Prelude.{IfSome}
 use Rattle.rt_search.specs.Joining.{join_answers}
 use Rattle.rt_search.specs.Limits.{IsEnough}

@@ -1,6 +1,4 @@
-use Rattle.std.proofs.Common.{◌∙◌, ap, sym, arith, length}
-use Rattle.std.specs.BinaryHeap.{heap_items}
-use Rattle.rt_search.specs.Kept.{wide_item}
+use Rattle.std.proofs.Common.{arith}
 use Rattle.rt_search.proofs.Heaps.{length-in_order}
 use Rattle.rt_search.proofs.wide.Wide.len.Goals as goal
 
