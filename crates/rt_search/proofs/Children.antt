@@ -247,7 +247,7 @@ asked {t} {number} {n} here i v {k} {x = x} {whole = whole} lt read number_is wh
 pub all_children : (t : Packed) (number : ℕ) → IsSubtree t (height_at t number) (node_at t number)
     → 2 ≤ (node_at t number).level → (i : ℕ) → (node_at t number).count ≤ i
     → take i (child_nodes t (node_at t number)) ≡ child_nodes t (node_at t number)
-all_children t number s level i le = grind (arith, number, part_length, inner_at, level, take_all)
+all_children t number s level i le = grind (arith, part_length, inner_at, take_all)
 
 pub height_suc : (t : Packed) (number : ℕ) → IsSubtree t (height_at t number) (node_at t number)
     → 2 ≤ (node_at t number).level → height_at t number ≡ suc (height_at t number - 1)

@@ -114,10 +114,7 @@ module _ (accepts : Extent → Bool) (score : Extent → ℕ) (verdict : Info �
       → reached_from_root (is_reached None) cost verdict t ≡ search_work cost accepts score verdict t limit
   work_in_all cost None g le n h = refl
   work_in_all cost (Some zero) g le n h = absurd (let lt = below_limit zero g le n in omega arith)
-  work_in_all cost (Some (suc k)) g le n h =
-      let none : slice_get all (suc k - 1) ≡ None =
-      ap (slice_get all) (suc_less k) ∙ past_end all g k h (omega (arith, below_limit (suc k) g le n)) in
-      ap (λ o. reached_from_root (is_reached (option_map (λ (b : Answer). b.1) o)) cost verdict t) (sym none)
+  work_in_all cost (Some (suc k)) g le n h = grind (arith, suc_less, past_end, below_limit)
 
   -- the numbers stay small
   given_few : IsSound t → (given : ℕ) (a : Answer) (rest : List Answer) → drop given all ≡ a ∷ rest

@@ -135,9 +135,7 @@ module _ {accepts : Extent → Bool} {score : Extent → ℕ} {verdict : Info �
       nodes_upto : (xs : List Item) (i : ℕ) → i ≤ (node_at t number).count
           → remaining t accepts score (join_nodes verdict t v (node_at t number) i xs)
           ≡ put_all answer_cmp (answers_upto opened high i) (remaining t accepts score xs)
-      nodes_upto xs zero le =
-          ap (λ l. put_all answer_cmp l (remaining t accepts score xs))
-          (sym (under_all-none accepts score t (height_at t number - 1)))
+      nodes_upto xs zero le = grind (arith, under_all-none)
       nodes_upto xs (suc i) le =
           let lt : i < (node_at t number).count = omega arith in
           let m = (node_at t number).first + i in
@@ -159,10 +157,4 @@ module _ {accepts : Extent → Bool} {score : Extent → ℕ} {verdict : Info �
       pub nodes_sound : (xs : List Item) (i : ℕ) → i ≤ (node_at t number).count → AllSound t accepts score xs
           → AllSound t accepts score (join_nodes verdict t v (node_at t number) i xs)
       nodes_sound xs zero le a = a
-      nodes_sound xs (suc i) le a =
-          let lt : i < (node_at t number).count = omega arith in
-          let m = (node_at t number).first + i in
-          let k = child t number opened.tree high i lt in
-          node_sound m (info_of_node t v (node_at t m))
-          (join_nodes verdict t v (node_at t number) i xs) refl k.level (child_question i lt) k.number
-          k.tree (omega arith) (nodes_sound xs i (omega arith) a)
+      nodes_sound xs (suc i) le a = grind (arith, child, node_sound, child_question, nodes_sound xs i (omega arith) a)

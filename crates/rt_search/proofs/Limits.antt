@@ -128,10 +128,7 @@ enough_put_all wanted (z ∷ zs) xs ys h =
 pub enough_without : (wanted : Option ℕ) (x : Item) (xs : List Item) → IsBehind wanted x xs
     → IsEnough wanted xs (put item_cmp x xs)
 enough_without None x xs h = absurd h
-enough_without (Some n) x xs h = record {
-  same = left_out_behind x xs n h;
-  few = omega (arith, length-put item_cmp item_order x xs);
-}
+enough_without (Some n) x xs h = grind (arith, left_out_behind, length-put, item_order)
 
 -- what is behind the entries is behind the whole queue
 pub enough_beyond : (wanted : Option ℕ) (x : Item) (nodes : List (Reverse ℕ)) (entries wide : List Item)
@@ -196,10 +193,7 @@ module _ (verdict : Info → Verdict) (t : Packed) (v : Verdict) (n : node.Node)
 
   pub rising_nodes : (i : ℕ) (xs : List Item) → IsRising xs → IsRising (join_nodes verdict t v n i xs)
   rising_nodes zero xs h = h
-  rising_nodes (suc i) xs h =
-      let w = verdict (info_of_node t v (node_at t (n.first + i))) in
-      rising_one (is_kept w.within) (item_at w.score (Node (waiting_node (n.first + i) w.within))) _
-      (rising_nodes i xs h)
+  rising_nodes (suc i) xs h = grind (arith, rising_one, rising_nodes i xs h)
 
 -- ---- the first is taken out
 
@@ -226,19 +220,7 @@ same_rest x y xs ys n h = (cc, cc)
 
 pub first_kept : (wanted : Option ℕ) (x : Item) (xs all : List Item) → wanted ≢ Some 0 → IsEnough wanted (x ∷ xs) all
     → (ys : List Item) × ((all ≡ x ∷ ys) × IsEnough (less_at x.place wanted) xs ys)
-first_kept None x xs all more h =
-    (xs, (sym h.same, subst (λ w. IsEnough w xs xs) (sym (less_none x.place)) (enough_itself None xs)))
+first_kept None x xs all more h = grind (arith, less_none, enough_itself)
 first_kept (Some zero) x xs all more h = absurd (more refl)
 first_kept (Some (suc n)) x xs [] more h = absurd (nil_is_not_cons _ _ (sym h.same))
-first_kept (Some (suc n)) x xs (y ∷ ys) more h =
-    let k = same_rest x y xs ys n h.same in
-    let few = h.few in (
-      ys,
-      (
-        ap (λ z. z ∷ ys) (sym k.0),
-        subst (λ w. IsEnough w xs ys) (sym (less_entries x.place (suc n))) (record {
-          same = k.1 ∙ ap (λ (z : Item). front ys (suc n - entries_at z.place)) (sym k.0);
-          few = omega arith;
-        }),
-      ),
-    )
+first_kept (Some (suc n)) x xs (y ∷ ys) more h = grind (arith, same_rest, less_entries)

@@ -22,9 +22,7 @@ use Rattle.rt_search.proofs.Orders.{item_order, lower_before, node_before}
 pub put-put_all : {X : Type 0} (cmp : X → X → Ordering) (o : IsOrder cmp) (x : X) (xs zs : List X)
     → put_all cmp (put cmp x xs) zs ≡ put cmp x (put_all cmp xs zs)
 put-put_all cmp o x [] zs = refl
-put-put_all cmp o x (y ∷ xs) zs =
-    put_cases cmp (λ l. put_all cmp l zs ≡ put cmp x (put cmp y (put_all cmp xs zs))) x y xs
-    (λ e. ap (put cmp y) (put-put_all cmp o x xs zs) ∙ put-put cmp o y x (put_all cmp xs zs)) (λ e. refl)
+put-put_all cmp o x (y ∷ xs) zs = grind (arith, put_cases, put-put, put-put_all cmp o x xs zs)
 
 pub length-merged : (xs ys : List Item) → length (put_all item_cmp xs ys) ≡ length xs + length ys
 length-merged xs ys = length-put_all item_cmp item_order xs ys
@@ -90,14 +88,12 @@ none_right xs ys e h = grind arith
 
 pub taken_left : (r : Option Item) (old xs ys : List Item) → IsTakenOut r old xs → IsAhead old ys
     → IsTakenOut r (put_all item_cmp old ys) (put_all item_cmp xs ys)
-taken_left None old xs ys t h =
-    (none_left old ys t.0 h, ap (λ l. put_all item_cmp l ys) (t.1 ∙ sym t.0) ∙ none_left old ys t.0 h)
+taken_left None old xs ys t h = grind (arith, none_left)
 taken_left (Some x) old xs ys t h = (left_taken x old xs ys t.0 t.1 h, left_least x old xs ys t.0 t.1 h)
 
 pub taken_right : (r : Option Item) (xs old ys : List Item) → IsTakenOut r old ys → IsAhead old xs
     → IsTakenOut r (put_all item_cmp xs old) (put_all item_cmp xs ys)
-taken_right None xs old ys t h =
-    (none_right xs old t.0 h, ap (put_all item_cmp xs) (t.1 ∙ sym t.0) ∙ none_right xs old t.0 h)
+taken_right None xs old ys t h = grind (arith, none_right)
 taken_right (Some x) xs old ys t h = (right_taken x xs old ys t.0 t.1 h, right_least x xs old ys t.0 t.1 h)
 
 -- no more are left than there were

@@ -37,9 +37,6 @@ exact_bool true true h = refl
 answer_total : IsTotalOrder answer_cmp
 answer_total = then_total (on_total (λ (a : Answer). a.1) nat_cmp_total) (on_total (λ (a : Answer). a.0) int_cmp_total)
 
-abbrev answer_at : ℤ → ℕ → Answer
-answer_at id score = (id, score)
-
 answer_exact : CmpEqualImpliesEq answer_cmp
 answer_exact a b h = grind (arith, then_equal, exact_signed, exact_unsigned)
 

@@ -18,10 +18,7 @@ use Rattle.rt_search.proofs.Orders.{item_order, score_upto}
 put_first : (s : ℕ) (x : Item) (ys : List Item) → s ≡ x.score → AllByRecursion (λ y. s ≤ y.score) ys
     → IsFirstScore s (put item_cmp x ys)
 put_first s x [] e a = (e, tt)
-put_first s x (y ∷ ys) e a =
-    put_cases item_cmp (IsFirstScore s) x y ys (λ t.
-    let f = score_upto y x (item_order.one_way x y t) in
-    (omega arith, put-all item_cmp item_order (λ z. s ≤ z.score) x ys (omega arith) a.1)) (λ t. (e, a))
+put_first s x (y ∷ ys) e a = grind (arith, put_cases, score_upto, item_order, put-all)
 
 -- it stays the first where x joins, whose score is no lower
 first_stays : (s : ℕ) (x : Item) (ys : List Item) → s ≤ x.score → IsFirstScore s ys → IsFirstScore s (put item_cmp x ys)
@@ -48,4 +45,4 @@ module _ (item : Reverse ℕ → Item) (scored : (k : Reverse ℕ) → score_in 
   pub firsts : (r : Option ℕ) (ks : List (Reverse ℕ)) → MatchOption r (ks ≡ []) (λ s. HasLeastScore s ks)
       → MatchOption r (in_order item ks ≡ []) (λ s. IsFirstScore s (in_order item ks))
   firsts None ks h = ap (in_order item) h
-  firsts (Some s) ks h = first_of_least s ks h
+  firsts (Some s) ks h = grind (arith, first_of_least)

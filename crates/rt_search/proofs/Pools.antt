@@ -83,9 +83,7 @@ pub top_of : (e : ℕ) (top : Reverse ℕ) (near far : List (Reverse ℕ)) → 0
     → IsLowest top.0 near → AllByRecursion (λ k. score_in k ≤ e) near → AllByRecursion (λ k. e < score_in k) far
     → IsTop top.0 (near ++ far)
 top_of e top [] far some h a low high = absurd (omega arith)
-top_of e top (k ∷ near) far some h a low high =
-    let s : score_in top ≤ e = rw h low.0 in
-    (h, all-append (λ j. is_lt (nat_cmp j.0 top.0) ≡ false) near far a.1 (far_after e top.0 far s high))
+top_of e top (k ∷ near) far some h a low high = grind (arith, all-append, far_after)
 
 pub top_score : (k : ℕ) (ks : List (Reverse ℕ)) → IsTop k ks → HasLeastScore (k / 2 ^ 64) ks
 top_score k [] h = absurd h
@@ -119,20 +117,7 @@ has_last (j ∷ ks) k = inr (has_last ks k)
 least_more : (r : Option ℕ) (ks : List (Reverse ℕ)) (k : Reverse ℕ) → MatchOption r (ks ≡ []) (λ s. HasLeastScore s ks)
     → HasLeastScore (lesser r (score_in k)) (ks ++ k ∷ [])
 least_more None ks k h = subst (λ l. HasLeastScore (score_in k) (l ++ k ∷ [])) (sym h) (inl refl, (omega arith, tt))
-least_more (Some r) ks k h =
-    let split : (b : Bool) → nat_lt (score_in k) r ≡ b → HasLeastScore (cond b (score_in k) r) (ks ++ k ∷ []) = elim [
-      | true ↦ λ e.
-          let low = ltb-true (score_in k) r e in (
-            has_last ks k,
-            all-append (λ j. score_in k ≤ score_in j) ks (k ∷ [])
-                (all_map (λ j. r ≤ score_in j) (λ j. score_in k ≤ score_in j) (λ j m. omega arith) ks h.1)
-                (omega arith, tt),
-          )
-      | false ↦ λ e.
-          let high = ltb-false (score_in k) r e in
-          (has_left r ks (k ∷ []) h.0, all-append (λ j. r ≤ score_in j) ks (k ∷ []) h.1 (omega arith, tt))
-    ] in
-    split (nat_lt (score_in k) r) refl
+least_more (Some r) ks k h = grind (arith, nat_lt, ltb-true, has_last, all-append, all_map, ltb-false, has_left)
 
 pub far_more : (e : ℕ) (r : Option ℕ) (ks : List (Reverse ℕ)) (k : Reverse ℕ) → IsFar ks e r → e < score_in k
     → IsFar (ks ++ k ∷ []) e (Some (lesser r (score_in k)))

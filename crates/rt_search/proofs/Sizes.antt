@@ -57,8 +57,7 @@ sizes_under t h f (k ∷ ks) a =
 
 -- a node's size is the number of entries under it
 pub size_under : (t : Packed) (h : ℕ) (n : Node) → IsSubtree t h n → n.size ≡ length (entries_under t h n)
-size_under t zero n s = let e = s.size in let long = part_length t.entries n.first n.count s.range in
-    omega arith
+size_under t zero n s = grind (arith, part_length)
 size_under t (suc h) n s = s.size ∙ sizes_under t h (λ k. size_under t h k) (child_nodes t n) s.below
 
 -- ---- work

@@ -73,20 +73,14 @@ module _ {accepts : Extent → Bool} {score : Extent → ℕ} {verdict : Info �
       → is_gt (item_cmp (item_at s (place.Entry i)) (item_at r p)) ≡ false
       → work_at (is_reached (Some s)) cost verdict t r p ≡ 0
   none_at cost i s r (place.Entry j) h = refl
-  none_at cost i s r (place.Node n) h =
-      cond-false (is_reached (Some s) (verdict_on r n))
-      (reached (is_reached (Some s)) cost verdict t (height_at t n.number.number) (verdict_on r n)
-      (node_at t n.number.number)) 0
-      (reached_above s r n (before_node accepts score t i n s r h))
+  none_at cost i s r (place.Node n) h = grind (arith, cond-false, reached_above, before_node)
 
   -- behind an entry that is least, no node is within its score
   no_work : (cost : Node → ℕ) (i : ℤ) (s : ℕ) (xs : List Item)
       → AllByRecursion (λ y. is_gt (item_cmp (item_at s (place.Entry i)) y) ≡ false) xs
       → work_left (is_reached (Some s)) cost verdict t xs ≡ 0
   no_work cost i s [] a = refl
-  no_work cost i s (y ∷ ys) a =
-      let k = none_at cost i s y.score y.place a.0 in
-      omega (arith, work_cons (is_reached (Some s)) cost verdict t y ys, no_work cost i s ys a.1)
+  no_work cost i s (y ∷ ys) a = grind (arith, none_at, work_cons, no_work cost i s ys a.1)
 
   -- ---- an entry is taken out
 

@@ -75,9 +75,7 @@ module _ (accepts : Extent → Bool) (score : Extent → ℕ) (t : Packed) where
   all_among : (c : Extent) → AllAccepted accepts c → (es : List Entry) → AllByRecursion (IsEntryInside c) es
       → length (among accepts score es) ≡ length es
   all_among c full [] a = refl
-  all_among c full (e ∷ es) a =
-      ap length (among_accepted accepts score e es (full (extent_of_entry e) a.0))
-      ∙ ap (λ n. suc n) (all_among c full es a.1)
+  all_among c full (e ∷ es) a = grind (arith, among_accepted, all_among c full es a.1)
 
 module _ {accepts : Extent → Bool} {score : Extent → ℕ} {verdict : Info → Verdict}
     (law : IsLawful accepts score verdict) where
@@ -107,9 +105,7 @@ module _ {accepts : Extent → Bool} {score : Extent → ℕ} {verdict : Info �
 
       kept : (b : Bool) → accepts (extent_of_entry e) ≡ true → is_kept (verdict info).within ≡ b → b ≡ true
       kept true h k = refl
-      kept false h k = absurd
-          (let no = (law.faithful.leaf info question low).0 (kept_not (verdict info).within k) in
-          yes_no (subst (λ c. accepts c ≡ false) at no) h)
+      kept false h k = grind (arith, kept_not, yes_no)
 
   -- ---- a node that was asked about
 

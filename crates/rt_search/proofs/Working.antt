@@ -66,13 +66,7 @@ module _ (verdict : Info → Verdict) (t : Packed) (v : Verdict) where
   pub length-join_nodes : (n : Node) (i : ℕ) (xs : List Item)
       → length (join_nodes verdict t v n i xs) ≤ length xs + i
   length-join_nodes n zero xs = omega arith
-  length-join_nodes n (suc i) xs =
-      let w = verdict (info_of_node t v (node_at t (n.first + i))) in
-      omega (
-        arith,
-        one_longer (is_kept w.within) (waiting w (n.first + i)) (join_nodes verdict t v n i xs),
-        length-join_nodes n i xs,
-      )
+  length-join_nodes n (suc i) xs = grind (arith, one_longer, length-join_nodes n i xs)
 
   module _ (number : ℕ) (tree : IsSubtree t (height_at t number) (node_at t number))
       (high : 2 ≤ (node_at t number).level) where
@@ -90,19 +84,7 @@ module _ (verdict : Info → Verdict) (t : Packed) (v : Verdict) where
         → held t (join_nodes verdict t v (node_at t number) i xs) ≤ held t xs + sum_by (λ k. k.size)
         (take i (child_nodes t (node_at t number)))
     held_upto xs zero le = omega arith
-    held_upto xs (suc i) le =
-        let lt : i < (node_at t number).count = omega arith in
-        let m = (node_at t number).first + i in
-        let w = verdict (info_of_node t v (node_at t m)) in
-        omega (
-          arith,
-          joined_adds (λ x. size_at t x.place) (is_kept w.within) (waiting w m)
-              (join_nodes verdict t v (node_at t number) i xs),
-          cond_at_most (is_kept w.within)
-              (node_at t m).size,
-          held_upto xs i (omega arith),
-          sum_more (λ k. k.size) i lt,
-        )
+    held_upto xs (suc i) le = grind (arith, joined_adds, cond_at_most, sum_more, held_upto xs i (omega arith))
 
     pub held-join_nodes : (xs : List Item)
         → held t (join_nodes verdict t v (node_at t number) (node_at t number).count xs) ≤ held t xs +
@@ -114,9 +96,6 @@ module _ (verdict : Info → Verdict) (t : Packed) (v : Verdict) where
       abbrev brings : ℕ → Node → ℕ
       brings = work_of_child opens cost verdict t v
 
-      abbrev under_verdict : ℕ → Verdict → ℕ
-      under_verdict m w = cond (opens w) (reached opens cost verdict t (height_at t m) w (node_at t m)) 0
-
       brought : (m : ℕ) → let w = verdict (info_of_node t v (node_at t m)) in
           cond (is_kept w.within) (work_at opens cost verdict t w.score (place.Node (waiting_node m w.within))) 0
           ≡ brings (height_at t m) (node_at t m)
@@ -127,16 +106,7 @@ module _ (verdict : Info → Verdict) (t : Packed) (v : Verdict) where
           ≡ work_left opens cost verdict t xs + sum_by (brings (height_at t number - 1))
           (take i (child_nodes t (node_at t number)))
       work_upto xs zero le = omega arith
-      work_upto xs (suc i) le =
-          let lt : i < (node_at t number).count = omega arith in
-          let m = (node_at t number).first + i in
-          let w = verdict (info_of_node t v (node_at t m)) in
-          let k = child t number tree high i lt in
-          let adds = joined_adds (λ x. work_at opens cost verdict t x.score x.place) (is_kept w.within) (waiting w m)
-          (join_nodes verdict t v (node_at t number) i xs) in
-          let same : brings (height_at t m) (node_at t m) ≡ brings (height_at t number - 1) (node_at t m) =
-          ap (λ h. brings h (node_at t m)) k.height in
-          omega (arith, brought m, work_upto xs i (omega arith), sum_more (brings (height_at t number - 1)) i lt)
+      work_upto xs (suc i) le = grind (arith, child, joined_adds, brought, sum_more, work_upto xs i (omega arith))
 
       pub work-join_nodes : (xs : List Item)
           → work_left opens cost verdict t
