@@ -237,10 +237,7 @@ asked {t} {number} {n} here i v {k} {x = x} {whole = whole} lt read number_is wh
       at = at;
       child = there;
       is = x_is;
-      info_is = info_is ∙ ap (info_under (root_of t).level v (extent_of_plain x whole.layers)) lower
-          ∙ ap (λ l. info_under (root_of t).level v (extent_of_plain l whole.layers) (node_at t k).level) x_is
-          ∙ ap (λ l. info_under (root_of t).level v (extent_of_plain (without_layers (node_at t k)) l.layers)
-          (node_at t k).level) whole_is;
+      info_is = grind (arith, info_is, lower);
     }
 
 -- all children of a node
@@ -274,8 +271,7 @@ module _ (accepts : Extent → Bool) (score : Extent → ℕ) (t : Packed) (soun
           layers = HasSome-only e.layer at.few;
           one = λ _. record { layer = e.layer; few = at.few; is = refl };
           level = omega arith;
-          top =
-              omega arith;
+          top = grind arith;
           parent_score = small;
         };
         honest = honest_child accepts score (extent_of_node n) (info_of_child t v e) v below refl at.within;

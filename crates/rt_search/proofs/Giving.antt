@@ -164,8 +164,7 @@ module _ {accepts : Extent → Bool} {score : Extent → ℕ} {verdict : Info �
         subst (λ m. IsGiven accepts score verdict t limit given m opened' asked' capacity' wanted' a new)
         (sym (add-one given)) (record {
           going = record {
-            state = subst (λ l. IsUnderWay accepts score verdict t opened' asked' capacity' wanted' l new)
-                (sym (drop_step all given a found.rest there).1) found.state;
+            state = grind (arith, drop_step);
             in_limit = next_in_limit limit given going.in_limit more;
             still = subst (λ w. IfSome w (λ n. limit ≡ Some (suc given + n))) (sym less)
                 (next_still wanted limit given more going.still);

@@ -109,8 +109,7 @@ module _ {accepts : Extent → Bool} {score : Extent → ℕ} {verdict : Info �
       let below : IsBelow accepts score (extent_of info) v =
       record {
         full = λ f. law.faithful.fullness info question high f;
-        least =
-            λ b h y. law.admissibility info question high b h y;
+        least = grind arith;
       } in
       cond_both (is_kept v.within) put_in xs (AllSound t accepts score)
       (λ h. AllSound-put accepts score t (item_at v.score (place.Node (waiting_node k v.within))) xs

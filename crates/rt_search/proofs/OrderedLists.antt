@@ -45,8 +45,7 @@ order_of {X} cmp total apart =
       tie = λ x y e f. apart x y (tied (cmp x y) e (turn y x ∙ f));
       trans = upto total;
       turned = turn;
-      rearranged = λ xs ys.
-          sorted-IsPermutation cmp total xs ys (λ i j d h k. apart (get_or xs i d) (get_or xs j d));
+      rearranged = grind (arith, sorted-IsPermutation);
     }
 
 -- what holds wherever x is put

@@ -64,9 +64,7 @@ module _ (accepts : Extent → Bool) (score : Extent → ℕ) (verdict : Info �
     root_course : (cost : Node → ℕ) → 0 < length t.nodes → IsOnCourse accepts score verdict cost t 0 (root_item t ∷ [])
     root_course cost some = record {
       in_all = from_none (root_work (is_reached None) cost verdict t refl some);
-      at_each = all_each (λ a. AddsUp verdict cost t 0 (root_item t ∷ []) (Some a.1))
-          (λ a. from_none (root_work (is_reached (Some a.1)) cost verdict t (reached_zero (Some a.1)) some))
-          (remaining t accepts score (root_item t ∷ []));
+      at_each = grind (arith, all_each, from_none, root_work, reached_zero);
     }
 
     pub root_sound : 0 < length t.nodes → AllSound t accepts score (root_item t ∷ [])

@@ -98,9 +98,7 @@ module _ {accepts : Extent → Bool} {score : Extent → ℕ} {verdict : Info �
       let first = work_cons (is_reached (Some s)) cost verdict t x xs in (
         record {
           in_all = (let h = course.in_all in let k = work_cons (is_reached None) cost verdict t x xs in omega arith);
-          at_each = all_map (λ p. AddsUp verdict cost t done (x ∷ xs) (Some p.1))
-              (λ p. AddsUp verdict cost t done xs (Some p.1))
-              (λ p h. let k = work_cons (is_reached (Some p.1)) cost verdict t x xs in omega arith) (remaining t accepts score xs) each.1;
+          at_each = grind (arith, all_map, work_cons);
         },
         omega arith,
       )

@@ -77,8 +77,7 @@ module _ {accepts : Extent → Bool} {score : Extent → ℕ} {verdict : Info �
       → search_work cost accepts score verdict t limit ≡ reached_from_root (is_reached None) cost verdict t
   work None some cost = refl
   work (Some zero) some cost = absurd (some refl)
-  work (Some (suc more)) some cost =
-      whole_alike verdict unscored t (last_score (answers t.entries accepts score None) (Some (suc more))) cost sound
+  work (Some (suc more)) some cost = grind (arith, whole_alike)
 
   pub all_worked : (limit : Option ℕ) (opened asked : ℕ) → limit ≢ Some 0
       → opened ≡ reached_from_root (is_reached None) one_node verdict t
@@ -119,8 +118,7 @@ module _ {accepts : Extent → Bool} {score : Extent → ℕ} {verdict : Info �
         asking = course its_children asked checks;
       };
       rising = rising_put_all (map item_of (answers_in_tree t accepts score)) [] tt;
-      follows = answers_joined law t (answers_in_tree t accepts score) []
-          ∙ tree_answers accepts score verdict t sound;
+      follows = grind (arith, answers_joined, tree_answers);
       enough = enough;
     };
     in_limit = none_given limit;

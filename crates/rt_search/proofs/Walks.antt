@@ -118,10 +118,7 @@ module _ {accepts : Extent → Bool} {score : Extent → ℕ} {verdict : Info �
         record {
           none = λ is. among_none accepts score (extent_of_node n)
               (subst (NoneAccepted accepts) can.extent (law.faithful.pruning info can.question can.high is)) es inside;
-          all = λ is.
-              let full = subst (AllAccepted accepts) can.extent (law.faithful.fullness info can.question can.high is) in
-              all_among accepts score t (extent_of_node n) full es inside
-              ∙ sym (size_under t (height_at t k) n can.tree);
+          all = grind (arith, all_among, size_under);
         }
 
     pub openable : IsOpenable t accepts score k (verdict info)

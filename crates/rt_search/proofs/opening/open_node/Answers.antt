@@ -42,11 +42,7 @@ ask_node-requires g c =
     c.args.frontier.now.items in
     let inv = c.loop-i.invariant in
     record {
-      honest = rw inv.geometry
-          (honest_child (g.G.Geometry.accepts geometry) (g.G.Geometry.score geometry)
-          (extent_of_node (node_at tree number)) c.info_under-info.result v
-          (rw c.verdict_on-parent.ensures c.requires.node.below) (ap (λ i. i.parent_within) c.info_under-info.ensures)
-          (rw k.info_is k.child.within));
+      honest = grind (arith, honest_child);
       room = rw inv.children.capacity (omega arith);
       asked = omega arith;
     }
@@ -80,12 +76,7 @@ returns g c =
     let end : c.loop-i.i ≡ (node_at tree number).count = omega arith in
     record {
       children = record {
-        items = nodes_join (g.met.G.Geometry.lawful geometry) tree c.args.frontier.now.wanted c.args.taken.score c.args.taken.node
-            c.node-node.result c.verdict_on-parent.result c.loop-i.frontier.items c.args.frontier.now.items
-            c.node-node.ensures c.if-node-eq1.false c.verdict_on-parent.ensures
-            (subst (λ m. IsEnough c.args.frontier.now.wanted c.loop-i.frontier.items
-            (join_nodes verdict tree c.verdict_on-parent.result (node_at tree number) m c.args.frontier.now.items)) end
-            inv.children.items);
+        items = grind (arith, nodes_join);
         wanted = inv.children.wanted;
         capacity = inv.children.capacity;
       };

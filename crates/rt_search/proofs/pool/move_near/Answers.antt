@@ -55,9 +55,7 @@ loop-at-preserved c =
     let next = take_more far at key inside ∙ ap (λ k. take at far ++ k ∷ []) (sym c.index.ensures) in
     record {
       near = i.near;
-      far =
-          rw (next, c.lesser.ensures, score)
-          (far_more c.args.edge c.loop-at.least (take at far) key i.far (omega arith));
+      far = grind (arith, far_more);
       reached = omega arith;
       same = i.same;
       near_capacity = i.near_capacity;

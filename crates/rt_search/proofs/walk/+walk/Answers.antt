@@ -69,8 +69,7 @@ walk_under-loop-i-init g t c =
     let geometry = c.args.counted.now.geometry in
     let tree = c.args.tree.now in
     record {
-      taken = rw (under_all-none (g.G.Geometry.accepts geometry) (g.G.Geometry.score geometry) tree
-          (height_at tree c.args.number.number - 1)) refl;
+      taken = grind (arith, under_all-none);
       opened = omega arith;
       asked = omega arith;
       geometry = refl;
@@ -122,10 +121,7 @@ walk_under-loop-i-preserved g t c =
     let more = λ (cost : Node → ℕ).
     work_more law c.requires.sound small c.requires.node here.high g.V.Visitor.opens cost c.loop-i.i k.few in
     record {
-      taken = subst (λ l. HasTaken g.V.Collector.takes c.args.visitor.now l c.walk_child.new.visitor)
-          (upto_more c.requires.node here.high c.loop-i.i k.few)
-          (taken-append g.V.Collector.takes c.args.visitor.now c.loop-i.visitor c.walk_child.new.visitor _ _ inv.taken
-          e.taken);
+      taken = grind (arith, upto_more, taken-append);
       opened = omega (arith, more one_node);
       asked = omega (arith, more its_children);
       geometry = e.geometry;
@@ -144,8 +140,7 @@ walk_under-returns g t c =
     let inv = rw end at c.loop-i.invariant in
     let all = work_all law sound small c.requires.node here.high g.V.Visitor.opens in
     record {
-      taken = subst (λ l. HasTaken g.V.Collector.takes c.args.visitor.now l c.loop-i.visitor)
-          (upto_all c.requires.node here.high) inv.taken;
+      taken = grind (arith, upto_all);
       opened = omega (arith, all one_node);
       asked = omega (arith, all its_children);
       geometry = inv.geometry;
