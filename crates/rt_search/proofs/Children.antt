@@ -146,7 +146,6 @@ child_at t n h i s lt =
     let tree : IsSubtree t h k =
     subst (IsSubtree t h) is (All-from_recursion (IsSubtree t h) (child_nodes t n) s.below i k here) in
     let IsWithin = λ (m : Node). IsPart (extent_of_node m) (extent_of_node n) in
-    let within = All-from_recursion IsWithin (child_nodes t n) s.within i k here in
     let level = subtree_level t h k tree in
     let height : height_at t (n.first + i) ≡ h = omega arith in
     record {
@@ -154,7 +153,7 @@ child_at t n h i s lt =
       number = number;
       is = sym is;
       tree = subst (λ m. IsSubtree t m k) (sym height) tree;
-      within = subst IsWithin is within;
+      within = subst IsWithin is (All-from_recursion IsWithin (child_nodes t n) s.within i k here);
       height = height;
       level = omega arith;
       lower = omega arith;

@@ -91,8 +91,7 @@ module _ {accepts : Extent → Bool} {score : Extent → ℕ} {verdict : Info �
   node_joined k info xs at high question tree =
       let v = verdict info in
       let R = remaining t accepts score in
-      let put_in = put item_cmp (item_at v.score (place.Node (waiting_node k v.within))) xs in
-      cond_both (is_kept v.within) put_in xs
+      cond_both (is_kept v.within) (put item_cmp (item_at v.score (place.Node (waiting_node k v.within))) xs) xs
       (λ l. R l ≡ put_all answer_cmp (among accepts score (entries_under t (height_at t k) (node_at t k))) (R xs))
       (λ h. remaining-put accepts score t (item_at v.score (place.Node (waiting_node k v.within))) xs)
       (λ h.

@@ -24,9 +24,8 @@ put_first s x (y ∷ ys) e a = grind (arith, put_cases, score_upto, item_order, 
 first_stays : (s : ℕ) (x : Item) (ys : List Item) → s ≤ x.score → IsFirstScore s ys → IsFirstScore s (put item_cmp x ys)
 first_stays s x [] h f = absurd f
 first_stays s x (y ∷ ys) h f =
-    let first = f.0 in
     put_cases item_cmp (IsFirstScore s) x y ys
-    (λ t. (first, put-all item_cmp item_order (λ z. s ≤ z.score) x ys h f.1))
+    (λ t. (f.0, put-all item_cmp item_order (λ z. s ≤ z.score) x ys h f.1))
     (λ t. let up = score_upto x y t in (omega arith, (omega arith, f.1)))
 
 module _ (item : Reverse ℕ → Item) (scored : (k : Reverse ℕ) → score_in k ≡ (item k).score) where

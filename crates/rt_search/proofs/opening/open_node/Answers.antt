@@ -67,13 +67,10 @@ loop-i-preserved g c =
 
 pub returns : goal.returns
 returns g c =
-    let geometry = c.args.counted.now.geometry in
-    let verdict = g.G.Geometry.verdict geometry in
-    let tree = c.args.tree.now in
-    let number = c.args.taken.node.number.number in
+    let verdict = g.G.Geometry.verdict c.args.counted.now.geometry in
     let here = children_of c.requires.node c.node-node.ensures c.if-node-eq1.false c.child_nodes-children.ensures in
     let inv = c.loop-i.invariant in
-    let end : c.loop-i.i ≡ (node_at tree number).count = omega arith in
+    let end : c.loop-i.i ≡ (node_at c.args.tree.now c.args.taken.node.number.number).count = omega arith in
     record {
       children = record {
         items = grind (arith, nodes_join);

@@ -50,9 +50,8 @@ loop-at-preserved c =
     let far = c.loop-at.far.items in
     let at = c.loop-at.at in
     let inside : at < length far = omega arith in
-    let key = c.index.result.now in
     let score = c.score_of-score.ensures in
-    let next = take_more far at key inside ∙ ap (λ k. take at far ++ k ∷ []) (sym c.index.ensures) in
+    let next = take_more far at c.index.result.now inside ∙ ap (λ k. take at far ++ k ∷ []) (sym c.index.ensures) in
     record {
       near = i.near;
       far = grind (arith, far_more);

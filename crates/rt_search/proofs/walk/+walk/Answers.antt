@@ -116,8 +116,7 @@ walk_under-loop-i-preserved g t c =
     let here = children_of c.requires.node c.node-node.ensures c.if-node-eq1.false c.child_nodes-children.ensures in
     let k = asked here c.loop-i.i v c.loop-i-test.true c.index-children-i.is c.new-child_number.ensures
     c.node-whole.ensures c.info_under-info.ensures in
-    let inv = c.loop-i.invariant in
-    let e = rw k.at at (rw k.info_is at (rw inv.geometry at c.walk_child.ensures)) in
+    let e = rw k.at at (rw k.info_is at (rw c.loop-i.invariant.geometry at c.walk_child.ensures)) in
     let more = λ (cost : Node → ℕ).
     work_more law c.requires.sound small c.requires.node here.high g.V.Visitor.opens cost c.loop-i.i k.few in
     record {
@@ -130,15 +129,11 @@ walk_under-loop-i-preserved g t c =
 pub walk_under-returns : goal.walk_under-returns
 walk_under-returns g t c =
     let law = g.met.G.Geometry.lawful c.args.counted.now.geometry in
-    let tree = c.args.tree.now in
-    let sound = c.requires.sound in
-    let v = c.args.parent in
-    let number = c.args.number.number in
-    let small : v.score < 2 ^ 128 = search rules in
+    let small : c.args.parent.score < 2 ^ 128 = search rules in
     let here = children_of c.requires.node c.node-node.ensures c.if-node-eq1.false c.child_nodes-children.ensures in
-    let end : c.loop-i.i ≡ (node_at tree number).count = omega arith in
+    let end : c.loop-i.i ≡ (node_at c.args.tree.now c.args.number.number).count = omega arith in
     let inv = rw end at c.loop-i.invariant in
-    let all = work_all law sound small c.requires.node here.high g.V.Visitor.opens in
+    let all = work_all law c.requires.sound small c.requires.node here.high g.V.Visitor.opens in
     record {
       taken = grind (arith, upto_all);
       opened = omega (arith, all one_node);

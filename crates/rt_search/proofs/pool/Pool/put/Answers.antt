@@ -26,12 +26,11 @@ invariant_of-self-2 c =
     let h = rw (← c.self.view_is) at c.requires in
     let e = c.push_reserved.ensures in
     let far = c.self.inside.far.items in
-    let score = c.score_of-score.ensures in
     let longer = length_permutation _ _ (put_right (record { 0 = c.args.key }) (heap_items c.self.inside.near) far) in
     record {
       inside = k.inside;
       outside =
-          rw (e.items, c.lesser.ensures, score)
+          rw (e.items, c.lesser.ensures, c.score_of-score.ensures)
           (far_more c.self.inside.edge c.self.inside.least far (record { 0 = c.args.key }) k.outside
           (omega arith));
       near_room = k.near_room;
