@@ -1,5 +1,5 @@
 -- What a collector becomes with answers.
-use Rattle.std.proofs.Common.{◌≡◌, ◌+◌, ◌∷◌, ◌∙◌, [], ℕ, List, length, map, refl, sym, ap, subst, arith}
+use Rattle.std.proofs.Common.{◌≡◌, ◌+◌, ◌∷◌, ◌∙◌, [], ℕ, List, length, map, sym, ap, subst, arith}
 use Rattle.rt_tree.specs.Sorting.{put}
 use Rattle.rt_search.specs.Answers.{Answer}
 use Rattle.rt_search.specs.Items.{SearchRoom, Waiting, item_cmp, item_of, limited}

@@ -2,7 +2,6 @@
 use Rattle.std.proofs.Common.{◌≡◌, ◌≢◌, ◌<◌, ◌≤◌, ◌+◌, ◌-◌, ℕ, zero, suc, Bool, List, [], ◌∷◌, length}
 use Rattle.std.proofs.Common.{take, drop, Option, Some, None, refl, sym, ◌∙◌, ap, subst, arith, add-one}
 use Rattle.std.specs.Prelude.{IfSome, slice_get}
-use Rattle.std.specs.Option.{option_map}
 use Rattle.std.proofs.lemmas.List.{length-drop, length-map}
 use Rattle.std.proofs.lemmas.List.Sums.{count_by-le-length, length-filter}
 use Rattle.std.proofs.lemmas.List.Sorted.{length_permutation}
@@ -15,7 +14,7 @@ use Rattle.rt_tree.proofs.SortingLemmas.{IsPermutation-sorted}
 use Rattle.rt_tree.specs.Sorting.{limited}
 use Rattle.rt_tree.specs.declared.tree.Node.{Node}
 use Rattle.rt_search.specs.Answers.{Answer, accepted, answer_cmp, answer_of, answers, scored}
-use Rattle.rt_search.specs.Progress.{IsFound, IsGiving, IsInLimit, IsOver, IsUnderWay}
+use Rattle.rt_search.specs.Progress.{IsFound, IsGiving, IsInLimit, IsOver}
 use Rattle.rt_search.specs.Limits.{one_less}
 use Rattle.rt_search.specs.Work.{HasWorked, is_reached, its_children, one_node, search_work, reached_from_root}
 use Rattle.rt_search.specs.declared.item.Item.{Item}

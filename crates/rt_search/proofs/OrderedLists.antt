@@ -1,5 +1,5 @@
 -- Lists that are kept in an order which tells all elements apart.
-use Rattle.std.proofs.Common.{◌≡◌, ◌+◌, true, false, List, [], ◌∷◌, ◌++◌, ℕ, length, get_or}
+use Rattle.std.proofs.Common.{◌≡◌, ◌+◌, true, false, List, [], ◌∷◌, ◌++◌, ℕ, length}
 use Rattle.std.proofs.Common.{refl, sym, ◌∙◌, ap, arith, Ordering, Less, Equal, Greater, IsPermutation}
 use Rattle.std.specs.Cmp.{IsTotalOrder}
 use Rattle.std.specs.List.{AllByRecursion, sum_by}

@@ -16,7 +16,7 @@ use Rattle.rt_search.specs.Answers.{answer_cmp, answers, scored}
 use Rattle.rt_search.specs.Joining.{root_item, root_items}
 use Rattle.rt_search.specs.Kept.{IsRising}
 use Rattle.rt_search.specs.Limits.{IsEnough}
-use Rattle.rt_search.specs.Progress.{AddsUp, IsGiving, IsInLimit, IsOnCourse, IsSearching, held, work_left}
+use Rattle.rt_search.specs.Progress.{IsGiving, IsInLimit, IsOnCourse, IsSearching, held, work_left}
 use Rattle.rt_search.specs.Remaining.{AllSound, remaining}
 use Rattle.rt_search.specs.Work.{HasWorked, is_reached, is_within_bound, its_children, one_node}
 use Rattle.rt_search.specs.Work.{root_verdict, reached_from_root}

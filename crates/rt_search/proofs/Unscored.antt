@@ -10,7 +10,7 @@ use Rattle.rt_geo.specs.declared.geometry.Info.{Info}
 use Rattle.rt_geo.specs.declared.geometry.Verdict.{Verdict}
 use Rattle.rt_tree.specs.Packed.{Packed, IsSound, IsSubtree, child_nodes}
 use Rattle.rt_tree.specs.declared.tree.Node.{Node}
-use Rattle.rt_search.specs.Answers.{accepted, answer_of, answers}
+use Rattle.rt_search.specs.Answers.{accepted, answer_of}
 use Rattle.rt_search.specs.Items.{item_of}
 use Rattle.rt_search.specs.Joining.{join_answers}
 use Rattle.rt_search.specs.Limits.{IsEnough}
@@ -18,7 +18,7 @@ use Rattle.rt_search.specs.Progress.{AddsUp, IsGiving, IsOnCourse, held, work_le
 use Rattle.rt_search.specs.Remaining.{remaining}
 use Rattle.rt_search.specs.Walking.{answers_in_tree}
 use Rattle.rt_search.specs.Work.{HasWorked, IsUnscored, info_of_node, is_kept, is_reached, is_within_bound, its_children}
-use Rattle.rt_search.specs.Work.{last_score, one_node, reached, reached_from_root, root_verdict, search_work}
+use Rattle.rt_search.specs.Work.{one_node, reached, reached_from_root, root_verdict, search_work}
 use Rattle.rt_search.specs.declared.item.Item.{Item}
 use Rattle.rt_search.proofs.Children.{subtree_level}
 use Rattle.rt_search.proofs.Elements.{all_each}

@@ -1,7 +1,5 @@
-use Rattle.std.proofs.Common.{◌≡◌, ◌∙◌, ap, subst, arith, add-one}
-use Rattle.rt_tree.specs.Packed.{extent_of_node, node_at}
-use Rattle.rt_search.specs.Joining.{join_nodes}
-use Rattle.rt_search.specs.Limits.{IsEnough}
+use Rattle.std.proofs.Common.{◌≡◌, ◌∙◌, arith, add-one}
+use Rattle.rt_tree.specs.Packed.{node_at}
 use Rattle.rt_search.specs.Walking.{answers_among}
 use Rattle.rt_search.proofs.Children.{asked, children_inside, children_of, honest_child}
 use Rattle.rt_search.proofs.Collectors.{entries_join}

@@ -1,8 +1,6 @@
-use Rattle.std.proofs.Common.{ℕ, ◌≡◌, ◌<◌, ◌-◌, ◌^◌, ◌∙◌, ap, refl, sym, subst, arith, rules}
+use Rattle.std.proofs.Common.{ℕ, ◌≡◌, ◌<◌, ◌^◌, ◌∙◌, ap, refl, sym, arith, rules}
 use Rattle.rt_tree.specs.Packed.{node_at}
 use Rattle.rt_tree.specs.declared.tree.Node.{Node}
-use Rattle.rt_search.specs.Remaining.{height_at}
-use Rattle.rt_search.specs.Walking.{HasTaken}
 use Rattle.rt_search.specs.Work.{its_children, one_node}
 use Rattle.rt_search.proofs.Answering.{under_all-none}
 use Rattle.rt_search.proofs.Children.{asked, children_inside, children_of}
