@@ -156,7 +156,7 @@ enough_fits wanted x old new capacity h lt =
 -- of an empty list and another neither has any
 pub none_merged : (xs ys : List Item) → put_all item_cmp xs ys ≡ [] → ys ≡ []
 none_merged xs [] h = refl
-none_merged xs (y ∷ ys) h = absurd (let n = ap length h in omega (arith, length-put_all item_cmp item_order xs (y ∷ ys)))
+none_merged xs (y ∷ ys) h = absurd (omega (arith, ap length h, length-put_all item_cmp item_order xs (y ∷ ys)))
 
 pub still_none : (xs ys zs : List Item) → put_all item_cmp xs ys ≡ [] → zs ≡ [] → put_all item_cmp xs zs ≡ []
 still_none xs ys zs h e = ap (put_all item_cmp xs) (e ∙ sym (none_merged xs ys h)) ∙ h

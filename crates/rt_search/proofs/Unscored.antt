@@ -52,7 +52,12 @@ module _ (verdict : Info → Verdict) (unscored : IsUnscored verdict) (t : Packe
       let level = subtree_level t h k sub.0 in
       let same = ap (λ o. cond o (reached (is_reached within) cost verdict t h w k) 0) (opens_alike i (omega arith))
       ∙ ap (λ m. cond (is_reached None w) m 0) (f w k sub.0) in
-      omega (arith, sum_by-cons (below within h v) k ks, sum_by-cons (below None h v) k ks, children_alike h f v ks sub.1)
+      omega (
+        arith,
+        sum_by-cons (below within h v) k ks,
+        sum_by-cons (below None h v) k ks,
+        children_alike h f v ks sub.1,
+      )
 
   reached_alike : (h : ℕ) (v : Verdict) (n : Node) → IsSubtree t h n
       → reached (is_reached within) cost verdict t h v n ≡ reached (is_reached None) cost verdict t h v n
@@ -100,7 +105,13 @@ module _ {accepts : Extent → Bool} {score : Extent → ℕ} {verdict : Info �
 
   room_for_all : (capacity : ℕ) → length t.entries ≤ capacity → held t gathered ≤ capacity
   room_for_all capacity room =
-      omega (arith, held-join_answers verdict t root_verdict (answers_in_tree t accepts score) [], tree_count accepts score verdict t sound, length-map (accepted t.entries accepts) (answer_of score), length-scored accepts score t.entries)
+      omega (
+        arith,
+        held-join_answers verdict t root_verdict (answers_in_tree t accepts score) [],
+        tree_count accepts score verdict t sound,
+        length-map (accepted t.entries accepts) (answer_of score),
+        length-scored accepts score t.entries,
+      )
 
   pub begun : (limit : Option ℕ) (opened asked capacity : ℕ) (wanted : Option ℕ) (items : List Item)
       → length t.entries ≤ capacity → limit ≢ Some 0 → IfSome wanted (λ n. limit ≡ Some n)
