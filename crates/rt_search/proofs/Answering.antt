@@ -1,6 +1,7 @@
 -- The answers among entries, and those that items stand for.
-use Rattle.std.proofs.Common.{◌≡◌, ◌<◌, ◌≤◌, ◌+◌, ℕ, ℤ, zero, suc, Bool, true, false, cond, List, [], ◌∷◌, ◌++◌, map, Option, Some, None}
-use Rattle.std.proofs.Common.{length, take, get_or, refl, sym, ◌∙◌, ap, subst, arith, IsPermutation}
+use Rattle.std.proofs.Common.{◌≡◌, ◌<◌, ◌≤◌, ◌+◌, ℕ, ℤ, zero, suc, Bool, true, false}
+use Rattle.std.proofs.Common.{cond, List, [], ◌∷◌, ◌++◌, Option, Some, None}
+use Rattle.std.proofs.Common.{length, take, get_or, refl, sym, ◌∙◌, ap, arith, IsPermutation}
 use Rattle.std.specs.Prelude.{IfNone, MatchOption}
 use Rattle.std.specs.List.{AllByRecursion, flat_map}
 use Rattle.std.specs.Ordering.{is_gt}
@@ -65,9 +66,7 @@ module _ (accepts : Extent → Bool) (score : Extent → ℕ) where
   among es = scored es accepts score
 
   pub among-append : (es fs : List Entry) → among (es ++ fs) ≡ among es ++ among fs
-  among-append es fs =
-      ap (map (answer_of score)) (filter-append (λ (e : Entry). accepts (extent_of_entry e)) es fs)
-      ∙ map-append (answer_of score) (accepted es accepts) (accepted fs accepts)
+  among-append es fs = grind (arith, filter-append, map-append)
 
   pub among_accepted : (e : Entry) (es : List Entry) → accepts (extent_of_entry e) ≡ true → among (e ∷ es)
       ≡ (e.id, score (extent_of_entry e)) ∷ among es
@@ -80,11 +79,7 @@ module _ (accepts : Extent → Bool) (score : Extent → ℕ) where
   pub among_above : (c : Extent) (s : ℕ) → ((b : Extent) → IsBoxInside b c → accepts b ≡ true → s ≤ score b)
       → (es : List Entry) → AllByRecursion (IsEntryInside c) es → AllByRecursion (λ a. s ≤ a.1) (among es)
   among_above c s low [] a = tt
-  among_above c s low (e ∷ es) a =
-      let rest = among_above c s low es a.1 in
-      cond_both (accepts (extent_of_entry e)) (e ∷ accepted es accepts) (accepted es accepts)
-      (λ l. AllByRecursion (λ a. s ≤ a.1) (map (answer_of score) l)) (λ h. (low (extent_of_entry e) a.0 h, rest))
-      (λ h. rest)
+  among_above c s low (e ∷ es) a = grind (arith, cond_both, among_above c s low es a.1)
 
   -- where no box inside is accepted there is no answer
   pub among_none : (c : Extent) → NoneAccepted accepts c → (es : List Entry) → AllByRecursion (IsEntryInside c) es
@@ -138,13 +133,7 @@ module _ (accepts : Extent → Bool) (score : Extent → ℕ) where
     pub remaining-put : (x : Item) (xs : List Item) → remaining t accepts score (put item_cmp x xs)
         ≡ put_all answer_cmp (answers_at t accepts score x.score x.place) (remaining t accepts score xs)
     remaining-put x [] = refl
-    remaining-put x (y ∷ ys) =
-        let R = remaining t accepts score in
-        let A = answers_at t accepts score x.score x.place in
-        let B = answers_at t accepts score y.score y.place in
-        put_cases item_cmp (λ l. R l ≡ put_all answer_cmp A (put_all answer_cmp B (R ys))) x y ys
-        (λ e. ap (put_all answer_cmp B) (remaining-put x ys) ∙ put_all-put_all answer_cmp answer_order B A (R ys))
-        (λ e. refl)
+    remaining-put x (y ∷ ys) = grind (arith, put_cases, put_all-put_all, answer_order, remaining-put x ys)
 
     pub AllSound-put : (x : Item) (xs : List Item) → IsSoundAt t accepts score x.score x.place
         → AllSound t accepts score xs → AllSound t accepts score (put item_cmp x xs)
@@ -182,8 +171,7 @@ module _ (accepts : Extent → Bool) (score : Extent → ℕ) where
         → AllByRecursion (λ y. is_gt (item_cmp (item_at s (place.Entry i)) y) ≡ false) xs
         → AllSound t accepts score xs → remaining t accepts score (item_at s (place.Entry i) ∷ xs)
         ≡ (i, s) ∷ remaining t accepts score xs
-    take_entry i s xs a b =
-        put_least answer_cmp answer_order (i, s) (remaining t accepts score xs) (all_least i s xs a b)
+    take_entry i s xs a b = grind (arith, put_least, answer_order, all_least)
 
     -- ---- and where entries alone wait
 
@@ -196,11 +184,7 @@ module _ (accepts : Extent → Bool) (score : Extent → ℕ) where
         → MatchOption out (remaining t accepts score items ≡ [])
         (λ a. remaining t accepts score items ≡ a ∷ remaining t accepts score new)
     given None items new all out = ap (remaining t accepts score) out.0
-    given (Some a) items new all out =
-        ap (remaining t accepts score) out.0
-        ∙ take_entry a.0 a.1 new out.1
-        (all_map (λ x. IsEntry x.place) (λ x. IsSoundAt t accepts score x.score x.place) (λ x. entry_sound x.score x.place)
-        new (subst AllEntries out.0 all).1)
+    given (Some a) items new all out = grind (arith, take_entry, all_map, entry_sound)
 
     pub none_left : (out : Option Answer) (items new : List Item) → IsTakenOut (taken_entry out) items new
         → IfNone out (remaining t accepts score new ≡ [])
@@ -213,10 +197,7 @@ module _ (accepts : Extent → Bool) (score : Extent → ℕ) where
     pub node_dropped : (k : ℕ) → IsSubtree t (height_at t k) (node_at t k)
         → NoneAccepted accepts (extent_of_node (node_at t k)) → (qs : List Answer) → qs
         ≡ put_all answer_cmp (among (entries_under t (height_at t k) (node_at t k))) qs
-    node_dropped k s never qs =
-        ap (λ l. put_all answer_cmp l qs)
-        (sym (among_none (extent_of_node (node_at t k)) never (entries_under t (height_at t k) (node_at t k))
-        (all_inside t (height_at t k) (node_at t k) s)))
+    node_dropped k s never qs = grind (arith, among_none, all_inside)
 
     -- what the nodes of a list bring
     pub under_all : ℕ → List Node → List Answer

@@ -50,12 +50,10 @@ pub record IsLeafAt (t : Packed) (n : Node) (i : ℕ) (e : Entry) : Type 0 where
 pub leaf_at : (t : Packed) (n : Node) (i : ℕ) (e : Entry) → IsTable t.entries → IsLeafNode t n → i < n.count
     → get_or t.entries (n.first + i) e ≡ e → IsLeafAt t n i e
 leaf_at t n i e table s lt read =
-    let long = part_length t.entries n.first n.count s.range in
-    let range = s.range in
-    let here : i < length (child_entries t n) = omega (arith, long) in
+    let here : i < length (child_entries t n) = omega (arith, part_length t.entries n.first n.count s.range) in
     let is : get_or (child_entries t n) i e ≡ e = part_at t.entries n.first n.count i e lt ∙ read in
     let within = All-from_recursion (IsEntryInside (extent_of_node n)) (child_entries t n) s.within i e here in
-    let inside : n.first + i < length t.entries = omega (arith, range, lt) in
+    let inside : n.first + i < length t.entries = omega arith in
     record {
       place = here;
       is = sym is;
@@ -67,9 +65,7 @@ leaf_at t n i e table s lt read =
 -- how many entries are lent
 pub entries_count : (t : Packed) (n : Node) (lent : List LeafEntry) → IsLeafNode t n
     → lent ≡ map without_layer (child_entries t n) → length lent ≡ n.count
-entries_count t n lent s entries =
-    ap length entries ∙ length-map (child_entries t n) without_layer
-    ∙ part_length t.entries n.first n.count s.range
+entries_count t n lent s entries = grind (arith, length-map, part_length)
 
 -- an entry that is read among them
 pub record IsLeafRead (t : Packed) (n : Node) (i : ℕ) (x : LeafEntry) (e : Entry) : Type 0 where
@@ -84,10 +80,8 @@ leaf_read t n i x lent table s entries lt read =
     let children = child_entries t n in
     let e = get_or children i no_entry in
     let few = subst (λ m. i < m) (entries_count t n lent s entries) lt in
-    let long = part_length t.entries n.first n.count s.range in
-    let range = s.range in
-    let there : i < length children = omega (arith, long, few) in
-    let inside : n.first + i < length t.entries = omega (arith, range, few) in
+    let there : i < length children = omega (arith, part_length t.entries n.first n.count s.range) in
+    let inside : n.first + i < length t.entries = omega arith in
     let same : get_or t.entries (n.first + i) e ≡ e = sym (part_at t.entries n.first n.count i e few)
     ∙ get_or_default children i e no_entry there in
     record {
@@ -120,14 +114,14 @@ one_less h = omega arith
 -- a node above level 1
 pub inner_at : (t : Packed) (h : ℕ) (n : Node) → IsSubtree t h n → 2 ≤ n.level → h ≡ suc (h - 1)
     × IsInnerNode t (h - 1) (IsSubtree t (h - 1)) n
-inner_at t zero n s level = absurd (let e = s.level in omega (arith, e, level))
+inner_at t zero n s level = absurd (let e = s.level in omega arith)
 inner_at t (suc h) n s level =
     (ap suc (sym (one_less h)), subst (λ m. IsInnerNode t m (IsSubtree t m) n) (sym (one_less h)) s)
 
 -- a node of level 1
 pub leaf_node : (t : Packed) (h : ℕ) (n : Node) → IsSubtree t h n → n.level ≡ 1 → (h ≡ 0) × IsLeafNode t n
 leaf_node t zero n s e = (refl, s)
-leaf_node t (suc h) n s e = absurd (let l = s.level in omega (arith, l, e))
+leaf_node t (suc h) n s e = absurd (let l = s.level in omega arith)
 
 -- the child whose number is k
 pub record IsChild (t : Packed) (n : Node) (h i k : ℕ) : Type 0 where
@@ -145,27 +139,24 @@ child_at : (t : Packed) (n : Node) (h i : ℕ) → IsInnerNode t h (IsSubtree t 
     → IsChild t n h i (n.first + i)
 child_at t n h i s lt =
     let k = node_at t (n.first + i) in
-    let long = part_length t.nodes n.first n.count s.range in
-    let here : i < length (child_nodes t n) = omega (arith, long) in
-    let number : n.first + i < length t.nodes = (let r = s.range in omega (arith, r)) in
+    let here : i < length (child_nodes t n) = omega (arith, part_length t.nodes n.first n.count s.range) in
+    let number : n.first + i < length t.nodes = (let r = s.range in omega arith) in
     let is : get_or (child_nodes t n) i k ≡ k = part_at t.nodes n.first n.count i k lt
     ∙ get_or_default t.nodes (n.first + i) k no_node number in
     let tree : IsSubtree t h k =
     subst (IsSubtree t h) is (All-from_recursion (IsSubtree t h) (child_nodes t n) s.below i k here) in
     let IsWithin = λ (m : Node). IsPart (extent_of_node m) (extent_of_node n) in
-    let within = All-from_recursion IsWithin (child_nodes t n) s.within i k here in
     let level = subtree_level t h k tree in
-    let above = s.level in
-    let height : height_at t (n.first + i) ≡ h = omega (arith, level) in
+    let height : height_at t (n.first + i) ≡ h = omega arith in
     record {
       place = here;
       number = number;
       is = sym is;
       tree = subst (λ m. IsSubtree t m k) (sym height) tree;
-      within = subst IsWithin is within;
+      within = subst IsWithin is (All-from_recursion IsWithin (child_nodes t n) s.within i k here);
       height = height;
-      level = omega (arith, level);
-      lower = omega (arith, level, above);
+      level = omega arith;
+      lower = omega arith;
       valid = subtree_valid t h k tree;
     }
 
@@ -203,7 +194,7 @@ module _ {t : Packed} {accepts : Extent → Bool} {score : Extent → ℕ} {numb
   is_high =
       let level = subtree_level t (height_at t number) (node_at t number) opened.tree in
       let same = ap (λ m. m.level) is in
-      omega (arith, level, same, above)
+      omega arith
 
   pub children_inside : n.first + n.count ≤ length t.nodes
   children_inside = rw is (inner_at t (height_at t number) (node_at t number) opened.tree is_high).1.range
@@ -223,7 +214,7 @@ module _ {t : Packed} {accepts : Extent → Bool} {score : Extent → ℕ} {numb
         high = is_high;
         lent = same;
         count = count;
-        inside = omega (arith, range, count, first);
+        inside = omega arith;
       }
 
 pub asked : {t : Packed} {number : ℕ} {n : Node} {children : List PlainNode} → HasChildren t number n children → (i : ℕ)
@@ -234,34 +225,25 @@ asked {t} {number} {n} here i v {k} {x = x} {whole = whole} lt read number_is wh
     let m = node_at t number in
     let few = subst (λ l. i < l) here.count lt in
     let first = ap (λ l. l.first) here.is in
-    let at : k ≡ m.first + i = omega (arith, first, number_is) in
+    let at : k ≡ m.first + i = omega arith in
     let there = subst (IsChild t m (height_at t number - 1) i) (sym at) (child t number here.tree here.high i few) in
     let x_is = subst (λ l. x ≡ get_or l i x) here.lent read
     ∙ get_or-map without_layers (child_nodes t m) i (node_at t k) x there.place ∙ ap without_layers (sym there.is) in
-    let height = there.height in
-    let some = there.level in
     let level = ap (λ l. l.level) here.is in
-    let lower : n.level - 1 ≡ (node_at t k).level = omega (arith, height, some, level) in
+    let lower : n.level - 1 ≡ (node_at t k).level = omega arith in
     record {
       few = few;
       at = at;
       child = there;
       is = x_is;
-      info_is = info_is ∙ ap (info_under (root_of t).level v (extent_of_plain x whole.layers)) lower
-          ∙ ap (λ l. info_under (root_of t).level v (extent_of_plain l whole.layers) (node_at t k).level) x_is
-          ∙ ap (λ l. info_under (root_of t).level v (extent_of_plain (without_layers (node_at t k)) l.layers)
-          (node_at t k).level) whole_is;
+      info_is = grind (arith, info_is, lower);
     }
 
 -- all children of a node
 pub all_children : (t : Packed) (number : ℕ) → IsSubtree t (height_at t number) (node_at t number)
     → 2 ≤ (node_at t number).level → (i : ℕ) → (node_at t number).count ≤ i
     → take i (child_nodes t (node_at t number)) ≡ child_nodes t (node_at t number)
-all_children t number s level i le =
-    let n = node_at t number in
-    let inner = (inner_at t (height_at t number) n s level).1 in
-    let long = part_length t.nodes n.first n.count inner.range in
-    take_all i (child_nodes t n) (omega (arith, long))
+all_children t number s level i le = grind (arith, part_length, inner_at, take_all)
 
 pub height_suc : (t : Packed) (number : ℕ) → IsSubtree t (height_at t number) (node_at t number)
     → 2 ≤ (node_at t number).level → height_at t number ≡ suc (height_at t number - 1)
@@ -281,7 +263,6 @@ module _ (accepts : Extent → Bool) (score : Extent → ℕ) (t : Packed) (soun
   pub entry_question : (n : Node) (e : Entry) (i : ℕ) → IsBelow accepts score (extent_of_node n) v → IsLeafAt t n i e
       → IsQuestion accepts (info_of_child t v e)
   entry_question n e i below at =
-      let top = sound.few_levels in
       record {
         well_formed = record {
           box = at.box.box;
@@ -289,8 +270,7 @@ module _ (accepts : Extent → Bool) (score : Extent → ℕ) (t : Packed) (soun
           layers = HasSome-only e.layer at.few;
           one = λ _. record { layer = e.layer; few = at.few; is = refl };
           level = omega arith;
-          top =
-              omega (arith, top);
+          top = grind arith;
           parent_score = small;
         };
         honest = honest_child accepts score (extent_of_node n) (info_of_child t v e) v below refl at.within;
@@ -299,16 +279,14 @@ module _ (accepts : Extent → Bool) (score : Extent → ℕ) (t : Packed) (soun
   pub node_question : (n : Node) (h i k : ℕ) → n.level ≤ 24 → IsBelow accepts score (extent_of_node n) v
       → IsChild t n h i k → IsQuestion accepts (info_of_node t v (node_at t k))
   node_question n h i k low below at =
-      let top = sound.few_levels in
-      let lower = at.lower in
       record {
         well_formed = record {
           box = at.valid;
           coordinates = subtree_coordinates t (height_at t k) (node_at t k) at.tree;
           layers = subtree_layers t (height_at t k) (node_at t k) at.tree;
-          one = (let above = at.level in λ low. absurd (omega (arith, low, above)));
-          level = omega (arith, lower, low);
-          top = omega (arith, top);
+          one = (let above = at.level in λ low. absurd (omega arith));
+          level = omega arith;
+          top = omega arith;
           parent_score = small;
         };
         honest = honest_child accepts score (extent_of_node n) (info_of_node t v (node_at t k)) v below refl at.within;

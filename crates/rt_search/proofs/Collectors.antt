@@ -1,5 +1,5 @@
 -- What a collector becomes with answers.
-use Rattle.std.proofs.Common.{◌≡◌, ◌+◌, ◌∷◌, ◌∙◌, [], ℕ, List, length, map, refl, sym, ap, subst, arith}
+use Rattle.std.proofs.Common.{◌≡◌, ◌+◌, ◌∷◌, ◌∙◌, [], ℕ, List, length, map, sym, ap, subst, arith}
 use Rattle.rt_tree.specs.Sorting.{put}
 use Rattle.rt_search.specs.Answers.{Answer}
 use Rattle.rt_search.specs.Items.{SearchRoom, Waiting, item_cmp, item_of, limited}
@@ -20,19 +20,13 @@ adds_one old a new = new.accepted ≡ old.accepted + 1
 pub tally_counts : (old new : Tally) (xs : List Answer) → HasTaken adds_one old xs new
     → new.accepted ≡ old.accepted + length xs
 tally_counts old new [] h = omega (arith, ap (λ t. t.accepted) h)
-tally_counts old new (x ∷ xs) h = omega (arith, h.1.0, tally_counts h.0 new xs h.1.1)
+tally_counts old new (x ∷ xs) h = omega (arith, tally_counts h.0 new xs h.1.1)
 
 pub tally_counted : (old new : Tally) (xs : List Answer) → new.accepted ≡ old.accepted + length xs
     → HasTaken adds_one old xs new
-tally_counted old new [] h = ap (λ (n : ℕ). record { accepted = n }) (omega (arith, h))
-tally_counted old new (x ∷ xs) h = (
-  record { accepted = old.accepted + 1 },
-  (
-    refl,
-    tally_counted (record { accepted = old.accepted + 1 }) new xs
-        (omega (arith, h)),
-  ),
-)
+tally_counted old new [] h = ap (λ (n : ℕ). record { accepted = n }) (omega arith)
+tally_counted old new (x ∷ xs) h =
+    grind (arith, tally_counted (record { accepted = old.accepted + 1 }) new xs (omega arith))
 
 -- ---- the hits, and what waits: the entries of the answers join
 
@@ -43,9 +37,7 @@ join_next a xs items = put_all-put item_cmp item_order (map item_of xs) (item_of
 pub hits_join : (old new : Waiting) (xs : List Answer) → HasTaken KeepsHit old xs new
     → (new.items ≡ join_answers xs old.items) × (new.capacity ≡ old.capacity)
 hits_join old new [] h = (ap (λ w. w.items) h, ap (λ w. w.capacity) h)
-hits_join old new (a ∷ xs) h =
-    let rest = hits_join h.0 new xs h.1.1 in
-    (rest.0 ∙ ap (join_answers xs) h.1.0.items ∙ join_next a xs old.items, rest.1 ∙ h.1.0.capacity)
+hits_join old new (a ∷ xs) h = grind (arith, join_next, hits_join h.0 new xs h.1.1)
 
 abbrev joins : SearchRoom → Answer → SearchRoom → Type 0
 joins old a new = IsPut (item_of a) (limited old) (limited new)

@@ -2,7 +2,6 @@
 use Rattle.std.proofs.Common.{◌≡◌, ◌≢◌, ◌<◌, ◌≤◌, ◌+◌, ◌-◌, ℕ, zero, suc, Bool, List, [], ◌∷◌, length}
 use Rattle.std.proofs.Common.{take, drop, Option, Some, None, refl, sym, ◌∙◌, ap, subst, arith, add-one}
 use Rattle.std.specs.Prelude.{IfSome, slice_get}
-use Rattle.std.specs.Option.{option_map}
 use Rattle.std.proofs.lemmas.List.{length-drop, length-map}
 use Rattle.std.proofs.lemmas.List.Sums.{count_by-le-length, length-filter}
 use Rattle.std.proofs.lemmas.List.Sorted.{length_permutation}
@@ -15,7 +14,7 @@ use Rattle.rt_tree.proofs.SortingLemmas.{IsPermutation-sorted}
 use Rattle.rt_tree.specs.Sorting.{limited}
 use Rattle.rt_tree.specs.declared.tree.Node.{Node}
 use Rattle.rt_search.specs.Answers.{Answer, accepted, answer_cmp, answer_of, answers, scored}
-use Rattle.rt_search.specs.Progress.{IsFound, IsGiving, IsInLimit, IsOver, IsUnderWay}
+use Rattle.rt_search.specs.Progress.{IsFound, IsGiving, IsInLimit, IsOver}
 use Rattle.rt_search.specs.Limits.{one_less}
 use Rattle.rt_search.specs.Work.{HasWorked, is_reached, its_children, one_node, search_work, reached_from_root}
 use Rattle.rt_search.specs.declared.item.Item.{Item}
@@ -31,11 +30,11 @@ drop_step (y ∷ xs) (suc g) x rest h = drop_step xs g x rest h
 
 take_step : {X : Type 0} (k g : ℕ) (xs : List X) (x : X) (rest : List X) → g < k → drop g xs ≡ x ∷ rest
     → drop g (take k xs) ≡ x ∷ drop (suc g) (take k xs)
-take_step zero g xs x rest lt h = absurd (omega (arith, lt))
+take_step zero g xs x rest lt h = absurd (omega arith)
 take_step (suc k) zero [] x rest lt h = cc
 take_step (suc k) zero (y ∷ xs) x rest lt h = cc
 take_step (suc k) (suc g) [] x rest lt h = cc
-take_step (suc k) (suc g) (y ∷ xs) x rest lt h = take_step k g xs x rest (omega (arith, lt)) h
+take_step (suc k) (suc g) (y ∷ xs) x rest lt h = take_step k g xs x rest (omega arith) h
 
 drop_nil : {X : Type 0} (g : ℕ) → ◌≡◌ {A = List X} (drop g []) []
 drop_nil zero = refl
@@ -51,13 +50,11 @@ take_end (suc k) (suc g) (y ∷ xs) h = take_end k g xs h
 past_end : {X : Type 0} (xs : List X) (g k : ℕ) → drop g xs ≡ [] → g ≤ k → slice_get xs k ≡ None
 past_end [] g k h le = refl
 past_end (y ∷ xs) zero k h le = cc
-past_end (y ∷ xs) (suc g) zero h le = absurd (omega (arith, le))
-past_end (y ∷ xs) (suc g) (suc k) h le = past_end xs g k h (omega (arith, le))
+past_end (y ∷ xs) (suc g) zero h le = absurd (omega arith)
+past_end (y ∷ xs) (suc g) (suc k) h le = past_end xs g k h (omega arith)
 
 below_limit : (k g : ℕ) → g ≤ k → Some k ≢ Some g → g < k
-below_limit k g le n =
-    let d : k ≢ g = λ e. n (ap Some e) in
-    omega (arith, le, d)
+below_limit k g le n = grind arith
 
 limited_step : {X : Type 0} (limit : Option ℕ) (g : ℕ) (xs : List X) (x : X) (rest : List X) → IsInLimit limit g
     → limit ≢ Some g → drop g xs ≡ x ∷ rest → drop g (limited limit xs) ≡ x ∷ drop (suc g) (limited limit xs)
@@ -70,7 +67,7 @@ limited_end (Some k) g xs h = take_end k g xs h
 
 next_in_limit : (limit : Option ℕ) (g : ℕ) → IsInLimit limit g → limit ≢ Some g → IsInLimit limit (suc g)
 next_in_limit None g le n = tt
-next_in_limit (Some k) g le n = let lt = below_limit k g le n in omega (arith, lt)
+next_in_limit (Some k) g le n = let lt = below_limit k g le n in omega arith
 
 suc_less : (g : ℕ) → suc g - 1 ≡ g
 suc_less g = omega arith
@@ -78,7 +75,7 @@ suc_less g = omega arith
 -- ---- how many are still wanted
 
 same_number : (g n : ℕ) → n ≡ 0 → g + n ≡ g
-same_number g n e = omega (arith, e)
+same_number g n e = omega arith
 
 next_still : (wanted limit : Option ℕ) (g : ℕ) → limit ≢ Some g → IfSome wanted (λ n. limit ≡ Some (g + n))
     → IfSome (one_less wanted) (λ n. limit ≡ Some (suc g + n))
@@ -104,34 +101,25 @@ module _ (accepts : Extent → Bool) (score : Extent → ℕ) (verdict : Info �
   length-all : length all ≤ length t.entries
   length-all =
       let long = length_permutation _ _ (IsPermutation-sorted answer_cmp (scored t.entries accepts score)) in
-      omega (arith, long, length-scored accepts score t.entries)
+      omega (arith, length-scored accepts score t.entries)
 
   -- ---- the work after so many answers
 
   work_after : (cost : Node → ℕ) (g : ℕ) (a : Answer) (rest : List Answer) → drop g all ≡ a ∷ rest
       → reached_from_root (is_reached (Some a.1)) cost verdict t ≡ search_work cost accepts score verdict t (Some (suc g))
-  work_after cost g a rest h =
-      let there : slice_get all (suc g - 1) ≡ Some a = ap (slice_get all) (suc_less g) ∙ (drop_step all g a rest h).0 in
-      ap (λ o. reached_from_root (is_reached (option_map (λ (b : Answer). b.1) o)) cost verdict t) (sym there)
+  work_after cost g a rest h = grind (arith, suc_less, drop_step)
 
   work_in_all : (cost : Node → ℕ) (limit : Option ℕ) (g : ℕ) → IsInLimit limit g → limit ≢ Some g → drop g all ≡ []
       → reached_from_root (is_reached None) cost verdict t ≡ search_work cost accepts score verdict t limit
   work_in_all cost None g le n h = refl
-  work_in_all cost (Some zero) g le n h = absurd (let lt = below_limit zero g le n in omega (arith, lt))
-  work_in_all cost (Some (suc k)) g le n h =
-      let lt = below_limit (suc k) g le n in
-      let none : slice_get all (suc k - 1) ≡ None =
-      ap (slice_get all) (suc_less k) ∙ past_end all g k h (omega (arith, lt)) in
-      ap (λ o. reached_from_root (is_reached (option_map (λ (b : Answer). b.1) o)) cost verdict t) (sym none)
+  work_in_all cost (Some zero) g le n h = absurd (let lt = below_limit zero g le n in omega arith)
+  work_in_all cost (Some (suc k)) g le n h = grind (arith, suc_less, past_end, below_limit)
 
   -- the numbers stay small
   given_few : IsSound t → (given : ℕ) (a : Answer) (rest : List Answer) → drop given all ≡ a ∷ rest
       → given + 1 ≤ 16777216
   given_few sound given a rest there =
-      let long = ap length there in
-      let cut = length-drop given all in
-      let few = sound.table.few in
-      omega (arith, long, cut, few, length-all)
+      omega (arith, ap length there, length-drop given all, length-all)
 
 -- ---- the steps
 
@@ -175,8 +163,7 @@ module _ {accepts : Extent → Bool} {score : Extent → ℕ} {verdict : Info �
         subst (λ m. IsGiven accepts score verdict t limit given m opened' asked' capacity' wanted' a new)
         (sym (add-one given)) (record {
           going = record {
-            state = subst (λ l. IsUnderWay accepts score verdict t opened' asked' capacity' wanted' l new)
-                (sym (drop_step all given a found.rest there).1) found.state;
+            state = grind (arith, drop_step);
             in_limit = next_in_limit limit given going.in_limit more;
             still = subst (λ w. IfSome w (λ n. limit ≡ Some (suc given + n))) (sym less)
                 (next_still wanted limit given more going.still);

@@ -64,12 +64,7 @@ module _ {t : Packed} {accepts : Extent → Bool} {score : Extent → ℕ} {numb
       ∙ ap (under_all accepts score t h) (sym (take_more_at ks i m k.place k.is))
 
   pub upto_all : answers_upto (node_at t number).count ≡ answers_under t accepts score number
-  upto_all =
-      let n = node_at t number in
-      let h = height_at t number - 1 in
-      ap (under_all accepts score t h) (all_children t number opened.tree high n.count (omega arith))
-      ∙ under_all-whole accepts score t h n
-      ∙ ap (λ m. among accepts score (entries_under t m n)) (sym (height_suc t number opened.tree high))
+  upto_all = grind (arith, under_all, all_children, under_all-whole, among, height_suc)
 
 module _ {accepts : Extent → Bool} {score : Extent → ℕ} {verdict : Info → Verdict}
     (law : IsLawful accepts score verdict) (t : Packed) where
@@ -96,8 +91,7 @@ module _ {accepts : Extent → Bool} {score : Extent → ℕ} {verdict : Info �
   node_joined k info xs at high question tree =
       let v = verdict info in
       let R = remaining t accepts score in
-      let put_in = put item_cmp (item_at v.score (place.Node (waiting_node k v.within))) xs in
-      cond_both (is_kept v.within) put_in xs
+      cond_both (is_kept v.within) (put item_cmp (item_at v.score (place.Node (waiting_node k v.within))) xs) xs
       (λ l. R l ≡ put_all answer_cmp (among accepts score (entries_under t (height_at t k) (node_at t k))) (R xs))
       (λ h. remaining-put accepts score t (item_at v.score (place.Node (waiting_node k v.within))) xs)
       (λ h.
@@ -114,8 +108,7 @@ module _ {accepts : Extent → Bool} {score : Extent → ℕ} {verdict : Info �
       let below : IsBelow accepts score (extent_of info) v =
       record {
         full = λ f. law.faithful.fullness info question high f;
-        least =
-            λ b h y. law.admissibility info question high b h y;
+        least = grind arith;
       } in
       cond_both (is_kept v.within) put_in xs (AllSound t accepts score)
       (λ h. AllSound-put accepts score t (item_at v.score (place.Node (waiting_node k v.within))) xs
@@ -140,9 +133,7 @@ module _ {accepts : Extent → Bool} {score : Extent → ℕ} {verdict : Info �
       nodes_upto : (xs : List Item) (i : ℕ) → i ≤ (node_at t number).count
           → remaining t accepts score (join_nodes verdict t v (node_at t number) i xs)
           ≡ put_all answer_cmp (answers_upto opened high i) (remaining t accepts score xs)
-      nodes_upto xs zero le =
-          ap (λ l. put_all answer_cmp l (remaining t accepts score xs))
-          (sym (under_all-none accepts score t (height_at t number - 1)))
+      nodes_upto xs zero le = grind (arith, under_all-none)
       nodes_upto xs (suc i) le =
           let lt : i < (node_at t number).count = omega arith in
           let m = (node_at t number).first + i in
@@ -159,18 +150,9 @@ module _ {accepts : Extent → Bool} {score : Extent → ℕ} {verdict : Info �
       pub nodes_joined : (xs : List Item)
           → remaining t accepts score (join_nodes verdict t v (node_at t number) (node_at t number).count xs)
           ≡ put_all answer_cmp (answers_under t accepts score number) (remaining t accepts score xs)
-      nodes_joined xs = nodes_upto xs (node_at t number).count (omega arith)
-          ∙ ap (λ l. put_all answer_cmp l (remaining t accepts score xs)) (upto_all opened high)
+      nodes_joined xs = grind (arith, nodes_upto, upto_all)
 
       pub nodes_sound : (xs : List Item) (i : ℕ) → i ≤ (node_at t number).count → AllSound t accepts score xs
           → AllSound t accepts score (join_nodes verdict t v (node_at t number) i xs)
       nodes_sound xs zero le a = a
-      nodes_sound xs (suc i) le a =
-          let lt : i < (node_at t number).count = omega arith in
-          let m = (node_at t number).first + i in
-          let k = child t number opened.tree high i lt in
-          let low = opened.low in
-          let lower = k.lower in
-          node_sound m (info_of_node t v (node_at t m))
-          (join_nodes verdict t v (node_at t number) i xs) refl k.level (child_question i lt) k.number
-          k.tree (omega (arith, low, lower)) (nodes_sound xs i (omega arith) a)
+      nodes_sound xs (suc i) le a = grind (arith, child, node_sound, child_question, nodes_sound xs i (omega arith) a)

@@ -32,9 +32,9 @@ front-front : (xs : List Item) (m n : ℕ) → m ≤ n → front (front xs n) m 
 front-front [] m n h = refl
 front-front (x ∷ xs) zero zero h = refl
 front-front (x ∷ xs) zero (suc n) h = refl
-front-front (x ∷ xs) (suc m) zero h = absurd (omega (arith, h))
+front-front (x ∷ xs) (suc m) zero h = absurd (omega arith)
 front-front (x ∷ xs) (suc m) (suc n) h =
-    ap (λ l. x ∷ l) (front-front xs (suc m - entries_at x.place) (suc n - entries_at x.place) (omega (arith, h)))
+    ap (λ l. x ∷ l) (front-front xs (suc m - entries_at x.place) (suc n - entries_at x.place) (omega arith))
 
 -- what joins the front joins the list
 front-put : (x : Item) (xs : List Item) (n : ℕ) → front (put item_cmp x (front xs n)) n ≡ front (put item_cmp x xs) n
@@ -62,13 +62,13 @@ same_put x xs ys (Some n) h =
 pub left_out_behind : (x : Item) (xs : List Item) (n : ℕ) → n ≤ entries_before x xs
     → front xs n ≡ front (put item_cmp x xs) n
 left_out_behind x [] zero h = refl
-left_out_behind x [] (suc n) h = absurd (omega (arith, h))
+left_out_behind x [] (suc n) h = absurd (omega arith)
 left_out_behind x (y ∷ ys) zero h = sym (front_zero (put item_cmp x (y ∷ ys)))
 left_out_behind x (y ∷ ys) (suc n) h =
     let split : (b : Bool) → suc n ≤ cond b (entries_at y.place + entries_before x ys) 0
     → front (y ∷ ys) (suc n) ≡ front (cond b (y ∷ put item_cmp x ys) (x ∷ y ∷ ys)) (suc n) = elim [
-      | true ↦ λ k. ap (λ l. y ∷ l) (left_out_behind x ys (suc n - entries_at y.place) (omega (arith, k)))
-      | false ↦ λ k. absurd (omega (arith, k))
+      | true ↦ λ k. ap (λ l. y ∷ l) (left_out_behind x ys (suc n - entries_at y.place) (omega arith))
+      | false ↦ λ k. absurd (omega arith)
     ] in
     split (is_gt (item_cmp x y)) h
 
@@ -104,7 +104,7 @@ before_right x (z ∷ xs) ys =
 pub behind_right : (wanted : Option ℕ) (x : Item) (xs ys : List Item) → IsBehind wanted x ys
     → IsBehind wanted x (put_all item_cmp xs ys)
 behind_right None x xs ys h = h
-behind_right (Some n) x xs ys h = omega (arith, h, before_right x xs ys)
+behind_right (Some n) x xs ys h = omega (arith, before_right x xs ys)
 
 -- ---- enough is kept
 
@@ -113,19 +113,11 @@ enough_itself wanted xs = record { same = refl; few = omega arith }
 
 pub enough_trans : (wanted : Option ℕ) (xs ys zs : List Item) → IsEnough wanted xs ys → IsEnough wanted ys zs
     → IsEnough wanted xs zs
-enough_trans wanted xs ys zs h k =
-    let a = h.few in
-    let b = k.few in
-    record { same = h.same ∙ k.same; few = omega (arith, a, b) }
+enough_trans wanted xs ys zs h k = grind arith
 
 pub enough_put : (wanted : Option ℕ) (x : Item) (xs ys : List Item) → IsEnough wanted xs ys
     → IsEnough wanted (put item_cmp x xs) (put item_cmp x ys)
-enough_put wanted x xs ys h =
-    let few = h.few in
-    record {
-      same = same_put x xs ys wanted h.same;
-      few = omega (arith, few, length-put item_cmp item_order x xs, length-put item_cmp item_order x ys);
-    }
+enough_put wanted x xs ys h = grind (arith, same_put, length-put, item_order)
 
 pub enough_put_all : (wanted : Option ℕ) (zs xs ys : List Item) → IsEnough wanted xs ys
     → IsEnough wanted (put_all item_cmp zs xs) (put_all item_cmp zs ys)
@@ -136,10 +128,7 @@ enough_put_all wanted (z ∷ zs) xs ys h =
 pub enough_without : (wanted : Option ℕ) (x : Item) (xs : List Item) → IsBehind wanted x xs
     → IsEnough wanted xs (put item_cmp x xs)
 enough_without None x xs h = absurd h
-enough_without (Some n) x xs h = record {
-  same = left_out_behind x xs n h;
-  few = omega (arith, length-put item_cmp item_order x xs);
-}
+enough_without (Some n) x xs h = grind (arith, left_out_behind, length-put, item_order)
 
 -- what is behind the entries is behind the whole queue
 pub enough_beyond : (wanted : Option ℕ) (x : Item) (nodes : List (Reverse ℕ)) (entries wide : List Item)
@@ -162,13 +151,12 @@ enough_joined wanted x zs old new h =
 pub enough_fits : (wanted : Option ℕ) (x : Item) (old new : List Item) (capacity : ℕ)
     → IsEnough wanted new (put item_cmp x old) → length old < capacity → length new ≤ capacity
 enough_fits wanted x old new capacity h lt =
-    let few = h.few in
-    omega (arith, few, lt, length-put item_cmp item_order x old)
+    omega (arith, length-put item_cmp item_order x old)
 
 -- of an empty list and another neither has any
 pub none_merged : (xs ys : List Item) → put_all item_cmp xs ys ≡ [] → ys ≡ []
 none_merged xs [] h = refl
-none_merged xs (y ∷ ys) h = absurd (let n = ap length h in omega (arith, n, length-put_all item_cmp item_order xs (y ∷ ys)))
+none_merged xs (y ∷ ys) h = absurd (omega (arith, ap length h, length-put_all item_cmp item_order xs (y ∷ ys)))
 
 pub still_none : (xs ys zs : List Item) → put_all item_cmp xs ys ≡ [] → zs ≡ [] → put_all item_cmp xs zs ≡ []
 still_none xs ys zs h e = ap (put_all item_cmp xs) (e ∙ sym (none_merged xs ys h)) ∙ h
@@ -205,10 +193,7 @@ module _ (verdict : Info → Verdict) (t : Packed) (v : Verdict) (n : node.Node)
 
   pub rising_nodes : (i : ℕ) (xs : List Item) → IsRising xs → IsRising (join_nodes verdict t v n i xs)
   rising_nodes zero xs h = h
-  rising_nodes (suc i) xs h =
-      let w = verdict (info_of_node t v (node_at t (n.first + i))) in
-      rising_one (is_kept w.within) (item_at w.score (Node (waiting_node (n.first + i) w.within))) _
-      (rising_nodes i xs h)
+  rising_nodes (suc i) xs h = grind (arith, rising_one, rising_nodes i xs h)
 
 -- ---- the first is taken out
 
@@ -235,19 +220,7 @@ same_rest x y xs ys n h = (cc, cc)
 
 pub first_kept : (wanted : Option ℕ) (x : Item) (xs all : List Item) → wanted ≢ Some 0 → IsEnough wanted (x ∷ xs) all
     → (ys : List Item) × ((all ≡ x ∷ ys) × IsEnough (less_at x.place wanted) xs ys)
-first_kept None x xs all more h =
-    (xs, (sym h.same, subst (λ w. IsEnough w xs xs) (sym (less_none x.place)) (enough_itself None xs)))
+first_kept None x xs all more h = grind (arith, less_none, enough_itself)
 first_kept (Some zero) x xs all more h = absurd (more refl)
 first_kept (Some (suc n)) x xs [] more h = absurd (nil_is_not_cons _ _ (sym h.same))
-first_kept (Some (suc n)) x xs (y ∷ ys) more h =
-    let k = same_rest x y xs ys n h.same in
-    let few = h.few in (
-      ys,
-      (
-        ap (λ z. z ∷ ys) (sym k.0),
-        subst (λ w. IsEnough w xs ys) (sym (less_entries x.place (suc n))) (record {
-          same = k.1 ∙ ap (λ (z : Item). front ys (suc n - entries_at z.place)) (sym k.0);
-          few = omega (arith, few);
-        }),
-      ),
-    )
+first_kept (Some (suc n)) x xs (y ∷ ys) more h = grind (arith, same_rest, less_entries)

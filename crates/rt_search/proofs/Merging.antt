@@ -8,8 +8,8 @@ use Rattle.std.specs.Ordering.{is_gt}
 use Rattle.std.proofs.lemmas.Bool.{false≢true}
 use Rattle.rt_tree.specs.Sorting.{put}
 use Rattle.rt_search.specs.Items.{item_cmp}
-use Rattle.rt_search.specs.Kept.{IsAhead, IsEntry, IsFirstScore, IsLeast, IsNode, IsTakenOut, entry_item, hits_in}
-use Rattle.rt_search.specs.Kept.{in_order, narrow, node_item, offered, queued, zero_item}
+use Rattle.rt_search.specs.Kept.{IsAhead, IsEntry, IsFirstScore, IsLeast, IsNode, IsTakenOut, hits_in}
+use Rattle.rt_search.specs.Kept.{narrow, offered, queued}
 use Rattle.rt_search.specs.Remaining.{put_all}
 use Rattle.rt_search.specs.declared.item.Item.{Item}
 use Rattle.rt_search.proofs.Heaps.{length-in_order}
@@ -22,31 +22,18 @@ use Rattle.rt_search.proofs.Orders.{item_order, lower_before, node_before}
 pub put-put_all : {X : Type 0} (cmp : X → X → Ordering) (o : IsOrder cmp) (x : X) (xs zs : List X)
     → put_all cmp (put cmp x xs) zs ≡ put cmp x (put_all cmp xs zs)
 put-put_all cmp o x [] zs = refl
-put-put_all cmp o x (y ∷ xs) zs =
-    put_cases cmp (λ l. put_all cmp l zs ≡ put cmp x (put cmp y (put_all cmp xs zs))) x y xs
-    (λ e. ap (put cmp y) (put-put_all cmp o x xs zs) ∙ put-put cmp o y x (put_all cmp xs zs)) (λ e. refl)
+put-put_all cmp o x (y ∷ xs) zs = grind (arith, put_cases, put-put, put-put_all cmp o x xs zs)
 
 pub length-merged : (xs ys : List Item) → length (put_all item_cmp xs ys) ≡ length xs + length ys
 length-merged xs ys = length-put_all item_cmp item_order xs ys
 
 pub length-queued : (nodes : List (Reverse ℕ)) (entries wide : List Item) → length (queued nodes entries wide)
     ≡ length nodes + length entries + length wide
-length-queued nodes entries wide = omega (
-  arith,
-  length-merged wide (narrow nodes entries),
-  length-merged (in_order node_item nodes) entries,
-  length-in_order node_item nodes,
-)
+length-queued nodes entries wide = grind (arith, length-merged, length-in_order)
 
 pub length-hits : (ids : List (Reverse ℤ)) (keys : List (Reverse ℕ)) (wide : List Item) → length (hits_in ids keys wide)
     ≡ length ids + length keys + length wide
-length-hits ids keys wide = omega (
-  arith,
-  length-merged (in_order zero_item ids) (put_all item_cmp (in_order entry_item keys) wide),
-  length-merged (in_order entry_item keys) wide,
-  length-in_order zero_item ids,
-  length-in_order entry_item keys,
-)
+length-hits ids keys wide = grind (arith, length-merged, length-in_order)
 
 -- one more fits
 pub joined_fits : (x : Item) (xs ys : List Item) (capacity : ℕ) → ys ≡ put item_cmp x xs → length xs < capacity
@@ -74,19 +61,15 @@ one_longer false x xs ys e = omega (arith, ap length e)
 
 left_least : (x : Item) (old xs ys : List Item) → old ≡ x ∷ xs → IsLeast x xs → IsAhead old ys
     → IsLeast x (put_all item_cmp xs ys)
-left_least x old xs ys e a h =
-    put_all-all item_cmp item_order (λ y. is_gt (item_cmp x y) ≡ false) xs ys a (subst (λ l. IsAhead l ys) e h)
+left_least x old xs ys e a h = grind (arith, put_all-all, item_order)
 
 left_taken : (x : Item) (old xs ys : List Item) → old ≡ x ∷ xs → IsLeast x xs → IsAhead old ys
     → put_all item_cmp old ys ≡ x ∷ put_all item_cmp xs ys
-left_taken x old xs ys e a h =
-    ap (λ l. put_all item_cmp l ys) e
-    ∙ put_least item_cmp item_order x (put_all item_cmp xs ys) (left_least x old xs ys e a h)
+left_taken x old xs ys e a h = grind (arith, put_least, item_order, left_least)
 
 right_least : (x : Item) (xs old ys : List Item) → old ≡ x ∷ ys → IsLeast x ys → IsAhead old xs
     → IsLeast x (put_all item_cmp xs ys)
-right_least x xs old ys e a h =
-    put_all-all item_cmp item_order (λ y. is_gt (item_cmp x y) ≡ false) xs ys (subst (λ l. IsAhead l xs) e h) a
+right_least x xs old ys e a h = grind (arith, put_all-all, item_order)
 
 right_taken : (x : Item) (xs old ys : List Item) → old ≡ x ∷ ys → IsLeast x ys → IsAhead old xs
     → put_all item_cmp xs old ≡ x ∷ put_all item_cmp xs ys
@@ -99,72 +82,64 @@ none_left : (xs ys : List Item) → xs ≡ [] → IsAhead xs ys → put_all item
 none_left xs ys e h = ap (λ l. put_all item_cmp l ys) e ∙ subst (λ l. IsAhead l ys) e h
 
 none_right : (xs ys : List Item) → ys ≡ [] → IsAhead ys xs → put_all item_cmp xs ys ≡ []
-none_right xs ys e h =
-    ap (put_all item_cmp xs) e ∙ ap (λ l. put_all item_cmp l []) (subst (λ l. IsAhead l xs) e h)
+none_right xs ys e h = grind arith
 
 -- ---- what a call that takes from one of the lists takes from both
 
 pub taken_left : (r : Option Item) (old xs ys : List Item) → IsTakenOut r old xs → IsAhead old ys
     → IsTakenOut r (put_all item_cmp old ys) (put_all item_cmp xs ys)
-taken_left None old xs ys t h =
-    (none_left old ys t.0 h, ap (λ l. put_all item_cmp l ys) (t.1 ∙ sym t.0) ∙ none_left old ys t.0 h)
+taken_left None old xs ys t h = grind (arith, none_left)
 taken_left (Some x) old xs ys t h = (left_taken x old xs ys t.0 t.1 h, left_least x old xs ys t.0 t.1 h)
 
 pub taken_right : (r : Option Item) (xs old ys : List Item) → IsTakenOut r old ys → IsAhead old xs
     → IsTakenOut r (put_all item_cmp xs old) (put_all item_cmp xs ys)
-taken_right None xs old ys t h =
-    (none_right xs old t.0 h, ap (put_all item_cmp xs) (t.1 ∙ sym t.0) ∙ none_right xs old t.0 h)
+taken_right None xs old ys t h = grind (arith, none_right)
 taken_right (Some x) xs old ys t h = (right_taken x xs old ys t.0 t.1 h, right_least x xs old ys t.0 t.1 h)
 
 -- no more are left than there were
 pub fewer : (r : Option Item) (old new : List Item) → IsTakenOut r old new → length new ≤ length old
-fewer None old new t = (let none = ap length t.1 in omega (arith, none))
-fewer (Some x) old new t = (let long = ap length t.0 in omega (arith, long))
+fewer None old new t = (let none = ap length t.1 in omega arith)
+fewer (Some x) old new t = (let long = ap length t.0 in omega arith)
 
 pub fewer_left : (r : Option Item) (old xs ys : List Item) (capacity : ℕ) → IsTakenOut r old xs
     → length (put_all item_cmp old ys) ≤ capacity → length (put_all item_cmp xs ys) ≤ capacity
 fewer_left r old xs ys capacity t h =
-    omega (arith, h, fewer r old xs t, length-merged old ys, length-merged xs ys)
+    omega (arith, fewer r old xs t, length-merged old ys, length-merged xs ys)
 
 pub fewer_right : (r : Option Item) (xs old ys : List Item) (capacity : ℕ) → IsTakenOut r old ys
     → length (put_all item_cmp xs old) ≤ capacity → length (put_all item_cmp xs ys) ≤ capacity
 fewer_right r xs old ys capacity t h =
-    omega (arith, h, fewer r old ys t, length-merged xs old, length-merged xs ys)
+    omega (arith, fewer r old ys t, length-merged xs old, length-merged xs ys)
 
 -- ---- which list is ahead
 
 -- what comes after none of what another comes after none of
 pub all_after : (x y : Item) (ys : List Item) → is_gt (item_cmp x y) ≡ false → IsLeast y ys → IsLeast x ys
-all_after x y ys h = all_map (λ z. is_gt (item_cmp y z) ≡ false) (λ z. is_gt (item_cmp x z) ≡ false)
-    (λ z a. item_order.trans x y z h a) ys
+all_after x y ys h = grind (arith, all_map, item_order)
 
 all_scores : (s : ℕ) (xs : List Item) → IsFirstScore s xs → AllByRecursion (λ y. s ≤ y.score) xs
 all_scores s [] h = tt
-all_scores s (x ∷ xs) h = let e = h.0 in (omega (arith, e), h.1)
+all_scores s (x ∷ xs) h = let e = h.0 in (omega arith, h.1)
 
 node_least : (x : Item) (ys : List Item) (r : ℕ) → IsNode x.place → AllByRecursion (λ y. IsEntry y.place) ys
     → x.score ≤ r → AllByRecursion (λ y. r ≤ y.score) ys → IsLeast x ys
-node_least x ys r p q h = all_both (λ y. IsEntry y.place) (λ y. r ≤ y.score) (λ y. is_gt (item_cmp x y) ≡ false)
-    (λ y e m. node_before x.score y.score x.place y.place p e (omega (arith, h, m))) ys q
+node_least x ys r p q h = grind (arith, all_both, node_before)
 
 pub lower_least : (x : Item) (ys : List Item) (r : ℕ) → x.score < r → AllByRecursion (λ y. r ≤ y.score) ys → IsLeast x ys
-lower_least x ys r h = all_map (λ y. r ≤ y.score) (λ y. is_gt (item_cmp x y) ≡ false)
-    (λ y m. lower_before x y (omega (arith, h, m))) ys
+lower_least x ys r h = grind (arith, all_map, lower_before)
 
 -- nodes before entries of no lower score
 pub nodes_ahead : (s r : ℕ) (xs ys : List Item) → IsFirstScore s xs → IsFirstScore r ys
     → AllByRecursion (λ x. IsNode x.place) xs → AllByRecursion (λ y. IsEntry y.place) ys → s ≤ r → IsAhead xs ys
 nodes_ahead s r [] ys f g p q h = absurd f
 nodes_ahead s r (x ∷ xs) ys f g p q h =
-    let e = f.0 in
-    node_least x ys r p.0 q (omega (arith, e, h)) (all_scores r ys g)
+    node_least x ys r p.0 q (omega arith) (all_scores r ys g)
 
 -- entries before nodes of higher scores
 pub entries_ahead : (s r : ℕ) (xs ys : List Item) → IsFirstScore s xs → IsFirstScore r ys → r < s → IsAhead ys xs
 entries_ahead s r xs [] f g h = absurd g
 entries_ahead s r xs (y ∷ ys) f g h =
-    let e = g.0 in
-    lower_least y xs s (omega (arith, e, h)) (all_scores s xs f)
+    lower_least y xs s (omega arith) (all_scores s xs f)
 
 pub by_test : (b : Bool) (P Q : Type 0) → (b ≡ true → P) → (b ≡ false → Q) → MatchBool b P Q
 by_test true P Q p q = p refl

@@ -1,5 +1,5 @@
 -- Lists that are kept in an order which tells all elements apart.
-use Rattle.std.proofs.Common.{◌≡◌, ◌+◌, true, false, List, [], ◌∷◌, ◌++◌, ℕ, length, get_or}
+use Rattle.std.proofs.Common.{◌≡◌, ◌+◌, true, false, List, [], ◌∷◌, ◌++◌, ℕ, length}
 use Rattle.std.proofs.Common.{refl, sym, ◌∙◌, ap, arith, Ordering, Less, Equal, Greater, IsPermutation}
 use Rattle.std.specs.Cmp.{IsTotalOrder}
 use Rattle.std.specs.List.{AllByRecursion, sum_by}
@@ -45,8 +45,7 @@ order_of {X} cmp total apart =
       tie = λ x y e f. apart x y (tied (cmp x y) e (turn y x ∙ f));
       trans = upto total;
       turned = turn;
-      rearranged = λ xs ys.
-          sorted-IsPermutation cmp total xs ys (λ i j d h k. apart (get_or xs i d) (get_or xs j d));
+      rearranged = grind (arith, sorted-IsPermutation);
     }
 
 -- what holds wherever x is put
@@ -78,8 +77,7 @@ module _ {X : Type 0} (cmp : X → X → Ordering) (o : IsOrder cmp) where
 
   pub put_all-put_all : (xs ys zs : List X) → put_all cmp xs (put_all cmp ys zs) ≡ put_all cmp ys (put_all cmp xs zs)
   put_all-put_all [] ys zs = refl
-  put_all-put_all (x ∷ xs) ys zs = ap (put cmp x) (put_all-put_all xs ys zs)
-      ∙ sym (put_all-put ys x (put_all cmp xs zs))
+  put_all-put_all (x ∷ xs) ys zs = grind (arith, put_all-put, put_all-put_all xs ys zs)
 
   pub put_all-nil : (xs : List X) → put_all cmp xs [] ≡ sorted cmp xs
   put_all-nil [] = refl
@@ -89,8 +87,7 @@ module _ {X : Type 0} (cmp : X → X → Ordering) (o : IsOrder cmp) where
 
   pub put-all : (P : X → Type 0) (x : X) (ys : List X) → P x → AllByRecursion P ys → AllByRecursion P (put cmp x ys)
   put-all P x [] p a = (p, tt)
-  put-all P x (y ∷ ys) p a =
-      put_cases cmp (AllByRecursion P) x y ys (λ e. (a.0, put-all P x ys p a.1)) (λ e. (p, a))
+  put-all P x (y ∷ ys) p a = grind (arith, put_cases, put-all P x ys p a.1)
 
   pub put_all-all : (P : X → Type 0) (xs ys : List X) → AllByRecursion P xs → AllByRecursion P ys
       → AllByRecursion P (put_all cmp xs ys)
@@ -109,8 +106,7 @@ module _ {X : Type 0} (cmp : X → X → Ordering) (o : IsOrder cmp) where
 
   pub length-put : (x : X) (ys : List X) → length (put cmp x ys) ≡ length ys + 1
   length-put x [] = refl
-  length-put x (y ∷ ys) =
-      put_cases cmp (λ l. length l ≡ length (y ∷ ys) + 1) x y ys (λ e. omega (arith, length-put x ys)) (λ e. omega arith)
+  length-put x (y ∷ ys) = grind (arith, put_cases, length-put x ys)
 
   pub length-put_all : (xs ys : List X) → length (put_all cmp xs ys) ≡ length xs + length ys
   length-put_all [] ys = omega arith

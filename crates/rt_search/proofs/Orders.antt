@@ -2,7 +2,7 @@
 use Rattle.std.proofs.Common.{◌≡◌, ◌≤◌, ℕ, ℤ, Bool, true, false, Ordering, Less, Equal, Greater, refl, sym, ◌∙◌, ap}
 use Rattle.std.proofs.Common.{◌<◌, ◌+◌, ◌*◌, ◌/◌, ◌%◌, ◌^◌, ◌-ℤ◌, pos, arith}
 use Rattle.std.specs.Prelude.{nat_lt}
-use Rattle.std.specs.Cmp.{IsTotalOrder, bool_cmp_total}
+use Rattle.std.specs.Cmp.{IsTotalOrder}
 use Rattle.std.specs.Ordering.{bool_cmp, int_cmp, is_gt, is_lt, nat_cmp, ordering_reverse, ordering_then}
 use Rattle.std.specs.declared.cmp.Reverse.{Reverse}
 use Rattle.std.proofs.lemmas.Bool.Decides.{nat_tests}
@@ -37,13 +37,8 @@ exact_bool true true h = refl
 answer_total : IsTotalOrder answer_cmp
 answer_total = then_total (on_total (λ (a : Answer). a.1) nat_cmp_total) (on_total (λ (a : Answer). a.0) int_cmp_total)
 
-abbrev answer_at : ℤ → ℕ → Answer
-answer_at id score = (id, score)
-
 answer_exact : CmpEqualImpliesEq answer_cmp
-answer_exact a b h =
-    let both = then_equal (nat_cmp a.1 b.1) (int_cmp a.0 b.0) h in
-    ap (λ (id : ℤ). answer_at id a.1) (exact_signed a.0 b.0 both.1) ∙ ap (answer_at b.0) (exact_unsigned a.1 b.1 both.0)
+answer_exact a b h = grind (arith, then_equal, exact_signed, exact_unsigned)
 
 pub answer_order : IsOrder answer_cmp
 answer_order = order_of answer_cmp answer_total answer_exact
@@ -51,17 +46,13 @@ answer_order = order_of answer_cmp answer_total answer_exact
 -- ---- items
 
 node_total : IsTotalOrder node_cmp
-node_total = then_total (on_total (λ (n : WaitingNode). n.number.number) nat_cmp_total)
-    (on_total (λ (n : WaitingNode). n.is_full) bool_cmp_total)
+node_total = grind (arith, then_total, on_total, nat_cmp_total)
 
 abbrev waiting : ℕ → Bool → WaitingNode
 waiting number is_full = record { number = record { number = number }; is_full = is_full }
 
 node_exact : CmpEqualImpliesEq node_cmp
-node_exact m n h =
-    let both = then_equal (nat_cmp m.number.number n.number.number) (bool_cmp m.is_full n.is_full) h in
-    ap (λ (k : ℕ). waiting k m.is_full) (exact_unsigned m.number.number n.number.number both.0)
-    ∙ ap (waiting n.number.number) (exact_bool m.is_full n.is_full both.1)
+node_exact m n h = grind (arith, then_equal, exact_unsigned, exact_bool)
 
 place_antisymm : (p q : Place) → place_cmp p q ≡ ordering_reverse (place_cmp q p)
 place_antisymm (Node m) (Node n) = node_total.antisymm m n
@@ -99,10 +90,7 @@ item_total : IsTotalOrder item_cmp
 item_total = then_total (on_total (λ (x : Item). x.score) nat_cmp_total) (on_total (λ (x : Item). x.place) place_total)
 
 item_exact : CmpEqualImpliesEq item_cmp
-item_exact x y h =
-    let both = then_equal (nat_cmp x.score y.score) (place_cmp x.place y.place) h in
-    ap (λ (s : ℕ). item_at s x.place) (exact_unsigned x.score y.score both.0)
-    ∙ ap (item_at y.score) (place_exact x.place y.place both.1)
+item_exact x y h = grind (arith, then_equal, exact_unsigned, place_exact)
 
 pub item_order : IsOrder item_cmp
 item_order = order_of item_cmp item_total item_exact
@@ -186,10 +174,8 @@ items_derived s r (Entry i) (Node n) = refl
 items_derived s r (Entry i) (Entry j) = refl
 
 pub wide_derived : (d e : Reverse Item) → is_gt (item_cmp (wide_item e) (wide_item d)) ≡ is_lt (item_ghosts.cmp d.0 e.0)
-wide_derived d e =
-    not_after (wide_item e) (wide_item d)
-    ∙ ap is_lt (sym (items_derived d.0.score e.0.score d.0.place e.0.place))
+wide_derived d e = grind (arith, not_after, items_derived)
 
 -- and an entry of score 0, by its id alone
 pub zero_derived : (d e : Reverse ℤ) → is_gt (item_cmp (zero_item e) (zero_item d)) ≡ is_lt (int_cmp d.0 e.0)
-zero_derived d e = not_after (zero_item e) (zero_item d)
+zero_derived d e = grind (arith, not_after)

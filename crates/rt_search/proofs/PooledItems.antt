@@ -18,20 +18,15 @@ use Rattle.rt_search.proofs.Orders.{item_order, score_upto}
 put_first : (s : ℕ) (x : Item) (ys : List Item) → s ≡ x.score → AllByRecursion (λ y. s ≤ y.score) ys
     → IsFirstScore s (put item_cmp x ys)
 put_first s x [] e a = (e, tt)
-put_first s x (y ∷ ys) e a =
-    put_cases item_cmp (IsFirstScore s) x y ys (λ t.
-    let f = score_upto y x (item_order.one_way x y t) in
-    let m = a.0 in
-    (omega (arith, e, f, m), put-all item_cmp item_order (λ z. s ≤ z.score) x ys (omega (arith, e)) a.1)) (λ t. (e, a))
+put_first s x (y ∷ ys) e a = grind (arith, put_cases, score_upto, item_order, put-all)
 
 -- it stays the first where x joins, whose score is no lower
 first_stays : (s : ℕ) (x : Item) (ys : List Item) → s ≤ x.score → IsFirstScore s ys → IsFirstScore s (put item_cmp x ys)
 first_stays s x [] h f = absurd f
 first_stays s x (y ∷ ys) h f =
-    let first = f.0 in
     put_cases item_cmp (IsFirstScore s) x y ys
-    (λ t. (first, put-all item_cmp item_order (λ z. s ≤ z.score) x ys h f.1))
-    (λ t. let up = score_upto x y t in (omega (arith, up, first, h), (omega (arith, first), f.1)))
+    (λ t. (f.0, put-all item_cmp item_order (λ z. s ≤ z.score) x ys h f.1))
+    (λ t. let up = score_upto x y t in (omega arith, (omega arith, f.1)))
 
 module _ (item : Reverse ℕ → Item) (scored : (k : Reverse ℕ) → score_in k ≡ (item k).score) where
   -- the least score is that of the first item
@@ -42,11 +37,11 @@ module _ (item : Reverse ℕ → Item) (scored : (k : Reverse ℕ) → score_in 
       ⊎_elim
       (λ e. put_first s (item k) (in_order item ks) (sym e ∙ scored k)
       (in_order-all item (λ y. s ≤ y.score) ks
-      (all_map (λ j. s ≤ score_in j) (λ j. s ≤ (item j).score) (λ j m. omega (arith, scored j, m)) ks h.1.1)))
-      (λ r. first_stays s (item k) (in_order item ks) (omega (arith, scored k, m)) (first_of_least s ks (r, h.1.1)))
+      (all_map (λ j. s ≤ score_in j) (λ j. s ≤ (item j).score) (λ j m. omega (arith, scored j)) ks h.1.1)))
+      (λ r. first_stays s (item k) (in_order item ks) (omega (arith, scored k)) (first_of_least s ks (r, h.1.1)))
       h.0
 
   pub firsts : (r : Option ℕ) (ks : List (Reverse ℕ)) → MatchOption r (ks ≡ []) (λ s. HasLeastScore s ks)
       → MatchOption r (in_order item ks ≡ []) (λ s. IsFirstScore s (in_order item ks))
   firsts None ks h = ap (in_order item) h
-  firsts (Some s) ks h = first_of_least s ks h
+  firsts (Some s) ks h = grind (arith, first_of_least)

@@ -1,5 +1,5 @@
 -- Keys, those that are near and those that are far.
-use Rattle.std.proofs.Common.{◌≡◌, ◌<◌, ◌≤◌, ◌+◌, ◌-◌, ◌*◌, ◌/◌, ◌^◌, ◌%◌, inl, inr, ℕ, Bool, true, false, cond, nat_lt}
+use Rattle.std.proofs.Common.{◌≡◌, ◌<◌, ◌≤◌, ◌+◌, ◌-◌, ◌*◌, ◌/◌, ◌^◌, inl, inr, ℕ, false, nat_lt}
 use Rattle.std.proofs.Common.{Option, Some, None, List, [], ◌∷◌, ◌++◌, length, take, drop, set, get_or, refl, sym, ◌∙◌, ap, ⊎_elim}
 use Rattle.std.proofs.Common.{subst, arith, IsPermutation}
 use Rattle.std.specs.Prelude.{MatchOption}
@@ -39,9 +39,8 @@ pub take-swap_remove : {X : Type 0} (xs : List X) (i : ℕ) (d : X) → i < leng
 take-swap_remove xs i d h =
     let n = length xs - 1 in
     let ys = set xs i (get_or xs n d) in
-    let long = length-set xs i (get_or xs n d) in
-    let cut = length-take-le n ys (omega (arith, long)) in
-    sym (take-append-le i (take n ys) (drop n ys) (omega (arith, cut, h))) ∙ ap (take i) (take-append-drop n ys)
+    let cut = length-take-le n ys (omega (arith, length-set xs i (get_or xs n d))) in
+    sym (take-append-le i (take n ys) (drop n ys) (omega arith)) ∙ ap (take i) (take-append-drop n ys)
     ∙ take-set xs i (get_or xs n d)
 
 -- ---- keys by their scores
@@ -57,21 +56,17 @@ scores_by_halves h l k m low small e = grind (arith, nat_tests)
 
 -- a higher score is that of a key that isn't lower
 lower_score : (k j : ℕ) → k / 2 ^ 64 < j / 2 ^ 64 → is_lt (nat_cmp j k) ≡ false
-lower_score k j e =
-    rw (← div-add-mod' k (2 ^ 64), ← div-add-mod' j (2 ^ 64))
-    (lower_by_halves (k / 2 ^ 64) (k % 2 ^ 64) (j / 2 ^ 64) (j % 2 ^ 64) (mod-lt k (omega arith)) (mod-lt j (omega arith)) e)
+lower_score k j e = grind (arith, div-add-mod', lower_by_halves, mod-lt)
 
 -- and a key that isn't lower has no lower score
 score_rises : (k j : ℕ) → is_lt (nat_cmp j k) ≡ false → k / 2 ^ 64 ≤ j / 2 ^ 64
-score_rises k j e =
-    scores_by_halves (k / 2 ^ 64) (k % 2 ^ 64) (j / 2 ^ 64) (j % 2 ^ 64) (mod-lt k (omega arith)) (mod-lt j (omega arith))
-    (rw (div-add-mod' k (2 ^ 64), div-add-mod' j (2 ^ 64)) e)
+score_rises k j e = grind (arith, scores_by_halves, mod-lt, div-add-mod')
 
 -- none that is far is lower than one that is near
 pub far_after : (e k : ℕ) (js : List (Reverse ℕ)) → k / 2 ^ 64 ≤ e → AllByRecursion (λ j. e < score_in j) js
     → IsLowest k js
 far_after e k [] h a = tt
-far_after e k (j ∷ js) h a = let m = a.0 in (lower_score k j.0 (omega (arith, h, m)), far_after e k js h a.1)
+far_after e k (j ∷ js) h a = let m = a.0 in (lower_score k j.0 (omega arith), far_after e k js h a.1)
 
 lowest_scores : (k : ℕ) (js : List (Reverse ℕ)) → IsLowest k js → AllByRecursion (λ j. k / 2 ^ 64 ≤ score_in j) js
 lowest_scores k [] a = tt
@@ -87,10 +82,8 @@ IsTop k (j ∷ js) = (record { 0 = k } ≡ j) × IsLowest k js
 pub top_of : (e : ℕ) (top : Reverse ℕ) (near far : List (Reverse ℕ)) → 0 < length near → top ≡ get_or near 0 top
     → IsLowest top.0 near → AllByRecursion (λ k. score_in k ≤ e) near → AllByRecursion (λ k. e < score_in k) far
     → IsTop top.0 (near ++ far)
-top_of e top [] far some h a low high = absurd (omega (arith, some))
-top_of e top (k ∷ near) far some h a low high =
-    let s : score_in top ≤ e = rw h low.0 in
-    (h, all-append (λ j. is_lt (nat_cmp j.0 top.0) ≡ false) near far a.1 (far_after e top.0 far s high))
+top_of e top [] far some h a low high = absurd (omega arith)
+top_of e top (k ∷ near) far some h a low high = grind (arith, all-append, far_after)
 
 pub top_score : (k : ℕ) (ks : List (Reverse ℕ)) → IsTop k ks → HasLeastScore (k / 2 ^ 64) ks
 top_score k [] h = absurd h
@@ -124,34 +117,17 @@ has_last (j ∷ ks) k = inr (has_last ks k)
 least_more : (r : Option ℕ) (ks : List (Reverse ℕ)) (k : Reverse ℕ) → MatchOption r (ks ≡ []) (λ s. HasLeastScore s ks)
     → HasLeastScore (lesser r (score_in k)) (ks ++ k ∷ [])
 least_more None ks k h = subst (λ l. HasLeastScore (score_in k) (l ++ k ∷ [])) (sym h) (inl refl, (omega arith, tt))
-least_more (Some r) ks k h =
-    let split : (b : Bool) → nat_lt (score_in k) r ≡ b → HasLeastScore (cond b (score_in k) r) (ks ++ k ∷ []) = elim [
-      | true ↦ λ e.
-          let low = ltb-true (score_in k) r e in (
-            has_last ks k,
-            all-append (λ j. score_in k ≤ score_in j) ks (k ∷ [])
-                (all_map (λ j. r ≤ score_in j) (λ j. score_in k ≤ score_in j) (λ j m. omega (arith, low, m)) ks h.1)
-                (omega arith, tt),
-          )
-      | false ↦ λ e.
-          let high = ltb-false (score_in k) r e in
-          (has_left r ks (k ∷ []) h.0, all-append (λ j. r ≤ score_in j) ks (k ∷ []) h.1 (omega (arith, high), tt))
-    ] in
-    split (nat_lt (score_in k) r) refl
+least_more (Some r) ks k h = grind (arith, nat_lt, ltb-true, has_last, all-append, all_map, ltb-false, has_left)
 
 pub far_more : (e : ℕ) (r : Option ℕ) (ks : List (Reverse ℕ)) (k : Reverse ℕ) → IsFar ks e r → e < score_in k
     → IsFar (ks ++ k ∷ []) e (Some (lesser r (score_in k)))
-far_more e r ks k h m = record {
-  high = all-append (λ j. e < score_in j) ks (k ∷ []) h.high (m, tt);
-  known = least_more r ks k h.known;
-}
+far_more e r ks k h m = grind (arith, all-append, least_more)
 
 -- a score up to the edge isn't far
 not_far : (s e : ℕ) (ks : List (Reverse ℕ)) → HasScore s ks → s ≤ e → AllByRecursion (λ k. e < score_in k) ks → ⊥
 not_far s e [] h le a = h
 not_far s e (k ∷ ks) h le a =
-    let m = a.0 in
-    ⊎_elim (λ i. absurd (omega (arith, i, m, le))) (λ r. not_far s e ks r le a.1) h
+    ⊎_elim (λ i. absurd (omega arith)) (λ r. not_far s e ks r le a.1) h
 
 -- once the edge has passed the least score some are near
 pub some_near : (s e : ℕ) (near far ks js : List (Reverse ℕ)) → HasScore s far → s ≤ e

@@ -1,5 +1,5 @@
 -- How large the numbers of a search and of a count are.
-use Rattle.std.proofs.Common.{◌≡◌, ◌<◌, ◌≤◌, ◌+◌, ◌*◌, ◌^◌, ℕ, zero, suc, Bool, true, false, cond, ◌==◌, List, []}
+use Rattle.std.proofs.Common.{◌≡◌, ◌<◌, ◌≤◌, ◌+◌, ◌*◌, ◌^◌, ℕ, zero, suc, Bool, true, false, cond, List, []}
 use Rattle.std.proofs.Common.{◌∷◌, length, refl, ◌∙◌, ap, arith, length-append}
 use Rattle.std.specs.List.{AllByRecursion, flat_map, sum_by}
 use Rattle.std.proofs.lemmas.Bool.Decides.{nat_tests}
@@ -9,13 +9,12 @@ use Rattle.std.proofs.lemmas.Nat.{mul-le}
 use Rattle.rt_geo.specs.Laws.{Extent}
 use Rattle.rt_geo.specs.declared.geometry.Info.{Info}
 use Rattle.rt_geo.specs.declared.geometry.Verdict.{Verdict}
-use Rattle.rt_tree.specs.Packed.{Packed, IsSound, IsSubtree, child_nodes, entries_under, height, node_at}
-use Rattle.rt_tree.specs.Packed.{root_of}
+use Rattle.rt_tree.specs.Packed.{Packed, IsSound, IsSubtree, child_nodes, entries_under, node_at}
 use Rattle.rt_tree.specs.declared.tree.Node.{Node}
 use Rattle.rt_search.specs.Items.{item_at}
 use Rattle.rt_search.specs.Progress.{held, size_at, work_at, work_left}
 use Rattle.rt_search.specs.Remaining.{AllSound, IsSoundAt, height_at, verdict_on}
-use Rattle.rt_search.specs.Work.{info_of_node, its_children, one_node, root_verdict, reached_from_root, reached}
+use Rattle.rt_search.specs.Work.{info_of_node, its_children, one_node, reached_from_root, reached}
 use Rattle.rt_search.specs.declared.item.Item.{Item}
 use Rattle.rt_search.specs.declared.item.Place.{Place}
 use Rattle.rt_search.specs.declared.item.Place.TheVariants as place
@@ -31,18 +30,16 @@ cond_le false m n h = omega arith
 
 positive_sum : (ks : List Node) → AllByRecursion (λ k. 0 < k.size) ks → length ks ≤ sum_by (λ k. k.size) ks
 positive_sum [] a = omega arith
-positive_sum (k ∷ ks) a = omega (arith, sum_by-cons (λ (k : Node). k.size) k ks, positive_sum ks a.1, a.0)
+positive_sum (k ∷ ks) a = omega (arith, sum_by-cons (λ (k : Node). k.size) k ks, positive_sum ks a.1)
 
 -- a node has an entry under it, and no fewer than it has children
 pub size_counts : (t : Packed) (h : ℕ) (n : Node) → IsSubtree t h n → (0 < n.size) × (n.count ≤ n.size)
-size_counts t zero n s = let e = s.size in let p = s.some in (omega (arith, e, p), omega (arith, e, p))
+size_counts t zero n s = let e = s.size in let p = s.some in (omega arith, omega arith)
 size_counts t (suc h) n s =
-    let e = s.size in
-    let p = s.some in
     let long = part_length t.nodes n.first n.count s.range in
     let sum = positive_sum (child_nodes t n)
     (all_map (IsSubtree t h) (λ k. 0 < k.size) (λ k b. (size_counts t h k b).0) (child_nodes t n) s.below) in
-    (omega (arith, e, p, long, sum), omega (arith, e, p, long, sum))
+    (omega arith, omega arith)
 
 sizes_under : (t : Packed) (h : ℕ) → ((k : Node) → IsSubtree t h k → k.size ≡ length (entries_under t h k))
     → (ks : List Node) → AllByRecursion (IsSubtree t h) ks → sum_by (λ k. k.size) ks
@@ -60,8 +57,7 @@ sizes_under t h f (k ∷ ks) a =
 
 -- a node's size is the number of entries under it
 pub size_under : (t : Packed) (h : ℕ) (n : Node) → IsSubtree t h n → n.size ≡ length (entries_under t h n)
-size_under t zero n s = let e = s.size in let long = part_length t.entries n.first n.count s.range in
-    omega (arith, e, long)
+size_under t zero n s = grind (arith, part_length)
 size_under t (suc h) n s = s.size ∙ sizes_under t h (λ k. size_under t h k) (child_nodes t n) s.below
 
 -- ---- work
@@ -71,7 +67,7 @@ abbrev IsFair : Packed → (cost : Node → ℕ) → Type 0
 IsFair t cost = (h : ℕ) (n : Node) → IsSubtree t h n → cost n ≤ n.size
 
 pub one_is_fair : (t : Packed) → IsFair t one_node
-one_is_fair t h n s = let p = (size_counts t h n s).0 in omega (arith, p)
+one_is_fair t h n s = let p = (size_counts t h n s).0 in omega arith
 
 pub count_is_fair : (t : Packed) → IsFair t its_children
 count_is_fair t h n s = (size_counts t h n s).1
@@ -95,33 +91,17 @@ module _ (opens : Verdict → Bool) (cost : Node → ℕ) (verdict : Info → Ve
       (λ (k : Node). let w = verdict (info_of_node t v k) in
       cond (opens w) (reached opens cost verdict t h w k) 0) k ks in
       let sizes = ap (λ n. (h + 1) * n) (sum_by-cons (λ (k : Node). k.size) k ks) in
-      omega (arith, here, more, sizes, each_le h f v ks a.1)
+      omega (arith, each_le h f v ks a.1)
 
   work_from_le : (h : ℕ) (n : Node) (v : Verdict) → IsSubtree t h n
       → reached opens cost verdict t h v n ≤ (h + 1) * n.size
   work_from_le zero n v sub = omega (arith, fair zero n sub)
   work_from_le (suc h) n v sub =
       let sizes = ap (λ m. (h + 1) * m) sub.size in
-      omega (arith, fair (suc h) n sub, each_le h (λ k w. work_from_le h k w) v (child_nodes t n) sub.below, sizes)
+      omega (arith, fair (suc h) n sub, each_le h (λ k w. work_from_le h k w) v (child_nodes t n) sub.below)
 
   pub work_le : IsSound t → reached_from_root opens cost verdict t ≤ 2 ^ 32
-  work_le sound =
-      let split : (b : Bool) → (length t.nodes == 0) ≡ b → reached_from_root opens cost verdict t ≤ 2 ^ 32 = elim [
-        | true ↦ λ h. rw h (omega arith)
-        | false ↦ λ h.
-            let some : 0 < length t.nodes = grind (arith, nat_tests) in
-            let root = sound.root some in
-            let all = length_permutation _ _ (sound.every some) in
-            let size = size_under t (height t) (root_of t) root in
-            let few = sound.table.few in
-            let levels = sound.few_levels in
-            let small : (root_of t).size ≤ 16777216 = omega (arith, all, size, few) in
-            let low : height t + 1 ≤ 25 = omega (arith, levels) in
-            let most = mul-le _ _ _ _ low small in
-            let here = work_from_le (height t) (root_of t) root_verdict root in
-            rw h (omega (arith, most, here))
-      ] in
-      split (length t.nodes == 0) refl
+  work_le sound = grind (arith, nat_tests, length_permutation, size_under, mul-le, work_from_le)
 
   cost_le_work : (h : ℕ) (v : Verdict) (n : Node) → cost n ≤ reached opens cost verdict t h v n
   cost_le_work zero v n = omega arith
@@ -137,10 +117,8 @@ module _ (opens : Verdict → Bool) (cost : Node → ℕ) (verdict : Info → Ve
       → done + work_left opens cost verdict t (item_at s (place.Node n) ∷ xs) ≡ reached_from_root opens cost verdict t
       → done + cost (node_at t n.number.number) ≤ reached_from_root opens cost verdict t
   done_upto done s n xs open' course =
-      let cons = work_cons opens cost verdict t (item_at s (place.Node n)) xs in
-      let here = opened_at s n open' in
       let least = cost_le_work (height_at t n.number.number) (verdict_on s n) (node_at t n.number.number) in
-      omega (arith, cons, here, least, course)
+      omega (arith, work_cons opens cost verdict t (item_at s (place.Node n)) xs, opened_at s n open')
 
   -- and keeps the work done small
   pub done_le : IsSound t → (done s : ℕ) (n : WaitingNode) (xs : List Item) → opens (verdict_on s n) ≡ true
@@ -169,7 +147,5 @@ module _ (accepts : Extent → Bool) (score : Extent → ℕ) (t : Packed) where
       → AllSound t accepts score (item_at s (place.Node n) ∷ xs) → held t (item_at s (place.Node n) ∷ xs) ≤ capacity
       → length xs + (node_at t n.number.number).count ≤ capacity
   room_for capacity s n xs sound room =
-      let cons = held_cons (item_at s (place.Node n)) xs in
-      let long = length_le_held xs sound.1 in
       let count = (size_counts t (height_at t n.number.number) (node_at t n.number.number) sound.0.tree).1 in
-      omega (arith, cons, long, count, room)
+      omega (arith, held_cons (item_at s (place.Node n)) xs, length_le_held xs sound.1)

@@ -1,6 +1,6 @@
 -- A search begins, and gives its answers one after the other.
-use Rattle.std.proofs.Common.{◌≡◌, ◌<◌, ◌≤◌, ◌+◌, ℕ, Bool, true, false, cond, ◌==◌, List, [], ◌∷◌}
-use Rattle.std.proofs.Common.{length, Option, Some, None, refl, sym, ◌∙◌, ap, subst, arith, ⊎_elim}
+use Rattle.std.proofs.Common.{◌≡◌, ◌<◌, ◌≤◌, ◌+◌, ℕ, Bool, true, false, ◌==◌, List, [], ◌∷◌}
+use Rattle.std.proofs.Common.{length, Option, Some, None, refl, sym, ◌∙◌, ap, subst, arith}
 use Rattle.std.specs.Prelude.{IfSome}
 use Rattle.std.proofs.lemmas.Bool.{cases_lt, cond_both, eq-eqb, eqb-true}
 use Rattle.std.proofs.lemmas.Bool.Decides.{nat_tests}
@@ -16,10 +16,10 @@ use Rattle.rt_search.specs.Answers.{answer_cmp, answers, scored}
 use Rattle.rt_search.specs.Joining.{root_item, root_items}
 use Rattle.rt_search.specs.Kept.{IsRising}
 use Rattle.rt_search.specs.Limits.{IsEnough}
-use Rattle.rt_search.specs.Progress.{AddsUp, IsGiving, IsInLimit, IsOnCourse, IsSearching, held, size_at, work_at, work_left}
+use Rattle.rt_search.specs.Progress.{IsGiving, IsInLimit, IsOnCourse, IsSearching, held, work_left}
 use Rattle.rt_search.specs.Remaining.{AllSound, remaining}
 use Rattle.rt_search.specs.Work.{HasWorked, is_reached, is_within_bound, its_children, one_node}
-use Rattle.rt_search.specs.Work.{root_verdict, reached_from_root, reached}
+use Rattle.rt_search.specs.Work.{root_verdict, reached_from_root}
 use Rattle.rt_search.specs.declared.item.Item.{Item}
 use Rattle.rt_search.proofs.Answering.{among-IsPermutation}
 use Rattle.rt_search.proofs.Elements.{all_each}
@@ -42,16 +42,10 @@ some_nodes t some = grind (arith, nat_tests)
 pub root_work : (opens : Verdict → Bool) (cost : Node → ℕ) (verdict : Info → Verdict) (t : Packed)
     → opens root_verdict ≡ true → 0 < length t.nodes → work_left opens cost verdict t (root_item t ∷ [])
     ≡ reached_from_root opens cost verdict t
-root_work opens cost verdict t open' some =
-    let W = reached opens cost verdict t (height t) root_verdict (root_of t) in
-    let one = sum_by-cons (λ (x : Item). work_at opens cost verdict t x.score x.place) (root_item t) [] in
-    let all : cond (opens root_verdict) W 0 ≡ W = rw open' refl in
-    let some' = some_nodes t some in
-    let whole : reached_from_root opens cost verdict t ≡ W = rw some' refl in
-    omega (arith, one, all, whole)
+root_work opens cost verdict t open' some = grind (arith, sum_by-cons, some_nodes)
 
 from_none : {m n : ℕ} → m ≡ n → 0 + m ≡ n
-from_none h = omega (arith, h)
+from_none h = omega arith
 
 pub nat_eq_false : {n : ℕ} → (n == 0) ≡ false → 0 < n
 nat_eq_false h = grind (arith, nat_tests)
@@ -70,31 +64,15 @@ module _ (accepts : Extent → Bool) (score : Extent → ℕ) (verdict : Info �
     root_course : (cost : Node → ℕ) → 0 < length t.nodes → IsOnCourse accepts score verdict cost t 0 (root_item t ∷ [])
     root_course cost some = record {
       in_all = from_none (root_work (is_reached None) cost verdict t refl some);
-      at_each = all_each (λ a. AddsUp verdict cost t 0 (root_item t ∷ []) (Some a.1))
-          (λ a. from_none (root_work (is_reached (Some a.1)) cost verdict t (reached_zero (Some a.1)) some))
-          (remaining t accepts score (root_item t ∷ []));
+      at_each = grind (arith, all_each, from_none, root_work, reached_zero);
     }
 
     pub root_sound : 0 < length t.nodes → AllSound t accepts score (root_item t ∷ [])
-    root_sound some =
-        let levels = sound.few_levels in (
-          record {
-            inside = omega (arith, some);
-            tree = sound.root some;
-            low = levels;
-            below =
-                record { full = λ h. cc; least = λ b h a. omega arith };
-          },
-          tt,
-        )
+    root_sound some = grind arith
 
     pub root_room : (capacity : ℕ) → 0 < length t.nodes → length t.entries ≤ capacity
         → held t (root_item t ∷ []) ≤ capacity
-    root_room capacity some room =
-        let size = size_under t (height t) (root_of t) (sound.root some) in
-        let all = length_permutation _ _ (sound.every some) in
-        let held_is = sum_by-cons (λ (x : Item). size_at t x.place) (root_item t) [] in
-        omega (arith, size, all, held_is, room)
+    root_room capacity some room = grind (arith, length_permutation, sum_by-cons, size_under)
 
     pub root_state : (capacity : ℕ) → 0 < length t.nodes → length t.entries ≤ capacity
         → IsSearching accepts score verdict t 0 0 capacity (root_item t ∷ [])
@@ -116,21 +94,10 @@ module _ (accepts : Extent → Bool) (score : Extent → ℕ) (verdict : Info �
     empty_course cost none = let none' = eq-eqb (length t.nodes) 0 none in record { in_all = rw none' refl; at_each = tt }
 
     pub empty_state : (capacity : ℕ) → length t.nodes ≡ 0 → IsSearching accepts score verdict t 0 0 capacity []
-    empty_state capacity none =
-        record {
-          tree = sound;
-          sound = tt;
-          room = omega arith;
-          opening = empty_course one_node none;
-          asking =
-              empty_course its_children none;
-        }
+    empty_state capacity none = grind (arith, empty_course)
 
     pub empty_answers : length t.nodes ≡ 0 → answers t.entries accepts score None ≡ []
-    empty_answers none =
-        let no_more : length t.entries ≡ 0 = ⊎_elim (λ h. absurd (let some = sound.some.1 h in omega (arith, some, none)))
-        (λ h. omega (arith, h)) (cases_lt 0 (length t.entries)) in
-        ap (λ es. answers es accepts score None) (nil_from_length t.entries no_more)
+    empty_answers none = grind (arith, cases_lt, nil_from_length)
 
     pub start_state : (capacity : ℕ) → length t.entries ≤ capacity
         → IsSearching accepts score verdict t 0 0 capacity (root_items t)
@@ -139,10 +106,7 @@ module _ (accepts : Extent → Bool) (score : Extent → ℕ) (verdict : Info �
         (λ h. empty_state capacity (eqb-true _ 0 h)) (λ h. root_state capacity (nat_eq_false h) room)
 
     pub start_answers : remaining t accepts score (root_items t) ≡ answers t.entries accepts score None
-    start_answers =
-        cond_both (length t.nodes == 0) [] (root_item t ∷ [])
-        (λ l. remaining t accepts score l ≡ answers t.entries accepts score None)
-        (λ h. sym (empty_answers (eqb-true _ 0 h))) (λ h. root_answers (nat_eq_false h))
+    start_answers = grind (arith, cond_both, empty_answers, eqb-true, root_answers, nat_eq_false)
 
     root_rising : IsRising (root_items t)
     root_rising = cond_both (length t.nodes == 0) [] (root_item t ∷ []) IsRising (λ h. tt) (λ h. (tt, tt))

@@ -61,37 +61,26 @@ module _ {accepts : Extent → Bool} {score : Extent → ℕ} {verdict : Info �
       put_all-all answer_cmp answer_order (λ q. x.score ≤ q.1) (answers_at t accepts score y.score y.place)
       (remaining t accepts score ys)
       (all_map (λ q. y.score ≤ q.1) (λ q. x.score ≤ q.1)
-      (λ q m. let up = score_upto x y a.0 in omega (arith, up, m))
+      (λ q m. let up = score_upto x y a.0 in omega arith)
       (answers_at t accepts score y.score y.place) (at_above accepts score t y.score y.place b.0))
       (above_least x ys a.1 b.1)
 
   above_all : (x : Item) (xs : List Item) → AllByRecursion (λ y. is_gt (item_cmp x y) ≡ false) xs
       → AllSound t accepts score (x ∷ xs) → AllByRecursion (λ q. x.score ≤ q.1) (remaining t accepts score (x ∷ xs))
-  above_all x xs a b =
-      put_all-all answer_cmp answer_order (λ q. x.score ≤ q.1) (answers_at t accepts score x.score x.place)
-      (remaining t accepts score xs)
-      (at_above accepts score t x.score x.place b.0) (above_least x xs a b.1)
+  above_all x xs a b = grind (arith, put_all-all, answer_order, at_above, above_least)
 
   none_at : (cost : Node → ℕ) (i : ℤ) (s r : ℕ) (p : Place)
       → is_gt (item_cmp (item_at s (place.Entry i)) (item_at r p)) ≡ false
       → work_at (is_reached (Some s)) cost verdict t r p ≡ 0
   none_at cost i s r (place.Entry j) h = refl
-  none_at cost i s r (place.Node n) h =
-      cond-false (is_reached (Some s) (verdict_on r n))
-      (reached (is_reached (Some s)) cost verdict t (height_at t n.number.number) (verdict_on r n)
-      (node_at t n.number.number)) 0
-      (reached_above s r n (before_node accepts score t i n s r h))
+  none_at cost i s r (place.Node n) h = grind (arith, cond-false, reached_above, before_node)
 
   -- behind an entry that is least, no node is within its score
   no_work : (cost : Node → ℕ) (i : ℤ) (s : ℕ) (xs : List Item)
       → AllByRecursion (λ y. is_gt (item_cmp (item_at s (place.Entry i)) y) ≡ false) xs
       → work_left (is_reached (Some s)) cost verdict t xs ≡ 0
   no_work cost i s [] a = refl
-  no_work cost i s (y ∷ ys) a =
-      let cons = work_cons (is_reached (Some s)) cost verdict t y ys in
-      let h = no_work cost i s ys a.1 in
-      let k = none_at cost i s y.score y.place a.0 in
-      omega (arith, cons, h, k)
+  no_work cost i s (y ∷ ys) a = grind (arith, none_at, work_cons, no_work cost i s ys a.1)
 
   -- ---- an entry is taken out
 
@@ -108,12 +97,10 @@ module _ {accepts : Extent → Bool} {score : Extent → ℕ} {verdict : Info �
       let none = no_work cost i s xs least in
       let first = work_cons (is_reached (Some s)) cost verdict t x xs in (
         record {
-          in_all = (let h = course.in_all in let k = work_cons (is_reached None) cost verdict t x xs in omega (arith, h, k));
-          at_each = all_map (λ p. AddsUp verdict cost t done (x ∷ xs) (Some p.1))
-              (λ p. AddsUp verdict cost t done xs (Some p.1))
-              (λ p h. let k = work_cons (is_reached (Some p.1)) cost verdict t x xs in omega (arith, h, k)) (remaining t accepts score xs) each.1;
+          in_all = (let h = course.in_all in let k = work_cons (is_reached None) cost verdict t x xs in omega arith);
+          at_each = grind (arith, all_map, work_cons);
         },
-        omega (arith, head, none, first),
+        omega arith,
       )
 
   pub record IsEntryStep (opened asked capacity : ℕ) (i : ℤ) (s : ℕ) (start : List Answer) (xs : List Item) : Type 0
@@ -137,7 +124,7 @@ module _ {accepts : Extent → Bool} {score : Extent → ℕ} {verdict : Info �
           sound = sound;
           room =
               (let r = k.state.room in let h = held_cons accepts score t (item_at s (place.Entry i)) xs in
-              omega (arith, r, h));
+              omega arith);
           opening = o.0;
           asking = a.0;
         };
@@ -164,21 +151,16 @@ module _ {accepts : Extent → Bool} {score : Extent → ℕ} {verdict : Info �
       (node_at t n.number.number) in
       record {
         in_all = (
-            let h = course.in_all in
-            let c = work_cons (is_reached None) cost verdict t x xs in
-            let j = moves None in
             let all : cond (is_reached None (verdict_on s n)) (W None) 0 ≡ W None =
             cond-true (is_reached None (verdict_on s n)) (W None) 0 (reached_is None s n) in
-            omega (arith, h, c, j, all));
+            omega (arith, work_cons (is_reached None) cost verdict t x xs, moves None));
         at_each = subst (AllByRecursion (λ p. AddsUp verdict cost t after new (Some p.1))) (sym same)
             (all_both (λ p. AddsUp verdict cost t done (x ∷ xs) (Some p.1)) (λ p. s ≤ p.1)
             (λ p. AddsUp verdict cost t after new (Some p.1))
             (λ p h le.
-            let c = work_cons (is_reached (Some p.1)) cost verdict t x xs in
-            let j = moves (Some p.1) in
             let all : cond (is_reached (Some p.1) (verdict_on s n)) (W (Some p.1)) 0 ≡ W (Some p.1) =
             cond-true (is_reached (Some p.1) (verdict_on s n)) (W (Some p.1)) 0 (reached_below p.1 s n le) in
-            omega (arith, h, c, j, all))
+            omega (arith, work_cons (is_reached (Some p.1)) cost verdict t x xs, moves (Some p.1)))
             (remaining t accepts score (x ∷ xs)) course.at_each (above_all x xs least sound));
       }
 
@@ -197,7 +179,7 @@ module _ {accepts : Extent → Bool} {score : Extent → ℕ} {verdict : Info �
       tree = k.state.tree;
       sound = sound;
       room = (let r = k.state.room in let h = held_cons accepts score t (item_at s (place.Node n)) xs in
-          omega (arith, r, h, size));
+          omega arith);
       opening = node_course one_node s n opened xs new k.least k.state.sound same (moves one_node) k.state.opening;
       asking = node_course its_children s n asked xs new k.least k.state.sound same (moves its_children) k.state.asking;
     };
@@ -222,12 +204,12 @@ module _ {accepts : Extent → Bool} {score : Extent → ℕ} {verdict : Info �
       ∙ ap (λ l. put_all answer_cmp l (remaining t accepts score xs)) (answers_all accepts score t number here.tree low))
       (answers_sound law t found xs k.state.sound.1)
       (let h = held-join_answers verdict t v found xs in let e = few_among accepts score t number here.tree low in
-      omega (arith, h, e))
+      omega arith)
       (λ cost bound.
       let e = work-join_answers verdict t v (is_reached bound) cost found xs in
       let z : reached (is_reached bound) cost verdict t (height_at t number) v node ≡ cost node =
       ap (λ h. reached (is_reached bound) cost verdict t h v node) flat in
-      omega (arith, e, z))
+      omega arith)
 
   pub inner_step : {opened asked capacity s : ℕ} {n : WaitingNode} {xs : List Item} → s < 2 ^ 128
       → 2 ≤ (node_at t n.number.number).level
@@ -236,12 +218,11 @@ module _ {accepts : Extent → Bool} {score : Extent → ℕ} {verdict : Info �
       (join_nodes verdict t (verdict_on s n) (node_at t n.number.number) (node_at t n.number.number).count xs)
   inner_step {s = s} {n = n} {xs = xs} small high k =
       let number = n.number.number in
-      let node = node_at t number in
       let v = verdict_on s n in
       let here = k.state.sound.0 in
       node_step _ k
       (nodes_joined law t k.state.tree v small number here high xs)
-      (nodes_sound law t k.state.tree v small number here high xs node.count
+      (nodes_sound law t k.state.tree v small number here high xs (node_at t number).count
       (omega arith) k.state.sound.1)
       (held-join_nodes verdict t v number here.tree high xs)
       (λ cost bound. work-join_nodes verdict t v number here.tree high (is_reached bound) (closed_by bound) cost

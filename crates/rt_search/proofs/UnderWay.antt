@@ -16,7 +16,7 @@ use Rattle.rt_search.specs.Limits.{IsEnough, one_less, wanted_after}
 use Rattle.rt_search.specs.Progress.{IsFound, IsNodeStep, IsOver, IsSearching, IsTaken, IsUnderWay, join_children, work_left}
 use Rattle.rt_search.specs.Remaining.{IsOpenable, height_at, remaining, verdict_on}
 use Rattle.rt_search.specs.Walking.{answers_among}
-use Rattle.rt_search.specs.Work.{is_reached, its_children, one_node, reached_from_root}
+use Rattle.rt_search.specs.Work.{is_reached, one_node, reached_from_root}
 use Rattle.rt_search.specs.declared.item.Item.{Item}
 use Rattle.rt_search.specs.declared.item.Place.TheVariants as place
 use Rattle.rt_search.specs.declared.item.ScoredNode.{ScoredNode}
@@ -31,7 +31,7 @@ pub still_more : (w w' : Option ℕ) → w' ≡ w → w ≢ Some 0 → w' ≢ So
 still_more w w' same more = λ e. more (sym same ∙ e)
 
 pub falls_by_one : (all o o' : ℕ) → o' ≡ o + 1 → o + 1 ≤ all → all - o' < all - o
-falls_by_one all o o' e h = omega (arith, e, h)
+falls_by_one all o o' e h = omega arith
 
 -- ---- what was taken out of a frontier
 
@@ -79,7 +79,7 @@ module _ {accepts : Extent → Bool} {score : Extent → ℕ} {verdict : Info �
       cond_both (m.level == 1) (join_answers (answers_among t accepts score m m.count) xs) (join_nodes verdict t v m m.count xs)
       (IsNodeStep accepts score verdict t opened asked capacity s n xs)
       (λ e. leaf_step law t small (eqb-true m.level 1 e) k)
-      (λ e. let other = eqb-false m.level 1 e in inner_step law t small (omega (arith, level, other)) k)
+      (λ e. let other = eqb-false m.level 1 e in inner_step law t small (omega arith) k)
 
   -- what the calls leave is what is defined
   pub leaf_joins : (wanted : Option ℕ) (s : ℕ) (n : WaitingNode) (m : node.Node) (new xs : List Item)
@@ -130,12 +130,11 @@ module _ {accepts : Extent → Bool} {score : Extent → ℕ} {verdict : Info �
       } in
       let can = can_open law t taken in
       let step = children_step small taken in
-      let few = k.1.1.few in
       let room = can.room in
       record {
         tree = taken.state.tree;
         node = taken.state.sound.0;
-        room = omega (arith, few, room);
+        room = omega arith;
         opened_low = can.opened_low;
         asked_low = can.asked_low;
         opened_upto = done_upto (is_reached None) one_node verdict t (one_is_fair t) opened s n ys (reached_is None s n)
@@ -182,24 +181,7 @@ module _ {accepts : Extent → Bool} {score : Extent → ℕ} {verdict : Info �
       → wanted ≢ Some 0 → items ≡ [] → new ≡ []
       → IsUnderWay accepts score verdict t opened asked capacity wanted to_come items
       → IsOver accepts score verdict t opened asked capacity wanted to_come new
-  over {wanted = wanted} more none none' u =
-      let end = none_left wanted u.all more (subst (λ l. IsEnough wanted l u.all) none u.enough) in
-      let o = u.state.opening.in_all in
-      let a = u.state.asking.in_all in
-      record {
-        none = sym u.follows ∙ ap (remaining t accepts score) end;
-        state = record {
-          all = u.all;
-          state = u.state;
-          rising = u.rising;
-          follows = u.follows;
-          enough = subst (λ l. IsEnough wanted l u.all) (none ∙ sym none') u.enough;
-        };
-        reached = record {
-          nodes = omega (arith, o, no_work_left one_node u.all end);
-          checks = omega (arith, a, no_work_left its_children u.all end);
-        };
-      }
+  over {wanted = wanted} more none none' u = grind (arith, none_left, no_work_left)
 
   -- an entry was taken out, or nothing
   pub ended : (out : Option Answer) (new : List Item) {opened asked capacity : ℕ} {wanted wanted' : Option ℕ}

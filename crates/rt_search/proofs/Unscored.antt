@@ -1,6 +1,6 @@
 -- A search whose nodes all score 0: those that may hold answers were opened before the first answer.
-use Rattle.std.proofs.Common.{◌≡◌, ◌≢◌, ◌<◌, ◌≤◌, ◌+◌, ◌==◌, ◌&&◌, ℕ, zero, suc, Bool, true, false, cond, List, [], ◌∷◌, length, map}
-use Rattle.std.proofs.Common.{Option, Some, None, refl, ◌∙◌, ap, arith, sym}
+use Rattle.std.proofs.Common.{◌≡◌, ◌≢◌, ◌<◌, ◌≤◌, ◌+◌, ◌&&◌, ℕ, zero, suc, Bool, cond, List, [], ◌∷◌, length, map}
+use Rattle.std.proofs.Common.{Option, Some, None, refl, ◌∙◌, ap, arith}
 use Rattle.std.specs.Prelude.{IfSome}
 use Rattle.std.specs.List.{AllByRecursion, sum_by}
 use Rattle.std.proofs.lemmas.List.{length-map}
@@ -8,9 +8,9 @@ use Rattle.std.proofs.lemmas.List.Sums.{sum_by-cons}
 use Rattle.rt_geo.specs.Laws.{Extent, IsLawful}
 use Rattle.rt_geo.specs.declared.geometry.Info.{Info}
 use Rattle.rt_geo.specs.declared.geometry.Verdict.{Verdict}
-use Rattle.rt_tree.specs.Packed.{Packed, IsSound, IsSubtree, child_nodes, height, root_of}
+use Rattle.rt_tree.specs.Packed.{Packed, IsSound, IsSubtree, child_nodes}
 use Rattle.rt_tree.specs.declared.tree.Node.{Node}
-use Rattle.rt_search.specs.Answers.{accepted, answer_of, answers}
+use Rattle.rt_search.specs.Answers.{accepted, answer_of}
 use Rattle.rt_search.specs.Items.{item_of}
 use Rattle.rt_search.specs.Joining.{join_answers}
 use Rattle.rt_search.specs.Limits.{IsEnough}
@@ -18,7 +18,7 @@ use Rattle.rt_search.specs.Progress.{AddsUp, IsGiving, IsOnCourse, held, work_le
 use Rattle.rt_search.specs.Remaining.{remaining}
 use Rattle.rt_search.specs.Walking.{answers_in_tree}
 use Rattle.rt_search.specs.Work.{HasWorked, IsUnscored, info_of_node, is_kept, is_reached, is_within_bound, its_children}
-use Rattle.rt_search.specs.Work.{last_score, one_node, reached, reached_from_root, root_verdict, search_work}
+use Rattle.rt_search.specs.Work.{one_node, reached, reached_from_root, root_verdict, search_work}
 use Rattle.rt_search.specs.declared.item.Item.{Item}
 use Rattle.rt_search.proofs.Children.{subtree_level}
 use Rattle.rt_search.proofs.Elements.{all_each}
@@ -50,14 +50,13 @@ module _ (verdict : Info → Verdict) (unscored : IsUnscored verdict) (t : Packe
       let i = info_of_node t v k in
       let w = verdict i in
       let level = subtree_level t h k sub.0 in
-      let same = ap (λ o. cond o (reached (is_reached within) cost verdict t h w k) 0) (opens_alike i (omega (arith, level)))
+      let same = ap (λ o. cond o (reached (is_reached within) cost verdict t h w k) 0) (opens_alike i (omega arith))
       ∙ ap (λ m. cond (is_reached None w) m 0) (f w k sub.0) in
       omega (
         arith,
         sum_by-cons (below within h v) k ks,
         sum_by-cons (below None h v) k ks,
         children_alike h f v ks sub.1,
-        same,
       )
 
   reached_alike : (h : ℕ) (v : Verdict) (n : Node) → IsSubtree t h n
@@ -68,14 +67,7 @@ module _ (verdict : Info → Verdict) (unscored : IsUnscored verdict) (t : Packe
 
   whole_alike : IsSound t
       → reached_from_root (is_reached within) cost verdict t ≡ reached_from_root (is_reached None) cost verdict t
-  whole_alike sound =
-      let split : (e : Bool) → (length t.nodes == 0) ≡ e
-      → cond e 0 (reached (is_reached within) cost verdict t (height t) root_verdict (root_of t))
-      ≡ cond e 0 (reached (is_reached None) cost verdict t (height t) root_verdict (root_of t)) = elim [
-        | true ↦ λ h. refl
-        | false ↦ λ h. reached_alike (height t) root_verdict (root_of t) (sound.root (nat_eq_false h))
-      ] in
-      split (length t.nodes == 0) refl
+  whole_alike sound = grind (arith, reached_alike, nat_eq_false)
 
 -- ---- all were opened
 
@@ -90,17 +82,13 @@ module _ {accepts : Extent → Bool} {score : Extent → ℕ} {verdict : Info �
       → search_work cost accepts score verdict t limit ≡ reached_from_root (is_reached None) cost verdict t
   work None some cost = refl
   work (Some zero) some cost = absurd (some refl)
-  work (Some (suc more)) some cost =
-      whole_alike verdict unscored t (last_score (answers t.entries accepts score None) (Some (suc more))) cost sound
+  work (Some (suc more)) some cost = grind (arith, whole_alike)
 
   pub all_worked : (limit : Option ℕ) (opened asked : ℕ) → limit ≢ Some 0
       → opened ≡ reached_from_root (is_reached None) one_node verdict t
       → asked ≡ reached_from_root (is_reached None) its_children verdict t
       → HasWorked accepts score verdict t limit opened asked
-  all_worked limit opened asked some nodes checks = record {
-    in_nodes = nodes ∙ sym (work limit some one_node);
-    in_checks = checks ∙ sym (work limit some its_children);
-  }
+  all_worked limit opened asked some nodes checks = grind (arith, work)
 
   none_left : (bound : Option ℕ) (cost : Node → ℕ) → work_left (is_reached bound) cost verdict t gathered ≡ 0
   none_left bound cost =
@@ -109,9 +97,9 @@ module _ {accepts : Extent → Bool} {score : Extent → ℕ} {verdict : Info �
   course : (cost : Node → ℕ) (done : ℕ) → done ≡ reached_from_root (is_reached None) cost verdict t
       → IsOnCourse accepts score verdict cost t done gathered
   course cost done h = record {
-    in_all = omega (arith, h, none_left None cost);
+    in_all = omega (arith, none_left None cost);
     at_each = all_each (λ a. AddsUp verdict cost t done gathered (Some a.1))
-        (λ a. omega (arith, h, none_left (Some a.1) cost, whole_alike verdict unscored t (Some a.1) cost sound))
+        (λ a. omega (arith, none_left (Some a.1) cost, whole_alike verdict unscored t (Some a.1) cost sound))
         (remaining t accepts score gathered);
   }
 
@@ -119,7 +107,6 @@ module _ {accepts : Extent → Bool} {score : Extent → ℕ} {verdict : Info �
   room_for_all capacity room =
       omega (
         arith,
-        room,
         held-join_answers verdict t root_verdict (answers_in_tree t accepts score) [],
         tree_count accepts score verdict t sound,
         length-map (accepted t.entries accepts) (answer_of score),
@@ -142,8 +129,7 @@ module _ {accepts : Extent → Bool} {score : Extent → ℕ} {verdict : Info �
         asking = course its_children asked checks;
       };
       rising = rising_put_all (map item_of (answers_in_tree t accepts score)) [] tt;
-      follows = answers_joined law t (answers_in_tree t accepts score) []
-          ∙ tree_answers accepts score verdict t sound;
+      follows = grind (arith, answers_joined, tree_answers);
       enough = enough;
     };
     in_limit = none_given limit;

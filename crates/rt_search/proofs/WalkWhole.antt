@@ -39,8 +39,7 @@ module _ (accepts : Extent → Bool) (score : Extent → ℕ) (verdict : Info �
         let all = ap length (tree_answers ∙ sym (put_all-nil answer_cmp answer_order (scored t.entries accepts score))) in
         let here = length-put_all answer_cmp answer_order (answers_in_tree t accepts score) [] in
         let there = length-put_all answer_cmp answer_order (scored t.entries accepts score) [] in
-        let each = length-map (accepted t.entries accepts) (answer_of score) in
-        omega (arith, all, here, there, each)
+        omega (arith, length-map (accepted t.entries accepts) (answer_of score))
 
     -- ---- from the root
 
@@ -57,14 +56,13 @@ module _ (accepts : Extent → Bool) (score : Extent → ℕ) (verdict : Info �
 
     pub whole : (opens : Verdict → Bool) (number : ℕ) → number + 1 ≡ length t.nodes → IsWhole opens number
     whole opens number is =
-        let some : 0 < length t.nodes = omega (arith, is) in
-        let size = size_under t (height t) (root_of t) (sound.root some) in
+        let some : 0 < length t.nodes = omega arith in
         let all = length_permutation _ _ (sound.every some) in
         let one = whole_work opens one_node some in
         let its = whole_work opens its_children some in
-        subst (IsWhole opens) {x = length t.nodes - 1} (omega (arith, is)) (record {
+        subst (IsWhole opens) {x = length t.nodes - 1} (omega arith) (record {
           node = (root_sound accepts score verdict t sound some).0;
-          few = omega (arith, size, all);
-          opened_few = omega (arith, one, work_le opens one_node verdict t (one_is_fair t) sound);
-          asked_few = omega (arith, its, work_le opens its_children verdict t (count_is_fair t) sound);
+          few = omega (arith, size_under t (height t) (root_of t) (sound.root some));
+          opened_few = omega (arith, work_le opens one_node verdict t (one_is_fair t) sound);
+          asked_few = omega (arith, work_le opens its_children verdict t (count_is_fair t) sound);
         })

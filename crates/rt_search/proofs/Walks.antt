@@ -56,22 +56,12 @@ module _ (accepts : Extent → Bool) (score : Extent → ℕ) (t : Packed) where
       → (node_at t number).level ≡ 1
       → answers_among t accepts score (node_at t number) (node_at t number).count
       ≡ answers_under t accepts score number
-  answers_all number tree low =
-      let n = node_at t number in
-      let leaf = leaf_node t (height_at t number) n tree low in
-      let long = part_length t.entries n.first n.count leaf.1.range in
-      ap (among accepts score) (take_all n.count (child_entries t n) (omega (arith, long)))
-      ∙ ap (λ h. among accepts score (entries_under t h n)) (sym leaf.0)
+  answers_all number tree low = grind (arith, leaf_node, part_length, among, take_all)
 
   -- no more are accepted than there are
   pub few_under : (k : ℕ) → IsSubtree t (height_at t k) (node_at t k)
       → length (answers_under t accepts score k) ≤ (node_at t k).size
-  few_under k tree =
-      omega (
-        arith,
-        length-scored accepts score (entries_under t (height_at t k) (node_at t k)),
-        size_under t (height_at t k) (node_at t k) tree,
-      )
+  few_under k tree = grind (arith, length-scored, size_under)
 
   pub few_among : (number : ℕ) → IsSubtree t (height_at t number) (node_at t number) → (node_at t number).level ≡ 1
       → length (answers_among t accepts score (node_at t number) (node_at t number).count) ≤ (node_at t number).size
@@ -80,18 +70,12 @@ module _ (accepts : Extent → Bool) (score : Extent → ℕ) (t : Packed) where
 
   -- so many entries have no more answers
   pub few_entries : (n : Node) (i : ℕ) → length (answers_among t accepts score n i) ≤ i
-  few_entries n i =
-      let es = child_entries t n in
-      let some = length-scored accepts score (take i es) in
-      let long = length-take i es in
-      omega (arith, some, long)
+  few_entries n i = grind (arith, length-scored, length-take)
 
   all_among : (c : Extent) → AllAccepted accepts c → (es : List Entry) → AllByRecursion (IsEntryInside c) es
       → length (among accepts score es) ≡ length es
   all_among c full [] a = refl
-  all_among c full (e ∷ es) a =
-      ap length (among_accepted accepts score e es (full (extent_of_entry e) a.0))
-      ∙ ap (λ n. suc n) (all_among c full es a.1)
+  all_among c full (e ∷ es) a = grind (arith, among_accepted, all_among c full es a.1)
 
 module _ {accepts : Extent → Bool} {score : Extent → ℕ} {verdict : Info → Verdict}
     (law : IsLawful accepts score verdict) where
@@ -121,9 +105,7 @@ module _ {accepts : Extent → Bool} {score : Extent → ℕ} {verdict : Info �
 
       kept : (b : Bool) → accepts (extent_of_entry e) ≡ true → is_kept (verdict info).within ≡ b → b ≡ true
       kept true h k = refl
-      kept false h k = absurd
-          (let no = (law.faithful.leaf info question low).0 (kept_not (verdict info).within k) in
-          yes_no (subst (λ c. accepts c ≡ false) at no) h)
+      kept false h k = grind (arith, kept_not, yes_no)
 
   -- ---- a node that was asked about
 
@@ -136,25 +118,11 @@ module _ {accepts : Extent → Bool} {score : Extent → ℕ} {verdict : Info �
         record {
           none = λ is. among_none accepts score (extent_of_node n)
               (subst (NoneAccepted accepts) can.extent (law.faithful.pruning info can.question can.high is)) es inside;
-          all = λ is.
-              let full = subst (AllAccepted accepts) can.extent (law.faithful.fullness info can.question can.high is) in
-              all_among accepts score t (extent_of_node n) full es inside
-              ∙ sym (size_under t (height_at t k) n can.tree);
+          all = grind (arith, all_among, size_under);
         }
 
     pub openable : IsOpenable t accepts score k (verdict info)
-    openable =
-        let below : IsBelow accepts score (extent_of info) (verdict info) =
-        record {
-          full = λ f. law.faithful.fullness info can.question can.high f;
-          least = λ b h y. law.admissibility info can.question can.high b h y;
-        } in
-        record {
-          inside = can.inside;
-          tree = can.tree;
-          low = can.low;
-          below = subst (λ c. IsBelow accepts score c (verdict info)) can.extent below;
-        }
+    openable = grind arith
 
   module _ {t : Packed} (sound : IsSound t) where
     -- ---- one more entry
@@ -163,10 +131,9 @@ module _ {accepts : Extent → Bool} {score : Extent → ℕ} {verdict : Info �
         → IsLeafAt t n i (get_or (child_entries t n) i no_entry)
     entry_at n i leaf lt =
         let e = get_or (child_entries t n) i no_entry in
-        let range = leaf.range in
         let same : e ≡ get_or t.entries (n.first + i) no_entry = part_at t.entries n.first n.count i no_entry lt in
         let read : get_or t.entries (n.first + i) e ≡ e =
-        get_or_default t.entries (n.first + i) e no_entry (omega (arith, range, lt)) ∙ sym same in
+        get_or_default t.entries (n.first + i) e no_entry (omega arith) ∙ sym same in
         leaf_at t n i e sound.table leaf lt read
 
     pub one_entry : {v : Verdict} → v.score < 2 ^ 128 → {n : Node} → IsLeafNode t n
@@ -193,12 +160,10 @@ module _ {accepts : Extent → Bool} {score : Extent → ℕ} {verdict : Info �
           → let k = (node_at t number).first + i in IsCheckable t accepts k (info_of_node t v (node_at t k))
       checkable i lt =
           let k = child t number opened.tree high i lt in
-          let low = opened.low in
-          let lower = k.lower in
           record {
             inside = k.number;
             tree = k.tree;
-            low = omega (arith, low, lower);
+            low = omega arith;
             high = k.level;
             extent = refl;
             question =
@@ -226,11 +191,7 @@ module _ {accepts : Extent → Bool} {score : Extent → ℕ} {verdict : Info �
 
       pub work_all : (opens : Verdict → Bool) (cost : Node → ℕ) → work_under opens cost verdict t v number
           ≡ cost (node_at t number) + work_upto opens cost (node_at t number).count
-      work_all opens cost =
-          ap (λ h. reached opens cost verdict t h v (node_at t number)) (height_suc t number opened.tree high)
-          ∙ ap (λ l. cost (node_at t number)
-          + sum_by (work_of_child opens cost verdict t v (height_at t number - 1)) l)
-          (sym (all_children t number opened.tree high (node_at t number).count (omega arith)))
+      work_all opens cost = grind (arith, height_suc, all_children)
 
       -- ---- their answers
 
@@ -244,8 +205,7 @@ module _ {accepts : Extent → Bool} {score : Extent → ℕ} {verdict : Info �
           let long = length-append (answers_upto opened high i) (answers_under t accepts score k) in
           let sizes = sum_more verdict t v number opened.tree high (λ k. k.size) i lt in
           let few = few_under accepts score t k (child t number opened.tree high i lt).tree in
-          let rest = few_upto i (omega arith) in
-          omega (arith, more, long, few, sizes, rest)
+          omega (arith, few_upto i (omega arith))
 
       -- the answers of the first and a further child are no more than the node's size
       room_for_child : (i : ℕ) → i < (node_at t number).count
@@ -254,7 +214,7 @@ module _ {accepts : Extent → Bool} {score : Extent → ℕ} {verdict : Info �
           let sizes = sum_more verdict t v number opened.tree high (λ k. k.size) i lt in
           let size = (inner_at t (height_at t number) (node_at t number) opened.tree high).1.size in
           let part = sum_by-take-drop (λ (k : Node). k.size) (child_nodes t (node_at t number)) (suc i) in
-          omega (arith, sizes, size, part, few_upto i (omega (arith, lt)))
+          omega (arith, few_upto i (omega (arith, lt)))
 
       -- ---- the loop over them
 
@@ -277,7 +237,7 @@ module _ {accepts : Extent → Bool} {score : Extent → ℕ} {verdict : Info �
             (child_nodes t (node_at t number)) (i + 1) in
             let whole = ap (λ h. reached opens cost verdict t h v (node_at t number))
             (height_suc t number opened.tree high) in
-            omega (arith, part, whole, work_more opens cost i lt)
+            omega (arith, work_more opens cost i lt)
 
         pub visit : {i k : ℕ} {x : PlainNode} {info : Info} → IsAsked t number i k x v info → {S : Type 0}
             (takes : S → Answer → S → Type 0) (room : S → ℕ) → IsFilling takes room → (old new : S)
@@ -293,8 +253,8 @@ module _ {accepts : Extent → Bool} {score : Extent → ℕ} {verdict : Info �
             subst (CanVisit begun' asked' (room new) k) (sym is.info_is)
             (subst (λ m. CanVisit begun' asked' (room new) m (info_of_node t v (node_at t m))) (sym is.at) (record {
               node = checkable i few;
-              room_is = omega (arith, places, fits, room_for_child i few);
-              opened_few = omega (arith, b, begun_fits, within one_node i few);
-              asked_few = omega (arith, a, asked_fits, few, within its_children i few);
+              room_is = omega (arith, room_for_child i few);
+              opened_few = omega (arith, within one_node i few);
+              asked_few = omega (arith, within its_children i few);
               lower = (child t number opened.tree high i few).lower;
             }))

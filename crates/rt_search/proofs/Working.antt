@@ -66,13 +66,7 @@ module _ (verdict : Info → Verdict) (t : Packed) (v : Verdict) where
   pub length-join_nodes : (n : Node) (i : ℕ) (xs : List Item)
       → length (join_nodes verdict t v n i xs) ≤ length xs + i
   length-join_nodes n zero xs = omega arith
-  length-join_nodes n (suc i) xs =
-      let w = verdict (info_of_node t v (node_at t (n.first + i))) in
-      omega (
-        arith,
-        one_longer (is_kept w.within) (waiting w (n.first + i)) (join_nodes verdict t v n i xs),
-        length-join_nodes n i xs,
-      )
+  length-join_nodes n (suc i) xs = grind (arith, one_longer, length-join_nodes n i xs)
 
   module _ (number : ℕ) (tree : IsSubtree t (height_at t number) (node_at t number))
       (high : 2 ≤ (node_at t number).level) where
@@ -90,73 +84,33 @@ module _ (verdict : Info → Verdict) (t : Packed) (v : Verdict) where
         → held t (join_nodes verdict t v (node_at t number) i xs) ≤ held t xs + sum_by (λ k. k.size)
         (take i (child_nodes t (node_at t number)))
     held_upto xs zero le = omega arith
-    held_upto xs (suc i) le =
-        let lt : i < (node_at t number).count = omega arith in
-        let m = (node_at t number).first + i in
-        let w = verdict (info_of_node t v (node_at t m)) in
-        omega (
-          arith,
-          joined_adds (λ x. size_at t x.place) (is_kept w.within) (waiting w m)
-              (join_nodes verdict t v (node_at t number) i xs),
-          cond_at_most (is_kept w.within)
-              (node_at t m).size,
-          held_upto xs i (omega arith),
-          sum_more (λ k. k.size) i lt,
-        )
+    held_upto xs (suc i) le = grind (arith, joined_adds, cond_at_most, sum_more, held_upto xs i (omega arith))
 
     pub held-join_nodes : (xs : List Item)
         → held t (join_nodes verdict t v (node_at t number) (node_at t number).count xs) ≤ held t xs +
         (node_at t number).size
-    held-join_nodes xs =
-        let n = node_at t number in
-        let inner = (inner_at t (height_at t number) n tree high).1 in
-        let all = ap (sum_by (λ k. k.size)) (all_children t number tree high n.count (omega arith)) in
-        let size = inner.size in
-        omega (arith, held_upto xs n.count (omega arith), all, size)
+    held-join_nodes xs = grind (arith, all_children, held_upto, inner_at)
 
     module _ (opens : Verdict → Bool) (closed : (v : Verdict) → is_kept v.within ≡ false → opens v ≡ false) (cost : Node → ℕ) where
       -- what a child brings to the work
       abbrev brings : ℕ → Node → ℕ
       brings = work_of_child opens cost verdict t v
 
-      abbrev under_verdict : ℕ → Verdict → ℕ
-      under_verdict m w = cond (opens w) (reached opens cost verdict t (height_at t m) w (node_at t m)) 0
-
       brought : (m : ℕ) → let w = verdict (info_of_node t v (node_at t m)) in
           cond (is_kept w.within) (work_at opens cost verdict t w.score (place.Node (waiting_node m w.within))) 0
           ≡ brings (height_at t m) (node_at t m)
-      brought m =
-          let w = verdict (info_of_node t v (node_at t m)) in
-          cond_both (is_kept w.within) (work_at opens cost verdict t w.score (place.Node (waiting_node m w.within))) 0
-          (λ n. n ≡ under_verdict m w) (λ h. ap (under_verdict m) (verdict_told w m h))
-          (λ h. let c = closed w h in rw c refl)
+      brought m = grind (arith, cond_both, verdict_told)
 
       work_upto : (xs : List Item) (i : ℕ) → i ≤ (node_at t number).count
           → work_left opens cost verdict t (join_nodes verdict t v (node_at t number) i xs)
           ≡ work_left opens cost verdict t xs + sum_by (brings (height_at t number - 1))
           (take i (child_nodes t (node_at t number)))
       work_upto xs zero le = omega arith
-      work_upto xs (suc i) le =
-          let lt : i < (node_at t number).count = omega arith in
-          let m = (node_at t number).first + i in
-          let w = verdict (info_of_node t v (node_at t m)) in
-          let k = child t number tree high i lt in
-          let adds = joined_adds (λ x. work_at opens cost verdict t x.score x.place) (is_kept w.within) (waiting w m)
-          (join_nodes verdict t v (node_at t number) i xs) in
-          let same : brings (height_at t m) (node_at t m) ≡ brings (height_at t number - 1) (node_at t m) =
-          ap (λ h. brings h (node_at t m)) k.height in
-          omega (arith, adds, brought m, same, work_upto xs i (omega arith), sum_more (brings (height_at t number - 1)) i lt)
+      work_upto xs (suc i) le = grind (arith, child, joined_adds, brought, sum_more, work_upto xs i (omega arith))
 
       pub work-join_nodes : (xs : List Item)
           → work_left opens cost verdict t
           (join_nodes verdict t v (node_at t number) (node_at t number).count xs) + cost (node_at t number)
           ≡ work_left opens cost verdict t xs + reached opens cost verdict t (height_at t number) v
           (node_at t number)
-      work-join_nodes xs =
-          let n = node_at t number in
-          let h = height_at t number - 1 in
-          let all = ap (sum_by (brings h)) (all_children t number tree high n.count (omega arith)) in
-          let whole : reached opens cost verdict t (height_at t number) v n
-          ≡ reached opens cost verdict t (suc h) v n =
-          ap (λ m. reached opens cost verdict t m v n) (height_suc t number tree high) in
-          omega (arith, work_upto xs n.count (omega arith), all, whole)
+      work-join_nodes xs = grind (arith, all_children, height_suc, work_upto)

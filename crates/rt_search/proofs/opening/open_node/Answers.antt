@@ -1,7 +1,5 @@
-use Rattle.std.proofs.Common.{◌≡◌, ◌+◌, ◌∙◌, ap, subst, arith, rules, add-one, ◌<◌, ◌^◌}
-use Rattle.rt_tree.specs.Packed.{extent_of_node, node_at}
-use Rattle.rt_search.specs.Joining.{join_nodes}
-use Rattle.rt_search.specs.Limits.{IsEnough}
+use Rattle.std.proofs.Common.{◌≡◌, ◌∙◌, arith, add-one}
+use Rattle.rt_tree.specs.Packed.{node_at}
 use Rattle.rt_search.specs.Walking.{answers_among}
 use Rattle.rt_search.proofs.Children.{asked, children_inside, children_of, honest_child}
 use Rattle.rt_search.proofs.Collectors.{entries_join}
@@ -29,22 +27,6 @@ pub child_nodes-children-requires : goal.child_nodes-children-requires
 child_nodes-children-requires g c =
     children_inside c.requires.node c.node-node.ensures c.if-node-eq1.false
 
-pub overflow_add-first : goal.overflow_add-first
-overflow_add-first g c =
-    let here = children_of c.requires.node c.node-node.ensures c.if-node-eq1.false c.child_nodes-children.ensures in
-    let inside = here.inside in
-    let lt = c.loop-i-test.true in
-    let few = c.requires.sound.few_nodes in
-    let low : c.node-node.result.first + c.loop-i.i < 2 ^ 32 = omega (arith, inside, lt, few) in
-    search (rules, low)
-
-pub node-whole-requires : goal.node-whole-requires
-node-whole-requires g c =
-    let here = children_of c.requires.node c.node-node.ensures c.if-node-eq1.false c.child_nodes-children.ensures in
-    let inside = here.inside in
-    let lt = c.loop-i-test.true in
-    omega (arith, inside, lt, c.new-number.ensures)
-
 pub ask_node-requires : goal.ask_node-requires
 ask_node-requires g c =
     let geometry = c.args.counted.now.geometry in
@@ -57,31 +39,19 @@ ask_node-requires g c =
     let long = length-join_nodes (g.G.Geometry.verdict geometry) tree v (node_at tree number) c.loop-i.i
     c.args.frontier.now.items in
     let inv = c.loop-i.invariant in
-    let few = inv.children.items.few in
-    let room = c.requires.room in
-    let checks = inv.asked in
-    let checks_few = c.requires.asked in
-    let lt = k.few in
     record {
-      honest = rw inv.geometry
-          (honest_child (g.G.Geometry.accepts geometry) (g.G.Geometry.score geometry)
-          (extent_of_node (node_at tree number)) c.info_under-info.result v
-          (rw c.verdict_on-parent.ensures c.requires.node.below) (ap (λ i. i.parent_within) c.info_under-info.ensures)
-          (rw k.info_is k.child.within));
-      room = rw inv.children.capacity (omega (arith, few, long, room, lt));
-      asked = omega (arith, checks, checks_few, lt);
+      honest = grind (arith, honest_child);
+      room = rw inv.children.capacity (omega arith);
+      asked = omega arith;
     }
 
 pub loop-i-preserved : goal.loop-i-preserved
 loop-i-preserved g c =
-    let tree = c.args.tree.now in
     let here = children_of c.requires.node c.node-node.ensures c.if-node-eq1.false c.child_nodes-children.ensures in
     let k = asked here c.loop-i.i c.verdict_on-parent.result c.loop-i-test.true c.index-children-i.is
     c.new-number.ensures c.node-whole.ensures c.info_under-info.ensures in
     let inv = c.loop-i.invariant in
     let h = rw (inv.geometry, inv.children.wanted) at c.ask_node.ensures in
-    let checks = h.asked in
-    let before = inv.asked in
     record {
       children = record {
         items = rw add-one (enough_node c.args.frontier.now.wanted _ _ _ _ _ inv.children.items
@@ -90,32 +60,21 @@ loop-i-preserved g c =
         capacity = h.node.capacity ∙ inv.children.capacity;
       };
       geometry = h.geometry;
-      asked = omega (arith, checks, before);
+      asked = omega arith;
     }
 
 pub returns : goal.returns
 returns g c =
-    let geometry = c.args.counted.now.geometry in
-    let verdict = g.G.Geometry.verdict geometry in
-    let tree = c.args.tree.now in
-    let number = c.args.taken.node.number.number in
+    let verdict = g.G.Geometry.verdict c.args.counted.now.geometry in
     let here = children_of c.requires.node c.node-node.ensures c.if-node-eq1.false c.child_nodes-children.ensures in
-    let count = here.count in
-    let no = c.loop-i-test.false in
     let inv = c.loop-i.invariant in
-    let checks = inv.asked in
-    let end : c.loop-i.i ≡ (node_at tree number).count = omega (arith, no, c.loop-i.auto.i-end, count) in
+    let end : c.loop-i.i ≡ (node_at c.args.tree.now c.args.taken.node.number.number).count = omega arith in
     record {
       children = record {
-        items = nodes_join (g.met.G.Geometry.lawful geometry) tree c.args.frontier.now.wanted c.args.taken.score c.args.taken.node
-            c.node-node.result c.verdict_on-parent.result c.loop-i.frontier.items c.args.frontier.now.items
-            c.node-node.ensures c.if-node-eq1.false c.verdict_on-parent.ensures
-            (subst (λ m. IsEnough c.args.frontier.now.wanted c.loop-i.frontier.items
-            (join_nodes verdict tree c.verdict_on-parent.result (node_at tree number) m c.args.frontier.now.items)) end
-            inv.children.items);
+        items = grind (arith, nodes_join);
         wanted = inv.children.wanted;
         capacity = inv.children.capacity;
       };
-      asked = omega (arith, checks, end);
+      asked = omega arith;
       geometry = inv.geometry;
     }

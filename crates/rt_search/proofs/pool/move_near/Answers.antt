@@ -15,40 +15,32 @@ loop-at-preserved-then-score-edge c =
     let near = heap_items c.loop-at.near in
     let far = c.loop-at.far.items in
     let at = c.loop-at.at in
-    let test = c.loop-at-test.true in
-    let len = c.len.ensures in
-    let whole = c.loop-at.far.ok.0 in
-    let inside : at < length far = omega (arith, test, len, whole) in
+    let inside : at < length far = omega arith in
     let e = c.swap_remove-key.ensures in
     let key = c.swap_remove-key.result in
     let out : IsPermutation far (key ∷ c.swap_remove-key.new.self.items) =
     subst (λ l. IsPermutation far (key ∷ l)) (sym e.items) (IsPermutation-swap_remove far at key inside e.value) in
     let counted = i.near.counted in
-    let room = c.requires.room in
-    let more = i.near_capacity in
     let total = length_permutation _ _ i.same in
     let ok : IsOk c.push-pushed.result =
-    c.push-pushed.ensures.succeeds (omega (arith, counted, room, more, total, inside, length-append near far)) in
+    c.push-pushed.ensures.succeeds (omega (arith, length-append near far)) in
     let joined = on_ok c.push-pushed.result ok c.push-pushed.ensures.permutation in
     let longer = length_permutation _ _ joined in
     let long = on_ok c.push-pushed.result ok c.push-pushed.ensures.len in
-    let edge = c.if-score-edge.true in
-    let score = c.score_of-score.ensures in
     let read : c.index.result.now ≡ key =
     c.index.ensures ∙ get_or_default far at c.index.result.now key inside ∙ sym e.value in
-    let low : score_in key ≤ c.args.edge = rw (← read) (omega (arith, score, edge)) in
-    let grown = c.push-pushed.ensures.capacity in
+    let low : score_in key ≤ c.args.edge = rw (← read) (omega arith) in
     let left = length_permutation _ _ out in
     record {
       near = record {
         ordered = on_ok c.push-pushed.result ok c.push-pushed.ensures.heap_order i.near.ordered;
-        counted = omega (arith, counted, long, longer);
+        counted = omega arith;
         low = all_moved (λ k. score_in k ≤ c.args.edge) (key ∷ near) _ joined (low, i.near.low);
       };
       far = subst (λ l. IsFar l c.args.edge c.loop-at.least) (sym (ap (take at) e.items ∙ take-swap_remove far at key inside)) i.far;
-      reached = omega (arith, inside, left);
+      reached = omega arith;
       same = IsPermutation-trans _ _ _ i.same (moved_over key near _ far _ out joined);
-      near_capacity = omega (arith, more, grown);
+      near_capacity = omega arith;
       far_capacity = e.capacity ∙ i.far_capacity;
     }
 
@@ -57,20 +49,13 @@ loop-at-preserved c =
     let i = c.loop-at.invariant in
     let far = c.loop-at.far.items in
     let at = c.loop-at.at in
-    let test = c.loop-at-test.true in
-    let len = c.len.ensures in
-    let whole = c.loop-at.far.ok.0 in
-    let inside : at < length far = omega (arith, test, len, whole) in
-    let key = c.index.result.now in
+    let inside : at < length far = omega arith in
     let score = c.score_of-score.ensures in
-    let beyond = c.if-score-edge.false in
-    let next = take_more far at key inside ∙ ap (λ k. take at far ++ k ∷ []) (sym c.index.ensures) in
+    let next = take_more far at c.index.result.now inside ∙ ap (λ k. take at far ++ k ∷ []) (sym c.index.ensures) in
     record {
       near = i.near;
-      far =
-          rw (next, c.lesser.ensures, score)
-          (far_more c.args.edge c.loop-at.least (take at far) key i.far (omega (arith, score, beyond)));
-      reached = omega (arith, inside);
+      far = grind (arith, far_more);
+      reached = omega arith;
       same = i.same;
       near_capacity = i.near_capacity;
       far_capacity = i.far_capacity;

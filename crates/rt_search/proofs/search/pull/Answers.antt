@@ -7,13 +7,12 @@ use Rattle.rt_search.proofs.search.pull.Goals as goal
 pub overflow_add-opened : goal.overflow_add-opened
 overflow_add-opened g c =
     let v = c.loop-node.invariant in
-    let e = c.take-node.ensures in
     let n = c.in-Some.node in
     let small : n.score < 2 ^ 128 = search rules in
     let k = go_on (g.met.G.Geometry.lawful c.args.counted.now.geometry) c.args.tree.now small
-    (still_more _ _ v.wanted c.requires.more) (node_out c.take-node.result n _ _ c.in-Some.is e.taken)
+    (still_more _ _ v.wanted c.requires.more) (node_out c.take-node.result n _ _ c.in-Some.is c.take-node.ensures.taken)
     (v.state c.requires.state.0 c.requires.state.1) in
-    (let low = k.opened_low in omega (arith, low))
+    (let low = k.opened_low in omega arith)
 
 pub open_node-requires : goal.open_node-requires
 open_node-requires g c =
@@ -34,11 +33,10 @@ open_node-requires g c =
 pub loop-node-smaller : goal.loop-node-smaller
 loop-node-smaller g c =
     let v = c.loop-node.invariant in
-    let e = c.take-node.ensures in
     let n = c.in-Some.node in
     let small : n.score < 2 ^ 128 = search rules in
     let k = go_on (g.met.G.Geometry.lawful c.args.counted.now.geometry) c.args.tree.now small
-    (still_more _ _ v.wanted c.requires.more) (node_out c.take-node.result n _ _ c.in-Some.is e.taken)
+    (still_more _ _ v.wanted c.requires.more) (node_out c.take-node.result n _ _ c.in-Some.is c.take-node.ensures.taken)
     (v.state c.requires.state.0 c.requires.state.1) in
     falls_by_one _ _ _ refl k.opened_upto
 

@@ -1,8 +1,6 @@
-use Rattle.std.proofs.Common.{ℕ, ◌≡◌, ◌<◌, ◌-◌, ◌^◌, ◌∙◌, ap, refl, sym, subst, arith, rules}
+use Rattle.std.proofs.Common.{ℕ, ◌≡◌, ◌<◌, ◌^◌, ◌∙◌, ap, refl, sym, arith, rules}
 use Rattle.rt_tree.specs.Packed.{node_at}
 use Rattle.rt_tree.specs.declared.tree.Node.{Node}
-use Rattle.rt_search.specs.Remaining.{height_at}
-use Rattle.rt_search.specs.Walking.{HasTaken}
 use Rattle.rt_search.specs.Work.{its_children, one_node}
 use Rattle.rt_search.proofs.Answering.{under_all-none}
 use Rattle.rt_search.proofs.Children.{asked, children_inside, children_of}
@@ -24,14 +22,10 @@ walk_child-walk_under-requires g t c κs within =
     let stays : c.visit_node.new.self ≡ c.args.visitor.now =
     rw c.if-visit_node.true at
     (c.visit_node.ensures.taken _ (rw (← v, ← c.requires.size) at (known law c.requires.node))) in
-    let size = c.requires.size in
-    let room = c.requires.room in
     let one = at_child g.V.Visitor.opens one_node verdict tree (verdict info) number (rw v at opens) in
     let its = at_child g.V.Visitor.opens its_children verdict tree (verdict info) number (rw v at opens) in
-    let asked = e.asked in
-    let opened_few = c.requires.opened in
     let asked_few = c.requires.asked in (
-      omega (arith, c.decreases),
+      omega arith,
       (
         within.0,
         (
@@ -41,10 +35,10 @@ walk_child-walk_under-requires g t c κs within =
             (
               rw (e.geometry, v) (openable law c.requires.node),
               (
-                rw stays (omega (arith, size, room)),
+                rw stays (omega arith),
                 (
-                  rw (e.geometry, v) (omega (arith, one, opened_few)),
-                  rw (e.geometry, v) (omega (arith, its, asked, asked_few)),
+                  rw (e.geometry, v) (omega arith),
+                  rw (e.geometry, v) (omega arith),
                 ),
               ),
             ),
@@ -62,29 +56,18 @@ walk_child-returns-then-visit_node-clause-taken g t c =
     rw (stays, c.check-verdict.ensures.geometry) at c.walk_under.ensures.taken
 
 pub walk_child-returns-else-visit_node-clause-taken : goal.walk_child-returns-else-visit_node-clause-taken
-walk_child-returns-else-visit_node-clause-taken g t c =
-    let is_known = known (g.met.G.Geometry.lawful c.args.counted.now.geometry) c.requires.node in
-    rw c.if-visit_node.false at
-    (c.visit_node.ensures.taken _ (rw (← c.check-verdict.ensures.verdict, ← c.requires.size) at is_known))
+walk_child-returns-else-visit_node-clause-taken g t c = search (rules, known)
 
 pub walk_under-child_nodes-children-requires : goal.walk_under-child_nodes-children-requires
 walk_under-child_nodes-children-requires g t c =
     children_inside c.requires.node c.node-node.ensures c.if-node-eq1.false
-
-pub walk_under-node-whole-requires : goal.walk_under-node-whole-requires
-walk_under-node-whole-requires g t c =
-    let here = children_of c.requires.node c.node-node.ensures c.if-node-eq1.false c.child_nodes-children.ensures in
-    let inside = here.inside in
-    let lt = c.loop-i-test.true in
-    omega (arith, inside, lt, c.new-child_number.ensures)
 
 pub walk_under-loop-i-init : goal.walk_under-loop-i-init
 walk_under-loop-i-init g t c =
     let geometry = c.args.counted.now.geometry in
     let tree = c.args.tree.now in
     record {
-      taken = rw (under_all-none (g.G.Geometry.accepts geometry) (g.G.Geometry.score geometry) tree
-          (height_at tree c.args.number.number - 1)) refl;
+      taken = grind (arith, under_all-none);
       opened = omega arith;
       asked = omega arith;
       geometry = refl;
@@ -105,10 +88,9 @@ walk_under-walk_child-requires g t c κs within =
     g.V.Collector.room g.met.V.Collector.fills c.args.visitor.now c.loop-i.visitor inv.taken c.requires.room
     c.args.opened.now c.loop-i.opened c.args.counted.now.asked c.loop-i.counted.asked inv.opened inv.asked
     c.requires.opened c.requires.asked in
-    let lower = can.lower in
     let size : c.index-children-i.result.size ≡ (node_at tree c.new-child_number.result.number).size = ap (λ n. n.size) k.is in
     let fits = can.room_is in (
-      omega (arith, lower, c.decreases),
+      omega arith,
       (
         within.0,
         (
@@ -117,7 +99,7 @@ walk_under-walk_child-requires g t c κs within =
             sound,
             (
               rw inv.geometry can.node,
-              (size, (omega (arith, size, fits), rw inv.geometry (can.opened_few, can.asked_few))),
+              (size, (omega arith, rw inv.geometry (can.opened_few, can.asked_few))),
             ),
           ),
         ),
@@ -127,51 +109,32 @@ walk_under-walk_child-requires g t c κs within =
 pub walk_under-loop-i-preserved : goal.walk_under-loop-i-preserved
 walk_under-loop-i-preserved g t c =
     let law = g.met.G.Geometry.lawful c.args.counted.now.geometry in
-    let tree = c.args.tree.now in
-    let sound = c.requires.sound in
     let v = c.args.parent in
     let small : v.score < 2 ^ 128 = search rules in
     let here = children_of c.requires.node c.node-node.ensures c.if-node-eq1.false c.child_nodes-children.ensures in
     let k = asked here c.loop-i.i v c.loop-i-test.true c.index-children-i.is c.new-child_number.ensures
     c.node-whole.ensures c.info_under-info.ensures in
-    let inv = c.loop-i.invariant in
-    let e = rw k.at at (rw k.info_is at (rw inv.geometry at c.walk_child.ensures)) in
-    let opened = e.opened in
-    let checks = e.asked in
-    let before = inv.opened in
-    let checks_before = inv.asked in
+    let e = rw k.at at (rw k.info_is at (rw c.loop-i.invariant.geometry at c.walk_child.ensures)) in
     let more = λ (cost : Node → ℕ).
-    work_more law sound small c.requires.node here.high g.V.Visitor.opens cost c.loop-i.i k.few in
+    work_more law c.requires.sound small c.requires.node here.high g.V.Visitor.opens cost c.loop-i.i k.few in
     record {
-      taken = subst (λ l. HasTaken g.V.Collector.takes c.args.visitor.now l c.walk_child.new.visitor)
-          (upto_more c.requires.node here.high c.loop-i.i k.few)
-          (taken-append g.V.Collector.takes c.args.visitor.now c.loop-i.visitor c.walk_child.new.visitor _ _ inv.taken
-          e.taken);
-      opened = omega (arith, opened, before, more one_node);
-      asked = omega (arith, checks, checks_before, more its_children);
+      taken = grind (arith, upto_more, taken-append);
+      opened = omega (arith, more one_node);
+      asked = omega (arith, more its_children);
       geometry = e.geometry;
     }
 
 pub walk_under-returns : goal.walk_under-returns
 walk_under-returns g t c =
     let law = g.met.G.Geometry.lawful c.args.counted.now.geometry in
-    let tree = c.args.tree.now in
-    let sound = c.requires.sound in
-    let v = c.args.parent in
-    let number = c.args.number.number in
-    let small : v.score < 2 ^ 128 = search rules in
+    let small : c.args.parent.score < 2 ^ 128 = search rules in
     let here = children_of c.requires.node c.node-node.ensures c.if-node-eq1.false c.child_nodes-children.ensures in
-    let count = here.count in
-    let over = c.loop-i-test.false in
-    let end : c.loop-i.i ≡ (node_at tree number).count = omega (arith, count, over, c.loop-i.auto.i-end) in
+    let end : c.loop-i.i ≡ (node_at c.args.tree.now c.args.number.number).count = omega arith in
     let inv = rw end at c.loop-i.invariant in
-    let opened = inv.opened in
-    let asked = inv.asked in
-    let all = work_all law sound small c.requires.node here.high g.V.Visitor.opens in
+    let all = work_all law c.requires.sound small c.requires.node here.high g.V.Visitor.opens in
     record {
-      taken = subst (λ l. HasTaken g.V.Collector.takes c.args.visitor.now l c.loop-i.visitor)
-          (upto_all c.requires.node here.high) inv.taken;
-      opened = omega (arith, opened, all one_node);
-      asked = omega (arith, asked, all its_children);
+      taken = grind (arith, upto_all);
+      opened = omega (arith, all one_node);
+      asked = omega (arith, all its_children);
       geometry = inv.geometry;
     }

@@ -21,13 +21,7 @@ check-verdict-requires-clause-honest g c =
     (rw (c.info_under-info.ensures, k.is, layers) k.at.within))
 
 pub check-verdict-requires-clause-room : goal.check-verdict-requires-clause-room
-check-verdict-requires-clause-room g c =
-    let count = entries_count c.args.tree.now c.args.node c.child_entries-entries.result.now c.requires.leaf.node
-    c.child_entries-entries.ensures in
-    let lt = c.loop-i-test.true in
-    let asked = c.loop-i.invariant.asked in
-    let room = c.requires.asked in
-    omega (arith, asked, room, lt, count)
+check-verdict-requires-clause-room g c = grind (arith, entries_count)
 
 pub visit_entry-requires : goal.visit_entry-requires
 visit_entry-requires g c =
@@ -35,13 +29,11 @@ visit_entry-requires g c =
     let tree = c.args.tree.now in
     let count = entries_count tree c.args.node c.child_entries-entries.result.now c.requires.leaf.node
     c.child_entries-entries.ensures in
-    let lt = c.loop-i-test.true in
     let found = answers_among tree (g.G.Geometry.accepts geometry) (g.G.Geometry.score geometry) c.args.node c.loop-i.i in
     let left = taken_room g.C.Collector.takes g.C.Collector.room g.met.C.Collector.fills c.args.collector.now
     c.loop-i.collector found c.loop-i.invariant.taken in
     let few = few_entries (g.G.Geometry.accepts geometry) (g.G.Geometry.score geometry) tree c.args.node c.loop-i.i in
-    let room = c.requires.room in
-    omega (arith, count, lt, left, few, room)
+    omega arith
 
 pub loop-i-preserved : goal.loop-i-preserved
 loop-i-preserved g c =
@@ -65,20 +57,11 @@ loop-i-preserved g c =
     let verdict_is = rw (k.is, layers) at (rw c.info_under-info.ensures at e.verdict) in
     let one = rw k.is at (rw verdict_is at (rw c.is_kept.ensures at (simp (to_z-of_z, fits) at c.visit_entry.ensures))) in
     let more = one_entry (g.met.G.Geometry.lawful geometry) c.requires.leaf.sound small c.requires.leaf.node
-    c.requires.leaf.below i (omega (arith, count, lt)) in
+    c.requires.leaf.below i (omega arith) in
     let both = taken-append g.C.Collector.takes c.args.collector.now c.loop-i.collector c.visit_entry.new.self
     (answers_among tree accepts score c.args.node i) _ inv.taken one in
     record {
       taken = subst (λ l. HasTaken g.C.Collector.takes c.args.collector.now l c.visit_entry.new.self) more both;
       geometry = e.geometry;
-      asked = (let asked = e.asked in omega (arith, asked));
+      asked = (let asked = e.asked in omega arith);
     }
-
-pub returns-clause-asked : goal.returns-clause-asked
-returns-clause-asked g c =
-    let count = entries_count c.args.tree.now c.args.node c.child_entries-entries.result.now c.requires.leaf.node
-    c.child_entries-entries.ensures in
-    let no = c.loop-i-test.false in
-    let end = c.loop-i.auto.i-end in
-    let asked = c.loop-i.invariant.asked in
-    omega (arith, asked, no, end, count)

@@ -7,15 +7,10 @@ walk_under-requires g c =
     let geometry = c.args.counted.now.geometry in
     let k = whole (g.G.Geometry.accepts geometry) (g.G.Geometry.score geometry) (g.G.Geometry.verdict geometry)
     c.args.tree.now c.in-Some.ensures.sound g.V.Visitor.opens c.in-Some.number.number c.in-Some.ensures.number in
-    let few = k.few in
-    let room = c.requires.room in
-    let opened = k.opened_few in
-    let asked = k.asked_few in
-    let none = c.requires.asked in
     record {
       sound = c.in-Some.ensures.sound;
       node = k.node;
-      room = omega (arith, few, room);
-      opened = omega (arith, opened);
-      asked = omega (arith, none, asked);
+      room = omega arith;
+      opened = omega arith;
+      asked = omega arith;
     }

@@ -1,10 +1,6 @@
-use Rattle.std.proofs.Common.{◌+◌, arith}
+use Rattle.std.proofs.Common.{arith}
 use Rattle.rt_search.proofs.Collectors.{tally_counted}
 use Rattle.rt_search.proofs.counting.TallyVisitor.visit_node.Goals as goal
 
 pub returns-in-Fully-clause-taken : goal.returns-in-Fully-clause-taken
-returns-in-Fully-clause-taken c answers known =
-    let all = known.all c.in-Fully.is in
-    let size = c.from.ensures in
-    tally_counted c.args.self.now (record { accepted = c.args.self.now.accepted + c.from.result }) answers
-    (omega (arith, all, size))
+returns-in-Fully-clause-taken c answers known = grind (arith, tally_counted)

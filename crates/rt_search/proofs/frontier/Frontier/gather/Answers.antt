@@ -20,11 +20,10 @@ returns-clause-answers g c =
     let geometry = c.args.counted.now.geometry in
     let accepts = g.G.Geometry.accepts geometry in
     let score = g.G.Geometry.score geometry in
-    let verdict = g.G.Geometry.verdict geometry in
     let tree = c.args.tree.now in
     let e = c.walk.ensures in
     let found = answers_in_tree tree accepts score in
     let joined = hits_join c.clear-2.new.self c.walk.new.visitor found e.taken in
     ap (remaining tree accepts score) (joined.0 ∙ ap (join_answers found) c.clear-2.ensures.items)
     ∙ answers_joined (g.met.G.Geometry.lawful geometry) tree found []
-    ∙ tree_answers accepts score verdict tree e.sound
+    ∙ tree_answers accepts score (g.G.Geometry.verdict geometry) tree e.sound

@@ -5,21 +5,7 @@ use Rattle.rt_search.proofs.Pools.{some_near}
 use Rattle.rt_search.proofs.pool.Pool.fill.Goals as goal
 
 pub invariant_of-self : goal.invariant_of-self
-invariant_of-self c =
-    let k = c.self.invariant in
-    let e = c.move_near-self-inside.ensures in
-    let room = k.near_room in
-    let grown = e.near_capacity in
-    let far_room = k.far_room in
-    let few = k.few in
-    let total = length_permutation _ _ e.same in
-    record {
-      inside = e.near;
-      outside = e.far;
-      near_room = omega (arith, room, grown);
-      far_room = rw e.far_capacity far_room;
-      few = omega (arith, few, total);
-    }
+invariant_of-self c = grind (arith, length_permutation)
 
 pub returns-clause-filled : goal.returns-clause-filled
 returns-clause-filled c =

@@ -14,10 +14,8 @@ returns-then-score-self-clause-keys c =
     let h = rw (← c.self.view_is) at c.requires in
     let near = heap_items c.self.inside.near in
     let far = c.self.inside.far.items in
-    let counted = k.inside.counted in
-    let room = k.near_room in
     let ok : IsOk c.push-pushed.result =
-    c.push-pushed.ensures.succeeds (omega (arith, h, length-append near far, counted, room)) in
+    c.push-pushed.ensures.succeeds (omega (arith, length-append near far)) in
     subst (λ w. IsPermutation (record { 0 = c.args.key } ∷ keys_in w) (heap_items c.push-pushed.new.self ++ far))
     c.self.view_is
     (IsPermutation-append_left far (record { 0 = c.args.key } ∷ near) _ (on_ok c.push-pushed.result ok c.push-pushed.ensures.permutation))
@@ -27,27 +25,18 @@ invariant_of-self-2 c =
     let k = c.self.invariant in
     let h = rw (← c.self.view_is) at c.requires in
     let e = c.push_reserved.ensures in
-    let near = heap_items c.self.inside.near in
     let far = c.self.inside.far.items in
-    let score = c.score_of-score.ensures in
-    let beyond = c.if-score-self.false in
-    let room = k.far_room in
-    let longer = length_permutation _ _ (put_right (record { 0 = c.args.key }) near far) in
+    let longer = length_permutation _ _ (put_right (record { 0 = c.args.key }) (heap_items c.self.inside.near) far) in
     record {
       inside = k.inside;
       outside =
-          rw (e.items, c.lesser.ensures, score)
+          rw (e.items, c.lesser.ensures, c.score_of-score.ensures)
           (far_more c.self.inside.edge c.self.inside.least far (record { 0 = c.args.key }) k.outside
-          (omega (arith, score, beyond)));
+          (omega arith));
       near_room = k.near_room;
-      far_room = rw e.capacity room;
-      few = rw e.items (omega (arith, h, longer));
+      far_room = rw e.capacity k.far_room;
+      few = rw e.items (omega arith);
     }
 
 pub returns-clause-keys : goal.returns-clause-keys
-returns-clause-keys c =
-    let near = heap_items c.self.inside.near in
-    let far = c.self.inside.far.items in
-    subst (λ w. IsPermutation (record { 0 = c.args.key } ∷ keys_in w) (near ++ c.push_reserved.new.self.items))
-    c.self.view_is
-    (rw c.push_reserved.ensures.items (put_right (record { 0 = c.args.key }) near far))
+returns-clause-keys c = grind (arith, put_right)

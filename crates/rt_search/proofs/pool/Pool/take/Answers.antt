@@ -9,9 +9,8 @@ use Rattle.rt_search.proofs.pool.Pool.take.Goals as goal
 
 pub returns-in_default-clause-keys : goal.returns-in_default-clause-keys
 returns-in_default-clause-keys c =
-    let counted = c.self.invariant.inside.counted in
     let none = c.in_default.ensures.none in
-    let near : heap_items c.self.inside.near ≡ [] = nil_from_length _ (sym counted ∙ none) in
+    let near : heap_items c.self.inside.near ≡ [] = nil_from_length _ (sym c.self.invariant.inside.counted ∙ none) in
     let far = rw (← c.self.view_is) at c.fill.ensures.filled near in
     none_kept _ _ (rw (← c.self.view_is) at c.fill.ensures.same) (ap (λ l. l ++ c.self.inside.far.items) near ∙ far)
 
@@ -19,23 +18,18 @@ pub invariant_of-self-2 : goal.invariant_of-self-2
 invariant_of-self-2 c =
     let k = c.self.invariant in
     let e = c.in-Some.ensures in
-    let counted = k.inside.counted in
-    let few = k.few in
-    let room = k.near_room in
-    let fewer = length_permutation _ _ e.permutation in
     let total = length_permutation _ _ (IsPermutation-append_left c.self.inside.far.items _ _ e.permutation) in
-    let long = e.len in
     record {
       inside = record {
         ordered = (e.heap_order k.inside.ordered).0;
-        counted = omega (arith, counted, fewer, long);
+        counted = omega (arith, length_permutation _ _ e.permutation);
         low = (all_moved (λ j. score_in j ≤ c.self.inside.edge) (heap_items c.self.inside.near) (c.in-Some.top ∷ _)
             e.permutation k.inside.low).1;
       };
       outside = k.outside;
-      near_room = rw e.capacity room;
+      near_room = rw e.capacity k.near_room;
       far_room = k.far_room;
-      few = omega (arith, few, total);
+      few = omega arith;
     }
 
 pub returns-clause-keys : goal.returns-clause-keys

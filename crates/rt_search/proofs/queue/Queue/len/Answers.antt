@@ -7,9 +7,7 @@ pub overflow_cast-result : goal.overflow_cast-result
 overflow_cast-result c =
     let long = length-queued (keys_in c.self.inside.nodes) c.self.inside.entries.items c.self.inside.wide.items in
     let k = c.self.invariant in
-    omega (arith, long, k.few, k.low, c.len.ensures.value, c.len-2.ensures.value, c.len-3.ensures.value)
+    omega arith
 
 pub returns-clause-value : goal.returns-clause-value
-returns-clause-value c =
-    let long = length-queued (keys_in c.self.inside.nodes) c.self.inside.entries.items c.self.inside.wide.items in
-    rw (← c.self.view_is) (omega (arith, long, c.len.ensures.value, c.len-2.ensures.value, c.len-3.ensures.value))
+returns-clause-value c = grind (arith, length-queued)

@@ -15,8 +15,7 @@ pub put-requires : goal.put-requires
 put-requires c =
     let h = rw (← c.self.view_is) at c.requires in
     let long = length-queued (keys_in c.self.inside.nodes) c.self.inside.entries.items c.self.inside.wide.items in
-    let room = c.self.invariant.entries_room in
-    omega (arith, h, long, room)
+    omega arith
 
 pub invariant_of-self : goal.invariant_of-self
 invariant_of-self c =
@@ -33,7 +32,7 @@ invariant_of-self c =
       nodes_room = k.nodes_room;
       entries_room = e.capacity ∙ k.entries_room;
       wide_room = k.wide_room;
-      few = omega (arith, h, long, longer, one_more);
+      few = omega arith;
       low = k.low;
       high = k.high;
     }

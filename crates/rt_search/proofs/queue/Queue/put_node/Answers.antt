@@ -18,8 +18,7 @@ pub put-requires : goal.put-requires
 put-requires c =
     let h = rw (← c.self.view_is) at c.requires in
     let long = length-queued (keys_in c.self.inside.nodes) c.self.inside.entries.items c.self.inside.wide.items in
-    let room = c.self.invariant.nodes_room in
-    omega (arith, h, long, room)
+    omega arith
 
 pub invariant_of-self : goal.invariant_of-self
 invariant_of-self c =
@@ -28,14 +27,13 @@ invariant_of-self c =
     let e = c.put.ensures in
     let entries = c.self.inside.entries.items in
     let wide = c.self.inside.wide.items in
-    let long = length-queued (keys_in c.self.inside.nodes) entries wide in
     let longer = length-queued (keys_in c.put.new.self) entries wide in
     let one_more = length_permutation _ _ e.keys in
     record {
       nodes_room = e.capacity ∙ k.nodes_room;
       entries_room = k.entries_room;
       wide_room = k.wide_room;
-      few = omega (arith, h, long, longer, one_more);
+      few = omega (arith, length-queued (keys_in c.self.inside.nodes) entries wide);
       low = k.low;
       high = k.high;
     }

@@ -34,9 +34,8 @@ returns-then-is_any-clause-taken c =
 
 pub take_wide-requires : goal.take_wide-requires
 take_wide-requires c =
-    let e = c.take_narrow-taken.ensures in
     none_merged (in_order node_item (keys_in c.take_narrow-taken.new.nodes)) c.take_narrow-taken.new.entries.items
-    (none_taken (taken_item c.take_narrow-taken.result) _ _ c.if-is_any.ensures e.taken).1
+    (none_taken (taken_item c.take_narrow-taken.result) _ _ c.if-is_any.ensures c.take_narrow-taken.ensures.taken).1
 
 pub invariant_of-self-2 : goal.invariant_of-self-2
 invariant_of-self-2 c =

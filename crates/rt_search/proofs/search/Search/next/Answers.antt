@@ -15,16 +15,14 @@ none_given Q (Some x) e p = cc
 pub overflow_add-self : goal.overflow_add-self
 overflow_add-self g c =
     let going = c.self.invariant in
-    let low = given_low going (c.in_ok-answer.ensures.step _ going.state) in
-    search (rules, low)
+    search (rules, given_low going (c.in_ok-answer.ensures.step _ going.state))
 
 pub invariant_of-self-2 : goal.invariant_of-self-2
 invariant_of-self-2 g c =
     let e = c.in_ok-answer.ensures in
     let more : c.self.inside.limit ≢ Some c.self.inside.given = search rules in
     let going = c.self.invariant in
-    let k = give going more e.wanted (e.step _ going.state) in
-    rw c.pull.ensures.geometry k.going
+    rw c.pull.ensures.geometry (give going more e.wanted (e.step _ going.state)).going
 
 pub returns-clause-answer : goal.returns-clause-answer
 returns-clause-answer g c =

@@ -1,4 +1,4 @@
-use Rattle.std.proofs.Common.{◌≡◌, ◌≢◌, ◌≤◌, ◌∙◌, [], Some, length, rules}
+use Rattle.std.proofs.Common.{◌≡◌, ◌≢◌, ◌≤◌, [], Some, length, rules}
 use Rattle.std.specs.Prelude.{IfSome}
 use Rattle.rt_search.specs.Joining.{join_answers}
 use Rattle.rt_search.specs.Limits.{IsEnough}
@@ -25,11 +25,7 @@ invariant_of-result g c =
     c.walk-opened.result _ new.capacity new.wanted new.items room some first e.opened e.asked enough)
 
 pub returns-clause-capacity : goal.returns-clause-capacity
-returns-clause-capacity g c =
-    let geometry = c.args.counted.geometry in
-    let found = answers_in_tree c.args.tree.now (g.G.Geometry.accepts geometry) (g.G.Geometry.score geometry) in
-    (entries_join c.clear.new.self c.walk-opened.new.visitor found c.walk-opened.ensures.taken).capacity
-    ∙ c.clear.ensures.capacity
+returns-clause-capacity g c = search (rules, entries_join)
 
 pub returns-clause-worked : goal.returns-clause-worked
 returns-clause-worked g c =

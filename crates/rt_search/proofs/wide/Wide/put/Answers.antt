@@ -1,4 +1,4 @@
-use Rattle.std.proofs.Common.{◌∙◌, ap, arith, rules}
+use Rattle.std.proofs.Common.{◌∙◌, ap, arith}
 use Rattle.std.specs.Prelude.{IsOk}
 use Rattle.std.specs.BinaryHeap.{heap_items}
 use Rattle.std.proofs.lemmas.List.Sorted.{length_permutation}
@@ -9,20 +9,7 @@ use Rattle.rt_search.proofs.Heaps.{length-in_order, on_ok, pushed}
 use Rattle.rt_search.proofs.wide.Wide.put.Goals as goal
 
 pub invariant_of-self : goal.invariant_of-self
-invariant_of-self c =
-    let h = rw (← c.self.view_is) at c.requires in
-    let n = length-in_order wide_item (heap_items c.self.inside.heap) in
-    let k = c.self.invariant in
-    let e = c.push-pushed.ensures in
-    let ok : IsOk c.push-pushed.result = e.succeeds (omega arith) in
-    let moved = on_ok c.push-pushed.result ok e.permutation in
-    let long = length_permutation _ _ moved in
-    record {
-      ordered = search rules;
-      room = search rules;
-      counted = search rules;
-      few = omega (arith, long, h, n);
-    }
+invariant_of-self c = grind (arith, length-in_order, on_ok, length_permutation)
 
 pub returns-clause-items : goal.returns-clause-items
 returns-clause-items c =
