@@ -1,15 +1,10 @@
 -- What a collector becomes with answers.
 use Rattle.std.proofs.Common.{◌≡◌, ◌+◌, ◌∷◌, ◌∙◌, [], ℕ, List, length, map, sym, ap, subst, arith}
 use Rattle.rt_tree.specs.Sorting.{put}
-use Rattle.rt_search.specs.Answers.{Answer}
-use Rattle.rt_search.specs.Items.{SearchRoom, Waiting, item_cmp, item_of, limited}
-use Rattle.rt_search.specs.Joining.{KeepsHit, join_answers}
-use Rattle.rt_search.specs.Limits.{IsEnough, IsPut, KeepsEnough}
-use Rattle.rt_search.specs.Walking.{HasTaken}
-use Rattle.rt_search.specs.declared.counting.Tally.{Tally}
-use Rattle.rt_search.specs.declared.item.Item.{Item}
-use Rattle.rt_search.proofs.Limits.{enough_itself, enough_put_all, enough_trans}
-use Rattle.rt_search.proofs.OrderedLists.{put_all-put}
+use Rattle.rt_search.specs.{Answers.{Answer}, Items.{SearchRoom, Waiting, item_cmp, item_of, limited}}
+use Rattle.rt_search.specs.{Joining.{KeepsHit, join_answers}, Limits.{IsEnough, IsPut, KeepsEnough}, Walking.{HasTaken}}
+use Rattle.rt_search.specs.declared.{counting.Tally.{Tally}, item.Item.{Item}}
+use Rattle.rt_search.proofs.{Limits.{enough_itself, enough_put_all, enough_trans}, OrderedLists.{put_all-put}}
 use Rattle.rt_search.proofs.Orders.{item_order}
 
 -- ---- a tally: so many more

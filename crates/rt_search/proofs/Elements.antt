@@ -1,8 +1,7 @@
 -- What holds of each element of a list.
 use Rattle.std.proofs.Common.{List, [], ◌∷◌, ◌++◌, IsPermutation}
+use Rattle.std.proofs.lemmas.List.{Elements.{All-from_recursion, recursion_from_All}, Sorted.{All-permutation}}
 use Rattle.std.specs.List.{AllByRecursion}
-use Rattle.std.proofs.lemmas.List.Elements.{All-from_recursion, recursion_from_All}
-use Rattle.std.proofs.lemmas.List.Sorted.{All-permutation}
 
 module _ {X : Type 0} where
   pub all_each : (P : X → Type 0) → ((x : X) → P x) → (xs : List X) → AllByRecursion P xs

@@ -1,29 +1,19 @@
 -- What opening a node means for the answers to come.
 use Rattle.std.proofs.Common.{◌≡◌, ◌<◌, ◌≤◌, ◌+◌, ◌-◌, ◌^◌, ℕ, zero, suc, Bool, true, false, cond, List, [], ◌∷◌, ◌++◌}
-use Rattle.std.proofs.Common.{length, take, refl, sym, ◌∙◌, ap, subst, arith, add-one}
-use Rattle.std.proofs.lemmas.Bool.{cond_both}
-use Rattle.rt_geo.specs.Laws.{Extent, IsLawful, IsQuestion, NoneAccepted, extent_of}
-use Rattle.rt_geo.specs.declared.geometry.Info.{Info}
-use Rattle.rt_geo.specs.declared.geometry.Verdict.{Verdict}
-use Rattle.rt_geo.specs.declared.geometry.Within.{Within}
-use Rattle.rt_geo.specs.declared.geometry.Within.TheVariants.{Not, Partly, Fully}
-use Rattle.rt_tree.specs.Packed.{Packed, IsSound, IsSubtree, child_nodes, entries_under}
-use Rattle.rt_tree.specs.Packed.{extent_of_node, node_at}
+use Rattle.std.proofs.{Common.{length, take, refl, sym, ◌∙◌, ap, subst, arith, add-one}, lemmas.Bool.{cond_both}}
+use Rattle.rt_geo.specs.{Laws.{Extent, IsLawful, IsQuestion, NoneAccepted, extent_of}, declared.geometry.Info.{Info}}
+use Rattle.rt_geo.specs.declared.geometry.{Verdict.{Verdict}, Within.{Within, TheVariants.{Not, Partly, Fully}}}
+use Rattle.rt_tree.specs.Packed.{Packed, IsSound, IsSubtree, child_nodes, entries_under, extent_of_node, node_at}
 use Rattle.rt_tree.specs.Sorting.{put}
-use Rattle.rt_search.specs.Answers.{Answer, answer_cmp}
-use Rattle.rt_search.specs.Items.{item_at, item_cmp, item_of}
-use Rattle.rt_search.specs.Joining.{join_answers, join_node, join_nodes}
+use Rattle.rt_search.specs.{Answers.{Answer, answer_cmp}, Items.{item_at, item_cmp, item_of}, declared.item.Item.{Item}}
+use Rattle.rt_search.specs.{Joining.{join_answers, join_node, join_nodes}, Remaining.{verdict_on, waiting_node}}
 use Rattle.rt_search.specs.Remaining.{AllSound, IsBelow, IsOpenable, height_at, is_fully, put_all, remaining}
-use Rattle.rt_search.specs.Remaining.{verdict_on, waiting_node}
-use Rattle.rt_search.specs.Walking.{answers_under}
-use Rattle.rt_search.specs.Work.{info_of_node, is_kept}
-use Rattle.rt_search.specs.declared.item.Item.{Item}
-use Rattle.rt_search.specs.declared.item.Place.TheVariants as place
+use Rattle.rt_search.specs.{Walking.{answers_under}, Work.{info_of_node, is_kept}}
 use Rattle.rt_search.proofs.Answering.{AllSound-put, among, node_dropped, remaining-put, take_more_at, under_all}
 use Rattle.rt_search.proofs.Answering.{under_all-append, under_all-none, under_all-one, under_all-whole}
 use Rattle.rt_search.proofs.Children.{all_children, child, height_suc, node_question}
-use Rattle.rt_search.proofs.OrderedLists.{put_all-append, put_all-put_all}
-use Rattle.rt_search.proofs.Orders.{answer_order}
+use Rattle.rt_search.proofs.{OrderedLists.{put_all-append, put_all-put_all}, Orders.{answer_order}}
+use Rattle.rt_search.specs.declared.item.Place.TheVariants as place
 
 pub kept_not : (w : Within) → is_kept w ≡ false → w ≡ Not
 kept_not Not h = refl

@@ -1,25 +1,16 @@
 -- What may be left out where a limit is known.
-use Rattle.std.proofs.Common.{◌≡◌, ◌≢◌, ◌≤◌, ◌<◌, ◌+◌, ◌-◌, ℕ, zero, suc, Bool, true, false, cond, Option, Some, None, List}
-use Rattle.std.proofs.Common.{Ordering, [], ◌∷◌, length, refl, sym, ◌∙◌, ap, subst, arith}
-use Rattle.std.specs.Ordering.{is_gt}
-use Rattle.std.specs.declared.cmp.Reverse.{Reverse}
-use Rattle.rt_geo.specs.declared.geometry.Info.{Info}
-use Rattle.rt_geo.specs.declared.geometry.Verdict.{Verdict}
-use Rattle.rt_tree.specs.Packed.{Packed, node_at}
-use Rattle.rt_tree.specs.Sorting.{put}
-use Rattle.rt_tree.specs.declared.tree.Node as node
-use Rattle.rt_search.specs.Items.{item_at, item_cmp}
-use Rattle.rt_search.specs.Joining.{join_node, join_nodes}
-use Rattle.rt_search.specs.Kept.{IsRising, in_order, narrow, node_item, queued}
+use Rattle.std.proofs.Common.{◌≡◌, ◌≢◌, ◌≤◌, ◌<◌, ◌+◌, ◌-◌, ℕ, zero, suc, Bool, true, false, cond, Option, Some, None}
+use Rattle.std.proofs.Common.{List, Ordering, [], ◌∷◌, length, refl, sym, ◌∙◌, ap, subst, arith}
+use Rattle.std.specs.{Ordering.{is_gt}, declared.cmp.Reverse.{Reverse}}
+use Rattle.rt_geo.specs.declared.geometry.{Info.{Info}, Verdict.{Verdict}}
+use Rattle.rt_tree.specs.{Packed.{Packed, node_at}, Sorting.{put}}
+use Rattle.rt_search.specs.{Items.{item_at, item_cmp}, Work.{info_of_node, is_kept}, declared.item.Item.{Item}}
+use Rattle.rt_search.specs.{Joining.{join_node, join_nodes}, declared.item.Place.{Place, TheVariants.{Node, Entry}}}
+use Rattle.rt_search.specs.{Kept.{IsRising, in_order, narrow, node_item, queued}, Remaining.{put_all, waiting_node}}
 use Rattle.rt_search.specs.Limits.{IsBehind, IsEnough, entries_at, entries_before, front, front_of, less_at}
-use Rattle.rt_search.specs.Remaining.{put_all, waiting_node}
-use Rattle.rt_search.specs.Work.{info_of_node, is_kept}
-use Rattle.rt_search.specs.declared.item.Item.{Item}
-use Rattle.rt_search.specs.declared.item.Place.{Place}
-use Rattle.rt_search.specs.declared.item.Place.TheVariants.{Node, Entry}
-use Rattle.rt_search.proofs.SortedLists.{rising_put}
-use Rattle.rt_search.proofs.OrderedLists.{IsOrder, length-put, length-put_all, put_all-put}
+use Rattle.rt_search.proofs.{SortedLists.{rising_put}, OrderedLists.{IsOrder, length-put, length-put_all, put_all-put}}
 use Rattle.rt_search.proofs.Orders.{item_order}
+use Rattle.rt_tree.specs.declared.tree.Node as node
 
 -- ---- the front of a list
 

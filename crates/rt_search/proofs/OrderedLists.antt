@@ -1,13 +1,8 @@
 -- Lists that are kept in an order which tells all elements apart.
-use Rattle.std.proofs.Common.{◌≡◌, ◌+◌, true, false, List, [], ◌∷◌, ◌++◌, ℕ, length}
-use Rattle.std.proofs.Common.{refl, sym, ◌∙◌, ap, arith, Ordering, Less, Equal, Greater, IsPermutation}
-use Rattle.std.specs.Cmp.{IsTotalOrder}
-use Rattle.std.specs.List.{AllByRecursion, sum_by}
-use Rattle.std.specs.Ordering.{is_gt, is_lt, ordering_reverse}
-use Rattle.std.proofs.lemmas.Bool.{cond_both}
-use Rattle.std.proofs.lemmas.Cmp.{upto}
-use Rattle.std.proofs.lemmas.List.Sums.{sum_by-cons}
-use Rattle.std.proofs.lemmas.Map.Lookups.{CmpEqualImpliesEq}
+use Rattle.std.proofs.Common.{◌≡◌, ◌+◌, true, false, List, [], ◌∷◌, ◌++◌, ℕ, length, refl, sym, ◌∙◌, ap, arith}
+use Rattle.std.proofs.{Common.{Ordering, Less, Equal, Greater, IsPermutation}, lemmas.{Bool.{cond_both}, Cmp.{upto}}}
+use Rattle.std.proofs.lemmas.{List.Sums.{sum_by-cons}, Map.Lookups.{CmpEqualImpliesEq}}
+use Rattle.std.specs.{Cmp.{IsTotalOrder}, List.{AllByRecursion, sum_by}, Ordering.{is_gt, is_lt, ordering_reverse}}
 use Rattle.rt_tree.specs.Sorting.{put, sorted}
 use Rattle.rt_tree.proofs.SortingLemmas.{sorted-IsPermutation}
 use Rattle.rt_search.specs.Remaining.{put_all}

@@ -1,17 +1,10 @@
 -- Keys, seen as items in order.
-use Rattle.std.proofs.Common.{◌≡◌, ◌≤◌, ℕ, Option, Some, None, List, [], ◌∷◌, ⊎_elim}
-use Rattle.std.proofs.Common.{sym, ◌∙◌, ap, arith}
-use Rattle.std.specs.Prelude.{MatchOption}
-use Rattle.std.specs.List.{AllByRecursion}
-use Rattle.std.specs.declared.cmp.Reverse.{Reverse}
+use Rattle.std.proofs.Common.{◌≡◌, ◌≤◌, ℕ, Option, Some, None, List, [], ◌∷◌, ⊎_elim, sym, ◌∙◌, ap, arith}
+use Rattle.std.specs.{Prelude.{MatchOption}, List.{AllByRecursion}, declared.cmp.Reverse.{Reverse}}
 use Rattle.rt_tree.specs.Sorting.{put}
-use Rattle.rt_search.specs.Items.{item_cmp}
-use Rattle.rt_search.specs.Kept.{IsFirstScore, in_order}
-use Rattle.rt_search.specs.Pooling.{HasLeastScore, score_in}
+use Rattle.rt_search.specs.{Items.{item_cmp}, Kept.{IsFirstScore, in_order}, Pooling.{HasLeastScore, score_in}}
 use Rattle.rt_search.specs.declared.item.Item.{Item}
-use Rattle.rt_search.proofs.Elements.{all_map}
-use Rattle.rt_search.proofs.Heaps.{in_order-all}
-use Rattle.rt_search.proofs.OrderedLists.{put-all, put_cases}
+use Rattle.rt_search.proofs.{Elements.{all_map}, Heaps.{in_order-all}, OrderedLists.{put-all, put_cases}}
 use Rattle.rt_search.proofs.Orders.{item_order, score_upto}
 
 -- x has the least score

@@ -1,21 +1,15 @@
 -- Keys, those that are near and those that are far.
-use Rattle.std.proofs.Common.{◌≡◌, ◌<◌, ◌≤◌, ◌+◌, ◌-◌, ◌*◌, ◌/◌, ◌^◌, inl, inr, ℕ, false, nat_lt}
-use Rattle.std.proofs.Common.{Option, Some, None, List, [], ◌∷◌, ◌++◌, length, take, drop, set, get_or, refl, sym, ◌∙◌, ap, ⊎_elim}
-use Rattle.std.proofs.Common.{subst, arith, IsPermutation}
-use Rattle.std.specs.Prelude.{MatchOption}
-use Rattle.std.specs.List.{AllByRecursion, swap_remove}
-use Rattle.std.specs.Ordering.{is_lt, nat_cmp}
-use Rattle.std.specs.declared.cmp.Reverse.{Reverse}
+use Rattle.std.proofs.Common.{◌≡◌, ◌<◌, ◌≤◌, ◌+◌, ◌-◌, ◌*◌, ◌/◌, ◌^◌, inl, inr, ℕ, false, nat_lt, Option, Some, None}
+use Rattle.std.proofs.Common.{List, [], ◌∷◌, ◌++◌, length, take, drop, set, get_or, refl, sym, ◌∙◌, ap, ⊎_elim, subst}
+use Rattle.std.proofs.{Common.{arith, IsPermutation}, lemmas.{Bool.Decides.{nat_tests}, Nat.{div-add-mod'}}}
 use Rattle.std.proofs.Math.Nat.{mod-lt}
-use Rattle.std.proofs.lemmas.Bool.{ltb-false, ltb-true}
-use Rattle.std.proofs.lemmas.Bool.Decides.{nat_tests}
-use Rattle.std.proofs.lemmas.List.{append_assoc, nil_from_length, length-set, length-take-le, take-append-drop, take-append-le, take-set}
-use Rattle.std.proofs.lemmas.List.Sorted.{IsPermutation-append_left, IsPermutation-append_right}
-use Rattle.std.proofs.lemmas.List.Sorted.{IsPermutation-middle, IsPermutation-to_front}
-use Rattle.std.proofs.lemmas.List.Sorted.{IsPermutation-sym, IsPermutation-trans, length_permutation}
-use Rattle.std.proofs.lemmas.Nat.{div-add-mod'}
-use Rattle.rt_search.specs.Kept.{lesser}
-use Rattle.rt_search.specs.Pooling.{HasLeastScore, HasScore, IsFar, IsLowest, score_in}
+use Rattle.std.proofs.lemmas.{Bool.{ltb-false, ltb-true}, List.{take-append-le, take-set, Sorted.{length_permutation}}}
+use Rattle.std.proofs.lemmas.List.{append_assoc, nil_from_length, length-set, length-take-le, take-append-drop}
+use Rattle.std.proofs.lemmas.List.Sorted.{IsPermutation-append_left, IsPermutation-append_right, IsPermutation-middle}
+use Rattle.std.proofs.lemmas.List.Sorted.{IsPermutation-to_front, IsPermutation-sym, IsPermutation-trans}
+use Rattle.std.specs.{Prelude.{MatchOption}, List.{AllByRecursion, swap_remove}, Ordering.{is_lt, nat_cmp}}
+use Rattle.std.specs.declared.cmp.Reverse.{Reverse}
+use Rattle.rt_search.specs.{Kept.{lesser}, Pooling.{HasLeastScore, HasScore, IsFar, IsLowest, score_in}}
 use Rattle.rt_search.proofs.Elements.{all-append, all_map, all_moved}
 
 -- ---- lists

@@ -1,17 +1,10 @@
 -- Answers that were worked out by hand: the definitions give them by computing.
 use Rattle.std.proofs.Common.{◌≡◌, refl, ℕ, ℤ, pos, negsuc, zero, suc, Option, List, [], ◌∷◌, Some, None, length}
-use Rattle.rt_geo.specs.Boxes.{Rect, rect_of}
-use Rattle.rt_geo.specs.Laws.{guided_verdict}
-use Rattle.rt_geo.specs.Orders.{by_id, near, order_estimate, order_score}
-use Rattle.rt_geo.specs.Regions.{region_accepts, region_state}
-use Rattle.rt_geo.specs.declared.entry.Entry.{Entry}
-use Rattle.rt_geo.specs.declared.geometry.Info.{Info}
-use Rattle.rt_geo.specs.declared.geometry.Verdict.{Verdict}
-use Rattle.rt_geo.specs.declared.order.Order.{Order}
-use Rattle.rt_geo.specs.declared.region.Region.{Region}
-use Rattle.rt_geo.specs.declared.region.Region.TheVariants.{All, Window}
-use Rattle.rt_tree.specs.Packed.{Packed}
-use Rattle.rt_tree.specs.Packing.{pack_of}
+use Rattle.rt_geo.specs.{Boxes.{Rect, rect_of}, Laws.{guided_verdict}}
+use Rattle.rt_geo.specs.{Orders.{by_id, near, order_estimate, order_score}, Regions.{region_accepts, region_state}}
+use Rattle.rt_geo.specs.declared.{entry.Entry.{Entry}, geometry.{Info.{Info}, Verdict.{Verdict}}, order.Order.{Order}}
+use Rattle.rt_geo.specs.declared.region.Region.{Region, TheVariants.{All, Window}}
+use Rattle.rt_tree.specs.{Packed.{Packed}, Packing.{pack_of}}
 use Rattle.rt_search.specs.Answers.{accepted, answers}
 use Rattle.rt_search.specs.Work.{asked_by_count, asked_by_search, opened_by_count, opened_by_search}
 

@@ -1,31 +1,21 @@
 -- A search goes on, and keeps no more than its limit makes necessary.
-use Rattle.std.proofs.Common.{◌≡◌, ◌≢◌, ◌<◌, ◌≤◌, ◌+◌, ◌-◌, ◌^◌, ◌==◌, ℕ, ℤ, Bool, true, false, cond, List, [], ◌∷◌, length, map}
-use Rattle.std.proofs.Common.{Option, Some, None, refl, sym, ◌∙◌, ap, subst, arith}
-use Rattle.std.specs.Prelude.{MatchOption}
+use Rattle.std.proofs.Common.{◌≡◌, ◌≢◌, ◌<◌, ◌≤◌, ◌+◌, ◌-◌, ◌^◌, ◌==◌, ℕ, ℤ, Bool, true, false, cond, List, [], ◌∷◌}
+use Rattle.std.proofs.Common.{length, map, Option, Some, None, refl, sym, ◌∙◌, ap, subst, arith}
 use Rattle.std.proofs.lemmas.Bool.{cond_both, eq-eqb, eqb-false, eqb-true, ne_eqb}
-use Rattle.rt_geo.specs.Laws.{Extent, IsLawful}
-use Rattle.rt_geo.specs.declared.geometry.Info.{Info}
-use Rattle.rt_geo.specs.declared.geometry.Verdict.{Verdict}
+use Rattle.std.specs.Prelude.{MatchOption}
+use Rattle.rt_geo.specs.{Laws.{Extent, IsLawful}, declared.geometry.{Info.{Info}, Verdict.{Verdict}}}
 use Rattle.rt_tree.specs.Packed.{Packed, IsSound, node_at}
-use Rattle.rt_tree.specs.declared.tree.Node as node
-use Rattle.rt_search.specs.Answers.{Answer}
-use Rattle.rt_search.specs.Items.{item_at, item_of}
-use Rattle.rt_search.specs.Joining.{join_answers, join_nodes}
-use Rattle.rt_search.specs.Kept.{IsRising, IsTakenOut, node_or, taken_entry, taken_item}
-use Rattle.rt_search.specs.Limits.{IsEnough, one_less, wanted_after}
-use Rattle.rt_search.specs.Progress.{IsFound, IsNodeStep, IsOver, IsSearching, IsTaken, IsUnderWay, join_children, work_left}
-use Rattle.rt_search.specs.Remaining.{IsOpenable, height_at, remaining, verdict_on}
-use Rattle.rt_search.specs.Walking.{answers_among}
-use Rattle.rt_search.specs.Work.{is_reached, one_node, reached_from_root}
-use Rattle.rt_search.specs.declared.item.Item.{Item}
-use Rattle.rt_search.specs.declared.item.Place.TheVariants as place
-use Rattle.rt_search.specs.declared.item.ScoredNode.{ScoredNode}
-use Rattle.rt_search.specs.declared.item.WaitingNode.{WaitingNode}
-use Rattle.rt_search.proofs.Children.{subtree_level}
+use Rattle.rt_search.specs.{Answers.{Answer}, Joining.{join_answers, join_nodes}, Progress.{work_left}}
+use Rattle.rt_search.specs.{Items.{item_at, item_of}, Remaining.{IsOpenable, height_at, remaining, verdict_on}}
+use Rattle.rt_search.specs.{Kept.{IsRising, IsTakenOut, node_or, taken_entry, taken_item}, declared.item.Item.{Item}}
+use Rattle.rt_search.specs.{Limits.{IsEnough, one_less, wanted_after}, Work.{is_reached, one_node, reached_from_root}}
+use Rattle.rt_search.specs.Progress.{IsFound, IsNodeStep, IsOver, IsSearching, IsTaken, IsUnderWay, join_children}
+use Rattle.rt_search.specs.{Walking.{answers_among}, declared.item.{ScoredNode.{ScoredNode}, WaitingNode.{WaitingNode}}}
+use Rattle.rt_search.proofs.{Children.{subtree_level}, Limits.{rising_put_all}, Sizes.{done_upto, one_is_fair}}
 use Rattle.rt_search.proofs.Limits.{enough_nodes, enough_put_all, enough_trans, first_kept, none_left, rising_nodes}
-use Rattle.rt_search.proofs.Limits.{rising_put_all}
-use Rattle.rt_search.proofs.Sizes.{done_upto, one_is_fair}
 use Rattle.rt_search.proofs.Stepping.{can_open, entry_step, inner_step, leaf_step, reached_is}
+use Rattle.rt_tree.specs.declared.tree.Node as node
+use Rattle.rt_search.specs.declared.item.Place.TheVariants as place
 
 pub still_more : (w w' : Option ℕ) → w' ≡ w → w ≢ Some 0 → w' ≢ Some 0
 still_more w w' same more = λ e. more (sym same ∙ e)

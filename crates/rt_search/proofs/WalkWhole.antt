@@ -1,23 +1,15 @@
 -- A walk over a whole tree, from its root.
-use Rattle.std.proofs.Common.{◌≡◌, ◌<◌, ◌≤◌, ◌+◌, ◌-◌, ◌^◌, ◌==◌, ◌∙◌, ℕ, Bool, None, []}
-use Rattle.std.proofs.Common.{length, refl, sym, ap, subst, arith}
-use Rattle.std.proofs.lemmas.Bool.{cond_both, eqb-true}
-use Rattle.std.proofs.lemmas.List.Sorted.{length_permutation}
-use Rattle.rt_geo.specs.Laws.{Extent}
-use Rattle.rt_geo.specs.declared.geometry.Info.{Info}
-use Rattle.rt_geo.specs.declared.geometry.Verdict.{Verdict}
-use Rattle.rt_tree.specs.Packed.{Packed, IsSound, entries_under, height, node_at, root_of}
-use Rattle.rt_tree.specs.declared.tree.Node.{Node}
-use Rattle.rt_search.specs.Answers.{accepted, answer_cmp, answer_of, answers, scored}
-use Rattle.rt_search.specs.Remaining.{IsOpenable, put_all}
+use Rattle.std.proofs.Common.{◌≡◌, ◌<◌, ◌≤◌, ◌+◌, ◌-◌, ◌^◌, ◌==◌, ◌∙◌, ℕ, Bool, None, [], length, refl, sym, ap, subst}
+use Rattle.std.proofs.{Common.{arith}, lemmas.{Bool.{cond_both, eqb-true}, List.Sorted.{length_permutation}}}
+use Rattle.std.proofs.lemmas.List.{length-map}
+use Rattle.rt_geo.specs.{Laws.{Extent}, declared.geometry.{Info.{Info}, Verdict.{Verdict}}}
+use Rattle.rt_tree.specs.{Packed.{Packed, IsSound, entries_under, height, node_at, root_of}, declared.tree.Node.{Node}}
+use Rattle.rt_search.specs.{Answers.{accepted, answer_cmp, answer_of, answers, scored}, Remaining.{IsOpenable, put_all}}
 use Rattle.rt_search.specs.Walking.{answers_in_tree, answers_under, work_under}
 use Rattle.rt_search.specs.Work.{its_children, one_node, reached_from_root, root_verdict}
-use Rattle.rt_search.proofs.Answering.{among-IsPermutation}
-use Rattle.rt_search.proofs.OrderedLists.{length-put_all, put_all-nil}
-use Rattle.rt_search.proofs.Orders.{answer_order}
-use Rattle.rt_search.proofs.Sizes.{count_is_fair, one_is_fair, size_under, work_le}
+use Rattle.rt_search.proofs.{Answering.{among-IsPermutation}, OrderedLists.{length-put_all, put_all-nil}}
+use Rattle.rt_search.proofs.{Orders.{answer_order}, Sizes.{count_is_fair, one_is_fair, size_under, work_le}}
 use Rattle.rt_search.proofs.Starting.{empty_answers, nat_eq_false, root_sound, some_nodes}
-use Rattle.std.proofs.lemmas.List.{length-map}
 
 module _ (accepts : Extent → Bool) (score : Extent → ℕ) (verdict : Info → Verdict) (t : Packed) (sound : IsSound t)
   where

@@ -1,28 +1,16 @@
 -- What opening a node means for the work to come and for the room that is used.
 use Rattle.std.proofs.Common.{◌≡◌, ◌<◌, ◌≤◌, ◌+◌, ◌-◌, ℕ, zero, suc, Bool, true, false, cond, List, [], ◌∷◌, length}
-use Rattle.std.proofs.Common.{take, refl, ◌∙◌, ap, arith, add-one}
-use Rattle.std.specs.List.{sum_by}
-use Rattle.std.proofs.lemmas.Bool.{cond_both}
+use Rattle.std.proofs.{Common.{take, refl, ◌∙◌, ap, arith, add-one}, lemmas.Bool.{cond_both}}
 use Rattle.std.proofs.lemmas.List.Sums.{sum_by-append}
-use Rattle.rt_geo.specs.declared.geometry.Info.{Info}
-use Rattle.rt_geo.specs.declared.geometry.Verdict.{Verdict}
-use Rattle.rt_tree.specs.Packed.{Packed, IsSubtree, child_nodes, node_at}
-use Rattle.rt_tree.specs.Sorting.{put}
-use Rattle.rt_tree.specs.declared.tree.Node.{Node}
-use Rattle.rt_search.specs.Answers.{Answer}
-use Rattle.rt_search.specs.Items.{item_at, item_cmp, item_of}
-use Rattle.rt_search.specs.Joining.{join_answers, join_nodes}
-use Rattle.rt_search.specs.Progress.{held, size_at, work_at, work_left}
-use Rattle.rt_search.specs.Remaining.{height_at, waiting_node}
-use Rattle.rt_search.specs.Walking.{work_of_child}
-use Rattle.rt_search.specs.Work.{info_of_node, is_kept, reached}
-use Rattle.rt_search.specs.declared.item.Item.{Item}
+use Rattle.std.specs.List.{sum_by}
+use Rattle.rt_geo.specs.declared.geometry.{Info.{Info}, Verdict.{Verdict}}
+use Rattle.rt_tree.specs.{Packed.{Packed, IsSubtree, child_nodes, node_at}, Sorting.{put}, declared.tree.Node.{Node}}
+use Rattle.rt_search.specs.{Answers.{Answer}, Items.{item_at, item_cmp, item_of}, Joining.{join_answers, join_nodes}}
+use Rattle.rt_search.specs.{Progress.{held, size_at, work_at, work_left}, Remaining.{height_at, waiting_node}}
+use Rattle.rt_search.specs.{Walking.{work_of_child}, Work.{info_of_node, is_kept, reached}, declared.item.Item.{Item}}
+use Rattle.rt_search.proofs.{Answering.{take_more_at}, Children.{all_children, child, height_suc, inner_at}}
+use Rattle.rt_search.proofs.{Joined.{verdict_told}, OrderedLists.{length-put, sum_by-put}, Orders.{item_order}}
 use Rattle.rt_search.specs.declared.item.Place.TheVariants as place
-use Rattle.rt_search.proofs.Answering.{take_more_at}
-use Rattle.rt_search.proofs.Children.{all_children, child, height_suc, inner_at}
-use Rattle.rt_search.proofs.Joined.{verdict_told}
-use Rattle.rt_search.proofs.OrderedLists.{length-put, sum_by-put}
-use Rattle.rt_search.proofs.Orders.{item_order}
 
 -- an item that joins where a test holds, in a sum and in the length
 joined_adds : (f : Item → ℕ) (b : Bool) (x : Item) (xs : List Item) → sum_by f (cond b (put item_cmp x xs) xs)

@@ -1,17 +1,10 @@
 -- What a full search finds: entries of score 0, those of other scores of one word, and the wide.
-use Rattle.std.proofs.Common.{◌≡◌, ◌<◌, ◌≤◌, ◌^◌, ℕ, ℤ, false, List, ◌∷◌}
-use Rattle.std.proofs.Common.{sym, subst, arith}
-use Rattle.std.specs.List.{AllByRecursion}
-use Rattle.std.specs.Ordering.{is_gt}
-use Rattle.std.specs.declared.cmp.Reverse.{Reverse}
-use Rattle.rt_search.specs.Items.{item_cmp}
-use Rattle.rt_search.specs.Kept.{IsAhead, IsEntry, entry_item, hits_in, in_order, zero_item}
-use Rattle.rt_search.specs.Remaining.{put_all}
-use Rattle.rt_search.specs.declared.item.Item.{Item}
-use Rattle.rt_search.proofs.Elements.{all_each, all_map}
-use Rattle.rt_search.proofs.Heaps.{all_entries, in_order-all}
-use Rattle.rt_search.proofs.OrderedLists.{put_all-all}
-use Rattle.rt_search.proofs.Orders.{item_order, lower_before}
+use Rattle.std.proofs.Common.{◌≡◌, ◌<◌, ◌≤◌, ◌^◌, ℕ, ℤ, false, List, ◌∷◌, sym, subst, arith}
+use Rattle.std.specs.{List.{AllByRecursion}, Ordering.{is_gt}, declared.cmp.Reverse.{Reverse}}
+use Rattle.rt_search.specs.{Items.{item_cmp}, Kept.{IsAhead, IsEntry, entry_item, hits_in, in_order, zero_item}}
+use Rattle.rt_search.specs.{Remaining.{put_all}, declared.item.Item.{Item}}
+use Rattle.rt_search.proofs.{Elements.{all_each, all_map}, Heaps.{all_entries, in_order-all}}
+use Rattle.rt_search.proofs.{OrderedLists.{put_all-all}, Orders.{item_order, lower_before}}
 
 -- each is an entry
 pub hits_entries : (ids : List (Reverse ℤ)) (keys : List (Reverse ℕ)) (wide : List Item)

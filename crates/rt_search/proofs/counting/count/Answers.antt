@@ -1,7 +1,6 @@
 use Rattle.std.proofs.Common.{arith}
 use Rattle.rt_search.specs.Walking.{answers_in_tree}
-use Rattle.rt_search.proofs.Collectors.{tally_counts}
-use Rattle.rt_search.proofs.WalkWhole.{tree_count}
+use Rattle.rt_search.proofs.{Collectors.{tally_counts}, WalkWhole.{tree_count}}
 use Rattle.rt_search.proofs.counting.count.Goals as goal
 
 pub returns-clause-accepted : goal.returns-clause-accepted

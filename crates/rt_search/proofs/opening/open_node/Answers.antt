@@ -1,11 +1,8 @@
 use Rattle.std.proofs.Common.{◌≡◌, ◌∙◌, arith, add-one}
 use Rattle.rt_tree.specs.Packed.{node_at}
 use Rattle.rt_search.specs.Walking.{answers_among}
-use Rattle.rt_search.proofs.Children.{asked, children_inside, children_of, honest_child}
-use Rattle.rt_search.proofs.Collectors.{entries_join}
-use Rattle.rt_search.proofs.Limits.{enough_node}
-use Rattle.rt_search.proofs.UnderWay.{leaf_joins, nodes_join}
-use Rattle.rt_search.proofs.Working.{length-join_nodes}
+use Rattle.rt_search.proofs.{Children.{asked, children_inside, children_of, honest_child}, Collectors.{entries_join}}
+use Rattle.rt_search.proofs.{Limits.{enough_node}, UnderWay.{leaf_joins, nodes_join}, Working.{length-join_nodes}}
 use Rattle.rt_search.proofs.opening.open_node.Goals as goal
 
 pub returns-then-node-eq1-clause-children : goal.returns-then-node-eq1-clause-children

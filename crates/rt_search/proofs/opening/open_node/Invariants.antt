@@ -1,8 +1,6 @@
 use Rattle.std.proofs.Common.{◌≡◌, ◌+◌}
 use Rattle.rt_tree.specs.Packed.{node_at}
-use Rattle.rt_search.specs.Joining.{join_nodes}
-use Rattle.rt_search.specs.Items.{limited}
-use Rattle.rt_search.specs.Limits.{KeepsEnough}
+use Rattle.rt_search.specs.{Joining.{join_nodes}, Items.{limited}, Limits.{KeepsEnough}}
 use Rattle.rt_search.proofs.opening.open_node.Given as goal
 
 abbrev pub invariant-loop-i : goal.invariant-loop-i

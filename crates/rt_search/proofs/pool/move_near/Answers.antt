@@ -1,12 +1,9 @@
 use Rattle.std.proofs.Common.{◌≡◌, ◌<◌, ◌≤◌, [], ◌∷◌, ◌++◌, length, take, ap, sym, ◌∙◌, subst, arith, IsPermutation}
-use Rattle.std.specs.Prelude.{IsOk}
-use Rattle.std.specs.BinaryHeap.{heap_items}
 use Rattle.std.proofs.lemmas.List.{get_or_default, length-append, take_more}
 use Rattle.std.proofs.lemmas.List.Sorted.{IsPermutation-swap_remove, IsPermutation-trans, length_permutation}
+use Rattle.std.specs.{Prelude.{IsOk}, BinaryHeap.{heap_items}}
 use Rattle.rt_search.specs.Pooling.{IsFar, score_in}
-use Rattle.rt_search.proofs.Heaps.{on_ok}
-use Rattle.rt_search.proofs.Elements.{all_moved}
-use Rattle.rt_search.proofs.Pools.{far_more, moved_over, take-swap_remove}
+use Rattle.rt_search.proofs.{Heaps.{on_ok}, Elements.{all_moved}, Pools.{far_more, moved_over, take-swap_remove}}
 use Rattle.rt_search.proofs.pool.move_near.Goals as goal
 
 pub loop-at-preserved-then-score-edge : goal.loop-at-preserved-then-score-edge

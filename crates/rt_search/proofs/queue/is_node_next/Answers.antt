@@ -1,9 +1,6 @@
-use Rattle.std.proofs.Common.{refl}
-use Rattle.std.proofs.lemmas.Bool.{leb-false, leb-true}
-use Rattle.rt_search.specs.Kept.{IsNode, node_item}
-use Rattle.rt_search.specs.Pooling.{keys_in}
-use Rattle.rt_search.proofs.Heaps.{all_nodes, in_order-all}
-use Rattle.rt_search.proofs.Merging.{by_test, entries_ahead, nodes_ahead}
+use Rattle.std.proofs.{Common.{refl}, lemmas.Bool.{leb-false, leb-true}}
+use Rattle.rt_search.specs.{Kept.{IsNode, node_item}, Pooling.{keys_in}}
+use Rattle.rt_search.proofs.{Heaps.{all_nodes, in_order-all}, Merging.{by_test, entries_ahead, nodes_ahead}}
 use Rattle.rt_search.proofs.PooledItems.{first_of_least}
 use Rattle.rt_search.proofs.queue.is_node_next.Goals as goal
 

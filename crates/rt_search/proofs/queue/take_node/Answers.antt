@@ -1,6 +1,5 @@
 use Rattle.std.proofs.Common.{Some, subst, sym}
-use Rattle.rt_search.specs.Kept.{IsTakenOut, in_order, node_item}
-use Rattle.rt_search.specs.Pooling.{keys_in}
+use Rattle.rt_search.specs.{Kept.{IsTakenOut, in_order, node_item}, Pooling.{keys_in}}
 use Rattle.rt_search.proofs.Heaps.{nodes_after, popped_out}
 use Rattle.rt_search.proofs.queue.take_node.Goals as goal
 

@@ -1,6 +1,5 @@
 use Rattle.std.proofs.Common.{◌<◌, ◌^◌, ◌∙◌, refl, subst, arith, rules}
-use Rattle.rt_search.specs.Limits.{IsEnough}
-use Rattle.rt_search.specs.Progress.{join_children}
+use Rattle.rt_search.specs.{Limits.{IsEnough}, Progress.{join_children}}
 use Rattle.rt_search.proofs.UnderWay.{ended, falls_by_one, go_on, node_out, node_wanted, still_more}
 use Rattle.rt_search.proofs.search.pull.Goals as goal
 

@@ -1,7 +1,5 @@
 use Rattle.std.proofs.Common.{◌≡◌, ◌-◌, List, None}
-use Rattle.rt_search.specs.Answers.{Answer}
-use Rattle.rt_search.specs.Progress.{IsUnderWay}
-use Rattle.rt_search.specs.Work.{is_reached, one_node, reached_from_root}
+use Rattle.rt_search.specs.{Answers.{Answer}, Progress.{IsUnderWay}, Work.{is_reached, one_node, reached_from_root}}
 use Rattle.rt_search.proofs.search.pull.Given as goal
 
 abbrev pub invariant-loop-node : goal.invariant-loop-node

@@ -1,9 +1,7 @@
 use Rattle.std.proofs.Common.{◌≡◌, ◌+◌, ◌-◌, ◌*◌, take}
 use Rattle.std.specs.List.{sum_by}
 use Rattle.rt_tree.specs.Packed.{child_nodes, node_at}
-use Rattle.rt_search.specs.Remaining.{height_at}
-use Rattle.rt_search.specs.Walking.{HasTaken, work_of_child}
-use Rattle.rt_search.specs.Work.{its_children, one_node}
+use Rattle.rt_search.specs.{Remaining.{height_at}, Walking.{HasTaken, work_of_child}, Work.{its_children, one_node}}
 use Rattle.rt_search.proofs.Answering.{under_all}
 use Rattle.rt_search.proofs.walk.+walk.Given as goal
 

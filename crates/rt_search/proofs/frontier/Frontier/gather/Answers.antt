@@ -1,10 +1,6 @@
 use Rattle.std.proofs.Common.{◌∙◌, [], ap, sym}
-use Rattle.rt_search.specs.Joining.{join_answers}
-use Rattle.rt_search.specs.Remaining.{remaining}
-use Rattle.rt_search.specs.Walking.{answers_in_tree}
-use Rattle.rt_search.proofs.Collectors.{hits_join}
-use Rattle.rt_search.proofs.Joined.{answers_joined}
-use Rattle.rt_search.proofs.WalkWhole.{tree_answers}
+use Rattle.rt_search.specs.{Joining.{join_answers}, Remaining.{remaining}, Walking.{answers_in_tree}}
+use Rattle.rt_search.proofs.{Collectors.{hits_join}, Joined.{answers_joined}, WalkWhole.{tree_answers}}
 use Rattle.rt_search.proofs.frontier.Frontier.gather.Goals as goal
 
 pub invariant_of-self : goal.invariant_of-self

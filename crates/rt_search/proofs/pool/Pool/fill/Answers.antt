@@ -1,6 +1,5 @@
-use Rattle.std.proofs.Common.{arith}
+use Rattle.std.proofs.{Common.{arith}, lemmas.List.Sorted.{length_permutation}}
 use Rattle.std.specs.BinaryHeap.{heap_items}
-use Rattle.std.proofs.lemmas.List.Sorted.{length_permutation}
 use Rattle.rt_search.proofs.Pools.{some_near}
 use Rattle.rt_search.proofs.pool.Pool.fill.Goals as goal
 

@@ -1,11 +1,8 @@
-use Rattle.std.proofs.Common.{◌∷◌, ◌++◌, subst, arith, IsPermutation}
-use Rattle.std.specs.Prelude.{IsOk}
-use Rattle.std.specs.BinaryHeap.{heap_items}
-use Rattle.std.proofs.lemmas.List.{length-append}
+use Rattle.std.proofs.{Common.{◌∷◌, ◌++◌, subst, arith, IsPermutation}, lemmas.List.{length-append}}
 use Rattle.std.proofs.lemmas.List.Sorted.{IsPermutation-append_left, length_permutation}
+use Rattle.std.specs.{Prelude.{IsOk}, BinaryHeap.{heap_items}}
 use Rattle.rt_search.specs.Pooling.{keys_in}
-use Rattle.rt_search.proofs.Heaps.{on_ok}
-use Rattle.rt_search.proofs.Pools.{far_more, put_right}
+use Rattle.rt_search.proofs.{Heaps.{on_ok}, Pools.{far_more, put_right}}
 use Rattle.rt_search.proofs.pool.Pool.put.Goals as goal
 
 pub returns-then-score-self-clause-keys : goal.returns-then-score-self-clause-keys

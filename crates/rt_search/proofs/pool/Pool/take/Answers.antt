@@ -1,10 +1,8 @@
-use Rattle.std.proofs.Common.{◌≡◌, ◌≤◌, [], ◌∷◌, ◌++◌, ap, sym, ◌∙◌, arith}
-use Rattle.std.specs.BinaryHeap.{heap_items}
-use Rattle.std.proofs.lemmas.List.{nil_from_length}
+use Rattle.std.proofs.{Common.{◌≡◌, ◌≤◌, [], ◌∷◌, ◌++◌, ap, sym, ◌∙◌, arith}, lemmas.List.{nil_from_length}}
 use Rattle.std.proofs.lemmas.List.Sorted.{IsPermutation-append_left, IsPermutation-trans, length_permutation}
+use Rattle.std.specs.BinaryHeap.{heap_items}
 use Rattle.rt_search.specs.Pooling.{score_in}
-use Rattle.rt_search.proofs.Elements.{all_moved}
-use Rattle.rt_search.proofs.Pools.{none_kept, taken_lowest}
+use Rattle.rt_search.proofs.{Elements.{all_moved}, Pools.{none_kept, taken_lowest}}
 use Rattle.rt_search.proofs.pool.Pool.take.Goals as goal
 
 pub returns-in_default-clause-keys : goal.returns-in_default-clause-keys

@@ -1,14 +1,10 @@
 use Rattle.std.proofs.Common.{◌≤◌, ◌+◌, length, arith, ℤ, ◌∙◌, ap, rules, subst, FitsSigned, w64}
 use Rattle.std.proofs.lemmas.Int.{to_z-of_z}
 use Rattle.rt_tree.specs.Sorting.{put}
-use Rattle.rt_search.specs.Items.{item_at, item_cmp}
-use Rattle.rt_search.specs.Kept.{in_order, node_item, queued}
-use Rattle.rt_search.specs.Pooling.{keys_in}
-use Rattle.rt_search.specs.Limits.{IsEnough}
-use Rattle.rt_search.specs.Remaining.{put_all}
+use Rattle.rt_search.specs.{Items.{item_at, item_cmp}, Kept.{in_order, node_item, queued}, Pooling.{keys_in}}
+use Rattle.rt_search.specs.{Limits.{IsEnough}, Remaining.{put_all}}
+use Rattle.rt_search.proofs.{Limits.{enough_fits, enough_joined}, Merging.{length-queued}}
 use Rattle.rt_search.specs.declared.item.Place.TheVariants as place
-use Rattle.rt_search.proofs.Limits.{enough_fits, enough_joined}
-use Rattle.rt_search.proofs.Merging.{length-queued}
 use Rattle.rt_search.proofs.queue.Queue.put_entry.Goals as goal
 
 pub put-requires : goal.put-requires

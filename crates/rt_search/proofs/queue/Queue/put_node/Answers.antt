@@ -1,17 +1,10 @@
-use Rattle.std.proofs.Common.{◌∙◌, ap, refl, subst, arith}
-use Rattle.std.proofs.lemmas.List.Sorted.{length_permutation}
+use Rattle.std.proofs.{Common.{◌∙◌, ap, refl, subst, arith}, lemmas.List.Sorted.{length_permutation}}
 use Rattle.rt_tree.specs.Sorting.{put}
-use Rattle.rt_search.specs.Items.{item_at, item_cmp}
-use Rattle.rt_search.specs.Limits.{IsPut}
-use Rattle.rt_search.specs.Kept.{in_order, node_item}
-use Rattle.rt_search.specs.Pooling.{keys_in}
+use Rattle.rt_search.specs.{Items.{item_at, item_cmp}, Limits.{IsPut}, Kept.{in_order, node_item}, Pooling.{keys_in}}
 use Rattle.rt_search.specs.Remaining.{put_all}
+use Rattle.rt_search.proofs.{Heaps.{pushed}, Limits.{enough_beyond, enough_same}, Merging.{length-queued, put-put_all}}
+use Rattle.rt_search.proofs.{OrderedLists.{put_all-put}, Orders.{item_order}}
 use Rattle.rt_search.specs.declared.item.Place.TheVariants as place
-use Rattle.rt_search.proofs.Heaps.{pushed}
-use Rattle.rt_search.proofs.Limits.{enough_beyond, enough_same}
-use Rattle.rt_search.proofs.Merging.{length-queued, put-put_all}
-use Rattle.rt_search.proofs.OrderedLists.{put_all-put}
-use Rattle.rt_search.proofs.Orders.{item_order}
 use Rattle.rt_search.proofs.queue.Queue.put_node.Goals as goal
 
 pub put-requires : goal.put-requires

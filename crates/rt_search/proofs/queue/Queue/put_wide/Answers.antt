@@ -1,11 +1,7 @@
 use Rattle.std.proofs.Common.{refl, subst, arith}
-use Rattle.rt_search.specs.Items.{item_at}
-use Rattle.rt_search.specs.Limits.{IsPut}
-use Rattle.rt_search.specs.Pooling.{keys_in}
-use Rattle.rt_search.proofs.Limits.{enough_beyond, enough_same}
-use Rattle.rt_search.proofs.Merging.{length-queued, put-put_all}
-use Rattle.rt_search.proofs.OrderedLists.{length-put, put-all}
-use Rattle.rt_search.proofs.Orders.{item_order}
+use Rattle.rt_search.specs.{Items.{item_at}, Limits.{IsPut}, Pooling.{keys_in}}
+use Rattle.rt_search.proofs.{Limits.{enough_beyond, enough_same}, Merging.{length-queued, put-put_all}}
+use Rattle.rt_search.proofs.{OrderedLists.{length-put, put-all}, Orders.{item_order}}
 use Rattle.rt_search.proofs.queue.Queue.put_wide.Goals as goal
 
 pub put-requires : goal.put-requires

@@ -1,11 +1,8 @@
 use Rattle.std.proofs.Common.{◌≤◌, ◌^◌, length, ◌∙◌, ap, sym, subst}
-use Rattle.rt_search.specs.Items.{item_cmp}
-use Rattle.rt_search.specs.Kept.{IsTakenOut, in_order, node_item, taken_item}
-use Rattle.rt_search.specs.Pooling.{keys_in}
+use Rattle.rt_search.specs.{Items.{item_cmp}, Kept.{IsTakenOut, in_order, node_item, taken_item}, Pooling.{keys_in}}
 use Rattle.rt_search.specs.Remaining.{put_all}
-use Rattle.rt_search.proofs.Limits.{none_merged, still_none}
-use Rattle.rt_search.proofs.Merging.{fewer_left, fewer_right, left-all, narrow_ahead, none_taken}
-use Rattle.rt_search.proofs.Merging.{taken_left, taken_right, wide_ahead}
+use Rattle.rt_search.proofs.{Limits.{none_merged, still_none}, Merging.{taken_right, wide_ahead}}
+use Rattle.rt_search.proofs.Merging.{fewer_left, fewer_right, left-all, narrow_ahead, none_taken, taken_left}
 use Rattle.rt_search.proofs.queue.Queue.take.Goals as goal
 
 pub invariant_of-self : goal.invariant_of-self

@@ -1,10 +1,7 @@
 use Rattle.std.proofs.Common.{◌≡◌, ◌≢◌, ◌≤◌, [], Some, length, rules}
 use Rattle.std.specs.Prelude.{IfSome}
-use Rattle.rt_search.specs.Joining.{join_answers}
-use Rattle.rt_search.specs.Limits.{IsEnough}
-use Rattle.rt_search.specs.Walking.{answers_in_tree}
-use Rattle.rt_search.proofs.Collectors.{entries_join}
-use Rattle.rt_search.proofs.Unscored.{all_worked, begun}
+use Rattle.rt_search.specs.{Joining.{join_answers}, Limits.{IsEnough}, Walking.{answers_in_tree}}
+use Rattle.rt_search.proofs.{Collectors.{entries_join}, Unscored.{all_worked, begun}}
 use Rattle.rt_search.proofs.search.Search.start_unscored.Goals as goal
 
 pub invariant_of-result : goal.invariant_of-result

@@ -1,10 +1,7 @@
-use Rattle.std.proofs.Common.{◌∙◌, ap, arith}
-use Rattle.std.specs.Prelude.{IsOk}
-use Rattle.std.specs.BinaryHeap.{heap_items}
-use Rattle.std.proofs.lemmas.List.Sorted.{length_permutation}
+use Rattle.std.proofs.{Common.{◌∙◌, ap, arith}, lemmas.List.Sorted.{length_permutation}}
+use Rattle.std.specs.{Prelude.{IsOk}, BinaryHeap.{heap_items}}
 use Rattle.rt_tree.specs.Sorting.{put}
-use Rattle.rt_search.specs.Items.{item_cmp}
-use Rattle.rt_search.specs.Kept.{wide_item}
+use Rattle.rt_search.specs.{Items.{item_cmp}, Kept.{wide_item}}
 use Rattle.rt_search.proofs.Heaps.{length-in_order, on_ok, pushed}
 use Rattle.rt_search.proofs.wide.Wide.put.Goals as goal
 
