@@ -70,14 +70,9 @@ module _ (cmp : Item → Item → Ordering) (o : IsOrder cmp) (size : Item → �
   before x [] = 0
   before x (y ∷ ys) = cond (is_gt (cmp x y)) (size y + before x ys) 0
 
-  before_put_cons : (x z y : Item) (ys : List Item)
-      → before x (put cmp z ys) ≡ cond (is_gt (cmp x z)) (size z) 0 + before x ys
-      → before x (put cmp z (y ∷ ys)) ≡ cond (is_gt (cmp x z)) (size z) 0 + before x (y ∷ ys)
-  before_put_cons x z y ys h = grind (arith, o.one_way, o.trans)
-
   before-put : (x z : Item) (ys : List Item) → before x (put cmp z ys) ≡ cond (is_gt (cmp x z)) (size z) 0 + before x ys
   before-put x z [] = grind arith
-  before-put x z (y ∷ ys) = before_put_cons x z y ys (before-put x z ys)
+  before-put x z (y ∷ ys) = grind (arith, o.one_way, o.trans, before-put x z ys)
 
 abbrev pub here : Item → Item → ℕ
 here x z = cond (is_gt (item_cmp x z)) (entries_at z.place) 0

@@ -50,17 +50,10 @@ pub put_cases : {X : Type 0} (cmp : X → X → Ordering) (P : List X → Type 0
 put_cases cmp P x y ys = cond_both (is_gt (cmp x y)) (y ∷ put cmp x ys) (x ∷ y ∷ ys) P
 
 module _ {X : Type 0} (cmp : X → X → Ordering) (o : IsOrder cmp) where
-  put_put_nil : (x y : X) → put cmp x (put cmp y []) ≡ put cmp y (put cmp x [])
-  put_put_nil x y = grind (arith, o.one_way, o.tie)
-
-  put_put_cons : (x y z : X) (zs : List X) → put cmp x (put cmp y zs) ≡ put cmp y (put cmp x zs)
-      → put cmp x (put cmp y (z ∷ zs)) ≡ put cmp y (put cmp x (z ∷ zs))
-  put_put_cons x y z zs h = grind (arith, o.one_way, o.tie, o.trans)
-
   -- two elements may be put in either order
   pub put-put : (x y : X) (zs : List X) → put cmp x (put cmp y zs) ≡ put cmp y (put cmp x zs)
-  put-put x y [] = put_put_nil x y
-  put-put x y (z ∷ zs) = put_put_cons x y z zs (put-put x y zs)
+  put-put x y [] = grind (arith, o.one_way, o.tie)
+  put-put x y (z ∷ zs) = grind (arith, o.one_way, o.tie, o.trans, put-put x y zs)
 
   pub put_all-put : (xs : List X) (y : X) (zs : List X) → put_all cmp xs (put cmp y zs) ≡ put cmp y (put_all cmp xs zs)
   put_all-put [] y zs = refl
@@ -89,13 +82,10 @@ module _ {X : Type 0} (cmp : X → X → Ordering) (o : IsOrder cmp) where
   put_all-all P [] ys a b = b
   put_all-all P (x ∷ xs) ys a b = put-all P x (put_all cmp xs ys) a.0 (put_all-all P xs ys a.1 b)
 
-  put_least_cons : (x y : X) (ys : List X) → is_gt (cmp x y) ≡ false → put cmp x (y ∷ ys) ≡ x ∷ y ∷ ys
-  put_least_cons x y ys h = rw h refl
-
   -- an element that comes after none of the others is put first
   pub put_least : (x : X) (ys : List X) → AllByRecursion (λ y. is_gt (cmp x y) ≡ false) ys → put cmp x ys ≡ x ∷ ys
   put_least x [] a = refl
-  put_least x (y ∷ ys) a = put_least_cons x y ys a.0
+  put_least x (y ∷ ys) a = rw a.0 refl
 
   -- ---- lengths and sums
 

@@ -24,14 +24,10 @@ exact_bool true true h = refl
 
 -- ---- answers
 
-answer_total : IsTotalOrder answer_cmp
-answer_total = then_total (on_total (λ (a : Answer). a.1) nat_cmp_total) (on_total (λ (a : Answer). a.0) int_cmp_total)
-
-answer_exact : CmpEqualImpliesEq answer_cmp
-answer_exact a b h = grind (arith, then_equal, exact_signed, exact_unsigned)
-
 pub answer_order : IsOrder answer_cmp
-answer_order = order_of answer_cmp answer_total answer_exact
+answer_order = order_of answer_cmp
+    (then_total (on_total (λ (a : Answer). a.1) nat_cmp_total) (on_total (λ (a : Answer). a.0) int_cmp_total))
+    (λ a b h. grind (arith, then_equal, exact_signed, exact_unsigned))
 
 -- ---- items
 
@@ -76,36 +72,21 @@ place_exact (Node m) (Entry j) h = cc
 place_exact (Entry i) (Node n) h = cc
 place_exact (Entry i) (Entry j) h = ap Entry (exact_signed i j h)
 
-item_total : IsTotalOrder item_cmp
-item_total = then_total (on_total (λ (x : Item). x.score) nat_cmp_total) (on_total (λ (x : Item). x.place) place_total)
-
-item_exact : CmpEqualImpliesEq item_cmp
-item_exact x y h = grind (arith, then_equal, exact_unsigned, place_exact)
-
 pub item_order : IsOrder item_cmp
-item_order = order_of item_cmp item_total item_exact
-
--- what doesn't come after another scores no higher
-score_le : (s r : ℕ) (o : Ordering) → is_gt (ordering_then (nat_cmp s r) o) ≡ false → s ≤ r
-score_le s r o h = grind (arith, nat_tests)
+item_order = order_of item_cmp
+    (then_total (on_total (λ (x : Item). x.score) nat_cmp_total) (on_total (λ (x : Item). x.place) place_total))
+    (λ x y h. grind (arith, then_equal, exact_unsigned, place_exact))
 
 pub score_upto : (x y : Item) → is_gt (item_cmp x y) ≡ false → x.score ≤ y.score
-score_upto x y h = score_le x.score y.score (place_cmp x.place y.place) h
-
--- what scores lower doesn't come after
-lower_cmp : (s r : ℕ) (o : Ordering) → s < r → is_gt (ordering_then (nat_cmp s r) o) ≡ false
-lower_cmp s r o h = grind (arith, nat_tests)
+score_upto x y h = grind (arith, nat_tests)
 
 pub lower_before : (x y : Item) → x.score < y.score → is_gt (item_cmp x y) ≡ false
-lower_before x y h = lower_cmp x.score y.score (place_cmp x.place y.place) h
+lower_before x y h = grind (arith, nat_tests)
 
 -- a node doesn't come after an entry of no lower score
-node_cmp_entry : (s r : ℕ) → s ≤ r → is_gt (ordering_then (nat_cmp s r) Less) ≡ false
-node_cmp_entry s r h = grind (arith, nat_tests)
-
 pub node_before : (s r : ℕ) (p q : Place) → IsNode p → IsEntry q → s ≤ r
     → is_gt (item_cmp (item_at s p) (item_at r q)) ≡ false
-node_before s r (Node n) (Entry id) p q h = node_cmp_entry s r h
+node_before s r (Node n) (Entry id) p q h = grind (arith, nat_tests)
 node_before s r (Node n) (Node m) p q h = absurd q
 node_before s r (Entry id) q' p q h = absurd p
 
