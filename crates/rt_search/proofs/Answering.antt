@@ -128,9 +128,6 @@ module _ (accepts : Extent → Bool) (score : Extent → ℕ) where
 
     -- ---- an entry that is taken out
 
-    later : (i : ℤ) (s r : ℕ) (q : Answer) → s < r → r ≤ q.1 → is_gt (answer_cmp (i, s) q) ≡ false
-    later i s r q h k = grind (arith, nat_tests)
-
     pub before_node : (i : ℤ) (n : WaitingNode) (s r : ℕ)
         → is_gt (item_cmp (item_at s (place.Entry i)) (item_at r (place.Node n))) ≡ false → s < r
     before_node i n s r h = grind (arith, nat_tests)
@@ -140,7 +137,7 @@ module _ (accepts : Extent → Bool) (score : Extent → ℕ) where
         → AllByRecursion (λ q. is_gt (answer_cmp (i, s) q) ≡ false) (answers_at t accepts score r p)
     least_at i s r (place.Entry j) h k = (h, tt)
     least_at i s r (place.Node n) h k =
-        all_map (λ q. r ≤ q.1) (λ q. is_gt (answer_cmp (i, s) q) ≡ false) (λ q. later i s r q (before_node i n s r h))
+        all_map (λ q. r ≤ q.1) (λ q. is_gt (answer_cmp (i, s) q) ≡ false) (λ q b. grind (arith, nat_tests))
         (answers_at t accepts score r (place.Node n)) (at_above r (place.Node n) k)
 
     all_least : (i : ℤ) (s : ℕ) (xs : List Item)

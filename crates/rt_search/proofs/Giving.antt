@@ -67,13 +67,10 @@ suc_less g = omega arith
 
 -- ---- how many are still wanted
 
-same_number : (g n : ℕ) → n ≡ 0 → g + n ≡ g
-same_number g n e = omega arith
-
 next_still : (wanted limit : Option ℕ) (g : ℕ) → limit ≢ Some g → IfSome wanted (λ n. limit ≡ Some (g + n))
     → IfSome (one_less wanted) (λ n. limit ≡ Some (suc g + n))
 next_still None limit g more h = tt
-next_still (Some zero) limit g more h = absurd (more (h ∙ ap Some (same_number g 0 refl)))
+next_still (Some zero) limit g more h = absurd (more (h ∙ ap Some (omega arith)))
 next_still (Some (suc n)) limit g more h = h ∙ ap Some (omega arith)
 
 module _ (accepts : Extent → Bool) (score : Extent → ℕ) where
@@ -108,12 +105,6 @@ module _ (accepts : Extent → Bool) (score : Extent → ℕ) (verdict : Info �
   work_in_all cost (Some zero) g le n h = absurd (let lt = below_limit zero g le n in omega arith)
   work_in_all cost (Some (suc k)) g le n h = grind (arith, suc_less, past_end, below_limit)
 
-  -- the numbers stay small
-  given_few : IsSound t → (given : ℕ) (a : Answer) (rest : List Answer) → drop given all ≡ a ∷ rest
-      → given + 1 ≤ 16777216
-  given_few sound given a rest there =
-      omega (arith, ap length there, length-drop given all, length-all)
-
 -- ---- the steps
 
 -- an answer is given
@@ -138,7 +129,14 @@ module _ {accepts : Extent → Bool} {score : Extent → ℕ} {verdict : Info �
   pub given_low : {opened' asked' capacity' : ℕ} {wanted' : Option ℕ} {a : Answer} {new : List Item}
       → IsFound accepts score verdict t opened' asked' capacity' wanted'
       (drop given (answers t.entries accepts score None)) a new → given + 1 ≤ 16777216
-  given_low {a = a} found = given_few accepts score verdict t going.state.state.tree given a found.rest found.first
+  given_low found =
+      let sound = going.state.state.tree in
+      omega (
+        arith,
+        ap length found.first,
+        length-drop given (answers t.entries accepts score None),
+        length-all accepts score verdict t,
+      )
 
   module _ (more : limit ≢ Some given) {opened' asked' capacity' : ℕ} {wanted' : Option ℕ} {new : List Item} where
     pub give : {a : Answer} → wanted' ≡ one_less wanted

@@ -49,15 +49,13 @@ module _ {X : Type 0} (item : X → Item) where
   pub popped_least : (top : X) (new : List X) → IsLeastOf item (item top) new → IsLeast (item top) (in_order item new)
   popped_least top new a = in_order-all (λ y. is_gt (item_cmp (item top) y) ≡ false) new a
 
-  pub popped : (top : X) (old new : List X) → IsPermutation old (top ∷ new) → IsLeastOf item (item top) new
-      → in_order item old ≡ item top ∷ in_order item new
-  popped top old new h a =
-      sym (same_order old (top ∷ new) h)
-      ∙ put_least item_cmp item_order (item top) (in_order item new) (popped_least top new a)
-
   pub popped_out : (top : X) (old new : List X) → IsPermutation old (top ∷ new) → IsLeastOf item (item top) new
       → IsTakenOut (Some (item top)) (in_order item old) (in_order item new)
-  popped_out top old new h a = (popped top old new h a, popped_least top new a)
+  popped_out top old new h a =
+      let least = popped_least top new a in (
+        sym (same_order old (top ∷ new) h) ∙ put_least item_cmp item_order (item top) (in_order item new) least,
+        least,
+      )
 
 -- ---- keys and items, by the orders that they derive
 

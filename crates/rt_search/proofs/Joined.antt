@@ -26,11 +26,8 @@ within_told Not h = cc
 within_told Partly h = refl
 within_told Fully h = refl
 
-abbrev verdict_with : ℕ → Within → Verdict
-verdict_with s w = record { within = w; score = s }
-
 pub verdict_told : (v : Verdict) (k : ℕ) → is_kept v.within ≡ true → verdict_on v.score (waiting_node k v.within) ≡ v
-verdict_told v k h = ap (verdict_with v.score) (within_told v.within h)
+verdict_told v k h = ap (λ w. record { within = w; score = v.score }) (within_told v.within h)
 
 -- ---- the answers under the children of a higher node
 

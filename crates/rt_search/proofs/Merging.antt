@@ -55,10 +55,6 @@ left_least : (x : Item) (old xs ys : List Item) → old ≡ x ∷ xs → IsLeast
     → IsLeast x (put_all item_cmp xs ys)
 left_least x old xs ys e a h = grind (arith, put_all-all, item_order)
 
-left_taken : (x : Item) (old xs ys : List Item) → old ≡ x ∷ xs → IsLeast x xs → IsAhead old ys
-    → put_all item_cmp old ys ≡ x ∷ put_all item_cmp xs ys
-left_taken x old xs ys e a h = grind (arith, put_least, item_order, left_least)
-
 right_least : (x : Item) (xs old ys : List Item) → old ≡ x ∷ ys → IsLeast x ys → IsAhead old xs
     → IsLeast x (put_all item_cmp xs ys)
 right_least x xs old ys e a h = grind (arith, put_all-all, item_order)
@@ -73,19 +69,16 @@ right_taken x xs old ys e a h =
 none_left : (xs ys : List Item) → xs ≡ [] → IsAhead xs ys → put_all item_cmp xs ys ≡ []
 none_left xs ys e h = ap (λ l. put_all item_cmp l ys) e ∙ subst (λ l. IsAhead l ys) e h
 
-none_right : (xs ys : List Item) → ys ≡ [] → IsAhead ys xs → put_all item_cmp xs ys ≡ []
-none_right xs ys e h = grind arith
-
 -- ---- what a call that takes from one of the lists takes from both
 
 pub taken_left : (r : Option Item) (old xs ys : List Item) → IsTakenOut r old xs → IsAhead old ys
     → IsTakenOut r (put_all item_cmp old ys) (put_all item_cmp xs ys)
 taken_left None old xs ys t h = grind (arith, none_left)
-taken_left (Some x) old xs ys t h = (left_taken x old xs ys t.0 t.1 h, left_least x old xs ys t.0 t.1 h)
+taken_left (Some x) old xs ys t h = grind (arith, put_least, item_order, left_least)
 
 pub taken_right : (r : Option Item) (xs old ys : List Item) → IsTakenOut r old ys → IsAhead old xs
     → IsTakenOut r (put_all item_cmp xs old) (put_all item_cmp xs ys)
-taken_right None xs old ys t h = grind (arith, none_right)
+taken_right None xs old ys t h = grind arith
 taken_right (Some x) xs old ys t h = (right_taken x xs old ys t.0 t.1 h, right_least x xs old ys t.0 t.1 h)
 
 -- no more are left than there were
@@ -113,10 +106,6 @@ all_scores : (s : ℕ) (xs : List Item) → IsFirstScore s xs → AllByRecursion
 all_scores s [] h = tt
 all_scores s (x ∷ xs) h = let e = h.0 in (omega arith, h.1)
 
-node_least : (x : Item) (ys : List Item) (r : ℕ) → IsNode x.place → AllByRecursion (λ y. IsEntry y.place) ys
-    → x.score ≤ r → AllByRecursion (λ y. r ≤ y.score) ys → IsLeast x ys
-node_least x ys r p q h = grind (arith, all_both, node_before)
-
 pub lower_least : (x : Item) (ys : List Item) (r : ℕ) → x.score < r → AllByRecursion (λ y. r ≤ y.score) ys → IsLeast x ys
 lower_least x ys r h = grind (arith, all_map, lower_before)
 
@@ -125,7 +114,7 @@ pub nodes_ahead : (s r : ℕ) (xs ys : List Item) → IsFirstScore s xs → IsFi
     → AllByRecursion (λ x. IsNode x.place) xs → AllByRecursion (λ y. IsEntry y.place) ys → s ≤ r → IsAhead xs ys
 nodes_ahead s r [] ys f g p q h = absurd f
 nodes_ahead s r (x ∷ xs) ys f g p q h =
-    node_least x ys r p.0 q (omega arith) (all_scores r ys g)
+    grind (arith, all_both, node_before, all_scores)
 
 -- entries before nodes of higher scores
 pub entries_ahead : (s r : ℕ) (xs ys : List Item) → IsFirstScore s xs → IsFirstScore r ys → r < s → IsAhead ys xs

@@ -37,9 +37,6 @@ node_total = grind (arith, then_total, on_total, nat_cmp_total)
 abbrev waiting : ℕ → Bool → WaitingNode
 waiting number is_full = record { number = record { number = number }; is_full = is_full }
 
-node_exact : CmpEqualImpliesEq node_cmp
-node_exact m n h = grind (arith, then_equal, exact_unsigned, exact_bool)
-
 place_antisymm : (p q : Place) → place_cmp p q ≡ ordering_reverse (place_cmp q p)
 place_antisymm (Node m) (Node n) = node_total.antisymm m n
 place_antisymm (Node m) (Entry j) = refl
@@ -63,23 +60,23 @@ place_congr (Entry i) (Node n) r = λ h. cc
 place_congr (Entry i) (Entry j) (Node k) = λ h. refl
 place_congr (Entry i) (Entry j) (Entry k) = int_cmp_total.congr i j k
 
-place_total : IsTotalOrder place_cmp
-place_total = record { antisymm = place_antisymm; trans = place_trans; congr = place_congr }
-
 place_exact : CmpEqualImpliesEq place_cmp
-place_exact (Node m) (Node n) h = ap Node (node_exact m n h)
+place_exact (Node m) (Node n) h = grind (arith, then_equal, exact_unsigned, exact_bool)
 place_exact (Node m) (Entry j) h = cc
 place_exact (Entry i) (Node n) h = cc
 place_exact (Entry i) (Entry j) h = ap Entry (exact_signed i j h)
 
 pub item_order : IsOrder item_cmp
 item_order = order_of item_cmp
-    (then_total (on_total (λ (x : Item). x.score) nat_cmp_total) (on_total (λ (x : Item). x.place) place_total))
+    (then_total (on_total (λ (x : Item). x.score) nat_cmp_total) (on_total (λ (x : Item). x.place)
+    (record { antisymm = place_antisymm; trans = place_trans; congr = place_congr })))
     (λ x y h. grind (arith, then_equal, exact_unsigned, place_exact))
 
+-- what doesn't come after another scores no higher
 pub score_upto : (x y : Item) → is_gt (item_cmp x y) ≡ false → x.score ≤ y.score
 score_upto x y h = grind (arith, nat_tests)
 
+-- what scores lower doesn't come after
 pub lower_before : (x y : Item) → x.score < y.score → is_gt (item_cmp x y) ≡ false
 lower_before x y h = grind (arith, nat_tests)
 
@@ -100,13 +97,6 @@ by_parts : (h l k m : ℕ) → l < 2 ^ 32 → m < 2 ^ 32 → is_lt (nat_cmp (h *
     → is_lt (ordering_then (nat_cmp h k) (bool_cmp (nat_lt 0 l) (nat_lt 0 m))) ≡ false
 by_parts h l k m low small e = grind (arith, nat_tests)
 
-by_tail : (f g : ℕ) → is_lt (nat_cmp f g) ≡ false
-    → is_lt (ordering_then (nat_cmp (f / 2 ^ 32) (g / 2 ^ 32))
-    (bool_cmp (nat_lt 0 (f % 2 ^ 32)) (nat_lt 0 (g % 2 ^ 32)))) ≡ false
-by_tail f g e =
-    by_parts (f / 2 ^ 32) (f % 2 ^ 32) (g / 2 ^ 32) (g % 2 ^ 32) (mod-lt f (omega arith))
-    (mod-lt g (omega arith)) (rw (div-add-mod' f (2 ^ 32), div-add-mod' g (2 ^ 32)) e)
-
 -- what doesn't come first by a key doesn't by its score and then its tail
 by_score : (s l r m : ℕ) (o : Ordering) → l < 2 ^ 64 → m < 2 ^ 64 → (is_lt (nat_cmp l m) ≡ false → is_lt o ≡ false)
     → is_lt (nat_cmp (s * 2 ^ 64 + l) (r * 2 ^ 64 + m)) ≡ false
@@ -120,7 +110,9 @@ node_derived m n e =
     not_after (node_item n) (node_item m)
     ∙ by_score (m.0 / 2 ^ 64) (m.0 % 2 ^ 64) (n.0 / 2 ^ 64) (n.0 % 2 ^ 64)
     (node_cmp (tail_node (m.0 % 2 ^ 64)) (tail_node (n.0 % 2 ^ 64))) (mod-lt m.0 (omega arith))
-    (mod-lt n.0 (omega arith)) (by_tail (m.0 % 2 ^ 64) (n.0 % 2 ^ 64))
+    (mod-lt n.0 (omega arith)) (λ e. let f = m.0 % 2 ^ 64 in let g = n.0 % 2 ^ 64 in
+    by_parts (f / 2 ^ 32) (f % 2 ^ 32) (g / 2 ^ 32) (g % 2 ^ 32) (mod-lt f (omega arith))
+    (mod-lt g (omega arith)) (rw (div-add-mod' f (2 ^ 32), div-add-mod' g (2 ^ 32)) e))
     (rw (div-add-mod' m.0 (2 ^ 64), div-add-mod' n.0 (2 ^ 64)) e)
 
 -- and an entry, whose tail has how far the id is above the least

@@ -44,27 +44,15 @@ lower_by_halves : (h l k m : ℕ) → l < 2 ^ 64 → m < 2 ^ 64 → h < k
     → is_lt (nat_cmp (k * 2 ^ 64 + m) (h * 2 ^ 64 + l)) ≡ false
 lower_by_halves h l k m low small e = grind (arith, nat_tests)
 
-scores_by_halves : (h l k m : ℕ) → l < 2 ^ 64 → m < 2 ^ 64
-    → is_lt (nat_cmp (k * 2 ^ 64 + m) (h * 2 ^ 64 + l)) ≡ false → h ≤ k
-scores_by_halves h l k m low small e = grind (arith, nat_tests)
-
--- a higher score is that of a key that isn't lower
-lower_score : (k j : ℕ) → k / 2 ^ 64 < j / 2 ^ 64 → is_lt (nat_cmp j k) ≡ false
-lower_score k j e = grind (arith, div-add-mod', lower_by_halves, mod-lt)
-
--- and a key that isn't lower has no lower score
-score_rises : (k j : ℕ) → is_lt (nat_cmp j k) ≡ false → k / 2 ^ 64 ≤ j / 2 ^ 64
-score_rises k j e = grind (arith, scores_by_halves, mod-lt, div-add-mod')
-
 -- none that is far is lower than one that is near
 pub far_after : (e k : ℕ) (js : List (Reverse ℕ)) → k / 2 ^ 64 ≤ e → AllByRecursion (λ j. e < score_in j) js
     → IsLowest k js
 far_after e k [] h a = tt
-far_after e k (j ∷ js) h a = let m = a.0 in (lower_score k j.0 (omega arith), far_after e k js h a.1)
+far_after e k (j ∷ js) h a = grind (arith, div-add-mod', lower_by_halves, mod-lt, far_after e k js h a.1)
 
 lowest_scores : (k : ℕ) (js : List (Reverse ℕ)) → IsLowest k js → AllByRecursion (λ j. k / 2 ^ 64 ≤ score_in j) js
 lowest_scores k [] a = tt
-lowest_scores k (j ∷ js) a = (score_rises k j.0 a.0, lowest_scores k js a.1)
+lowest_scores k (j ∷ js) a = grind (arith, nat_tests, mod-lt, div-add-mod', lowest_scores k js a.1)
 
 -- ---- the first of those near is the least of all
 
@@ -84,14 +72,6 @@ top_score k [] h = absurd h
 top_score k (j ∷ js) h =
     let e : k ≡ j.0 = ap (λ r. r.0) h.0 in
     (inl (ap (λ n. n / 2 ^ 64) (sym e)), (omega (arith, ap (λ n. n / 2 ^ 64) e), lowest_scores k js h.1))
-
--- what is taken from those near is the least of all
-pub taken_lowest : (e : ℕ) (top : Reverse ℕ) (old near far : List (Reverse ℕ)) → IsPermutation old (top ∷ near)
-    → IsLowest top.0 near → AllByRecursion (λ k. score_in k ≤ e) old → AllByRecursion (λ k. e < score_in k) far
-    → IsLowest top.0 (near ++ far)
-taken_lowest e top old near far h a low high =
-    let s = (all_moved (λ k. score_in k ≤ e) old (top ∷ near) h low).0 in
-    all-append (λ j. is_lt (nat_cmp j.0 top.0) ≡ false) near far a (far_after e top.0 far s high)
 
 -- ---- the least score of those far
 

@@ -98,18 +98,16 @@ module _ (opens : Verdict → Bool) (cost : Node → ℕ) (verdict : Info → Ve
   cost_le_work zero v n = omega arith
   cost_le_work (suc h) v n = omega arith
 
-  opened_at : (s : ℕ) (n : WaitingNode) → opens (verdict_on s n) ≡ true
-      → work_at opens cost verdict t s (place.Node n)
-      ≡ reached opens cost verdict t (height_at t n.number.number) (verdict_on s n) (node_at t n.number.number)
-  opened_at s n h = rw h refl
-
   -- opening a node that waits is part of the work
   pub done_upto : (done s : ℕ) (n : WaitingNode) (xs : List Item) → opens (verdict_on s n) ≡ true
       → done + work_left opens cost verdict t (item_at s (place.Node n) ∷ xs) ≡ reached_from_root opens cost verdict t
       → done + cost (node_at t n.number.number) ≤ reached_from_root opens cost verdict t
   done_upto done s n xs open' course =
-      let least = cost_le_work (height_at t n.number.number) (verdict_on s n) (node_at t n.number.number) in
-      omega (arith, work_cons opens cost verdict t (item_at s (place.Node n)) xs, opened_at s n open')
+      let k = node_at t n.number.number in
+      let whole : work_at opens cost verdict t s (place.Node n)
+      ≡ reached opens cost verdict t (height_at t n.number.number) (verdict_on s n) k = rw open' refl in
+      let least = cost_le_work (height_at t n.number.number) (verdict_on s n) k in
+      omega (arith, work_cons opens cost verdict t (item_at s (place.Node n)) xs)
 
   -- and keeps the work done small
   pub done_le : IsSound t → (done s : ℕ) (n : WaitingNode) (xs : List Item) → opens (verdict_on s n) ≡ true

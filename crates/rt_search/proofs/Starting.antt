@@ -17,9 +17,6 @@ pub within_zero : (bound : Option ℕ) → is_within_bound bound 0 ≡ true
 within_zero None = refl
 within_zero (Some b) = grind (arith, nat_tests)
 
-reached_zero : (bound : Option ℕ) → is_reached bound root_verdict ≡ true
-reached_zero bound = within_zero bound
-
 -- ---- the root, which waits
 
 pub some_nodes : (t : Packed) → 0 < length t.nodes → (length t.nodes == 0) ≡ false
@@ -50,37 +47,11 @@ module _ (accepts : Extent → Bool) (score : Extent → ℕ) (verdict : Info �
     root_course : (cost : Node → ℕ) → 0 < length t.nodes → IsOnCourse accepts score verdict cost t 0 (root_item t ∷ [])
     root_course cost some = record {
       in_all = from_none (root_work (is_reached None) cost verdict t refl some);
-      at_each = grind (arith, all_each, from_none, root_work, reached_zero);
+      at_each = grind (arith, all_each, from_none, root_work, within_zero);
     }
-
-    pub root_sound : 0 < length t.nodes → AllSound t accepts score (root_item t ∷ [])
-    root_sound some = grind arith
-
-    pub root_room : (capacity : ℕ) → 0 < length t.nodes → length t.entries ≤ capacity
-        → held t (root_item t ∷ []) ≤ capacity
-    root_room capacity some room = grind (arith, length_permutation, sum_by-cons, size_under)
-
-    pub root_state : (capacity : ℕ) → 0 < length t.nodes → length t.entries ≤ capacity
-        → IsSearching accepts score verdict t 0 0 capacity (root_item t ∷ [])
-    root_state capacity some room = record {
-      tree = sound;
-      sound = root_sound some;
-      room = root_room capacity some room;
-      opening = root_course one_node some;
-      asking = root_course its_children some;
-    }
-
-    pub root_answers : 0 < length t.nodes → remaining t accepts score (root_item t ∷ [])
-        ≡ answers t.entries accepts score None
-    root_answers some =
-        put_all-nil answer_cmp answer_order (scored (entries_under t (height t) (root_of t)) accepts score)
-        ∙ among-IsPermutation accepts score (entries_under t (height t) (root_of t)) t.entries (sound.every some)
 
     empty_course : (cost : Node → ℕ) → length t.nodes ≡ 0 → IsOnCourse accepts score verdict cost t 0 []
     empty_course cost none = let none' = eq-eqb (length t.nodes) 0 none in record { in_all = rw none' refl; at_each = tt }
-
-    pub empty_state : (capacity : ℕ) → length t.nodes ≡ 0 → IsSearching accepts score verdict t 0 0 capacity []
-    empty_state capacity none = grind (arith, empty_course)
 
     pub empty_answers : length t.nodes ≡ 0 → answers t.entries accepts score None ≡ []
     empty_answers none = grind (arith, cases_lt, nil_from_length)
@@ -89,13 +60,13 @@ module _ (accepts : Extent → Bool) (score : Extent → ℕ) (verdict : Info �
         → IsSearching accepts score verdict t 0 0 capacity (root_items t)
     start_state capacity room =
         cond_both (length t.nodes == 0) [] (root_item t ∷ []) (IsSearching accepts score verdict t 0 0 capacity)
-        (λ h. empty_state capacity (eqb-true _ 0 h)) (λ h. root_state capacity (nat_eq_false h) room)
-
-    pub start_answers : remaining t accepts score (root_items t) ≡ answers t.entries accepts score None
-    start_answers = grind (arith, cond_both, empty_answers, eqb-true, root_answers, nat_eq_false)
-
-    root_rising : IsRising (root_items t)
-    root_rising = cond_both (length t.nodes == 0) [] (root_item t ∷ []) IsRising (λ h. tt) (λ h. (tt, tt))
+        (λ h. let none = eqb-true _ 0 h in grind (arith, empty_course)) (λ h. let some = nat_eq_false h in record {
+          tree = sound;
+          sound = grind arith;
+          room = grind (arith, length_permutation, sum_by-cons, size_under);
+          opening = root_course one_node some;
+          asking = root_course its_children some;
+        })
 
     -- a search has begun
     pub started : (limit : Option ℕ) (capacity : ℕ) (wanted : Option ℕ) (items : List Item)
@@ -105,8 +76,8 @@ module _ (accepts : Extent → Bool) (score : Extent → ℕ) (verdict : Info �
       state = record {
         all = root_items t;
         state = start_state capacity room;
-        rising = root_rising;
-        follows = start_answers;
+        rising = cond_both (length t.nodes == 0) [] (root_item t ∷ []) IsRising (λ h. tt) (λ h. (tt, tt));
+        follows = grind (arith, cond_both, empty_answers, eqb-true, put_all-nil, answer_order, among-IsPermutation, nat_eq_false);
         enough = enough;
       };
       in_limit = none_given limit;

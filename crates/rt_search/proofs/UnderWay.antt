@@ -164,14 +164,11 @@ module _ {accepts : Extent → Bool} {score : Extent → ℕ} {verdict : Info �
 
   -- ---- nothing is left
 
-  no_work_left : (cost : node.Node → ℕ) (all : List Item) → all ≡ [] → work_left (is_reached None) cost verdict t all ≡ 0
-  no_work_left cost all e = ap (work_left (is_reached None) cost verdict t) e
-
   over : {opened asked capacity : ℕ} {wanted : Option ℕ} {to_come : List Answer} {items new : List Item}
       → wanted ≢ Some 0 → items ≡ [] → new ≡ []
       → IsUnderWay accepts score verdict t opened asked capacity wanted to_come items
       → IsOver accepts score verdict t opened asked capacity wanted to_come new
-  over {wanted = wanted} more none none' u = grind (arith, none_left, no_work_left)
+  over {wanted = wanted} more none none' u = grind (arith, none_left)
 
   -- an entry was taken out, or nothing
   pub ended : (out : Option Answer) (new : List Item) {opened asked capacity : ℕ} {wanted wanted' : Option ℕ}

@@ -63,17 +63,11 @@ module _ {accepts : Extent → Bool} {score : Extent → ℕ} {verdict : Info �
   gathered = join_answers (answers_in_tree t accepts score) []
 
   -- the work of a search for so many answers is the whole, unless it is for none
-  work : (limit : Option ℕ) → limit ≢ Some 0 → (cost : Node → ℕ)
+  pub work : (limit : Option ℕ) → limit ≢ Some 0 → (cost : Node → ℕ)
       → search_work cost accepts score verdict t limit ≡ reached_from_root (is_reached None) cost verdict t
   work None some cost = refl
   work (Some zero) some cost = absurd (some refl)
   work (Some (suc more)) some cost = grind (arith, whole_alike)
-
-  pub all_worked : (limit : Option ℕ) (opened asked : ℕ) → limit ≢ Some 0
-      → opened ≡ reached_from_root (is_reached None) one_node verdict t
-      → asked ≡ reached_from_root (is_reached None) its_children verdict t
-      → HasWorked accepts score verdict t limit opened asked
-  all_worked limit opened asked some nodes checks = grind (arith, work)
 
   none_left : (bound : Option ℕ) (cost : Node → ℕ) → work_left (is_reached bound) cost verdict t gathered ≡ 0
   none_left bound cost =
@@ -88,16 +82,6 @@ module _ {accepts : Extent → Bool} {score : Extent → ℕ} {verdict : Info �
         (remaining t accepts score gathered);
   }
 
-  room_for_all : (capacity : ℕ) → length t.entries ≤ capacity → held t gathered ≤ capacity
-  room_for_all capacity room =
-      omega (
-        arith,
-        held-join_answers verdict t root_verdict (answers_in_tree t accepts score) [],
-        tree_count accepts score verdict t sound,
-        length-map (accepted t.entries accepts) (answer_of score),
-        length-scored accepts score t.entries,
-      )
-
   pub begun : (limit : Option ℕ) (opened asked capacity : ℕ) (wanted : Option ℕ) (items : List Item)
       → length t.entries ≤ capacity → limit ≢ Some 0 → IfSome wanted (λ n. limit ≡ Some n)
       → opened ≡ reached_from_root (is_reached None) one_node verdict t
@@ -109,7 +93,13 @@ module _ {accepts : Extent → Bool} {score : Extent → ℕ} {verdict : Info �
       state = record {
         tree = sound;
         sound = answers_sound law t (answers_in_tree t accepts score) [] tt;
-        room = room_for_all capacity room;
+        room = omega (
+          arith,
+          held-join_answers verdict t root_verdict (answers_in_tree t accepts score) [],
+          tree_count accepts score verdict t sound,
+          length-map (accepted t.entries accepts) (answer_of score),
+          length-scored accepts score t.entries,
+        );
         opening = course one_node opened nodes;
         asking = course its_children asked checks;
       };

@@ -9,7 +9,7 @@ use Rattle.rt_search.specs.Walking.{answers_in_tree, answers_under, work_under}
 use Rattle.rt_search.specs.Work.{its_children, one_node, reached_from_root, root_verdict}
 use Rattle.rt_search.proofs.{Answering.{among-IsPermutation}, OrderedLists.{length-put_all, put_all-nil}}
 use Rattle.rt_search.proofs.{Orders.{answer_order}, Sizes.{count_is_fair, one_is_fair, size_under, work_le}}
-use Rattle.rt_search.proofs.Starting.{empty_answers, nat_eq_false, root_sound, some_nodes}
+use Rattle.rt_search.proofs.Starting.{empty_answers, nat_eq_false, some_nodes}
 
 module _ (accepts : Extent → Bool) (score : Extent → ℕ) (verdict : Info → Verdict) (t : Packed) (sound : IsSound t)
   where
@@ -53,7 +53,7 @@ module _ (accepts : Extent → Bool) (score : Extent → ℕ) (verdict : Info �
         let one = whole_work opens one_node some in
         let its = whole_work opens its_children some in
         subst (IsWhole opens) {x = length t.nodes - 1} (omega arith) (record {
-          node = (root_sound accepts score verdict t sound some).0;
+          node = grind arith;
           few = omega (arith, size_under t (height t) (root_of t) (sound.root some));
           opened_few = omega (arith, work_le opens one_node verdict t (one_is_fair t) sound);
           asked_few = omega (arith, work_le opens its_children verdict t (count_is_fair t) sound);

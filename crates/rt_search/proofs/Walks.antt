@@ -90,12 +90,9 @@ module _ {accepts : Extent → Bool} {score : Extent → ℕ} {verdict : Info �
       ] in
       split (accepts (extent_of_entry e)) refl
     where
-      yes_no : {b : Bool} → b ≡ false → b ≡ true → ⊥
-      yes_no f g = cc
-
       kept : (b : Bool) → accepts (extent_of_entry e) ≡ true → is_kept (verdict info).within ≡ b → b ≡ true
       kept true h k = refl
-      kept false h k = grind (arith, kept_not, yes_no)
+      kept false h k = grind (arith, kept_not)
 
   -- ---- a node that was asked about
 

@@ -1,8 +1,9 @@
-use Rattle.std.proofs.{Common.{◌≡◌, ◌≤◌, [], ◌∷◌, ◌++◌, ap, sym, ◌∙◌, arith}, lemmas.List.{nil_from_length}}
+use Rattle.std.specs.Ordering.{is_lt, nat_cmp}
+use Rattle.std.proofs.{Common.{false, ◌≡◌, ◌≤◌, [], ◌∷◌, ◌++◌, ap, sym, ◌∙◌, arith}, lemmas.List.{nil_from_length}}
 use Rattle.std.proofs.lemmas.List.Sorted.{IsPermutation-append_left, IsPermutation-trans, length_permutation}
 use Rattle.std.specs.BinaryHeap.{heap_items}
 use Rattle.rt_search.specs.Pooling.{score_in}
-use Rattle.rt_search.proofs.{Elements.{all_moved}, Pools.{none_kept, taken_lowest}}
+use Rattle.rt_search.proofs.{Elements.{all-append, all_moved}, Pools.{none_kept, far_after}}
 use Rattle.rt_search.proofs.pool.Pool.take.Goals as goal
 
 pub returns-in_default-clause-keys : goal.returns-in_default-clause-keys
@@ -42,5 +43,7 @@ pub returns-clause-least : goal.returns-clause-least
 returns-clause-least c =
     let k = c.self.invariant in
     let e = c.in-Some.ensures in
-    taken_lowest c.self.inside.edge c.in-Some.top (heap_items c.self.inside.near) (heap_items c.pop.new.self)
-    c.self.inside.far.items e.permutation (e.below_top k.inside.ordered) k.inside.low k.outside.high
+    let top = c.in-Some.top in
+    let low = (all_moved (λ j. score_in j ≤ c.self.inside.edge) _ (top ∷ _) e.permutation k.inside.low).0 in
+    all-append (λ j. is_lt (nat_cmp j.0 top.0) ≡ false) (heap_items c.pop.new.self) _ (e.below_top k.inside.ordered)
+    (far_after c.self.inside.edge top.0 _ low k.outside.high)

@@ -1,7 +1,8 @@
-use Rattle.std.proofs.Common.{◌≡◌, ◌≢◌, ◌≤◌, [], Some, length, rules}
+use Rattle.rt_search.specs.Work.{its_children, one_node}
+use Rattle.std.proofs.Common.{sym, ◌∙◌, ◌≡◌, ◌≢◌, ◌≤◌, [], Some, length, rules}
 use Rattle.std.specs.Prelude.{IfSome}
 use Rattle.rt_search.specs.{Joining.{join_answers}, Limits.{IsEnough}, Walking.{answers_in_tree}}
-use Rattle.rt_search.proofs.{Collectors.{entries_join}, Unscored.{all_worked, begun}}
+use Rattle.rt_search.proofs.{Collectors.{entries_join}, Unscored.{begun, work}}
 use Rattle.rt_search.proofs.search.Search.start_unscored.Goals as goal
 
 pub invariant_of-result : goal.invariant_of-result
@@ -29,5 +30,5 @@ returns-clause-worked g c =
     let geometry = c.args.counted.geometry in
     let e = c.walk-opened.ensures in
     let some : c.args.limit ≢ Some 0 = search rules in
-    all_worked (g.met.G.Geometry.lawful geometry) c.args.tree.now e.sound c.requires.unscored c.args.limit c.walk-opened.result _
-    some e.opened e.asked
+    let all = work (g.met.G.Geometry.lawful geometry) c.args.tree.now e.sound c.requires.unscored c.args.limit some in
+    record { in_nodes = e.opened ∙ sym (all one_node); in_checks = e.asked ∙ sym (all its_children) }
