@@ -128,10 +128,6 @@ module _ (accepts : Extent → Bool) (score : Extent → ℕ) where
 
     -- ---- an entry that is taken out
 
-    pub before_node : (i : ℤ) (n : WaitingNode) (s r : ℕ)
-        → is_gt (item_cmp (item_at s (place.Entry i)) (item_at r (place.Node n))) ≡ false → s < r
-    before_node i n s r h = grind (arith, nat_tests)
-
     least_at : (i : ℤ) (s r : ℕ) (p : Place) → is_gt (item_cmp (item_at s (place.Entry i)) (item_at r p)) ≡ false
         → IsSoundAt t accepts score r p
         → AllByRecursion (λ q. is_gt (answer_cmp (i, s) q) ≡ false) (answers_at t accepts score r p)
@@ -176,12 +172,6 @@ module _ (accepts : Extent → Bool) (score : Extent → ℕ) where
     none_left (Some a) items new out = tt
 
     -- ---- a node that joins
-
-    -- a node with no accepted box inside its bounds may be left out
-    pub node_dropped : (k : ℕ) → IsSubtree t (height_at t k) (node_at t k)
-        → NoneAccepted accepts (extent_of_node (node_at t k)) → (qs : List Answer) → qs
-        ≡ put_all answer_cmp (among (entries_under t (height_at t k) (node_at t k))) qs
-    node_dropped k s never qs = grind (arith, among_none, all_inside)
 
     -- what the nodes of a list bring
     pub under_all : ℕ → List Node → List Answer

@@ -122,9 +122,13 @@ pub record IsChild (t : Packed) (n : Node) (h i k : ℕ) : Type 0 where
   pub lower : (node_at t k).level < n.level
   pub valid : IsRect (node_at t k).bounds
 
-child_at : (t : Packed) (n : Node) (h i : ℕ) → IsInnerNode t h (IsSubtree t h) n → i < n.count
-    → IsChild t n h i (n.first + i)
-child_at t n h i s lt =
+pub child : (t : Packed) (number : ℕ) → IsSubtree t (height_at t number) (node_at t number)
+    → 2 ≤ (node_at t number).level → (i : ℕ) → i < (node_at t number).count
+    → IsChild t (node_at t number) (height_at t number - 1) i ((node_at t number).first + i)
+child t number sub level i lt =
+    let n = node_at t number in
+    let h = height_at t number - 1 in
+    let s = (inner_at t (height_at t number) n sub level).1 in
     let k = node_at t (n.first + i) in
     let here : i < length (child_nodes t n) = omega (arith, part_length t.nodes n.first n.count s.range) in
     let number : n.first + i < length t.nodes = (let r = s.range in omega arith) in
@@ -133,7 +137,7 @@ child_at t n h i s lt =
     let tree : IsSubtree t h k =
     subst (IsSubtree t h) is (All-from_recursion (IsSubtree t h) (child_nodes t n) s.below i k here) in
     let IsWithin = λ (m : Node). IsPart (extent_of_node m) (extent_of_node n) in
-    let level = subtree_level t h k tree in
+    let above = subtree_level t h k tree in
     let height : height_at t (n.first + i) ≡ h = omega arith in
     record {
       place = here;
@@ -146,17 +150,6 @@ child_at t n h i s lt =
       lower = omega arith;
       valid = subtree_valid t h k tree;
     }
-
-pub child : (t : Packed) (number : ℕ) → IsSubtree t (height_at t number) (node_at t number)
-    → 2 ≤ (node_at t number).level → (i : ℕ) → i < (node_at t number).count
-    → IsChild t (node_at t number) (height_at t number - 1) i ((node_at t number).first + i)
-child t number s level i lt =
-    let n = node_at t number in
-    child_at t n (height_at t number - 1) i (inner_at t (height_at t number) n s level).1 lt
-
--- what is asked about a child that was read, its layers beside it
-abbrev pub extent_of_plain : PlainNode → Layers → Extent
-extent_of_plain x layers = record { bounds = x.bounds; layers = layers }
 
 -- a child that was read and is asked about
 pub record IsAsked (t : Packed) (number i k : ℕ) (x : PlainNode) (v : Verdict) (info : Info) : Type 0 where
@@ -207,7 +200,8 @@ module _ {t : Packed} {accepts : Extent → Bool} {score : Extent → ℕ} {numb
 pub asked : {t : Packed} {number : ℕ} {n : Node} {children : List PlainNode} → HasChildren t number n children → (i : ℕ)
     (v : Verdict) {k : ℕ} {x : PlainNode} {whole : Node} {info : Info} → i < length children
     → x ≡ get_or children i x → k ≡ n.first + i → whole ≡ node_at t k
-    → info ≡ info_under (root_of t).level v (extent_of_plain x whole.layers) (n.level - 1) → IsAsked t number i k x v info
+    → info ≡ info_under (root_of t).level v (record { bounds = x.bounds; layers = whole.layers }) (n.level - 1)
+    → IsAsked t number i k x v info
 asked {t} {number} {n} here i v {k} {x = x} {whole = whole} lt read number_is whole_is info_is =
     let m = node_at t number in
     let few = subst (λ l. i < l) here.count lt in

@@ -88,11 +88,6 @@ module _ (accepts : Extent → Bool) (score : Extent → ℕ) (verdict : Info �
 
   -- ---- how many answers there are
 
-  length-all : length all ≤ length t.entries
-  length-all =
-      let long = length_permutation _ _ (IsPermutation-sorted answer_cmp (scored t.entries accepts score)) in
-      omega (arith, length-scored accepts score t.entries)
-
   -- ---- the work after so many answers
 
   work_after : (cost : Node → ℕ) (g : ℕ) (a : Answer) (rest : List Answer) → drop g all ≡ a ∷ rest
@@ -135,7 +130,8 @@ module _ {accepts : Extent → Bool} {score : Extent → ℕ} {verdict : Info �
         arith,
         ap length found.first,
         length-drop given (answers t.entries accepts score None),
-        length-all accepts score verdict t,
+        length_permutation _ _ (IsPermutation-sorted answer_cmp (scored t.entries accepts score)),
+        length-scored accepts score t.entries,
       )
 
   module _ (more : limit ≢ Some given) {opened' asked' capacity' : ℕ} {wanted' : Option ℕ} {new : List Item} where

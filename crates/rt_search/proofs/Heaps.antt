@@ -22,9 +22,6 @@ map-all item P (x ∷ xs) a = (a.0, map-all item P xs a.1)
 
 -- ---- scores
 
-pub least_scores : (x : Item) (ys : List Item) → IsLeast x ys → AllByRecursion (λ y. x.score ≤ y.score) ys
-least_scores x = all_map (λ y. is_gt (item_cmp x y) ≡ false) (λ y. x.score ≤ y.score) (score_upto x)
-
 -- ---- any collection, by the items that its elements are
 
 -- x comes after none of these
@@ -46,13 +43,10 @@ module _ {X : Type 0} (item : X → Item) where
       → AllByRecursion P (in_order item xs)
   in_order-all P xs a = all_moved P _ _ (IsPermutation-sorted item_cmp (map item xs)) (map-all item P xs a)
 
-  pub popped_least : (top : X) (new : List X) → IsLeastOf item (item top) new → IsLeast (item top) (in_order item new)
-  popped_least top new a = in_order-all (λ y. is_gt (item_cmp (item top) y) ≡ false) new a
-
   pub popped_out : (top : X) (old new : List X) → IsPermutation old (top ∷ new) → IsLeastOf item (item top) new
       → IsTakenOut (Some (item top)) (in_order item old) (in_order item new)
   popped_out top old new h a =
-      let least = popped_least top new a in (
+      let least = in_order-all (λ y. is_gt (item_cmp (item top) y) ≡ false) new a in (
         sym (same_order old (top ∷ new) h) ∙ put_least item_cmp item_order (item top) (in_order item new) least,
         least,
       )
@@ -74,9 +68,6 @@ pub wide_after : (top : Reverse Item) (xs : List (Reverse Item))
     → AllByRecursion (λ y. is_lt (item_ghosts.cmp y.0 top.0) ≡ false) xs → IsLeastOf wide_item (wide_item top) xs
 wide_after top = all_map (λ y. is_lt (item_ghosts.cmp y.0 top.0) ≡ false)
     (λ y. is_gt (item_cmp (wide_item top) (wide_item y)) ≡ false) (λ x a. wide_derived x top ∙ a)
-
-pub all_nodes : (ns : List (Reverse ℕ)) → AllByRecursion (λ n. IsNode (node_item n).place) ns
-all_nodes = all_each (λ n. IsNode (node_item n).place) (λ n. tt)
 
 pub all_entries : (ns : List (Reverse ℕ)) → AllByRecursion (λ n. IsEntry (entry_item n).place) ns
 all_entries = all_each (λ n. IsEntry (entry_item n).place) (λ n. tt)

@@ -9,7 +9,7 @@ use Rattle.rt_search.specs.{Answers.{Answer, answer_cmp}, Items.{item_at, item_c
 use Rattle.rt_search.specs.{Joining.{join_answers, join_node, join_nodes}, Remaining.{verdict_on, waiting_node}}
 use Rattle.rt_search.specs.Remaining.{AllSound, IsBelow, IsOpenable, height_at, is_fully, put_all, remaining}
 use Rattle.rt_search.specs.{Walking.{answers_under}, Work.{info_of_node, is_kept}}
-use Rattle.rt_search.proofs.Answering.{AllSound-put, among, node_dropped, remaining-put, take_more_at, under_all}
+use Rattle.rt_search.proofs.Answering.{AllSound-put, among, among_none, all_inside, remaining-put, take_more_at, under_all}
 use Rattle.rt_search.proofs.Answering.{under_all-append, under_all-none, under_all-one, under_all-whole}
 use Rattle.rt_search.proofs.Children.{all_children, child, height_suc, node_question}
 use Rattle.rt_search.proofs.{OrderedLists.{put_all-append, put_all-put_all}, Orders.{answer_order}}
@@ -83,7 +83,7 @@ module _ {accepts : Extent → Bool} {score : Extent → ℕ} {verdict : Info �
       (λ h. remaining-put accepts score t (item_at v.score (place.Node (waiting_node k v.within))) xs)
       (λ h.
       let never = law.faithful.pruning info question high (kept_not v.within h) in
-      node_dropped accepts score t k tree (subst (NoneAccepted accepts) at never) (R xs))
+      grind (arith, among_none, all_inside))
 
   node_sound : (k : ℕ) (info : Info) (xs : List Item) → extent_of info ≡ extent_of_node (node_at t k) → 0 < info.level
       → IsQuestion accepts info → k < length t.nodes → IsSubtree t (height_at t k) (node_at t k)

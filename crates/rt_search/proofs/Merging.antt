@@ -51,21 +51,6 @@ one_longer false x xs ys e = omega (arith, ap length e)
 
 -- ---- the first of the list that is ahead is the first of both
 
-left_least : (x : Item) (old xs ys : List Item) → old ≡ x ∷ xs → IsLeast x xs → IsAhead old ys
-    → IsLeast x (put_all item_cmp xs ys)
-left_least x old xs ys e a h = grind (arith, put_all-all, item_order)
-
-right_least : (x : Item) (xs old ys : List Item) → old ≡ x ∷ ys → IsLeast x ys → IsAhead old xs
-    → IsLeast x (put_all item_cmp xs ys)
-right_least x xs old ys e a h = grind (arith, put_all-all, item_order)
-
-right_taken : (x : Item) (xs old ys : List Item) → old ≡ x ∷ ys → IsLeast x ys → IsAhead old xs
-    → put_all item_cmp xs old ≡ x ∷ put_all item_cmp xs ys
-right_taken x xs old ys e a h =
-    ap (put_all item_cmp xs) (e ∙ sym (put_least item_cmp item_order x ys a))
-    ∙ put_all-put item_cmp item_order xs x ys
-    ∙ put_least item_cmp item_order x (put_all item_cmp xs ys) (right_least x xs old ys e a h)
-
 none_left : (xs ys : List Item) → xs ≡ [] → IsAhead xs ys → put_all item_cmp xs ys ≡ []
 none_left xs ys e h = ap (λ l. put_all item_cmp l ys) e ∙ subst (λ l. IsAhead l ys) e h
 
@@ -74,12 +59,17 @@ none_left xs ys e h = ap (λ l. put_all item_cmp l ys) e ∙ subst (λ l. IsAhea
 pub taken_left : (r : Option Item) (old xs ys : List Item) → IsTakenOut r old xs → IsAhead old ys
     → IsTakenOut r (put_all item_cmp old ys) (put_all item_cmp xs ys)
 taken_left None old xs ys t h = grind (arith, none_left)
-taken_left (Some x) old xs ys t h = grind (arith, put_least, item_order, left_least)
+taken_left (Some x) old xs ys t h = grind (arith, put_least, item_order, put_all-all)
 
 pub taken_right : (r : Option Item) (xs old ys : List Item) → IsTakenOut r old ys → IsAhead old xs
     → IsTakenOut r (put_all item_cmp xs old) (put_all item_cmp xs ys)
 taken_right None xs old ys t h = grind arith
-taken_right (Some x) xs old ys t h = (right_taken x xs old ys t.0 t.1 h, right_least x xs old ys t.0 t.1 h)
+taken_right (Some x) xs old ys t h =
+    let least : IsLeast x (put_all item_cmp xs ys) = grind (arith, put_all-all, item_order) in (
+      ap (put_all item_cmp xs) (t.0 ∙ sym (put_least item_cmp item_order x ys t.1))
+          ∙ put_all-put item_cmp item_order xs x ys ∙ put_least item_cmp item_order x (put_all item_cmp xs ys) least,
+      least,
+    )
 
 -- no more are left than there were
 pub fewer : (r : Option Item) (old new : List Item) → IsTakenOut r old new → length new ≤ length old
@@ -128,17 +118,17 @@ by_test false P Q p q = q refl
 
 -- ---- items whose score is one word, and others, which come after them
 
--- items behind one whose score is one word
-pub low_ahead : (x : Item) (old new wide : List Item) → old ≡ x ∷ new → x.score < 2 ^ 64
-    → AllByRecursion (λ y. 2 ^ 64 ≤ y.score) wide → IsAhead old wide
-low_ahead x old new wide e low high = subst (λ l. IsAhead l wide) (sym e) (lower_least x wide (2 ^ 64) low high)
+-- items behind one that scores less
+pub low_ahead : (r : ℕ) (x : Item) (old new wide : List Item) → old ≡ x ∷ new → x.score < r
+    → AllByRecursion (λ y. r ≤ y.score) wide → IsAhead old wide
+low_ahead r x old new wide e low high = subst (λ l. IsAhead l wide) (sym e) (lower_least x wide r low high)
 
 -- where one was taken from the narrow items, these are ahead
 pub narrow_ahead : (r : Option Item) (old new wide : List Item) → MatchOption r (true ≡ false) (λ _. true ≡ true)
     → IsTakenOut r old new → IfSome r (λ x. x.score < 2 ^ 64) → AllByRecursion (λ y. 2 ^ 64 ≤ y.score) wide
     → IsAhead old wide
 narrow_ahead None old new wide some t low high = absurd (false≢true (sym some))
-narrow_ahead (Some x) old new wide some t low high = low_ahead x old new wide t.0 low high
+narrow_ahead (Some x) old new wide some t low high = low_ahead (2 ^ 64) x old new wide t.0 low high
 
 -- where there was none, the wide items are
 pub wide_ahead : (narrow wide : List Item) → narrow ≡ [] → IsAhead wide narrow

@@ -130,11 +130,3 @@ module _ (accepts : Extent → Bool) (score : Extent → ℕ) (t : Packed) where
   pub length_le_held : (xs : List Item) → AllSound t accepts score xs → length xs ≤ held t xs
   length_le_held [] a = omega arith
   length_le_held (x ∷ xs) a = omega (arith, held_cons x xs, size_of x.score x.place a.0, length_le_held xs a.1)
-
-  -- the children of a node that was taken out have room
-  pub room_for : (capacity s : ℕ) (n : WaitingNode) (xs : List Item)
-      → AllSound t accepts score (item_at s (place.Node n) ∷ xs) → held t (item_at s (place.Node n) ∷ xs) ≤ capacity
-      → length xs + (node_at t n.number.number).count ≤ capacity
-  room_for capacity s n xs sound room =
-      let count = (size_counts t (height_at t n.number.number) (node_at t n.number.number) sound.0.tree).1 in
-      omega (arith, held_cons (item_at s (place.Node n)) xs, length_le_held xs sound.1)

@@ -50,9 +50,6 @@ module _ (accepts : Extent → Bool) (score : Extent → ℕ) (verdict : Info �
       at_each = grind (arith, all_each, from_none, root_work, within_zero);
     }
 
-    empty_course : (cost : Node → ℕ) → length t.nodes ≡ 0 → IsOnCourse accepts score verdict cost t 0 []
-    empty_course cost none = let none' = eq-eqb (length t.nodes) 0 none in record { in_all = rw none' refl; at_each = tt }
-
     pub empty_answers : length t.nodes ≡ 0 → answers t.entries accepts score None ≡ []
     empty_answers none = grind (arith, cases_lt, nil_from_length)
 
@@ -60,7 +57,7 @@ module _ (accepts : Extent → Bool) (score : Extent → ℕ) (verdict : Info �
         → IsSearching accepts score verdict t 0 0 capacity (root_items t)
     start_state capacity room =
         cond_both (length t.nodes == 0) [] (root_item t ∷ []) (IsSearching accepts score verdict t 0 0 capacity)
-        (λ h. let none = eqb-true _ 0 h in grind (arith, empty_course)) (λ h. let some = nat_eq_false h in record {
+        (λ h. grind arith) (λ h. let some = nat_eq_false h in record {
           tree = sound;
           sound = grind arith;
           room = grind (arith, length_permutation, sum_by-cons, size_under);

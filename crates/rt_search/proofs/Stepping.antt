@@ -1,4 +1,5 @@
 -- A search goes on: an entry is taken out, or a node is opened.
+use Rattle.std.proofs.lemmas.Bool.Decides.{nat_tests}
 use Rattle.std.proofs.Common.{◌≡◌, ◌<◌, ◌≤◌, ◌+◌, ◌^◌, ℕ, ℤ, Bool, true, false, cond, List, [], ◌∷◌, length, Option}
 use Rattle.std.proofs.Common.{Some, None, refl, sym, ◌∙◌, ap, subst, arith}
 use Rattle.std.proofs.lemmas.Bool.{cond-false, cond-true, le-leb, lt-leb}
@@ -12,10 +13,10 @@ use Rattle.rt_search.specs.Remaining.{AllSound, answers_at, height_at, put_all, 
 use Rattle.rt_search.specs.Walking.{answers_among}
 use Rattle.rt_search.specs.Work.{is_kept, is_reached, is_within_bound, its_children, one_node, reached_from_root}
 use Rattle.rt_search.specs.{Work.{reached}, declared.item.{Item.{Item}, Place.{Place}, WaitingNode.{WaitingNode}}}
-use Rattle.rt_search.proofs.{Answering.{at_above, before_node, take_entry}, Orders.{answer_order, score_upto}}
+use Rattle.rt_search.proofs.{Answering.{at_above, take_entry}, Orders.{answer_order, score_upto}}
 use Rattle.rt_search.proofs.{Children.{leaf_node}, Joined.{answers_joined, answers_sound, nodes_joined, nodes_sound}}
-use Rattle.rt_search.proofs.{Elements.{all_both, all_map}, OrderedLists.{put_all-all}, Walks.{answers_all, few_among}}
-use Rattle.rt_search.proofs.Sizes.{count_is_fair, done_le, held_cons, one_is_fair, room_for, work_cons}
+use Rattle.rt_search.proofs.{Elements.{all_both, all_map}, OrderedLists.{put_all-all}, Walks.{answers_all, few_under}}
+use Rattle.rt_search.proofs.Sizes.{count_is_fair, done_le, held_cons, length_le_held, one_is_fair, size_counts, work_cons}
 use Rattle.rt_search.proofs.Working.{held-join_answers, held-join_nodes, work-join_answers, work-join_nodes}
 use Rattle.rt_search.specs.declared.item.Place.TheVariants as place
 
@@ -29,15 +30,6 @@ kept_within false = refl
 pub reached_is : (bound : Option ℕ) (s : ℕ) (n : WaitingNode) → is_reached bound (verdict_on s n)
     ≡ is_within_bound bound s
 reached_is bound s n = (let k = kept_within n.is_full in rw k refl)
-
-closed_by : (bound : Option ℕ) (v : Verdict) → is_kept v.within ≡ false → is_reached bound v ≡ false
-closed_by bound v h = rw h refl
-
-reached_below : (b s : ℕ) (n : WaitingNode) → s ≤ b → is_reached (Some b) (verdict_on s n) ≡ true
-reached_below b s n h = reached_is (Some b) s n ∙ le-leb s b h
-
-reached_above : (b s : ℕ) (n : WaitingNode) → b < s → is_reached (Some b) (verdict_on s n) ≡ false
-reached_above b s n h = reached_is (Some b) s n ∙ lt-leb s b h
 
 module _ {accepts : Extent → Bool} {score : Extent → ℕ} {verdict : Info → Verdict}
     (law : IsLawful accepts score verdict) (t : Packed) where
@@ -53,15 +45,11 @@ module _ {accepts : Extent → Bool} {score : Extent → ℕ} {verdict : Info �
       (answers_at t accepts score y.score y.place) (at_above accepts score t y.score y.place b.0))
       (above_least x ys a.1 b.1)
 
-  above_all : (x : Item) (xs : List Item) → AllByRecursion (λ y. is_gt (item_cmp x y) ≡ false) xs
-      → AllSound t accepts score (x ∷ xs) → AllByRecursion (λ q. x.score ≤ q.1) (remaining t accepts score (x ∷ xs))
-  above_all x xs a b = grind (arith, put_all-all, answer_order, at_above, above_least)
-
   none_at : (cost : Node → ℕ) (i : ℤ) (s r : ℕ) (p : Place)
       → is_gt (item_cmp (item_at s (place.Entry i)) (item_at r p)) ≡ false
       → work_at (is_reached (Some s)) cost verdict t r p ≡ 0
   none_at cost i s r (place.Entry j) h = refl
-  none_at cost i s r (place.Node n) h = grind (arith, cond-false, reached_above, before_node)
+  none_at cost i s r (place.Node n) h = grind (arith, cond-false, reached_is, lt-leb, nat_tests)
 
   -- behind an entry that is least, no node is within its score
   no_work : (cost : Node → ℕ) (i : ℤ) (s : ℕ) (xs : List Item)
@@ -147,9 +135,11 @@ module _ {accepts : Extent → Bool} {score : Extent → ℕ} {verdict : Info �
             (λ p. AddsUp verdict cost t after new (Some p.1))
             (λ p h le.
             let all : cond (is_reached (Some p.1) (verdict_on s n)) (W (Some p.1)) 0 ≡ W (Some p.1) =
-            cond-true (is_reached (Some p.1) (verdict_on s n)) (W (Some p.1)) 0 (reached_below p.1 s n le) in
+            cond-true (is_reached (Some p.1) (verdict_on s n)) (W (Some p.1)) 0 (reached_is (Some p.1) s n ∙ le-leb s p.1 le) in
             omega (arith, work_cons (is_reached (Some p.1)) cost verdict t x xs, moves (Some p.1)))
-            (remaining t accepts score (x ∷ xs)) course.at_each (above_all x xs least sound));
+            (remaining t accepts score (x ∷ xs)) course.at_each
+            (put_all-all answer_cmp answer_order (λ p. s ≤ p.1) (answers_at t accepts score s (place.Node n)) _
+            (at_above accepts score t s (place.Node n) sound.0) (above_least x xs least sound.1)));
       }
 
   node_step : {opened asked capacity s : ℕ} {n : WaitingNode} {xs : List Item} (new : List Item)
@@ -191,8 +181,12 @@ module _ {accepts : Extent → Bool} {score : Extent → ℕ} {verdict : Info �
       (answers_joined law t found xs
       ∙ ap (λ l. put_all answer_cmp l (remaining t accepts score xs)) (answers_all accepts score t number here.tree low))
       (answers_sound law t found xs k.state.sound.1)
-      (let h = held-join_answers verdict t v found xs in let e = few_among accepts score t number here.tree low in
-      omega arith)
+      (omega (
+        arith,
+        held-join_answers verdict t v found xs,
+        few_under accepts score t number here.tree,
+        ap length (answers_all accepts score t number here.tree low),
+      ))
       (λ cost bound.
       let e = work-join_answers verdict t v (is_reached bound) cost found xs in
       let z : reached (is_reached bound) cost verdict t (height_at t number) v node ≡ cost node =
@@ -213,7 +207,7 @@ module _ {accepts : Extent → Bool} {score : Extent → ℕ} {verdict : Info �
       (nodes_sound law t k.state.tree v small number here high xs (node_at t number).count
       (omega arith) k.state.sound.1)
       (held-join_nodes verdict t v number here.tree high xs)
-      (λ cost bound. work-join_nodes verdict t v number here.tree high (is_reached bound) (closed_by bound) cost
+      (λ cost bound. work-join_nodes verdict t v number here.tree high (is_reached bound) (λ v h. rw h refl) cost
       xs)
 
   -- there is room to open a node that was taken out, and the counters stay small
@@ -230,5 +224,12 @@ module _ {accepts : Extent → Bool} {score : Extent → ℕ} {verdict : Info �
         (reached_is None s n) k.state.opening.in_all;
     asked_low = done_le (is_reached None) its_children verdict t (count_is_fair t) k.state.tree asked s n xs
         (reached_is None s n) k.state.asking.in_all;
-    room = room_for accepts score t capacity s n xs k.state.sound k.state.room;
+    room =
+        let room = k.state.room in
+        let count = (size_counts t (height_at t n.number.number) (node_at t n.number.number) k.state.sound.0.tree).1 in
+        omega (
+          arith,
+          held_cons accepts score t (item_at s (place.Node n)) xs,
+          length_le_held accepts score t xs k.state.sound.1,
+        );
   }

@@ -20,9 +20,6 @@ use Rattle.rt_search.specs.declared.item.Place.TheVariants as place
 pub still_more : (w w' : Option ℕ) → w' ≡ w → w ≢ Some 0 → w' ≢ Some 0
 still_more w w' same more = λ e. more (sym same ∙ e)
 
-pub falls_by_one : (all o o' : ℕ) → o' ≡ o + 1 → o + 1 ≤ all → all - o' < all - o
-falls_by_one all o o' e h = omega arith
-
 -- ---- what was taken out of a frontier
 
 pub node_out : (out : Option ScoredNode × Option Answer) (n : ScoredNode) (items xs : List Item) → out.0 ≡ Some n

@@ -17,11 +17,6 @@ use Rattle.rt_search.proofs.{WalkWhole.{tree_answers, tree_count}, Working.{held
 -- ---- any bound opens what none does
 
 module _ (verdict : Info → Verdict) (unscored : IsUnscored verdict) (t : Packed) (within : Option ℕ) (cost : Node → ℕ) where
-  opens_alike : (i : Info) → 0 < i.level → is_reached within (verdict i) ≡ is_reached None (verdict i)
-  opens_alike i node =
-      ap (λ s. is_kept (verdict i).within && is_within_bound within s) (unscored i node)
-      ∙ ap (λ w. is_kept (verdict i).within && w) (within_zero within)
-
   abbrev below : (bound : Option ℕ) → (h : ℕ) → Verdict → Node → ℕ
   below bound h v k =
       let w = verdict (info_of_node t v k) in cond (is_reached bound w) (reached (is_reached bound) cost verdict t h w k) 0
@@ -35,7 +30,9 @@ module _ (verdict : Info → Verdict) (unscored : IsUnscored verdict) (t : Packe
       let i = info_of_node t v k in
       let w = verdict i in
       let level = subtree_level t h k sub.0 in
-      let same = ap (λ o. cond o (reached (is_reached within) cost verdict t h w k) 0) (opens_alike i (omega arith))
+      let same = ap (λ o. cond o (reached (is_reached within) cost verdict t h w k) 0) (
+      ap (λ s. is_kept w.within && is_within_bound within s) (unscored i (omega arith))
+      ∙ ap (λ l. is_kept w.within && l) (within_zero within))
       ∙ ap (λ m. cond (is_reached None w) m 0) (f w k sub.0) in
       omega (
         arith,

@@ -53,11 +53,6 @@ module _ (accepts : Extent → Bool) (score : Extent → ℕ) (t : Packed) where
       → length (answers_under t accepts score k) ≤ (node_at t k).size
   few_under k tree = grind (arith, length-scored, size_under)
 
-  pub few_among : (number : ℕ) → IsSubtree t (height_at t number) (node_at t number) → (node_at t number).level ≡ 1
-      → length (answers_among t accepts score (node_at t number) (node_at t number).count) ≤ (node_at t number).size
-  few_among number tree low =
-      omega (arith, ap length (answers_all number tree low), few_under number tree)
-
   -- so many entries have no more answers
   pub few_entries : (n : Node) (i : ℕ) → length (answers_among t accepts score n i) ≤ i
   few_entries n i = grind (arith, length-scored, length-take)
@@ -107,9 +102,6 @@ module _ {accepts : Extent → Bool} {score : Extent → ℕ} {verdict : Info �
               (subst (NoneAccepted accepts) can.extent (law.faithful.pruning info can.question can.high is)) es inside;
           all = grind (arith, all_among, size_under);
         }
-
-    pub openable : IsOpenable t accepts score k (verdict info)
-    openable = grind arith
 
   module _ {t : Packed} (sound : IsSound t) where
     -- ---- one more entry

@@ -18,12 +18,6 @@ hits_entries ids keys wide a =
 
 -- ---- which are ahead
 
--- those of score 0
-pub zero_ahead : (x : Item) (old new ys : List Item) → old ≡ x ∷ new → 0 ≡ x.score
-    → AllByRecursion (λ y. 0 < y.score) ys → IsAhead old ys
-zero_ahead x old new ys e h a = subst (λ l. IsAhead l ys) (sym e)
-    (all_map (λ y. 0 < y.score) (λ y. is_gt (item_cmp x y) ≡ false) (λ y m. lower_before x y (omega arith)) ys a)
-
 -- as the others score more
 pub rest_above : (xs ys : List Item) → AllByRecursion (λ x. 0 < x.score) xs → AllByRecursion (λ x. 2 ^ 64 ≤ x.score) ys
     → AllByRecursion (λ x. 0 < x.score) (put_all item_cmp xs ys)

@@ -1,6 +1,6 @@
 use Rattle.std.proofs.Common.{◌<◌, ◌^◌, ◌∙◌, refl, subst, arith, rules}
 use Rattle.rt_search.specs.{Limits.{IsEnough}, Progress.{join_children}}
-use Rattle.rt_search.proofs.UnderWay.{ended, falls_by_one, go_on, node_out, node_wanted, still_more}
+use Rattle.rt_search.proofs.UnderWay.{ended, go_on, node_out, node_wanted, still_more}
 use Rattle.rt_search.proofs.search.pull.Goals as goal
 
 pub overflow_add-opened : goal.overflow_add-opened
@@ -37,7 +37,7 @@ loop-node-smaller g c =
     let k = go_on (g.met.G.Geometry.lawful c.args.counted.now.geometry) c.args.tree.now small
     (still_more _ _ v.wanted c.requires.more) (node_out c.take-node.result n _ _ c.in-Some.is c.take-node.ensures.taken)
     (v.state c.requires.state.0 c.requires.state.1) in
-    falls_by_one _ _ _ refl k.opened_upto
+    (let up = k.opened_upto in omega arith)
 
 pub loop-node-preserved : goal.loop-node-preserved
 loop-node-preserved g c =

@@ -3,7 +3,7 @@ use Rattle.rt_tree.specs.{Packed.{node_at}, declared.tree.Node.{Node}}
 use Rattle.rt_search.specs.Work.{its_children, one_node}
 use Rattle.rt_search.proofs.{Answering.{under_all-none}, Children.{asked, children_inside, children_of}}
 use Rattle.rt_search.proofs.Joined.{upto_all, upto_more}
-use Rattle.rt_search.proofs.Walks.{at_child, known, openable, taken-append, visit, work_all, work_more}
+use Rattle.rt_search.proofs.Walks.{at_child, known, taken-append, visit, work_all, work_more}
 use Rattle.rt_search.proofs.walk.+walk.Goals as goal
 
 pub walk_child-walk_under-requires : goal.walk_child-walk_under-requires
@@ -31,7 +31,7 @@ walk_child-walk_under-requires g t c κs within =
           (
             c.requires.sound,
             (
-              rw (e.geometry, v) (openable law c.requires.node),
+              rw (e.geometry, v) (grind arith),
               (
                 rw stays (omega arith),
                 (
