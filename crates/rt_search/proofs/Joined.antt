@@ -117,7 +117,7 @@ module _ {accepts : Extent → Bool} {score : Extent → ℕ} {verdict : Info �
           node_question accepts score t sound v small (node_at t number) (height_at t number - 1) i
           ((node_at t number).first + i) opened.low opened.below (child t number opened.tree high i lt)
 
-      nodes_upto : (xs : List Item) (i : ℕ) → i ≤ (node_at t number).count
+      pub nodes_upto : (xs : List Item) (i : ℕ) → i ≤ (node_at t number).count
           → remaining t accepts score (join_nodes verdict t v (node_at t number) i xs)
           ≡ put_all answer_cmp (answers_upto opened high i) (remaining t accepts score xs)
       nodes_upto xs zero le = grind (arith, under_all-none)
@@ -133,11 +133,6 @@ module _ {accepts : Extent → Bool} {score : Extent → ℕ} {verdict : Info �
           ∙ put_all-put_all answer_cmp answer_order those (answers_upto opened high i) (R xs)
           ∙ sym (put_all-append answer_cmp answer_order (answers_upto opened high i) those (R xs))
           ∙ ap (λ l. put_all answer_cmp l (R xs)) (rw (add-one i) at (upto_more opened high i lt))
-
-      pub nodes_joined : (xs : List Item)
-          → remaining t accepts score (join_nodes verdict t v (node_at t number) (node_at t number).count xs)
-          ≡ put_all answer_cmp (answers_under t accepts score number) (remaining t accepts score xs)
-      nodes_joined xs = grind (arith, nodes_upto, upto_all)
 
       pub nodes_sound : (xs : List Item) (i : ℕ) → i ≤ (node_at t number).count → AllSound t accepts score xs
           → AllSound t accepts score (join_nodes verdict t v (node_at t number) i xs)

@@ -53,18 +53,6 @@ module _ (accepts : Extent → Bool) (score : Extent → ℕ) (verdict : Info �
     pub empty_answers : length t.nodes ≡ 0 → answers t.entries accepts score None ≡ []
     empty_answers none = grind (arith, cases_lt, nil_from_length)
 
-    pub start_state : (capacity : ℕ) → length t.entries ≤ capacity
-        → IsSearching accepts score verdict t 0 0 capacity (root_items t)
-    start_state capacity room =
-        cond_both (length t.nodes == 0) [] (root_item t ∷ []) (IsSearching accepts score verdict t 0 0 capacity)
-        (λ h. grind arith) (λ h. let some = nat_eq_false h in record {
-          tree = sound;
-          sound = grind arith;
-          room = grind (arith, length_permutation, sum_by-cons, size_under);
-          opening = root_course one_node some;
-          asking = root_course its_children some;
-        })
-
     -- a search has begun
     pub started : (limit : Option ℕ) (capacity : ℕ) (wanted : Option ℕ) (items : List Item)
         → length t.entries ≤ capacity → IfSome wanted (λ n. limit ≡ Some n) → IsEnough wanted items (root_items t)
@@ -72,7 +60,15 @@ module _ (accepts : Extent → Bool) (score : Extent → ℕ) (verdict : Info �
     started limit capacity wanted items room first enough = record {
       state = record {
         all = root_items t;
-        state = start_state capacity room;
+        state =
+            cond_both (length t.nodes == 0) [] (root_item t ∷ []) (IsSearching accepts score verdict t 0 0 capacity)
+            (λ h. grind arith) (λ h. let some = nat_eq_false h in record {
+              tree = sound;
+              sound = grind arith;
+              room = grind (arith, length_permutation, sum_by-cons, size_under);
+              opening = root_course one_node some;
+              asking = root_course its_children some;
+            });
         rising = cond_both (length t.nodes == 0) [] (root_item t ∷ []) IsRising (λ h. tt) (λ h. (tt, tt));
         follows = grind (arith, cond_both, empty_answers, eqb-true, put_all-nil, answer_order, among-IsPermutation, nat_eq_false);
         enough = enough;

@@ -14,7 +14,7 @@ use Rattle.rt_search.specs.Walking.{answers_among}
 use Rattle.rt_search.specs.Work.{is_kept, is_reached, is_within_bound, its_children, one_node, reached_from_root}
 use Rattle.rt_search.specs.{Work.{reached}, declared.item.{Item.{Item}, Place.{Place}, WaitingNode.{WaitingNode}}}
 use Rattle.rt_search.proofs.{Answering.{at_above, take_entry}, Orders.{answer_order, score_upto}}
-use Rattle.rt_search.proofs.{Children.{leaf_node}, Joined.{answers_joined, answers_sound, nodes_joined, nodes_sound}}
+use Rattle.rt_search.proofs.{Children.{leaf_node}, Joined.{answers_joined, answers_sound, nodes_sound, nodes_upto, upto_all}}
 use Rattle.rt_search.proofs.{Elements.{all_both, all_map}, OrderedLists.{put_all-all}, Walks.{answers_all, few_under}}
 use Rattle.rt_search.proofs.Sizes.{count_is_fair, done_le, held_cons, length_le_held, one_is_fair, size_counts, work_cons}
 use Rattle.rt_search.proofs.Working.{held-join_answers, held-join_nodes, work-join_answers, work-join_nodes}
@@ -203,7 +203,8 @@ module _ {accepts : Extent → Bool} {score : Extent → ℕ} {verdict : Info �
       let v = verdict_on s n in
       let here = k.state.sound.0 in
       node_step _ k
-      (nodes_joined law t k.state.tree v small number here high xs)
+      (nodes_upto law t k.state.tree v small number here high xs (node_at t number).count (omega arith)
+      ∙ ap (λ l. put_all answer_cmp l (remaining t accepts score xs)) (upto_all here high))
       (nodes_sound law t k.state.tree v small number here high xs (node_at t number).count
       (omega arith) k.state.sound.1)
       (held-join_nodes verdict t v number here.tree high xs)

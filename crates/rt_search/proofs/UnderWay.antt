@@ -22,10 +22,6 @@ still_more w w' same more = λ e. more (sym same ∙ e)
 
 -- ---- what was taken out of a frontier
 
-pub node_out : (out : Option ScoredNode × Option Answer) (n : ScoredNode) (items xs : List Item) → out.0 ≡ Some n
-    → IsTakenOut (taken_item out) items xs → items ≡ item_at n.score (place.Node n.node) ∷ xs
-node_out out n items xs is t = (subst (λ o. IsTakenOut (node_or o (taken_entry out.1)) items xs) is t).0
-
 pub node_wanted : (out : Option ScoredNode × Option Answer) (n : ScoredNode) (w w' : Option ℕ) → out.0 ≡ Some n
     → w' ≡ wanted_after (taken_item out) w → w' ≡ w
 node_wanted out n w w' is h = h ∙ ap (λ o. wanted_after (node_or o (taken_entry out.1)) w) is
@@ -102,11 +98,15 @@ module _ {accepts : Extent → Bool} {score : Extent → ℕ} {verdict : Info �
         → IsUnderWay accepts score verdict t (opened + 1) (asked + (node_at t n.number.number).count) capacity wanted
         to_come new
 
-  pub go_on : {opened asked capacity : ℕ} {wanted : Option ℕ} {to_come : List Answer} {s : ℕ} {n : WaitingNode}
-      {items xs : List Item} → s < 2 ^ 128 → wanted ≢ Some 0 → items ≡ item_at s (place.Node n) ∷ xs
+  pub go_on : {opened asked capacity : ℕ} {wanted : Option ℕ} {to_come : List Answer} {items xs : List Item}
+      (out : Option ScoredNode × Option Answer) (m : ScoredNode) → m.score < 2 ^ 128 → wanted ≢ Some 0
+      → out.0 ≡ Some m → IsTakenOut (taken_item out) items xs
       → IsUnderWay accepts score verdict t opened asked capacity wanted to_come items
-      → CanGoOn opened asked capacity wanted to_come s n xs
-  go_on {opened} {asked} {capacity} {wanted} {to_come} {s} {n} {items} {xs} small more is u =
+      → CanGoOn opened asked capacity wanted to_come m.score m.node xs
+  go_on {opened} {asked} {capacity} {wanted} {to_come} {items} {xs} out m small more told took u =
+      let s = m.score in
+      let n = m.node in
+      let is = (subst (λ o. IsTakenOut (node_or o (taken_entry out.1)) items xs) told took).0 in
       let x = item_at s (place.Node n) in
       let k = first_kept wanted x xs u.all more (subst (λ l. IsEnough wanted l u.all) is u.enough) in
       let ys = k.0 in

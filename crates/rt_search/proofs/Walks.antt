@@ -134,22 +134,6 @@ module _ {accepts : Extent → Bool} {score : Extent → ℕ} {verdict : Info �
 
     module _ {v : Verdict} (small : v.score < 2 ^ 128) {number : ℕ} (opened : IsOpenable t accepts score number v)
         (high : 2 ≤ (node_at t number).level) where
-      -- each may be asked about
-      checkable : (i : ℕ) → i < (node_at t number).count
-          → let k = (node_at t number).first + i in IsCheckable t accepts k (info_of_node t v (node_at t k))
-      checkable i lt =
-          let k = child t number opened.tree high i lt in
-          record {
-            inside = k.number;
-            tree = k.tree;
-            low = omega arith;
-            high = k.level;
-            extent = refl;
-            question =
-                node_question accepts score t sound v small (node_at t number) (height_at t number - 1) i
-                ((node_at t number).first + i) opened.low opened.below k;
-          }
-
       -- ---- their work
 
       -- that of the first so many
@@ -231,7 +215,18 @@ module _ {accepts : Extent → Bool} {score : Extent → ℕ} {verdict : Info �
             let places = taken_room takes room fills old new (answers_upto opened high i) taken in
             subst (CanVisit begun' asked' (room new) k) (sym is.info_is)
             (subst (λ m. CanVisit begun' asked' (room new) m (info_of_node t v (node_at t m))) (sym is.at) (record {
-              node = checkable i few;
+              node =
+                  let k = child t number opened.tree high i few in
+                  record {
+                    inside = k.number;
+                    tree = k.tree;
+                    low = omega arith;
+                    high = k.level;
+                    extent = refl;
+                    question =
+                        node_question accepts score t sound v small (node_at t number) (height_at t number - 1) i
+                        ((node_at t number).first + i) opened.low opened.below k;
+                  };
               room_is = omega (arith, room_for_child i few);
               opened_few = omega (arith, within one_node i few);
               asked_few = omega (arith, within its_children i few);

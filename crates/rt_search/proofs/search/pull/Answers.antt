@@ -1,16 +1,14 @@
 use Rattle.std.proofs.Common.{◌<◌, ◌^◌, ◌∙◌, refl, subst, arith, rules}
 use Rattle.rt_search.specs.{Limits.{IsEnough}, Progress.{join_children}}
-use Rattle.rt_search.proofs.UnderWay.{ended, go_on, node_out, node_wanted, still_more}
+use Rattle.rt_search.proofs.UnderWay.{ended, go_on, node_wanted, still_more}
 use Rattle.rt_search.proofs.search.pull.Goals as goal
 
 pub overflow_add-opened : goal.overflow_add-opened
 overflow_add-opened g c =
     let v = c.loop-node.invariant in
     let n = c.in-Some.node in
-    let small : n.score < 2 ^ 128 = search rules in
-    let k = go_on (g.met.G.Geometry.lawful c.args.counted.now.geometry) c.args.tree.now small
-    (still_more _ _ v.wanted c.requires.more) (node_out c.take-node.result n _ _ c.in-Some.is c.take-node.ensures.taken)
-    (v.state c.requires.state.0 c.requires.state.1) in
+    let k = go_on (g.met.G.Geometry.lawful c.args.counted.now.geometry) c.args.tree.now c.take-node.result n (search rules)
+    (still_more _ _ v.wanted c.requires.more) c.in-Some.is c.take-node.ensures.taken (v.state _ c.requires.state.1) in
     (let low = k.opened_low in omega arith)
 
 pub open_node-requires : goal.open_node-requires
@@ -18,10 +16,8 @@ open_node-requires g c =
     let v = c.loop-node.invariant in
     let e = c.take-node.ensures in
     let n = c.in-Some.node in
-    let small : n.score < 2 ^ 128 = search rules in
-    let k = go_on (g.met.G.Geometry.lawful c.args.counted.now.geometry) c.args.tree.now small
-    (still_more _ _ v.wanted c.requires.more) (node_out c.take-node.result n _ _ c.in-Some.is e.taken)
-    (v.state c.requires.state.0 c.requires.state.1) in
+    let k = go_on (g.met.G.Geometry.lawful c.args.counted.now.geometry) c.args.tree.now c.take-node.result n (search rules)
+    (still_more _ _ v.wanted c.requires.more) c.in-Some.is c.take-node.ensures.taken (v.state _ c.requires.state.1) in
     record {
       sound = k.tree;
       node = rw v.geometry k.node;
@@ -33,10 +29,8 @@ pub loop-node-smaller : goal.loop-node-smaller
 loop-node-smaller g c =
     let v = c.loop-node.invariant in
     let n = c.in-Some.node in
-    let small : n.score < 2 ^ 128 = search rules in
-    let k = go_on (g.met.G.Geometry.lawful c.args.counted.now.geometry) c.args.tree.now small
-    (still_more _ _ v.wanted c.requires.more) (node_out c.take-node.result n _ _ c.in-Some.is c.take-node.ensures.taken)
-    (v.state c.requires.state.0 c.requires.state.1) in
+    let k = go_on (g.met.G.Geometry.lawful c.args.counted.now.geometry) c.args.tree.now c.take-node.result n (search rules)
+    (still_more _ _ v.wanted c.requires.more) c.in-Some.is c.take-node.ensures.taken (v.state _ c.requires.state.1) in
     (let up = k.opened_upto in omega arith)
 
 pub loop-node-preserved : goal.loop-node-preserved
@@ -44,7 +38,6 @@ loop-node-preserved g c =
     let v = c.loop-node.invariant in
     let e = c.take-node.ensures in
     let n = c.in-Some.node in
-    let small : n.score < 2 ^ 128 = search rules in
     let o = c.open_node.ensures in
     let same = node_wanted c.take-node.result n _ _ c.in-Some.is e.wanted in
     let items = subst (λ y. IsEnough c.loop-node.frontier.wanted c.open_node.new.frontier.items
@@ -52,9 +45,8 @@ loop-node-preserved g c =
     (rw same at o.children.items) in
     record {
       state = λ to_come u.
-          let k = go_on (g.met.G.Geometry.lawful c.args.counted.now.geometry) c.args.tree.now small
-          (still_more _ _ v.wanted c.requires.more) (node_out c.take-node.result n _ _ c.in-Some.is e.taken)
-          (v.state to_come u) in
+          let k = go_on (g.met.G.Geometry.lawful c.args.counted.now.geometry) c.args.tree.now c.take-node.result n
+          (search rules) (still_more _ _ v.wanted c.requires.more) c.in-Some.is e.taken (v.state to_come u) in
           rw (o.asked, o.children.capacity, e.capacity, o.children.wanted, same) (k.next _ items);
       wanted = o.children.wanted ∙ same ∙ v.wanted;
       capacity = o.children.capacity ∙ e.capacity ∙ v.capacity;

@@ -22,27 +22,10 @@ walk_child-walk_under-requires g t c κs within =
     (c.visit_node.ensures.taken _ (rw (← v, ← c.requires.size) at (known law c.requires.node))) in
     let one = at_child g.V.Visitor.opens one_node verdict tree (verdict info) number (rw v at opens) in
     let its = at_child g.V.Visitor.opens its_children verdict tree (verdict info) number (rw v at opens) in
-    let asked_few = c.requires.asked in (
+    let asked_few = c.requires.asked in
+    let sound = c.requires.sound in (
       omega arith,
-      (
-        within.0,
-        (
-          within.1,
-          (
-            c.requires.sound,
-            (
-              rw (e.geometry, v) (grind arith),
-              (
-                rw stays (omega arith),
-                (
-                  rw (e.geometry, v) (omega arith),
-                  rw (e.geometry, v) (omega arith),
-                ),
-              ),
-            ),
-          ),
-        ),
-      ),
+      (within.0, (within.1, (sound, rw (e.geometry, v, stays) (grind arith, (omega arith, (omega arith, omega arith)))))),
     )
 
 pub walk_child-returns-then-visit_node-clause-taken : goal.walk_child-returns-then-visit_node-clause-taken
@@ -89,19 +72,7 @@ walk_under-walk_child-requires g t c κs within =
     let size : c.index-children-i.result.size ≡ (node_at tree c.new-child_number.result.number).size = ap (λ n. n.size) k.is in
     let fits = can.room_is in (
       omega arith,
-      (
-        within.0,
-        (
-          within.1,
-          (
-            sound,
-            (
-              rw inv.geometry can.node,
-              (size, (omega arith, rw inv.geometry (can.opened_few, can.asked_few))),
-            ),
-          ),
-        ),
-      ),
+      (within.0, (within.1, (sound, rw inv.geometry (can.node, (size, (omega arith, (can.opened_few, can.asked_few))))))),
     )
 
 pub walk_under-loop-i-preserved : goal.walk_under-loop-i-preserved

@@ -20,42 +20,36 @@ overflow_add-self g c =
 pub invariant_of-self-2 : goal.invariant_of-self-2
 invariant_of-self-2 g c =
     let e = c.in_ok-answer.ensures in
-    let more : c.self.inside.limit ≢ Some c.self.inside.given = search rules in
     let going = c.self.invariant in
-    rw c.pull.ensures.geometry (give going more e.wanted (e.step _ going.state)).going
+    rw c.pull.ensures.geometry (give going (search rules) e.wanted (e.step _ going.state)).going
 
 pub returns-clause-answer : goal.returns-clause-answer
 returns-clause-answer g c =
     let e = c.in_ok-answer.ensures in
-    let more : c.self.inside.limit ≢ Some c.self.inside.given = search rules in
     let going = c.self.invariant in
-    rw (c.pull.ensures.geometry, ← c.self.view_is) (give going more e.wanted (e.step _ going.state)).answer
+    rw (c.pull.ensures.geometry, ← c.self.view_is) (give going (search rules) e.wanted (e.step _ going.state)).answer
 
 pub returns-clause-worked : goal.returns-clause-worked
 returns-clause-worked g c =
     let e = c.in_ok-answer.ensures in
-    let more : c.self.inside.limit ≢ Some c.self.inside.given = search rules in
     let going = c.self.invariant in
-    rw (← c.self.view_is) (give going more e.wanted (e.step _ going.state)).worked
+    rw (← c.self.view_is) (give going (search rules) e.wanted (e.step _ going.state)).worked
 
 pub returns-in_err-answer-clause-answer : goal.returns-in_err-answer-clause-answer
 returns-in_err-answer-clause-answer g c =
     let e = c.in_err-answer.ensures in
-    let more : c.self.inside.limit ≢ Some c.self.inside.given = search rules in
     let going = c.self.invariant in
-    let k = end going more e.wanted (e.step _ going.state) in
+    let k = end going (search rules) e.wanted (e.step _ going.state) in
     none_given _ c.from_residual.result (search rules) (rw (← c.self.view_is) k.answer)
 
 pub returns-in_err-answer-clause-none : goal.returns-in_err-answer-clause-none
 returns-in_err-answer-clause-none g c =
     let e = c.in_err-answer.ensures in
-    let more : c.self.inside.limit ≢ Some c.self.inside.given = search rules in
     let going = c.self.invariant in
-    if_none c.from_residual.result (rw c.pull.ensures.geometry (end going more e.wanted (e.step _ going.state)).answer)
+    if_none c.from_residual.result (rw c.pull.ensures.geometry (end going (search rules) e.wanted (e.step _ going.state)).answer)
 
 pub returns-in_err-answer-clause-worked_in_all : goal.returns-in_err-answer-clause-worked_in_all
 returns-in_err-answer-clause-worked_in_all g c =
     let e = c.in_err-answer.ensures in
-    let more : c.self.inside.limit ≢ Some c.self.inside.given = search rules in
     let going = c.self.invariant in
-    if_none c.from_residual.result (rw (← c.self.view_is) (end going more e.wanted (e.step _ going.state)).worked)
+    if_none c.from_residual.result (rw (← c.self.view_is) (end going (search rules) e.wanted (e.step _ going.state)).worked)
