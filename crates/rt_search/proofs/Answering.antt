@@ -97,14 +97,12 @@ module _ (accepts : Extent → Bool) (score : Extent → ℕ) where
       by true false = IsPermutation-refl _
       by false q = IsPermutation-refl _
 
-  pub IsPermutation-accepted : (es fs : List Entry) → IsPermutation es fs → IsPermutation (kept es) (kept fs)
-  IsPermutation-accepted = along_permutation (λ es fs. IsPermutation (kept es) (kept fs))
-      (λ es. IsPermutation-refl (kept es)) skip turn (λ es fs gs h k. IsPermutation-trans _ _ _ h k)
-
   pub among-IsPermutation : (es fs : List Entry) → IsPermutation es fs
       → sorted answer_cmp (among es) ≡ sorted answer_cmp (among fs)
   among-IsPermutation es fs h = answer_order.rearranged (among es) (among fs)
-      (IsPermutation-map (answer_of score) (kept es) (kept fs) (IsPermutation-accepted es fs h))
+      (IsPermutation-map (answer_of score) (kept es) (kept fs)
+      (along_permutation (λ es fs. IsPermutation (kept es) (kept fs)) (λ es. IsPermutation-refl (kept es)) skip turn
+      (λ es fs gs h k. IsPermutation-trans _ _ _ h k) es fs h))
 
   -- ---- the answers that items stand for
 

@@ -142,10 +142,9 @@ module _ {accepts : Extent → Bool} {score : Extent → ℕ} {verdict : Info �
     give {a} less found =
         let all = answers t.entries accepts score None in
         let there : drop given all ≡ a ∷ found.rest = found.first in
-        let after = λ (cost : Node → ℕ). work_after accepts score verdict t cost given a found.rest there in
         let worked : HasWorked accepts score verdict t (Some (suc given)) opened' asked' = record {
-          in_nodes = found.reached.nodes ∙ after one_node;
-          in_checks = found.reached.checks ∙ after its_children;
+          in_nodes = found.reached.nodes ∙ work_after accepts score verdict t one_node given a found.rest there;
+          in_checks = found.reached.checks ∙ work_after accepts score verdict t its_children given a found.rest there;
         } in
         subst (λ m. IsGiven accepts score verdict t limit given m opened' asked' capacity' wanted' a new)
         (sym (add-one given)) (record {
@@ -165,12 +164,7 @@ module _ {accepts : Extent → Bool} {score : Extent → ℕ} {verdict : Info �
         (drop given (answers t.entries accepts score None)) new
         → HasEnded accepts score verdict t limit given opened' asked' capacity' wanted' new
     end same over =
-        let all = λ (cost : Node → ℕ).
-        work_in_all accepts score verdict t cost limit given going.in_limit more over.none in
-        let worked : HasWorked accepts score verdict t limit opened' asked' = record {
-          in_nodes = over.reached.nodes ∙ all one_node;
-          in_checks = over.reached.checks ∙ all its_children;
-        } in
+        let worked : HasWorked accepts score verdict t limit opened' asked' = grind (arith, work_in_all) in
         record {
           going = record {
             state = over.state;

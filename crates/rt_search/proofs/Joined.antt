@@ -70,21 +70,6 @@ module _ {accepts : Extent → Bool} {score : Extent → ℕ} {verdict : Info �
       AllSound-put accepts score t (item_of a) (join_answers answers xs) tt (answers_sound answers xs all)
 
   -- a node
-  node_joined : (k : ℕ) (info : Info) (xs : List Item) → extent_of info ≡ extent_of_node (node_at t k)
-      → 0 < info.level → IsQuestion accepts info → IsSubtree t (height_at t k) (node_at t k)
-      → remaining t accepts score (join_node (verdict info) k xs)
-      ≡ put_all answer_cmp (among accepts score (entries_under t (height_at t k) (node_at t k)))
-      (remaining t accepts score xs)
-  node_joined k info xs at high question tree =
-      let v = verdict info in
-      let R = remaining t accepts score in
-      cond_both (is_kept v.within) (put item_cmp (item_at v.score (place.Node (waiting_node k v.within))) xs) xs
-      (λ l. R l ≡ put_all answer_cmp (among accepts score (entries_under t (height_at t k) (node_at t k))) (R xs))
-      (λ h. remaining-put accepts score t (item_at v.score (place.Node (waiting_node k v.within))) xs)
-      (λ h.
-      let never = law.faithful.pruning info question high (kept_not v.within h) in
-      grind (arith, among_none, all_inside))
-
   node_sound : (k : ℕ) (info : Info) (xs : List Item) → extent_of info ≡ extent_of_node (node_at t k) → 0 < info.level
       → IsQuestion accepts info → k < length t.nodes → IsSubtree t (height_at t k) (node_at t k)
       → (node_at t k).level ≤ 24 → AllSound t accepts score xs
@@ -127,8 +112,15 @@ module _ {accepts : Extent → Bool} {score : Extent → ℕ} {verdict : Info �
           let k = child t number opened.tree high i lt in
           let R = remaining t accepts score in
           let those = answers_under t accepts score m in
-          node_joined m (info_of_node t v (node_at t m)) (join_nodes verdict t v (node_at t number) i xs) refl k.level
-          (child_question i lt) k.tree
+          let info = info_of_node t v (node_at t m) in
+          let w = (verdict info).within in
+          let ys = join_nodes verdict t v (node_at t number) i xs in
+          let x = item_at (verdict info).score (place.Node (waiting_node m w)) in
+          cond_both (is_kept w) (put item_cmp x ys) ys (λ l. R l ≡ put_all answer_cmp those (R ys))
+          (λ h. remaining-put accepts score t x ys)
+          (λ h.
+          let never = law.faithful.pruning info (child_question i lt) k.level (kept_not w h) in
+          grind (arith, among_none, all_inside))
           ∙ ap (put_all answer_cmp those) (nodes_upto xs i (omega arith))
           ∙ put_all-put_all answer_cmp answer_order those (answers_upto opened high i) (R xs)
           ∙ sym (put_all-append answer_cmp answer_order (answers_upto opened high i) those (R xs))

@@ -4,10 +4,10 @@ use Rattle.std.proofs.Common.{List, Ordering, [], ◌∷◌, length, refl, sym, 
 use Rattle.std.specs.{Ordering.{is_gt}, declared.cmp.Reverse.{Reverse}}
 use Rattle.rt_geo.specs.declared.geometry.{Info.{Info}, Verdict.{Verdict}}
 use Rattle.rt_tree.specs.{Packed.{Packed, node_at}, Sorting.{put}}
-use Rattle.rt_search.specs.{Items.{item_at, item_cmp}, Work.{info_of_node, is_kept}, declared.item.Item.{Item}}
+use Rattle.rt_search.specs.{Items.{Limited, item_at, item_cmp}, Work.{info_of_node, is_kept}, declared.item.Item.{Item}}
 use Rattle.rt_search.specs.{Joining.{join_node, join_nodes}, declared.item.Place.{Place, TheVariants.{Node, Entry}}}
 use Rattle.rt_search.specs.{Kept.{IsRising, in_order, narrow, node_item, queued}, Remaining.{put_all, waiting_node}}
-use Rattle.rt_search.specs.Limits.{IsBehind, IsEnough, entries_at, entries_before, front, front_of, less_at}
+use Rattle.rt_search.specs.Limits.{IsBehind, IsEnough, IsPut, entries_at, entries_before, front, front_of, less_at}
 use Rattle.rt_search.proofs.{SortedLists.{rising_put}, OrderedLists.{IsOrder, length-put, length-put_all, put_all-put}}
 use Rattle.rt_search.proofs.Orders.{item_order}
 use Rattle.rt_tree.specs.declared.tree.Node as node
@@ -117,12 +117,12 @@ enough_without None x xs h = absurd h
 enough_without (Some n) x xs h = grind (arith, left_out_behind, length-put, item_order)
 
 -- what is behind the entries is behind the whole queue
-pub enough_beyond : (wanted : Option ℕ) (x : Item) (nodes : List (Reverse ℕ)) (entries wide : List Item)
-    → IsBehind wanted x entries
-    → IsEnough wanted (queued nodes entries wide) (put item_cmp x (queued nodes entries wide))
-enough_beyond wanted x nodes entries wide h =
-    enough_without wanted x (queued nodes entries wide)
-    (behind_right wanted x wide (narrow nodes entries) (behind_right wanted x (in_order node_item nodes) entries h))
+pub put_beyond : (x : Item) (nodes : List (Reverse ℕ)) (entries wide : List Item) (v : Limited) → IsBehind v.wanted x entries
+    → queued nodes entries wide ≡ v.items → IsPut x v v
+put_beyond x nodes entries wide v h e =
+    let behind = behind_right v.wanted x (in_order node_item nodes) entries h in
+    let all = behind_right v.wanted x wide (narrow nodes entries) behind in
+    record { items = enough_without v.wanted x v.items (subst (IsBehind v.wanted x) e all); wanted = refl; capacity = refl }
 
 pub enough_same : (wanted : Option ℕ) (xs ys : List Item) → xs ≡ ys → IsEnough wanted xs ys
 enough_same wanted xs ys e = subst (IsEnough wanted xs) e (enough_itself wanted xs)
@@ -200,13 +200,9 @@ less_entries : (p : Place) (n : ℕ) → less_at p (Some n) ≡ Some (n - entrie
 less_entries (Node w) n = ap Some (omega arith)
 less_entries (Entry id) n = refl
 
-same_rest : (x y : Item) (xs ys : List Item) (n : ℕ) → front (x ∷ xs) (suc n) ≡ front (y ∷ ys) (suc n)
-    → (x ≡ y) × (front xs (suc n - entries_at x.place) ≡ front ys (suc n - entries_at y.place))
-same_rest x y xs ys n h = (cc, cc)
-
 pub first_kept : (wanted : Option ℕ) (x : Item) (xs all : List Item) → wanted ≢ Some 0 → IsEnough wanted (x ∷ xs) all
     → (ys : List Item) × ((all ≡ x ∷ ys) × IsEnough (less_at x.place wanted) xs ys)
 first_kept None x xs all more h = grind (arith, less_none, enough_itself)
 first_kept (Some zero) x xs all more h = absurd (more refl)
 first_kept (Some (suc n)) x xs [] more h = absurd (nil_is_not_cons _ _ (sym h.same))
-first_kept (Some (suc n)) x xs (y ∷ ys) more h = grind (arith, same_rest, less_entries)
+first_kept (Some (suc n)) x xs (y ∷ ys) more h = grind (arith, less_entries)

@@ -18,16 +18,13 @@ minus (suc n) = negsuc n
 abbrev entry : ℕ → Rect → Entry
 entry id bounds = record { id = pos id; bounds = bounds; layer = 0 }
 
-abbrev five_boxes : List Entry
-five_boxes =
+abbrev tree : Packed
+tree = pack_of 2 (
     entry 1 (rect_of (pos 0) (pos 10) (pos 0) (pos 10))
     ∷ entry 2 (rect_of (pos 5) (pos 15) (pos 5) (pos 15))
     ∷ entry 3 (rect_of (pos 20) (pos 30) (pos 0) (pos 10))
     ∷ entry 4 (rect_of (minus 5) (minus 1) (minus 5) (minus 1))
-    ∷ entry 5 (rect_of (pos 12) (pos 12) (pos 12) (pos 12)) ∷ []
-
-abbrev tree : Packed
-tree = pack_of 2 five_boxes
+    ∷ entry 5 (rect_of (pos 12) (pos 12) (pos 12) (pos 12)) ∷ [])
 
 -- ---- what is asked for
 

@@ -22,10 +22,6 @@ still_more w w' same more = λ e. more (sym same ∙ e)
 
 -- ---- what was taken out of a frontier
 
-pub node_wanted : (out : Option ScoredNode × Option Answer) (n : ScoredNode) (w w' : Option ℕ) → out.0 ≡ Some n
-    → w' ≡ wanted_after (taken_item out) w → w' ≡ w
-node_wanted out n w w' is h = h ∙ ap (λ o. wanted_after (node_or o (taken_entry out.1)) w) is
-
 module _ (accepts : Extent → Bool) (score : Extent → ℕ) (verdict : Info → Verdict) (t : Packed) (wanted : Option ℕ)
     (s : ℕ) (n : WaitingNode) where
   enough_children : (xs ys : List Item) → IsEnough wanted xs ys
@@ -40,29 +36,9 @@ module _ (accepts : Extent → Bool) (score : Extent → ℕ) (verdict : Info �
         | false ↦ enough_nodes verdict t v m wanted m.count xs ys h
       ]
 
-  rising_children : (xs : List Item) → IsRising xs → IsRising (join_children accepts score verdict t s n xs)
-  rising_children xs h =
-      let m = node_at t n.number.number in
-      let v = verdict_on s n in
-      cond_both (m.level == 1) (join_answers (answers_among t accepts score m m.count) xs) (join_nodes verdict t v m m.count xs)
-      IsRising (λ e. rising_put_all (map item_of (answers_among t accepts score m m.count)) xs h)
-      (λ e. rising_nodes verdict t v m wanted m.count xs h)
-
 module _ {accepts : Extent → Bool} {score : Extent → ℕ} {verdict : Info → Verdict}
     (law : IsLawful accepts score verdict) (t : Packed) where
   -- ---- a node is opened
-
-  children_step : {opened asked capacity s : ℕ} {n : WaitingNode} {xs : List Item} → s < 2 ^ 128
-      → IsTaken accepts score verdict t opened asked capacity (item_at s (place.Node n)) xs
-      → IsNodeStep accepts score verdict t opened asked capacity s n xs (join_children accepts score verdict t s n xs)
-  children_step {opened} {asked} {capacity} {s} {n} {xs} small k =
-      let m = node_at t n.number.number in
-      let v = verdict_on s n in
-      let level = subtree_level t (height_at t n.number.number) m k.state.sound.0.tree in
-      cond_both (m.level == 1) (join_answers (answers_among t accepts score m m.count) xs) (join_nodes verdict t v m m.count xs)
-      (IsNodeStep accepts score verdict t opened asked capacity s n xs)
-      (λ e. leaf_step law t small (eqb-true m.level 1 e) k)
-      (λ e. let other = eqb-false m.level 1 e in inner_step law t small (omega arith) k)
 
   -- what the calls leave is what is defined
   pub leaf_joins : (wanted : Option ℕ) (s : ℕ) (n : WaitingNode) (m : node.Node) (new xs : List Item)
@@ -116,7 +92,15 @@ module _ {accepts : Extent → Bool} {score : Extent → ℕ} {verdict : Info �
         state = subst (IsSearching accepts score verdict t opened asked capacity) k.1.0 u.state;
       } in
       let can = can_open law t taken in
-      let step = children_step small taken in
+      let k' = node_at t n.number.number in
+      let v = verdict_on s n in
+      let found = answers_among t accepts score k' k'.count in
+      let level = subtree_level t (height_at t n.number.number) k' taken.state.sound.0.tree in
+      let step : IsNodeStep accepts score verdict t opened asked capacity s n ys (join_children accepts score verdict t s n ys) =
+      cond_both (k'.level == 1) (join_answers found ys) (join_nodes verdict t v k' k'.count ys)
+      (IsNodeStep accepts score verdict t opened asked capacity s n ys)
+      (λ e. leaf_step law t small (eqb-true k'.level 1 e) taken)
+      (λ e. let other = eqb-false k'.level 1 e in inner_step law t small (omega arith) taken) in
       let room = can.room in
       record {
         tree = taken.state.tree;
@@ -129,7 +113,8 @@ module _ {accepts : Extent → Bool} {score : Extent → ℕ} {verdict : Info �
         next = λ new h. record {
           all = join_children accepts score verdict t s n ys;
           state = step.state;
-          rising = rising_children accepts score verdict t wanted s n ys up.1;
+          rising = cond_both (k'.level == 1) (join_answers found ys) (join_nodes verdict t v k' k'.count ys) IsRising
+              (λ e. rising_put_all (map item_of found) ys up.1) (λ e. rising_nodes verdict t v k' wanted k'.count ys up.1);
           follows = step.same ∙ ap (remaining t accepts score) (sym k.1.0) ∙ u.follows;
           enough = enough_trans wanted new (join_children accepts score verdict t s n xs) (join_children accepts score verdict t s n ys) h
               (enough_children accepts score verdict t wanted s n xs ys k.1.1);

@@ -170,15 +170,6 @@ module _ {accepts : Extent → Bool} {score : Extent → ℕ} {verdict : Info �
           let few = few_under accepts score t k (child t number opened.tree high i lt).tree in
           omega (arith, few_upto i (omega arith))
 
-      -- the answers of the first and a further child are no more than the node's size
-      room_for_child : (i : ℕ) → i < (node_at t number).count
-          → length (answers_upto opened high i) + (node_at t ((node_at t number).first + i)).size ≤ (node_at t number).size
-      room_for_child i lt =
-          let sizes = sum_more verdict t v number opened.tree high (λ k. k.size) i lt in
-          let size = (inner_at t (height_at t number) (node_at t number) opened.tree high).1.size in
-          let part = sum_by-take-drop (λ (k : Node). k.size) (child_nodes t (node_at t number)) (suc i) in
-          omega (arith, few_upto i (omega (arith, lt)))
-
       -- ---- the loop over them
 
       module _ (opens : Verdict → Bool) where
@@ -227,7 +218,11 @@ module _ {accepts : Extent → Bool} {score : Extent → ℕ} {verdict : Info �
                         node_question accepts score t sound v small (node_at t number) (height_at t number - 1) i
                         ((node_at t number).first + i) opened.low opened.below k;
                   };
-              room_is = omega (arith, room_for_child i few);
+              room_is =
+                  let sizes = sum_more verdict t v number opened.tree high (λ k. k.size) i few in
+                  let size = (inner_at t (height_at t number) (node_at t number) opened.tree high).1.size in
+                  let part = sum_by-take-drop (λ (k : Node). k.size) (child_nodes t (node_at t number)) (suc i) in
+                  omega (arith, few_upto i (omega (arith, few)));
               opened_few = omega (arith, within one_node i few);
               asked_few = omega (arith, within its_children i few);
               lower = (child t number opened.tree high i few).lower;

@@ -1,6 +1,7 @@
-use Rattle.std.proofs.Common.{◌<◌, ◌^◌, ◌∙◌, refl, subst, arith, rules}
-use Rattle.rt_search.specs.{Limits.{IsEnough}, Progress.{join_children}}
-use Rattle.rt_search.proofs.UnderWay.{ended, go_on, node_wanted, still_more}
+use Rattle.rt_search.specs.Kept.{node_or, taken_entry}
+use Rattle.std.proofs.Common.{ap, ◌<◌, ◌^◌, ◌∙◌, refl, subst, arith, rules}
+use Rattle.rt_search.specs.{Limits.{IsEnough, wanted_after}, Progress.{join_children}}
+use Rattle.rt_search.proofs.UnderWay.{ended, go_on, still_more}
 use Rattle.rt_search.proofs.search.pull.Goals as goal
 
 pub overflow_add-opened : goal.overflow_add-opened
@@ -39,7 +40,7 @@ loop-node-preserved g c =
     let e = c.take-node.ensures in
     let n = c.in-Some.node in
     let o = c.open_node.ensures in
-    let same = node_wanted c.take-node.result n _ _ c.in-Some.is e.wanted in
+    let same = e.wanted ∙ ap (λ o. wanted_after (node_or o (taken_entry c.take-node.result.1)) c.loop-node.frontier.wanted) c.in-Some.is in
     let items = subst (λ y. IsEnough c.loop-node.frontier.wanted c.open_node.new.frontier.items
     (join_children (g.G.Geometry.accepts y) (g.G.Geometry.score y) (g.G.Geometry.verdict y) c.args.tree.now n.score n.node c.take-node.new.self.items)) v.geometry
     (rw same at o.children.items) in

@@ -2,7 +2,7 @@ use Rattle.std.proofs.{Common.{◌∙◌, ap, refl, subst, arith}, lemmas.List.S
 use Rattle.rt_tree.specs.Sorting.{put}
 use Rattle.rt_search.specs.{Items.{item_at, item_cmp}, Limits.{IsPut}, Kept.{in_order, node_item}, Pooling.{keys_in}}
 use Rattle.rt_search.specs.Remaining.{put_all}
-use Rattle.rt_search.proofs.{Heaps.{pushed}, Limits.{enough_beyond, enough_same}, Merging.{length-queued, put-put_all}}
+use Rattle.rt_search.proofs.{Heaps.{pushed}, Limits.{put_beyond, enough_same}, Merging.{length-queued, put-put_all}}
 use Rattle.rt_search.proofs.{OrderedLists.{put_all-put}, Orders.{item_order}}
 use Rattle.rt_search.specs.declared.item.Place.TheVariants as place
 use Rattle.rt_search.proofs.queue.Queue.put_node.Goals as goal
@@ -34,12 +34,8 @@ invariant_of-self c =
 pub returns-then-is_beyond : goal.returns-then-is_beyond
 returns-then-is_beyond c =
     let x = item_at c.args.score (place.Node c.args.node) in
-    subst (λ v. IsPut x v v) c.self.view_is (record {
-      items = enough_beyond c.self.inside.entries.wanted x (keys_in c.self.inside.nodes) c.self.inside.entries.items
-          c.self.inside.wide.items (c.if-is_beyond.ensures refl x refl);
-      wanted = refl;
-      capacity = refl;
-    })
+    put_beyond x (keys_in c.self.inside.nodes) c.self.inside.entries.items c.self.inside.wide.items _
+    (rw (← c.self.view_is) (c.if-is_beyond.ensures refl x refl)) (ap (λ v. v.items) c.self.view_is)
 
 pub returns : goal.returns
 returns c =

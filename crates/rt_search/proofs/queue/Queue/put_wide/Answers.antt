@@ -1,6 +1,6 @@
-use Rattle.std.proofs.Common.{refl, subst, arith}
+use Rattle.std.proofs.Common.{ap, refl, subst, arith}
 use Rattle.rt_search.specs.{Items.{item_at}, Limits.{IsPut}, Pooling.{keys_in}}
-use Rattle.rt_search.proofs.{Limits.{enough_beyond, enough_same}, Merging.{length-queued, put-put_all}}
+use Rattle.rt_search.proofs.{Limits.{put_beyond, enough_same}, Merging.{length-queued, put-put_all}}
 use Rattle.rt_search.proofs.{OrderedLists.{length-put, put-all}, Orders.{item_order}}
 use Rattle.rt_search.proofs.queue.Queue.put_wide.Goals as goal
 
@@ -16,12 +16,8 @@ invariant_of-self c = grind (arith, length-queued, length-put, item_order, put-a
 pub returns-then-is_beyond : goal.returns-then-is_beyond
 returns-then-is_beyond c =
     let x = item_at c.args.score c.args.place in
-    subst (λ v. IsPut x v v) c.self.view_is (record {
-      items = enough_beyond c.self.inside.entries.wanted x (keys_in c.self.inside.nodes) c.self.inside.entries.items
-          c.self.inside.wide.items (c.if-is_beyond.ensures refl x refl);
-      wanted = refl;
-      capacity = refl;
-    })
+    put_beyond x (keys_in c.self.inside.nodes) c.self.inside.entries.items c.self.inside.wide.items _
+    (rw (← c.self.view_is) (c.if-is_beyond.ensures refl x refl)) (ap (λ v. v.items) c.self.view_is)
 
 pub returns : goal.returns
 returns c = grind (arith, enough_same, put-put_all, item_order)
