@@ -174,8 +174,7 @@ module _ {accepts : Extent → Bool} {score : Extent → ℕ} {verdict : Info �
       let node = node_at t number in
       let v = verdict_on s n in
       let here = k.state.sound.0 in
-      let leaf = leaf_node t (height_at t number) node here.tree low in
-      let flat : height_at t number ≡ 0 = leaf.0 in
+      let flat : height_at t number ≡ 0 = (leaf_node t (height_at t number) node here.tree low).0 in
       let found = answers_among t accepts score node node.count in
       node_step _ k
       (answers_joined law t found xs

@@ -57,9 +57,8 @@ module _ {accepts : Extent → Bool} {score : Extent → ℕ} {verdict : Info �
       → IsEnough wanted new (join_children accepts score verdict t s n xs)
   nodes_join wanted s n m v new xs is high same h =
       let l = node_at t n.number.number in
-      let k = subst (λ u. IsEnough wanted new (join_nodes verdict t u l l.count xs)) same h in
       let other : (l.level == 1) ≡ false = subst (λ (i : node.Node). (i.level == 1) ≡ false) is (ne_eqb m.level 1 high) in
-      rw other k
+      rw other (subst (λ u. IsEnough wanted new (join_nodes verdict t u l l.count xs)) same h)
 
   -- what opening it requires, and what it leads to
   pub record CanGoOn (opened asked capacity : ℕ) (wanted : Option ℕ) (to_come : List Answer) (s : ℕ) (n : WaitingNode)

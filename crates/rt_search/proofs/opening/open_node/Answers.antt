@@ -35,10 +35,9 @@ ask_node-requires g c =
     c.new-number.ensures c.node-whole.ensures c.info_under-info.ensures in
     let long = length-join_nodes (g.G.Geometry.verdict geometry) tree v (node_at tree number) c.loop-i.i
     c.args.frontier.now.items in
-    let inv = c.loop-i.invariant in
     record {
       honest = grind (arith, honest_child);
-      room = rw inv.children.capacity (omega arith);
+      room = rw c.loop-i.invariant.children.capacity (omega arith);
       asked = omega arith;
     }
 

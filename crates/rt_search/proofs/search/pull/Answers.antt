@@ -15,14 +15,13 @@ overflow_add-opened g c =
 pub open_node-requires : goal.open_node-requires
 open_node-requires g c =
     let v = c.loop-node.invariant in
-    let e = c.take-node.ensures in
     let n = c.in-Some.node in
     let k = go_on (g.met.G.Geometry.lawful c.args.counted.now.geometry) c.args.tree.now c.take-node.result n (search rules)
     (still_more _ _ v.wanted c.requires.more) c.in-Some.is c.take-node.ensures.taken (v.state _ c.requires.state.1) in
     record {
       sound = k.tree;
       node = rw v.geometry k.node;
-      room = rw e.capacity k.room;
+      room = rw c.take-node.ensures.capacity k.room;
       asked = k.asked_low;
     }
 

@@ -37,12 +37,9 @@ visit_entry-requires g c =
 pub loop-i-preserved : goal.loop-i-preserved
 loop-i-preserved g c =
     let geometry = c.args.counted.now.geometry in
-    let accepts = g.G.Geometry.accepts geometry in
-    let score = g.G.Geometry.score geometry in
     let tree = c.args.tree.now in
     let i = c.loop-i.i in
-    let v = c.args.parent in
-    let small : v.score < 2 ^ 128 = search rules in
+    let small : c.args.parent.score < 2 ^ 128 = search rules in
     let count = entries_count tree c.args.node c.child_entries-entries.result.now c.requires.leaf.node
     c.child_entries-entries.ensures in
     let lt = c.loop-i-test.true in
@@ -58,7 +55,7 @@ loop-i-preserved g c =
     let more = one_entry (g.met.G.Geometry.lawful geometry) c.requires.leaf.sound small c.requires.leaf.node
     c.requires.leaf.below i (omega arith) in
     let both = taken-append g.C.Collector.takes c.args.collector.now c.loop-i.collector c.visit_entry.new.self
-    (answers_among tree accepts score c.args.node i) _ inv.taken one in
+    (answers_among tree (g.G.Geometry.accepts geometry) (g.G.Geometry.score geometry) c.args.node i) _ inv.taken one in
     record {
       taken = subst (λ l. HasTaken g.C.Collector.takes c.args.collector.now l c.visit_entry.new.self) more both;
       geometry = e.geometry;

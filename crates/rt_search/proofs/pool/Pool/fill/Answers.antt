@@ -9,6 +9,5 @@ invariant_of-self c = grind (arith, length_permutation)
 pub returns-clause-filled : goal.returns-clause-filled
 returns-clause-filled c =
     let e = c.move_near-self-inside.ensures in
-    let known = rw c.in-Some.is at c.self.invariant.outside.known in
     some_near c.in-Some.least c.edge_beyond-self-inside.result (heap_items c.self.inside.near) c.self.inside.far.items
-    _ _ known.0 c.edge_beyond-self-inside.ensures e.same e.far.high
+    _ _ (rw c.in-Some.is at c.self.invariant.outside.known).0 c.edge_beyond-self-inside.ensures e.same e.far.high

@@ -35,8 +35,7 @@ pub returns-clause-keys : goal.returns-clause-keys
 returns-clause-keys c =
     let near = heap_items c.self.inside.near in
     let far = c.self.inside.far.items in
-    let same = rw (← c.self.view_is) at c.fill.ensures.same in
-    IsPermutation-trans _ (near ++ far) _ same
+    IsPermutation-trans _ (near ++ far) _ (rw (← c.self.view_is) at c.fill.ensures.same)
     (IsPermutation-append_left far near (c.in-Some.top ∷ heap_items c.pop.new.self) c.in-Some.ensures.permutation)
 
 pub returns-clause-least : goal.returns-clause-least
