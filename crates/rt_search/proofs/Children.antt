@@ -68,13 +68,12 @@ leaf_read t n i x lent table s entries lt read =
     let e = get_or children i no_entry in
     let few = subst (λ m. i < m) (entries_count t n lent s entries) lt in
     let there : i < length children = omega (arith, part_length t.entries n.first n.count s.range) in
-    let inside : n.first + i < length t.entries = omega arith in
     let same : get_or t.entries (n.first + i) e ≡ e = sym (part_at t.entries n.first n.count i e few)
     ∙ get_or_default children i e no_entry there in
     record {
       at = leaf_at t n i e table s few same;
       is = subst (λ l. x ≡ get_or l i x) entries read ∙ get_or-map without_layer children i no_entry x there;
-      found = slice_get-get_or t.entries (n.first + i) e inside ∙ ap Some same;
+      found = slice_get-get_or t.entries (n.first + i) e (omega arith) ∙ ap Some same;
     }
 
 -- ---- a child of a higher node

@@ -60,12 +60,11 @@ walk_under-walk_child-requires g t c κs within =
     let tree = c.args.tree.now in
     let sound = c.requires.sound in
     let v = c.args.parent in
-    let small : v.score < 2 ^ 128 = search rules in
     let here = children_of c.requires.node c.node-node.ensures c.if-node-eq1.false c.child_nodes-children.ensures in
     let k = asked here c.loop-i.i v c.loop-i-test.true c.index-children-i.is c.new-child_number.ensures
     c.node-whole.ensures c.info_under-info.ensures in
     let inv = c.loop-i.invariant in
-    let can = visit law sound small c.requires.node here.high g.V.Visitor.opens k g.V.Collector.takes
+    let can = visit law sound (search rules) c.requires.node here.high g.V.Visitor.opens k g.V.Collector.takes
     g.V.Collector.room g.met.V.Collector.fills c.args.visitor.now c.loop-i.visitor inv.taken c.requires.room
     c.args.opened.now c.loop-i.opened c.args.counted.now.asked c.loop-i.counted.asked inv.opened inv.asked
     c.requires.opened c.requires.asked in
@@ -79,13 +78,12 @@ pub walk_under-loop-i-preserved : goal.walk_under-loop-i-preserved
 walk_under-loop-i-preserved g t c =
     let law = g.met.G.Geometry.lawful c.args.counted.now.geometry in
     let v = c.args.parent in
-    let small : v.score < 2 ^ 128 = search rules in
     let here = children_of c.requires.node c.node-node.ensures c.if-node-eq1.false c.child_nodes-children.ensures in
     let k = asked here c.loop-i.i v c.loop-i-test.true c.index-children-i.is c.new-child_number.ensures
     c.node-whole.ensures c.info_under-info.ensures in
     let e = rw k.at at (rw k.info_is at (rw c.loop-i.invariant.geometry at c.walk_child.ensures)) in
     let more = λ (cost : Node → ℕ).
-    work_more law c.requires.sound small c.requires.node here.high g.V.Visitor.opens cost c.loop-i.i k.few in
+    work_more law c.requires.sound (search rules) c.requires.node here.high g.V.Visitor.opens cost c.loop-i.i k.few in
     record {
       taken = grind (arith, upto_more, taken-append);
       opened = omega (arith, more one_node);
@@ -96,11 +94,10 @@ walk_under-loop-i-preserved g t c =
 pub walk_under-returns : goal.walk_under-returns
 walk_under-returns g t c =
     let law = g.met.G.Geometry.lawful c.args.counted.now.geometry in
-    let small : c.args.parent.score < 2 ^ 128 = search rules in
     let here = children_of c.requires.node c.node-node.ensures c.if-node-eq1.false c.child_nodes-children.ensures in
     let end : c.loop-i.i ≡ (node_at c.args.tree.now c.args.number.number).count = omega arith in
     let inv = rw end at c.loop-i.invariant in
-    let all = work_all law c.requires.sound small c.requires.node here.high g.V.Visitor.opens in
+    let all = work_all law c.requires.sound (search rules) c.requires.node here.high g.V.Visitor.opens in
     record {
       taken = grind (arith, upto_all);
       opened = omega (arith, all one_node);

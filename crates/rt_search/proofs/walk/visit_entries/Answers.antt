@@ -39,7 +39,6 @@ loop-i-preserved g c =
     let geometry = c.args.counted.now.geometry in
     let tree = c.args.tree.now in
     let i = c.loop-i.i in
-    let small : c.args.parent.score < 2 ^ 128 = search rules in
     let count = entries_count tree c.args.node c.child_entries-entries.result.now c.requires.leaf.node
     c.child_entries-entries.ensures in
     let lt = c.loop-i-test.true in
@@ -52,7 +51,7 @@ loop-i-preserved g c =
     let fits : FitsSigned w64 c.index-entries-i.result.id = search rules in
     let verdict_is = rw (k.is, layers) at (rw c.info_under-info.ensures at e.verdict) in
     let one = rw k.is at (rw verdict_is at (rw c.is_kept.ensures at (simp (to_z-of_z, fits) at c.visit_entry.ensures))) in
-    let more = one_entry (g.met.G.Geometry.lawful geometry) c.requires.leaf.sound small c.requires.leaf.node
+    let more = one_entry (g.met.G.Geometry.lawful geometry) c.requires.leaf.sound (search rules) c.requires.leaf.node
     c.requires.leaf.below i (omega arith) in
     let both = taken-append g.C.Collector.takes c.args.collector.now c.loop-i.collector c.visit_entry.new.self
     (answers_among tree (g.G.Geometry.accepts geometry) (g.G.Geometry.score geometry) c.args.node i) _ inv.taken one in

@@ -35,7 +35,6 @@ invariant_of-self c =
 
 pub returns : goal.returns
 returns c =
-    let fits : FitsSigned w64 c.args.id = search rules in
     let w = c.self.inside.entries.wanted in
     let nodes = in_order node_item (keys_in c.self.inside.nodes) in
     let wide = c.self.inside.wide.items in
@@ -48,7 +47,7 @@ returns c =
           (put item_cmp (at c.args.id) v.items)) c.self.view_is
           (enough_joined w (at c.args.id) wide (put_all item_cmp nodes old) (put_all item_cmp nodes new)
           (enough_joined w (at c.args.id) nodes old new
-          (subst (λ i. IsEnough w new (put item_cmp (at i) old)) (to_z-of_z w64 c.args.id fits) e.items)));
+          (subst (λ i. IsEnough w new (put item_cmp (at i) old)) (to_z-of_z w64 c.args.id (search rules)) e.items)));
       wanted = e.wanted ∙ ap (λ w. w.wanted) c.self.view_is;
       capacity = ap (λ w. w.capacity) c.self.view_is;
     }

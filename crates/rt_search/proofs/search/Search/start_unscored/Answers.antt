@@ -14,13 +14,12 @@ invariant_of-result g c =
     let e = c.walk-opened.ensures in
     let new = c.walk-opened.new.visitor in
     let joined = entries_join c.clear.new.self new (answers_in_tree tree accepts score) e.taken in
-    let some : c.args.limit ≢ Some 0 = search rules in
     let room : length tree.entries ≤ new.capacity = rw (joined.capacity, c.clear.ensures.capacity) c.requires.capacity in
     let first : IfSome new.wanted (λ n. c.args.limit ≡ Some n) = rw joined.wanted c.clear.ensures.wanted in
     let enough : IsEnough new.wanted new.items (join_answers (answers_in_tree tree accepts score) []) =
     rw (joined.wanted, ← c.clear.ensures.items) joined.items in
     rw e.geometry (begun (g.met.G.Geometry.lawful geometry) tree e.sound c.requires.unscored c.args.limit
-    c.walk-opened.result _ new.capacity new.wanted new.items room some first e.opened e.asked enough)
+    c.walk-opened.result _ new.capacity new.wanted new.items room (search rules) first e.opened e.asked enough)
 
 pub returns-clause-capacity : goal.returns-clause-capacity
 returns-clause-capacity g c = search (rules, entries_join)
