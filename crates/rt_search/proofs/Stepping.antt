@@ -60,7 +60,7 @@ module _ {accepts : Extent → Bool} {score : Extent → ℕ} {verdict : Info �
 
   -- ---- an entry is taken out
 
-  entry_course : (cost : Node → ℕ) (i : ℤ) (s : ℕ) (done : ℕ) (xs : List Item)
+  pub entry_course : (cost : Node → ℕ) (i : ℤ) (s : ℕ) (done : ℕ) (xs : List Item)
       → AllByRecursion (λ y. is_gt (item_cmp (item_at s (place.Entry i)) y) ≡ false) xs → AllSound t accepts score xs
       → IsOnCourse accepts score verdict cost t done (item_at s (place.Entry i) ∷ xs)
       → IsOnCourse accepts score verdict cost t done xs × (done ≡ reached_from_root (is_reached (Some s)) cost verdict t)
@@ -78,35 +78,6 @@ module _ {accepts : Extent → Bool} {score : Extent → ℕ} {verdict : Info �
         },
         omega arith,
       )
-
-  pub record IsEntryStep (opened asked capacity : ℕ) (i : ℤ) (s : ℕ) (start : List Answer) (xs : List Item) : Type 0
-    where
-      pub answer : start ≡ (i, s) ∷ remaining t accepts score xs
-      pub state : IsSearching accepts score verdict t opened asked capacity xs
-      pub opened_is : opened ≡ reached_from_root (is_reached (Some s)) one_node verdict t
-      pub asked_is : asked ≡ reached_from_root (is_reached (Some s)) its_children verdict t
-
-  pub entry_step : {opened asked capacity : ℕ} {i : ℤ} {s : ℕ} {xs : List Item}
-      → IsTaken accepts score verdict t opened asked capacity (item_at s (place.Entry i)) xs
-      → IsEntryStep opened asked capacity i s (remaining t accepts score (item_at s (place.Entry i) ∷ xs)) xs
-  entry_step {opened} {asked} {capacity} {i} {s} {xs} k =
-      let sound = k.state.sound.1 in
-      let o = entry_course one_node i s opened xs k.least sound k.state.opening in
-      let a = entry_course its_children i s asked xs k.least sound k.state.asking in
-      record {
-        answer = take_entry accepts score t i s xs k.least sound;
-        state = record {
-          tree = k.state.tree;
-          sound = sound;
-          room =
-              (let r = k.state.room in let h = held_cons accepts score t (item_at s (place.Entry i)) xs in
-              omega arith);
-          opening = o.0;
-          asking = a.0;
-        };
-        opened_is = o.1;
-        asked_is = a.1;
-      }
 
   -- ---- a node is opened: what is told of `new` comes from the children that joined
 
@@ -209,27 +180,3 @@ module _ {accepts : Extent → Bool} {score : Extent → ℕ} {verdict : Info �
       (held-join_nodes verdict t v number here.tree high xs)
       (λ cost bound. work-join_nodes verdict t v number here.tree high (is_reached bound) (λ v h. rw h refl) cost
       xs)
-
-  -- there is room to open a node that was taken out, and the counters stay small
-  pub record CanOpen (opened asked capacity number : ℕ) (xs : List Item) : Type 0 where
-    pub opened_low : opened + 1 ≤ 2 ^ 32
-    pub asked_low : asked + (node_at t number).count ≤ 2 ^ 32
-    pub room : length xs + (node_at t number).count ≤ capacity
-
-  pub can_open : {opened asked capacity s : ℕ} {n : WaitingNode} {xs : List Item}
-      → IsTaken accepts score verdict t opened asked capacity (item_at s (place.Node n)) xs
-      → CanOpen opened asked capacity n.number.number xs
-  can_open {opened} {asked} {capacity} {s} {n} {xs} k = record {
-    opened_low = done_le (is_reached None) one_node verdict t (one_is_fair t) k.state.tree opened s n xs
-        (reached_is None s n) k.state.opening.in_all;
-    asked_low = done_le (is_reached None) its_children verdict t (count_is_fair t) k.state.tree asked s n xs
-        (reached_is None s n) k.state.asking.in_all;
-    room =
-        let room = k.state.room in
-        let count = (size_counts t (height_at t n.number.number) (node_at t n.number.number) k.state.sound.0.tree).1 in
-        omega (
-          arith,
-          held_cons accepts score t (item_at s (place.Node n)) xs,
-          length_le_held accepts score t xs k.state.sound.1,
-        );
-  }

@@ -8,12 +8,12 @@ use Rattle.rt_tree.specs.Packed.{Packed, IsSound, node_at}
 use Rattle.rt_search.specs.{Answers.{Answer}, Joining.{join_answers, join_nodes}, Progress.{work_left}}
 use Rattle.rt_search.specs.{Items.{item_at, item_of}, Remaining.{IsOpenable, height_at, remaining, verdict_on}}
 use Rattle.rt_search.specs.{Kept.{IsRising, IsTakenOut, node_or, taken_entry, taken_item}, declared.item.Item.{Item}}
-use Rattle.rt_search.specs.{Limits.{IsEnough, one_less, wanted_after}, Work.{is_reached, one_node, reached_from_root}}
+use Rattle.rt_search.specs.{Limits.{IsEnough, one_less, wanted_after}, Work.{is_reached, its_children, one_node, reached_from_root}}
 use Rattle.rt_search.specs.Progress.{IsFound, IsNodeStep, IsOver, IsSearching, IsTaken, IsUnderWay, join_children}
 use Rattle.rt_search.specs.{Walking.{answers_among}, declared.item.{ScoredNode.{ScoredNode}, WaitingNode.{WaitingNode}}}
-use Rattle.rt_search.proofs.{Children.{subtree_level}, Limits.{rising_put_all}, Sizes.{done_upto, one_is_fair}}
+use Rattle.rt_search.proofs.{Children.{subtree_level}, Limits.{rising_put_all}, Sizes.{count_is_fair, done_le, done_upto, held_cons, length_le_held, one_is_fair, size_counts}, Answering.{take_entry}}
 use Rattle.rt_search.proofs.Limits.{enough_nodes, enough_put_all, enough_trans, first_kept, none_left, rising_nodes}
-use Rattle.rt_search.proofs.Stepping.{can_open, entry_step, inner_step, leaf_step, reached_is}
+use Rattle.rt_search.proofs.Stepping.{entry_course, inner_step, leaf_step, reached_is}
 use Rattle.rt_tree.specs.declared.tree.Node as node
 use Rattle.rt_search.specs.declared.item.Place.TheVariants as place
 
@@ -90,7 +90,6 @@ module _ {accepts : Extent → Bool} {score : Extent → ℕ} {verdict : Info �
         least = up.0;
         state = subst (IsSearching accepts score verdict t opened asked capacity) k.1.0 u.state;
       } in
-      let can = can_open law t taken in
       let k' = node_at t n.number.number in
       let v = verdict_on s n in
       let found = answers_among t accepts score k' k'.count in
@@ -100,14 +99,20 @@ module _ {accepts : Extent → Bool} {score : Extent → ℕ} {verdict : Info �
       (IsNodeStep accepts score verdict t opened asked capacity s n ys)
       (λ e. leaf_step law t small (eqb-true k'.level 1 e) taken)
       (λ e. let other = eqb-false k'.level 1 e in inner_step law t small (omega arith) taken) in
-      let room = can.room in
+      let h = held_cons accepts score t x ys in
+      let few = length_le_held accepts score t ys taken.state.sound.1 in
+      let count = (size_counts t (height_at t n.number.number) k' taken.state.sound.0.tree).1 in
+      let r = taken.state.room in
+      let opens = reached_is None s n in
       record {
         tree = taken.state.tree;
         node = taken.state.sound.0;
         room = omega arith;
-        opened_low = can.opened_low;
-        asked_low = can.asked_low;
-        opened_upto = done_upto (is_reached None) one_node verdict t (one_is_fair t) opened s n ys (reached_is None s n)
+        opened_low = done_le (is_reached None) one_node verdict t (one_is_fair t) taken.state.tree opened s n ys opens
+            taken.state.opening.in_all;
+        asked_low = done_le (is_reached None) its_children verdict t (count_is_fair t) taken.state.tree asked s n ys opens
+            taken.state.asking.in_all;
+        opened_upto = done_upto (is_reached None) one_node verdict t (one_is_fair t) opened s n ys opens
             taken.state.opening.in_all;
         next = λ new h. record {
           all = join_children accepts score verdict t s n ys;
@@ -135,12 +140,22 @@ module _ {accepts : Extent → Bool} {score : Extent → ℕ} {verdict : Info �
         least = up.0;
         state = subst (IsSearching accepts score verdict t opened asked capacity) k.1.0 u.state;
       } in
-      let step = entry_step law t taken in
+      let sound = taken.state.sound.1 in
+      let o = entry_course law t one_node i s opened ys taken.least sound taken.state.opening in
+      let a = entry_course law t its_children i s asked ys taken.least sound taken.state.asking in
+      let h = held_cons accepts score t x ys in
+      let r = taken.state.room in
       record {
         rest = remaining t accepts score ys;
-        first = sym u.follows ∙ ap (remaining t accepts score) k.1.0 ∙ step.answer;
-        state = record { all = ys; state = step.state; rising = up.1; follows = refl; enough = k.1.1 };
-        reached = record { nodes = step.opened_is; checks = step.asked_is };
+        first = sym u.follows ∙ ap (remaining t accepts score) k.1.0 ∙ take_entry accepts score t i s ys taken.least sound;
+        state = record {
+          all = ys;
+          state = record { tree = taken.state.tree; sound = sound; room = omega arith; opening = o.0; asking = a.0 };
+          rising = up.1;
+          follows = refl;
+          enough = k.1.1;
+        };
+        reached = record { nodes = o.1; checks = a.1 };
       }
 
   -- ---- nothing is left
