@@ -135,8 +135,7 @@ module _ (accepts : Extent → Bool) (score : Extent → ℕ) where
         (answers_at t accepts score r (place.Node n)) (at_above r (place.Node n) k)
 
     all_least : (i : ℤ) (s : ℕ) (xs : List Item)
-        → AllByRecursion (λ y. is_gt (item_cmp (item_at s (place.Entry i)) y) ≡ false) xs
-        → AllSound t accepts score xs
+        → AllByRecursion (λ y. is_gt (item_cmp (item_at s (place.Entry i)) y) ≡ false) xs → AllSound t accepts score xs
         → AllByRecursion (λ q. is_gt (answer_cmp (i, s) q) ≡ false) (remaining t accepts score xs)
     all_least i s [] a b = tt
     all_least i s (y ∷ ys) a b =

@@ -159,8 +159,7 @@ module _ {accepts : Extent → Bool} {score : Extent → ℕ} {verdict : Info �
           worked = worked;
         })
 
-    pub end : wanted' ≡ wanted
-        → IsOver accepts score verdict t opened' asked' capacity' wanted'
+    pub end : wanted' ≡ wanted → IsOver accepts score verdict t opened' asked' capacity' wanted'
         (drop given (answers t.entries accepts score None)) new
         → HasEnded accepts score verdict t limit given opened' asked' capacity' wanted' new
     end same over =

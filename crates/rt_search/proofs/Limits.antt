@@ -44,8 +44,7 @@ front-put x (y ∷ ys) (suc n) =
 same_put : (x : Item) (xs ys : List Item) (wanted : Option ℕ) → front_of wanted xs ≡ front_of wanted ys
     → front_of wanted (put item_cmp x xs) ≡ front_of wanted (put item_cmp x ys)
 same_put x xs ys None h = ap (put item_cmp x) h
-same_put x xs ys (Some n) h =
-    sym (front-put x xs n) ∙ ap (λ l. front (put item_cmp x l) n) h ∙ front-put x ys n
+same_put x xs ys (Some n) h = sym (front-put x xs n) ∙ ap (λ l. front (put item_cmp x l) n) h ∙ front-put x ys n
 
 -- ---- what is behind the front
 
@@ -84,8 +83,7 @@ entries_before-put = before-put item_cmp item_order (λ z. entries_at z.place)
 -- those in either of two lists stand before it in both
 pub before_right : (x : Item) (xs ys : List Item) → entries_before x ys ≤ entries_before x (put_all item_cmp xs ys)
 before_right x [] ys = omega arith
-before_right x (z ∷ xs) ys =
-    omega (arith, entries_before-put x z (put_all item_cmp xs ys), before_right x xs ys)
+before_right x (z ∷ xs) ys = omega (arith, entries_before-put x z (put_all item_cmp xs ys), before_right x xs ys)
 
 pub behind_right : (wanted : Option ℕ) (x : Item) (xs ys : List Item) → IsBehind wanted x ys
     → IsBehind wanted x (put_all item_cmp xs ys)
@@ -136,8 +134,7 @@ enough_joined wanted x zs old new h =
 
 pub enough_fits : (wanted : Option ℕ) (x : Item) (old new : List Item) (capacity : ℕ)
     → IsEnough wanted new (put item_cmp x old) → length old < capacity → length new ≤ capacity
-enough_fits wanted x old new capacity h lt =
-    omega (arith, length-put item_cmp item_order x old)
+enough_fits wanted x old new capacity h lt = omega (arith, length-put item_cmp item_order x old)
 
 -- of an empty list and another neither has any
 pub none_merged : (xs ys : List Item) → put_all item_cmp xs ys ≡ [] → ys ≡ []

@@ -78,13 +78,11 @@ fewer (Some x) old new t = (let long = ap length t.0 in omega arith)
 
 pub fewer_left : (r : Option Item) (old xs ys : List Item) (capacity : ℕ) → IsTakenOut r old xs
     → length (put_all item_cmp old ys) ≤ capacity → length (put_all item_cmp xs ys) ≤ capacity
-fewer_left r old xs ys capacity t h =
-    omega (arith, fewer r old xs t, length-merged old ys, length-merged xs ys)
+fewer_left r old xs ys capacity t h = omega (arith, fewer r old xs t, length-merged old ys, length-merged xs ys)
 
 pub fewer_right : (r : Option Item) (xs old ys : List Item) (capacity : ℕ) → IsTakenOut r old ys
     → length (put_all item_cmp xs old) ≤ capacity → length (put_all item_cmp xs ys) ≤ capacity
-fewer_right r xs old ys capacity t h =
-    omega (arith, fewer r old ys t, length-merged xs old, length-merged xs ys)
+fewer_right r xs old ys capacity t h = omega (arith, fewer r old ys t, length-merged xs old, length-merged xs ys)
 
 -- ---- which list is ahead
 
@@ -103,14 +101,12 @@ lower_least x ys r h = grind (arith, all_map, lower_before)
 pub nodes_ahead : (s r : ℕ) (xs ys : List Item) → IsFirstScore s xs → IsFirstScore r ys
     → AllByRecursion (λ x. IsNode x.place) xs → AllByRecursion (λ y. IsEntry y.place) ys → s ≤ r → IsAhead xs ys
 nodes_ahead s r [] ys f g p q h = absurd f
-nodes_ahead s r (x ∷ xs) ys f g p q h =
-    grind (arith, all_both, node_before, all_scores)
+nodes_ahead s r (x ∷ xs) ys f g p q h = grind (arith, all_both, node_before, all_scores)
 
 -- entries before nodes of higher scores
 pub entries_ahead : (s r : ℕ) (xs ys : List Item) → IsFirstScore s xs → IsFirstScore r ys → r < s → IsAhead ys xs
 entries_ahead s r xs [] f g h = absurd g
-entries_ahead s r xs (y ∷ ys) f g h =
-    lower_least y xs s (omega arith) (all_scores s xs f)
+entries_ahead s r xs (y ∷ ys) f g h = lower_least y xs s (omega arith) (all_scores s xs f)
 
 pub by_test : (b : Bool) (P Q : Type 0) → (b ≡ true → P) → (b ≡ false → Q) → MatchBool b P Q
 by_test true P Q p q = p refl

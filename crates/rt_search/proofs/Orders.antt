@@ -99,16 +99,14 @@ by_parts h l k m low small e = grind (arith, nat_tests)
 
 -- what doesn't come first by a key doesn't by its score and then its tail
 by_score : (s l r m : ℕ) (o : Ordering) → l < 2 ^ 64 → m < 2 ^ 64 → (is_lt (nat_cmp l m) ≡ false → is_lt o ≡ false)
-    → is_lt (nat_cmp (s * 2 ^ 64 + l) (r * 2 ^ 64 + m)) ≡ false
-    → is_lt (ordering_then (nat_cmp s r) o) ≡ false
+    → is_lt (nat_cmp (s * 2 ^ 64 + l) (r * 2 ^ 64 + m)) ≡ false → is_lt (ordering_then (nat_cmp s r) o) ≡ false
 by_score s l r m o low small f e = grind (arith, nat_tests)
 
 -- where a node doesn't come before another by its key, neither does its item
 pub node_derived : (m n : Reverse ℕ) → is_lt (nat_cmp m.0 n.0) ≡ false
     → is_gt (item_cmp (node_item n) (node_item m)) ≡ false
 node_derived m n e =
-    not_after (node_item n) (node_item m)
-    ∙ by_score (m.0 / 2 ^ 64) (m.0 % 2 ^ 64) (n.0 / 2 ^ 64) (n.0 % 2 ^ 64)
+    not_after (node_item n) (node_item m) ∙ by_score (m.0 / 2 ^ 64) (m.0 % 2 ^ 64) (n.0 / 2 ^ 64) (n.0 % 2 ^ 64)
     (node_cmp (tail_node (m.0 % 2 ^ 64)) (tail_node (n.0 % 2 ^ 64))) (mod-lt m.0 (omega arith))
     (mod-lt n.0 (omega arith)) (λ e. let f = m.0 % 2 ^ 64 in let g = n.0 % 2 ^ 64 in
     by_parts (f / 2 ^ 32) (f % 2 ^ 32) (g / 2 ^ 32) (g % 2 ^ 32) (mod-lt f (omega arith))
@@ -125,8 +123,7 @@ pub entry_derived : (d e : Reverse ℕ) → is_gt (item_cmp (entry_item e) (entr
 entry_derived d e =
     not_after (entry_item e) (entry_item d)
     ∙ by_numbers (d.0 / 2 ^ 64) (d.0 % 2 ^ 64) (e.0 / 2 ^ 64) (e.0 % 2 ^ 64) (mod-lt d.0 (omega arith))
-    (mod-lt e.0 (omega arith))
-    ∙ rw (div-add-mod' d.0 (2 ^ 64), div-add-mod' e.0 (2 ^ 64)) refl
+    (mod-lt e.0 (omega arith)) ∙ rw (div-add-mod' d.0 (2 ^ 64), div-add-mod' e.0 (2 ^ 64)) refl
 
 -- and an item as it is
 items_derived : (s r : ℕ) (p q : Place) → item_ghosts.cmp (item_at s p) (item_at r q)

@@ -100,8 +100,7 @@ far_more e r ks k h m = grind (arith, all-append, least_more)
 -- a score up to the edge isn't far
 not_far : (s e : ℕ) (ks : List (Reverse ℕ)) → HasScore s ks → s ≤ e → AllByRecursion (λ k. e < score_in k) ks → ⊥
 not_far s e [] h le a = h
-not_far s e (k ∷ ks) h le a =
-    ⊎_elim (λ i. absurd (omega arith)) (λ r. not_far s e ks r le a.1) h
+not_far s e (k ∷ ks) h le a = ⊎_elim (λ i. absurd (omega arith)) (λ r. not_far s e ks r le a.1) h
 
 -- once the edge has passed the least score some are near
 pub some_near : (s e : ℕ) (near far ks js : List (Reverse ℕ)) → HasScore s far → s ≤ e

@@ -113,8 +113,7 @@ module _ (opens : Verdict → Bool) (cost : Node → ℕ) (verdict : Info → Ve
   pub done_le : IsSound t → (done s : ℕ) (n : WaitingNode) (xs : List Item) → opens (verdict_on s n) ≡ true
       → done + work_left opens cost verdict t (item_at s (place.Node n) ∷ xs) ≡ reached_from_root opens cost verdict t
       → done + cost (node_at t n.number.number) ≤ 2 ^ 32
-  done_le sound done s n xs open' course =
-      omega (arith, work_le sound, done_upto done s n xs open' course)
+  done_le sound done s n xs open' course = omega (arith, work_le sound, done_upto done s n xs open' course)
 
 -- ---- room
 

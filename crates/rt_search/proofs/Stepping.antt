@@ -116,8 +116,7 @@ module _ {accepts : Extent → Bool} {score : Extent → ℕ} {verdict : Info �
   node_step : {opened asked capacity s : ℕ} {n : WaitingNode} {xs : List Item} (new : List Item)
       → IsTaken accepts score verdict t opened asked capacity (item_at s (place.Node n)) xs
       → remaining t accepts score new ≡ remaining t accepts score (item_at s (place.Node n) ∷ xs)
-      → AllSound t accepts score new
-      → held t new ≤ held t xs + (node_at t n.number.number).size
+      → AllSound t accepts score new → held t new ≤ held t xs + (node_at t n.number.number).size
       → ((cost : Node → ℕ) (bound : Option ℕ)
       → work_left (is_reached bound) cost verdict t new + cost (node_at t n.number.number)
       ≡ work_left (is_reached bound) cost verdict t xs + reached (is_reached bound) cost verdict t

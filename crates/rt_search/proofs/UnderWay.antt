@@ -168,8 +168,7 @@ module _ {accepts : Extent → Bool} {score : Extent → ℕ} {verdict : Info �
 
   -- an entry was taken out, or nothing
   pub ended : (out : Option Answer) (new : List Item) {opened asked capacity : ℕ} {wanted wanted' : Option ℕ}
-      {to_come : List Answer} {items : List Item} → wanted ≢ Some 0
-      → IsTakenOut (taken_entry out) items new
+      {to_come : List Answer} {items : List Item} → wanted ≢ Some 0 → IsTakenOut (taken_entry out) items new
       → wanted' ≡ wanted_after (taken_entry out) wanted
       → IsUnderWay accepts score verdict t opened asked capacity wanted to_come items
       → MatchOption out (IsOver accepts score verdict t opened asked capacity wanted' to_come new)

@@ -42,10 +42,8 @@ at_child opens cost verdict t w k h = rw h refl
 module _ (accepts : Extent → Bool) (score : Extent → ℕ) (t : Packed) where
   -- ---- a node of level 1
 
-  pub answers_all : (number : ℕ) → IsSubtree t (height_at t number) (node_at t number)
-      → (node_at t number).level ≡ 1
-      → answers_among t accepts score (node_at t number) (node_at t number).count
-      ≡ answers_under t accepts score number
+  pub answers_all : (number : ℕ) → IsSubtree t (height_at t number) (node_at t number) → (node_at t number).level ≡ 1
+      → answers_among t accepts score (node_at t number) (node_at t number).count ≡ answers_under t accepts score number
   answers_all number tree low = grind (arith, leaf_node, part_length, among, take_all)
 
   -- no more are accepted than there are
@@ -126,8 +124,7 @@ module _ {accepts : Extent → Bool} {score : Extent → ℕ} {verdict : Info �
         let at = entry_at n i leaf lt in
         let one = entry_answer e (info_of_child t v e) refl refl
         (entry_question accepts score t sound v small n e i below at) in
-        ap (λ l. among accepts score (take i es) ++ l) one
-        ∙ sym (among-append accepts score (take i es) (e ∷ []))
+        ap (λ l. among accepts score (take i es) ++ l) one ∙ sym (among-append accepts score (take i es) (e ∷ []))
         ∙ ap (among accepts score) (sym (take_more_at es i e at.place at.is))
 
     -- ---- the children of a higher node
@@ -143,8 +140,7 @@ module _ {accepts : Extent → Bool} {score : Extent → ℕ} {verdict : Info �
 
       pub work_more : (opens : Verdict → Bool) (cost : Node → ℕ) (i : ℕ) → i < (node_at t number).count
           → let k = (node_at t number).first + i in work_upto opens cost (i + 1)
-          ≡ work_upto opens cost i
-          + work_at_child opens cost verdict t (verdict (info_of_node t v (node_at t k))) k
+          ≡ work_upto opens cost i + work_at_child opens cost verdict t (verdict (info_of_node t v (node_at t k))) k
       work_more opens cost i lt =
           let k = (node_at t number).first + i in
           rw (add-one i)

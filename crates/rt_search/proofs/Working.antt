@@ -51,8 +51,7 @@ module _ (verdict : Info → Verdict) (t : Packed) (v : Verdict) where
   abbrev waiting : Verdict → ℕ → Item
   waiting w m = item_at w.score (place.Node (waiting_node m w.within))
 
-  pub length-join_nodes : (n : Node) (i : ℕ) (xs : List Item)
-      → length (join_nodes verdict t v n i xs) ≤ length xs + i
+  pub length-join_nodes : (n : Node) (i : ℕ) (xs : List Item) → length (join_nodes verdict t v n i xs) ≤ length xs + i
   length-join_nodes n zero xs = omega arith
   length-join_nodes n (suc i) xs = grind (arith, one_longer, length-join_nodes n i xs)
 
@@ -96,8 +95,7 @@ module _ (verdict : Info → Verdict) (t : Packed) (v : Verdict) where
       work_upto xs zero le = omega arith
       work_upto xs (suc i) le = grind (arith, child, joined_adds, brought, sum_more, work_upto xs i (omega arith))
 
-      pub work-join_nodes : (xs : List Item)
-          → work_left opens cost verdict t
+      pub work-join_nodes : (xs : List Item) → work_left opens cost verdict t
           (join_nodes verdict t v (node_at t number) (node_at t number).count xs) + cost (node_at t number)
           ≡ work_left opens cost verdict t xs + reached opens cost verdict t (height_at t number) v
           (node_at t number)

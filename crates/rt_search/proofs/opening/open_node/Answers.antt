@@ -21,8 +21,7 @@ returns-then-node-eq1-clause-children g c =
     }
 
 pub child_nodes-children-requires : goal.child_nodes-children-requires
-child_nodes-children-requires g c =
-    children_inside c.requires.node c.node-node.ensures c.if-node-eq1.false
+child_nodes-children-requires g c = children_inside c.requires.node c.node-node.ensures c.if-node-eq1.false
 
 pub ask_node-requires : goal.ask_node-requires
 ask_node-requires g c =

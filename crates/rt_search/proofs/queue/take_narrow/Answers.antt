@@ -7,5 +7,4 @@ returns-then-is_node_next-clause-taken c =
     taken_left (taken_node c.take_node.result) _ _ _ c.take_node.ensures.taken c.if-is_node_next.ensures
 
 pub returns-clause-taken : goal.returns-clause-taken
-returns-clause-taken c =
-    taken_right (taken_entry c.take.result) _ _ _ c.take.ensures.taken c.if-is_node_next.ensures
+returns-clause-taken c = taken_right (taken_entry c.take.result) _ _ _ c.take.ensures.taken c.if-is_node_next.ensures
