@@ -82,17 +82,10 @@ pub subtree_level : (t : Packed) (h : ℕ) (n : Node) → IsSubtree t h n → n.
 subtree_level t zero n s = s.level
 subtree_level t (suc h) n s = s.level
 
-subtree_valid : (t : Packed) (h : ℕ) (n : Node) → IsSubtree t h n → IsRect n.bounds
-subtree_valid t zero n s = s.valid
-subtree_valid t (suc h) n s = s.valid
-
-subtree_coordinates : (t : Packed) (h : ℕ) (n : Node) → IsSubtree t h n → inside n.bounds plane ≡ true
-subtree_coordinates t zero n s = s.coordinates
-subtree_coordinates t (suc h) n s = s.coordinates
-
-subtree_layers : (t : Packed) (h : ℕ) (n : Node) → IsSubtree t h n → HasSome n.layers
-subtree_layers t zero n s = s.layers
-subtree_layers t (suc h) n s = s.layers
+subtree_box : (t : Packed) (h : ℕ) (n : Node) → IsSubtree t h n
+    → IsRect n.bounds × (inside n.bounds plane ≡ true) × HasSome n.layers
+subtree_box t zero n s = (s.valid, s.coordinates, s.layers)
+subtree_box t (suc h) n s = (s.valid, s.coordinates, s.layers)
 
 one_less : (h : ℕ) → suc h - 1 ≡ h
 one_less h = omega arith
@@ -147,7 +140,7 @@ child t number sub level i lt =
       height = height;
       level = omega arith;
       lower = omega arith;
-      valid = subtree_valid t h k tree;
+      valid = (subtree_box t h k tree).0;
     }
 
 -- a child that was read and is asked about
@@ -262,8 +255,8 @@ module _ (accepts : Extent → Bool) (score : Extent → ℕ) (t : Packed) (soun
       record {
         well_formed = record {
           box = at.valid;
-          coordinates = subtree_coordinates t (height_at t k) (node_at t k) at.tree;
-          layers = subtree_layers t (height_at t k) (node_at t k) at.tree;
+          coordinates = (subtree_box t (height_at t k) (node_at t k) at.tree).1;
+          layers = (subtree_box t (height_at t k) (node_at t k) at.tree).2;
           one = (let above = at.level in λ low. absurd (omega arith));
           level = omega arith;
           top = omega arith;

@@ -51,14 +51,11 @@ one_longer false x xs ys e = omega (arith, ap length e)
 
 -- ---- the first of the list that is ahead is the first of both
 
-none_left : (xs ys : List Item) → xs ≡ [] → IsAhead xs ys → put_all item_cmp xs ys ≡ []
-none_left xs ys e h = ap (λ l. put_all item_cmp l ys) e ∙ subst (λ l. IsAhead l ys) e h
-
 -- ---- what a call that takes from one of the lists takes from both
 
 pub taken_left : (r : Option Item) (old xs ys : List Item) → IsTakenOut r old xs → IsAhead old ys
     → IsTakenOut r (put_all item_cmp old ys) (put_all item_cmp xs ys)
-taken_left None old xs ys t h = grind (arith, none_left)
+taken_left None old xs ys t h = grind arith
 taken_left (Some x) old xs ys t h = grind (arith, put_least, item_order, put_all-all)
 
 pub taken_right : (r : Option Item) (xs old ys : List Item) → IsTakenOut r old ys → IsAhead old xs

@@ -114,16 +114,8 @@ node_derived m n e =
     (rw (div-add-mod' m.0 (2 ^ 64), div-add-mod' n.0 (2 ^ 64)) e)
 
 -- and an entry, whose tail has how far the id is above the least
-by_numbers : (s l r m : ℕ) → l < 2 ^ 64 → m < 2 ^ 64
-    → is_lt (ordering_then (nat_cmp s r) (int_cmp (pos l -ℤ pos (2 ^ 63)) (pos m -ℤ pos (2 ^ 63))))
-    ≡ is_lt (nat_cmp (s * 2 ^ 64 + l) (r * 2 ^ 64 + m))
-by_numbers s l r m low small = grind (arith, ints, nat_tests)
-
 pub entry_derived : (d e : Reverse ℕ) → is_gt (item_cmp (entry_item e) (entry_item d)) ≡ is_lt (nat_cmp d.0 e.0)
-entry_derived d e =
-    not_after (entry_item e) (entry_item d)
-    ∙ by_numbers (d.0 / 2 ^ 64) (d.0 % 2 ^ 64) (e.0 / 2 ^ 64) (e.0 % 2 ^ 64) (mod-lt d.0 (omega arith))
-    (mod-lt e.0 (omega arith)) ∙ rw (div-add-mod' d.0 (2 ^ 64), div-add-mod' e.0 (2 ^ 64)) refl
+entry_derived d e = grind (arith, not_after, ints, nat_tests, mod-lt, div-add-mod')
 
 -- and an item as it is
 items_derived : (s r : ℕ) (p q : Place) → item_ghosts.cmp (item_at s p) (item_at r q)

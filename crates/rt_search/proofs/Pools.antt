@@ -39,16 +39,11 @@ take-swap_remove xs i d h =
 
 -- ---- keys by their scores
 
--- by the halves of two numbers
-lower_by_halves : (h l k m : ℕ) → l < 2 ^ 64 → m < 2 ^ 64 → h < k
-    → is_lt (nat_cmp (k * 2 ^ 64 + m) (h * 2 ^ 64 + l)) ≡ false
-lower_by_halves h l k m low small e = grind (arith, nat_tests)
-
 -- none that is far is lower than one that is near
 pub far_after : (e k : ℕ) (js : List (Reverse ℕ)) → k / 2 ^ 64 ≤ e → AllByRecursion (λ j. e < score_in j) js
     → IsLowest k js
 far_after e k [] h a = tt
-far_after e k (j ∷ js) h a = grind (arith, div-add-mod', lower_by_halves, mod-lt, far_after e k js h a.1)
+far_after e k (j ∷ js) h a = grind (arith, div-add-mod', nat_tests, mod-lt, far_after e k js h a.1)
 
 lowest_scores : (k : ℕ) (js : List (Reverse ℕ)) → IsLowest k js → AllByRecursion (λ j. k / 2 ^ 64 ≤ score_in j) js
 lowest_scores k [] a = tt

@@ -27,9 +27,6 @@ pub root_work : (opens : Verdict → Bool) (cost : Node → ℕ) (verdict : Info
     ≡ reached_from_root opens cost verdict t
 root_work opens cost verdict t open' some = grind (arith, sum_by-cons, some_nodes)
 
-from_none : {m n : ℕ} → m ≡ n → 0 + m ≡ n
-from_none h = omega arith
-
 pub nat_eq_false : {n : ℕ} → (n == 0) ≡ false → 0 < n
 nat_eq_false h = grind (arith, nat_tests)
 
@@ -46,8 +43,8 @@ module _ (accepts : Extent → Bool) (score : Extent → ℕ) (verdict : Info �
   where
     root_course : (cost : Node → ℕ) → 0 < length t.nodes → IsOnCourse accepts score verdict cost t 0 (root_item t ∷ [])
     root_course cost some = record {
-      in_all = from_none (root_work (is_reached None) cost verdict t refl some);
-      at_each = grind (arith, all_each, from_none, root_work, within_zero);
+      in_all = omega (arith, root_work (is_reached None) cost verdict t refl some);
+      at_each = grind (arith, all_each, root_work, within_zero);
     }
 
     pub empty_answers : length t.nodes ≡ 0 → answers t.entries accepts score None ≡ []
