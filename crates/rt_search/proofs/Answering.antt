@@ -14,7 +14,7 @@ use Rattle.rt_tree.proofs.Permutations.{along_permutation}
 use Rattle.rt_search.specs.{Answers.{Answer, accepted, answer_cmp, answer_of, scored}, Items.{item_at, item_cmp}}
 use Rattle.rt_search.specs.Kept.{AllEntries, IsEntry, IsTakenOut, taken_entry}
 use Rattle.rt_search.specs.Remaining.{AllSound, IsSoundAt, answers_at, height_at, put_all, remaining}
-use Rattle.rt_search.specs.declared.item.{Item.{Item}, Place.{Place}, WaitingNode.{WaitingNode}}
+use Rattle.rt_search.specs.declared.item.{Item.{Item}, Place.{Place}}
 use Rattle.rt_search.proofs.{Elements.{all-append, all_map}, Orders.{answer_order, item_order}}
 use Rattle.rt_search.proofs.OrderedLists.{put-all, put_all-all, put_all-put_all, put_cases, put_least}
 use Rattle.rt_search.specs.declared.item.Place.TheVariants as place

@@ -3,7 +3,7 @@ use Rattle.std.proofs.Common.{◌≡◌, ◌<◌, ◌≤◌, ◌+◌, ◌-◌, �
 use Rattle.std.proofs.Common.{Some, take, drop, get_or, refl, sym, ◌∙◌, ap, subst, arith}
 use Rattle.std.proofs.lemmas.List.{get_or-map, get_or-take, get_or-drop, get_or_default, length-map, length-take}
 use Rattle.std.proofs.lemmas.{List.{length-drop, take_all, Elements.{All-from_recursion}}, Option.{slice_get-get_or}}
-use Rattle.rt_geo.specs.{Boxes.{IsRect, inside, plane}, Lemmas.Layers.{HasSome-only}, declared.layers.Layers.{Layers}}
+use Rattle.rt_geo.specs.{Boxes.{IsRect, inside, plane}, Lemmas.Layers.{HasSome-only}}
 use Rattle.rt_geo.specs.{Entries.{HasBox, HasLayer}, declared.entry.Entry.{Entry}}
 use Rattle.rt_geo.specs.{Layers.{HasSome}, Laws.{Extent, IsHonest, IsPart, IsQuestion, extent_of, extent_of_entry}}
 use Rattle.rt_geo.specs.{Lemmas.Laws.{AllAccepted-part, IsPart-box}, declared.geometry.{Info.{Info}, Verdict.{Verdict}}}

@@ -6,7 +6,7 @@ use Rattle.std.proofs.lemmas.List.Sorted.{length_permutation}
 use Rattle.std.specs.Prelude.{IfSome, slice_get}
 use Rattle.rt_geo.specs.{Laws.{Extent, extent_of_entry}, declared.{entry.Entry.{Entry}, geometry.Info.{Info}}}
 use Rattle.rt_geo.specs.declared.geometry.Verdict.{Verdict}
-use Rattle.rt_tree.specs.{Packed.{Packed, IsSound}, Sorting.{limited}, declared.tree.Node.{Node}}
+use Rattle.rt_tree.specs.{Packed.{Packed}, Sorting.{limited}, declared.tree.Node.{Node}}
 use Rattle.rt_tree.proofs.SortingLemmas.{IsPermutation-sorted}
 use Rattle.rt_search.specs.{Answers.{Answer, accepted, answer_cmp, answer_of, answers, scored}, Limits.{one_less}}
 use Rattle.rt_search.specs.{Progress.{IsFound, IsGiving, IsInLimit, IsOver}, declared.item.Item.{Item}}

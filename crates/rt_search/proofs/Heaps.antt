@@ -1,15 +1,14 @@
 -- What is kept in any order, seen as items in order.
-use Rattle.std.proofs.Common.{Some, ◌≡◌, ◌≤◌, ℕ, false, List, [], ◌∷◌, map, length, sym, ◌∙◌, Result, Ok, Err}
-use Rattle.std.proofs.{Common.{IsPermutation}, lemmas.List.{length-map, Sorted.{IsPermutation-map, length_permutation}}}
-use Rattle.std.specs.{Prelude.{IsOk, OnOk}, List.{AllByRecursion}, Ordering.{is_gt, is_lt, nat_cmp}}
+use Rattle.std.proofs.Common.{Some, ◌≡◌, ℕ, false, List, [], ◌∷◌, map, length, sym, ◌∙◌, Result, Ok, Err}
 use Rattle.std.specs.declared.cmp.Reverse.{Reverse}
 use Rattle.rt_tree.proofs.SortingLemmas.{IsPermutation-sorted}
 use Rattle.rt_tree.specs.Sorting.{put}
-use Rattle.rt_search.specs.Items.{item_cmp}
-use Rattle.rt_search.specs.Kept.{IsEntry, IsLeast, IsNode, IsTakenOut, entry_item, in_order, node_item, wide_item}
+use Rattle.rt_search.specs.{Items.{item_cmp}, Kept.{IsEntry, IsTakenOut, entry_item, in_order, node_item, wide_item}}
+use Rattle.rt_search.proofs.Orders.{entry_derived, item_order, node_derived, wide_derived}
+use Rattle.std.proofs.{Common.{IsPermutation}, lemmas.List.{length-map, Sorted.{IsPermutation-map, length_permutation}}}
+use Rattle.std.specs.{Prelude.{IsOk, OnOk}, List.{AllByRecursion}, Ordering.{is_gt, is_lt, nat_cmp}}
 use Rattle.rt_search.specs.{contracts.item.ItemOrd.TheImpl.{ghosts as item_ghosts}, declared.item.Item.{Item}}
 use Rattle.rt_search.proofs.{Elements.{all_each, all_map, all_moved}, OrderedLists.{put_least}}
-use Rattle.rt_search.proofs.Orders.{entry_derived, item_order, node_derived, score_upto, wide_derived}
 
 pub on_ok : {T E P : Type 0} (r : Result T E) → IsOk r → OnOk r P → P
 on_ok (Ok x) h p = p

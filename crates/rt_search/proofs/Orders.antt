@@ -1,6 +1,6 @@
 -- The orders of answers and of items: total, and they tell all apart.
 use Rattle.std.proofs.Common.{◌≡◌, ◌≤◌, ℕ, ℤ, Bool, true, false, Ordering, Less, Equal, Greater, refl, sym, ◌∙◌, ap}
-use Rattle.std.proofs.{Common.{◌<◌, ◌+◌, ◌*◌, ◌/◌, ◌%◌, ◌^◌, ◌-ℤ◌, pos, arith}, Math.Nat.{mod-lt}}
+use Rattle.std.proofs.{Common.{◌<◌, ◌+◌, ◌*◌, ◌/◌, ◌%◌, ◌^◌, arith}, Math.Nat.{mod-lt}}
 use Rattle.std.proofs.lemmas.{Bool.Decides.{nat_tests}, Map.Lookups.{CmpEqualImpliesEq, exact_signed, exact_unsigned}}
 use Rattle.std.proofs.lemmas.{Int.{ints}, Nat.{div-add-mod'}, Cmp.{int_cmp_total, nat_cmp_total, on_total, then_total}}
 use Rattle.std.specs.{Prelude.{nat_lt}, Cmp.{IsTotalOrder}, declared.cmp.Reverse.{Reverse}}

@@ -1,16 +1,15 @@
 -- Keys, those that are near and those that are far.
-use Rattle.std.proofs.Common.{◌≡◌, ◌<◌, ◌≤◌, ◌+◌, ◌-◌, ◌*◌, ◌/◌, ◌^◌, inl, inr, ℕ, false, nat_lt, Option, Some, None}
-use Rattle.std.proofs.Common.{List, [], ◌∷◌, ◌++◌, length, take, drop, set, get_or, refl, sym, ◌∙◌, ap, ⊎_elim, subst}
-use Rattle.std.proofs.{Common.{arith, IsPermutation}, lemmas.{Bool.Decides.{nat_tests}, Nat.{div-add-mod'}}}
-use Rattle.std.proofs.Math.Nat.{mod-lt}
-use Rattle.std.proofs.lemmas.{Bool.{ltb-false, ltb-true}, List.{take-append-le, take-set, Sorted.{length_permutation}}}
-use Rattle.std.proofs.lemmas.List.{append_assoc, nil_from_length, length-set, length-take-le, take-append-drop}
+use Rattle.std.proofs.Common.{◌≡◌, ◌<◌, ◌≤◌, ◌-◌, ◌/◌, ◌^◌, inl, inr, ℕ, nat_lt, Option, Some, None, List, [], ◌∷◌}
+use Rattle.std.proofs.Common.{◌++◌, length, take, drop, set, get_or, refl, sym, ◌∙◌, ap, ⊎_elim, subst}
+use Rattle.std.proofs.{Math.Nat.{mod-lt}, lemmas.List.{append_assoc, length-set, length-take-le, take-append-drop}}
 use Rattle.std.proofs.lemmas.List.Sorted.{IsPermutation-append_left, IsPermutation-append_right, IsPermutation-middle}
 use Rattle.std.proofs.lemmas.List.Sorted.{IsPermutation-to_front, IsPermutation-sym, IsPermutation-trans}
-use Rattle.std.specs.{Prelude.{MatchOption}, List.{AllByRecursion, swap_remove}, Ordering.{is_lt, nat_cmp}}
 use Rattle.std.specs.declared.cmp.Reverse.{Reverse}
-use Rattle.rt_search.specs.{Kept.{lesser}, Pooling.{HasLeastScore, HasScore, IsFar, IsLowest, score_in}}
 use Rattle.rt_search.proofs.Elements.{all-append, all_map, all_moved}
+use Rattle.std.proofs.{Common.{arith, IsPermutation}, lemmas.{Bool.Decides.{nat_tests}, Nat.{div-add-mod'}}}
+use Rattle.std.proofs.lemmas.{Bool.{ltb-false, ltb-true}, List.{take-append-le, take-set}}
+use Rattle.std.specs.{Prelude.{MatchOption}, List.{AllByRecursion, swap_remove}}
+use Rattle.rt_search.specs.{Kept.{lesser}, Pooling.{HasLeastScore, HasScore, IsFar, IsLowest, score_in}}
 
 -- ---- lists
 
@@ -104,6 +103,3 @@ some_near s e near far ks js h le p a none =
     let q : IsPermutation js (near ++ far) =
     IsPermutation-sym (near ++ far) js (subst (λ l. IsPermutation (near ++ far) (l ++ js)) none p) in
     absurd (not_far s e (near ++ far) (has_right s near far h) le (all_moved (λ k. e < score_in k) js (near ++ far) q a))
-
-pub none_kept : {X : Type 0} (xs ys : List X) → IsPermutation xs ys → ys ≡ [] → xs ≡ []
-none_kept xs ys h e = nil_from_length xs (omega (arith, length_permutation xs ys h, ap length e))

@@ -1,5 +1,5 @@
 -- Answers that were worked out by hand: the definitions give them by computing.
-use Rattle.std.proofs.Common.{◌≡◌, refl, ℕ, ℤ, pos, negsuc, zero, suc, Option, List, [], ◌∷◌, Some, None, length}
+use Rattle.std.proofs.Common.{◌≡◌, refl, ℕ, ℤ, pos, negsuc, zero, suc, Option, [], ◌∷◌, Some, None, length}
 use Rattle.rt_geo.specs.{Boxes.{Rect, rect_of}, Laws.{guided_verdict}}
 use Rattle.rt_geo.specs.{Orders.{by_id, near, order_estimate, order_score}, Regions.{region_accepts, region_state}}
 use Rattle.rt_geo.specs.declared.{entry.Entry.{Entry}, geometry.{Info.{Info}, Verdict.{Verdict}}, order.Order.{Order}}

@@ -1,14 +1,14 @@
 -- A search goes on, and keeps no more than its limit makes necessary.
-use Rattle.std.proofs.Common.{◌≡◌, ◌≢◌, ◌<◌, ◌≤◌, ◌+◌, ◌-◌, ◌^◌, ◌==◌, ℕ, ℤ, Bool, true, false, cond, List, [], ◌∷◌}
+use Rattle.std.proofs.Common.{◌≡◌, ◌≢◌, ◌<◌, ◌≤◌, ◌+◌, ◌^◌, ◌==◌, ℕ, Bool, true, false, cond, List}
 use Rattle.std.proofs.Common.{length, map, Option, Some, None, refl, sym, ◌∙◌, ap, subst, arith}
 use Rattle.std.proofs.lemmas.Bool.{cond_both, eq-eqb, eqb-false, eqb-true, ne_eqb}
 use Rattle.std.specs.Prelude.{MatchOption}
 use Rattle.rt_geo.specs.{Laws.{Extent, IsLawful}, declared.geometry.{Info.{Info}, Verdict.{Verdict}}}
 use Rattle.rt_tree.specs.Packed.{Packed, IsSound, node_at}
-use Rattle.rt_search.specs.{Answers.{Answer}, Joining.{join_answers, join_nodes}, Progress.{work_left}}
+use Rattle.rt_search.specs.{Answers.{Answer}, Joining.{join_answers, join_nodes}}
 use Rattle.rt_search.specs.{Items.{item_at, item_of}, Remaining.{IsOpenable, height_at, remaining, verdict_on}}
 use Rattle.rt_search.specs.{Kept.{IsRising, IsTakenOut, node_or, taken_entry, taken_item}, declared.item.Item.{Item}}
-use Rattle.rt_search.specs.{Limits.{IsEnough, one_less, wanted_after}, Work.{is_reached, its_children, one_node, reached_from_root}}
+use Rattle.rt_search.specs.{Limits.{IsEnough, wanted_after}, Work.{is_reached, its_children, one_node, reached_from_root}}
 use Rattle.rt_search.specs.Progress.{IsFound, IsNodeStep, IsOver, IsSearching, IsTaken, IsUnderWay, join_children}
 use Rattle.rt_search.specs.{Walking.{answers_among}, declared.item.{ScoredNode.{ScoredNode}, WaitingNode.{WaitingNode}}}
 use Rattle.rt_search.proofs.{Children.{subtree_level}, Limits.{rising_put_all}, Sizes.{count_is_fair, done_le, done_upto, held_cons, length_le_held, one_is_fair, size_counts}, Answering.{take_entry}}
@@ -125,47 +125,6 @@ module _ {accepts : Extent → Bool} {score : Extent → ℕ} {verdict : Info �
         };
       }
 
-  -- ---- an entry is taken out
-
-  found : {opened asked capacity : ℕ} {wanted : Option ℕ} {to_come : List Answer} {i : ℤ} {s : ℕ}
-      {items xs : List Item} → wanted ≢ Some 0 → items ≡ item_at s (place.Entry i) ∷ xs
-      → IsUnderWay accepts score verdict t opened asked capacity wanted to_come items
-      → IsFound accepts score verdict t opened asked capacity (one_less wanted) to_come (i, s) xs
-  found {opened} {asked} {capacity} {wanted} {to_come} {i} {s} {items} {xs} more is u =
-      let x = item_at s (place.Entry i) in
-      let k = first_kept wanted x xs u.all more (subst (λ l. IsEnough wanted l u.all) is u.enough) in
-      let ys = k.0 in
-      let up = subst IsRising k.1.0 u.rising in
-      let taken : IsTaken accepts score verdict t opened asked capacity x ys = record {
-        least = up.0;
-        state = subst (IsSearching accepts score verdict t opened asked capacity) k.1.0 u.state;
-      } in
-      let sound = taken.state.sound.1 in
-      let o = entry_course law t one_node i s opened ys taken.least sound taken.state.opening in
-      let a = entry_course law t its_children i s asked ys taken.least sound taken.state.asking in
-      let h = held_cons accepts score t x ys in
-      let r = taken.state.room in
-      record {
-        rest = remaining t accepts score ys;
-        first = sym u.follows ∙ ap (remaining t accepts score) k.1.0 ∙ take_entry accepts score t i s ys taken.least sound;
-        state = record {
-          all = ys;
-          state = record { tree = taken.state.tree; sound = sound; room = omega arith; opening = o.0; asking = a.0 };
-          rising = up.1;
-          follows = refl;
-          enough = k.1.1;
-        };
-        reached = record { nodes = o.1; checks = a.1 };
-      }
-
-  -- ---- nothing is left
-
-  over : {opened asked capacity : ℕ} {wanted : Option ℕ} {to_come : List Answer} {items new : List Item}
-      → wanted ≢ Some 0 → items ≡ [] → new ≡ []
-      → IsUnderWay accepts score verdict t opened asked capacity wanted to_come items
-      → IsOver accepts score verdict t opened asked capacity wanted to_come new
-  over {wanted = wanted} more none none' u = grind (arith, none_left)
-
   -- an entry was taken out, or nothing
   pub ended : (out : Option Answer) (new : List Item) {opened asked capacity : ℕ} {wanted wanted' : Option ℕ}
       {to_come : List Answer} {items : List Item} → wanted ≢ Some 0 → IsTakenOut (taken_entry out) items new
@@ -173,9 +132,30 @@ module _ {accepts : Extent → Bool} {score : Extent → ℕ} {verdict : Info �
       → IsUnderWay accepts score verdict t opened asked capacity wanted to_come items
       → MatchOption out (IsOver accepts score verdict t opened asked capacity wanted' to_come new)
       (λ a. IsFound accepts score verdict t opened asked capacity wanted' to_come a new)
-  ended None new {opened} {asked} {capacity} {to_come = to_come} more took same u =
-      subst (λ w. IsOver accepts score verdict t opened asked capacity w to_come new) (sym same)
-      (over more took.0 took.1 u)
-  ended (Some a) new {opened} {asked} {capacity} {to_come = to_come} more took same u =
-      subst (λ w. IsFound accepts score verdict t opened asked capacity w to_come a new) (sym same)
-      (found more took.0 u)
+  ended None new more took same u = grind (arith, none_left)
+  ended (Some a) xs {opened} {asked} {capacity} {wanted} {to_come = to_come} more took same u =
+      let x = item_at a.1 (place.Entry a.0) in
+      let k = first_kept wanted x xs u.all more (subst (λ l. IsEnough wanted l u.all) took.0 u.enough) in
+      let ys = k.0 in
+      let up = subst IsRising k.1.0 u.rising in
+      let taken : IsTaken accepts score verdict t opened asked capacity x ys = record {
+        least = up.0;
+        state = subst (IsSearching accepts score verdict t opened asked capacity) k.1.0 u.state;
+      } in
+      let sound = taken.state.sound.1 in
+      let o = entry_course law t one_node a.0 a.1 opened ys taken.least sound taken.state.opening in
+      let b = entry_course law t its_children a.0 a.1 asked ys taken.least sound taken.state.asking in
+      let h = held_cons accepts score t x ys in
+      let r = taken.state.room in
+      subst (λ w. IsFound accepts score verdict t opened asked capacity w to_come a xs) (sym same) (record {
+        rest = remaining t accepts score ys;
+        first = sym u.follows ∙ ap (remaining t accepts score) k.1.0 ∙ take_entry accepts score t a.0 a.1 ys taken.least sound;
+        state = record {
+          all = ys;
+          state = record { tree = taken.state.tree; sound = sound; room = omega arith; opening = o.0; asking = b.0 };
+          rising = up.1;
+          follows = refl;
+          enough = k.1.1;
+        };
+        reached = record { nodes = o.1; checks = b.1 };
+      })

@@ -1,13 +1,13 @@
 -- A search whose nodes all score 0: those that may hold answers were opened before the first answer.
-use Rattle.std.proofs.Common.{◌≡◌, ◌≢◌, ◌<◌, ◌≤◌, ◌+◌, ◌&&◌, ℕ, zero, suc, Bool, cond, List, [], ◌∷◌, length, map}
+use Rattle.std.proofs.Common.{◌≡◌, ◌≢◌, ◌≤◌, ◌+◌, ◌&&◌, ℕ, zero, suc, Bool, cond, List, [], ◌∷◌, length, map}
 use Rattle.std.proofs.{Common.{Option, Some, None, refl, ◌∙◌, ap, arith}, lemmas.List.{length-map, Sums.{sum_by-cons}}}
 use Rattle.std.specs.{Prelude.{IfSome}, List.{AllByRecursion, sum_by}}
 use Rattle.rt_geo.specs.{Laws.{Extent, IsLawful}, declared.geometry.{Info.{Info}, Verdict.{Verdict}}}
 use Rattle.rt_tree.specs.{Packed.{Packed, IsSound, IsSubtree, child_nodes}, declared.tree.Node.{Node}}
-use Rattle.rt_search.specs.{Answers.{accepted, answer_of}, Progress.{AddsUp, IsGiving, IsOnCourse, held, work_left}}
+use Rattle.rt_search.specs.{Answers.{accepted, answer_of}, Progress.{AddsUp, IsGiving, IsOnCourse, work_left}}
 use Rattle.rt_search.specs.{Items.{item_of}, Limits.{IsEnough}, Remaining.{remaining}}
 use Rattle.rt_search.specs.{Joining.{join_answers}, Walking.{answers_in_tree}, declared.item.Item.{Item}}
-use Rattle.rt_search.specs.Work.{HasWorked, IsUnscored, info_of_node, is_kept, is_reached, is_within_bound}
+use Rattle.rt_search.specs.Work.{IsUnscored, info_of_node, is_kept, is_reached, is_within_bound}
 use Rattle.rt_search.specs.Work.{its_children, one_node, reached, reached_from_root, root_verdict, search_work}
 use Rattle.rt_search.proofs.{Children.{subtree_level}, Elements.{all_each}, Giving.{length-scored}}
 use Rattle.rt_search.proofs.{Joined.{answers_joined, answers_sound}, Limits.{rising_put_all}}

@@ -1,5 +1,5 @@
 use Rattle.rt_search.specs.Kept.{node_or, taken_entry}
-use Rattle.std.proofs.Common.{ap, ◌<◌, ◌^◌, ◌∙◌, refl, subst, arith, rules}
+use Rattle.std.proofs.Common.{ap, ◌∙◌, subst, arith, rules}
 use Rattle.rt_search.specs.{Limits.{IsEnough, wanted_after}, Progress.{join_children}}
 use Rattle.rt_search.proofs.UnderWay.{ended, go_on, still_more}
 use Rattle.rt_search.proofs.search.pull.Goals as goal

@@ -1,4 +1,4 @@
-use Rattle.std.proofs.Common.{ℕ, ◌≡◌, ◌<◌, ◌^◌, ◌∙◌, ap, refl, sym, arith, rules}
+use Rattle.std.proofs.Common.{ℕ, ◌≡◌, ◌∙◌, ap, refl, sym, arith, rules}
 use Rattle.rt_tree.specs.{Packed.{node_at}, declared.tree.Node.{Node}}
 use Rattle.rt_search.specs.Work.{its_children, one_node}
 use Rattle.rt_search.proofs.{Answering.{under_all-none}, Children.{asked, children_inside, children_of}}

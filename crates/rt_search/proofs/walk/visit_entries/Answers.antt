@@ -1,4 +1,4 @@
-use Rattle.std.proofs.{Common.{◌≡◌, ◌<◌, ◌^◌, FitsSigned, IfSome, ap, arith, rules, subst, w64}, lemmas.Int.{to_z-of_z}}
+use Rattle.std.proofs.{Common.{◌≡◌, FitsSigned, IfSome, ap, arith, rules, subst, w64}, lemmas.Int.{to_z-of_z}}
 use Rattle.rt_geo.specs.Laws.{extent_of_entry}
 use Rattle.rt_tree.specs.Packed.{extent_of_node}
 use Rattle.rt_search.specs.Walking.{HasTaken, answers_among}

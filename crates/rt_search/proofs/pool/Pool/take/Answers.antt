@@ -1,9 +1,8 @@
-use Rattle.std.specs.Ordering.{is_lt, nat_cmp}
-use Rattle.std.proofs.{Common.{false, ◌≡◌, ◌≤◌, [], ◌∷◌, ◌++◌, ap, sym, ◌∙◌, arith}, lemmas.List.{nil_from_length}}
+use Rattle.std.specs.{Ordering.{is_lt, nat_cmp}, BinaryHeap.{heap_items}}
 use Rattle.std.proofs.lemmas.List.Sorted.{IsPermutation-append_left, IsPermutation-trans, length_permutation}
-use Rattle.std.specs.BinaryHeap.{heap_items}
 use Rattle.rt_search.specs.Pooling.{score_in}
-use Rattle.rt_search.proofs.{Elements.{all-append, all_moved}, Pools.{none_kept, far_after}}
+use Rattle.std.proofs.{Common.{length, false, ◌≡◌, ◌≤◌, [], ◌∷◌, ◌++◌, ap, sym, ◌∙◌, arith}, lemmas.List.{nil_from_length}}
+use Rattle.rt_search.proofs.{Elements.{all-append, all_moved}, Pools.{far_after}}
 use Rattle.rt_search.proofs.pool.Pool.take.Goals as goal
 
 pub returns-in_default-clause-keys : goal.returns-in_default-clause-keys
@@ -11,7 +10,8 @@ returns-in_default-clause-keys c =
     let none = c.in_default.ensures.none in
     let near : heap_items c.self.inside.near ≡ [] = nil_from_length _ (sym c.self.invariant.inside.counted ∙ none) in
     let far = rw (← c.self.view_is) at c.fill.ensures.filled near in
-    none_kept _ _ (rw (← c.self.view_is) at c.fill.ensures.same) (ap (λ l. l ++ c.self.inside.far.items) near ∙ far)
+    let long = length_permutation _ _ (rw (← c.self.view_is) at c.fill.ensures.same) in
+    nil_from_length _ (omega (arith, ap length (ap (λ l. l ++ c.self.inside.far.items) near ∙ far)))
 
 pub invariant_of-self-2 : goal.invariant_of-self-2
 invariant_of-self-2 c =

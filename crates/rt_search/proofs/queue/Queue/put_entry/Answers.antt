@@ -1,5 +1,4 @@
-use Rattle.std.proofs.Common.{◌≤◌, ◌+◌, length, arith, ℤ, ◌∙◌, ap, rules, subst, FitsSigned, w64}
-use Rattle.std.proofs.lemmas.Int.{to_z-of_z}
+use Rattle.std.proofs.{Common.{◌≤◌, ◌+◌, length, arith, ℤ, ◌∙◌, ap, rules, subst, w64}, lemmas.Int.{to_z-of_z}}
 use Rattle.rt_tree.specs.Sorting.{put}
 use Rattle.rt_search.specs.{Items.{item_at, item_cmp}, Kept.{in_order, node_item, queued}, Pooling.{keys_in}}
 use Rattle.rt_search.specs.{Limits.{IsEnough}, Remaining.{put_all}}

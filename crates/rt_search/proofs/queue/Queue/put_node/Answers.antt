@@ -1,6 +1,6 @@
-use Rattle.std.proofs.{Common.{◌∙◌, ap, refl, subst, arith}, lemmas.List.Sorted.{length_permutation}}
+use Rattle.std.proofs.{Common.{◌∙◌, ap, refl, arith}, lemmas.List.Sorted.{length_permutation}}
 use Rattle.rt_tree.specs.Sorting.{put}
-use Rattle.rt_search.specs.{Items.{item_at, item_cmp}, Limits.{IsPut}, Kept.{in_order, node_item}, Pooling.{keys_in}}
+use Rattle.rt_search.specs.{Items.{item_at, item_cmp}, Kept.{in_order, node_item}, Pooling.{keys_in}}
 use Rattle.rt_search.specs.Remaining.{put_all}
 use Rattle.rt_search.proofs.{Heaps.{pushed}, Limits.{put_beyond, enough_same}, Merging.{length-queued, put-put_all}}
 use Rattle.rt_search.proofs.{OrderedLists.{put_all-put}, Orders.{item_order}}

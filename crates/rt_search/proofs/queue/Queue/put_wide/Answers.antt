@@ -1,5 +1,5 @@
-use Rattle.std.proofs.Common.{ap, refl, subst, arith}
-use Rattle.rt_search.specs.{Items.{item_at}, Limits.{IsPut}, Pooling.{keys_in}}
+use Rattle.std.proofs.Common.{ap, refl, arith}
+use Rattle.rt_search.specs.{Items.{item_at}, Pooling.{keys_in}}
 use Rattle.rt_search.proofs.{Limits.{put_beyond, enough_same}, Merging.{length-queued, put-put_all}}
 use Rattle.rt_search.proofs.{OrderedLists.{length-put, put-all}, Orders.{item_order}}
 use Rattle.rt_search.proofs.queue.Queue.put_wide.Goals as goal
