@@ -6,11 +6,11 @@ use Rattle.rt_geo.specs.declared.geometry.{Verdict.{Verdict}, Within.{Within, Th
 use Rattle.rt_tree.specs.Packed.{Packed, IsSound, IsSubtree, child_nodes, entries_under, extent_of_node, node_at}
 use Rattle.rt_tree.specs.Sorting.{put}
 use Rattle.rt_search.specs.{Answers.{Answer, answer_cmp}, Items.{item_at, item_cmp, item_of}, declared.item.Item.{Item}}
-use Rattle.rt_search.specs.{Joining.{join_answers, join_node, join_nodes}, Remaining.{verdict_on, waiting_node}}
-use Rattle.rt_search.specs.Remaining.{AllSound, IsBelow, IsOpenable, height_at, is_fully, put_all, remaining}
-use Rattle.rt_search.specs.{Walking.{answers_under}, Work.{info_of_node, is_kept}}
-use Rattle.rt_search.proofs.Answering.{AllSound-put, among, among_none, all_inside, remaining-put, take_more_at, under_all}
-use Rattle.rt_search.proofs.Answering.{under_all-append, under_all-none, under_all-one, under_all-whole}
+use Rattle.rt_search.specs.Joining.{join_answers, join_node, join_nodes}
+use Rattle.rt_search.specs.Remaining.{verdict_on, waiting_node, AllSound, IsBelow, IsOpenable, height_at, is_fully}
+use Rattle.rt_search.specs.{Remaining.{put_all, remaining}, Walking.{answers_under}, Work.{info_of_node, is_kept}}
+use Rattle.rt_search.proofs.Answering.{AllSound-put, among, among_none, all_inside, remaining-put, take_more_at}
+use Rattle.rt_search.proofs.Answering.{under_all, under_all-append, under_all-none, under_all-one, under_all-whole}
 use Rattle.rt_search.proofs.Children.{all_children, child, height_suc, node_question}
 use Rattle.rt_search.proofs.{OrderedLists.{put_all-append, put_all-put_all}, Orders.{answer_order}}
 use Rattle.rt_search.specs.declared.item.Place.TheVariants as place

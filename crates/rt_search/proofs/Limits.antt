@@ -115,12 +115,13 @@ enough_without None x xs h = absurd h
 enough_without (Some n) x xs h = grind (arith, left_out_behind, length-put, item_order)
 
 -- what is behind the entries is behind the whole queue
-pub put_beyond : (x : Item) (nodes : List (Reverse ℕ)) (entries wide : List Item) (v : Limited) → IsBehind v.wanted x entries
-    → queued nodes entries wide ≡ v.items → IsPut x v v
+pub put_beyond : (x : Item) (nodes : List (Reverse ℕ)) (entries wide : List Item) (v : Limited)
+    → IsBehind v.wanted x entries → queued nodes entries wide ≡ v.items → IsPut x v v
 put_beyond x nodes entries wide v h e =
     let behind = behind_right v.wanted x (in_order node_item nodes) entries h in
     let all = behind_right v.wanted x wide (narrow nodes entries) behind in
-    record { items = enough_without v.wanted x v.items (subst (IsBehind v.wanted x) e all); wanted = refl; capacity = refl }
+    let items = enough_without v.wanted x v.items (subst (IsBehind v.wanted x) e all) in
+    record { items = items; wanted = refl; capacity = refl }
 
 pub enough_same : (wanted : Option ℕ) (xs ys : List Item) → xs ≡ ys → IsEnough wanted xs ys
 enough_same wanted xs ys e = subst (IsEnough wanted xs) e (enough_itself wanted xs)

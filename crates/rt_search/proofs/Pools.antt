@@ -1,14 +1,13 @@
 -- Keys, those that are near and those that are far.
 use Rattle.std.proofs.Common.{◌≡◌, ◌<◌, ◌≤◌, ◌-◌, ◌/◌, ◌^◌, inl, inr, ℕ, nat_lt, Option, Some, None, List, [], ◌∷◌}
-use Rattle.std.proofs.Common.{◌++◌, length, take, drop, set, get_or, refl, sym, ◌∙◌, ap, ⊎_elim, subst}
-use Rattle.std.proofs.{Math.Nat.{mod-lt}, lemmas.List.{append_assoc, length-set, length-take-le, take-append-drop}}
+use Rattle.std.proofs.Common.{◌++◌, length, take, drop, set, get_or, refl, sym, ◌∙◌, ap, ⊎_elim, subst, arith}
+use Rattle.std.proofs.{Common.{IsPermutation}, Math.Nat.{mod-lt}}
+use Rattle.std.proofs.lemmas.List.{append_assoc, length-set, length-take-le, take-append-drop, take-append-le, take-set}
 use Rattle.std.proofs.lemmas.List.Sorted.{IsPermutation-append_left, IsPermutation-append_right, IsPermutation-middle}
 use Rattle.std.proofs.lemmas.List.Sorted.{IsPermutation-to_front, IsPermutation-sym, IsPermutation-trans}
-use Rattle.std.specs.declared.cmp.Reverse.{Reverse}
+use Rattle.std.proofs.lemmas.{Bool.{ltb-false, ltb-true, Decides.{nat_tests}}, Nat.{div-add-mod'}}
+use Rattle.std.specs.{declared.cmp.Reverse.{Reverse}, Prelude.{MatchOption}, List.{AllByRecursion, swap_remove}}
 use Rattle.rt_search.proofs.Elements.{all-append, all_map, all_moved}
-use Rattle.std.proofs.{Common.{arith, IsPermutation}, lemmas.{Bool.Decides.{nat_tests}, Nat.{div-add-mod'}}}
-use Rattle.std.proofs.lemmas.{Bool.{ltb-false, ltb-true}, List.{take-append-le, take-set}}
-use Rattle.std.specs.{Prelude.{MatchOption}, List.{AllByRecursion, swap_remove}}
 use Rattle.rt_search.specs.{Kept.{lesser}, Pooling.{HasLeastScore, HasScore, IsFar, IsLowest, score_in}}
 
 -- ---- lists

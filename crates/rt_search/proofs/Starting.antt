@@ -4,6 +4,7 @@ use Rattle.std.proofs.{Common.{refl, sym, ◌∙◌, ap, subst, arith}, lemmas.B
 use Rattle.std.proofs.lemmas.{Bool.Decides.{nat_tests}, List.{nil_from_length, Sorted.{length_permutation}}}
 use Rattle.std.proofs.lemmas.List.Sums.{sum_by-cons}
 use Rattle.std.specs.Prelude.{IfSome}
+use Rattle.rt_search.specs.Remaining.{remaining}
 use Rattle.rt_geo.specs.{Laws.{Extent}, declared.geometry.{Info.{Info}, Verdict.{Verdict}}}
 use Rattle.rt_tree.specs.{Packed.{Packed, IsSound}, declared.tree.Node.{Node}}
 use Rattle.rt_search.specs.{Answers.{answers}, Joining.{root_item, root_items}, Kept.{IsRising}}
@@ -67,7 +68,10 @@ module _ (accepts : Extent → Bool) (score : Extent → ℕ) (verdict : Info �
               asking = root_course its_children some;
             });
         rising = cond_both (length t.nodes == 0) [] (root_item t ∷ []) IsRising (λ h. tt) (λ h. (tt, tt));
-        follows = grind (arith, cond_both, empty_answers, eqb-true, put_all-nil, answer_order, among-IsPermutation, nat_eq_false);
+        follows = cond_both (length t.nodes == 0) [] (root_item t ∷ [])
+            (λ l. remaining t accepts score l ≡ answers t.entries accepts score None)
+            (λ h. sym (empty_answers (eqb-true _ 0 h)))
+            (λ h. let some = nat_eq_false h in grind (arith, put_all-nil, answer_order, among-IsPermutation));
         enough = enough;
       };
       in_limit = none_given limit;

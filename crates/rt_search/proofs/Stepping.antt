@@ -1,22 +1,22 @@
 -- A search goes on: an entry is taken out, or a node is opened.
-use Rattle.std.proofs.{lemmas.Bool.Decides.{nat_tests}, Common.{Some, None, refl, sym, ◌∙◌, ap, subst, arith}}
-use Rattle.std.proofs.Common.{◌≡◌, ◌<◌, ◌≤◌, ◌+◌, ◌^◌, ℕ, ℤ, Bool, true, false, cond, List, [], ◌∷◌, length, Option}
+use Rattle.std.proofs.{lemmas.Bool.Decides.{nat_tests}, Common.{false, cond, List, [], ◌∷◌, length, Option}}
+use Rattle.std.proofs.Common.{Some, None, refl, sym, ◌∙◌, ap, subst, arith, ◌≡◌, ◌<◌, ◌≤◌, ◌+◌, ◌^◌, ℕ, ℤ, Bool, true}
 use Rattle.std.proofs.lemmas.Bool.{cond-false, cond-true, le-leb, lt-leb}
-use Rattle.rt_geo.specs.declared.geometry.Within.TheVariants.{Partly, Fully}
+use Rattle.rt_geo.specs.{declared.geometry.{Within.TheVariants.{Partly, Fully}, Info.{Info}}, Laws.{Extent, IsLawful}}
+use Rattle.rt_geo.specs.declared.geometry.Verdict.{Verdict}
 use Rattle.rt_search.specs.Progress.{AddsUp, IsNodeStep, IsOnCourse, IsTaken, held, work_at, work_left}
-use Rattle.rt_search.specs.Remaining.{AllSound, answers_at, height_at, put_all, remaining, verdict_on}
-use Rattle.rt_search.specs.Walking.{answers_among}
+use Rattle.rt_search.specs.{Remaining.{AllSound, answers_at, height_at, put_all, remaining, verdict_on}, Work.{reached}}
+use Rattle.rt_search.specs.{Walking.{answers_among}, Items.{item_at, item_cmp}, declared.item.Place.{Place}}
 use Rattle.rt_search.specs.Work.{is_kept, is_reached, is_within_bound, its_children, one_node, reached_from_root}
+use Rattle.rt_search.specs.Answers.{answer_cmp}
+use Rattle.rt_search.specs.{Joining.{join_answers, join_nodes}, declared.item.{Item.{Item}, WaitingNode.{WaitingNode}}}
 use Rattle.rt_search.proofs.Sizes.{held_cons, work_cons}
 use Rattle.rt_search.proofs.Working.{held-join_answers, held-join_nodes, work-join_answers, work-join_nodes}
-use Rattle.std.specs.{List.{AllByRecursion}, Ordering.{is_gt}}
-use Rattle.rt_geo.specs.{Laws.{Extent, IsLawful}, declared.geometry.{Info.{Info}, Verdict.{Verdict}}}
-use Rattle.rt_tree.specs.{Packed.{Packed, node_at}, declared.tree.Node.{Node}}
-use Rattle.rt_search.specs.{Answers.{answer_cmp}, Items.{item_at, item_cmp}, Joining.{join_answers, join_nodes}}
-use Rattle.rt_search.specs.{Work.{reached}, declared.item.{Item.{Item}, Place.{Place}, WaitingNode.{WaitingNode}}}
-use Rattle.rt_search.proofs.{Answering.{at_above, take_entry}, Orders.{answer_order, score_upto}}
-use Rattle.rt_search.proofs.{Children.{leaf_node}, Joined.{answers_joined, answers_sound, nodes_sound, nodes_upto, upto_all}}
+use Rattle.rt_search.proofs.{Answering.{at_above, take_entry}, Orders.{answer_order, score_upto}, Children.{leaf_node}}
+use Rattle.rt_search.proofs.Joined.{answers_joined, answers_sound, nodes_sound, nodes_upto, upto_all}
 use Rattle.rt_search.proofs.{Elements.{all_both, all_map}, OrderedLists.{put_all-all}, Walks.{answers_all, few_under}}
+use Rattle.std.specs.{List.{AllByRecursion}, Ordering.{is_gt}}
+use Rattle.rt_tree.specs.{Packed.{Packed, node_at}, declared.tree.Node.{Node}}
 use Rattle.rt_search.specs.declared.item.Place.TheVariants as place
 
 -- ---- what is opened
@@ -105,7 +105,8 @@ module _ {accepts : Extent → Bool} {score : Extent → ℕ} {verdict : Info �
             (λ p. AddsUp verdict cost t after new (Some p.1))
             (λ p h le.
             let all : cond (is_reached (Some p.1) (verdict_on s n)) (W (Some p.1)) 0 ≡ W (Some p.1) =
-            cond-true (is_reached (Some p.1) (verdict_on s n)) (W (Some p.1)) 0 (reached_is (Some p.1) s n ∙ le-leb s p.1 le) in
+            cond-true (is_reached (Some p.1) (verdict_on s n)) (W (Some p.1)) 0
+            (reached_is (Some p.1) s n ∙ le-leb s p.1 le) in
             omega (arith, work_cons (is_reached (Some p.1)) cost verdict t x xs, moves (Some p.1)))
             (remaining t accepts score (x ∷ xs)) course.at_each
             (put_all-all answer_cmp answer_order (λ p. s ≤ p.1) (answers_at t accepts score s (place.Node n)) _

@@ -1,19 +1,20 @@
 -- A search goes on, and keeps no more than its limit makes necessary.
-use Rattle.std.proofs.Common.{◌≡◌, ◌≢◌, ◌<◌, ◌≤◌, ◌+◌, ◌^◌, ◌==◌, ℕ, Bool, true, false, cond, List}
-use Rattle.std.proofs.Common.{length, map, Option, Some, None, refl, sym, ◌∙◌, ap, subst, arith}
+use Rattle.std.proofs.Common.{◌≡◌, ◌≢◌, ◌<◌, ◌≤◌, ◌+◌, ◌^◌, ◌==◌, ℕ, Bool, true, false, cond, List, length, map, Option}
+use Rattle.std.proofs.Common.{Some, None, refl, sym, ◌∙◌, ap, subst, arith}
 use Rattle.std.proofs.lemmas.Bool.{cond_both, eq-eqb, eqb-false, eqb-true, ne_eqb}
 use Rattle.std.specs.Prelude.{MatchOption}
 use Rattle.rt_geo.specs.{Laws.{Extent, IsLawful}, declared.geometry.{Info.{Info}, Verdict.{Verdict}}}
 use Rattle.rt_tree.specs.Packed.{Packed, IsSound, node_at}
 use Rattle.rt_search.specs.{Answers.{Answer}, Joining.{join_answers, join_nodes}}
-use Rattle.rt_search.specs.{Items.{item_at, item_of}, Remaining.{IsOpenable, height_at, remaining, verdict_on}}
+use Rattle.rt_search.specs.{Items.{item_at, item_of}, Work.{is_reached, its_children, one_node, reached_from_root}}
+use Rattle.rt_search.specs.{Remaining.{IsOpenable, height_at, remaining, verdict_on}, Limits.{IsEnough, wanted_after}}
 use Rattle.rt_search.specs.{Kept.{IsRising, IsTakenOut, node_or, taken_entry, taken_item}, declared.item.Item.{Item}}
-use Rattle.rt_search.specs.{Limits.{IsEnough, wanted_after}, Work.{is_reached, its_children, one_node, reached_from_root}}
 use Rattle.rt_search.specs.Progress.{IsFound, IsNodeStep, IsOver, IsSearching, IsTaken, IsUnderWay, join_children}
 use Rattle.rt_search.specs.{Walking.{answers_among}, declared.item.{ScoredNode.{ScoredNode}, WaitingNode.{WaitingNode}}}
-use Rattle.rt_search.proofs.{Children.{subtree_level}, Limits.{rising_put_all}, Sizes.{count_is_fair, done_le, done_upto, held_cons, length_le_held, one_is_fair, size_counts}, Answering.{take_entry}}
-use Rattle.rt_search.proofs.Limits.{enough_nodes, enough_put_all, enough_trans, first_kept, none_left, rising_nodes}
-use Rattle.rt_search.proofs.Stepping.{entry_course, inner_step, leaf_step, reached_is}
+use Rattle.rt_search.proofs.{Children.{subtree_level}, Stepping.{entry_course, inner_step, leaf_step, reached_is}}
+use Rattle.rt_search.proofs.Limits.{rising_put_all, enough_nodes, enough_put_all, enough_trans, first_kept, none_left}
+use Rattle.rt_search.proofs.{Limits.{rising_nodes}, Sizes.{size_counts}, Answering.{take_entry}}
+use Rattle.rt_search.proofs.Sizes.{count_is_fair, done_le, done_upto, held_cons, length_le_held, one_is_fair}
 use Rattle.rt_tree.specs.declared.tree.Node as node
 use Rattle.rt_search.specs.declared.item.Place.TheVariants as place
 
@@ -73,12 +74,13 @@ module _ {accepts : Extent → Bool} {score : Extent → ℕ} {verdict : Info �
         → IsUnderWay accepts score verdict t (opened + 1) (asked + (node_at t n.number.number).count) capacity wanted
         to_come new
 
-  pub go_on : {opened asked capacity : ℕ} {wanted : Option ℕ} {to_come : List Answer} {items xs : List Item}
-      (out : Option ScoredNode × Option Answer) (m : ScoredNode) → m.score < 2 ^ 128 → wanted ≢ Some 0
+  pub go_on : {opened asked capacity : ℕ} {wanted limit : Option ℕ} {to_come : List Answer} {items xs : List Item}
+      (out : Option ScoredNode × Option Answer) (m : ScoredNode) → m.score < 2 ^ 128 → wanted ≡ limit → limit ≢ Some 0
       → out.0 ≡ Some m → IsTakenOut (taken_item out) items xs
       → IsUnderWay accepts score verdict t opened asked capacity wanted to_come items
       → CanGoOn opened asked capacity wanted to_come m.score m.node xs
-  go_on {opened} {asked} {capacity} {wanted} {to_come} {items} {xs} out m small more told took u =
+  go_on {opened} {asked} {capacity} {wanted} {limit} {to_come} {items} {xs} out m small is_limit some told took u =
+      let more = still_more limit wanted is_limit some in
       let s = m.score in
       let n = m.node in
       let is = (subst (λ o. IsTakenOut (node_or o (taken_entry out.1)) items xs) told took).0 in
@@ -94,7 +96,8 @@ module _ {accepts : Extent → Bool} {score : Extent → ℕ} {verdict : Info �
       let v = verdict_on s n in
       let found = answers_among t accepts score k' k'.count in
       let level = subtree_level t (height_at t n.number.number) k' taken.state.sound.0.tree in
-      let step : IsNodeStep accepts score verdict t opened asked capacity s n ys (join_children accepts score verdict t s n ys) =
+      let next = join_children accepts score verdict t s n ys in
+      let step : IsNodeStep accepts score verdict t opened asked capacity s n ys next =
       cond_both (k'.level == 1) (join_answers found ys) (join_nodes verdict t v k' k'.count ys)
       (IsNodeStep accepts score verdict t opened asked capacity s n ys)
       (λ e. leaf_step law t small (eqb-true k'.level 1 e) taken)
@@ -110,17 +113,18 @@ module _ {accepts : Extent → Bool} {score : Extent → ℕ} {verdict : Info �
         room = omega arith;
         opened_low = done_le (is_reached None) one_node verdict t (one_is_fair t) taken.state.tree opened s n ys opens
             taken.state.opening.in_all;
-        asked_low = done_le (is_reached None) its_children verdict t (count_is_fair t) taken.state.tree asked s n ys opens
-            taken.state.asking.in_all;
+        asked_low = done_le (is_reached None) its_children verdict t (count_is_fair t) taken.state.tree asked s n ys
+            opens taken.state.asking.in_all;
         opened_upto = done_upto (is_reached None) one_node verdict t (one_is_fair t) opened s n ys opens
             taken.state.opening.in_all;
         next = λ new h. record {
-          all = join_children accepts score verdict t s n ys;
+          all = next;
           state = step.state;
           rising = cond_both (k'.level == 1) (join_answers found ys) (join_nodes verdict t v k' k'.count ys) IsRising
-              (λ e. rising_put_all (map item_of found) ys up.1) (λ e. rising_nodes verdict t v k' wanted k'.count ys up.1);
+              (λ e. rising_put_all (map item_of found) ys up.1)
+              (λ e. rising_nodes verdict t v k' wanted k'.count ys up.1);
           follows = step.same ∙ ap (remaining t accepts score) (sym k.1.0) ∙ u.follows;
-          enough = enough_trans wanted new (join_children accepts score verdict t s n xs) (join_children accepts score verdict t s n ys) h
+          enough = enough_trans wanted new (join_children accepts score verdict t s n xs) next h
               (enough_children accepts score verdict t wanted s n xs ys k.1.1);
         };
       }
@@ -149,7 +153,8 @@ module _ {accepts : Extent → Bool} {score : Extent → ℕ} {verdict : Info �
       let r = taken.state.room in
       subst (λ w. IsFound accepts score verdict t opened asked capacity w to_come a xs) (sym same) (record {
         rest = remaining t accepts score ys;
-        first = sym u.follows ∙ ap (remaining t accepts score) k.1.0 ∙ take_entry accepts score t a.0 a.1 ys taken.least sound;
+        first = sym u.follows ∙ ap (remaining t accepts score) k.1.0
+            ∙ take_entry accepts score t a.0 a.1 ys taken.least sound;
         state = record {
           all = ys;
           state = record { tree = taken.state.tree; sound = sound; room = omega arith; opening = o.0; asking = b.0 };

@@ -8,7 +8,8 @@ pub returns : goal.returns
 returns c =
     let keys = keys_in c.args.nodes.now in
     let n = first_of_least node_item (λ k. refl) c.in-Some.node keys c.in-Some.ensures in
-    let nodes = in_order-all node_item (λ x. IsNode x.place) keys (all_each (λ n. IsNode (node_item n).place) (λ n. tt) keys) in
+    let nodes = in_order-all node_item (λ x. IsNode x.place) keys
+    (all_each (λ n. IsNode (node_item n).place) (λ n. tt) keys) in
     let e = c.in-Some-first_score.ensures in
     by_test _ _ _
     (λ t. nodes_ahead c.in-Some.node c.in-Some-first_score.entry _ _ n e.first nodes e.entries (leb-true _ _ t))

@@ -1,6 +1,5 @@
-use Rattle.rt_search.specs.Kept.{node_or, taken_entry}
+use Rattle.rt_search.specs.{Kept.{node_or, taken_entry}, Limits.{IsEnough, wanted_after}, Progress.{join_children}}
 use Rattle.std.proofs.Common.{ap, ◌∙◌, subst, arith, rules}
-use Rattle.rt_search.specs.{Limits.{IsEnough, wanted_after}, Progress.{join_children}}
 use Rattle.rt_search.proofs.UnderWay.{ended, go_on, still_more}
 use Rattle.rt_search.proofs.search.pull.Goals as goal
 
@@ -8,16 +7,16 @@ pub overflow_add-opened : goal.overflow_add-opened
 overflow_add-opened g c =
     let v = c.loop-node.invariant in
     let n = c.in-Some.node in
-    let k = go_on (g.met.G.Geometry.lawful c.args.counted.now.geometry) c.args.tree.now c.take-node.result n (search rules)
-    (still_more _ _ v.wanted c.requires.more) c.in-Some.is c.take-node.ensures.taken (v.state _ c.requires.state.1) in
+    let k = go_on (g.met.G.Geometry.lawful c.args.counted.now.geometry) c.args.tree.now c.take-node.result n
+    (search rules) v.wanted c.requires.more c.in-Some.is c.take-node.ensures.taken (v.state _ c.requires.state.1) in
     (let low = k.opened_low in omega arith)
 
 pub open_node-requires : goal.open_node-requires
 open_node-requires g c =
     let v = c.loop-node.invariant in
     let n = c.in-Some.node in
-    let k = go_on (g.met.G.Geometry.lawful c.args.counted.now.geometry) c.args.tree.now c.take-node.result n (search rules)
-    (still_more _ _ v.wanted c.requires.more) c.in-Some.is c.take-node.ensures.taken (v.state _ c.requires.state.1) in
+    let k = go_on (g.met.G.Geometry.lawful c.args.counted.now.geometry) c.args.tree.now c.take-node.result n
+    (search rules) v.wanted c.requires.more c.in-Some.is c.take-node.ensures.taken (v.state _ c.requires.state.1) in
     record {
       sound = k.tree;
       node = rw v.geometry k.node;
@@ -29,8 +28,8 @@ pub loop-node-smaller : goal.loop-node-smaller
 loop-node-smaller g c =
     let v = c.loop-node.invariant in
     let n = c.in-Some.node in
-    let k = go_on (g.met.G.Geometry.lawful c.args.counted.now.geometry) c.args.tree.now c.take-node.result n (search rules)
-    (still_more _ _ v.wanted c.requires.more) c.in-Some.is c.take-node.ensures.taken (v.state _ c.requires.state.1) in
+    let k = go_on (g.met.G.Geometry.lawful c.args.counted.now.geometry) c.args.tree.now c.take-node.result n
+    (search rules) v.wanted c.requires.more c.in-Some.is c.take-node.ensures.taken (v.state _ c.requires.state.1) in
     (let up = k.opened_upto in omega arith)
 
 pub loop-node-preserved : goal.loop-node-preserved
@@ -39,14 +38,15 @@ loop-node-preserved g c =
     let e = c.take-node.ensures in
     let n = c.in-Some.node in
     let o = c.open_node.ensures in
-    let same = e.wanted ∙ ap (λ o. wanted_after (node_or o (taken_entry c.take-node.result.1)) c.loop-node.frontier.wanted) c.in-Some.is in
+    let same = e.wanted
+    ∙ ap (λ o. wanted_after (node_or o (taken_entry c.take-node.result.1)) c.loop-node.frontier.wanted) c.in-Some.is in
     let items = subst (λ y. IsEnough c.loop-node.frontier.wanted c.open_node.new.frontier.items
     (join_children (g.G.Geometry.accepts y) (g.G.Geometry.score y) (g.G.Geometry.verdict y) c.args.tree.now n.score n.node c.take-node.new.self.items)) v.geometry
     (rw same at o.children.items) in
     record {
       state = λ to_come u.
           let k = go_on (g.met.G.Geometry.lawful c.args.counted.now.geometry) c.args.tree.now c.take-node.result n
-          (search rules) (still_more _ _ v.wanted c.requires.more) c.in-Some.is e.taken (v.state to_come u) in
+          (search rules) v.wanted c.requires.more c.in-Some.is e.taken (v.state to_come u) in
           rw (o.asked, o.children.capacity, e.capacity, o.children.wanted, same) (k.next _ items);
       wanted = o.children.wanted ∙ same ∙ v.wanted;
       capacity = o.children.capacity ∙ e.capacity ∙ v.capacity;

@@ -23,9 +23,9 @@ walk_child-walk_under-requires g t c κs within =
     let one = at_child g.V.Visitor.opens one_node verdict tree (verdict info) number (rw v at opens) in
     let its = at_child g.V.Visitor.opens its_children verdict tree (verdict info) number (rw v at opens) in
     let asked_few = c.requires.asked in
-    let sound = c.requires.sound in (
+    let o = c.requires.sound in (
       omega arith,
-      (within.0, (within.1, (sound, rw (e.geometry, v, stays) (grind arith, (omega arith, (omega arith, omega arith)))))),
+      (within.0, (within.1, (o, rw (e.geometry, v, stays) (grind arith, (omega arith, (omega arith, omega arith)))))),
     )
 
 pub walk_child-returns-then-visit_node-clause-taken : goal.walk_child-returns-then-visit_node-clause-taken
@@ -62,15 +62,15 @@ walk_under-walk_child-requires g t c κs within =
     let here = children_of c.requires.node c.node-node.ensures c.if-node-eq1.false c.child_nodes-children.ensures in
     let k = asked here c.loop-i.i v c.loop-i-test.true c.index-children-i.is c.new-child_number.ensures
     c.node-whole.ensures c.info_under-info.ensures in
-    let inv = c.loop-i.invariant in
+    let i = c.loop-i.invariant in
     let can = visit law sound (search rules) c.requires.node here.high g.V.Visitor.opens k g.V.Collector.takes
-    g.V.Collector.room g.met.V.Collector.fills c.args.visitor.now c.loop-i.visitor inv.taken c.requires.room
-    c.args.opened.now c.loop-i.opened c.args.counted.now.asked c.loop-i.counted.asked inv.opened inv.asked
+    g.V.Collector.room g.met.V.Collector.fills c.args.visitor.now c.loop-i.visitor i.taken c.requires.room
+    c.args.opened.now c.loop-i.opened c.args.counted.now.asked c.loop-i.counted.asked i.opened i.asked
     c.requires.opened c.requires.asked in
     let size : c.index-children-i.result.size ≡ (node_at tree c.new-child_number.result.number).size = ap (λ n. n.size) k.is in
     let fits = can.room_is in (
       omega arith,
-      (within.0, (within.1, (sound, rw inv.geometry (can.node, (size, (omega arith, (can.opened_few, can.asked_few))))))),
+      (within.0, (within.1, (sound, rw i.geometry (can.node, (size, (omega arith, (can.opened_few, can.asked_few))))))),
     )
 
 pub walk_under-loop-i-preserved : goal.walk_under-loop-i-preserved

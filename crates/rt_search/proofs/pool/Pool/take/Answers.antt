@@ -1,7 +1,8 @@
 use Rattle.std.specs.{Ordering.{is_lt, nat_cmp}, BinaryHeap.{heap_items}}
 use Rattle.std.proofs.lemmas.List.Sorted.{IsPermutation-append_left, IsPermutation-trans, length_permutation}
+use Rattle.std.proofs.Common.{length, false, ◌≡◌, ◌≤◌, [], ◌∷◌, ◌++◌, ap, sym, ◌∙◌, arith}
+use Rattle.std.proofs.lemmas.List.{nil_from_length}
 use Rattle.rt_search.specs.Pooling.{score_in}
-use Rattle.std.proofs.{Common.{length, false, ◌≡◌, ◌≤◌, [], ◌∷◌, ◌++◌, ap, sym, ◌∙◌, arith}, lemmas.List.{nil_from_length}}
 use Rattle.rt_search.proofs.{Elements.{all-append, all_moved}, Pools.{far_after}}
 use Rattle.rt_search.proofs.pool.Pool.take.Goals as goal
 

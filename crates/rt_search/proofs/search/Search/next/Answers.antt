@@ -46,10 +46,12 @@ pub returns-in_err-answer-clause-none : goal.returns-in_err-answer-clause-none
 returns-in_err-answer-clause-none g c =
     let e = c.in_err-answer.ensures in
     let going = c.self.invariant in
-    if_none c.from_residual.result (rw c.pull.ensures.geometry (end going (search rules) e.wanted (e.step _ going.state)).answer)
+    if_none c.from_residual.result
+    (rw c.pull.ensures.geometry (end going (search rules) e.wanted (e.step _ going.state)).answer)
 
 pub returns-in_err-answer-clause-worked_in_all : goal.returns-in_err-answer-clause-worked_in_all
 returns-in_err-answer-clause-worked_in_all g c =
     let e = c.in_err-answer.ensures in
     let going = c.self.invariant in
-    if_none c.from_residual.result (rw (← c.self.view_is) (end going (search rules) e.wanted (e.step _ going.state)).worked)
+    if_none c.from_residual.result
+    (rw (← c.self.view_is) (end going (search rules) e.wanted (e.step _ going.state)).worked)
