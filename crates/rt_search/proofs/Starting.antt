@@ -4,13 +4,12 @@ use Rattle.std.proofs.{Common.{refl, sym, ◌∙◌, ap, subst, arith}, lemmas.B
 use Rattle.std.proofs.lemmas.{Bool.Decides.{nat_tests}, List.{nil_from_length, Sorted.{length_permutation}}}
 use Rattle.std.proofs.lemmas.List.Sums.{sum_by-cons}
 use Rattle.std.specs.Prelude.{IfSome}
-use Rattle.rt_search.specs.Remaining.{remaining}
+use Rattle.rt_search.specs.{Remaining.{remaining}, Answers.{answers}, Joining.{root_item, root_items}, Kept.{IsRising}}
+use Rattle.rt_search.specs.{Limits.{IsEnough}, Progress.{IsGiving, IsInLimit, IsOnCourse, IsSearching, work_left}}
+use Rattle.rt_search.specs.Work.{reached_from_root, HasWorked, is_reached, is_within_bound, its_children, one_node}
+use Rattle.rt_search.specs.{Work.{root_verdict}, declared.item.Item.{Item}}
 use Rattle.rt_geo.specs.{Laws.{Extent}, declared.geometry.{Info.{Info}, Verdict.{Verdict}}}
 use Rattle.rt_tree.specs.{Packed.{Packed, IsSound}, declared.tree.Node.{Node}}
-use Rattle.rt_search.specs.{Answers.{answers}, Joining.{root_item, root_items}, Kept.{IsRising}}
-use Rattle.rt_search.specs.{Limits.{IsEnough}, Progress.{IsGiving, IsInLimit, IsOnCourse, IsSearching, work_left}}
-use Rattle.rt_search.specs.{Work.{reached_from_root}, declared.item.Item.{Item}}
-use Rattle.rt_search.specs.Work.{HasWorked, is_reached, is_within_bound, its_children, one_node, root_verdict}
 use Rattle.rt_search.proofs.{Answering.{among-IsPermutation}, Elements.{all_each}, OrderedLists.{put_all-nil}}
 use Rattle.rt_search.proofs.{Orders.{answer_order}, Sizes.{size_under}}
 
