@@ -34,10 +34,8 @@ pub hits_join : (old new : Waiting) (xs : List Answer) → HasTaken KeepsHit old
 hits_join old new [] h = (ap (λ w. w.items) h, ap (λ w. w.capacity) h)
 hits_join old new (a ∷ xs) h = grind (arith, join_next, hits_join h.0 new xs h.1.1)
 
-abbrev joins : SearchRoom → Answer → SearchRoom → Type 0
-joins old a new = IsPut (item_of a) (limited old) (limited new)
-
-pub entries_join : (old new : SearchRoom) (xs : List Answer) → HasTaken joins old xs new
+pub entries_join : (old new : SearchRoom) (xs : List Answer)
+    → HasTaken (λ old a new. IsPut (item_of a) (limited old) (limited new)) old xs new
     → KeepsEnough (join_answers xs old.items) (limited old) (limited new)
 entries_join old new [] h = record {
   items = subst (λ r. IsEnough old.wanted r.items old.items) (sym h) (enough_itself old.wanted old.items);

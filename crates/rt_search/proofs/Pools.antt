@@ -1,11 +1,9 @@
 -- Keys, those that are near and those that are far.
 use Rattle.std.proofs.Common.{◌≡◌, ◌<◌, ◌≤◌, ◌-◌, ◌/◌, ◌^◌, inl, inr, ℕ, nat_lt, Option, Some, None, List, [], ◌∷◌}
 use Rattle.std.proofs.Common.{◌++◌, length, take, drop, set, get_or, refl, sym, ◌∙◌, ap, ⊎_elim, subst, arith}
-use Rattle.std.proofs.{Common.{IsPermutation}, Math.Nat.{mod-lt}}
+use Rattle.std.proofs.{Common.{IsPermutation}, Math.Nat.{mod-lt}, lemmas.{Bool.Decides.{nat_tests}, Nat.{div-add-mod'}}}
 use Rattle.std.proofs.lemmas.List.{append_assoc, length-set, length-take-le, take-append-drop, take-append-le, take-set}
-use Rattle.std.proofs.lemmas.List.Sorted.{IsPermutation-append_left, IsPermutation-append_right, IsPermutation-middle}
-use Rattle.std.proofs.lemmas.List.Sorted.{IsPermutation-to_front, IsPermutation-sym, IsPermutation-trans}
-use Rattle.std.proofs.lemmas.{Bool.{ltb-false, ltb-true, Decides.{nat_tests}}, Nat.{div-add-mod'}}
+use Rattle.std.proofs.lemmas.{List.Sorted.{IsPermutation-to_front, IsPermutation-sym}, Bool.{ltb-false, ltb-true}}
 use Rattle.std.specs.{declared.cmp.Reverse.{Reverse}, Prelude.{MatchOption}, List.{AllByRecursion, swap_remove}}
 use Rattle.rt_search.proofs.Elements.{all-append, all_map, all_moved}
 use Rattle.rt_search.specs.{Kept.{lesser}, Pooling.{HasLeastScore, HasScore, IsFar, IsLowest, score_in}}
@@ -17,13 +15,6 @@ pub put_right : {X : Type 0} (x : X) (xs zs : List X) → IsPermutation (x ∷ x
 put_right x xs zs =
     subst (IsPermutation (x ∷ xs ++ zs)) (append_assoc xs zs (x ∷ []))
     (IsPermutation-sym ((xs ++ zs) ++ x ∷ []) (x ∷ xs ++ zs) (IsPermutation-to_front (xs ++ zs) x))
-
--- what moves from the second to the first
-pub moved_over : {X : Type 0} (x : X) (xs ys zs ws : List X) → IsPermutation zs (x ∷ ws) → IsPermutation (x ∷ xs) ys
-    → IsPermutation (xs ++ zs) (ys ++ ws)
-moved_over x xs ys zs ws h k =
-    IsPermutation-trans _ _ _ (IsPermutation-append_right xs zs (x ∷ ws) h)
-    (IsPermutation-trans _ _ _ (IsPermutation-middle xs x ws) (IsPermutation-append_left ws (x ∷ xs) ys k))
 
 -- what stands before the one that is taken out stays
 pub take-swap_remove : {X : Type 0} (xs : List X) (i : ℕ) (d : X) → i < length xs

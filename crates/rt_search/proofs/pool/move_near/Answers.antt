@@ -1,9 +1,10 @@
+use Rattle.std.proofs.lemmas.List.Sorted.{IsPermutation-append_left, IsPermutation-append_right, IsPermutation-middle}
 use Rattle.std.proofs.Common.{◌≡◌, ◌<◌, ◌≤◌, [], ◌∷◌, ◌++◌, length, take, ap, sym, ◌∙◌, subst, arith, IsPermutation}
 use Rattle.std.proofs.lemmas.List.{get_or_default, length-append, take_more}
 use Rattle.std.proofs.lemmas.List.Sorted.{IsPermutation-swap_remove, IsPermutation-trans, length_permutation}
 use Rattle.std.specs.{Prelude.{IsOk}, BinaryHeap.{heap_items}}
 use Rattle.rt_search.specs.Pooling.{IsFar, score_in}
-use Rattle.rt_search.proofs.{Heaps.{on_ok}, Elements.{all_moved}, Pools.{far_more, moved_over, take-swap_remove}}
+use Rattle.rt_search.proofs.{Heaps.{on_ok}, Elements.{all_moved}, Pools.{far_more, take-swap_remove}}
 use Rattle.rt_search.proofs.pool.move_near.Goals as goal
 
 pub loop-at-preserved-then-score-edge : goal.loop-at-preserved-then-score-edge
@@ -36,7 +37,10 @@ loop-at-preserved-then-score-edge c =
       };
       far = subst (λ l. IsFar l c.args.edge c.loop-at.least) (sym (ap (take at) e.items ∙ take-swap_remove far at key inside)) i.far;
       reached = omega arith;
-      same = IsPermutation-trans _ _ _ i.same (moved_over key near _ far _ out joined);
+      same = IsPermutation-trans _ _ _ i.same
+          (IsPermutation-trans _ _ _ (IsPermutation-append_right near far (key ∷ _) out)
+          (IsPermutation-trans _ _ _ (IsPermutation-middle near key _)
+          (IsPermutation-append_left _ (key ∷ near) _ joined)));
       near_capacity = omega arith;
       far_capacity = e.capacity ∙ i.far_capacity;
     }
