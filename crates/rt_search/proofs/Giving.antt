@@ -86,8 +86,6 @@ module _ (accepts : Extent → Bool) (score : Extent → ℕ) (verdict : Info �
   abbrev all : List Answer
   all = answers t.entries accepts score None
 
-  -- ---- how many answers there are
-
   -- ---- the work after so many answers
 
   work_after : (cost : Node → ℕ) (g : ℕ) (a : Answer) (rest : List Answer) → drop g all ≡ a ∷ rest

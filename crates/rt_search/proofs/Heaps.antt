@@ -19,8 +19,6 @@ map-all : {X : Type 0} (item : X → Item) (P : Item → Type 0) (xs : List X) �
 map-all item P [] a = tt
 map-all item P (x ∷ xs) a = (a.0, map-all item P xs a.1)
 
--- ---- scores
-
 -- ---- any collection, by the items that its elements are
 
 -- x comes after none of these

@@ -49,8 +49,6 @@ pub one_longer : (b : Bool) (x : Item) (xs ys : List Item) → ys ≡ offered b 
 one_longer true x xs ys e = omega (arith, ap length e, length-put item_cmp item_order x xs)
 one_longer false x xs ys e = omega (arith, ap length e)
 
--- ---- the first of the list that is ahead is the first of both
-
 -- ---- what a call that takes from one of the lists takes from both
 
 pub taken_left : (r : Option Item) (old xs ys : List Item) → IsTakenOut r old xs → IsAhead old ys

@@ -16,9 +16,7 @@ hits_entries ids keys wide a =
     (put_all-all item_cmp item_order (λ x. IsEntry x.place) (in_order entry_item keys) wide
     (in_order-all entry_item (λ x. IsEntry x.place) keys (all_entries keys)) a)
 
--- ---- which are ahead
-
--- as the others score more
+-- those of other scores all score more than 0
 pub rest_above : (xs ys : List Item) → AllByRecursion (λ x. 0 < x.score) xs → AllByRecursion (λ x. 2 ^ 64 ≤ x.score) ys
     → AllByRecursion (λ x. 0 < x.score) (put_all item_cmp xs ys)
 rest_above xs ys a b = grind (arith, put_all-all, item_order, all_map)
