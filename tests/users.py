@@ -1,10 +1,10 @@
 #!/usr/bin/env python3
 """Tries what stands in clients/, packaging/ and examples/, and the recipes of docs/, with the built program.
 
-usage: tests/users.py PROGRAM [--need-all]
+usage: tests/users.py PROGRAM [--need-all] [--only NAME]..
 
-The tests are those of the folders TESTS. One that wants what isn't installed here is skipped and named; with
---need-all it has failed. The last line is `N passed, M failed`.
+The tests are those of the folders TESTS, or of those that are named. One that wants what isn't installed here is skipped
+and named; with --need-all it has failed. The last line is `N passed, M failed`.
 """
 
 import argparse
@@ -17,14 +17,15 @@ from pathlib import Path
 
 sys.dont_write_bytecode = True
 ROOT = Path(__file__).resolve().parent.parent
-TESTS = [
-    ROOT / "clients/python/tests",
-    ROOT / "tests/recipes",
-    ROOT / "packaging/tests",
-    ROOT / "examples/service/tests",
-    ROOT / "examples/tiles/tests",
-    ROOT / "examples/cluster/tests",
-]
+TESTS = {
+    "client": ROOT / "clients/python/tests",
+    "recipes": ROOT / "tests/recipes",
+    "package": ROOT / "packaging/tests",
+    "service": ROOT / "examples/service/tests",
+    "map": ROOT / "examples/tiles/tests",
+    "shards": ROOT / "examples/cluster/tests",
+}
+sys.path.insert(0, str(TESTS["client"]))  # support.py, which recipes and package need too
 TOO_LONG = 300  # seconds of one test: something waits for ever
 
 
@@ -55,11 +56,12 @@ def main():
     parser = argparse.ArgumentParser()
     parser.add_argument("program")
     parser.add_argument("--need-all", action="store_true")
+    parser.add_argument("--only", action="append", choices=TESTS, metavar="NAME")
     args = parser.parse_args()
     os.environ["RTFILTER_PROGRAM"] = str(Path(args.program).resolve())
     results = Results()
-    for folder in TESTS:
-        unittest.TestLoader().discover(str(folder)).run(results)
+    for name in args.only or TESTS:
+        unittest.TestLoader().discover(str(TESTS[name])).run(results)
     for test, why in [*results.failures, *results.errors]:
         print(f"FAIL {test.id()}: {why}")
     for test, why in results.skipped:
