@@ -1,6 +1,6 @@
 //! Layers: what kind of thing each box stands for, given by a number.
 
-ghost use Rattle.std.specs.Prelude.{◌≡◌, ◌≤◌, ◌==◌, ◌||◌, ℕ};
+ghost use Rattle.std.specs.Prelude.{◌≡◌, ◌≤◌, ◌==◌, ◌||◌, ℕ, Decides, true, false};
 ghost use Rattle.rt_geo.specs.Layers.{all_layers, disjoint, has, most_layer, only, subset, union};
 
 /// A set of layers, which are the numbers from 0 to 63.
@@ -56,14 +56,16 @@ impl Layers {
 
     /// Whether no layer is in both sets.
     pub fn is_disjoint(self, other: Layers) -> bool
-        ensures { result ≡ disjoint self other }
+        ensures value { result ≡ disjoint self other }
+        ensures none { Decides result ((layer : ℕ) → has self layer ≡ true → has other layer ≡ false) }
     {
         self.bits & other.bits == 0
     }
 
     /// Whether each layer of this set is in the other.
     pub fn is_subset(self, other: Layers) -> bool
-        ensures { result ≡ subset self other }
+        ensures value { result ≡ subset self other }
+        ensures each { Decides result ((layer : ℕ) → has self layer ≡ true → has other layer ≡ true) }
     {
         self.bits & other.bits == self.bits
     }

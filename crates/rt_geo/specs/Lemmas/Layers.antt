@@ -3,9 +3,11 @@ use Rattle.std.proofs.Common.{◌≡◌, ◌≢◌, ◌≤◌, ◌<◌, ◌==◌
 use Rattle.std.proofs.Common.{refl, sym, ◌∙◌, ap, arith, inl, inr}
 use Rattle.std.specs.Int.{bit_at}
 use Rattle.std.specs.Int.RustNames.{bit_and, bit_or}
-use Rattle.std.proofs.lemmas.Bool.{cases_eq}
+use Rattle.std.proofs.lemmas.Bool.{cases_eq, true≢false}
 use Rattle.std.proofs.lemmas.Bool.Decides.{nat_tests}
 use Rattle.std.proofs.lemmas.Nat.{and_assoc, and_comm, and_or_self, le_or_l, or_comm, or_lt, pow_below, pow_pos}
+use Rattle.std.proofs.lemmas.Nat.Bits.{bit_at_and, bit_at-zero, same_from_bits}
+use Rattle.std.specs.Prelude.{Decides, min}
 use Rattle.std.proofs.lemmas.Nat.Bits.{and_pow, bit_at-lt, bit_at-pow_other, bit_at-pow_same, bit_at_ones, bit_at_or}
 use Rattle.std.specs.Int.Bits.{and_self, and_zero_r}
 use Rattle.rt_geo.specs.Layers.{HasSome, IsOneLayer, all_layers, disjoint, has, most_layer, only, subset, union}
@@ -96,3 +98,39 @@ pub disjoint-only : (layer : ℕ) (asked : Layers) → disjoint (only layer) ask
 disjoint-only layer asked =
     ap (λ n. n == 0) (and_comm (2 ^ layer) asked.bits ∙ and_pow asked.bits layer)
     ∙ none_of (bit_at asked.bits layer) (2 ^ layer) (bit_at-lt asked.bits layer) (pow_pos layer)
+
+-- ---- the two tests by what is in the sets
+
+min_zero : (m n : ℕ) → m < 2 → n < 2 → min m n ≡ 0 → (m == 1) ≡ true → (n == 1) ≡ false
+min_zero m n p q e h = grind (arith, nat_tests)
+
+zero_min : (m n : ℕ) → m < 2 → n < 2 → ((m == 1) ≡ true → (n == 1) ≡ false) → min m n ≡ 0
+zero_min zero n p q h = omega arith
+zero_min (suc m) zero p q h = omega arith
+zero_min (suc zero) (suc zero) p q h = absurd (true≢false (h refl))
+zero_min (suc zero) (suc (suc n)) p q h = absurd (omega (arith, q))
+zero_min (suc (suc m)) (suc n) p q h = absurd (omega (arith, p))
+
+pub disjoint-has : (a b : Layers) → Decides (disjoint a b) ((layer : ℕ) → has a layer ≡ true → has b layer ≡ false)
+disjoint-has a b = (
+  (λ e layer h. min_zero _ _ (bit_at-lt a.bits layer) (bit_at-lt b.bits layer)
+      (sym (bit_at_and a.bits b.bits layer) ∙ ap (λ n. bit_at n layer) (same_from _ _ e) ∙ bit_at-zero layer) h),
+  (λ h. same_to _ _ (same_from_bits _ _ (λ i. bit_at_and a.bits b.bits i
+      ∙ zero_min _ _ (bit_at-lt a.bits i) (bit_at-lt b.bits i) (h i) ∙ sym (bit_at-zero i)))),
+)
+
+min_same : (m n : ℕ) → m < 2 → n < 2 → min m n ≡ m → (m == 1) ≡ true → (n == 1) ≡ true
+min_same m n p q e h = grind (arith, nat_tests)
+
+same_min : (m n : ℕ) → m < 2 → n < 2 → ((m == 1) ≡ true → (n == 1) ≡ true) → min m n ≡ m
+same_min zero n p q h = omega arith
+same_min (suc zero) n p q h = let is = same_from n 1 (h refl) in omega (arith, is)
+same_min (suc (suc m)) n p q h = absurd (omega (arith, p))
+
+pub subset-has : (a b : Layers) → Decides (subset a b) ((layer : ℕ) → has a layer ≡ true → has b layer ≡ true)
+subset-has a b = (
+  (λ e layer h. min_same _ _ (bit_at-lt a.bits layer) (bit_at-lt b.bits layer)
+      (sym (bit_at_and a.bits b.bits layer) ∙ ap (λ n. bit_at n layer) (same_from _ _ e)) h),
+  (λ h. same_to _ _ (same_from_bits _ _ (λ i. bit_at_and a.bits b.bits i
+      ∙ same_min _ _ (bit_at-lt a.bits i) (bit_at-lt b.bits i) (h i)))),
+)
