@@ -133,3 +133,8 @@ pub record IsCommonPoint (vertices : List Point) (b : Rect) (p : Point) (d : ℕ
 -- the box and the polygon share no point, not even one in fractions
 abbrev pub SharesNoPoint : List Point → Rect → Type 0
 SharesNoPoint vertices b = (p : Point) (d : ℕ) → ¬ IsCommonPoint vertices b p d
+
+-- each point of the box lies in the polygon, those in fractions too
+abbrev pub HoldsEachPoint : List Point → Rect → Type 0
+HoldsEachPoint vertices b =
+    (p : Point) (d : ℕ) → 0 < d → inside (rect_at p) (scaled_box d b) ≡ true → IsCommonPoint vertices b p d

@@ -62,9 +62,9 @@ impl<'a> Model for PreparedPolygon<'a> {
 
 impl<'a> Shape for PreparedPolygon<'a> {
     ghost use Rattle.std.specs.Prelude.{◌≡◌};
-    ghost use Rattle.rt_geo.specs.Polygons.{SharesNoPoint};
+    ghost use Rattle.rt_geo.specs.Polygons.{HoldsEachPoint, SharesNoPoint};
     ghost use Rattle.rt_geo.specs.Regions.{region_accepts, region_state};
-    ghost use Rattle.rt_geo.specs.declared.geometry.Within.TheVariants.{Not};
+    ghost use Rattle.rt_geo.specs.declared.geometry.Within.TheVariants.{Not, Fully};
     ghost use Rattle.rt_geo.specs.declared.region.Region.TheVariants as region;
 
     ghost accepts = { λ s. region_accepts (region.Polygon s) };
@@ -74,6 +74,7 @@ impl<'a> Shape for PreparedPolygon<'a> {
     fn within(&self, info: &Info) -> Within
         ensures state { result ≡ region_state (region.Polygon self.now) info.now }
         ensures apart { result ≡ Not → SharesNoPoint self.now info.now.bounds }
+        ensures whole { result ≡ Fully → HoldsEachPoint self.now info.now.bounds }
     {
         let overlapping = overlaps(info.bounds, self.bounds);
         let lies_inside = inside(info.bounds, self.bounds);

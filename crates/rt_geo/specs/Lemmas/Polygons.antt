@@ -2,7 +2,7 @@
 use Rattle.std.specs.List.{list_all, list_any}
 use Rattle.std.specs.Prelude.{int_le, not, ◌-ℤ◌, ◌*ℤ◌}
 use Rattle.std.proofs.Common.{◌≡◌, ◌∙◌, sym, subst, refl, arith, inl, inr, ℕ, zero, suc, Bool, true, false}
-use Rattle.std.proofs.Common.{ℤ, pos, ◌≤ℤ◌, List, [], ◌∷◌, map}
+use Rattle.std.proofs.Common.{◌<◌, ℤ, pos, negsuc, ◌≤ℤ◌, List, [], ◌∷◌, map}
 use Rattle.std.proofs.lemmas.Bool.{true≢false, and_from, and_parts, or_cases, or_left, or_right}
 use Rattle.std.proofs.lemmas.Int.{ints}
 use Rattle.rt_geo.specs.Boxes.{Rect, IsRect, inside, overlaps, range_lies_in, ranges_meet}
@@ -13,7 +13,7 @@ use Rattle.rt_geo.specs.Lemmas.HalfPlanes.{corner, corner-inside, some_point}
 use Rattle.rt_geo.specs.Lemmas.HalfPlanes.{lies_in_half_plane-point, meets_half_plane-point}
 use Rattle.rt_geo.specs.Lemmas.Products.{difference-scaled, mul-difference, order_kept, sign_kept}
 use Rattle.rt_geo.specs.Lemmas.Shapes.{contrapositive, state_by-leaf, state_by-Fully, state_by-Not}
-use Rattle.rt_geo.specs.Polygons.{IsCommonPoint, SharesNoPoint, bounding_box, corners, cross, edges}
+use Rattle.rt_geo.specs.Polygons.{HoldsEachPoint, IsCommonPoint, SharesNoPoint, bounding_box, corners, cross, edges}
 use Rattle.rt_geo.specs.Polygons.{is_in_half_plane, lies_in_half_plane, meets_half_plane}
 use Rattle.rt_geo.specs.Polygons.{polygon_holds, polygon_meets}
 use Rattle.rt_geo.specs.Polygons.{scaled_point, scaled_box, scaled_edge}
@@ -172,3 +172,74 @@ pub polygon-shares_no_point : (vertices : List Point) (i : Info)
 polygon-shares_no_point vertices i e p d h =
     let parted = state_by-Not (polygon_meets vertices i.bounds) (polygon_holds vertices i.bounds) e in
     true≢false (sym (polygon_meets-fraction vertices i.bounds p d h) ∙ parted)
+
+-- ---- a box that lies in the polygon
+
+sign_larger : (m : ℕ) (x : ℤ) → pos 0 ≤ℤ x → pos 0 ≤ℤ (pos (suc m) *ℤ x)
+sign_larger m (pos n) h = omega (arith, ints)
+sign_larger m (negsuc n) h = absurd (omega (arith, ints, h))
+
+order_larger : (m : ℕ) (x y : ℤ) → x ≤ℤ y → (pos (suc m) *ℤ x) ≤ℤ (pos (suc m) *ℤ y)
+order_larger m x y h =
+    let d = sign_larger m (y -ℤ x) (omega (arith, ints, h)) in
+    let e = mul-difference (pos (suc m)) y x in
+    omega (arith, ints, d, e)
+
+at_most : (m n : ℤ) → int_le m n ≡ true → m ≤ℤ n
+at_most m n h = grind (arith, ints)
+
+at_most-test : (m n : ℤ) → m ≤ℤ n → int_le m n ≡ true
+at_most-test m n h = grind (arith, ints)
+
+range-larger : (m : ℕ) (a b c d : ℤ) → range_lies_in a b c d ≡ true
+    → range_lies_in (pos (suc m) *ℤ a) (pos (suc m) *ℤ b) (pos (suc m) *ℤ c) (pos (suc m) *ℤ d) ≡ true
+range-larger m a b c d h =
+    let parts = and_parts _ _ h in
+    and_from _ _ (at_most-test _ _ (order_larger m c a (at_most c a parts.0)))
+    (at_most-test _ _ (order_larger m b d (at_most b d parts.1)))
+
+inside-larger : (m : ℕ) (a b : Rect) → inside a b ≡ true → inside (scaled_box (suc m) a) (scaled_box (suc m) b) ≡ true
+inside-larger m a b h =
+    and_from _ _ (range-larger m a.min_x a.max_x b.min_x b.max_x (inside-on_x a b h))
+    (range-larger m a.min_y a.max_y b.min_y b.max_y (inside-on_y a b h))
+
+is_in_half_plane-larger : (m : ℕ) (edge : Edge) (p : Point)
+    → is_in_half_plane edge p ≡ true → is_in_half_plane (scaled_edge (suc m) edge) (scaled_point (suc m) p) ≡ true
+is_in_half_plane-larger m edge p h =
+    let n = cross edge p in
+    subst (λ z. int_le (pos 0) z ≡ true) (sym (cross-scaled (suc m) edge p))
+    (at_least-test _ (sign_larger m (pos (suc m) *ℤ n) (sign_larger m n (at_least n h))))
+
+list_all-larger : (f g : Point → Bool) (h : Point → Point) → ((p : Point) → f p ≡ true → g (h p) ≡ true)
+    → (xs : List Point) → list_all f xs ≡ true → list_all g (map h xs) ≡ true
+list_all-larger f g h more [] e = refl
+list_all-larger f g h more (x ∷ xs) e =
+    let parts = and_parts _ _ e in and_from _ _ (more x parts.0) (list_all-larger f g h more xs parts.1)
+
+-- a fractional point of a box that lies in the half-plane is in it
+lies_in_half_plane-fraction : (m : ℕ) (p : Point) (b : Rect) → inside (rect_at p) (scaled_box (suc m) b) ≡ true
+    → (edge : Edge) → lies_in_half_plane b edge ≡ true → is_in_half_plane (scaled_edge (suc m) edge) p ≡ true
+lies_in_half_plane-fraction m p b h edge e =
+    lies_in_half_plane-point (scaled_edge (suc m) edge) p (scaled_box (suc m) b) h
+    (list_all-larger (is_in_half_plane edge) (is_in_half_plane (scaled_edge (suc m) edge)) (scaled_point (suc m))
+    (is_in_half_plane-larger m edge) (corners b) e)
+
+polygon_holds-fraction : (vertices : List Point) (b : Rect) → polygon_holds vertices b ≡ true → HoldsEachPoint vertices b
+polygon_holds-fraction vertices b e p zero some h = absurd (omega (arith, some))
+polygon_holds-fraction vertices b e p (suc m) some h =
+    let parts = and_parts _ _ e in
+    record {
+      fraction = some;
+      in_box = h;
+      in_bounding_box = inside-trans (rect_at p) (scaled_box (suc m) b) (scaled_box (suc m) (bounding_box vertices)) h
+          (inside-larger m b (bounding_box vertices) parts.0);
+      in_half_planes = list_all-less (lies_in_half_plane b) (λ edge. is_in_half_plane (scaled_edge (suc m) edge) p)
+          (lies_in_half_plane-fraction m p b h) (edges vertices) parts.1;
+    }
+
+-- where the state is FULLY, each point of the box lies in the polygon
+pub polygon-holds_each_point : (vertices : List Point) (i : Info)
+    → region_state (Polygon vertices) i ≡ Fully → HoldsEachPoint vertices i.bounds
+polygon-holds_each_point vertices i e =
+    polygon_holds-fraction vertices i.bounds
+    (state_by-Fully (not (polygon_meets vertices i.bounds)) (polygon_holds vertices i.bounds) e)

@@ -1,5 +1,5 @@
 use Rattle.std.proofs.Common.{◌∙◌, sym}
-use Rattle.rt_geo.specs.Lemmas.Polygons.{polygon-shares_no_point}
+use Rattle.rt_geo.specs.Lemmas.Polygons.{polygon-holds_each_point, polygon-shares_no_point}
 use Rattle.rt_geo.proofs.HalfPlanes.{all_small-edges, state_is}
 use Rattle.rt_geo.proofs.prepared.PreparedPolygonShape.within.Goals as goal
 
@@ -20,3 +20,7 @@ returns-clause-state c =
 pub returns-clause-apart : goal.returns-clause-apart
 returns-clause-apart c e =
     polygon-shares_no_point c.args.self.now c.args.info.now (sym (returns-clause-state c) ∙ e)
+
+pub returns-clause-whole : goal.returns-clause-whole
+returns-clause-whole c e =
+    polygon-holds_each_point c.args.self.now c.args.info.now (sym (returns-clause-state c) ∙ e)
