@@ -13,7 +13,7 @@ use Rattle.std.proofs.lemmas.List.Sums.{count_by_more_no, count_by_more_yes}
 use Rattle.std.proofs.lemmas.Nat.{mul-le}
 use Rattle.arrayvec.specs.ArrayVec.{ArrayVec}
 use Rattle.rt_geo.specs.Boxes.{Rect, IsRect, inside, overlaps}
-use Rattle.rt_geo.specs.HalfPlanes.{edges_from_last, half_plane_of, half_planes_of, has_short_edges, is_short}
+use Rattle.rt_geo.specs.HalfPlanes.{edges_from_last, half_plane_of, half_planes_of}
 use Rattle.rt_geo.specs.HalfPlanes.{is_small, is_strictly_left, reaches}
 use Rattle.rt_geo.specs.HalfPlanes.{sides_of, turned_sides_of}
 use Rattle.rt_geo.specs.Lemmas.HalfPlanes.{lies_in_half_plane-rightmost}
@@ -22,6 +22,7 @@ use Rattle.rt_geo.specs.Lemmas.Products.{mul-difference}
 use Rattle.rt_geo.specs.Polygons.{bounding_box, cross, edges, has_polygon_count, is_in_half_plane, is_left}
 use Rattle.rt_geo.specs.Polygons.{lies_in_half_plane, meets_half_plane, path_from, point_at}
 use Rattle.rt_geo.specs.Regions.{region_state, state_by}
+use Rattle.rt_geo.specs.ShortEdges.{has_short_edges, is_short}
 use Rattle.rt_geo.specs.declared.distance.Point.{Point}
 use Rattle.rt_geo.specs.declared.geometry.Info.{Info}
 use Rattle.rt_geo.specs.declared.prepared.HalfPlane.{HalfPlane}

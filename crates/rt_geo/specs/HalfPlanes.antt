@@ -1,4 +1,5 @@
--- The half-planes of a polygon's edges, as the code keeps them where each edge is short.
+-- The half-planes of a polygon's edges, as the code keeps them where each edge is short. Nothing that a public call
+-- promises speaks of this.
 use Rattle.std.specs.Int.{from_bool}
 use Rattle.std.specs.List.{list_all}
 use Rattle.std.specs.Prelude.{◌^◌, ◌-◌, Bool, ◌&&◌, if◌then◌else◌, nat_le, nat_lt}
@@ -6,20 +7,11 @@ use Rattle.std.specs.Prelude.{ℤ, pos, ◌-ℤ◌, ◌*ℤ◌, int_le, int_lt, 
 use Rattle.std.specs.Prelude.{Option, Some, None, map}
 use Rattle.arrayvec.specs.ArrayVec.{ArrayVec}
 use Rattle.rt_geo.specs.Boxes.{Rect}
-use Rattle.rt_geo.specs.Polygons.{edges, path_from}
+use Rattle.rt_geo.specs.Polygons.{path_from}
+use Rattle.rt_geo.specs.ShortEdges.{is_short}
 use Rattle.rt_geo.specs.declared.distance.Point.{Point}
 use Rattle.rt_geo.specs.declared.prepared.HalfPlane.{HalfPlane}
 use Rattle.rt_geo.specs.declared.polygon.Edge.{Edge}
-
--- an edge that leads less than 2 ^ 31 far on each axis
-abbrev pub is_short : Edge → Bool
-is_short edge =
-    nat_lt (unsigned_abs (edge.to.x -ℤ edge.from.x)) (2 ^ 31)
-    && nat_lt (unsigned_abs (edge.to.y -ℤ edge.from.y)) (2 ^ 31)
-
--- a polygon each edge of which is short
-abbrev pub has_short_edges : List Point → Bool
-has_short_edges vertices = list_all is_short (edges vertices)
 
 -- the sides of a box, and the same from its other end on each axis
 abbrev pub sides_of : Rect → List ℤ

@@ -11,3 +11,4 @@ pub mod OnLayers
 pub mod Orders
 pub mod Polygons
 pub mod Regions
+pub mod ShortEdges

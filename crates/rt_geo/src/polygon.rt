@@ -12,8 +12,8 @@ ghost use Rattle.rt_geo.specs.Lemmas.HalfPlanes.{corner, leftmost_corner, rightm
 ghost use Rattle.rt_geo.specs.Polygons.{bounding_box, cross, edges, is_left, lies_in_half_plane, meets_half_plane};
 ghost use Rattle.rt_geo.specs.Polygons.{IsPolygonOf, IsStrictlyConvex, has_polygon_count, is_strictly_convex};
 ghost use Rattle.rt_geo.specs.Polygons.{polygon_of};
-ghost use Rattle.rt_geo.specs.HalfPlanes.{has_short_edges};
 ghost use Rattle.rt_geo.specs.Regions.{state_by};
+ghost use Rattle.rt_geo.specs.ShortEdges.{has_short_edges};
 
 use crate::bounds::{Bounds, hull, inside, overlaps};
 use crate::distance::Point;

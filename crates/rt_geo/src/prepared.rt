@@ -7,10 +7,11 @@ ghost use Rattle.std.specs.Prelude.{◌≡◌, ◌<◌, ◌≤◌, ◌^◌, ◌*
 ghost use Rattle.std.specs.Prelude.{unsigned_abs, is_some, IfSome};
 ghost use Rattle.std.specs.List.{count_by, list_all};
 ghost use Rattle.rt_geo.specs.Boxes.{IsRect};
-ghost use Rattle.rt_geo.specs.HalfPlanes.{half_plane_of, half_planes_of, is_coordinate, has_short_edges, is_short, is_small};
+ghost use Rattle.rt_geo.specs.HalfPlanes.{half_plane_of, half_planes_of, is_coordinate, is_small};
 ghost use Rattle.rt_geo.specs.HalfPlanes.{is_strictly_left, reaches, sides_of, turned_sides_of};
 ghost use Rattle.rt_geo.specs.Polygons.{is_left, path_from};
 ghost use Rattle.rt_geo.specs.Regions.{state_by};
+ghost use Rattle.rt_geo.specs.ShortEdges.{has_short_edges, is_short};
 
 use crate::bounds::{Bounds, inside, overlaps};
 use crate::distance::Point;
@@ -45,8 +46,9 @@ pub struct PreparedPolygon<'a> {
 impl<'a> Model for PreparedPolygon<'a> {
     ghost use Rattle.std.specs.Prelude.{◌≡◌, true, List, map};
     ghost use Rattle.std.specs.List.{list_all};
-    ghost use Rattle.rt_geo.specs.HalfPlanes.{edges_from_last, half_plane_of, has_short_edges};
+    ghost use Rattle.rt_geo.specs.HalfPlanes.{edges_from_last, half_plane_of};
     ghost use Rattle.rt_geo.specs.Polygons.{bounding_box};
+    ghost use Rattle.rt_geo.specs.ShortEdges.{has_short_edges};
     ghost use Rattle.rt_geo.specs.declared.distance.Point.{Point};
 
     ghost Value = { List Point };

@@ -1,6 +1,7 @@
 use Rattle.std.proofs.Common.{◌≡◌, ◌++◌, drop, length, map}
 use Rattle.std.specs.List.{list_all}
-use Rattle.rt_geo.specs.HalfPlanes.{half_plane_of, is_short}
+use Rattle.rt_geo.specs.HalfPlanes.{half_plane_of}
+use Rattle.rt_geo.specs.ShortEdges.{is_short}
 use Rattle.rt_geo.specs.Polygons.{path_from}
 use Rattle.rt_geo.proofs.prepared.half_planes.Given as goal
 
