@@ -20,7 +20,7 @@ further true rest other h = refl
 further false rest other h = h refl
 
 -- what is above a level with more than one above it needs less fuel
-less_fuel : (above size fuel : ℕ) → 2 * above ≤ size + 1 → size ≤ suc fuel → nat_le above 1 ≡ false → above ≤ fuel
+pub less_fuel : (above size fuel : ℕ) → 2 * above ≤ size + 1 → size ≤ suc fuel → nat_le above 1 ≡ false → above ≤ fuel
 less_fuel above size fuel h f e = grind (arith, nat_tests)
 
 -- any fuel that is no less than the size is enough

@@ -5,6 +5,7 @@ mod IdLemmas
 mod LeafLemmas
 mod LevelLemmas
 mod LevelOrder
+mod LevelSizes
 mod LoopLemmas
 mod NodeLemmas
 mod Numbering

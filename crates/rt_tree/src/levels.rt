@@ -1,6 +1,7 @@
 //! The sizes of the levels of a packed tree, computed without the tree.
 
-ghost use Rattle.std.specs.Prelude.{◌≡◌, ◌<◌, ◌≤◌, ◌++◌, ◌∷◌, [], length, slice_get, Some};
+ghost use Rattle.std.specs.Int.{div_ceil};
+ghost use Rattle.std.specs.Prelude.{◌≡◌, ◌<◌, ◌≤◌, ◌+◌, ◌++◌, ◌∷◌, ◌↔◌, ℕ, [], length, slice_get, Some};
 ghost use Rattle.rt_tree.specs.Entries.{most_entries};
 ghost use Rattle.rt_tree.specs.Levels.{level_sizes};
 
@@ -34,6 +35,15 @@ impl Levels {
         requires several { 2 ≤ fanout }
         ensures sizes { result ≡ level_sizes len fanout }
         ensures few { length result ≤ 25 }
+
+        // Level by level: each size is the one below it divided by the fanout, rounded up. Above the entries, where there
+        // are any, the last is 1, and no other.
+        ensures entries { slice_get result 0 ≡ Some len }
+        ensures nodes { (0 < len) ↔ (1 < length result) }
+        ensures above { (level below above : ℕ) → slice_get result level ≡ Some below
+            → slice_get result (level + 1) ≡ Some above → above ≡ div_ceil below fanout }
+        ensures last { (level size : ℕ) → slice_get result (level + 1) ≡ Some size
+            → (size ≡ 1) ↔ (level + 2 ≡ length result) }
     {
         let mut levels = Levels::only(len);
         if len == 0 {

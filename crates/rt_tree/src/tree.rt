@@ -1,6 +1,7 @@
 //! A packed tree of boxes.
 
-ghost use Rattle.std.specs.Prelude.{◌≡◌, ◌==◌, ◌+◌, ◌-◌, ◌<◌, ◌≤◌, ◌↔◌, IfOk, IfSome, IsSome, Some, length, map, slice_get};
+ghost use Rattle.std.specs.Prelude.{◌≡◌, ◌==◌, ◌+◌, ◌-◌, ◌<◌, ◌≤◌, ◌↔◌, IfOk, IfSome, IsSome, Some, length, map, slice_get, ℕ};
+ghost use Rattle.std.specs.Int.{div_ceil};
 ghost use Rattle.std.specs.List.{All};
 ghost use Rattle.std.specs.List.Sorted.{IsPermutation};
 ghost use Rattle.rt_geo.specs.Entries.{HasLayer};
@@ -140,7 +141,15 @@ impl Tree {
     /// How many entries (level 0) or nodes there are on a level, which is at most the top one.
     pub fn level_len(&self, level: u8) -> u32
         requires { level < length (level_sizes (length self.now.entries) self.now.fanout) }
-        ensures { slice_get (level_sizes (length self.now.entries) self.now.fanout) level ≡ Some result }
+        ensures value { slice_get (level_sizes (length self.now.entries) self.now.fanout) level ≡ Some result }
+
+        // Level by level: each size is the one below it divided by the fanout, rounded up. Above the entries the root's
+        // is 1, and no other.
+        ensures entries { level ≡ 0 → result ≡ length self.now.entries }
+        ensures above { (below : ℕ) → 0 < level
+            → slice_get (level_sizes (length self.now.entries) self.now.fanout) (level - 1) ≡ Some below
+            → result ≡ div_ceil below self.now.fanout }
+        ensures root { 0 < level → (result ≡ 1) ↔ (level ≡ (root_of self.now).level) }
     {
         self.levels.size(level)
     }

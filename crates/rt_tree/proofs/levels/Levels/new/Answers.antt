@@ -1,6 +1,8 @@
-use Rattle.std.proofs.Common.{◌≡◌, ◌≤◌, ◌^◌, ◌-◌, ◌+◌, ◌++◌, ◌∷◌, [], length, arith, length-append, subst, sym, ◌∙◌}
+use Rattle.std.proofs.Common.{◌≡◌, ◌≤◌, ◌^◌, ◌-◌, ◌+◌, ◌++◌, ◌∷◌, [], length, arith, length-append, subst, sym, refl, ap, ◌∙◌}
+use Rattle.std.proofs.lemmas.Grind.{common_steps}
 use Rattle.std.specs.Int.{div_ceil}
 use Rattle.rt_tree.proofs.LevelLemmas.{course_more, div_ceil-halves, div_ceil-positive, few_more, room_more}
+use Rattle.rt_tree.proofs.LevelSizes.{level_above, level_last}
 use Rattle.rt_tree.proofs.levels.Levels.new.Goals as goal
 
 pub loop-size-preserved : goal.loop-size-preserved
@@ -21,3 +23,18 @@ loop-size-preserved c =
       room = subst (λ n. above ≤ 2 ^ (25 - n)) (sym longer) room;
       few = omega (arith, longer, few_more (length c.loop-size.levels) above room before.few some more);
     })
+
+pub returns-then-size-eq1-clause-sizes : goal.returns-then-size-eq1-clause-sizes
+returns-then-size-eq1-clause-sizes c = grind (arith, common_steps)
+
+pub returns-then-size-eq1-clause-above : goal.returns-then-size-eq1-clause-above
+returns-then-size-eq1-clause-above c level below above e f =
+    let sizes = returns-then-size-eq1-clause-sizes c in
+    level_above c.args.len c.args.fanout level (level + 1) below above refl (rw (← sizes) e) (rw (← sizes) f)
+
+pub returns-then-size-eq1-clause-last : goal.returns-then-size-eq1-clause-last
+returns-then-size-eq1-clause-last c level size e =
+    let sizes = returns-then-size-eq1-clause-sizes c in
+    let told = level_last c.args.len c.args.fanout (level + 1) size (length c.push.new.self) c.requires.several
+    (omega arith) (rw (← sizes) e) (ap length sizes) in
+    ((λ one. omega (arith, told.0 one)), (λ last. told.1 (omega (arith, last))))
