@@ -13,7 +13,7 @@ returns-in_err-push_line g c =
     let below : c.loop-above.above < length sizes = omega (arith, count) in record {
       pushed = as_failed g.K.Sink.written g.K.Sink.failed _ c.loop-above.sink _ c.from_residual.result _ _ c.from_residual.ensures.1 (
         level_cut c.args.line sizes (levels_reply c.args.line sizes) _ _ _
-            c.loop-above.above c.level_line.result c.loop-above.invariant.pushed c.level_len.result below (rw count at c.level_len.ensures) (rw count at c.level_line.ensures)
+            c.loop-above.above c.level_line.result c.loop-above.invariant.pushed c.level_len.result below (rw count at c.level_len.ensures.value) (rw count at c.level_line.ensures)
             c.in_err-push_line.ensures.pushed.0,
         c.in_err-push_line.ensures.pushed.1 ∙ ap (λ n. n + 1) c.loop-above.invariant.count,
       );
@@ -26,7 +26,7 @@ loop-above-preserved g c =
     let below : c.loop-above.above < length sizes = omega (arith, count) in record {
       count = c.in_ok-push_line.ensures.pushed.1 ∙ c.loop-above.invariant.count;
       pushed = level_pushed c.args.line sizes (levels_reply c.args.line sizes) _ _ _
-          c.loop-above.above c.level_line.result c.loop-above.invariant.pushed c.level_len.result below (rw count at c.level_len.ensures) (rw count at c.level_line.ensures)
+          c.loop-above.above c.level_line.result c.loop-above.invariant.pushed c.level_len.result below (rw count at c.level_len.ensures.value) (rw count at c.level_line.ensures)
           c.in_ok-push_line.ensures.pushed.0;
     }
 
