@@ -89,9 +89,8 @@ last_score found (Some limit) = option_map (λ a. a.1) (slice_get found (limit -
 abbrev pub search_work : (cost : Node → ℕ) → (accepts : Extent → Bool) → (score : Extent → ℕ)
     → (verdict : Info → Verdict) → Packed → (limit : Option ℕ) → ℕ
 search_work cost accepts score verdict t (Some zero) = 0
-search_work cost accepts score verdict t (Some (suc more)) =
-    reached_from_root (is_reached (last_score (answers t.entries accepts score None) (Some (suc more)))) cost verdict t
-search_work cost accepts score verdict t None = reached_from_root (is_reached None) cost verdict t
+search_work cost accepts score verdict t limit =
+    reached_from_root (is_reached (last_score (answers t.entries accepts score None) limit)) cost verdict t
 
 -- how many nodes a search opens for so many answers
 abbrev pub opened_by_search : (accepts : Extent → Bool) → (score : Extent → ℕ) → (verdict : Info → Verdict) → Packed
