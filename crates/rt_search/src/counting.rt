@@ -1,6 +1,6 @@
 //! Counting by whole subtrees.
 
-ghost use Rattle.std.specs.Prelude.{◌≡◌, ◌≤◌, length};
+ghost use Rattle.std.specs.Prelude.{◌≡◌, [], length};
 ghost use Rattle.rt_search.specs.Answers.{accepted};
 ghost use Rattle.rt_search.specs.Work.{asked_by_count, opened_by_count};
 
@@ -71,11 +71,11 @@ pub fn count<G: Geometry>(
     frontier: &mut Frontier,
     counted: &mut Counted<'_, G>,
 ) -> Count
-    requires capacity { length tree.now.entries ≤ frontier.old.capacity }
     requires asked { counted.old.asked ≡ 0 }
     ensures accepted { result.accepted ≡ length (accepted tree.now.entries (G.accepts counted.old.geometry)) }
     ensures opened { result.opened ≡ opened_by_count (G.verdict counted.old.geometry) tree.now }
     ensures asked { counted.new.asked ≡ asked_by_count (G.verdict counted.old.geometry) tree.now }
+    ensures items { frontier.new.items ≡ [] }
     ensures capacity { frontier.new.capacity ≡ frontier.old.capacity }
     ensures geometry { counted.new.geometry ≡ counted.old.geometry }
 {

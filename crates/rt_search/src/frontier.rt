@@ -91,7 +91,6 @@ impl Frontier {
         ensures items { self.new.items ≡ [] }
         ensures wanted { IfSome self.new.wanted (λ n. limit ≡ Some n) }
         ensures capacity { self.new.capacity ≡ self.old.capacity }
-        ensures low { self.new.capacity < 2 ^ 32 }
     {
         self.rooms.queue.clear(limit);
     }

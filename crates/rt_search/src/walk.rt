@@ -130,13 +130,14 @@ pub(crate) fn visit_entries<C: Collector, G: Geometry>(
     }
 }
 
-/// Walks over a tree from its root, and returns how many nodes were opened. All that is accepted is taken.
+/// Walks over a tree from its root, and returns how many nodes were opened. All that is accepted is taken. A visitor
+/// needs room for as many entries as there are, and may rest on what holds of each tree.
 pub(crate) fn walk<V: Visitor, G: Geometry>(
     tree: &Tree,
     visitor: &mut V,
     counted: &mut Counted<'_, G>,
 ) -> u64
-    requires room { length tree.now.entries ≤ V.room visitor.old }
+    requires room { IsSound tree.now → length tree.now.entries ≤ V.room visitor.old }
     requires asked { counted.old.asked ≡ 0 }
     ensures sound { IsSound tree.now }
     ensures taken { let g = counted.old.geometry in
