@@ -86,10 +86,12 @@ impl Frontier {
         self.len() == 0
     }
 
-    // For a search up to a limit, if there is one. Where it is known how many entries are wanted, it is the limit.
+    // For a search up to a limit, if there is one. Where it is known how many entries are wanted, it is the limit, and
+    // with a limit of at most 128 it is known.
     pub(crate) fn clear(&mut self, limit: Option<u64>)
         ensures items { self.new.items ≡ [] }
         ensures wanted { IfSome self.new.wanted (λ n. limit ≡ Some n) }
+        ensures known { IfSome limit (λ n. n ≤ 128 → self.new.wanted ≡ Some n) }
         ensures capacity { self.new.capacity ≡ self.old.capacity }
     {
         self.rooms.queue.clear(limit);

@@ -78,6 +78,7 @@ impl Queue {
     pub fn clear(&mut self, limit: Option<u64>)
         ensures items { self.new.items ≡ [] }
         ensures wanted { IfSome self.new.wanted (λ n. limit ≡ Some n) }
+        ensures known { IfSome limit (λ n. n ≤ 128 → self.new.wanted ≡ Some n) }
         ensures capacity { self.new.capacity ≡ self.old.capacity }
     {
         self.nodes.clear();
