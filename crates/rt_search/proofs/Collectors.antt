@@ -1,10 +1,11 @@
 -- What a collector becomes with answers.
 use Rattle.std.proofs.Common.{◌≡◌, ◌+◌, ◌∷◌, ◌∙◌, [], ℕ, List, length, map, sym, ap, subst, arith}
+use Rattle.std.proofs.lemmas.List.{length-map}
 use Rattle.rt_tree.specs.Sorting.{put}
 use Rattle.rt_search.specs.{Answers.{Answer}, Items.{SearchRoom, Waiting, item_cmp, item_of, limited}}
 use Rattle.rt_search.specs.{Joining.{KeepsHit, join_answers}, Limits.{IsEnough, IsPut, KeepsEnough}, Walking.{HasTaken}}
 use Rattle.rt_search.specs.declared.{counting.Tally.{Tally}, item.Item.{Item}}
-use Rattle.rt_search.proofs.{Limits.{enough_itself, enough_put_all, enough_trans}, OrderedLists.{put_all-put}}
+use Rattle.rt_search.proofs.{Limits.{enough_itself, enough_put_all, enough_trans}, OrderedLists.{length-put_all, put_all-put}}
 use Rattle.rt_search.proofs.Orders.{item_order}
 
 -- ---- a tally: so many more
@@ -33,6 +34,10 @@ pub hits_join : (old new : Waiting) (xs : List Answer) → HasTaken KeepsHit old
     → (new.items ≡ join_answers xs old.items) × (new.capacity ≡ old.capacity)
 hits_join old new [] h = (ap (λ w. w.items) h, ap (λ w. w.capacity) h)
 hits_join old new (a ∷ xs) h = grind (arith, join_next, hits_join h.0 new xs h.1.1)
+
+pub length-joined : (xs : List Answer) (items : List Item) → length (join_answers xs items) ≡ length xs + length items
+length-joined xs items = omega
+    (arith, length-put_all item_cmp item_order (map item_of xs) items, length-map xs item_of)
 
 pub entries_join : (old new : SearchRoom) (xs : List Answer)
     → HasTaken (λ old a new. IsPut (item_of a) (limited old) (limited new)) old xs new

@@ -119,8 +119,8 @@ module _ {accepts : Extent → Bool} {score : Extent → ℕ} {verdict : Info �
     {given opened asked capacity : ℕ} {wanted : Option ℕ} {items : List Item}
     (going : IsGiving accepts score verdict t limit given opened asked capacity wanted items) where
   -- the number stays small
-  pub given_low : {opened' asked' capacity' : ℕ} {wanted' : Option ℕ} {a : Answer} {new : List Item}
-      → IsFound accepts score verdict t opened' asked' capacity' wanted'
+  pub given_low : {opened' asked' : ℕ} {wanted' : Option ℕ} {a : Answer} {new : List Item}
+      → IsFound accepts score verdict t opened' asked' wanted'
       (drop given (answers t.entries accepts score None)) a new → given + 1 ≤ 16777216
   given_low found =
       let sound = going.state.state.tree in
@@ -132,11 +132,11 @@ module _ {accepts : Extent → Bool} {score : Extent → ℕ} {verdict : Info �
         length-scored accepts score t.entries,
       )
 
-  module _ (more : limit ≢ Some given) {opened' asked' capacity' : ℕ} {wanted' : Option ℕ} {new : List Item} where
+  module _ (more : limit ≢ Some given) {opened' asked' : ℕ} {wanted' : Option ℕ} {new : List Item} where
     pub give : {a : Answer} → wanted' ≡ one_less wanted
-        → IsFound accepts score verdict t opened' asked' capacity' wanted'
+        → IsFound accepts score verdict t opened' asked' wanted'
         (drop given (answers t.entries accepts score None)) a new
-        → IsGiven accepts score verdict t limit given (given + 1) opened' asked' capacity' wanted' a new
+        → IsGiven accepts score verdict t limit given (given + 1) opened' asked' capacity wanted' a new
     give {a} less found =
         let all = answers t.entries accepts score None in
         let there : drop given all ≡ a ∷ found.rest = found.first in
@@ -144,10 +144,11 @@ module _ {accepts : Extent → Bool} {score : Extent → ℕ} {verdict : Info �
           in_nodes = found.reached.nodes ∙ work_after accepts score verdict t one_node given a found.rest there;
           in_checks = found.reached.checks ∙ work_after accepts score verdict t its_children given a found.rest there;
         } in
-        subst (λ m. IsGiven accepts score verdict t limit given m opened' asked' capacity' wanted' a new)
+        subst (λ m. IsGiven accepts score verdict t limit given m opened' asked' capacity wanted' a new)
         (sym (add-one given)) (record {
           going = record {
             state = grind (arith, drop_step);
+            room = going.room;
             in_limit = next_in_limit limit given going.in_limit more;
             still = subst (λ w. IfSome w (λ n. limit ≡ Some (suc given + n))) (sym less)
                 (next_still wanted limit given more going.still);
@@ -157,14 +158,15 @@ module _ {accepts : Extent → Bool} {score : Extent → ℕ} {verdict : Info �
           worked = worked;
         })
 
-    pub end : wanted' ≡ wanted → IsOver accepts score verdict t opened' asked' capacity' wanted'
+    pub end : wanted' ≡ wanted → IsOver accepts score verdict t opened' asked' wanted'
         (drop given (answers t.entries accepts score None)) new
-        → HasEnded accepts score verdict t limit given opened' asked' capacity' wanted' new
+        → HasEnded accepts score verdict t limit given opened' asked' capacity wanted' new
     end same over =
         let worked : HasWorked accepts score verdict t limit opened' asked' = grind (arith, work_in_all) in
         record {
           going = record {
             state = over.state;
+            room = going.room;
             in_limit = going.in_limit;
             still = subst (λ w. IfSome w (λ n. limit ≡ Some (given + n))) (sym same) going.still;
             stopped = λ e. worked;

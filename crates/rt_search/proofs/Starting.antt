@@ -58,7 +58,7 @@ module _ (accepts : Extent → Bool) (score : Extent → ℕ) (verdict : Info �
       state = record {
         all = root_items t;
         state =
-            cond_both (length t.nodes == 0) [] (root_item t ∷ []) (IsSearching accepts score verdict t 0 0 capacity)
+            cond_both (length t.nodes == 0) [] (root_item t ∷ []) (IsSearching accepts score verdict t 0 0)
             (λ h. grind arith) (λ h. let some = nat_eq_false h in record {
               tree = sound;
               sound = grind arith;
@@ -73,6 +73,7 @@ module _ (accepts : Extent → Bool) (score : Extent → ℕ) (verdict : Info �
             (λ h. let some = nat_eq_false h in grind (arith, put_all-nil, answer_order, among-IsPermutation));
         enough = enough;
       };
+      room = room;
       in_limit = none_given limit;
       still = from_first wanted limit first;
       stopped = λ e. subst (λ l. HasWorked accepts score verdict t l 0 0) (sym e)

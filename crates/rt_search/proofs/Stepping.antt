@@ -113,16 +113,16 @@ module _ {accepts : Extent → Bool} {score : Extent → ℕ} {verdict : Info �
             (at_above accepts score t s (place.Node n) sound.0) (above_least x xs least sound.1)));
       }
 
-  node_step : {opened asked capacity s : ℕ} {n : WaitingNode} {xs : List Item} (new : List Item)
-      → IsTaken accepts score verdict t opened asked capacity (item_at s (place.Node n)) xs
+  node_step : {opened asked s : ℕ} {n : WaitingNode} {xs : List Item} (new : List Item)
+      → IsTaken accepts score verdict t opened asked (item_at s (place.Node n)) xs
       → remaining t accepts score new ≡ remaining t accepts score (item_at s (place.Node n) ∷ xs)
       → AllSound t accepts score new → held t new ≤ held t xs + (node_at t n.number.number).size
       → ((cost : Node → ℕ) (bound : Option ℕ)
       → work_left (is_reached bound) cost verdict t new + cost (node_at t n.number.number)
       ≡ work_left (is_reached bound) cost verdict t xs + reached (is_reached bound) cost verdict t
       (height_at t n.number.number) (verdict_on s n) (node_at t n.number.number))
-      → IsNodeStep accepts score verdict t opened asked capacity s n xs new
-  node_step {opened} {asked} {capacity} {s} {n} {xs} new k same sound size moves = record {
+      → IsNodeStep accepts score verdict t opened asked s n xs new
+  node_step {opened} {asked} {s} {n} {xs} new k same sound size moves = record {
     state = record {
       tree = k.state.tree;
       sound = sound;
@@ -134,10 +134,10 @@ module _ {accepts : Extent → Bool} {score : Extent → ℕ} {verdict : Info �
     same = same;
   }
 
-  pub leaf_step : {opened asked capacity s : ℕ} {n : WaitingNode} {xs : List Item} → s < 2 ^ 128
+  pub leaf_step : {opened asked s : ℕ} {n : WaitingNode} {xs : List Item} → s < 2 ^ 128
       → (node_at t n.number.number).level ≡ 1
-      → IsTaken accepts score verdict t opened asked capacity (item_at s (place.Node n)) xs
-      → IsNodeStep accepts score verdict t opened asked capacity s n xs
+      → IsTaken accepts score verdict t opened asked (item_at s (place.Node n)) xs
+      → IsNodeStep accepts score verdict t opened asked s n xs
       (join_answers (answers_among t accepts score (node_at t n.number.number) (node_at t n.number.number).count) xs)
   leaf_step {s = s} {n = n} {xs = xs} small low k =
       let number = n.number.number in
@@ -162,10 +162,10 @@ module _ {accepts : Extent → Bool} {score : Extent → ℕ} {verdict : Info �
       ap (λ h. reached (is_reached bound) cost verdict t h v node) flat in
       omega arith)
 
-  pub inner_step : {opened asked capacity s : ℕ} {n : WaitingNode} {xs : List Item} → s < 2 ^ 128
+  pub inner_step : {opened asked s : ℕ} {n : WaitingNode} {xs : List Item} → s < 2 ^ 128
       → 2 ≤ (node_at t n.number.number).level
-      → IsTaken accepts score verdict t opened asked capacity (item_at s (place.Node n)) xs
-      → IsNodeStep accepts score verdict t opened asked capacity s n xs
+      → IsTaken accepts score verdict t opened asked (item_at s (place.Node n)) xs
+      → IsNodeStep accepts score verdict t opened asked s n xs
       (join_nodes verdict t (verdict_on s n) (node_at t n.number.number) (node_at t n.number.number).count xs)
   inner_step {s = s} {n = n} {xs = xs} small high k =
       let number = n.number.number in

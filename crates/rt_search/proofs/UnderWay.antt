@@ -21,6 +21,13 @@ use Rattle.rt_search.specs.declared.item.Place.TheVariants as place
 pub still_more : (w w' : Option ℕ) → w' ≡ w → w ≢ Some 0 → w' ≢ Some 0
 still_more w w' same more = λ e. more (sym same ∙ e)
 
+-- no more waits than there are entries
+pub few_wait : (accepts : Extent → Bool) (score : Extent → ℕ) (verdict : Info → Verdict) (t : Packed)
+    {opened asked : ℕ} {wanted : Option ℕ} {to_come : List Answer} {items : List Item}
+    → IsUnderWay accepts score verdict t opened asked wanted to_come items → length items ≤ length t.entries
+few_wait accepts score verdict t u =
+    omega (arith, u.enough.few, length_le_held accepts score t u.all u.state.sound, u.state.room)
+
 -- ---- what was taken out of a frontier
 
 module _ (accepts : Extent → Bool) (score : Extent → ℕ) (verdict : Info → Verdict) (t : Packed) (wanted : Option ℕ)
@@ -62,24 +69,24 @@ module _ {accepts : Extent → Bool} {score : Extent → ℕ} {verdict : Info �
       rw other (subst (λ u. IsEnough wanted new (join_nodes verdict t u l l.count xs)) same h)
 
   -- what opening it requires, and what it leads to
-  pub record CanGoOn (opened asked capacity : ℕ) (wanted : Option ℕ) (to_come : List Answer) (s : ℕ) (n : WaitingNode)
+  pub record CanGoOn (opened asked : ℕ) (wanted : Option ℕ) (to_come : List Answer) (s : ℕ) (n : WaitingNode)
       (xs : List Item) : Type 0 where
     pub tree : IsSound t
     pub node : IsOpenable t accepts score n.number.number (verdict_on s n)
-    pub room : length xs + (node_at t n.number.number).count ≤ capacity
+    pub room : length xs + (node_at t n.number.number).count ≤ length t.entries
     pub opened_low : opened + 1 ≤ 2 ^ 32
     pub asked_low : asked + (node_at t n.number.number).count ≤ 2 ^ 32
     pub opened_upto : opened + 1 ≤ reached_from_root (is_reached None) one_node verdict t
     pub next : (new : List Item) → IsEnough wanted new (join_children accepts score verdict t s n xs)
-        → IsUnderWay accepts score verdict t (opened + 1) (asked + (node_at t n.number.number).count) capacity wanted
+        → IsUnderWay accepts score verdict t (opened + 1) (asked + (node_at t n.number.number).count) wanted
         to_come new
 
-  pub go_on : {opened asked capacity : ℕ} {wanted limit : Option ℕ} {to_come : List Answer} {items xs : List Item}
+  pub go_on : {opened asked : ℕ} {wanted limit : Option ℕ} {to_come : List Answer} {items xs : List Item}
       (out : Option ScoredNode × Option Answer) (m : ScoredNode) → m.score < 2 ^ 128 → wanted ≡ limit → limit ≢ Some 0
       → out.0 ≡ Some m → IsTakenOut (taken_item out) items xs
-      → IsUnderWay accepts score verdict t opened asked capacity wanted to_come items
-      → CanGoOn opened asked capacity wanted to_come m.score m.node xs
-  go_on {opened} {asked} {capacity} {wanted} {limit} {to_come} {items} {xs} out m small is_limit some told took u =
+      → IsUnderWay accepts score verdict t opened asked wanted to_come items
+      → CanGoOn opened asked wanted to_come m.score m.node xs
+  go_on {opened} {asked} {wanted} {limit} {to_come} {items} {xs} out m small is_limit some told took u =
       let more = still_more limit wanted is_limit some in
       let s = m.score in
       let n = m.node in
@@ -88,18 +95,18 @@ module _ {accepts : Extent → Bool} {score : Extent → ℕ} {verdict : Info �
       let k = first_kept wanted x xs u.all more (subst (λ l. IsEnough wanted l u.all) is u.enough) in
       let ys = k.0 in
       let up = subst IsRising k.1.0 u.rising in
-      let taken : IsTaken accepts score verdict t opened asked capacity x ys = record {
+      let taken : IsTaken accepts score verdict t opened asked x ys = record {
         least = up.0;
-        state = subst (IsSearching accepts score verdict t opened asked capacity) k.1.0 u.state;
+        state = subst (IsSearching accepts score verdict t opened asked) k.1.0 u.state;
       } in
       let k' = node_at t n.number.number in
       let v = verdict_on s n in
       let found = answers_among t accepts score k' k'.count in
       let level = subtree_level t (height_at t n.number.number) k' taken.state.sound.0.tree in
       let next = join_children accepts score verdict t s n ys in
-      let step : IsNodeStep accepts score verdict t opened asked capacity s n ys next =
+      let step : IsNodeStep accepts score verdict t opened asked s n ys next =
       cond_both (k'.level == 1) (join_answers found ys) (join_nodes verdict t v k' k'.count ys)
-      (IsNodeStep accepts score verdict t opened asked capacity s n ys)
+      (IsNodeStep accepts score verdict t opened asked s n ys)
       (λ e. leaf_step law t small (eqb-true k'.level 1 e) taken)
       (λ e. let other = eqb-false k'.level 1 e in inner_step law t small (omega arith) taken) in
       let h = held_cons accepts score t x ys in
@@ -130,28 +137,28 @@ module _ {accepts : Extent → Bool} {score : Extent → ℕ} {verdict : Info �
       }
 
   -- an entry was taken out, or nothing
-  pub ended : (out : Option Answer) (new : List Item) {opened asked capacity : ℕ} {wanted wanted' : Option ℕ}
+  pub ended : (out : Option Answer) (new : List Item) {opened asked : ℕ} {wanted wanted' : Option ℕ}
       {to_come : List Answer} {items : List Item} → wanted ≢ Some 0 → IsTakenOut (taken_entry out) items new
       → wanted' ≡ wanted_after (taken_entry out) wanted
-      → IsUnderWay accepts score verdict t opened asked capacity wanted to_come items
-      → MatchOption out (IsOver accepts score verdict t opened asked capacity wanted' to_come new)
-      (λ a. IsFound accepts score verdict t opened asked capacity wanted' to_come a new)
+      → IsUnderWay accepts score verdict t opened asked wanted to_come items
+      → MatchOption out (IsOver accepts score verdict t opened asked wanted' to_come new)
+      (λ a. IsFound accepts score verdict t opened asked wanted' to_come a new)
   ended None new more took same u = grind (arith, none_left)
-  ended (Some a) xs {opened} {asked} {capacity} {wanted} {to_come = to_come} more took same u =
+  ended (Some a) xs {opened} {asked} {wanted} {to_come = to_come} more took same u =
       let x = item_at a.1 (place.Entry a.0) in
       let k = first_kept wanted x xs u.all more (subst (λ l. IsEnough wanted l u.all) took.0 u.enough) in
       let ys = k.0 in
       let up = subst IsRising k.1.0 u.rising in
-      let taken : IsTaken accepts score verdict t opened asked capacity x ys = record {
+      let taken : IsTaken accepts score verdict t opened asked x ys = record {
         least = up.0;
-        state = subst (IsSearching accepts score verdict t opened asked capacity) k.1.0 u.state;
+        state = subst (IsSearching accepts score verdict t opened asked) k.1.0 u.state;
       } in
       let sound = taken.state.sound.1 in
       let o = entry_course law t one_node a.0 a.1 opened ys taken.least sound taken.state.opening in
       let b = entry_course law t its_children a.0 a.1 asked ys taken.least sound taken.state.asking in
       let h = held_cons accepts score t x ys in
       let r = taken.state.room in
-      subst (λ w. IsFound accepts score verdict t opened asked capacity w to_come a xs) (sym same) (record {
+      subst (λ w. IsFound accepts score verdict t opened asked w to_come a xs) (sym same) (record {
         rest = remaining t accepts score ys;
         first = sym u.follows ∙ ap (remaining t accepts score) k.1.0
             ∙ take_entry accepts score t a.0 a.1 ys taken.least sound;

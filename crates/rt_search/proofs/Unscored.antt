@@ -1,18 +1,18 @@
 -- A search whose nodes all score 0: those that may hold answers were opened before the first answer.
 use Rattle.std.proofs.Common.{◌≡◌, ◌≢◌, ◌≤◌, ◌+◌, ◌&&◌, ℕ, zero, suc, Bool, cond, List, [], ◌∷◌, length, map}
-use Rattle.std.proofs.{Common.{Option, Some, None, refl, ◌∙◌, ap, arith}, lemmas.List.{length-map, Sums.{sum_by-cons}}}
+use Rattle.std.proofs.{Common.{Option, Some, None, refl, ◌∙◌, ap, arith}, lemmas.List.{Sums.{sum_by-cons}}}
 use Rattle.std.specs.{Prelude.{IfSome}, List.{AllByRecursion, sum_by}}
 use Rattle.rt_geo.specs.{Laws.{Extent, IsLawful}, declared.geometry.{Info.{Info}, Verdict.{Verdict}}}
 use Rattle.rt_tree.specs.{Packed.{Packed, IsSound, IsSubtree, child_nodes}, declared.tree.Node.{Node}}
-use Rattle.rt_search.specs.{Answers.{accepted, answer_of}, Progress.{AddsUp, IsGiving, IsOnCourse, work_left}}
+use Rattle.rt_search.specs.{Progress.{AddsUp, IsGiving, IsOnCourse, work_left}}
 use Rattle.rt_search.specs.{Items.{item_of}, Limits.{IsEnough}, Remaining.{remaining}}
 use Rattle.rt_search.specs.{Joining.{join_answers}, Walking.{answers_in_tree}, declared.item.Item.{Item}}
 use Rattle.rt_search.specs.Work.{IsUnscored, info_of_node, is_kept, is_reached, is_within_bound}
 use Rattle.rt_search.specs.Work.{its_children, one_node, reached, reached_from_root, root_verdict, search_work}
-use Rattle.rt_search.proofs.{Children.{subtree_level}, Elements.{all_each}, Giving.{length-scored}}
+use Rattle.rt_search.proofs.{Children.{subtree_level}, Elements.{all_each}}
 use Rattle.rt_search.proofs.{Joined.{answers_joined, answers_sound}, Limits.{rising_put_all}}
 use Rattle.rt_search.proofs.Starting.{from_first, nat_eq_false, none_given, within_zero}
-use Rattle.rt_search.proofs.{WalkWhole.{tree_answers, tree_count}, Working.{held-join_answers, work-join_answers}}
+use Rattle.rt_search.proofs.{WalkWhole.{tree_answers, tree_few}, Working.{held-join_answers, work-join_answers}}
 
 -- ---- any bound opens what none does
 
@@ -93,9 +93,7 @@ module _ {accepts : Extent → Bool} {score : Extent → ℕ} {verdict : Info �
         room = omega (
           arith,
           held-join_answers verdict t root_verdict (answers_in_tree t accepts score) [],
-          tree_count accepts score verdict t sound,
-          length-map (accepted t.entries accepts) (answer_of score),
-          length-scored accepts score t.entries,
+          tree_few accepts score verdict t sound,
         );
         opening = course one_node opened nodes;
         asking = course its_children asked checks;
@@ -104,6 +102,7 @@ module _ {accepts : Extent → Bool} {score : Extent → ℕ} {verdict : Info �
       follows = grind (arith, answers_joined, tree_answers);
       enough = enough;
     };
+    room = room;
     in_limit = none_given limit;
     still = from_first wanted limit first;
     stopped = λ e. absurd (some e);

@@ -7,7 +7,8 @@ use Rattle.rt_tree.specs.{Packed.{Packed, IsSound, entries_under, height, node_a
 use Rattle.rt_search.specs.{Answers.{accepted, answer_cmp, answer_of, answers, scored}, Remaining.{IsOpenable, put_all}}
 use Rattle.rt_search.specs.Walking.{answers_in_tree, answers_under, work_under}
 use Rattle.rt_search.specs.Work.{its_children, one_node, reached_from_root, root_verdict}
-use Rattle.rt_search.proofs.{Answering.{among-IsPermutation}, OrderedLists.{length-put_all, put_all-nil}}
+use Rattle.rt_search.proofs.{Answering.{among-IsPermutation}, Giving.{length-scored}}
+use Rattle.rt_search.proofs.{OrderedLists.{length-put_all, put_all-nil}}
 use Rattle.rt_search.proofs.{Orders.{answer_order}, Sizes.{count_is_fair, one_is_fair, size_under, work_le}}
 use Rattle.rt_search.proofs.Starting.{empty_answers, nat_eq_false, some_nodes}
 
@@ -32,6 +33,11 @@ module _ (accepts : Extent → Bool) (score : Extent → ℕ) (verdict : Info �
         let here = length-put_all answer_cmp answer_order (answers_in_tree t accepts score) [] in
         let there = length-put_all answer_cmp answer_order (scored t.entries accepts score) [] in
         omega (arith, length-map (accepted t.entries accepts) (answer_of score))
+
+    -- of which there are no more than entries
+    pub tree_few : length (answers_in_tree t accepts score) ≤ length t.entries
+    tree_few =
+        omega (arith, tree_count, length-map (accepted t.entries accepts) (answer_of score), length-scored accepts score t.entries)
 
     -- ---- from the root
 

@@ -1,5 +1,5 @@
 -- What holds of a search between two answers. Nothing that a public call promises speaks of this.
-use Rattle.std.specs.Prelude.{◌≡◌, ◌+◌, ◌≤◌, ◌==◌, ℕ, Bool, false, if◌then◌else◌, Option, Some, None, List, [], ◌∷◌, drop}
+use Rattle.std.specs.Prelude.{◌≡◌, ◌+◌, ◌≤◌, ◌==◌, ℕ, Bool, false, if◌then◌else◌, Option, Some, None, List, [], ◌∷◌, drop, length}
 use Rattle.std.specs.Prelude.{IfSome}
 use Rattle.std.specs.List.{AllByRecursion, sum_by}
 use Rattle.std.specs.Ordering.{is_gt}
@@ -61,10 +61,10 @@ pub record IsOnCourse (accepts : Extent → Bool) (score : Extent → ℕ) (verd
 
 -- what holds between two answers
 pub record IsSearching (accepts : Extent → Bool) (score : Extent → ℕ) (verdict : Info → Verdict) (t : Packed)
-    (opened asked capacity : ℕ) (items : List Item) : Type 0 where
+    (opened asked : ℕ) (items : List Item) : Type 0 where
   pub tree : IsSound t
   pub sound : AllSound t accepts score items
-  pub room : held t items ≤ capacity
+  pub room : held t items ≤ length t.entries
   pub opening : IsOnCourse accepts score verdict one_node t opened items
   pub asking : IsOnCourse accepts score verdict its_children t asked items
 
@@ -79,22 +79,22 @@ join_children accepts score verdict t s n items =
 
 -- what holds after a node was opened
 pub record IsNodeStep (accepts : Extent → Bool) (score : Extent → ℕ) (verdict : Info → Verdict) (t : Packed)
-    (opened asked capacity : ℕ) (s : ℕ) (n : WaitingNode) (items new : List Item) : Type 0 where
-  pub state : IsSearching accepts score verdict t (opened + 1) (asked + (node_at t n.number.number).count) capacity new
+    (opened asked s : ℕ) (n : WaitingNode) (items new : List Item) : Type 0 where
+  pub state : IsSearching accepts score verdict t (opened + 1) (asked + (node_at t n.number.number).count) new
   pub same : remaining t accepts score new ≡ remaining t accepts score (item_at s (place.Node n) ∷ items)
 
 -- an item that was taken out stood before the others
 pub record IsTaken (accepts : Extent → Bool) (score : Extent → ℕ) (verdict : Info → Verdict) (t : Packed)
-    (opened asked capacity : ℕ) (x : Item) (items : List Item) : Type 0 where
+    (opened asked : ℕ) (x : Item) (items : List Item) : Type 0 where
   pub least : AllByRecursion (λ y. is_gt (item_cmp x y) ≡ false) items
-  pub state : IsSearching accepts score verdict t opened asked capacity (x ∷ items)
+  pub state : IsSearching accepts score verdict t opened asked (x ∷ items)
 
 -- a search that needn't keep more than its limit makes necessary: what waits is enough of what would wait without a
 -- limit, and that stands for the answers to come
 pub record IsUnderWay (accepts : Extent → Bool) (score : Extent → ℕ) (verdict : Info → Verdict) (t : Packed)
-    (opened asked capacity : ℕ) (wanted : Option ℕ) (to_come : List Answer) (items : List Item) : Type 0 where
+    (opened asked : ℕ) (wanted : Option ℕ) (to_come : List Answer) (items : List Item) : Type 0 where
   pub all : List Item
-  pub state : IsSearching accepts score verdict t opened asked capacity all
+  pub state : IsSearching accepts score verdict t opened asked all
   pub rising : IsRising all
   pub follows : remaining t accepts score all ≡ to_come
   pub enough : IsEnough wanted items all
@@ -106,18 +106,18 @@ pub record HasReached (verdict : Info → Verdict) (t : Packed) (bound : Option 
 
 -- an answer was found, the first of those to come
 pub record IsFound (accepts : Extent → Bool) (score : Extent → ℕ) (verdict : Info → Verdict) (t : Packed)
-    (opened asked capacity : ℕ) (wanted : Option ℕ) (to_come : List Answer) (a : Answer) (items : List Item) : Type 0
+    (opened asked : ℕ) (wanted : Option ℕ) (to_come : List Answer) (a : Answer) (items : List Item) : Type 0
   where
     pub rest : List Answer
     pub first : to_come ≡ a ∷ rest
-    pub state : IsUnderWay accepts score verdict t opened asked capacity wanted rest items
+    pub state : IsUnderWay accepts score verdict t opened asked wanted rest items
     pub reached : HasReached verdict t (Some a.1) opened asked
 
 -- none is to come
 pub record IsOver (accepts : Extent → Bool) (score : Extent → ℕ) (verdict : Info → Verdict) (t : Packed)
-    (opened asked capacity : ℕ) (wanted : Option ℕ) (to_come : List Answer) (items : List Item) : Type 0 where
+    (opened asked : ℕ) (wanted : Option ℕ) (to_come : List Answer) (items : List Item) : Type 0 where
   pub none : to_come ≡ []
-  pub state : IsUnderWay accepts score verdict t opened asked capacity wanted to_come items
+  pub state : IsUnderWay accepts score verdict t opened asked wanted to_come items
   pub reached : HasReached verdict t None opened asked
 
 -- no more answers were given than are wanted
@@ -128,8 +128,9 @@ IsInLimit (Some limit) given = given ≤ limit
 -- what holds of a search
 pub record IsGiving (accepts : Extent → Bool) (score : Extent → ℕ) (verdict : Info → Verdict) (t : Packed)
     (limit : Option ℕ) (given opened asked capacity : ℕ) (wanted : Option ℕ) (items : List Item) : Type 0 where
-  pub state : IsUnderWay accepts score verdict t opened asked capacity wanted
+  pub state : IsUnderWay accepts score verdict t opened asked wanted
       (drop given (answers t.entries accepts score None)) items
+  pub room : length t.entries ≤ capacity
   pub in_limit : IsInLimit limit given
   pub still : IfSome wanted (λ n. limit ≡ Some (given + n))
   pub stopped : limit ≡ Some given → HasWorked accepts score verdict t limit opened asked

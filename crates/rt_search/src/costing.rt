@@ -21,6 +21,7 @@ pub fn cost<G: Geometry>(
     ensures opened { let g = counted.entry.geometry in
         result.0 ≡ opened_by_search (G.accepts g) (G.score g) (G.verdict g) tree.now limit }
     ensures capacity { result.1.capacity ≡ frontier.capacity }
+    ensures items { length result.1.items ≤ length tree.now.entries }
 {
     let mut search = Search::start(tree, frontier, counted, limit);
     while search.next().is_some() {}

@@ -64,11 +64,12 @@ impl Frontier {
         Ok(Frontier { rooms })
     }
 
-    /// How many items it has room for.
+    /// How many items it has room for, and how many hits.
     pub fn capacity(&self) -> u32
-        ensures { result ≡ self.now.capacity }
+        ensures value { result ≡ self.now.capacity }
+        ensures hits { length self.now.hits ≤ self.now.capacity }
     {
-        self.rooms.queue.capacity()
+        self.rooms.hits.capacity()
     }
 
     /// How many items wait in it.
@@ -105,6 +106,8 @@ impl Frontier {
             ≡ answers tree.now.entries (G.accepts g) (G.score g) None }
         ensures worked { let g = counted.old.geometry in
             HasWorked (G.accepts g) (G.score g) (G.verdict g) tree.now None result counted.new.asked }
+        ensures none_waits { self.new.items ≡ [] }
+        ensures few { length self.new.hits ≤ length tree.now.entries }
         ensures capacity { self.new.capacity ≡ self.old.capacity }
         ensures geometry { counted.new.geometry ≡ counted.old.geometry }
     {
@@ -135,6 +138,7 @@ impl Frontier {
     pub(crate) fn take_hit(&mut self) -> Option<(i64, u128)>
         ensures taken { IsTakenOut (taken_entry result) self.old.hits self.new.hits }
         ensures entries { AllEntries self.old.hits }
+        ensures waiting { self.new.items ≡ self.old.items }
         ensures capacity { self.new.capacity ≡ self.old.capacity }
     {
         self.rooms.hits.take()

@@ -22,6 +22,7 @@ pub struct FullSearch<'a, G: Geometry> {
 }
 
 impl<'a, G: Geometry> Model for FullSearch<'a, G> {
+    ghost use Rattle.std.specs.Prelude.{◌≡◌, ◌≤◌, [], length};
     ghost use Rattle.rt_search.specs.Remaining.{remaining};
     ghost use Rattle.rt_search.specs.Searching.{FullSearching};
 
@@ -34,6 +35,11 @@ impl<'a, G: Geometry> Model for FullSearch<'a, G> {
       opened = s.opened;
       asked = s.counted.asked;
       capacity = s.frontier.capacity;
+    } };
+
+    ghost invariant = { λ s. record {
+      none_waits : s.frontier.items ≡ [];
+      few : length s.frontier.hits ≤ length s.tree.now.entries;
     } };
 }
 
@@ -84,9 +90,12 @@ impl<'a, G: Geometry> FullSearch<'a, G> {
         self.frontier.take_hit()
     }
 
-    /// The frontier, for the next search, and the geometry with the number of its checks.
+    /// The frontier, for the next search, and the geometry with the number of its checks. Nothing waits in the frontier,
+    /// and it holds no more hits than the tree has entries.
     pub fn finish(self) -> (Frontier, Counted<'a, G>)
         ensures capacity { result.0.capacity ≡ self.entry.capacity }
+        ensures items { result.0.items ≡ [] }
+        ensures hits { length result.0.hits ≤ length self.entry.tree.entries }
         ensures geometry { result.1.geometry ≡ self.entry.geometry }
         ensures asked { result.1.asked ≡ self.entry.asked }
     {

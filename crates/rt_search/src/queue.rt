@@ -61,12 +61,6 @@ impl Queue {
         })
     }
 
-    pub fn capacity(&self) -> u32
-        ensures { result ≡ self.now.capacity }
-    {
-        self.capacity
-    }
-
     pub fn len(&self) -> u32
         ensures value { result ≡ length self.now.items }
         ensures room { length self.now.items ≤ self.now.capacity }

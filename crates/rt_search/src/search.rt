@@ -22,16 +22,17 @@ fn pull<G: Geometry>(
     opened: &mut u64,
 ) -> Option<(i64, u128)>
     requires more { frontier.old.wanted ≢ Some 0 }
+    requires capacity { length tree.now.entries ≤ frontier.old.capacity }
     requires state { let g = counted.old.geometry in (to_come : List Answer) ×
-        IsUnderWay (G.accepts g) (G.score g) (G.verdict g) tree.now opened.old counted.old.asked
-        frontier.old.capacity frontier.old.wanted to_come frontier.old.items }
+        IsUnderWay (G.accepts g) (G.score g) (G.verdict g) tree.now opened.old counted.old.asked frontier.old.wanted
+        to_come frontier.old.items }
     ensures step { let g = counted.old.geometry in (to_come : List Answer) →
-        IsUnderWay (G.accepts g) (G.score g) (G.verdict g) tree.now opened.old counted.old.asked
-        frontier.old.capacity frontier.old.wanted to_come frontier.old.items → MatchOption result
-        (IsOver (G.accepts g) (G.score g) (G.verdict g) tree.now opened.new counted.new.asked frontier.new.capacity
-        frontier.new.wanted to_come frontier.new.items)
-        (λ a. IsFound (G.accepts g) (G.score g) (G.verdict g) tree.now opened.new counted.new.asked
-        frontier.new.capacity frontier.new.wanted to_come a frontier.new.items) }
+        IsUnderWay (G.accepts g) (G.score g) (G.verdict g) tree.now opened.old counted.old.asked frontier.old.wanted
+        to_come frontier.old.items → MatchOption result
+        (IsOver (G.accepts g) (G.score g) (G.verdict g) tree.now opened.new counted.new.asked frontier.new.wanted
+        to_come frontier.new.items)
+        (λ a. IsFound (G.accepts g) (G.score g) (G.verdict g) tree.now opened.new counted.new.asked frontier.new.wanted
+        to_come a frontier.new.items) }
     ensures wanted { MatchOption result (frontier.new.wanted ≡ frontier.old.wanted)
         (λ _. frontier.new.wanted ≡ one_less frontier.old.wanted) }
     ensures capacity { frontier.new.capacity ≡ frontier.old.capacity }
@@ -203,9 +204,11 @@ impl<'a, G: Geometry> Search<'a, G> {
         self.opened
     }
 
-    /// The frontier, for the next search, and the geometry with the number of its checks.
+    /// The frontier, for the next search, and the geometry with the number of its checks. No more items wait in it than
+    /// the tree has entries.
     pub fn finish(self) -> (Frontier, Counted<'a, G>)
         ensures capacity { result.0.capacity ≡ self.entry.capacity }
+        ensures items { length result.0.items ≤ length self.entry.tree.entries }
         ensures geometry { result.1.geometry ≡ self.entry.geometry }
         ensures asked { result.1.asked ≡ self.entry.asked }
     {

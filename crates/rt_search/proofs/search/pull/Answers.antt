@@ -20,7 +20,7 @@ open_node-requires g c =
     record {
       sound = k.tree;
       node = rw v.geometry k.node;
-      room = rw c.take-node.ensures.capacity k.room;
+      room = rw c.take-node.ensures.capacity (omega (arith, k.room, c.requires.capacity, v.capacity));
       asked = k.asked_low;
     }
 
@@ -47,7 +47,7 @@ loop-node-preserved g c =
       state = λ to_come u.
           let k = go_on (g.met.G.Geometry.lawful c.args.counted.now.geometry) c.args.tree.now c.take-node.result n
           (search rules) v.wanted c.requires.more c.in-Some.is e.taken (v.state to_come u) in
-          rw (o.asked, o.children.capacity, e.capacity, o.children.wanted, same) (k.next _ items);
+          rw (o.asked, o.children.wanted, same) (k.next _ items);
       wanted = o.children.wanted ∙ same ∙ v.wanted;
       capacity = o.children.capacity ∙ e.capacity ∙ v.capacity;
       geometry = o.geometry ∙ v.geometry;
@@ -57,6 +57,5 @@ pub returns-in_default-clause-step : goal.returns-in_default-clause-step
 returns-in_default-clause-step g c = λ to_come u.
     let v = c.loop-node.invariant in
     let t = rw c.in_default.is at c.take-node.ensures in
-    rw c.take-node.ensures.capacity
-    (ended (g.met.G.Geometry.lawful c.args.counted.now.geometry) c.args.tree.now c.take-node.result.1
-    c.take-node.new.self.items (still_more _ _ v.wanted c.requires.more) t.taken t.wanted (v.state to_come u))
+    ended (g.met.G.Geometry.lawful c.args.counted.now.geometry) c.args.tree.now c.take-node.result.1
+    c.take-node.new.self.items (still_more _ _ v.wanted c.requires.more) t.taken t.wanted (v.state to_come u)

@@ -9,9 +9,8 @@ invariant-loop-node g l =
     let verdict = g.G.Geometry.verdict l.initial.counted.geometry in
     record {
       state : (to_come : List Answer) → IsUnderWay accepts score verdict l.tree l.initial.opened l.initial.counted.asked
-          l.initial.frontier.capacity l.initial.frontier.wanted to_come l.initial.frontier.items
-          → IsUnderWay accepts score verdict l.tree l.opened l.counted.asked l.frontier.capacity l.frontier.wanted
-          to_come l.frontier.items;
+          l.initial.frontier.wanted to_come l.initial.frontier.items
+          → IsUnderWay accepts score verdict l.tree l.opened l.counted.asked l.frontier.wanted to_come l.frontier.items;
       wanted : l.frontier.wanted ≡ l.initial.frontier.wanted;
       capacity : l.frontier.capacity ≡ l.initial.frontier.capacity;
       geometry : l.counted.geometry ≡ l.initial.counted.geometry;

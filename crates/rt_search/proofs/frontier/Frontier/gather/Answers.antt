@@ -1,6 +1,6 @@
-use Rattle.std.proofs.Common.{◌∙◌, [], ap, sym}
+use Rattle.std.proofs.Common.{◌∙◌, [], ap, arith, length, sym}
 use Rattle.rt_search.specs.{Joining.{join_answers}, Remaining.{remaining}, Walking.{answers_in_tree}}
-use Rattle.rt_search.proofs.{Collectors.{hits_join}, Joined.{answers_joined}, WalkWhole.{tree_answers}}
+use Rattle.rt_search.proofs.{Collectors.{hits_join, length-joined}, Joined.{answers_joined}, WalkWhole.{tree_answers, tree_few}}
 use Rattle.rt_search.proofs.frontier.Frontier.gather.Goals as goal
 
 pub invariant_of-self : goal.invariant_of-self
@@ -23,3 +23,20 @@ returns-clause-answers g c =
     ap (remaining tree accepts score) (joined.0 ∙ ap (join_answers found) c.clear-2.ensures.items)
     ∙ answers_joined (g.met.G.Geometry.lawful geometry) tree found []
     ∙ tree_answers accepts score (g.G.Geometry.verdict geometry) tree e.sound
+
+pub returns-clause-few : goal.returns-clause-few
+returns-clause-few g c =
+    let geometry = c.args.counted.now.geometry in
+    let accepts = g.G.Geometry.accepts geometry in
+    let score = g.G.Geometry.score geometry in
+    let tree = c.args.tree.now in
+    let e = c.walk.ensures in
+    let found = answers_in_tree tree accepts score in
+    let joined = hits_join c.clear-2.new.self c.walk.new.visitor found e.taken in
+    omega (
+      arith,
+      ap length joined.0,
+      ap length c.clear-2.ensures.items,
+      length-joined found c.clear-2.new.self.items,
+      tree_few accepts score (g.G.Geometry.verdict geometry) tree e.sound,
+    )

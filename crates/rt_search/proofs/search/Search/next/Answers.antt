@@ -21,7 +21,7 @@ pub invariant_of-self-2 : goal.invariant_of-self-2
 invariant_of-self-2 g c =
     let e = c.in_ok-answer.ensures in
     let going = c.self.invariant in
-    rw c.pull.ensures.geometry (give going (search rules) e.wanted (e.step _ going.state)).going
+    rw (c.pull.ensures.geometry, c.pull.ensures.capacity) (give going (search rules) e.wanted (e.step _ going.state)).going
 
 pub returns-clause-answer : goal.returns-clause-answer
 returns-clause-answer g c =
