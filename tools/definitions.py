@@ -29,9 +29,13 @@ MOST_LINES = {"contracts": 912, "headline": 700}
 # The headline: its crate, its call and its clause.
 HEADLINE = ("rt_filter", "run", "ending")
 
-# That a tree is sound follows from its being the packed tree of its entries, and what a state FULLY of a polygon says of
-# points from that state.
-SAID_AGAIN = {("rt_tree", "Packed", "IsSound"), ("rt_geo", "Polygons", "HoldsEachPoint")}
+# That a tree is sound follows from its being the packed tree of its entries, and what a polygon's state says of points
+# from the state.
+SAID_AGAIN = {
+    ("rt_tree", "Packed", "IsSound"),
+    ("rt_geo", "Polygons", "HoldsEachPoint"),
+    ("rt_geo", "Polygons", "SharesPoint"),
+}
 
 IMPORT = re.compile(r"^ *(?:ghost )?use Rattle\.(\w+)\.specs\.([A-Z]\w*)(.*?);?$", re.MULTILINE)
 HANDED_ON = re.compile(r"^pub use (?:\w+::)+(\w+|\{[^}]*\});", re.MULTILINE)

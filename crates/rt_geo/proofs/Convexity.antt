@@ -1,7 +1,8 @@
 -- A list is strictly convex by the count of the vertices to the left of its edges exactly where it is so vertex by vertex.
 use Rattle.std.specs.Bool.{Decides}
 use Rattle.std.specs.List.{count_by, list_all}
-use Rattle.std.specs.Prelude.{◌==◌, ◌-ℤ◌, ◌*ℤ◌, cond, if◌then◌else◌, not, reverse, Result, Ok, Err}
+use Rattle.std.specs.Prelude.{int_le, int_lt, ◌==◌, ◌-ℤ◌, ◌*ℤ◌, cond, if◌then◌else◌, not, reverse, Result, Ok, Err}
+use Rattle.std.proofs.Common.{◌⊎◌}
 use Rattle.std.proofs.Common.{◌≡◌, ◌≢◌, ◌∙◌, sym, refl, ap, subst, arith, ℕ, zero, suc, ◌+◌, ◌<◌, ◌≤◌, Bool, true, false}
 use Rattle.std.proofs.Common.{List, [], ◌∷◌, ◌++◌, length, get_or, add-one, inl, inr, ℤ, pos}
 use Rattle.std.proofs.Math.IntN.{*ℤ-zero, *ℤ_comm}
@@ -14,7 +15,7 @@ use Rattle.std.proofs.lemmas.List.Elements.{All-from_get_or}
 use Rattle.std.proofs.lemmas.List.Folds.{list_all_at}
 use Rattle.std.proofs.lemmas.List.Sums.{count_by-le-length, list_all-from_AllPass, sum_by-cons}
 use Rattle.std.proofs.lemmas.Option.{get_or_from_slice_get, slice_get-get_or, slice_get_within}
-use Rattle.rt_geo.specs.Polygons.{IsPolygonOf, IsStrictlyConvex, edges, has_polygon_count, is_left}
+use Rattle.rt_geo.specs.Polygons.{IsPolygonOf, IsStrictlyConvex, edges, has_polygon_count, cross, is_in_half_plane, is_left}
 use Rattle.rt_geo.specs.Polygons.{is_strictly_convex, next_place, path_from, polygon_of}
 use Rattle.rt_geo.specs.declared.distance.Point.{Point}
 use Rattle.rt_geo.specs.declared.polygon.Edge.{Edge}
@@ -313,3 +314,53 @@ polygon_of-is points =
 pub polygon_is : (points : List Point) (r : Result (List Point) PolygonFault)
     → r ≡ polygon_of points → IsPolygonOf points r
 polygon_is points r e = subst (IsPolygonOf points) (sym e) (polygon_of-is points)
+
+-- ---- all vertices are in the half-plane of each edge
+
+ends_in_half_plane : (edge : Edge)
+    → (is_in_half_plane edge edge.from ≡ true) × (is_in_half_plane edge edge.to ≡ true)
+ends_in_half_plane edge =
+    let along_x = edge.to.x -ℤ edge.from.x in
+    let along_y = edge.to.y -ℤ edge.from.y in (
+      rw (no_difference edge.from.x, no_difference edge.from.y, *ℤ-zero along_x, *ℤ-zero along_y) refl,
+      rw (*ℤ_comm along_y along_x, no_difference (along_x *ℤ along_y)) refl,
+    )
+
+at_least_above : (m n : ℤ) → int_lt m n ≡ true → int_le m n ≡ true
+at_least_above m n h = grind (arith, ints)
+
+left_in_half_plane : (edge : Edge) (p : Point) → is_left edge p ≡ true → is_in_half_plane edge p ≡ true
+left_in_half_plane edge p h = at_least_above (pos 0) (cross edge p) h
+
+in_each : (vertices : List Point) (i j : ℕ) (d : Point) → is_strictly_convex vertices ≡ true
+    → i < length vertices → j < length vertices
+    → is_in_half_plane (record { from = get_or vertices i d; to = get_or vertices (next_place vertices i) d })
+    (get_or vertices j d) ≡ true
+in_each vertices i j d convex h k =
+    let next = next_place vertices i in
+    let from = get_or vertices i d in
+    let to = get_or vertices next d in
+    let edge : Edge = record { from = from; to = to } in
+    elim (same_or_other j i) [
+      | inl e ↦ ap (λ n. is_in_half_plane edge (get_or vertices n d)) e ∙ (ends_in_half_plane edge).0
+      | inr not_from ↦ elim (same_or_other j next) [
+        | inl e ↦ ap (λ n. is_in_half_plane edge (get_or vertices n d)) e ∙ (ends_in_half_plane edge).1
+        | inr not_to ↦ left_in_half_plane edge (get_or vertices j d)
+            (strictly_convex vertices convex i j from to (get_or vertices j d) (slice_get-get_or vertices i d h)
+            (slice_get-get_or vertices next d (next_place-within vertices i h)) (slice_get-get_or vertices j d k)
+            not_from not_to)
+      ]
+    ]
+  where
+    same_or_other : (m n : ℕ) → (m ≡ n) ⊎ (m ≢ n)
+    same_or_other m n = grind (arith, nat_tests)
+
+pub vertex_in_half_planes : (vertices : List Point) (j : ℕ) (d : Point) → is_strictly_convex vertices ≡ true
+    → j < length vertices → list_all (λ edge. is_in_half_plane edge (get_or vertices j d)) (edges vertices) ≡ true
+vertex_in_half_planes vertices j d convex k =
+    let edge : Edge = record { from = d; to = d } in
+    let test = λ (e : Edge). is_in_half_plane e (get_or vertices j d) in
+    list_all-from_AllPass test (edges vertices) (All-from_get_or (λ e. test e ≡ true) (edges vertices) edge
+    (λ i h.
+    let within : i < length vertices = omega (arith, h, length-edges vertices) in
+    ap test (get_or-edges vertices i d edge within) ∙ in_each vertices i j d convex within k))

@@ -286,7 +286,7 @@ none_of : {X : Type 0} (t : Bool) (y : X) → None ≡ (if t then Some y else No
 none_of true y e = cc
 none_of false y e = refl
 
-some_vertex : (vertices : List Point) → has_polygon_count vertices ≡ true → 1 ≤ length vertices
+pub some_vertex : (vertices : List Point) → has_polygon_count vertices ≡ true → 1 ≤ length vertices
 some_vertex vertices h = grind (arith, nat_tests)
 
 -- what is known of the half-planes that were made, and of the vertices where none were

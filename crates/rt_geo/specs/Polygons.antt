@@ -134,6 +134,10 @@ pub record IsCommonPoint (vertices : List Point) (b : Rect) (p : Point) (d : ℕ
 abbrev pub SharesNoPoint : List Point → Rect → Type 0
 SharesNoPoint vertices b = (p : Point) (d : ℕ) → ¬ IsCommonPoint vertices b p d
 
+-- the box and the polygon share a point, perhaps one in fractions
+abbrev pub SharesPoint : List Point → Rect → Type 0
+SharesPoint vertices b = (p : Point) × ((d : ℕ) × IsCommonPoint vertices b p d)
+
 -- each point of the box lies in the polygon, those in fractions too
 abbrev pub HoldsEachPoint : List Point → Rect → Type 0
 HoldsEachPoint vertices b =

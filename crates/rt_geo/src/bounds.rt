@@ -109,7 +109,8 @@ impl Bounds {
 
 /// Whether two boxes share a point. Boxes that touch do.
 pub fn overlaps(a: Bounds, b: Bounds) -> bool
-    ensures { result ≡ overlaps a b }
+    ensures value { result ≡ overlaps a b }
+    ensures valid { IsRect a × IsRect b }
 {
     !ends(a).simd_gt(facing_ends(b)).any()
 }

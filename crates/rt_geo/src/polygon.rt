@@ -41,8 +41,7 @@ pub enum PolygonFault {
 /// Accepts the boxes that a strictly convex polygon of 3 to 16 vertices meets, its edges included.
 ///
 /// The boxes are those that no axis parts from it. A box that is dropped shares no point with the polygon, not
-/// even one in fractions: that is a clause of `within`. That each other box shares a point with it, by the
-/// theorem of which the test is an instance, isn't proved.
+/// even one in fractions, and each other box shares one with it: these are clauses of `within`.
 #[derive(Debug, PartialEq, Eq, Drop)]
 pub struct Polygon {
     vertices: ArrayVec<Point, MOST_VERTICES>,
@@ -112,6 +111,7 @@ impl Polygon {
     pub(crate) fn vertices(&self) -> &[Point]
         ensures value { result.now ≡ self.now }
         ensures count { has_polygon_count result.now ≡ true }
+        ensures convex { is_strictly_convex result.now ≡ true }
     {
         &self.vertices
     }
@@ -125,8 +125,8 @@ impl Polygon {
 }
 
 impl Shape for Polygon {
-    ghost use Rattle.std.specs.Prelude.{◌≡◌};
-    ghost use Rattle.rt_geo.specs.Polygons.{HoldsEachPoint, SharesNoPoint};
+    ghost use Rattle.std.specs.Prelude.{◌≡◌, ◌≢◌};
+    ghost use Rattle.rt_geo.specs.Polygons.{HoldsEachPoint, SharesNoPoint, SharesPoint};
     ghost use Rattle.rt_geo.specs.Regions.{region_accepts, region_state};
     ghost use Rattle.rt_geo.specs.declared.geometry.Within.TheVariants.{Not, Fully};
     ghost use Rattle.rt_geo.specs.declared.region.Region.TheVariants as region;
@@ -139,6 +139,7 @@ impl Shape for Polygon {
         ensures state { result ≡ region_state (region.Polygon self.now) info.now }
         ensures apart { result ≡ Not → SharesNoPoint self.now info.now.bounds }
         ensures whole { result ≡ Fully → HoldsEachPoint self.now info.now.bounds }
+        ensures shared { result ≢ Not → SharesPoint self.now info.now.bounds }
     {
         if !overlaps(info.bounds, self.bounds) {
             return Within::Not;

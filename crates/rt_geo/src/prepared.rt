@@ -47,7 +47,7 @@ impl<'a> Model for PreparedPolygon<'a> {
     ghost use Rattle.std.specs.Prelude.{◌≡◌, true, List, map};
     ghost use Rattle.std.specs.List.{list_all};
     ghost use Rattle.rt_geo.specs.HalfPlanes.{edges_from_last, half_plane_of};
-    ghost use Rattle.rt_geo.specs.Polygons.{bounding_box};
+    ghost use Rattle.rt_geo.specs.Polygons.{bounding_box, has_polygon_count, is_strictly_convex};
     ghost use Rattle.rt_geo.specs.ShortEdges.{has_short_edges};
     ghost use Rattle.rt_geo.specs.declared.distance.Point.{Point};
 
@@ -56,6 +56,8 @@ impl<'a> Model for PreparedPolygon<'a> {
     ghost view = { λ p. p.polygon.now };
 
     ghost invariant = { λ p. record {
+      count : has_polygon_count p.polygon.now ≡ true;
+      convex : is_strictly_convex p.polygon.now ≡ true;
       short : has_short_edges p.polygon.now ≡ true;
       bounds : p.bounds ≡ bounding_box p.polygon.now;
       half_planes : p.half_planes.items ≡ map half_plane_of (edges_from_last p.polygon.now);
@@ -63,8 +65,8 @@ impl<'a> Model for PreparedPolygon<'a> {
 }
 
 impl<'a> Shape for PreparedPolygon<'a> {
-    ghost use Rattle.std.specs.Prelude.{◌≡◌};
-    ghost use Rattle.rt_geo.specs.Polygons.{HoldsEachPoint, SharesNoPoint};
+    ghost use Rattle.std.specs.Prelude.{◌≡◌, ◌≢◌};
+    ghost use Rattle.rt_geo.specs.Polygons.{HoldsEachPoint, SharesNoPoint, SharesPoint};
     ghost use Rattle.rt_geo.specs.Regions.{region_accepts, region_state};
     ghost use Rattle.rt_geo.specs.declared.geometry.Within.TheVariants.{Not, Fully};
     ghost use Rattle.rt_geo.specs.declared.region.Region.TheVariants as region;
@@ -77,6 +79,7 @@ impl<'a> Shape for PreparedPolygon<'a> {
         ensures state { result ≡ region_state (region.Polygon self.now) info.now }
         ensures apart { result ≡ Not → SharesNoPoint self.now info.now.bounds }
         ensures whole { result ≡ Fully → HoldsEachPoint self.now info.now.bounds }
+        ensures shared { result ≢ Not → SharesPoint self.now info.now.bounds }
     {
         let overlapping = overlaps(info.bounds, self.bounds);
         let lies_inside = inside(info.bounds, self.bounds);

@@ -2,7 +2,7 @@
 use Rattle.std.specs.List.{list_all, list_any}
 use Rattle.std.specs.Prelude.{int_le, not, ◌-ℤ◌, ◌*ℤ◌}
 use Rattle.std.proofs.Common.{◌≡◌, ◌∙◌, sym, subst, refl, arith, inl, inr, ℕ, zero, suc, Bool, true, false}
-use Rattle.std.proofs.Common.{◌<◌, ℤ, pos, negsuc, ◌≤ℤ◌, List, [], ◌∷◌, map}
+use Rattle.std.proofs.Common.{ℤ, pos, negsuc, ◌≤ℤ◌, List, [], ◌∷◌, map}
 use Rattle.std.proofs.lemmas.Bool.{true≢false, and_from, and_parts, or_cases, or_left, or_right}
 use Rattle.std.proofs.lemmas.Int.{ints}
 use Rattle.rt_geo.specs.Boxes.{Rect, IsRect, inside, overlaps, range_lies_in, ranges_meet}
@@ -185,10 +185,10 @@ order_larger m x y h =
     let e = mul-difference (pos (suc m)) y x in
     omega (arith, ints, d, e)
 
-at_most : (m n : ℤ) → int_le m n ≡ true → m ≤ℤ n
+pub at_most : (m n : ℤ) → int_le m n ≡ true → m ≤ℤ n
 at_most m n h = grind (arith, ints)
 
-at_most-test : (m n : ℤ) → m ≤ℤ n → int_le m n ≡ true
+pub at_most-test : (m n : ℤ) → m ≤ℤ n → int_le m n ≡ true
 at_most-test m n h = grind (arith, ints)
 
 range-larger : (m : ℕ) (a b c d : ℤ) → range_lies_in a b c d ≡ true

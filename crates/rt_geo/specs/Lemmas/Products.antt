@@ -13,13 +13,13 @@ times : (k m n : ℕ) → m ≡ n → k * m ≡ k * n
 times k m n e = ap (λ x. k * x) e
 
 -- a factor goes over a sum
-mul-sum : (a b c : ℤ) → a *ℤ (b +ℤ c) ≡ a *ℤ b +ℤ a *ℤ c
+pub mul-sum : (a b c : ℤ) → a *ℤ (b +ℤ c) ≡ a *ℤ b +ℤ a *ℤ c
 mul-sum a b c =
     let e = sum_is_lem b c in
     omega (arith, ints, times (up a) _ _ e, times (down a) _ _ e)
 
 -- over a change of sign
-mul-neg : (a b : ℤ) → a *ℤ neg_ℤ b ≡ neg_ℤ (a *ℤ b)
+pub mul-neg : (a b : ℤ) → a *ℤ neg_ℤ b ≡ neg_ℤ (a *ℤ b)
 mul-neg a b =
     let e = neg_is b in
     omega (arith, ints, times (up a) _ _ e.0, times (down a) _ _ e.0, times (up a) _ _ e.1, times (down a) _ _ e.1)
@@ -28,7 +28,7 @@ mul-neg a b =
 pub mul-difference : (a b c : ℤ) → a *ℤ (b -ℤ c) ≡ a *ℤ b -ℤ a *ℤ c
 mul-difference a b c = mul-sum a b (neg_ℤ c) ∙ ap (λ x. a *ℤ b +ℤ x) (mul-neg a c)
 
-mul_assoc : (a b c : ℤ) → (a *ℤ b) *ℤ c ≡ a *ℤ (b *ℤ c)
+pub mul_assoc : (a b c : ℤ) → (a *ℤ b) *ℤ c ≡ a *ℤ (b *ℤ c)
 mul_assoc a b c =
     let p = product_is a b in
     let q = product_is b c in

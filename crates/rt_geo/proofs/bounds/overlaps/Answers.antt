@@ -1,8 +1,8 @@
 use Rattle.rt_geo.proofs.Lanes.{overlaps_by_lanes}
 use Rattle.rt_geo.proofs.bounds.overlaps.Goals as goal
 
-pub returns : goal.returns
-returns c =
+pub returns-clause-value : goal.returns-clause-value
+returns-clause-value c =
     let a = c.ends.ensures in
     let b = c.facing_ends.ensures in
     rw (a.value, b.value)

@@ -1,5 +1,7 @@
-use Rattle.std.proofs.Common.{◌∙◌, rules, sym}
+use Rattle.std.proofs.Common.{◌≡◌, ◌∙◌, rules, sym, true}
+use Rattle.rt_geo.specs.Polygons.{has_polygon_count, is_strictly_convex}
 use Rattle.rt_geo.specs.Lemmas.Polygons.{polygon-holds_each_point, polygon-shares_no_point}
+use Rattle.rt_geo.proofs.CommonPoints.{polygon-shares_point}
 use Rattle.rt_geo.proofs.polygon.PolygonShape.within.Goals as goal
 
 pub returns-then-not-overlaps-clause-state : goal.returns-then-not-overlaps-clause-state
@@ -19,3 +21,11 @@ returns-clause-apart c e =
 pub returns-clause-whole : goal.returns-clause-whole
 returns-clause-whole c e =
     polygon-holds_each_point c.args.self.now c.args.info.now (sym (returns-clause-state c) ∙ e)
+
+pub returns-clause-shared : goal.returns-clause-shared
+returns-clause-shared c kept =
+    let vertices = c.args.self.now in
+    let count : has_polygon_count vertices ≡ true = rw (← c.self.view_is) c.self.invariant.count in
+    let convex : is_strictly_convex vertices ≡ true = rw (← c.self.view_is) c.self.invariant.convex in
+    polygon-shares_point vertices c.args.info.now count convex c.overlaps.ensures.valid.0
+    (λ e. kept (returns-clause-state c ∙ e))
