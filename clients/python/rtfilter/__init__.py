@@ -16,7 +16,7 @@ from .answers import Answers
 from .boxes import Boxes
 from .client import Command, Rtfilter
 from .connection import Address
-from .errors import Disconnected, Ended, FeatureError, QueryError, RtfilterError, TimedOut
+from .errors import Disconnected, Ended, FeatureError, QueryError, RtfilterError, TimedOut, WrongProcess
 from .joining import join
 from .pool import Pool
 from .queries import All, ById, Circle, Covers, Inside, Layers, Near, Order, Polygon, Region, Smallest, Window
@@ -51,5 +51,6 @@ __all__ = [
     "Table",
     "TimedOut",
     "Window",
+    "WrongProcess",
     "join",
 ]

@@ -6,6 +6,7 @@ from collections.abc import Iterable
 from .answers import Answers
 from .closing import Closing
 from .errors import QueryError
+from .forks import Owned
 from .queries import Layers, Order, Region, count_line, find_line, nearest_line
 from .replies import Reply
 from .tables import Table
@@ -13,12 +14,12 @@ from .tables import Table
 NO_ANSWERS = Answers(b"", 0)
 
 
-class Boxes(Closing):
+class Boxes(Owned, Closing):
     """A table of boxes that answers queries. Threads may share it; used in a `with` statement, it is closed at its end.
 
     Each call that asks may raise `QueryError` for a faulty query, `Ended` where the program has ended, `TimedOut` where it
-    took too long, `ValueError` after `close` and for a layer that is out of range, and `TypeError` for a number that isn't
-    whole.
+    took too long, `ValueError` after `close`, also where that comes from another thread meanwhile, and for a layer that is
+    out of range, `TypeError` for a number that isn't whole, and `WrongProcess` in a child of a fork.
     """
 
     @abc.abstractmethod
