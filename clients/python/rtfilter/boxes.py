@@ -68,14 +68,14 @@ class Boxes(Owned, Closing):
 
     def count(self, region: Region, *, on: Layers | None = None) -> int:
         """How many boxes a region accepts; with `on`, as in `find`, of these layers alone."""
-        return self._answers(count_line(region, on)).told
+        return self._answers(count_line(region, on)).total
 
     def cost(self, line: str) -> int:
         """How many nodes of the tree a query opens, by its line: one that begins with `find`, `nearest` or `count`.
 
         `cost(f"find {Window(0, 10, 0, 10)} first 3")` is the cost of `find(Window(0, 10, 0, 10), first=3)`.
         """
-        return self._answers("cost " + line).told
+        return self._answers("cost " + line).total
 
     def levels(self) -> list[tuple[int, int]]:
         """The levels of the tree from the top, each with how many nodes it has; level 0 is that of the boxes."""

@@ -44,19 +44,43 @@ def named(table: Table, header: bool) -> Iterator[str]:
 
 def records(rows: Iterable[Row]) -> Iterator[str]:
     """The records of rows, many in one text."""
-    remaining: Iterator[Row] = map(tuple, rows)  # of what can be gone through once, too
+    remaining = iter(rows)
+    first = 0
     while some := list(islice(remaining, AT_ONCE)):
-        if {*map(len, some)} == {FIELDS}:  # which takes half the time
-            yield RECORD * len(some) % tuple(map(index, chain.from_iterable(some)))
-        else:
-            yield from map(record, some)
+        numbers = _numbers(some, first)
+        yield _together(numbers) or "".join(record(row, first + at) for at, row in enumerate(numbers))
+        first += len(some)
 
 
-def record(row: Row) -> str:
-    """The record of a row: five fields, or six with the layer."""
-    numbers = tuple(map(index, row))
+def _numbers(rows: list[Row], first: int) -> list[Row]:
+    """Rows that can be gone through twice; the first of them has this place."""
+    found: list[Row] = []
+    try:
+        for row in rows:
+            found.append(tuple(row))
+    except TypeError as error:
+        raise TypeError(f"rows[{first + len(found)}]: {error}") from None
+    return found
+
+
+def _together(rows: list[Row]) -> str | None:
+    """The records of rows without layers, in half the time. None where one of them isn't such a row."""
+    try:
+        if {*map(len, rows)} != {FIELDS}:
+            return None
+        return RECORD * len(rows) % tuple(map(index, chain.from_iterable(rows)))
+    except TypeError:
+        return None
+
+
+def record(row: Row, number: int) -> str:
+    """The record of a row: five fields, or six with the layer. The number is told where it isn't a row: its place."""
+    try:
+        numbers = tuple(map(index, row))
+    except TypeError as error:
+        raise TypeError(f"rows[{number}]: {error}") from None
     if len(numbers) not in (FIELDS, FIELDS + 1):
-        raise TypeError(f"a row has five or six numbers, and not {len(numbers)}")
+        raise TypeError(f"rows[{number}]: a row has five or six numbers, and not {len(numbers)}")
     return (RECORD if len(numbers) == FIELDS else LAYERED_RECORD) % numbers
 
 

@@ -55,7 +55,7 @@ def written(replies: Iterable[Reply]) -> Iterator[bytes]:
         if isinstance(reply, QueryError):
             yield b"error %d %s %s\n" % (at, reply.code.encode(), reply.text.encode())
         elif reply is not None:
-            yield bytes(reply) + b"ok %d %d\n" % (at, reply.told)
+            yield bytes(reply) + b"ok %d %d\n" % (at, reply.total)
 
 
 def open_files() -> int:

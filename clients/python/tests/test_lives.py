@@ -252,7 +252,7 @@ class Pools(Case):
 
     def asked_at_once(self, boxes: Pool) -> bool:
         """Asks of all copies that are there, so that an end is noticed."""
-        self.assertEqual([it.told for it in boxes.ask(["count all"] * 1000)], [5] * 1000)
+        self.assertEqual([it.total for it in boxes.ask(["count all"] * 1000)], [5] * 1000)
         return True
 
     def test_a_dead_copy_is_started_anew(self) -> None:
@@ -264,7 +264,7 @@ class Pools(Case):
                 self.wait_for(lambda: self.asked_at_once(boxes) and len(programs() - begun - self.before[0]) == 1)
             for process in programs() - self.before[0]:
                 os.kill(process, signal.SIGKILL)
-            self.assertEqual([it.told for it in boxes.ask(["count all"] * 1000)], [5] * 1000)
+            self.assertEqual([it.total for it in boxes.ask(["count all"] * 1000)], [5] * 1000)
         self.assert_nothing_left()
 
     def test_one_whose_file_has_changed_is_not(self) -> None:

@@ -51,7 +51,7 @@ class Route:
         (nearest,) = told
         if not isinstance(nearest, Answers):
             return []
-        if nearest.told < self.limit:
+        if nearest.total < self.limit:
             return list(self.later)
         # Not only those that are nearer: at the same score a lower id comes first.
         farthest = last_score(nearest)
