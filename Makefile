@@ -12,6 +12,11 @@ CRATES := $(shell sed -n 's/^\([a-z0-9_]*\):.*/\1/p' crates.txt)
 TESTS := $(filter %_tests,$(CRATES))
 LIBRARIES := $(filter-out rtfilter $(TESTS),$(CRATES))
 
+# What a service and a pool load before the C library, where there is a C compiler.
+PREFORK := $(if $(shell command -v $(CC)),build/rtfilter-prefork.so)
+
+all: build/rtfilter $(PREFORK)
+
 # The crates of this repository that a crate stands on, those that stand on it, and its files and folders.
 below = $(filter $(CRATES),$(shell sed -n 's/^$(1)://p' crates.txt))
 all_below = $(sort $(foreach it,$(call below,$(1)),$(it) $(call all_below,$(it))))
@@ -22,6 +27,10 @@ sources = crates.txt $(shell find crates/$(1)/src crates/$(1)/specs crates/$(1)/
 build/rtfilter: $(foreach it,$(call below,rtfilter),build/$(it).proved) $(call sources,rtfilter)
 	@tools/prove rtfilter run -- /dev/null
 	@cp crates/rtfilter/out/rtfilter build/rtfilter
+
+build/rtfilter-prefork.so: service/prefork.c
+	@mkdir -p build
+	@$(CC) -std=gnu11 -O2 -Wall -Wextra -fPIC -shared -o $@ $<
 
 define library
 build/$(1).proved: $(foreach it,$(call below,$(1)),build/$(it).proved) $(call sources,$(1))
@@ -81,5 +90,5 @@ uninstall:
 clean:
 	rm -rf build crates/*/out
 
-.PHONY: example check test test-users test-full bench deb install uninstall clean
-.DEFAULT_GOAL := build/rtfilter
+.PHONY: all example check test test-users test-full bench deb install uninstall clean
+.DEFAULT_GOAL := all
