@@ -21,6 +21,8 @@ def unix_listener(path: str, mode: int) -> Iterator[socket.socket]:
             mask = os.umask(0o777 & ~mode)
             try:
                 listener.bind(path)
+            except OSError as error:
+                raise OSError(error.errno, error.strerror, path) from error
             finally:
                 os.umask(mask)
             listener.listen(BACKLOG)

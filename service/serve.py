@@ -19,6 +19,7 @@ from listening import given_listeners, name_of, tcp_listener, unix_listener
 from service import NO_SERVICE, Service, log
 
 LOOPBACK = "127.0.0.1"
+MOST_CONNECTIONS = 1 << 20  # as prefork.c has it
 
 
 def main(words: Sequence[str]) -> int:
@@ -45,11 +46,12 @@ def main(words: Sequence[str]) -> int:
 
 
 def prepare(nice: int) -> None:
-    """Standard files are open, or what is opened next would be taken for them; signals come; each connection has a
-    descriptor."""
+    """Standard files are open, or what is opened next would be taken for them; signals come, whatever was blocked or
+    ignored before; there are descriptors for connections."""
     while (descriptor := os.open(os.devnull, os.O_RDWR)) <= 2:
-        os.set_inheritable(descriptor, True)
+        pass
     os.close(descriptor)
+    signal.signal(signal.SIGCHLD, signal.SIG_DFL)
     signal.pthread_sigmask(signal.SIG_SETMASK, ())
     _, most = resource.getrlimit(resource.RLIMIT_NOFILE)
     resource.setrlimit(resource.RLIMIT_NOFILE, (most, most))
@@ -80,7 +82,7 @@ def parser_of_words() -> argparse.ArgumentParser:
     add("--mode", type=mode, default=0o600, help="of the Unix socket, in octal (600)")
     add("--tcp", metavar="[HOST:]PORT", type=host_and_port, action="append", default=[], help="listen on TCP (loopback)")
     add("--health", metavar="[HOST:]PORT", type=host_and_port, help="answer /health and /metrics over HTTP there")
-    add("--connections", metavar="N", type=positive, default=128, help="the most at a time (128)")
+    add("--connections", metavar="N", type=connections, default=128, help="the most at a time (128)")
     add("--silence", metavar="SECONDS", type=seconds, default=0.0, help="that a connection may be silent (0: for ever)")
     add("--patience", metavar="SECONDS", type=seconds, default=60.0, help="that a reader may let replies wait (60)")
     add("--drain", metavar="SECONDS", type=seconds, default=300.0, help="that connections keep the old table (300)")
@@ -108,9 +110,9 @@ def host_and_port(word: str) -> tuple[str, int]:
     return host.removeprefix("[").removesuffix("]") or LOOPBACK, found
 
 
-def positive(word: str) -> int:
+def connections(word: str) -> int:
     found = int(word)
-    if found < 1:
+    if not 1 <= found <= MOST_CONNECTIONS:
         raise ValueError
     return found
 

@@ -121,7 +121,8 @@ class Service:
         log(f"the program has ended, with status {gone.ended.result()}: those who connect wait until another is loaded")
         self._changed.clear()
         with contextlib.suppress(TimeoutError):
-            await asyncio.wait_for(self._changed.wait(), self._pause)
+            async with asyncio.timeout(self._pause):
+                await self._changed.wait()
         has_run = time.monotonic() - gone.begun > LONGEST_PAUSE
         self._pause = FIRST_PAUSE if has_run else min(2 * self._pause, LONGEST_PAUSE)
 
@@ -152,7 +153,8 @@ class Service:
             loop.add_reader(watched, self._reap, table, watched)
             with table.first:
                 try:
-                    reply = await asyncio.wait_for(loop.sock_recv(table.first, 100), limit)
+                    async with asyncio.timeout(limit):
+                        reply = await loop.sock_recv(table.first, 100)
                 except ConnectionError:  # it hasn't read what it was asked
                     reply = b""
                 except TimeoutError:
