@@ -61,7 +61,7 @@ test:
 	@tests/run
 
 # The clients, the recipes and the package, with the built program. NEED=all: what can't be tried here has failed.
-test-users: build/rtfilter
+test-users: all
 	@tests/users.py build/rtfilter $(if $(filter all,$(NEED)),--need-all)
 
 # The greatest table that is allowed: some 1.2 GB of memory, and half a minute. No part of test.
@@ -77,15 +77,30 @@ deb: build/rtfilter
 	@packaging/make_deb.py build/rtfilter build
 
 SHARE := $(DESTDIR)$(PREFIX)/share
+LIBRARY := $(DESTDIR)$(PREFIX)/lib/rtfilter
+UNITS := $(DESTDIR)$(PREFIX)/lib/systemd/system
+SERVICE := serve.py service.py listening.py health.py prefork.py
 COMPLETION := $(SHARE)/bash-completion/completions/rtfilter
 
-install: build/rtfilter
-	install -D build/rtfilter "$(DESTDIR)$(PREFIX)/bin/rtfilter"
+# The service too, where there is a C compiler. PROGRAM: another one than is built here.
+PROGRAM := build/rtfilter
+install: $(PROGRAM) $(PREFORK)
+	install -D $(PROGRAM) "$(DESTDIR)$(PREFIX)/bin/rtfilter"
 	install -D -m 644 docs/rtfilter.1 "$(SHARE)/man/man1/rtfilter.1"
 	install -D -m 644 packaging/rtfilter.bash "$(COMPLETION)"
+ifdef PREFORK
+	install -d "$(LIBRARY)" "$(UNITS)"
+	install -m 644 $(PREFORK) $(SERVICE:%=service/%) "$(LIBRARY)"
+	chmod 755 "$(LIBRARY)/serve.py"
+	ln -sf ../lib/rtfilter/serve.py "$(DESTDIR)$(PREFIX)/bin/rtfilter-serve"
+	for unit in rtfilter.service rtfilter.socket; do \
+	  sed 's|/usr/local|$(PREFIX)|g' service/$$unit > "$(UNITS)/$$unit"; done
+endif
 
 uninstall:
 	rm -f "$(DESTDIR)$(PREFIX)/bin/rtfilter" "$(SHARE)/man/man1/rtfilter.1" "$(COMPLETION)"
+	rm -f "$(DESTDIR)$(PREFIX)/bin/rtfilter-serve" "$(UNITS)/rtfilter.service" "$(UNITS)/rtfilter.socket"
+	rm -rf "$(LIBRARY)"
 
 clean:
 	rm -rf build crates/*/out

@@ -5,7 +5,7 @@ import contextlib
 import mmap
 import os
 import socket
-from collections.abc import Callable
+from collections.abc import Callable, Mapping
 
 PATIENCE = 5.0  # seconds for one who asks
 MOST_AT_ONCE = 64  # who ask; of more, those who came first are left
@@ -24,36 +24,36 @@ class Board:
     def lines(self) -> list[str]:
         """For Prometheus."""
         accepted, refused, *ended = self._numbers[1:3 + STATUSES]
-        found = [
-            f"rtfilter_connections {sum(self.rows)}",
-            f"rtfilter_connections_total {accepted}",
-            f"rtfilter_connections_refused_total {refused}",
+        labels = [f'{{status="{at}"}}' if at < OF_SIGNALS else f'{{signal="{at - OF_SIGNALS}"}}' for at in range(STATUSES)]
+        return [
+            *metric("connections", "gauge", {"": sum(self.rows)}),
+            *metric("connections_total", "counter", {"": accepted}),
+            *metric("connections_refused_total", "counter", {"": refused}),
+            *metric("connections_ended_total", "counter", {label: count for label, count in zip(labels, ended) if count}),
         ]
-        for status, count in enumerate(ended):
-            label = f'signal="{status - OF_SIGNALS}"' if status >= OF_SIGNALS else f'status="{status}"'
-            found += [f"rtfilter_connections_ended_total{{{label}}} {count}"] * (count > 0)
-        return found
+
+
+def metric(name: str, kind: str, values: Mapping[str, float]) -> list[str]:
+    """A metric, with a value for each of its labels."""
+    return [f"# TYPE rtfilter_{name} {kind}", *(f"rtfilter_{name}{label} {value}" for label, value in values.items())]
 
 
 class Health:
-    """Answers over HTTP/1.0, each who asks in a task of its own, for a few seconds."""
+    """Answers over HTTP/1.0, whoever asks for a few seconds at most."""
 
     def __init__(self, is_ready: Callable[[], bool], lines: Callable[[], list[str]]) -> None:
         self._is_ready, self._lines = is_ready, lines
-        self._asking: list[asyncio.Task[None]] = []
+        self._asking: list[asyncio.StreamWriter] = []
 
     async def serve(self, listener: socket.socket) -> None:
-        await asyncio.start_server(self._begin, sock=listener, limit=4096)
-
-    def _begin(self, reader: asyncio.StreamReader, writer: asyncio.StreamWriter) -> None:
-        task = asyncio.ensure_future(self._answer(reader, writer))
-        self._asking.append(task)
-        task.add_done_callback(self._asking.remove)
-        if len(self._asking) > MOST_AT_ONCE:
-            self._asking[0].cancel()
+        await asyncio.start_server(self._answer, sock=listener, limit=4096)
 
     async def _answer(self, reader: asyncio.StreamReader, writer: asyncio.StreamWriter) -> None:
-        with contextlib.suppress(OSError, ValueError, TimeoutError), contextlib.closing(writer):
+        self._asking = [it for it in self._asking if not it.is_closing()]
+        if len(self._asking) == MOST_AT_ONCE:
+            self._asking.pop(0).transport.abort()
+        self._asking.append(writer)
+        with contextlib.suppress(OSError, ValueError), contextlib.closing(writer):
             async with asyncio.timeout(PATIENCE):
                 request = await reader.readline()
                 while (await reader.readline()).strip():

@@ -14,10 +14,10 @@ from collections.abc import Sequence
 from pathlib import Path
 
 import prefork
-from health import Board, Health
+from health import Board, Health, metric
 
 FIRST_PAUSE, LONGEST_PAUSE = 0.1, 10.0  # seconds before a program is started anew
-GRACE = 5.0  # seconds that a program has to do what it is told
+GRACE = 2.0  # seconds that a program has to do what it is told
 LONGEST_ERROR = 1 << 12  # bytes of what a program tells of a load
 NO_SERVICE = 1
 
@@ -205,8 +205,8 @@ class Service:
 
     def _lines(self) -> list[str]:
         """For Prometheus."""
-        found = [f"rtfilter_ready {int(self._is_ready())}"]
+        found = metric("ready", "gauge", {"": int(self._is_ready())})
         if self._is_ready():
-            age = time.monotonic() - self._accepting.loaded
-            found += [f"rtfilter_boxes {self._accepting.size}", f"rtfilter_table_age_seconds {age:.3f}"]
+            found += metric("boxes", "gauge", {"": self._accepting.size})
+            found += metric("table_age_seconds", "gauge", {"": round(time.monotonic() - self._accepting.loaded, 3)})
         return found + self._board.lines()
