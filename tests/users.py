@@ -1,16 +1,19 @@
 #!/usr/bin/env python3
-"""Tries what stands in clients/, packaging/ and examples/, and the recipes of docs/, with the built program.
+"""Tries what stands in clients/, service/, packaging/ and examples/, and the recipes of docs/, with the built program.
 
 usage: tests/users.py PROGRAM [--need-all] [--only NAME]..
 
-The tests are those of the folders TESTS, or of those that are named. One that wants what isn't installed here is skipped
+They try a copy of it, beside what a service loads into it where there is a C compiler. The tests are those of the folders TESTS, or of those that are named. One that wants what isn't installed here is skipped
 and named; with --need-all it has failed. The last line is `N passed, M failed`.
 """
 
 import argparse
 import faulthandler
 import os
+import shutil
+import subprocess
 import sys
+import tempfile
 import time
 import unittest
 from pathlib import Path
@@ -21,11 +24,12 @@ TESTS = {
     "client": ROOT / "clients/python/tests",
     "recipes": ROOT / "tests/recipes",
     "package": ROOT / "packaging/tests",
-    "service": ROOT / "examples/service/tests",
+    "service": ROOT / "service/tests",
     "map": ROOT / "examples/tiles/tests",
     "shards": ROOT / "examples/cluster/tests",
 }
 sys.path.insert(0, str(TESTS["client"]))  # support.py, which recipes and package need too
+LIBRARY = "build/rtfilter-prefork.so"
 TOO_LONG = 300  # seconds of one test: something waits for ever
 
 
@@ -52,16 +56,26 @@ class Results(unittest.TestResult):
         self.passed += 1
 
 
+def copied(program, folder):
+    """A copy of the program, which any user may run, and the library where it can be built."""
+    os.chmod(folder, 0o755)
+    if shutil.which("cc"):
+        subprocess.run(["make", "--silent", "-C", ROOT, LIBRARY], check=True, env={**os.environ, "MAKEFLAGS": ""})
+        shutil.copy(ROOT / LIBRARY, folder)
+    return str(shutil.copy(program, Path(folder, "rtfilter")))
+
+
 def main():
     parser = argparse.ArgumentParser()
     parser.add_argument("program")
     parser.add_argument("--need-all", action="store_true")
     parser.add_argument("--only", action="append", choices=TESTS, metavar="NAME")
     args = parser.parse_args()
-    os.environ["RTFILTER_PROGRAM"] = str(Path(args.program).resolve())
     results = Results()
-    for name in args.only or TESTS:
-        unittest.TestLoader().discover(str(TESTS[name])).run(results)
+    with tempfile.TemporaryDirectory(prefix="rtfilter-") as folder:
+        os.environ["RTFILTER_PROGRAM"] = copied(args.program, folder)
+        for name in args.only or TESTS:
+            unittest.TestLoader().discover(str(TESTS[name])).run(results)
     for test, why in [*results.failures, *results.errors]:
         print(f"FAIL {test.id()}: {why}")
     for test, why in results.skipped:

@@ -1,4 +1,4 @@
-"""A connection to a service that holds the table for many."""
+"""A connection to a service that holds the table for many, as `rtfilter-serve` does."""
 
 import contextlib
 import errno
