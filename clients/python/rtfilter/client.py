@@ -136,7 +136,7 @@ class Rtfilter(Boxes):
     @property
     def has_ended(self) -> bool:
         """Whether further calls raise `Ended`, until `reload`."""
-        return self._transport.is_abandoned
+        return self._address is None and self._transport.is_abandoned
 
     def reload(self, table: Table | None = None) -> None:
         self._check_process()

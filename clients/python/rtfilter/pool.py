@@ -7,15 +7,19 @@ from collections.abc import Callable, Iterable, Iterator
 from concurrent.futures import ThreadPoolExecutor
 from functools import partial
 from itertools import chain
+from pathlib import Path
 
 from .boxes import Boxes
-from .client import Command, Rtfilter, checked_timeout, query_lines
+from .client import Command, Rtfilter, checked_timeout, command, query_lines
 from .deadlines import ENDLESS, Deadline
 from .errors import Disconnected, Ended
+from .prefork import library_of
 from .replies import Reply
-from .tables import File, Table, again, file_of, named
+from .shared import LEAST_CONNECTIONS, Holder, Shared, Sharer
+from .tables import Table, again, file_of, named
 from .transport import CLOSED, Loads
 
+CHANGED = "the table has changed, or can't be read again"
 LEAST_PART = 100  # lines: fewer aren't worth a thread
 
 Mend = Callable[[Rtfilter], None]
@@ -30,8 +34,10 @@ class Copies:
     and is mended beside the others.
     """
 
-    def __init__(self, clients: list[Rtfilter], mend: Mend) -> None:
+    def __init__(self, clients: list[Rtfilter], mend: Mend, end: Callable[[], None] = lambda: None) -> None:
+        """`end` is called once all clients are closed."""
         self.clients = clients
+        self._end = end
         self.users = 0  # calls that hold on to these copies
         self._mend = mend
         self._free = clients.copy()
@@ -99,18 +105,21 @@ class Copies:
             client.close()
         for thread in mending:
             thread.join()
+        self._end()
 
 
 class Pool(Boxes):
-    """A table of boxes that n programs hold, each a copy of it: n calls are answered at once, and the lines of one call in
-    up to n parts.
+    """A table of boxes that n processes answer from: n calls at once, and the lines of one call in up to n parts.
 
-    Where a copy's program has ended, another copy answers, and it is started anew beside them: from the file that the
-    table was loaded from, where its time and size are still the same. Where none is left, calls raise `Ended`, until
-    `reload`.
+    Where the program has its library for services beside it, one program holds the table, loaded once, and has a process
+    of its own for each of the n, so that they take little more memory than one. Else, and where `program` are the words of
+    a command, each of them is a program with the memory of a whole table.
 
-    The other arguments are those of `Rtfilter`, and so is what is raised; n below 1 is a `ValueError`. Each copy takes the
-    memory of a whole table.
+    Where a process has ended, another one is asked, and it is started anew: a program from the file that its table was
+    loaded from, where the file's time and size are still the same. Where that can't be, calls raise `Ended`, until
+    `reload`, which returns when each later call is answered from the new table.
+
+    The other arguments are those of `Rtfilter`, and so is what is raised; n below 1 is a `ValueError`.
     """
 
     def __init__(
@@ -134,6 +143,9 @@ class Pool(Boxes):
         self._open = partial(
             Rtfilter, header=header, fanout=fanout, max_entries=max_entries, program=program, timeout=timeout
         )
+        self._words = command(program, header, fanout, max_entries)
+        # Of a command that runs the program nobody knows what else it runs.
+        self._library = library_of(program) if isinstance(program, (str, os.PathLike)) else None
         self._coming: set[Loads] = set()
         self._changed = threading.Condition()
         self._is_closed = False
@@ -151,9 +163,19 @@ class Pool(Boxes):
             self._coming.discard(loads)
 
     def _loaded_by(self, loads: Loads, table: Table) -> Copies:
-        file = file_of(table)
-        state = None if file is None else state_of(file)
-        with named(table, self._header) as name, ThreadPoolExecutor(self._n) as threads:
+        state = state_of(table)
+        with named(table, self._header) as name:
+
+            def is_unchanged() -> bool:
+                return state is not None and state_of(name) == state
+
+            if self._library is None:
+                return self._copied(loads, name, is_unchanged)
+            return self._shared(loads, name, is_unchanged, self._library)
+
+    def _copied(self, loads: Loads, name: str, is_unchanged: Callable[[], bool]) -> Copies:
+        """Copies each in a program of its own."""
+        with ThreadPoolExecutor(self._n) as threads:
             begun = [threads.submit(self._open, name, _loads=loads) for _ in range(self._n)]
         clients = [load.result() for load in begun if load.exception() is None]
         for load in begun:
@@ -164,15 +186,36 @@ class Pool(Boxes):
                 raise error
 
         def mend(client: Rtfilter) -> None:
-            # Looked at before and after: copies never hold two tables.
-            if state is None or state_of(name) != state:
-                raise ValueError("the table can't be read again")
+            if not is_unchanged():
+                raise ValueError(CHANGED)
             client.reload()
-            if state_of(name) != state:
+            if not is_unchanged():
                 client.close()
-                raise ValueError("the table has changed")
+                raise ValueError(CHANGED)
 
         return Copies(clients, mend)
+
+    def _shared(self, loads: Loads, name: str, is_unchanged: Callable[[], bool], library: Path) -> Copies:
+        """Copies that are one table in memory, each asked by a process of its own."""
+        connections = max(LEAST_CONNECTIONS, 4 * self._n)
+
+        def start(deadline: Deadline) -> Holder:
+            return loads.ready(Holder([*self._words, "--", name], library, connections), deadline)
+
+        shared = Shared(start, is_unchanged, self._deadline())
+        clients: list[Rtfilter] = []
+        try:
+            while len(clients) < self._n:
+                clients.append(Sharer(shared, self._timeout, loads))
+        except BaseException:
+            for client in clients:
+                client.close()
+            shared.close(self._deadline())
+            raise
+        return Copies(clients, lambda client: None, lambda: shared.close(self._deadline()))
+
+    def _deadline(self) -> Deadline:
+        return ENDLESS if self._timeout is None else Deadline(self._timeout)
 
     @contextlib.contextmanager
     def _held(self) -> Iterator[Copies]:
@@ -192,7 +235,7 @@ class Pool(Boxes):
     def replies(self, lines: Iterable[str]) -> list[Reply]:
         self._check_process()
         asked = query_lines(lines)
-        deadline = ENDLESS if self._timeout is None else Deadline(self._timeout)
+        deadline = self._deadline()
         size = max(LEAST_PART, -(-len(asked) // self._n))
         parts = [asked[at:at + size] for at in range(0, len(asked), size)]
         with self._held() as copies:
@@ -230,10 +273,12 @@ class Pool(Boxes):
         self._threads.shutdown()
 
 
-def state_of(file: File) -> tuple[int, ...] | None:
-    """What tells whether a file is another one, or was written to. None where it isn't there."""
+def state_of(table: Table) -> tuple[int, ...] | None:
+    """What tells whether a file is another one, or was written to. None where there is none."""
+    if not isinstance(table, (str, os.PathLike)):
+        return None
     try:
-        state = os.stat(file)
+        state = os.stat(table)
     except OSError:
         return None
     return state.st_dev, state.st_ino, state.st_size, state.st_mtime_ns

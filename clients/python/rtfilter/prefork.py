@@ -27,7 +27,7 @@ def library_of(program: "str | os.PathLike[str]") -> Path | None:
         return None
     folder = Path(found).resolve().parent
     places = folder / LIBRARY, folder.parent / "lib/rtfilter" / LIBRARY
-    return next(filter(Path.exists, places), None)
+    return next((place for place in places if place.exists()), None)
 
 
 class Started(NamedTuple):
@@ -76,7 +76,7 @@ def start(
             *((os.POSIX_SPAWN_DUP2, copy, FIRST_GIVEN + at) for at, copy in enumerate(copies)),
         ]
         process = os.posix_spawnp(
-            command[0], command, environment, file_actions=actions, setpgroup=0, setsigmask=(), setsigdef=DEFAULTS
+            command[0], [*command], environment, file_actions=actions, setpgroup=0, setsigmask=(), setsigdef=DEFAULTS
         )
         kept.pop_all()
     return Started(process, control, first)

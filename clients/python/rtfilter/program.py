@@ -7,8 +7,8 @@ import subprocess
 import tempfile
 import time
 import weakref
-from collections.abc import Sequence
-from typing import IO, Any
+from collections.abc import Iterable, Sequence
+from typing import IO, Any, Protocol
 
 from .deadlines import ENDLESS, Deadline
 from .errors import Ended
@@ -19,45 +19,51 @@ LONGEST_ERROR = 1 << 12  # bytes of standard error that are told
 GRACE = 2.0  # seconds that the program has to end by itself
 PAUSES = 0.0005, 0.05  # seconds between two looks whether it has ended, the first and the longest
 
-Process = subprocess.Popen[bytes]
+class Process(Protocol):
+    """A process that was started here: its number, and once it was taken its status."""
+
+    @property
+    def pid(self) -> int: ...
+
+    returncode: Any
 
 
-class Program(Transport):
-    """A process that loads its table and answers lines. Raises `Ended` where it ends.
+class HasEnd(Protocol):
+    """A pipe or a socket."""
+
+    def fileno(self) -> int: ...
+
+    def close(self) -> None: ...
+
+
+class Child(Transport):
+    """A process that this one has started, and ends. Raises `Ended` where it ends by itself.
 
     One that is dropped without `close`, or still there when Python ends, is killed.
     """
 
-    def __init__(self, command: Sequence[str]) -> None:
-        """Starts the process, which loads from then on: `load` waits for it."""
-        with STARTING:
-            # A file takes whatever is written, so that nobody has to read it meanwhile.
-            self._errors = tempfile.TemporaryFile()
-            try:
-                # In a process group of its own: an interrupt from the keyboard is for this process. The program ends with
-                # its input, and so with this process too.
-                self._process = subprocess.Popen(
-                    command, bufsize=0, stdin=subprocess.PIPE, stdout=subprocess.PIPE, stderr=self._errors, process_group=0
-                )
-            except BaseException:
-                self._errors.close()
-                raise
-            assert self._process.stdin is not None and self._process.stdout is not None
-            self._stdin, self._stdout = self._process.stdin, self._process.stdout
-            # `Popen` keeps itself, and so the pipes, for as long as the process lives.
-            self._drop = weakref.finalize(self, end_dropped, self._process, [self._stdin, self._stdout, self._errors])
-            super().__init__(self._stdin, self._stdout)
-        os.set_blocking(self._stdin.fileno(), False)
+    def __init__(
+        self, process: Process, input: HasEnd, output: HasEnd, errors: IO[bytes], others: Sequence[HasEnd] = ()
+    ) -> None:
+        """`errors` is the file of its standard error, and others are closed with it. Whoever calls this holds `STARTING` since
+        before the start."""
+        super().__init__(input, output)
+        self._process = process
+        self._files = input, output, *others, errors
+        self._errors = errors
+        self._drop = weakref.finalize(self, end_dropped, process, self._files)
 
     @property
     def is_closed(self) -> bool:
-        return self._stdin.closed
+        return self._errors.closed
 
-    def _write(self, text: Text) -> int:
-        return os.write(self._stdin.fileno(), text)
+    @property
+    def has_ended(self) -> bool:
+        """Whether it answers no more."""
+        return self._is_abandoned or status_of(self._process) is not None
 
     def _ended(self) -> Ended:
-        """What a program whose output has ended leaves."""
+        """What a process whose output has ended leaves."""
         status = self._end(GRACE)
         told = os.pread(self._errors.fileno(), LONGEST_ERROR, 0)
         return Ended(status, told.decode(errors="replace").strip() or self._why)
@@ -77,21 +83,48 @@ class Program(Transport):
         kill(self._process)
 
     def _leave_to_parent(self) -> None:
-        """The parent's pipes are kept open by nobody else, and its program is none of this process's."""
+        """The parent's pipes are kept open by nobody else, and its process is none of this one's."""
         super()._leave_to_parent()
         self._drop.detach()
         self._process.returncode = 0  # so that nobody asks for it
-        for file in (self._stdin, self._stdout, self._errors):
+        for file in self._files:
             file.close()
 
     def close(self, deadline: Deadline = ENDLESS) -> None:
-        """Ends the program, by ending its input. Its status tells nothing new: 1 is that of a faulty line."""
-        self._stdin.close()
-        self._stdout.close()
+        """Ends the process, by ending its input. Its status tells nothing new: 1 is that of a faulty line."""
+        *ends, errors = self._files
+        for end in ends:
+            end.close()
         status = self._end(min(GRACE, deadline.left()))
         self._drop.detach()
         take(self._process, status)
-        self._errors.close()
+        errors.close()
+
+
+class Program(Child):
+    """A process that loads its table and answers lines."""
+
+    def __init__(self, command: Sequence[str]) -> None:
+        """Starts the process, which loads from then on: `load` waits for it."""
+        with STARTING:
+            # A file takes whatever is written, so that nobody has to read it meanwhile.
+            errors = tempfile.TemporaryFile()
+            try:
+                # In a process group of its own: an interrupt from the keyboard is for this process. The program ends with
+                # its input, and so with this process too.
+                process = subprocess.Popen(
+                    command, bufsize=0, stdin=subprocess.PIPE, stdout=subprocess.PIPE, stderr=errors, process_group=0
+                )
+            except BaseException:
+                errors.close()
+                raise
+            assert process.stdin is not None and process.stdout is not None
+            # `Popen` keeps itself, and so the pipes, for as long as the process lives.
+            super().__init__(process, process.stdin, process.stdout, errors)
+        os.set_blocking(process.stdin.fileno(), False)
+
+    def _write(self, text: Text) -> int:
+        return os.write(self._input.fileno(), text)
 
 
 def status_of(process: Process) -> int | None:
@@ -108,7 +141,7 @@ def status_of(process: Process) -> int | None:
         if ended is None:
             return None
         return ended.si_status if ended.si_code == os.CLD_EXITED else -ended.si_status
-    return process.returncode
+    return int(process.returncode)
 
 
 def kill(process: Process) -> None:
@@ -127,7 +160,7 @@ def take(process: Process, status: int) -> None:
         process.returncode = status
 
 
-def end_dropped(process: Process, files: Sequence[IO[Any]]) -> None:
+def end_dropped(process: Process, files: Iterable[HasEnd]) -> None:
     """Ends a process whose pipes nobody has any more. It may be called at any moment, and takes no lock."""
     for file in files:
         file.close()

@@ -75,3 +75,9 @@ def children_of(process: int) -> list[int]:
     """The processes that a process has started."""
     numbers = [int(name) for name in os.listdir("/proc") if name.isdigit()]
     return [number for number in numbers if parent_of(number) == process]
+
+
+def descendants_of(process: int) -> list[int]:
+    """The processes that a process has started, and those that these have, and so on."""
+    found = children_of(process)
+    return found + [other for child in found for other in descendants_of(child)]

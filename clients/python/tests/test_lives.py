@@ -5,6 +5,7 @@ import gc
 import multiprocessing
 import os
 import pickle
+import shutil
 import signal
 import socket
 import subprocess
@@ -18,10 +19,12 @@ from concurrent.futures import ProcessPoolExecutor
 from pathlib import Path
 
 from serving import Service
-from support import BOXES, EXAMPLES, PACKAGE, PROGRAM, children_of, open_files, parent_of
+from support import BOXES, EXAMPLES, PACKAGE, PROGRAM, children_of, descendants_of, open_files, parent_of
 
 sys.path.insert(0, str(EXAMPLES / "cluster"))
 from shards.router import Cluster
+
+from rtfilter.prefork import library_of
 
 from rtfilter import All, Boxes, Disconnected, Ended, Pool, Rtfilter, TimedOut, Window, WrongProcess
 
@@ -61,13 +64,14 @@ def living_child() -> Iterator[None]:
 
 
 def programs() -> set[int]:
-    """The processes that this one has started."""
-    return set(children_of(os.getpid()))
+    """The processes that this one has started, and those that these have."""
+    return set(descendants_of(os.getpid()))
 
 
 class Case(unittest.TestCase):
     def setUp(self) -> None:
         self.folder = Path(self.enterContext(tempfile.TemporaryDirectory()))
+        self.alone = str(shutil.copy(PROGRAM, self.folder))  # without what makes a table one for many
         self.before = programs(), open_files()
 
     def assert_nothing_left(self) -> None:
@@ -235,16 +239,19 @@ class Drops(Case):
 import os, signal, subprocess, rtfilter
 one = rtfilter.Rtfilter({str(BOXES)!r}, program={PROGRAM!r})
 some = rtfilter.Pool(2, {str(BOXES)!r}, program={PROGRAM!r})
-programs = subprocess.run(["pgrep", "-P", str(os.getpid()), "rtfilter"], capture_output=True).stdout.split()
-print(*map(int, programs))
+programs = subprocess.run(["pgrep", "-P", str(os.getpid()), "rtfilter"], capture_output=True, text=True).stdout.split()
+forked = subprocess.run(["pgrep", "-P", ",".join(programs), "rtfilter"], capture_output=True, text=True).stdout.split()
+print(*programs, *forked)
 os.kill(int(programs[0]), signal.SIGSTOP)
 """
         processes = list(map(int, python(code).split()))
-        self.assertEqual(len(processes), 3)
-        self.assertEqual([parent_of(process) for process in processes], [None] * 3)
+        self.assertEqual(len(processes), 2 + 2 * (library_of(PROGRAM) is not None) + (library_of(PROGRAM) is None))
+        self.wait_for(lambda: [parent_of(process) for process in processes] == [None] * len(processes))
 
 
 class Pools(Case):
+    """Each copy is a program of its own."""
+
     def table(self) -> Path:
         table = self.folder / "table"
         table.write_bytes(BOXES.read_bytes())
@@ -256,7 +263,7 @@ class Pools(Case):
         return True
 
     def test_a_dead_copy_is_started_anew(self) -> None:
-        with Pool(4, self.table(), program=PROGRAM, timeout=20) as boxes:
+        with Pool(4, self.table(), program=self.alone, timeout=20) as boxes:
             for _ in range(3):
                 begun = programs() - self.before[0]
                 os.kill(min(begun), signal.SIGKILL)
@@ -271,7 +278,7 @@ class Pools(Case):
         """No two copies hold different tables."""
         table = self.table()
         for change in (lambda: table.write_text("1,0,1,0,1\n"), table.unlink):
-            with Pool(3, self.table(), program=PROGRAM, timeout=20) as boxes:
+            with Pool(3, self.table(), program=self.alone, timeout=20) as boxes:
                 change()
                 for left in (2, 1):
                     os.kill(min(programs() - self.before[0]), signal.SIGKILL)
@@ -286,7 +293,7 @@ class Pools(Case):
                 self.assertEqual(boxes.count(All()), 5)
 
     def test_rows_are_read_once(self) -> None:
-        with Pool(2, [(1, 0, 1, 0, 1)], program=PROGRAM) as boxes:
+        with Pool(2, [(1, 0, 1, 0, 1)], program=self.alone) as boxes:
             for process in programs() - self.before[0]:
                 os.kill(process, signal.SIGKILL)
             for _ in range(3):
@@ -295,13 +302,98 @@ class Pools(Case):
         self.assert_nothing_left()
 
     def test_after_no_answer_in_time(self) -> None:
-        with Pool(2, self.table(), program=PROGRAM, timeout=0.5) as boxes:
+        with Pool(2, self.table(), program=self.alone, timeout=0.5) as boxes:
             for process in programs() - self.before[0]:
                 stop(process)
             for _ in range(2):
                 with self.assertRaises(TimedOut):
                     boxes.count(All())
             self.assertEqual([boxes.count(All()) for _ in range(50)], [5] * 50)
+
+
+class SharedPools(Case):
+    """Each copy is a process of one program, whose table is in memory once."""
+
+    def setUp(self) -> None:
+        super().setUp()
+        self.table = self.folder / "table"
+        self.table.write_bytes(BOXES.read_bytes())
+        if library_of(PROGRAM) is None:
+            self.skipTest("there is no C compiler")
+
+    def holder(self) -> int:
+        (process,) = set(children_of(os.getpid())) - self.before[0]
+        return process
+
+    def test_one_load(self) -> None:
+        loads = self.folder / "loads"
+        os.mkfifo(loads)  # which gives its lines once
+        writing = threading.Thread(target=loads.write_bytes, args=(BOXES.read_bytes(),))
+        writing.start()
+        with Pool(8, loads, program=PROGRAM) as boxes:
+            writing.join()
+            self.assertEqual([it.total for it in boxes.ask(["count all"] * 1000)], [5] * 1000)
+            self.assertEqual(len(programs() - self.before[0]), 9)
+        self.assert_nothing_left()
+
+    def test_a_process_that_ends(self) -> None:
+        with Pool(3, self.table, program=PROGRAM, timeout=20) as boxes:
+            for _ in range(3):
+                for process in children_of(self.holder()):
+                    os.kill(process, signal.SIGKILL)
+                self.assertEqual([it.total for it in boxes.ask(["count all"] * 1000)], [5] * 1000)
+                self.assertEqual([boxes.count(All()) for _ in range(20)], [5] * 20)
+        self.assert_nothing_left()
+
+    def test_a_program_that_ends(self) -> None:
+        """It is started anew for the next question, from the same table and from no other."""
+        with Pool(3, self.table, program=PROGRAM, timeout=20) as boxes:
+            for _ in range(3):
+                os.kill(self.holder(), signal.SIGKILL)
+                self.assertEqual([it.total for it in boxes.ask(["count all"] * 1000)], [5] * 1000)
+            self.table.write_text("7,0,1,0,1\n")
+            self.assertEqual(boxes.count(All()), 5)
+            processes = programs() - self.before[0]
+            os.kill(self.holder(), signal.SIGKILL)
+            self.wait_for(lambda: not any(map(parent_of, processes)))
+            for count in (1, 1000):
+                with self.at_once(), self.assertRaises(Ended) as raised:
+                    boxes.ask(["count all"] * count)
+                self.assertEqual(raised.exception.status, -signal.SIGKILL)
+            boxes.reload()
+            self.assertEqual((boxes.count(All()), len(boxes)), (1, 1))
+        self.assert_nothing_left()
+
+    def test_one_that_is_stopped(self) -> None:
+        """It alone is out of step: the others answer."""
+        with Pool(2, self.table, program=PROGRAM, timeout=0.5) as boxes:
+            for process in children_of(self.holder()):
+                os.kill(process, signal.SIGSTOP)
+            with self.assertRaises(TimedOut):
+                boxes.count(All())
+            self.assertEqual([boxes.count(All()) for _ in range(50)], [5] * 50)
+            boxes._copies._free.reverse()
+            with self.assertRaises(TimedOut):  # by the other one
+                boxes.count(All())
+            self.assertEqual([it.total for it in boxes.ask(["count all"] * 1000)], [5] * 1000)
+        self.assert_nothing_left()
+
+    def test_the_table_after_a_reload(self) -> None:
+        """Each call that begins after it is answered from the new table, on each connection."""
+        with Pool(4, self.table, program=PROGRAM, timeout=20) as boxes:
+            for size in range(1, 8):
+                self.table.write_text("".join(f"{at},0,1,0,1\n" for at in range(size)))
+                boxes.reload()
+                self.assertEqual({it.total for it in boxes.ask(["count all"] * 1000)}, {size})
+        self.assert_nothing_left()
+
+    def test_what_is_refused(self) -> None:
+        for table, options, status in (("/no/such/table", {}, 3), ([(1, 1, 0, 0, 0)], {}, 3), (BOXES, {"fanout": 1}, 2)):
+            with self.assertRaises(Ended) as raised:
+                Pool(2, table, program=PROGRAM, **options)
+            self.assertEqual(raised.exception.status, status)
+            self.assertRegex(raised.exception.text, "^rtfilter: ")
+        self.assert_nothing_left()
 
 
 class Connections(Case):
@@ -434,7 +526,7 @@ class Closes(Case):
         for opened in (
             lambda: Rtfilter(BOXES, program=PROGRAM),
             lambda: Rtfilter(BOXES, program=PROGRAM, timeout=60),
-            lambda: Pool(2, BOXES, program=PROGRAM),
+            lambda: Pool(2, BOXES, program=self.alone),
             lambda: Cluster([Rtfilter(BOXES, program=PROGRAM), Rtfilter([(9, 0, 1, 0, 1)], program=PROGRAM)]),
         ):
             boxes = opened()
@@ -445,6 +537,15 @@ class Closes(Case):
             self.assertIsInstance(raised[0], ValueError)
             self.assertEqual(str(raised[0]), "the table was closed")
             boxes.close()
+        self.assert_nothing_left()
+
+    def test_shared_pool(self) -> None:
+        boxes = Pool(2, BOXES, program=PROGRAM, timeout=60)
+        for process in children_of(min(programs() - self.before[0])):
+            stop(process)
+        with self.under_way(lambda: boxes.ask(["count all"] * 300)) as raised, self.at_once():
+            boxes.close()
+        self.assertIsInstance(raised[0], ValueError)
         self.assert_nothing_left()
 
     def test_by_address(self) -> None:
