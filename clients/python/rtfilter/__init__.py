@@ -17,6 +17,7 @@ from .boxes import Boxes
 from .client import Command, Rtfilter
 from .connection import Address
 from .errors import Disconnected, Ended, FeatureError, QueryError, RtfilterError, TimedOut, WrongProcess
+from .geojson import rows_from
 from .joining import join
 from .pool import Pool
 from .queries import All, ById, Circle, Covers, Inside, Layers, Near, Order, Polygon, Region, Smallest, Window
@@ -53,4 +54,5 @@ __all__ = [
     "Window",
     "WrongProcess",
     "join",
+    "rows_from",
 ]

@@ -1,7 +1,7 @@
 """A table that one program holds, beside this process or behind a service."""
 
 import os
-from collections.abc import Iterable, Sequence
+from collections.abc import Iterable, Iterator, Sequence
 from functools import partial
 from operator import index
 from typing import Union
@@ -112,6 +112,14 @@ class Rtfilter(Boxes):
         """The number of the first of these lines, and the replies to them."""
         transport = self._open(deadline)
         return transport.lines + 1, transport.replies_to(text, lines, deadline)
+
+    def _texts(self, texts: Iterable[tuple[str, int]], deadline: Deadline) -> Iterator[bytes]:
+        for text, lines in texts:
+            yield self._text((text, lines), deadline)
+
+    def _text(self, text: tuple[str, int], deadline: Deadline) -> bytes:
+        """The replies to a text of so many lines, of which all are answered."""
+        return self._turns.take(partial(self._told, text[0].encode(), text[1], deadline), deadline)[1]
 
     def _answers(self, line: str) -> Answers:
         self._check_process()

@@ -8,6 +8,7 @@ from concurrent.futures import ThreadPoolExecutor
 from functools import partial
 from itertools import chain
 from pathlib import Path
+from typing import TypeVar
 
 from .boxes import Boxes
 from .client import Command, Rtfilter, checked_timeout, command, query_lines
@@ -21,6 +22,9 @@ from .transport import CLOSED, Loads
 
 CHANGED = "the table has changed, or can't be read again"
 LEAST_PART = 100  # lines: fewer aren't worth a thread
+
+Asked = TypeVar("Asked")
+Given = TypeVar("Given")
 
 Mend = Callable[[Rtfilter], None]
 """Has a client whose program has ended answer again, from the same table. Raises where that can't be."""
@@ -46,12 +50,13 @@ class Copies:
         self._is_closed = False
         self._changed = threading.Condition(threading.Lock())
 
-    def replies(self, lines: list[str], deadline: Deadline) -> list[Reply]:
+    def ask(self, call: Callable[[Rtfilter, Asked, Deadline], Given], asked: Asked, deadline: Deadline) -> Given:
+        """What a call of a client gives."""
         # A question changes nothing: where one copy ends, another is asked. What ends all of them is told.
         for _ in range(2 * len(self.clients)):
             client = self._take(deadline)
             try:
-                return client._replies(lines, deadline)
+                return call(client, asked, deadline)
             except (Ended, Disconnected) as error:
                 end = error
             finally:
@@ -240,8 +245,13 @@ class Pool(Boxes):
         parts = [asked[at:at + size] for at in range(0, len(asked), size)]
         with self._held() as copies:
             if len(parts) == 1:
-                return copies.replies(asked, deadline)
-            return list(chain.from_iterable(self._threads.map(partial(copies.replies, deadline=deadline), parts)))
+                return copies.ask(Rtfilter._replies, asked, deadline)
+            told = self._threads.map(lambda part: copies.ask(Rtfilter._replies, part, deadline), parts)
+            return list(chain.from_iterable(told))
+
+    def _texts(self, texts: Iterable[tuple[str, int]], deadline: Deadline) -> Iterator[bytes]:
+        with self._held() as copies:
+            yield from self._threads.map(lambda text: copies.ask(Rtfilter._text, text, deadline), texts)
 
     def reload(self, table: Table | None = None) -> None:
         self._check_process()

@@ -6,7 +6,9 @@ import tempfile
 from collections.abc import Iterable, Iterator, Sequence
 from itertools import chain, islice
 from operator import index
-from typing import Union
+from typing import Any, Union
+
+from .arrays import AT_ONCE, rows_of
 
 Row = Sequence[int]
 """A box: id, min_x, max_x, min_y, max_y, and its layer where that isn't 0, each a whole number."""
@@ -14,13 +16,13 @@ Row = Sequence[int]
 File = Union[str, "os.PathLike[str]"]
 """The name of a file."""
 
-Table = Union[File, Iterable[Row]]
-"""The name of a CSV file, or rows."""
+Table = Union[File, Iterable[Row], Any]
+"""The name of a CSV file, or rows: an iterable of them, an array of numpy of shape (n, 5) or (n, 6), or an array with fields
+or a frame of pandas that has the columns id, min_x, max_x, min_y, max_y and, perhaps, layer."""
 
 FIELDS = 5  # of a row without a layer
 RECORD = "%d,%d,%d,%d,%d\n"
 LAYERED_RECORD = "%d,%d,%d,%d,%d,%d\n"
-AT_ONCE = 1000  # rows
 
 
 @contextlib.contextmanager
@@ -37,7 +39,7 @@ def named(table: Table, header: bool) -> Iterator[str]:
     if header:
         raise ValueError("rows have no header")
     with tempfile.NamedTemporaryFile("w", encoding="ascii", prefix="rtfilter-", suffix=".csv") as file:
-        file.writelines(records(table))
+        file.writelines(records(rows_of(table)))
         file.flush()
         yield file.name
 

@@ -282,7 +282,7 @@ class Reading(unittest.TestCase):
             ):  # fmt: skip
                 with Zones(features, program=PROGRAM) as zones:
                     self.assertEqual((zones.holding(5, 5), len(zones)), (held, len(held)))
-        for what in ({}, polygon(SQUARE), {"type": "FeatureCollection"}):
+        for what in ({}, {"type": "Polygons"}, {"type": "FeatureCollection"}):
             with self.assertRaises(ValueError):
                 Zones(what, program=PROGRAM)
         with self.assertRaises(FileNotFoundError):
