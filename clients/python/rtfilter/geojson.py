@@ -254,7 +254,7 @@ def _bounds(feature: Any) -> Sequence[Any]:
         return min(xs), min(ys), max(xs), max(ys)
     if found is None or len(found) != 4:
         raise Unfit("no bounds")
-    return found  # type: ignore[no-any-return]
+    return found
 
 
 def _places(geometry: Any) -> Iterator[tuple[Any, Any]]:
