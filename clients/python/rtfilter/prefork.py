@@ -20,14 +20,14 @@ DEFAULTS = signal.valid_signals() - {signal.SIGKILL, signal.SIGSTOP}
 
 
 def library_of(program: "str | os.PathLike[str]") -> Path | None:
-    """The library that belongs to a program: beside it, or in ../lib/rtfilter from its folder, links followed. None where
-    there is no such program, or no library."""
+    """The library that belongs to a program: beside it, or in ../lib/rtfilter from its folder, links followed. None
+    where there is no such program, or no library."""
     found = shutil.which(program)
     if found is None:
         return None
     folder = Path(found).resolve().parent
     places = folder / LIBRARY, folder.parent / "lib/rtfilter" / LIBRARY
-    return next(filter(Path.exists, places), None)
+    return next((place for place in places if place.exists()), None)
 
 
 class Started(NamedTuple):
@@ -76,7 +76,7 @@ def start(
             *((os.POSIX_SPAWN_DUP2, copy, FIRST_GIVEN + at) for at, copy in enumerate(copies)),
         ]
         process = os.posix_spawnp(
-            command[0], command, environment, file_actions=actions, setpgroup=0, setsigmask=(), setsigdef=DEFAULTS
+            command[0], [*command], environment, file_actions=actions, setpgroup=0, setsigmask=(), setsigdef=DEFAULTS
         )
         kept.pop_all()
     return Started(process, control, first)
