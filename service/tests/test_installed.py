@@ -7,12 +7,12 @@ import shutil
 import signal
 import socket
 import subprocess
-import tempfile
 import unittest
 from pathlib import Path
 
-from served import BOXES, PROGRAM, ROOT, SYSTEM_PYTHON, Case, read_lines, talk, until
+from served import BOXES, PROGRAM, ROOT, Case, read_lines, talk
 
+PAGE = ROOT / "service/README.md"
 UNITS = ROOT / "service/rtfilter.socket", ROOT / "service/rtfilter.service"
 PLAIN = {"PATH": "/usr/bin:/bin"}
 LEAST_EXPOSURE = 1.5
@@ -76,6 +76,33 @@ class Installed(Case):
         done = subprocess.run(command, stdout=subprocess.PIPE, stderr=subprocess.STDOUT, text=True, timeout=120)
         self.assertEqual(done.returncode, 0, done.stdout)
         return done.stdout
+
+
+class QuickStart(Case):
+    def test_as_typed(self) -> None:
+        """What the page shows, in a folder with what the repository has, by the system's Python and without pip."""
+        for name in ("service", "clients", "examples"):
+            Path(self.folder, name).symlink_to(ROOT / name)
+        Path(self.folder, "build").symlink_to(Path(PROGRAM).parent)
+        served, client, netcat = re.findall(r"^```\n\$ (.*?)^```$", PAGE.read_text(), re.MULTILINE | re.DOTALL)
+        session = re.search(r"^```pycon\n(.*?)^```$", PAGE.read_text(), re.MULTILINE | re.DOTALL)[1]
+        command, *told = served.splitlines()
+        words = {"shell": True, "executable": "/bin/bash", "env": PLAIN, "cwd": self.folder, "text": True}
+        with subprocess.Popen(f"exec {command}", stderr=subprocess.PIPE, **words) as service:
+            self.assertEqual([service.stderr.readline().rstrip("\n") for _ in told], told)
+            typed = "".join(f"{line[4:]}\n" for line in session.splitlines() if line.startswith((">>> ", "... "))) + "\n"
+            shown = [line for line in session.splitlines() if not line.startswith((">>> ", "... "))]
+            done = subprocess.run(client.strip(), input=typed, stdout=subprocess.PIPE, timeout=60, **words)
+            self.assertEqual(done.stdout.splitlines(), shown)
+            command, *shown = netcat.splitlines()
+            if has_netcat := shutil.which("nc"):
+                done = subprocess.run(command, stdout=subprocess.PIPE, timeout=60, **words)
+                self.assertEqual(done.stdout.splitlines(), shown)
+            service.terminate()
+            self.assertEqual(service.wait(10), 0)
+        self.assertFalse(os.path.lexists(f"{self.folder}/boxes.socket"))
+        if not has_netcat:
+            self.skipTest("nc: not installed")
 
 
 class AsUnit(Case):
