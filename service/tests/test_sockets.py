@@ -212,12 +212,13 @@ class Surroundings(Case):
             os.set_blocking(writing, True)
         left, broken = os.pipe()
         os.close(left)
-        for script, errors in (('exec "$@" 2>&-', None), ('exec "$@" <&- >&- 2>&-', None), ('exec "$@"', broken), ('exec "$@"', writing)):
+        scripts = 'exec "$@" 2>&-', 'exec "$@" <&- >&- 2>&-', 'exec "$@"', 'exec "$@"'
+        for script, errors in zip(scripts, (None, None, broken, writing)):
             path = f"{self.folder}/socket"
             command = ["sh", "-c", script, "-", sys.executable, "-B", str(SERVICE), "--program", PROGRAM, "--unix", path]
             process = subprocess.Popen([*command, str(BOXES)], stderr=errors)
             self.addCleanup(process.kill)
-            until(lambda: os.path.exists(path), "the service")
+            until(lambda: listens(path), "the service")
             for _ in range(3):
                 with socket.socket(socket.AF_UNIX) as asker:
                     asker.connect(path)
@@ -227,6 +228,11 @@ class Surroundings(Case):
             self.assertEqual(process.wait(10), 0)
         for end in (reading, writing, broken):
             os.close(end)
+
+
+def listens(path: str) -> bool:
+    with socket.socket(socket.AF_UNIX) as asker:
+        return asker.connect_ex(path) == 0
 
 
 def copied(folder: Path) -> Path:
