@@ -20,8 +20,8 @@ LEAST_EXPOSURE = 1.5
 
 class Installed(Case):
     def make(self, target: str) -> None:
-        words = ["make", "--silent", "-C", ROOT, target, f"PROGRAM={PROGRAM}", f"DESTDIR={self.folder}/root", "PREFIX=/opt/it"]
-        subprocess.run(words, check=True, stdout=subprocess.DEVNULL, env={**os.environ, "MAKEFLAGS": ""})
+        places = f"PROGRAM={PROGRAM}", f"DESTDIR={self.folder}/root", "PREFIX=/opt/it"
+        subprocess.run(["make", "--silent", "-C", ROOT, target, *places], check=True, stdout=subprocess.DEVNULL, env={**os.environ, "MAKEFLAGS": ""})
 
     def setUp(self) -> None:
         super().setUp()
@@ -148,8 +148,8 @@ class AsUnit(Case):
 
 def allowed(name: str) -> set[str]:
     """The calls of a set of systemd's, and of those that it names."""
-    lines = subprocess.run(["systemd-analyze", "syscall-filter", name], capture_output=True, text=True, check=True).stdout.split("\n")
-    names = [line.strip() for line in lines[1:] if line.strip() and not line.strip().startswith("#")]
+    told = subprocess.run(["systemd-analyze", "syscall-filter", name], stdout=subprocess.PIPE, text=True, check=True).stdout
+    names = [line.strip() for line in told.splitlines()[1:] if line.strip() and not line.strip().startswith("#")]
     return {call for it in names for call in (allowed(it) if it.startswith("@") else {it})}
 
 

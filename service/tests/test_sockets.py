@@ -47,10 +47,11 @@ class Sockets(Case):
     def test_a_backlog_that_is_full(self) -> None:
         """Whoever listens there is left alone, even where nobody is accepted."""
         path = str(Path(self.folder, "full"))
-        with socket.socket(socket.AF_UNIX) as busy, socket.socket(socket.AF_UNIX) as one, socket.socket(socket.AF_UNIX) as two:
+        busy, *askers = (self.enterContext(socket.socket(socket.AF_UNIX)) for _ in range(3))
+        with busy:
             busy.bind(path)
             busy.listen(0)
-            for asker in (one, two):
+            for asker in askers:
                 asker.setblocking(False)
                 asker.connect_ex(path)
             self.assertEqual(run("--unix", path, BOXES)[0], 1)
