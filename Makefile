@@ -30,7 +30,7 @@ build/rtfilter: $(foreach it,$(call below,rtfilter),build/$(it).proved) $(call s
 
 build/rtfilter-prefork.so: service/prefork.c
 	@mkdir -p build
-	@$(CC) -std=gnu11 -O2 -Wall -Wextra -fPIC -shared -o $@ $<
+	@$(CC) -std=gnu11 -O -Wall -Wextra -fPIC -shared -o $@ $<
 
 define library
 build/$(1).proved: $(foreach it,$(call below,$(1)),build/$(it).proved) $(call sources,$(1))

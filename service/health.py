@@ -9,6 +9,7 @@ from collections.abc import Callable, Mapping
 
 PATIENCE = 5.0  # seconds for one who asks
 MOST_AT_ONCE = 64  # who ask; of more, those who came first are left
+READY = "rtfilter_ready 1"
 ROWS, STATUSES, OF_SIGNALS = 2, 256, 128  # of `struct board` in prefork.c
 
 
@@ -24,12 +25,12 @@ class Board:
     def lines(self) -> list[str]:
         """For Prometheus."""
         accepted, refused, *ended = self._numbers[1:3 + STATUSES]
-        labels = [f'{{status="{at}"}}' if at < OF_SIGNALS else f'{{signal="{at - OF_SIGNALS}"}}' for at in range(STATUSES)]
+        labels = [f'{{status="{at}"}}' for at in range(OF_SIGNALS)] + [f'{{signal="{at}"}}' for at in range(OF_SIGNALS)]
         return [
             *metric("connections", "gauge", {"": sum(self.rows)}),
             *metric("connections_total", "counter", {"": accepted}),
             *metric("connections_refused_total", "counter", {"": refused}),
-            *metric("connections_ended_total", "counter", {label: count for label, count in zip(labels, ended) if count}),
+            *metric("connections_ended_total", "counter", {label: it for label, it in zip(labels, ended) if it}),
         ]
 
 
@@ -41,8 +42,8 @@ def metric(name: str, kind: str, values: Mapping[str, float]) -> list[str]:
 class Health:
     """Answers over HTTP/1.0, whoever asks for a few seconds at most."""
 
-    def __init__(self, is_ready: Callable[[], bool], lines: Callable[[], list[str]]) -> None:
-        self._is_ready, self._lines = is_ready, lines
+    def __init__(self, lines: Callable[[], list[str]]) -> None:
+        self._lines = lines  # the metrics, of which `READY` is one where a table stands
         self._asking: list[asyncio.StreamWriter] = []
 
     async def serve(self, listener: socket.socket) -> None:
@@ -63,7 +64,7 @@ class Health:
 
     def _reply(self, request: list[bytes]) -> bytes:
         if request[:2] == [b"GET", b"/health"]:
-            status, text = ("200 OK", "ready") if self._is_ready() else ("503 Service Unavailable", "not ready")
+            status, text = ("200 OK", "ready") if READY in self._lines() else ("503 Service Unavailable", "not ready")
         elif request[:2] == [b"GET", b"/metrics"]:
             status, text = "200 OK", "\n".join(self._lines())
         else:

@@ -8,7 +8,7 @@ import stat
 from collections.abc import Iterator
 
 FIRST_GIVEN = 3  # the first descriptor that systemd passes
-BACKLOG = 512
+BACKLOG = 4096  # as many as Linux lets wait, by default
 
 
 @contextlib.contextmanager

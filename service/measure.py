@@ -56,7 +56,8 @@ def some_lines(count: int, boxes: int) -> list[bytes]:
 def served(command: list[object], folder: Path, **environment: str) -> Iterator[tuple[int, str]]:
     """A service's process and its path, once it answers."""
     path = str(folder / "socket")
-    service = subprocess.Popen([*map(str, command), "--unix", path], stderr=subprocess.DEVNULL, env={**os.environ, **environment})
+    words, environment = [*map(str, command), "--unix", path], {**os.environ, **environment}
+    service = subprocess.Popen(words, stderr=subprocess.DEVNULL, env=environment)
     try:
         while True:
             with contextlib.suppress(OSError), socket.socket(socket.AF_UNIX) as asker:
@@ -165,9 +166,9 @@ def print_memory(service: int, path: str, boxes: int) -> None:
     askers = [asked(path, some_lines(2000, boxes)) for _ in range(HELD)]
     all_of_them = children(program)
     pss = sum(kilobytes(it, "smaps_rollup", "Pss") for it in [program, *all_of_them]) - before
-    print(f"\nThe program: {before / 1024:.1f} MB of Pss, {tables / 1024:.2f} MB of page tables. {HELD} connections after 1,000 "
-          f"windows and nearest each: {pss / 1024:.1f} MB of Pss and "
-          f"{sum(kilobytes(it, 'status', 'VmPTE') for it in all_of_them) / 1024:.1f} MB of page tables beyond it.")
+    more_tables = sum(kilobytes(it, "status", "VmPTE") for it in all_of_them)
+    print(f"\nThe program: {before / 1024:.1f} MB of Pss, {tables / 1024:.2f} MB of page tables. {HELD} connections after "
+          f"1,000 windows and nearest each: {pss / 1024:.1f} MB of Pss and {more_tables / 1024:.1f} MB of page tables beyond it.")
     for asker in askers:
         asker.close()
     print("\n| query | MB of its own that a connection holds afterwards |\n|---|---|")

@@ -57,7 +57,7 @@
 #define TRY(text, size) (void)0 /* what a test build does with what a connection has read */
 #endif
 
-enum { FIRST_GIVEN = 3, MOST_LISTENERS = 16, MOST_CONNECTIONS = 1 << 20, OF_SIGNALS = 128 };
+enum { FIRST_GIVEN = 3, MOST_LISTENERS = 16, MOST_CONNECTIONS = 1 << 20, OF_SIGNALS = 128, BETWEEN_COMPLAINTS = 10 /* s */ };
 enum { NOT_BEGUN = 71 }; /* the status of a process whose set-up has failed: EX_OSERR */
 static const struct timespec PAUSE = { 0, 100000000 }; /* before another try to accept, where the system has no room */
 
@@ -117,8 +117,8 @@ __attribute__((format(printf, 1, 2))) static void say(const char *format, ...)
 #define END BPF_STMT(BPF_RET | BPF_K, SECCOMP_RET_KILL_PROCESS)
 #define ALLOW BPF_STMT(BPF_RET | BPF_K, SECCOMP_RET_ALLOW)
 
-/* From here on the process may read, write, give memory back and end; at any other call the kernel ends it. Numbers of x32
- * are none of these. Whether the kernel has agreed. */
+/* From here on the process may read, write, give memory back and end; at any other call the kernel ends it. Numbers of
+ * x32 are none of these. Whether the kernel has agreed. */
 static int confine(void)
 {
   uint64_t end = (uint64_t)syscall(SYS_brk, 0); /* memory from here on is not to be taken */
@@ -140,13 +140,13 @@ static int confine(void)
 /* Makes this child the program for one connection. */
 static void become(int connection, pid_t parent)
 {
-  if (prctl(PR_SET_PDEATHSIG, SIGKILL) || getppid() != parent)
+  if (prctl(PR_SET_PDEATHSIG, SIGKILL) || getppid() != parent || dup2(connection, STDIN_FILENO) < 0 ||
+      dup2(connection, STDOUT_FILENO) < 0 || close_range(STDERR_FILENO + 1, ~0U, 0))
     _exit(NOT_BEGUN);
-  int score = open("/proc/self/oom_score_adj", O_WRONLY | O_CLOEXEC);
-  if (score < 0 || write(score, "1000", 4) < 0) /* short of memory, the kernel is to take a connection and not the table */
+  int score = open("/proc/self/oom_score_adj", O_WRONLY);
+  if (score < 0 || write(score, "1000", 4) < 0) /* short of memory, the kernel is to take a connection, not the table */
     say("a connection's oom_score_adj: %m\n");
-  if (dup2(connection, STDIN_FILENO) < 0 || dup2(connection, STDOUT_FILENO) < 0 ||
-      close_range(STDERR_FILENO + 1, ~0U, 0) || sigaction(SIGCHLD, &child_before, NULL) ||
+  if ((score >= 0 && close(score)) || sigaction(SIGCHLD, &child_before, NULL) ||
       sigprocmask(SIG_SETMASK, &mask_before, NULL) || (is_confining && !confine()))
     _exit(NOT_BEGUN);
 }
@@ -240,7 +240,8 @@ static void name_peer(struct connection *it, const struct sockaddr_storage *addr
     getsockopt(it->socket, SOL_SOCKET, SO_PEERCRED, &peer, &(socklen_t){ sizeof peer });
     snprintf(it->who, sizeof it->who, "process %d of user %u", peer.pid, peer.uid);
   } else {
-    getnameinfo((const struct sockaddr *)address, size, host, sizeof host, port, sizeof port, NI_NUMERICHOST | NI_NUMERICSERV);
+    getnameinfo((const struct sockaddr *)address, size, host, sizeof host, port, sizeof port,
+                NI_NUMERICHOST | NI_NUMERICSERV);
     snprintf(it->who, sizeof it->who, address->ss_family == AF_INET6 ? "[%s]:%s" : "%s:%s", host, port);
   }
 }
@@ -270,27 +271,29 @@ enum accepted { DONE, IS_CHILD, NO_ROOM };
 /* Accepts who connects, if anybody does: another program may have been first, and who connected may have left. */
 static enum accepted accept_from(int listener)
 {
-  static int is_told;
+  static time_t told;
+  struct timespec now = { 0, 0 };
   struct sockaddr_storage address = { .ss_family = AF_UNIX };
   socklen_t size = sizeof address;
   struct connection refused, *it = connections;
   int connection = accept4(listener, (struct sockaddr *)&address, &size, SOCK_CLOEXEC);
-  if (connection < 0 && errno != EMFILE && errno != ENFILE && errno != ENOBUFS && errno != ENOMEM && errno != EINVAL)
+  if (connection < 0 && (errno == EAGAIN || errno == EINTR || errno == ECONNABORTED))
     return DONE;
+  clock_gettime(CLOCK_MONOTONIC, &now);
   if (connection < 0) {
-    if (!is_told)
+    if (!told || now.tv_sec >= told + BETWEEN_COMPLAINTS) {
       say("no connection accepted: %m\n");
-    is_told = 1;
+      told = now.tv_sec;
+    }
     return NO_ROOM;
   }
-  is_told = 0;
-  int has_slot = take_slot();
+  int has_slot = count < limit && take_slot();
   while (has_slot && it->process)
     it++;
   it = has_slot ? it : &refused;
   it->socket = connection;
   it->number = __atomic_add_fetch(&board->accepted, 1, __ATOMIC_SEQ_CST);
-  clock_gettime(CLOCK_MONOTONIC, &it->begun);
+  it->begun = now;
   name_peer(it, &address, size);
   if (has_slot)
     return begin(it, address.ss_family != AF_UNIX) ? IS_CHILD : DONE;

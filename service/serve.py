@@ -12,7 +12,8 @@ import resource
 import signal
 import socket
 import sys
-from collections.abc import Sequence
+from collections.abc import Callable, Sequence
+from functools import partial
 
 import prefork
 from listening import given_listeners, name_of, tcp_listener, unix_listener
@@ -20,6 +21,7 @@ from service import NO_SERVICE, Service, log
 
 LOOPBACK = "127.0.0.1"
 MOST_CONNECTIONS = 1 << 20  # as prefork.c has it
+LONGEST = 1e8  # seconds, three years
 
 
 def main(words: Sequence[str]) -> int:
@@ -42,7 +44,7 @@ def main(words: Sequence[str]) -> int:
             return asyncio.run(Service(args, command(args), library, listeners).run(health))
     except OSError as error:
         log(f"rtfilter-serve: {error}")
-        return NO_SERVICE
+    return NO_SERVICE
 
 
 def prepare(nice: int) -> None:
@@ -52,6 +54,7 @@ def prepare(nice: int) -> None:
         pass
     os.close(descriptor)
     signal.signal(signal.SIGCHLD, signal.SIG_DFL)
+    signal.signal(signal.SIGHUP, signal.SIG_IGN)  # so far there is no table to exchange
     signal.pthread_sigmask(signal.SIG_SETMASK, ())
     _, most = resource.getrlimit(resource.RLIMIT_NOFILE)
     resource.setrlimit(resource.RLIMIT_NOFILE, (most, most))
@@ -76,13 +79,13 @@ def command(args: argparse.Namespace) -> list[str]:
 
 def parser_of_words() -> argparse.ArgumentParser:
     parser = argparse.ArgumentParser(prog="rtfilter-serve", description="Answers rtfilter's query lines over sockets.")
-    add = parser.add_argument
+    add, seconds, octal = parser.add_argument, within(float, 0, LONGEST), partial(int, base=8)
     add("table", metavar="TABLE", help="the CSV file of the boxes")
     add("--unix", metavar="PATH", action="append", default=[], help="listen on a Unix socket")
-    add("--mode", type=mode, default=0o600, help="of the Unix socket, in octal (600)")
+    add("--mode", type=within(octal, 0, 0o777), default=0o600, help="of the Unix socket, in octal (600)")
     add("--tcp", metavar="[HOST:]PORT", type=host_and_port, action="append", default=[], help="listen on TCP (loopback)")
     add("--health", metavar="[HOST:]PORT", type=host_and_port, help="answer /health and /metrics over HTTP there")
-    add("--connections", metavar="N", type=connections, default=128, help="the most at a time (128)")
+    add("--connections", metavar="N", type=within(int, 1, MOST_CONNECTIONS), default=128, help="the most at a time (128)")
     add("--silence", metavar="SECONDS", type=seconds, default=0.0, help="that a connection may be silent (0: for ever)")
     add("--patience", metavar="SECONDS", type=seconds, default=60.0, help="that a reader may let replies wait (60)")
     add("--drain", metavar="SECONDS", type=seconds, default=300.0, help="that connections keep the old table (300)")
@@ -95,33 +98,20 @@ def parser_of_words() -> argparse.ArgumentParser:
     return parser
 
 
-def mode(word: str) -> int:
-    found = int(word, 8)
-    if not 0 <= found <= 0o777:
-        raise ValueError
-    return found
+def within(kind: Callable[[str], float], least: float, most: float) -> Callable[[str], float]:
+    """Reads a number in a range."""
+    def number(word: str) -> float:
+        found = kind(word)
+        if not least <= found <= most:
+            raise ValueError
+        return found
+
+    return number
 
 
 def host_and_port(word: str) -> tuple[str, int]:
     host, _, port = word.rpartition(":")
-    found = int(port)
-    if not 0 <= found <= 65535:
-        raise ValueError
-    return host.removeprefix("[").removesuffix("]") or LOOPBACK, found
-
-
-def connections(word: str) -> int:
-    found = int(word)
-    if not 1 <= found <= MOST_CONNECTIONS:
-        raise ValueError
-    return found
-
-
-def seconds(word: str) -> float:
-    found = float(word)
-    if not 0 <= found < float("inf"):
-        raise ValueError
-    return found
+    return host.removeprefix("[").removesuffix("]") or LOOPBACK, int(within(int, 0, 65535)(port))
 
 
 if __name__ == "__main__":

@@ -1,4 +1,4 @@
-"""The programs of a service: one that accepts, and for a while another one, which is loaded or has its last connections."""
+"""The programs of a service: one that accepts, and for a while another, which loads or has its last connections."""
 
 import asyncio
 import contextlib
@@ -7,7 +7,6 @@ import select
 import signal
 import socket
 import sys
-import tempfile
 import time
 from argparse import Namespace
 from collections.abc import Sequence
@@ -50,7 +49,8 @@ class Table:
 
     def __init__(self, started: prefork.Started, row: int) -> None:
         self.process, self.control, self.first = started
-        self.row, self.size, self.begun = row, 0, time.monotonic()
+        self.row, self.begun = row, time.monotonic()
+        self.size, self.loaded = 0, 0.0  # boxes, and when
         self.ended: asyncio.Future[int] = asyncio.get_running_loop().create_future()  # with a status
         for end in (self.control, self.first):
             end.setblocking(False)
@@ -64,27 +64,34 @@ class Table:
             await self.ended
 
 
+def tell(what: str, table: Table) -> None:
+    log(f"{what}: {table.size} boxes")
+    notify(f"READY=1\nSTATUS={table.size} boxes")
+
+
 class Service:
     """Keeps a table behind sockets until it is told to end."""
 
-    def __init__(self, args: Namespace, command: Sequence[str], library: Path, listeners: Sequence[socket.socket]) -> None:
+    def __init__(
+        self, args: Namespace, command: Sequence[str], library: Path, listeners: Sequence[socket.socket]
+    ) -> None:
         self._args, self._command, self._library, self._listeners = args, command, library, listeners
-        self._settings = {"CONNECTIONS": args.connections, "SILENCE": args.silence, "PATIENCE": args.patience}
         self._board = Board()
-        self._tables: list[Table] = []  # that stand, at most two: the last one accepts, or is to
+        self._tables: list[Table] = []  # whose programs haven't ended: at most two
         self._accepting: Table | None = None
         self._is_asked = False  # to exchange the table
-        self._changed = asyncio.Event()  # it is asked for something, or a program has ended
-        self._draining: set[asyncio.Task[None]] = set()
+        self._changed = asyncio.Event()  # that, or a program has ended
+        self._draining: asyncio.Task[None] | None = None
         self._pause = FIRST_PAUSE
 
     async def run(self, health: socket.socket | None) -> int:
         """Serves until the end, and gives the exit status."""
         if health is not None:
-            await Health(self._is_ready, self._lines).serve(health)
-        keeping = asyncio.ensure_future(self._keep())
-        loop = asyncio.get_running_loop()
+            await Health(self._lines).serve(health)
+        keeping, loop = asyncio.ensure_future(self._keep()), asyncio.get_running_loop()
+        loop.set_exception_handler(lambda _, it: log(f"rtfilter-serve: {it['message']}: {it.get('exception')}"))
         loop.add_signal_handler(signal.SIGHUP, self._ask)
+        loop.add_signal_handler(signal.SIGCHLD, self._reap)
         for number in (signal.SIGTERM, signal.SIGINT):
             loop.add_signal_handler(number, keeping.cancel)
         await asyncio.wait([keeping])
@@ -98,84 +105,88 @@ class Service:
         self._is_asked = True
         self._changed.set()
 
+    def _reap(self) -> None:
+        """Takes leave of programs that have ended. Their connections are killed with them, and counted no more."""
+        for table in self._tables.copy():
+            process, status = os.waitpid(table.process, os.WNOHANG)
+            if process:
+                self._board.rows[table.row] = 0
+                self._tables.remove(table)
+                table.ended.set_result(os.waitstatus_to_exitcode(status))
+                self._changed.set()
+
     async def _keep(self) -> int:
         """Loads the table, exchanges it when asked to, and starts the program anew where it has ended."""
         try:
-            self._accepting = await self._load()
+            self._accepting = table = await self._load()
         except (NotLoaded, OSError) as error:
             log(str(error))
             return getattr(error, "status", NO_SERVICE)
-        self._tell("ready")
+        tell("ready", table)
         while True:
-            is_gone = not self._is_ready()
-            if is_gone:
-                await self._wait_after(self._accepting)
-            if is_gone or (self._is_asked and len(self._tables) == 1):
-                await self._exchange()
+            if table.ended.done():
+                table = await self._replaced(table)
+            elif self._is_asked and len(self._tables) == 1:
+                table = await self._exchanged(table)
             else:
                 self._changed.clear()
                 await self._changed.wait()
 
-    async def _wait_after(self, gone: Table) -> None:
-        """A pause, longer each time unless the program has run for a while; who asks for a table ends it."""
+    async def _replaced(self, gone: Table) -> Table:
+        """A table in the place of one whose program has ended, after a pause that grows unless that has run for a while.
+        Who asks for another table ends the pause."""
         log(f"the program has ended, with status {gone.ended.result()}: those who connect wait until another is loaded")
-        self._changed.clear()
-        with contextlib.suppress(TimeoutError):
-            async with asyncio.timeout(self._pause):
-                await self._changed.wait()
-        has_run = time.monotonic() - gone.begun > LONGEST_PAUSE
-        self._pause = FIRST_PAUSE if has_run else min(2 * self._pause, LONGEST_PAUSE)
+        pause = FIRST_PAUSE if time.monotonic() - gone.begun > LONGEST_PAUSE else self._pause
+        table = gone
+        while table.ended.done():
+            self._changed.clear()
+            with contextlib.suppress(TimeoutError):
+                async with asyncio.timeout(pause):
+                    await self._changed.wait()
+            pause = min(2 * pause, LONGEST_PAUSE)
+            table = await self._exchanged(table)
+        self._pause = pause
+        return table
 
-    async def _exchange(self) -> None:
-        """Loads the table beside the old one, and has that one accept no more. Where it isn't loaded, nothing changes."""
+    async def _exchanged(self, old: Table) -> Table:
+        """A table that was loaded beside the old one, which accepts no more; where it can't be, the old one."""
         self._is_asked = False
         notify(f"RELOADING=1\nMONOTONIC_USEC={time.monotonic_ns() // 1000}")
         try:
             fresh = await self._load()
         except (NotLoaded, OSError) as error:
-            log(f"the new table isn't taken, {'the old one stays' if self._is_ready() else 'there is none'}: {error}")
+            log(f"the new table isn't taken, {'there is none' if old.ended.done() else 'the old one stays'}: {error}")
             notify("READY=1")
-            return
-        old, self._accepting = self._accepting, fresh
-        is_there = not old.ended.done()
+            return old
+        what = "ready again" if old.ended.done() else "the table is exchanged"
+        self._accepting = fresh
         await self._retire(old)
-        self._tell("the table is exchanged" if is_there else "ready again")
+        tell(what, fresh)
+        return fresh
 
     async def _load(self) -> Table:
         """A program that has loaded the table. Raises `NotLoaded`, and `OSError` where none can be started."""
-        loop, limit, why = asyncio.get_running_loop(), self._args.load_timeout, ""
+        args, reply, why = self._args, b"", ""
         row = 1 - self._tables[0].row if self._tables else 0
-        with tempfile.TemporaryFile() as errors:
-            settings, files = {**self._settings, "ROW": row}, {"BOARD": self._board.file, "LOG": 2}
+        settings = {"CONNECTIONS": args.connections, "SILENCE": args.silence, "PATIENCE": args.patience, "ROW": row}
+        files = {"BOARD": self._board.file, "LOG": 2}
+        with open(os.memfd_create("rtfilter-errors"), "rb") as errors:
             started = prefork.start(self._command, self._library, self._listeners, errors.fileno(), settings, files)
-            table, watched = Table(started, row), os.pidfd_open(started.process)
+            table = Table(started, row)
             self._tables.append(table)
-            loop.add_reader(watched, self._reap, table, watched)
-            with table.first:
+            with table.first, contextlib.suppress(ConnectionError):  # it hasn't read what it was asked
                 try:
-                    async with asyncio.timeout(limit):
-                        reply = await loop.sock_recv(table.first, 100)
-                except ConnectionError:  # it hasn't read what it was asked
-                    reply = b""
+                    async with asyncio.timeout(args.load_timeout):
+                        reply = await asyncio.get_running_loop().sock_recv(table.first, 100)
                 except TimeoutError:
-                    reply, why = b"", f"it wasn't loaded in {limit:g} seconds"
+                    why = f"it wasn't loaded in {args.load_timeout:g} seconds"
             if reply:
                 table.size, table.loaded = int(reply.split()[-1]), time.monotonic()
                 return table
             await table.end()
-            told = os.pread(errors.fileno(), LONGEST_ERROR, 0).decode(errors="replace").strip()
+            told = " ".join(os.pread(errors.fileno(), LONGEST_ERROR, 0).decode(errors="replace").split())
         status = table.ended.result()
         raise NotLoaded(why or told or f"the program has ended, with status {status}", status)
-
-    def _reap(self, table: Table, watched: int) -> None:
-        """Takes leave of a program that has ended. Its connections are killed with it, and counted no more."""
-        asyncio.get_running_loop().remove_reader(watched)
-        os.close(watched)
-        _, status = os.waitpid(table.process, 0)
-        self._board.rows[table.row] = 0
-        self._tables.remove(table)
-        table.ended.set_result(os.waitstatus_to_exitcode(status))
-        self._changed.set()
 
     async def _retire(self, old: Table) -> None:
         """Has a program accept no more, and leaves it to its connections. One that doesn't is ended."""
@@ -184,9 +195,7 @@ class Service:
             async with asyncio.timeout(GRACE):
                 await loop.sock_sendall(old.control, b".")
                 if await loop.sock_recv(old.control, 1):
-                    draining = asyncio.ensure_future(self._drain(old))
-                    self._draining.add(draining)
-                    draining.add_done_callback(self._draining.discard)
+                    self._draining = asyncio.ensure_future(self._drain(old))
                     return
         await old.end()
 
@@ -196,17 +205,14 @@ class Service:
             log("the connections that are left to the old table are ended")
         await old.end()
 
-    def _is_ready(self) -> bool:
-        return self._accepting is not None and not self._accepting.ended.done()
-
-    def _tell(self, what: str) -> None:
-        log(f"{what}: {self._accepting.size} boxes")
-        notify(f"READY=1\nSTATUS={self._accepting.size} boxes")
-
     def _lines(self) -> list[str]:
-        """For Prometheus."""
-        found = metric("ready", "gauge", {"": int(self._is_ready())})
-        if self._is_ready():
-            found += metric("boxes", "gauge", {"": self._accepting.size})
-            found += metric("table_age_seconds", "gauge", {"": round(time.monotonic() - self._accepting.loaded, 3)})
-        return found + self._board.lines()
+        """For Prometheus; the first one is whether a table stands."""
+        table = self._accepting
+        if table is None or table.ended.done():
+            return metric("ready", "gauge", {"": 0}) + self._board.lines()
+        return [
+            *metric("ready", "gauge", {"": 1}),
+            *metric("boxes", "gauge", {"": table.size}),
+            *metric("table_age_seconds", "gauge", {"": round(time.monotonic() - table.loaded, 3)}),
+            *self._board.lines(),
+        ]

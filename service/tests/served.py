@@ -60,8 +60,8 @@ class Served:
     """The service over a table, on a Unix socket in a folder. To be used in a `with` statement, which ends it."""
 
     def __init__(
-        self, folder: str, table: Path, *words: str, before: Iterable[str] = (), is_ready: bool = True, program: str = PROGRAM,
-        python: str = sys.executable, **options: object,
+        self, folder: str, table: Path, *words: str, before: Iterable[str] = (), is_ready: bool = True,
+        program: str = PROGRAM, python: str = sys.executable, **options: object,
     ) -> None:
         """`before` are words of a command that runs it. Waits until the table is loaded, unless it isn't to be."""
         self.path = str(Path(folder, "socket"))

@@ -12,7 +12,7 @@ from pathlib import Path
 from served import BOXES, PROGRAM, ROOT, Case, read_lines, table_of, told_by_program, until
 
 SOURCE = ROOT / "service/prefork.c"
-FLAGS = ["-std=gnu11", "-O2", "-fPIC", "-shared"]
+FLAGS = ["-std=gnu11", "-O", "-fPIC", "-shared"]
 CALLS = {"read", "write", "munmap", "brk", "exit_group"}
 ERROR_OF_VALGRIND = 99
 
@@ -119,10 +119,11 @@ class Source(unittest.TestCase):
     def test_by_compilers(self) -> None:
         """With all their warnings, and with gcc's search for faults."""
         tried = 0
-        for compiler, flags in (("gcc", ["-Wall", "-Wextra", "-Werror", "-fanalyzer"]), ("clang", ["-Wall", "-Wextra", "-Werror"])):
+        for compiler, flags in (("gcc", ["-fanalyzer"]), ("clang", [])):
             if shutil.which(compiler):
                 tried += 1
-                done = subprocess.run([compiler, *FLAGS, *flags, "-o", os.devnull, SOURCE], capture_output=True, text=True)
+                words = [compiler, *FLAGS, "-Wall", "-Wextra", "-Werror", *flags, "-o", os.devnull, SOURCE]
+                done = subprocess.run(words, capture_output=True, text=True)
                 self.assertEqual((done.returncode, done.stderr), (0, ""))
         if not tried:
             self.skipTest("gcc: not installed")

@@ -21,7 +21,8 @@ class Ends(Case):
             old.sendall(b"count all\n")
             read_lines(old, 1)
             service.exchange()
-            with service.connect() as silent, service.connect() as reads_nothing, socket.create_connection(service.tcp) as stopped:
+            stopped = self.enterContext(socket.create_connection(service.tcp))
+            with service.connect() as silent, service.connect() as reads_nothing:
                 for asker in (silent, stopped):
                     asker.sendall(b"count all\n")
                     self.assertEqual(read_lines(asker, 1), b"ok 1 100000\n")

@@ -29,7 +29,7 @@ class Exchanges(Case):
         """Each connection is answered from one table, wholly, and who connects after an exchange from the new one; no slot
         is lost, and nothing is left."""
         self.put("".join(f"{at},0,1,0,1\n" for at in range(100)))
-        service = self.served(self.table, "--connections", "16", "--health", "0")
+        service = self.served(self.table, "--connections", "6", "--health", "0")
         is_over, faults, finished = threading.Event(), [], []
         least = 0  # of tables that may be met: the last one that was exchanged for
 
@@ -45,6 +45,9 @@ class Exchanges(Case):
                             begun = first
                         if first != begun or first < known or found != answers(first, 100) + b"ok %d 100\n" % line:
                             faults.append((line, begun, known, found[:50]))
+                    asker.shutdown(socket.SHUT_WR)
+                    if asker.recv(1):  # whoever has seen the end has given its slot back
+                        faults.append("more than was asked for")
                 finished.append(begun)
 
         with all_of(threading.Thread(target=ask) for _ in range(6)):
@@ -57,6 +60,8 @@ class Exchanges(Case):
             finally:
                 is_over.set()
         self.assertEqual(faults, [])
+        ends = [line for line in service.log.splitlines() if line.startswith("connection") and ": status=0 " not in line]
+        self.assertEqual(ends, [])
         self.assertGreater(len(set(finished)), 50)
         until(lambda: len(service.programs) == 1 and not service.connections, "the end of old tables")
         service.logs("status=0 ", len(finished))

@@ -11,7 +11,10 @@ from pathlib import Path
 
 from served import BOXES, PROGRAM, Case, Served, library_of, read_lines, until
 
-HEAD = rb"^HTTP/1\.0 (\d{3}) [A-Za-z ]+\r\nContent-Type: text/plain; version=0\.0\.4; charset=utf-8\r\nContent-Length: (\d+)\r\n\r\n"
+HEAD = re.compile(
+    rb"HTTP/1\.0 (\d{3}) [A-Za-z ]+\r\nContent-Type: text/plain; version=0\.0\.4; charset=utf-8\r\n"
+    rb"Content-Length: (\d+)\r\n\r\n"
+)
 SAMPLE = r'^rtfilter_[a-z_]+(\{(status|signal)="\d+"\})? \d+(\.\d+)?$'
 
 
@@ -22,7 +25,7 @@ class Health(Case):
             asker.settimeout(20)
             asker.sendall(text)
             found = b"".join(iter(lambda: asker.recv(4096), b""))
-        status, length = re.match(HEAD, found).groups()
+        status, length = HEAD.match(found).groups()
         text = found.partition(b"\r\n\r\n")[2]
         self.assertEqual(len(text), int(length))
         return int(status), text
@@ -80,8 +83,8 @@ class Health(Case):
         service = self.served(BOXES, "--health", "0")
         for request, status in (
             (b"GET /health HTTP/1.1\r\nHost: here\r\nConnection: keep-alive\r\n\r\n", 200), (b"GET /health\n\n", 200),
-            (b"GET / HTTP/1.0\r\n\r\n", 404), (b"GET /healthy HTTP/1.0\r\n\r\n", 404), (b"POST /health HTTP/1.0\r\n\r\n", 404),
-            (b"\r\n\r\n", 404), (b"\0\xff\n\n", 404), (b"GET\r\n\r\n", 404),
+            (b"GET / HTTP/1.0\r\n\r\n", 404), (b"GET /healthy HTTP/1.0\r\n\r\n", 404),
+            (b"POST /health HTTP/1.0\r\n\r\n", 404), (b"\r\n\r\n", 404), (b"\0\xff\n\n", 404), (b"GET\r\n\r\n", 404),
         ):
             self.assertEqual(self.asked(service, request)[0], status, request)
 

@@ -7,12 +7,12 @@ import shutil
 import signal
 import socket
 import subprocess
-import tempfile
 import unittest
 from pathlib import Path
 
-from served import BOXES, PROGRAM, ROOT, SYSTEM_PYTHON, Case, read_lines, talk, until
+from served import BOXES, PROGRAM, ROOT, Case, read_lines, talk
 
+PAGE = ROOT / "service/README.md"
 UNITS = ROOT / "service/rtfilter.socket", ROOT / "service/rtfilter.service"
 PLAIN = {"PATH": "/usr/bin:/bin"}
 LEAST_EXPOSURE = 1.5
@@ -20,8 +20,8 @@ LEAST_EXPOSURE = 1.5
 
 class Installed(Case):
     def make(self, target: str) -> None:
-        words = ["make", "--silent", "-C", ROOT, target, f"PROGRAM={PROGRAM}", f"DESTDIR={self.folder}/root", "PREFIX=/opt/it"]
-        subprocess.run(words, check=True, stdout=subprocess.DEVNULL, env={**os.environ, "MAKEFLAGS": ""})
+        places = f"PROGRAM={PROGRAM}", f"DESTDIR={self.folder}/root", "PREFIX=/opt/it"
+        subprocess.run(["make", "--silent", "-C", ROOT, target, *places], check=True, stdout=subprocess.DEVNULL, env={**os.environ, "MAKEFLAGS": ""})
 
     def setUp(self) -> None:
         super().setUp()
@@ -78,6 +78,33 @@ class Installed(Case):
         return done.stdout
 
 
+class QuickStart(Case):
+    def test_as_typed(self) -> None:
+        """What the page shows, in a folder with what the repository has, by the system's Python and without pip."""
+        for name in ("service", "clients", "examples"):
+            Path(self.folder, name).symlink_to(ROOT / name)
+        Path(self.folder, "build").symlink_to(Path(PROGRAM).parent)
+        served, client, netcat = re.findall(r"^```\n\$ (.*?)^```$", PAGE.read_text(), re.MULTILINE | re.DOTALL)
+        session = re.search(r"^```pycon\n(.*?)^```$", PAGE.read_text(), re.MULTILINE | re.DOTALL)[1]
+        command, *told = served.splitlines()
+        words = {"shell": True, "executable": "/bin/bash", "env": PLAIN, "cwd": self.folder, "text": True}
+        with subprocess.Popen(f"exec {command}", stderr=subprocess.PIPE, **words) as service:
+            self.assertEqual([service.stderr.readline().rstrip("\n") for _ in told], told)
+            typed = "".join(f"{line[4:]}\n" for line in session.splitlines() if line.startswith((">>> ", "... "))) + "\n"
+            shown = [line for line in session.splitlines() if not line.startswith((">>> ", "... "))]
+            done = subprocess.run(client.strip(), input=typed, stdout=subprocess.PIPE, timeout=60, **words)
+            self.assertEqual(done.stdout.splitlines(), shown)
+            command, *shown = netcat.splitlines()
+            if has_netcat := shutil.which("nc"):
+                done = subprocess.run(command, stdout=subprocess.PIPE, timeout=60, **words)
+                self.assertEqual(done.stdout.splitlines(), shown)
+            service.terminate()
+            self.assertEqual(service.wait(10), 0)
+        self.assertFalse(os.path.lexists(f"{self.folder}/boxes.socket"))
+        if not has_netcat:
+            self.skipTest("nc: not installed")
+
+
 class AsUnit(Case):
     def test_calls_that_its_unit_allows(self) -> None:
         """The service, its programs and its connections make no others."""
@@ -121,8 +148,8 @@ class AsUnit(Case):
 
 def allowed(name: str) -> set[str]:
     """The calls of a set of systemd's, and of those that it names."""
-    lines = subprocess.run(["systemd-analyze", "syscall-filter", name], capture_output=True, text=True, check=True).stdout.split("\n")
-    names = [line.strip() for line in lines[1:] if line.strip() and not line.strip().startswith("#")]
+    told = subprocess.run(["systemd-analyze", "syscall-filter", name], stdout=subprocess.PIPE, text=True, check=True).stdout
+    names = [line.strip() for line in told.splitlines()[1:] if line.strip() and not line.strip().startswith("#")]
     return {call for it in names for call in (allowed(it) if it.startswith("@") else {it})}
 
 

@@ -47,10 +47,11 @@ class Sockets(Case):
     def test_a_backlog_that_is_full(self) -> None:
         """Whoever listens there is left alone, even where nobody is accepted."""
         path = str(Path(self.folder, "full"))
-        with socket.socket(socket.AF_UNIX) as busy, socket.socket(socket.AF_UNIX) as one, socket.socket(socket.AF_UNIX) as two:
+        busy, *askers = (self.enterContext(socket.socket(socket.AF_UNIX)) for _ in range(3))
+        with busy:
             busy.bind(path)
             busy.listen(0)
-            for asker in (one, two):
+            for asker in askers:
                 asker.setblocking(False)
                 asker.connect_ex(path)
             self.assertEqual(run("--unix", path, BOXES)[0], 1)
@@ -212,12 +213,13 @@ class Surroundings(Case):
             os.set_blocking(writing, True)
         left, broken = os.pipe()
         os.close(left)
-        for script, errors in (('exec "$@" 2>&-', None), ('exec "$@" <&- >&- 2>&-', None), ('exec "$@"', broken), ('exec "$@"', writing)):
+        scripts = 'exec "$@" 2>&-', 'exec "$@" <&- >&- 2>&-', 'exec "$@"', 'exec "$@"'
+        for script, errors in zip(scripts, (None, None, broken, writing)):
             path = f"{self.folder}/socket"
             command = ["sh", "-c", script, "-", sys.executable, "-B", str(SERVICE), "--program", PROGRAM, "--unix", path]
             process = subprocess.Popen([*command, str(BOXES)], stderr=errors)
             self.addCleanup(process.kill)
-            until(lambda: os.path.exists(path), "the service")
+            until(lambda: listens(path), "the service")
             for _ in range(3):
                 with socket.socket(socket.AF_UNIX) as asker:
                     asker.connect(path)
@@ -227,6 +229,11 @@ class Surroundings(Case):
             self.assertEqual(process.wait(10), 0)
         for end in (reading, writing, broken):
             os.close(end)
+
+
+def listens(path: str) -> bool:
+    with socket.socket(socket.AF_UNIX) as asker:
+        return asker.connect_ex(path) == 0
 
 
 def copied(folder: Path) -> Path:

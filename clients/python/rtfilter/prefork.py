@@ -20,8 +20,8 @@ DEFAULTS = signal.valid_signals() - {signal.SIGKILL, signal.SIGSTOP}
 
 
 def library_of(program: "str | os.PathLike[str]") -> Path | None:
-    """The library that belongs to a program: beside it, or in ../lib/rtfilter from its folder, links followed. None where
-    there is no such program, or no library."""
+    """The library that belongs to a program: beside it, or in ../lib/rtfilter from its folder, links followed. None
+    where there is no such program, or no library."""
     found = shutil.which(program)
     if found is None:
         return None
@@ -63,7 +63,8 @@ def start(
             copies.append(fcntl.fcntl(descriptor, fcntl.F_DUPFD_CLOEXEC, FIRST_GIVEN + len(given)))
             stack.callback(os.close, copies[-1])
         words = {**settings, **{name: FIRST_GIVEN + len(listeners) + at for at, name in enumerate(named)}}
-        environment = {name: value for name, value in os.environ.items() if name != "LISTEN_PID"}
+        ours = "LISTEN_", "RTFILTER_"
+        environment = {name: value for name, value in os.environ.items() if not name.startswith(ours)}
         environment |= {f"RTFILTER_{name}": str(value) for name, value in words.items()}
         environment["LISTEN_FDS"] = str(len(listeners))
         # By its descriptor: a path in this list may have neither spaces nor colons.
