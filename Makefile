@@ -12,6 +12,9 @@ CRATES := $(shell sed -n 's/^\([a-z0-9_]*\):.*/\1/p' crates.txt)
 TESTS := $(filter %_tests,$(CRATES))
 LIBRARIES := $(filter-out rtfilter $(TESTS),$(CRATES))
 
+# The program that is installed, or packed: another one than is built here, where it is named.
+PROGRAM := build/rtfilter
+
 # What a service and a pool load before the C library, where there is a C compiler.
 PREFORK := $(if $(shell command -v $(CC)),build/rtfilter-prefork.so)
 
@@ -76,14 +79,17 @@ bench: build/rtfilter
 deb: build/rtfilter
 	@packaging/make_deb.py build/rtfilter build
 
+# The Python wheel with the program in it, in build/. It wants a C compiler.
+wheel: $(PROGRAM) build/rtfilter-prefork.so
+	@packaging/make_wheel.py $(PROGRAM) build/rtfilter-prefork.so build
+
 SHARE := $(DESTDIR)$(PREFIX)/share
 LIBRARY := $(DESTDIR)$(PREFIX)/lib/rtfilter
 UNITS := $(DESTDIR)$(PREFIX)/lib/systemd/system
 SERVICE := serve.py service.py listening.py health.py prefork.py
 COMPLETION := $(SHARE)/bash-completion/completions/rtfilter
 
-# The service too, where there is a C compiler. PROGRAM: another one than is built here.
-PROGRAM := build/rtfilter
+# The service too, where there is a C compiler.
 install: $(PROGRAM) $(PREFORK)
 	install -D $(PROGRAM) "$(DESTDIR)$(PREFIX)/bin/rtfilter"
 	install -D -m 644 docs/rtfilter.1 "$(SHARE)/man/man1/rtfilter.1"
@@ -105,5 +111,5 @@ uninstall:
 clean:
 	rm -rf build crates/*/out
 
-.PHONY: all example check test test-users test-full bench deb install uninstall clean
+.PHONY: all example check test test-users test-full bench deb wheel install uninstall clean
 .DEFAULT_GOAL := all

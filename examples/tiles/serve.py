@@ -28,6 +28,7 @@ from table import Places, Table, names_of
 from views import Views
 
 from rtfilter import Boxes, Disconnected, Ended, Pool, QueryError, TimedOut
+from rtfilter.client import program_of
 from rtfilter.prefork import library_of
 
 LONGEST_TARGET = 4096  # bytes of a request's address
@@ -280,7 +281,7 @@ def arguments() -> argparse.Namespace:
 
 def opened(args: argparse.Namespace) -> Boxes:
     """The table, with a process for each connection, where that takes no memory for a table of its own."""
-    processes = MOST_CONNECTIONS if library_of(args.program) else 1
+    processes = MOST_CONNECTIONS if library_of(program_of(args.program)) else 1
     return Pool(processes, args.table, header=args.header, program=args.program, timeout=args.timeout)
 
 

@@ -6,6 +6,7 @@ from functools import partial
 from operator import index
 from typing import Union
 
+from . import bundled
 from .answers import Answers
 from .boxes import Boxes
 from .connection import Address, Connection
@@ -31,7 +32,8 @@ class Rtfilter(Boxes):
     """A table of boxes that the program `rtfilter` holds, as a process beside this one or behind a service.
 
     `table` is the name of a CSV file, or rows, whose numbers are id, min_x, max_x, min_y, max_y and, for a box that isn't of
-    layer 0, its layer, 0 to 63. With `header`, the first record of a file is one. `fanout` (2 to 64) and `max_entries`
+    layer 0, its layer, 0 to 63. `program` is the program's name or path, or the words of a command that runs it; by default
+    the one in this package, if it has one, else `rtfilter` on the path. With `header`, the first record of a file is one. `fanout` (2 to 64) and `max_entries`
     (1 to 16777216) are the program's options. `timeout` is how many seconds each call may wait, for the program, for the
     calls of other threads and for a connection, all together, the load here too; None sets no limit, and neither does
     infinity.
@@ -204,7 +206,7 @@ def checked_timeout(seconds: float | None) -> float | None:
 
 def command(program: Command, header: bool, fanout: int | None, max_entries: int | None) -> list[str]:
     """The words of the command, up to the table's name."""
-    words = [os.fspath(program)] if isinstance(program, (str, os.PathLike)) else list(program)
+    words = [program_of(program)] if isinstance(program, (str, os.PathLike)) else list(program)
     if header:
         words.append("--header")
     if fanout is not None:
@@ -212,6 +214,11 @@ def command(program: Command, header: bool, fanout: int | None, max_entries: int
     if max_entries is not None:
         words += ["--max-entries", str(index(max_entries))]
     return words
+
+
+def program_of(program: File) -> str:
+    """The program that is meant: by its name alone, the one in this package, if it has one."""
+    return (bundled.program() if program == PROGRAM else None) or os.fspath(program)
 
 
 def query_lines(lines: Iterable[str]) -> list[str]:

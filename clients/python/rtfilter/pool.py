@@ -11,7 +11,7 @@ from pathlib import Path
 from typing import TypeVar
 
 from .boxes import Boxes
-from .client import Command, Rtfilter, checked_timeout, command, query_lines
+from .client import Command, Rtfilter, checked_timeout, command, program_of, query_lines
 from .deadlines import ENDLESS, Deadline
 from .errors import Disconnected, Ended
 from .prefork import library_of
@@ -150,7 +150,7 @@ class Pool(Boxes):
         )
         self._words = command(program, header, fanout, max_entries)
         # Of a command that runs the program nobody knows what else it runs.
-        self._library = library_of(program) if isinstance(program, (str, os.PathLike)) else None
+        self._library = library_of(program_of(program)) if isinstance(program, (str, os.PathLike)) else None
         self._coming: set[Loads] = set()
         self._changed = threading.Condition()
         self._is_closed = False
