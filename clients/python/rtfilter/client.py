@@ -185,9 +185,12 @@ class Rtfilter(Boxes):
         return self._turns.take(lambda: self._open(deadline).size, deadline)
 
     def close(self) -> None:
+        self._close(self._deadline())
+
+    def _close(self, deadline: Deadline) -> None:
         if not self._is_inherited:
             self._end_calls()
-            self._turns.take(lambda: self._transport.close(self._deadline()), ENDLESS)
+            self._turns.take(lambda: self._transport.close(deadline), ENDLESS)
 
     def _end_calls(self) -> None:
         """Ends what other threads wait for: it raises `ValueError`, as each further call does."""

@@ -1,5 +1,6 @@
 """What belongs to the process that made it: in a child of a fork it is left to the parent."""
 
+import contextlib
 import os
 import threading
 import weakref
@@ -37,7 +38,8 @@ _owned: "weakref.WeakSet[Owned]" = weakref.WeakSet()
 
 def _leave_all_to_parent() -> None:
     for owned in list(_owned):
-        owned._leave_to_parent()
+        with contextlib.suppress(OSError):  # where another thread was about to close it
+            owned._leave_to_parent()
     STARTING.release()
 
 

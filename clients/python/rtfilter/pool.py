@@ -15,6 +15,7 @@ from .client import Command, Rtfilter, checked_timeout, command, program_of, que
 from .deadlines import ENDLESS, Deadline
 from .errors import Disconnected, Ended
 from .prefork import library_of
+from .program import GRACE
 from .replies import Reply
 from .shared import LEAST_CONNECTIONS, Holder, Shared, Sharer
 from .tables import Table, again, file_of, named
@@ -38,7 +39,7 @@ class Copies:
     and is mended beside the others.
     """
 
-    def __init__(self, clients: list[Rtfilter], mend: Mend, end: Callable[[], None] = lambda: None) -> None:
+    def __init__(self, clients: list[Rtfilter], mend: Mend, end: Callable[[Deadline], None] = lambda _: None) -> None:
         """`end` is called once all clients are closed."""
         self.clients = clients
         self._end = end
@@ -98,8 +99,8 @@ class Copies:
                 self._lost += 1
             self._changed.notify_all()
 
-    def close(self) -> None:
-        """Ends what waits here too."""
+    def close(self, deadline: Deadline) -> None:
+        """Ends what waits here too. The ends of all programs are waited for until the deadline at most."""
         with self._changed:
             self._is_closed = True
             self._changed.notify_all()
@@ -107,10 +108,10 @@ class Copies:
         for client in self.clients:
             client._end_calls()
         for client in self.clients:
-            client.close()
+            client._close(deadline)
         for thread in mending:
             thread.join()
-        self._end()
+        self._end(deadline)
 
 
 class Pool(Boxes):
@@ -187,7 +188,7 @@ class Pool(Boxes):
             error = load.exception()
             if error is not None:
                 for client in clients:
-                    client.close()
+                    client._close(self._grace())
                 raise error
 
         def mend(client: Rtfilter) -> None:
@@ -215,9 +216,9 @@ class Pool(Boxes):
         except BaseException:
             for client in clients:
                 client.close()
-            shared.close(self._deadline())
+            shared.close(self._grace())
             raise
-        return Copies(clients, lambda client: None, lambda: shared.close(self._deadline()))
+        return Copies(clients, lambda client: None, shared.close)
 
     def _deadline(self) -> Deadline:
         return ENDLESS if self._timeout is None else Deadline(self._timeout)
@@ -263,9 +264,13 @@ class Pool(Boxes):
                 self._file = file_of(table)
             self._changed.wait_for(lambda: self._is_closed or not fresh.users)
             was_closed = self._is_closed
-        fresh.close()
+        fresh.close(self._grace())
         if was_closed:
             raise ValueError(CLOSED)
+
+    def _grace(self) -> Deadline:
+        """Until when the ends of all programs together are waited for."""
+        return self._deadline().sooner(GRACE)
 
     def __len__(self) -> int:
         self._check_process()
@@ -279,7 +284,7 @@ class Pool(Boxes):
             self._changed.notify_all()
         for loads in list(self._coming):
             loads.end()
-        self._copies.close()
+        self._copies.close(self._grace())
         self._threads.shutdown()
 
 

@@ -71,12 +71,14 @@ class Child(Transport):
     def _end(self, grace: float) -> int:
         """The status with which it ends by itself, in so many seconds, or else is killed."""
         until = time.monotonic() + grace
-        pause, longest = PAUSES
+        first, longest = PAUSES
+        pause = first
         while (status := status_of(self._process)) is None:
-            if until <= time.monotonic():
+            left = until - time.monotonic()
+            if left <= 0:
                 self._end_at_once()
+            pause = min(2 * pause, longest, left) if left > first else first
             time.sleep(pause)
-            pause = min(2 * pause, longest)
         return status
 
     def _end_at_once(self) -> None:
@@ -107,8 +109,9 @@ class Program(Child):
     def __init__(self, command: Sequence[str]) -> None:
         """Starts the process, which loads from then on: `load` waits for it."""
         with STARTING:
-            # A file takes whatever is written, so that nobody has to read it meanwhile.
-            errors = tempfile.TemporaryFile()
+            # A file takes whatever is written, so that nobody has to read it meanwhile. One with a buffer has a lock, which a
+            # child of a fork would wait for.
+            errors = tempfile.TemporaryFile(buffering=0)
             try:
                 # In a process group of its own: an interrupt from the keyboard is for this process. The program ends with
                 # its input, and so with this process too.

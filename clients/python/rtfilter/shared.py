@@ -37,9 +37,9 @@ class Descriptor:
         return self._number
 
     def close(self) -> None:
-        if self._number >= 0:
-            os.close(self._number)
-            self._number = -1
+        number, self._number = self._number, -1
+        if number >= 0:
+            os.close(number)
 
 
 class Holder(Child):
@@ -52,7 +52,7 @@ class Holder(Child):
     def __init__(self, command: Sequence[str], library: Path, connections: int) -> None:
         """Starts the process, which loads from then on: `load` waits for it."""
         with STARTING, socket.socket(socket.AF_UNIX) as listener:
-            errors, self._place = tempfile.TemporaryFile(), place_of(listener)
+            errors, self._place = tempfile.TemporaryFile(buffering=0), place_of(listener)
             try:
                 listener.listen(connections)
                 with open(os.devnull, "wb") as nowhere:

@@ -30,7 +30,7 @@ class Service:
                 connection, _ = self._listener.accept()
                 self.connections.append(connection)
                 command = [PROGRAM, str(self.table)]
-                self.programs.append(subprocess.Popen(command, stdin=connection, stdout=connection))
+                self.programs.append(subprocess.Popen(command, stdin=connection, stdout=connection, stderr=subprocess.DEVNULL))
 
     def end_connections(self) -> None:
         for program in self.programs:

@@ -79,5 +79,8 @@ def children_of(process: int) -> list[int]:
 
 def descendants_of(process: int) -> list[int]:
     """The processes that a process has started, and those that these have, and so on."""
-    found = children_of(process)
-    return found + [other for child in found for other in descendants_of(child)]
+    parents = {int(name): parent_of(int(name)) for name in os.listdir("/proc") if name.isdigit()}
+    found = [process]
+    for known in found:  # which grows
+        found += [child for child, parent in parents.items() if parent == known]
+    return found[1:]
