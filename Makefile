@@ -83,6 +83,10 @@ deb: build/rtfilter
 wheel: $(PROGRAM) build/rtfilter-prefork.so
 	@packaging/make_wheel.py $(PROGRAM) build/rtfilter-prefork.so build
 
+# The reference of the Python package, in build/reference. It wants python3-sphinx of Debian.
+reference:
+	@/usr/bin/python3 -B -m sphinx -q -W docs/reference build/reference
+
 SHARE := $(DESTDIR)$(PREFIX)/share
 LIBRARY := $(DESTDIR)$(PREFIX)/lib/rtfilter
 UNITS := $(DESTDIR)$(PREFIX)/lib/systemd/system
@@ -111,5 +115,5 @@ uninstall:
 clean:
 	rm -rf build crates/*/out
 
-.PHONY: all example check test test-users test-full bench deb wheel install uninstall clean
+.PHONY: all example check test test-users test-full bench deb wheel reference install uninstall clean
 .DEFAULT_GOAL := all

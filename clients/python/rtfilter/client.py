@@ -144,7 +144,7 @@ class Rtfilter(Boxes):
         return self._transport
 
     @property
-    def has_ended(self) -> bool:
+    def _has_ended(self) -> bool:
         """Whether further calls raise `Ended`, until `reload`."""
         return self._address is None and self._transport.is_abandoned
 

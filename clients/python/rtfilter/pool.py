@@ -79,7 +79,7 @@ class Copies:
         with self._changed:
             if client in self._free or self._lost == len(self.clients):
                 return
-            if client.has_ended and not self._is_closed:
+            if client._has_ended and not self._is_closed:
                 self._mending.append(threading.Thread(target=self._try_to_mend, args=(client,), daemon=True))
                 self._mending[-1].start()
             else:

@@ -1,5 +1,6 @@
 """Tables, windows and points as arrays and frames. For Debian's Python: test_arrays.py runs it."""
 
+import asyncio
 import json
 import random
 import tempfile
@@ -14,7 +15,7 @@ import pandas
 from shapely.geometry import LineString, MultiPolygon, Point, Polygon, box
 from support import PROGRAM
 
-from rtfilter import All, Covers, Ended, FeatureError, Inside, Near, Pool, QueryError, Rtfilter, Window, rows_from
+from rtfilter import All, Covers, Ended, FeatureError, Inside, Near, Pool, QueryError, Rtfilter, Window, aio, rows_from
 from rtfilter.lines import Lines
 from rtfilter.zones import Zones
 
@@ -191,6 +192,20 @@ class Bulk(unittest.TestCase):
             self.assertEqual(boxes.count(All()), 3000)
         with self.assertRaises(ValueError):
             boxes.query_bulk([(0, 1, 0, 1)])
+
+    def test_with_asyncio(self) -> None:
+        windows = some_windows(2100)
+
+        async def ask(table: Any) -> Any:
+            async with aio.Rtfilter(table, program=PROGRAM) as boxes:
+                with self.assertRaises(QueryError):
+                    await boxes.query_bulk([(1, 0, 0, 0)])
+                return await asyncio.gather(boxes.query_bulk(windows, on=0), boxes.nearest_bulk(windows[:, ::2], 3))
+
+        for table, boxes in self.each():
+            found = [[it.tolist() for it in some] for some in asyncio.run(ask(table))]
+            ours = boxes.query_bulk(windows, on=0), boxes.nearest_bulk(windows[:, ::2], 3)
+            self.assertEqual(found, [[it.tolist() for it in some] for some in ours])
 
     def test_as_geopandas(self) -> None:
         table, windows = some_table(2000), some_windows(500)

@@ -99,15 +99,6 @@ class Questions(Case):
                         least[name] = min(least.get(name, 9.0), time.perf_counter() - begun)
         self.assertLess(3 * least["pipelined"], least["threads"])
 
-    async def test_bulk(self) -> None:
-        try:
-            import numpy  # noqa: F401
-        except ImportError:
-            self.skipTest("this Python has no numpy")
-        async with aio.Rtfilter(BOXES, program=PROGRAM) as boxes:
-            places, ids = await boxes.query_bulk([(0, 4, 0, 4), (7, 7, 7, 7)])
-            self.assertEqual((places.tolist(), ids.tolist()), ([0, 0, 1, 1], [1, 4, 1, 2]))
-
 
 def some_window(chance: random.Random) -> Window:
     x, y = chance.randint(-1000, 1000), chance.randint(-1000, 1000)
