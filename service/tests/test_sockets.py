@@ -1,5 +1,6 @@
 """Where a service listens, and as whom it runs."""
 
+import contextlib
 import os
 import signal
 import socket
@@ -9,7 +10,7 @@ import sys
 import unittest
 from pathlib import Path
 
-from served import BOXES, PROGRAM, SERVICE, SYSTEM_PYTHON, Case, Served, read_lines, talk, until
+from served import BOXES, PROGRAM, SERVICE, SYSTEM_PYTHON, Case, Served, read_lines, table_of, talk, until
 
 
 def run(*words: object) -> tuple[int, str]:
@@ -204,26 +205,29 @@ class Surroundings(Case):
 
     def test_without_standard_files(self) -> None:
         """Nobody takes its log, and it goes on: closed, or a pipe that nobody reads any more, or that is full."""
+        many = table_of(self.folder, "many", 0, 50_000)
         reading, writing = os.pipe()
         os.set_blocking(writing, False)
-        try:
-            while True:
-                os.write(writing, b"full" * 1000)
-        except BlockingIOError:
-            os.set_blocking(writing, True)
+        for size in (4096, 1):
+            with contextlib.suppress(BlockingIOError):
+                while True:
+                    os.write(writing, b"x" * size)
+        os.set_blocking(writing, True)
         left, broken = os.pipe()
         os.close(left)
         scripts = 'exec "$@" 2>&-', 'exec "$@" <&- >&- 2>&-', 'exec "$@"', 'exec "$@"'
         for script, errors in zip(scripts, (None, None, broken, writing)):
             path = f"{self.folder}/socket"
             command = ["sh", "-c", script, "-", sys.executable, "-B", str(SERVICE), "--program", PROGRAM, "--unix", path]
-            process = subprocess.Popen([*command, str(BOXES)], stderr=errors)
+            process = subprocess.Popen([*command, "--connections", "1", str(many)], stderr=errors)
             self.addCleanup(process.kill)
-            until(lambda: listens(path), "the service")
+            until(lambda: answers_at(path), "the service")
             for _ in range(3):
-                with socket.socket(socket.AF_UNIX) as asker:
+                with socket.socket(socket.AF_UNIX) as asker:  # one that ends with a line of its own
                     asker.connect(path)
-                    self.assertEqual(talk(asker, [b"count all\n"]), b"ok 1 5\n")
+                    asker.sendall(b"find all\n" * 50)
+                    asker.recv(1)
+                until(lambda: answers_at(path), "an end to that")
                 process.send_signal(signal.SIGHUP)
             process.terminate()
             self.assertEqual(process.wait(10), 0)
@@ -231,9 +235,16 @@ class Surroundings(Case):
             os.close(end)
 
 
-def listens(path: str) -> bool:
+def answers_at(path: str) -> bool:
+    """Whether somebody listens there, with room for a connection."""
     with socket.socket(socket.AF_UNIX) as asker:
-        return asker.connect_ex(path) == 0
+        try:
+            asker.connect(path)
+            asker.sendall(b"count all\n")
+            asker.shutdown(socket.SHUT_WR)
+            return (asker.recv(100), asker.recv(1)) == (b"ok 1 50000\n", b"")
+        except OSError:
+            return False
 
 
 def copied(folder: Path) -> Path:
