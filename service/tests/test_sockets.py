@@ -1,6 +1,7 @@
 """Where a service listens, and as whom it runs."""
 
 import contextlib
+import ctypes
 import os
 import signal
 import socket
@@ -11,6 +12,8 @@ import unittest
 from pathlib import Path
 
 from served import BOXES, PROGRAM, SERVICE, SYSTEM_PYTHON, Case, Served, read_lines, table_of, talk, until
+
+PIDFD_GETFD = 438  # a call of Linux: another process's descriptor
 
 
 def run(*words: object) -> tuple[int, str]:
@@ -136,6 +139,22 @@ class Sockets(Case):
             folder = f"/proc/{process}/fd"
             files = {name: os.readlink(f"{folder}/{name}") for name in os.listdir(folder)}
             self.assertEqual(files, {"0": files["1"], "1": files["1"], "2": str(service.log_file)})
+
+    def test_options_of_tcp(self) -> None:
+        """A line isn't held back for the next one, and a peer that is gone for good is noticed some day."""
+        service = self.served(BOXES, "--tcp", "0")
+        with socket.create_connection(service.tcp) as asker:
+            asker.sendall(b"count all\n")
+            read_lines(asker, 1)
+            process = os.pidfd_open(*service.connections)
+            self.addCleanup(os.close, process)
+            descriptor = ctypes.CDLL(None, use_errno=True).syscall(PIDFD_GETFD, process, 0, 0)
+            if descriptor < 0:
+                self.skipTest(f"the right to look at another process: {os.strerror(ctypes.get_errno())}")
+            with socket.socket(fileno=descriptor) as theirs:
+                self.assertEqual(theirs.getpeername(), asker.getsockname())
+                self.assertTrue(theirs.getsockopt(socket.IPPROTO_TCP, socket.TCP_NODELAY))
+                self.assertTrue(theirs.getsockopt(socket.SOL_SOCKET, socket.SO_KEEPALIVE))
 
     def test_folders_with_spaces(self) -> None:
         """The library is found and loaded where its path has what a list of paths can't hold."""
