@@ -2,12 +2,14 @@
 
 import contextlib
 import ctypes
+import fcntl
 import os
 import signal
 import socket
 import stat
 import subprocess
 import sys
+import time
 import unittest
 from pathlib import Path
 
@@ -89,6 +91,24 @@ class Sockets(Case):
         for service in services:
             service.communicate(timeout=10)
         self.assertEqual(sorted(service.returncode for service in services), [0, 1, 1, 1])
+
+    def test_one_after_another(self) -> None:
+        """Who looks at a path, and takes or leaves it, is alone in its folder meanwhile."""
+        folder = os.open(self.folder, os.O_RDONLY)
+        self.addCleanup(os.close, folder)
+        fcntl.flock(folder, fcntl.LOCK_EX)
+        service = self.served(is_ready=False)
+        time.sleep(0.5)
+        self.assertFalse(os.path.exists(service.path))
+        fcntl.flock(folder, fcntl.LOCK_UN)
+        service.logs("^ready: ")
+        fcntl.flock(folder, fcntl.LOCK_EX)
+        service.signal(signal.SIGTERM)
+        time.sleep(0.3)
+        self.assertTrue(os.path.exists(service.path))
+        fcntl.flock(folder, fcntl.LOCK_UN)
+        self.assertEqual(service.process.wait(10), 0)
+        self.assertFalse(os.path.exists(service.path))
 
     def test_a_port_that_is_taken(self) -> None:
         """It is told before a table is loaded: this one would never be."""
