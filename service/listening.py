@@ -22,7 +22,8 @@ def unix_listener(path: str, mode: int) -> Iterator[socket.socket]:
             try:
                 listener.bind(path)
             except OSError as error:
-                raise OSError(error.errno, error.strerror, path) from error
+                error.filename = path
+                raise
             finally:
                 os.umask(mask)
             listener.listen(BACKLOG)

@@ -17,7 +17,7 @@ from functools import partial
 
 import prefork
 from listening import given_listeners, name_of, tcp_listener, unix_listener
-from service import NO_SERVICE, Service, log
+from service import NO_SERVICE, SIGNALS, Service, log
 
 LOOPBACK = "127.0.0.1"
 MOST_CONNECTIONS = 1 << 20  # as prefork.c has it
@@ -48,14 +48,13 @@ def main(words: Sequence[str]) -> int:
 
 
 def prepare(nice: int) -> None:
-    """Standard files are open, or what is opened next would be taken for them; signals come, whatever was blocked or
-    ignored before; there are descriptors for connections."""
+    """Standard files are open, or what is opened next would be taken for them; signals wait for who heeds them, whatever
+    was ignored before; there are descriptors for connections."""
     while (descriptor := os.open(os.devnull, os.O_RDWR)) <= 2:
         pass
     os.close(descriptor)
     signal.signal(signal.SIGCHLD, signal.SIG_DFL)
-    signal.signal(signal.SIGHUP, signal.SIG_IGN)  # so far there is no table to exchange
-    signal.pthread_sigmask(signal.SIG_SETMASK, ())
+    signal.pthread_sigmask(signal.SIG_SETMASK, SIGNALS)
     _, most = resource.getrlimit(resource.RLIMIT_NOFILE)
     resource.setrlimit(resource.RLIMIT_NOFILE, (most, most))
     os.nice(nice)

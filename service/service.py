@@ -3,13 +3,14 @@
 import asyncio
 import contextlib
 import os
+import re
 import select
 import signal
 import socket
-import sys
+import threading
 import time
 from argparse import Namespace
-from collections.abc import Sequence
+from collections.abc import Callable, Mapping, Sequence
 from pathlib import Path
 
 import prefork
@@ -19,6 +20,7 @@ FIRST_PAUSE, LONGEST_PAUSE = 0.1, 10.0  # seconds before a program is started an
 GRACE = 2.0  # seconds that a program has to do what it is told
 LONGEST_ERROR = 1 << 12  # bytes of what a program tells of a load
 NO_SERVICE = 1
+SIGNALS = signal.SIGHUP, signal.SIGCHLD, signal.SIGTERM, signal.SIGINT
 
 
 def log(text: str) -> None:
@@ -26,6 +28,14 @@ def log(text: str) -> None:
     with contextlib.suppress(OSError):
         if select.select([], [2], [], 0)[1]:
             os.write(2, f"{text}\n".encode(errors="surrogateescape"))
+
+
+def heed(loop: asyncio.AbstractEventLoop, acts: Mapping[int, Callable[[], object]]) -> None:
+    """Does in the loop what signals ask for, in a thread of its own. They are blocked, so that none is lost however many
+    there are."""
+    with contextlib.suppress(RuntimeError):  # the loop is over
+        while True:
+            loop.call_soon_threadsafe(acts[signal.sigwait(acts)])
 
 
 def notify(text: str) -> None:
@@ -90,10 +100,8 @@ class Service:
             await Health(self._lines).serve(health)
         keeping, loop = asyncio.ensure_future(self._keep()), asyncio.get_running_loop()
         loop.set_exception_handler(lambda _, it: log(f"rtfilter-serve: {it['message']}: {it.get('exception')}"))
-        loop.add_signal_handler(signal.SIGHUP, self._ask)
-        loop.add_signal_handler(signal.SIGCHLD, self._reap)
-        for number in (signal.SIGTERM, signal.SIGINT):
-            loop.add_signal_handler(number, keeping.cancel)
+        acts = dict(zip(SIGNALS, (self._ask, self._reap, keeping.cancel, keeping.cancel)))
+        threading.Thread(target=heed, args=(loop, acts), daemon=True).start()
         await asyncio.wait([keeping])
         notify("STOPPING=1")
         await asyncio.gather(*(table.end() for table in self._tables))
@@ -180,8 +188,8 @@ class Service:
                         reply = await asyncio.get_running_loop().sock_recv(table.first, 100)
                 except TimeoutError:
                     why = f"it wasn't loaded in {args.load_timeout:g} seconds"
-            if reply:
-                table.size, table.loaded = int(reply.split()[-1]), time.monotonic()
+            if found := re.fullmatch(rb"ok 1 (\d+)\n", reply):
+                table.size, table.loaded = int(found[1]), time.monotonic()
                 return table
             await table.end()
             told = " ".join(os.pread(errors.fileno(), LONGEST_ERROR, 0).decode(errors="replace").split())

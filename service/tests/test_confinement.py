@@ -55,6 +55,21 @@ class Confinement(Case):
                                for name in ("SigBlk", "SigCgt"))
             self.assertEqual((int(blocked, 16), int(caught, 16)), (0, 0))
 
+    def test_its_memory(self) -> None:
+        """It has no part in the counts of connections, nor in the list of those that are open."""
+        service = self.served(BOXES, "--connections", "100000")
+        with service.connect() as asker:
+            asker.sendall(b"count all\n")
+            read_lines(asker, 1)
+            board, sizes = "rtfilter-board", {}
+            for (process,) in (service.programs, service.connections):
+                maps = Path(f"/proc/{process}/maps").read_text()
+                self.assertEqual(board in maps, process in service.programs)
+                ranges = re.findall(r"^(\w+)-(\w+) rw-p 00000000 00:00 0 $", maps, re.MULTILINE)
+                sizes[process in service.programs] = max(int(end, 16) - int(start, 16) for start, end in ranges)
+            self.assertGreater(sizes[True], 100_000 * 80)
+            self.assertLess(sizes[False], 100_000 * 80)
+
     def test_calls(self) -> None:
         """What strace sees, whatever is asked, to the end."""
         if shutil.which("strace") is None:

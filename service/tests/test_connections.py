@@ -329,17 +329,17 @@ class WantOfRoom(Case):
         before = ["prlimit", "--nproc=6", "setpriv", "--reuid=61234", "--regid=61234", "--clear-groups"]
         service = self.served(BOXES, before=before, python=SYSTEM_PYTHON)
         with contextlib.ExitStack() as stack:
-            askers = [stack.enter_context(service.connect()) for _ in range(4)]  # beside the service and its program
+            askers = [stack.enter_context(service.connect()) for _ in range(3)]  # beside two threads of the service, and its program
             for asker in askers:
                 asker.sendall(b"count all\n")
                 self.assertEqual(read_lines(asker, 1), b"ok 1 5\n")
             with service.connect() as other:
                 self.assertEqual(other.recv(1), b"")
-            service.logs(r"^connection 5 \(.*\): not begun: Resource temporarily unavailable$")
+            service.logs(r"^connection 4 \(.*\): not begun: Resource temporarily unavailable$")
             for asker in askers:
                 asker.sendall(b"count all\n")
                 self.assertEqual(read_lines(asker, 1), b"ok 2 5\n")
-        service.logs("status=0 ", 4)
+        service.logs("status=0 ", 3)
         self.assert_well(service)
 
     def test_descriptors(self) -> None:

@@ -9,7 +9,7 @@ import unittest
 from pathlib import Path
 
 from served import (
-    BOXES, PROGRAM, Case, all_of, answers, is_there, library_of, read_lines, table_of, told_by_program, until,
+    BOXES, PROGRAM, Case, Served, all_of, answers, library_of, read_lines, told_by_program, until,
 )
 
 
@@ -238,15 +238,33 @@ class Exchanges(Case):
         self.assertEqual(service.open_files, before)
         self.assertLess(service.memory - memory, 2000)
 
+    def is_answered(self, service: Served) -> bool:
+        """Unless the program, or this connection, has just been killed."""
+        try:
+            return service.ask(b"count all\n") == b"ok 1 5\n"
+        except ConnectionError:
+            return False
+
     def test_a_storm_of_signals(self) -> None:
-        """From the start on, while others ask."""
+        """While others ask: no program that ends is overlooked meanwhile, and no signal to end."""
         service = self.served(self.table)
-        for _ in range(300):
-            service.signal(signal.SIGHUP)
-        for at in range(50):
-            self.assertEqual(service.ask(b"count all\n"), b"ok 1 5\n")
-            service.signal(signal.SIGHUP)
-        self.assert_well(service)
+        is_over = threading.Event()
+
+        def storm() -> None:
+            while not is_over.is_set():
+                service.signal(signal.SIGHUP)
+
+        with all_of(threading.Thread(target=storm) for _ in range(2)):
+            try:
+                for at in range(10):
+                    for victim in service.programs[:1]:
+                        os.kill(victim, signal.SIGKILL)
+                    until(lambda: self.is_answered(service), "an answer")
+                service.signal(signal.SIGTERM)
+                until(lambda: service.process.poll() is not None, "the end of the service")
+            finally:
+                is_over.set()
+        self.assertEqual(service.process.returncode, 0)
 
 
 if __name__ == "__main__":

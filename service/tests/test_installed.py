@@ -118,6 +118,7 @@ class AsUnit(Case):
             asker.sendall(b"count all\n")
             read_lines(asker, 1)
             (traced,) = service.programs
+            self.assertEqual(os.getpriority(os.PRIO_PROCESS, traced), os.getpriority(os.PRIO_PROCESS, 0) + 1)
             os.kill(traced, signal.SIGHUP)
             service.logs("^the table is exchanged")
         self.assertEqual(service.get("/health")[0], 200)

@@ -1,15 +1,21 @@
 """Where a service listens, and as whom it runs."""
 
+import contextlib
+import ctypes
+import fcntl
 import os
 import signal
 import socket
 import stat
 import subprocess
 import sys
+import time
 import unittest
 from pathlib import Path
 
-from served import BOXES, PROGRAM, SERVICE, SYSTEM_PYTHON, Case, Served, read_lines, talk, until
+from served import BOXES, PROGRAM, SERVICE, SYSTEM_PYTHON, Case, Served, read_lines, table_of, talk, until
+
+PIDFD_GETFD = 438  # a call of Linux: another process's descriptor
 
 
 def run(*words: object) -> tuple[int, str]:
@@ -86,6 +92,24 @@ class Sockets(Case):
             service.communicate(timeout=10)
         self.assertEqual(sorted(service.returncode for service in services), [0, 1, 1, 1])
 
+    def test_one_after_another(self) -> None:
+        """Who looks at a path, and takes or leaves it, is alone in its folder meanwhile."""
+        folder = os.open(self.folder, os.O_RDONLY)
+        self.addCleanup(os.close, folder)
+        fcntl.flock(folder, fcntl.LOCK_EX)
+        service = self.served(is_ready=False)
+        time.sleep(0.5)
+        self.assertFalse(os.path.exists(service.path))
+        fcntl.flock(folder, fcntl.LOCK_UN)
+        service.logs("^ready: ")
+        fcntl.flock(folder, fcntl.LOCK_EX)
+        service.signal(signal.SIGTERM)
+        time.sleep(0.3)
+        self.assertTrue(os.path.exists(service.path))
+        fcntl.flock(folder, fcntl.LOCK_UN)
+        self.assertEqual(service.process.wait(10), 0)
+        self.assertFalse(os.path.exists(service.path))
+
     def test_a_port_that_is_taken(self) -> None:
         """It is told before a table is loaded: this one would never be."""
         table = Path(self.folder, "table")
@@ -135,6 +159,22 @@ class Sockets(Case):
             folder = f"/proc/{process}/fd"
             files = {name: os.readlink(f"{folder}/{name}") for name in os.listdir(folder)}
             self.assertEqual(files, {"0": files["1"], "1": files["1"], "2": str(service.log_file)})
+
+    def test_options_of_tcp(self) -> None:
+        """A line isn't held back for the next one, and a peer that is gone for good is noticed some day."""
+        service = self.served(BOXES, "--tcp", "0")
+        with socket.create_connection(service.tcp) as asker:
+            asker.sendall(b"count all\n")
+            read_lines(asker, 1)
+            process = os.pidfd_open(*service.connections)
+            self.addCleanup(os.close, process)
+            descriptor = ctypes.CDLL(None, use_errno=True).syscall(PIDFD_GETFD, process, 0, 0)
+            if descriptor < 0:
+                self.skipTest(f"the right to look at another process: {os.strerror(ctypes.get_errno())}")
+            with socket.socket(fileno=descriptor) as theirs:
+                self.assertEqual(theirs.getpeername(), asker.getsockname())
+                self.assertTrue(theirs.getsockopt(socket.IPPROTO_TCP, socket.TCP_NODELAY))
+                self.assertTrue(theirs.getsockopt(socket.SOL_SOCKET, socket.SO_KEEPALIVE))
 
     def test_folders_with_spaces(self) -> None:
         """The library is found and loaded where its path has what a list of paths can't hold."""
@@ -204,26 +244,29 @@ class Surroundings(Case):
 
     def test_without_standard_files(self) -> None:
         """Nobody takes its log, and it goes on: closed, or a pipe that nobody reads any more, or that is full."""
+        many = table_of(self.folder, "many", 0, 50_000)
         reading, writing = os.pipe()
         os.set_blocking(writing, False)
-        try:
-            while True:
-                os.write(writing, b"full" * 1000)
-        except BlockingIOError:
-            os.set_blocking(writing, True)
+        for size in (4096, 1):
+            with contextlib.suppress(BlockingIOError):
+                while True:
+                    os.write(writing, b"x" * size)
+        os.set_blocking(writing, True)
         left, broken = os.pipe()
         os.close(left)
         scripts = 'exec "$@" 2>&-', 'exec "$@" <&- >&- 2>&-', 'exec "$@"', 'exec "$@"'
         for script, errors in zip(scripts, (None, None, broken, writing)):
             path = f"{self.folder}/socket"
             command = ["sh", "-c", script, "-", sys.executable, "-B", str(SERVICE), "--program", PROGRAM, "--unix", path]
-            process = subprocess.Popen([*command, str(BOXES)], stderr=errors)
+            process = subprocess.Popen([*command, "--connections", "1", str(many)], stderr=errors)
             self.addCleanup(process.kill)
-            until(lambda: listens(path), "the service")
+            until(lambda: answers_at(path), "the service")
             for _ in range(3):
-                with socket.socket(socket.AF_UNIX) as asker:
+                with socket.socket(socket.AF_UNIX) as asker:  # one that ends with a line of its own
                     asker.connect(path)
-                    self.assertEqual(talk(asker, [b"count all\n"]), b"ok 1 5\n")
+                    asker.sendall(b"find all\n" * 50)
+                    asker.recv(1)
+                until(lambda: answers_at(path), "an end to that")
                 process.send_signal(signal.SIGHUP)
             process.terminate()
             self.assertEqual(process.wait(10), 0)
@@ -231,9 +274,16 @@ class Surroundings(Case):
             os.close(end)
 
 
-def listens(path: str) -> bool:
+def answers_at(path: str) -> bool:
+    """Whether somebody listens there, with room for a connection."""
     with socket.socket(socket.AF_UNIX) as asker:
-        return asker.connect_ex(path) == 0
+        try:
+            asker.connect(path)
+            asker.sendall(b"count all\n")
+            asker.shutdown(socket.SHUT_WR)
+            return (asker.recv(100), asker.recv(1)) == (b"ok 1 50000\n", b"")
+        except OSError:
+            return False
 
 
 def copied(folder: Path) -> Path:

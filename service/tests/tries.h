@@ -34,7 +34,7 @@ static void try_it(const char *text, long size)
   else if (!strcmp(name, "x32"))
     syscall(0x40000000 | SYS_write, 2, "", 0);
   else if (!strcmp(name, "i386"))
-    __asm__ volatile("int $0x80" : : "a"(3), "b"(0), "c"(0), "d"(0) : "memory"); /* its number of read */
+    __asm__ volatile("int $0x80" : : "a"(SYS_munmap), "b"(0), "c"(0), "d"(0) : "memory"); /* its number of execve */
   else if (!strcmp(name, "less")) { /* what may be done */
     syscall(SYS_brk, 0);
     syscall(SYS_brk, end);
