@@ -31,9 +31,10 @@ build/rtfilter: $(foreach it,$(call below,rtfilter),build/$(it).proved) $(call s
 	@tools/prove rtfilter run -- /dev/null
 	@cp crates/rtfilter/out/rtfilter build/rtfilter
 
+# In one step, since some may build it at once.
 build/rtfilter-prefork.so: service/prefork.c
 	@mkdir -p build
-	@$(CC) -std=gnu11 -O -Wall -Wextra -fPIC -shared -o $@ $<
+	@$(CC) -std=gnu11 -O -Wall -Wextra -fPIC -shared -o $@.$$$$ $< && mv $@.$$$$ $@
 
 define library
 build/$(1).proved: $(foreach it,$(call below,$(1)),build/$(it).proved) $(call sources,$(1))
