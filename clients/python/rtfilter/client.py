@@ -124,7 +124,8 @@ class Rtfilter(Boxes):
         return self._turns.take(partial(self._told, text[0].encode(), text[1], deadline), deadline)[1]
 
     def _answers(self, line: str) -> Answers:
-        self._check_process()
+        if self._is_inherited:
+            self._check_process()
         if "\n" in line:
             raise ValueError(LINE_FEED.format(line))
         text = f"{line}\n".encode("utf-8", "surrogateescape")

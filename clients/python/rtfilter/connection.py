@@ -71,6 +71,7 @@ class Connection(Transport):
         self._socket.close()
 
     def close(self, deadline: Deadline = ENDLESS) -> None:
+        self._is_usable = False
         self._drop()
 
 

@@ -1,10 +1,10 @@
 """Until when a call waits, whatever it waits for, and whose turn it is."""
 
-import contextlib
 import math
 import threading
 import time
 from collections.abc import Callable
+from threading import get_ident
 from typing import TypeVar
 
 from .errors import TimedOut
@@ -17,15 +17,12 @@ LONGEST_WAIT = 86_400.0  # seconds: the system takes no more than 24 days at onc
 class Deadline:
     """A moment by which a call has to be over, so many seconds from now. None, or infinity, is no such moment."""
 
-    __slots__ = ("_seconds", "_until")
+    __slots__ = ("is_endless", "_seconds", "_until")
 
     def __init__(self, seconds: float | None) -> None:
         self._seconds = math.inf if seconds is None else seconds
         self._until = time.monotonic() + self._seconds
-
-    @property
-    def is_endless(self) -> bool:
-        return self._until == math.inf
+        self.is_endless = self._until == math.inf
 
     def left(self) -> float:
         """How many seconds may be waited for at once."""
@@ -65,17 +62,26 @@ class Turns:
 
     def take(self, ask: Callable[[], Given], deadline: Deadline) -> Given:
         """What a call gives that is made in turn."""
-        if self._taker == threading.get_ident():
+        me = get_ident()
+        if self._taker == me:
             raise RuntimeError("asked in the middle of a call by the same thread, as by the handler of a signal")
         if deadline.is_endless:
             with self._lock:
-                return self._given(ask)
+                self._taker = me
+                try:
+                    return ask()
+                finally:
+                    self._taker = None
         is_over = False
         try:
             try:
-                if not self._lock.acquire(timeout=deadline.left()):
+                if not (self._lock.acquire(blocking=False) or self._lock.acquire(timeout=deadline.left())):
                     raise deadline.error()
-                return self._given(ask)
+                self._taker = me
+                try:
+                    return ask()
+                finally:
+                    self._taker = None
             finally:
                 self._release()
                 is_over = True
@@ -84,13 +90,8 @@ class Turns:
                 self._release()
             raise
 
-    def _given(self, ask: Callable[[], Given]) -> Given:
-        self._taker = threading.get_ident()
-        try:
-            return ask()
-        finally:
-            self._taker = None
-
     def _release(self) -> None:
-        with contextlib.suppress(RuntimeError):  # where it isn't held
+        try:
             self._lock.release()
+        except RuntimeError:  # where it isn't held
+            pass

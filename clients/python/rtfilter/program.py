@@ -94,6 +94,7 @@ class Child(Transport):
 
     def close(self, deadline: Deadline = ENDLESS) -> None:
         """Ends the process, by ending its input. Its status tells nothing new: 1 is that of a faulty line."""
+        self._is_usable = False
         *ends, errors = self._files
         for end in ends:
             end.close()

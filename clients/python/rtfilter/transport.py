@@ -34,6 +34,7 @@ class Transport(Owned, abc.ABC):
         self.lines = 0
         self.size = 0
         self._input, self._output = input, output
+        self._is_usable = True  # until it is abandoned, closed or left to the parent
         self._is_abandoned = False
         self._is_closing = False
         self._why = ""
@@ -63,6 +64,7 @@ class Transport(Owned, abc.ABC):
         """Ends the other side's work at once, from any thread, and keeps why. What it would still have told belongs to no
         line, and it is never asked again, even where a part of it should live on."""
         self._why = self._why or why
+        self._is_usable = False
         self._is_abandoned = True
         self._end_at_once()
 
@@ -94,7 +96,8 @@ class Transport(Owned, abc.ABC):
 
     def pieces_to(self, text: bytes, lines: int, deadline: Deadline = ENDLESS) -> Iterator[bytes]:
         """The same in pieces of whole lines, each as soon as it is there. Who doesn't take all of them abandons it."""
-        self._check_open()
+        if not self._is_usable:
+            self._check_open()
         try:
             self.lines += lines
             yield from self._exchanged(memoryview(text), deadline)
@@ -105,7 +108,8 @@ class Transport(Owned, abc.ABC):
     def reply_to(self, line: bytes, deadline: Deadline = ENDLESS) -> bytes:
         """The same for one line, which is answered. It is mostly sent at once, and one read has its reply; then this takes
         a third of the time beside the program's."""
-        self._check_open()
+        if not self._is_usable:
+            self._check_open()
         try:
             self.lines += 1
             unsent = self._send(line)
@@ -117,7 +121,12 @@ class Transport(Owned, abc.ABC):
             self._abandon_for(error)
             raise
 
+    def _leave_to_parent(self) -> None:
+        super()._leave_to_parent()
+        self._is_usable = False
+
     def _check_open(self) -> None:
+        """Raises why it can't be asked."""
         self._check_process()
         if self.is_closed or self._is_closing:
             raise ValueError(CLOSED)

@@ -349,7 +349,9 @@ class SharedPools(Case):
         """It is started anew for the next question, from the same table and from no other."""
         with Pool(3, self.table, program=PROGRAM, timeout=20) as boxes:
             for _ in range(3):
+                processes = programs() - self.before[0]
                 os.kill(self.holder(), signal.SIGKILL)
+                self.wait_for(lambda: not any(map(parent_of, processes)))
                 self.assertEqual([it.total for it in boxes.ask(["count all"] * 1000)], [5] * 1000)
             self.table.write_text("7,0,1,0,1\n")
             self.assertEqual(boxes.count(All()), 5)
