@@ -12,6 +12,14 @@ CRATES := $(shell sed -n 's/^\([a-z0-9_]*\):.*/\1/p' crates.txt)
 TESTS := $(filter %_tests,$(CRATES))
 LIBRARIES := $(filter-out rtfilter $(TESTS),$(CRATES))
 
+# The program that is installed, or packed: another one than is built here, where it is named.
+PROGRAM := build/rtfilter
+
+# What a service and a pool load before the C library, where there is a C compiler.
+PREFORK := $(if $(shell command -v $(CC)),build/rtfilter-prefork.so)
+
+all: build/rtfilter $(PREFORK)
+
 # The crates of this repository that a crate stands on, those that stand on it, and its files and folders.
 below = $(filter $(CRATES),$(shell sed -n 's/^$(1)://p' crates.txt))
 all_below = $(sort $(foreach it,$(call below,$(1)),$(it) $(call all_below,$(it))))
@@ -22,6 +30,11 @@ sources = crates.txt $(shell find crates/$(1)/src crates/$(1)/specs crates/$(1)/
 build/rtfilter: $(foreach it,$(call below,rtfilter),build/$(it).proved) $(call sources,rtfilter)
 	@tools/prove rtfilter run -- /dev/null
 	@cp crates/rtfilter/out/rtfilter build/rtfilter
+
+# In one step, since some may build it at once.
+build/rtfilter-prefork.so: service/prefork.c
+	@mkdir -p build
+	@$(CC) -std=gnu11 -O -Wall -Wextra -fPIC -shared -o $@.$$$$ $< && mv $@.$$$$ $@
 
 define library
 build/$(1).proved: $(foreach it,$(call below,$(1)),build/$(it).proved) $(call sources,$(1))
@@ -52,7 +65,7 @@ test:
 	@tests/run
 
 # The clients, the recipes and the package, with the built program. NEED=all: what can't be tried here has failed.
-test-users: build/rtfilter
+test-users: all
 	@tests/users.py build/rtfilter $(if $(filter all,$(NEED)),--need-all)
 
 # The greatest table that is allowed: some 1.2 GB of memory, and half a minute. No part of test.
@@ -67,19 +80,41 @@ bench: build/rtfilter
 deb: build/rtfilter
 	@packaging/make_deb.py build/rtfilter build
 
+# The Python wheel with the program in it, in build/. It wants a C compiler.
+wheel: $(PROGRAM) build/rtfilter-prefork.so
+	@packaging/make_wheel.py $(PROGRAM) build/rtfilter-prefork.so build
+
+# The reference of the Python package, in build/reference. It wants python3-sphinx of Debian.
+reference:
+	@/usr/bin/python3 -B -m sphinx -q -W docs/reference build/reference
+
 SHARE := $(DESTDIR)$(PREFIX)/share
+LIBRARY := $(DESTDIR)$(PREFIX)/lib/rtfilter
+UNITS := $(DESTDIR)$(PREFIX)/lib/systemd/system
+SERVICE := serve.py service.py listening.py health.py prefork.py
 COMPLETION := $(SHARE)/bash-completion/completions/rtfilter
 
-install: build/rtfilter
-	install -D build/rtfilter "$(DESTDIR)$(PREFIX)/bin/rtfilter"
+# The service too, where there is a C compiler.
+install: $(PROGRAM) $(PREFORK)
+	install -D $(PROGRAM) "$(DESTDIR)$(PREFIX)/bin/rtfilter"
 	install -D -m 644 docs/rtfilter.1 "$(SHARE)/man/man1/rtfilter.1"
 	install -D -m 644 packaging/rtfilter.bash "$(COMPLETION)"
+ifdef PREFORK
+	install -d "$(LIBRARY)" "$(UNITS)"
+	install -m 644 $(PREFORK) $(SERVICE:%=service/%) "$(LIBRARY)"
+	chmod 755 "$(LIBRARY)/serve.py"
+	ln -sf ../lib/rtfilter/serve.py "$(DESTDIR)$(PREFIX)/bin/rtfilter-serve"
+	for unit in rtfilter.service rtfilter.socket; do \
+	  sed 's|/usr/local|$(PREFIX)|g' service/$$unit > "$(UNITS)/$$unit"; done
+endif
 
 uninstall:
 	rm -f "$(DESTDIR)$(PREFIX)/bin/rtfilter" "$(SHARE)/man/man1/rtfilter.1" "$(COMPLETION)"
+	rm -f "$(DESTDIR)$(PREFIX)/bin/rtfilter-serve" "$(UNITS)/rtfilter.service" "$(UNITS)/rtfilter.socket"
+	rm -rf "$(LIBRARY)"
 
 clean:
 	rm -rf build crates/*/out
 
-.PHONY: example check test test-users test-full bench deb install uninstall clean
-.DEFAULT_GOAL := build/rtfilter
+.PHONY: all example check test test-users test-full bench deb wheel reference install uninstall clean
+.DEFAULT_GOAL := all

@@ -90,7 +90,7 @@ def zipped(data: bytes) -> bytes:
 def fill(tree: Path, program: Path) -> None:
     """The files that the package installs."""
     place(tree, "usr/bin/rtfilter", b"", 0o755)
-    strip = ["strip", "--remove-section=.comment", "--remove-section=.note", "-o", tree / "usr/bin/rtfilter", program]
+    strip: list[str | Path] = ["strip", "--remove-section=.comment", "--remove-section=.note", "-o", tree / "usr/bin/rtfilter", program]
     subprocess.run(strip, check=True)
     (tree / "usr/bin/rtfilter").chmod(0o755)
     place(tree, "usr/share/man/man1/rtfilter.1.gz", zipped((ROOT / "docs/rtfilter.1").read_bytes()))
@@ -136,7 +136,7 @@ def make(program: Path, folder: Path) -> Path:
             os.utime(path, (date.timestamp(), date.timestamp()))
         environment = {**os.environ, "SOURCE_DATE_EPOCH": str(int(date.timestamp()))}
         # One thread, since the bytes may depend on how many there are.
-        build = ["dpkg-deb", "--root-owner-group", "--threads-max=1", "-Zxz", "--build", tree, package]
+        build: list[str | Path] = ["dpkg-deb", "--root-owner-group", "--threads-max=1", "-Zxz", "--build", tree, package]
         subprocess.run(build, check=True, env=environment, stdout=subprocess.DEVNULL)
     return package
 

@@ -1,31 +1,38 @@
 #!/usr/bin/env python3
-"""Tries what stands in clients/, packaging/ and examples/, and the recipes of docs/, with the built program.
+"""Tries what stands in clients/, service/, packaging/ and examples/, and the recipes of docs/, with the built program.
 
 usage: tests/users.py PROGRAM [--need-all] [--only NAME]..
 
-The tests are those of the folders TESTS, or of those that are named. One that wants what isn't installed here is skipped
+They try a copy of it, beside what a service loads into it where there is a C compiler. The tests are those of the folders TESTS, or of those that are named. One that wants what isn't installed here is skipped
 and named; with --need-all it has failed. The last line is `N passed, M failed`.
 """
 
 import argparse
 import faulthandler
 import os
+import re
+import shutil
+import subprocess
 import sys
+import tempfile
 import time
 import unittest
+from concurrent.futures import ThreadPoolExecutor
 from pathlib import Path
 
 sys.dont_write_bytecode = True
 ROOT = Path(__file__).resolve().parent.parent
-TESTS = {
+TESTS = {  # those that take longest first
+    "service": ROOT / "service/tests",
     "client": ROOT / "clients/python/tests",
-    "recipes": ROOT / "tests/recipes",
-    "package": ROOT / "packaging/tests",
-    "service": ROOT / "examples/service/tests",
     "map": ROOT / "examples/tiles/tests",
     "shards": ROOT / "examples/cluster/tests",
+    "package": ROOT / "packaging/tests",
+    "recipes": ROOT / "tests/recipes",
 }
 sys.path.insert(0, str(TESTS["client"]))  # support.py, which recipes and package need too
+LIBRARY = "build/rtfilter-prefork.so"
+AT_ONCE = 2  # parts: some measure how long a call takes
 TOO_LONG = 300  # seconds of one test: something waits for ever
 
 
@@ -52,16 +59,49 @@ class Results(unittest.TestResult):
         self.passed += 1
 
 
+def copied(program, folder):
+    """A copy of the program, which any user may run, and the library where it can be built."""
+    os.chmod(folder, 0o755)
+    if shutil.which("cc"):
+        subprocess.run(["make", "--silent", "-C", ROOT, LIBRARY], check=True, env={**os.environ, "MAKEFLAGS": ""})
+        shutil.copy(ROOT / LIBRARY, folder)
+    return str(shutil.copy(program, Path(folder, "rtfilter")))
+
+
+def side_by_side(args):
+    """Runs all parts, some at once, each in a process of its own."""
+    options = ["--need-all"] * args.need_all
+
+    def run(name):
+        command = [sys.executable, __file__, args.program, *options, "--only", name]
+        return subprocess.run(command, stdout=subprocess.PIPE, stderr=subprocess.STDOUT, text=True)
+
+    passed = failed = 0
+    with ThreadPoolExecutor(AT_ONCE) as threads:
+        for name, done in zip(TESTS, threads.map(run, TESTS)):
+            *lines, last = done.stdout.splitlines() or [""]
+            print("".join(f"{line}\n" for line in lines), end="", flush=True)
+            if (numbers := re.fullmatch(r"(\d+) passed, (\d+) failed", last)) is None:
+                print(last, f"FAIL {name}: ended with status {done.returncode}", sep="\n", flush=True)
+            passed += int(numbers[1]) if numbers else 0
+            failed += int(numbers[2]) if numbers else 1
+    print(f"{passed} passed, {failed} failed")
+    return int(failed > 0)
+
+
 def main():
     parser = argparse.ArgumentParser()
     parser.add_argument("program")
     parser.add_argument("--need-all", action="store_true")
     parser.add_argument("--only", action="append", choices=TESTS, metavar="NAME")
     args = parser.parse_args()
-    os.environ["RTFILTER_PROGRAM"] = str(Path(args.program).resolve())
+    if not args.only:
+        return side_by_side(args)
     results = Results()
-    for name in args.only or TESTS:
-        unittest.TestLoader().discover(str(TESTS[name])).run(results)
+    with tempfile.TemporaryDirectory(prefix="rtfilter-") as folder:
+        os.environ["RTFILTER_PROGRAM"] = copied(args.program, folder)
+        for name in args.only:
+            unittest.TestLoader().discover(str(TESTS[name])).run(results)
     for test, why in [*results.failures, *results.errors]:
         print(f"FAIL {test.id()}: {why}")
     for test, why in results.skipped:

@@ -170,7 +170,7 @@ def measure_router(chance):
     asked = question_of("find all near 0 0")
     for count in (2, 64):
         parts = [some_answers(chance, 10_000 // count) for _ in range(count)]
-        told = sum(part.told for part in parts)
+        told = sum(part.total for part in parts)
         print(f"| an answer merged of {count} shards | {1e6 * least_of(lambda: merged(parts, asked), 3) / told:.1f} |")
 
 

@@ -2,7 +2,7 @@
 """Serves a map of a table of boxes: a page, and vector tiles at /z/x/y.pbf.
 
 usage: serve.py [--header] [--names FILE] [--layers FILE] [--listen ADDRESS] [--port PORT] [--host NAME]
-                [--idle SECONDS] [--program PROGRAM] TABLE
+                [--idle SECONDS] [--timeout SECONDS] [--program PROGRAM] TABLE
 
 Once the table is loaded, the page's address is printed. README.md says what is served, and what is refused.
 """
@@ -27,11 +27,12 @@ from mercator import DEEPEST
 from table import Places, Table, names_of
 from views import Views
 
-from rtfilter import Ended, QueryError, Rtfilter, TimedOut
+from rtfilter import Boxes, Disconnected, Ended, Pool, QueryError, TimedOut
+from rtfilter.client import program_of
+from rtfilter.prefork import library_of
 
 LONGEST_TARGET = 4096  # bytes of a request's address
 MOST_CONNECTIONS = 64
-LONGEST_QUESTION = 10.0  # seconds for the program
 
 ASSETS = {
     "/": ("page.html", "text/html"),
@@ -148,7 +149,9 @@ class Handler(BaseHTTPRequestHandler):
             self.reply(refused.status, "text/plain", refused.text.encode())
         except QueryError as fault:
             self.reply(HTTPStatus.BAD_REQUEST, "text/plain", f"{fault.code} {fault.text}".encode())
-        except (Ended, TimedOut) as failure:
+        except (Disconnected, TimedOut) as failure:  # which its own process alone has met
+            self.reply(HTTPStatus.SERVICE_UNAVAILABLE, "text/plain", str(failure).encode())
+        except Ended as failure:
             self.refuse(Refused(HTTPStatus.SERVICE_UNAVAILABLE, "the program has ended"))
             self.server.fail(failure)
 
@@ -271,11 +274,18 @@ def arguments() -> argparse.Namespace:
     parser.add_argument("--port", type=int, default=8080, help="0 is any that is free (8080)")
     parser.add_argument("--host", action="append", default=[], metavar="NAME", help="another name that this server has")
     parser.add_argument("--idle", type=float, default=10.0, metavar="SECONDS", help="for a silent connection (10)")
+    parser.add_argument("--timeout", type=float, default=10.0, metavar="SECONDS", help="for a question (10)")
     parser.add_argument("--program", default="rtfilter", help="rtfilter, by its name or path")
     return parser.parse_args()
 
 
-def loaded(args: argparse.Namespace, boxes: Rtfilter) -> Table:
+def opened(args: argparse.Namespace) -> Boxes:
+    """The table, with a process for each connection, where that takes no memory for a table of its own."""
+    processes = MOST_CONNECTIONS if library_of(program_of(args.program)) else 1
+    return Pool(processes, args.table, header=args.header, program=args.program, timeout=args.timeout)
+
+
+def loaded(args: argparse.Namespace, boxes: Boxes) -> Table:
     table = Table(Places(args.table, args.header), names_of(args.names), names_of(args.layers))
     if len(table.places) != len(boxes):
         raise ValueError("the table has changed while it was read")
@@ -288,7 +298,7 @@ def loaded(args: argparse.Namespace, boxes: Rtfilter) -> Table:
 def main() -> int:
     args = arguments()
     try:
-        with Rtfilter(args.table, header=args.header, program=args.program, timeout=LONGEST_QUESTION) as boxes:
+        with opened(args) as boxes:
             with Server((args.listen, args.port), Views(boxes, loaded(args, boxes)), args.host, args.idle) as server:
                 print(f"http://{args.listen}:{server.port}/", flush=True)
                 with contextlib.suppress(KeyboardInterrupt):

@@ -46,7 +46,7 @@ class Views:
         """How many boxes meet each cell. One that lies over a border is counted on both sides of it."""
         layers = on_words(on)
         lines = ["count window %d %d %d %d" % cell + layers for cell in cells]
-        return [answers.told for answers in self._boxes.ask(lines)]
+        return [answers.total for answers in self._boxes.ask(lines)]
 
     def _shown(self, id: int) -> dict[str, Any]:
         """A box for a page. Its id is a text: numbers of JavaScript don't hold every id."""
@@ -67,8 +67,8 @@ class Views:
         answers = [{"id": str(id), "score": str(score)} for id, score in reply]
         if line.split()[0] in WITH_BOXES:
             answers = [{**self._shown(int(answer["id"])), **answer} for answer in answers]
-        nodes = None if cost is None or isinstance(cost, QueryError) else cost.told
-        return {"told": reply.told, "answers": answers, "nodes": nodes}
+        nodes = None if cost is None or isinstance(cost, QueryError) else cost.total
+        return {"told": reply.total, "answers": answers, "nodes": nodes}
 
     def tile(self, z: int, x: int, y: int, on: list[int] | None) -> bytes:
         """A vector tile: a layer for each layer of boxes that meet it, or one with counts, whose name is `density`."""

@@ -16,7 +16,8 @@ from .answers import Answers
 from .boxes import Boxes
 from .client import Command, Rtfilter
 from .connection import Address
-from .errors import Disconnected, Ended, FeatureError, QueryError, RtfilterError, TimedOut
+from .errors import Disconnected, Ended, FeatureError, QueryError, RtfilterError, TimedOut, WrongProcess
+from .geojson import rows_from
 from .joining import join
 from .pool import Pool
 from .queries import All, ById, Circle, Covers, Inside, Layers, Near, Order, Polygon, Region, Smallest, Window
@@ -51,5 +52,7 @@ __all__ = [
     "Table",
     "TimedOut",
     "Window",
+    "WrongProcess",
     "join",
+    "rows_from",
 ]

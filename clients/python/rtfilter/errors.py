@@ -47,8 +47,8 @@ class Disconnected(RtfilterError, ConnectionError):
 
 
 class TimedOut(RtfilterError, TimeoutError):
-    """There was no answer in `seconds`, and the program was killed, or the connection to a service was ended: what
-    would still have been told belongs to no query."""
+    """There was no answer in `seconds`. The program was killed, or the connection to a service was ended, since what would
+    still have been told belongs to no query; both go on where the call waited for those of other threads all the time."""
 
     def __init__(self, seconds: float) -> None:
         super().__init__(seconds)
@@ -56,6 +56,21 @@ class TimedOut(RtfilterError, TimeoutError):
 
     def __str__(self) -> str:
         return f"no answer in {self.seconds} s"
+
+
+class WrongProcess(RtfilterError, RuntimeError):
+    """Something was used in a child of the process that made it. The replies to two processes would be mixed: make another
+    one after a fork.
+
+    `process` is the number of the process that made it, which goes on with it.
+    """
+
+    def __init__(self, process: int) -> None:
+        super().__init__(process)
+        self.process = process
+
+    def __str__(self) -> str:
+        return f"it belongs to process {self.process}, which made it: after a fork, make another one"
 
 
 class FeatureError(RtfilterError, ValueError):

@@ -16,12 +16,18 @@ def join(boxes: Boxes, rows: Iterable[Row], *, on: Layers | None = None) -> Iter
     are held. Raises what `Boxes.find` raises, once the pairs of all batches before have been taken.
     """
     end = on_words(on)
-    for (row, *_), answers in answered(boxes, rows, lambda row: f"find {window_of(row)}{end}"):
+    for (row, _), answers in answered(boxes, sided(rows), lambda it: f"find {it[1]}{end}"):
         for box in answers.ids:
             yield box, row
 
 
-def window_of(row: Row) -> Window:
-    """The sides of a row, which may have a layer behind them."""
-    _, *numbers = row
-    return Window(*(numbers[:-1] if len(numbers) == 5 else numbers))
+def sided(rows: Iterable[Row]) -> Iterator[tuple[int, Window]]:
+    """The id and the sides of each row, which may have a layer behind them."""
+    for number, row in enumerate(rows):
+        try:
+            id, *sides = row
+            if len(sides) not in (4, 5):
+                raise TypeError(f"a row has five or six numbers, and not {1 + len(sides)}")
+            yield id, Window(*sides[:4])
+        except (TypeError, ValueError) as error:  # of what isn't a row, or has nothing in it
+            raise TypeError(f"rows[{number}]: {error}") from None

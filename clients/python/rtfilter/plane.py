@@ -1,8 +1,7 @@
 """Points, pieces of lines, windows and polygons of the plane, exactly: all numbers are whole, and of any size."""
 
-from collections.abc import Iterator, Sequence
+from collections.abc import Sequence
 from fractions import Fraction
-from itertools import pairwise
 
 Place = tuple[int, int]
 """A point, as x and y."""
@@ -49,32 +48,6 @@ def distance2(piece: Piece, x: int, y: int) -> Fraction:
     return Fraction(side_of(piece, x, y) ** 2, length2)
 
 
-def holds(rings: Sequence[Path], x: int, y: int) -> bool:
-    """Whether a polygon holds a point: one on a ring, or one from which a ray crosses the rings an odd number of times.
-
-    Where rings neither cross nor overlap, and one goes round the others, these are the points in that one and in no other,
-    and those on the rings themselves.
-    """
-    is_odd = False
-    for piece in _pieces(rings):
-        (ax, ay), (bx, by) = piece
-        if (ay > y and by > y) or (ay < y and by < y):
-            continue
-        side = side_of(piece, x, y)
-        if side == 0 and min(ax, bx) <= x <= max(ax, bx):
-            return True
-        # A piece holds its lower end and not its upper one, so that a ray through a corner crosses one piece or two.
-        if (ay > y) != (by > y) and (side > 0) == (by > ay):
-            is_odd = not is_odd
-    return is_odd
-
-
-def meets(rings: Sequence[Path], window: Sides) -> bool:
-    """Whether a polygon and a window share a point: on a ring, or else the window lies in the polygon, all of it."""
-    x1, _, y1, _ = window
-    return any(piece_meets(piece, window) for piece in _pieces(rings)) or holds(rings, x1, y1)
-
-
 def piece_meets(piece: Piece, window: Sides) -> bool:
     """Whether a piece and a window share a point: no line parallel to a side of the window, or to the piece, parts them."""
     x1, x2, y1, y2 = window
@@ -83,8 +56,3 @@ def piece_meets(piece: Piece, window: Sides) -> bool:
         return False
     corners = [side_of(piece, x, y) for x in (x1, x2) for y in (y1, y2)]
     return min(corners) <= 0 <= max(corners)
-
-
-def _pieces(rings: Sequence[Path]) -> Iterator[Piece]:
-    for ring in rings:
-        yield from pairwise(ring)

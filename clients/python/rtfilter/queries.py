@@ -14,9 +14,10 @@ from typing import ClassVar, Union
 _keep = object.__setattr__  # of a value that is frozen once it is made
 
 
-def _check_whole(*numbers: int) -> None:
-    for number in numbers:
-        index(number)
+def _keep_whole(value: object, **numbers: int) -> None:
+    """Keeps numbers as what Python takes them for, so that what is checked is what is asked."""
+    for name, number in numbers.items():
+        _keep(value, name, index(number))
 
 
 # ---- regions
@@ -81,7 +82,7 @@ class Circle:
     radius: int
 
     def __post_init__(self) -> None:
-        _check_whole(self.x, self.y, self.radius)
+        _keep_whole(self, x=self.x, y=self.y, radius=self.radius)
 
     def __str__(self) -> str:
         return f"circle {self.x:d} {self.y:d} {self.radius:d}"
@@ -97,10 +98,7 @@ class Polygon:
     vertices: tuple[tuple[int, int], ...]
 
     def __init__(self, vertices: Iterable[tuple[int, int]]) -> None:
-        points = tuple((x, y) for x, y in vertices)
-        for x, y in points:
-            _check_whole(x, y)
-        _keep(self, "vertices", points)
+        _keep(self, "vertices", tuple((index(x), index(y)) for x, y in vertices))
 
     def __str__(self) -> str:
         return " ".join([f"polygon {len(self.vertices)}", *(f"{x:d} {y:d}" for x, y in self.vertices)])
@@ -128,7 +126,7 @@ class Near:
     y: int
 
     def __post_init__(self) -> None:
-        _check_whole(self.x, self.y)
+        _keep_whole(self, x=self.x, y=self.y)
 
     def __str__(self) -> str:
         return f"near {self.x:d} {self.y:d}"

@@ -24,8 +24,9 @@ class Shapes(Closing, Generic[Shape]):
         program: Command = "rtfilter",
         timeout: float | None = None,
     ) -> None:
-        """`features` are GeoJSON: the name of a file, what json has read from one, or any iterable of features. A feature
-        is told by its number: its place among them, from 0.
+        """`features` are GeoJSON: the name of a file, of one text or of many (RFC 8142, or one on each line), what json has
+        read from one, a frame or a series of geopandas, or any iterable of features or geometries, those of shapely too. A
+        feature is told by its number: its place among them, from 0.
 
         Without `scale`, coordinates are whole numbers of 32 bits, those of questions too. With it they may be decimals: each
         is multiplied by it and the nearest whole number is taken, of two that are equally near the greater one. Nothing else

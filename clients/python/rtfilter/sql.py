@@ -25,7 +25,7 @@ def add_functions(connection: sqlite3.Connection, boxes: Boxes) -> None:
         return None if line is None else json.dumps(answers(line).ids.tolist())
 
     def count(line: str | None) -> int | None:
-        return None if line is None else answers(line).told
+        return None if line is None else answers(line).total
 
     connection.create_function("rtfilter_ids", 1, ids)
     connection.create_function("rtfilter_count", 1, count)

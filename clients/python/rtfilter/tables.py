@@ -6,7 +6,9 @@ import tempfile
 from collections.abc import Iterable, Iterator, Sequence
 from itertools import chain, islice
 from operator import index
-from typing import Union
+from typing import Any, Union
+
+from .arrays import AT_ONCE, rows_of
 
 Row = Sequence[int]
 """A box: id, min_x, max_x, min_y, max_y, and its layer where that isn't 0, each a whole number."""
@@ -14,13 +16,13 @@ Row = Sequence[int]
 File = Union[str, "os.PathLike[str]"]
 """The name of a file."""
 
-Table = Union[File, Iterable[Row]]
-"""The name of a CSV file, or rows."""
+Table = Union[File, Iterable[Row], Any]
+"""The name of a CSV file, or rows: an iterable of them, an array of numpy of shape (n, 5) or (n, 6), or an array with fields
+or a frame of pandas that has the columns id, min_x, max_x, min_y, max_y and, perhaps, layer."""
 
 FIELDS = 5  # of a row without a layer
 RECORD = "%d,%d,%d,%d,%d\n"
 LAYERED_RECORD = "%d,%d,%d,%d,%d,%d\n"
-AT_ONCE = 1000  # rows
 
 
 @contextlib.contextmanager
@@ -37,26 +39,50 @@ def named(table: Table, header: bool) -> Iterator[str]:
     if header:
         raise ValueError("rows have no header")
     with tempfile.NamedTemporaryFile("w", encoding="ascii", prefix="rtfilter-", suffix=".csv") as file:
-        file.writelines(records(table))
+        file.writelines(records(rows_of(table)))
         file.flush()
         yield file.name
 
 
 def records(rows: Iterable[Row]) -> Iterator[str]:
     """The records of rows, many in one text."""
-    remaining: Iterator[Row] = map(tuple, rows)  # of what can be gone through once, too
+    remaining = iter(rows)
+    first = 0
     while some := list(islice(remaining, AT_ONCE)):
-        if {*map(len, some)} == {FIELDS}:  # which takes half the time
-            yield RECORD * len(some) % tuple(map(index, chain.from_iterable(some)))
-        else:
-            yield from map(record, some)
+        numbers = _numbers(some, first)
+        yield _together(numbers) or "".join(record(row, first + at) for at, row in enumerate(numbers))
+        first += len(some)
 
 
-def record(row: Row) -> str:
-    """The record of a row: five fields, or six with the layer."""
-    numbers = tuple(map(index, row))
+def _numbers(rows: list[Row], first: int) -> list[Row]:
+    """Rows that can be gone through twice; the first of them has this place."""
+    found: list[Row] = []
+    try:
+        for row in rows:
+            found.append(tuple(row))
+    except TypeError as error:
+        raise TypeError(f"rows[{first + len(found)}]: {error}") from None
+    return found
+
+
+def _together(rows: list[Row]) -> str | None:
+    """The records of rows without layers, in half the time. None where one of them isn't such a row."""
+    try:
+        if {*map(len, rows)} != {FIELDS}:
+            return None
+        return RECORD * len(rows) % tuple(map(index, chain.from_iterable(rows)))
+    except TypeError:
+        return None
+
+
+def record(row: Row, number: int) -> str:
+    """The record of a row: five fields, or six with the layer. The number is told where it isn't a row: its place."""
+    try:
+        numbers = tuple(map(index, row))
+    except TypeError as error:
+        raise TypeError(f"rows[{number}]: {error}") from None
     if len(numbers) not in (FIELDS, FIELDS + 1):
-        raise TypeError(f"a row has five or six numbers, and not {len(numbers)}")
+        raise TypeError(f"rows[{number}]: a row has five or six numbers, and not {len(numbers)}")
     return (RECORD if len(numbers) == FIELDS else LAYERED_RECORD) % numbers
 
 

@@ -1,17 +1,16 @@
 """What carries lines to a table and replies back."""
 
 import abc
-import math
 import os
 import select
-import time
 from collections.abc import Iterator
-from typing import Protocol, Union
+from typing import Protocol, TypeVar, Union
 
+from .deadlines import ENDLESS, Deadline
 from .errors import RtfilterError, TimedOut
+from .forks import Owned
 
 PIECE = 1 << 16  # bytes of a read: what a pipe holds
-LONGEST_WAIT = 86_400.0  # seconds: the system takes no more than 24 days
 CLOSED = "the table was closed"
 
 Text = Union[bytes, memoryview]
@@ -23,22 +22,27 @@ class HasDescriptor(Protocol):
     def fileno(self) -> int: ...
 
 
-class Transport(abc.ABC):
-    """Carries lines out and replies back. For one thread at a time.
+class Transport(Owned, abc.ABC):
+    """Carries lines out and replies back. For one thread at a time; `abandon` and `hang_up` are for any.
 
     Lines are numbered from 1; `lines` is how many they are so far. `size` is how many boxes there were at the start.
     """
 
-    def __init__(self, input: HasDescriptor, output: HasDescriptor, seconds: float | None) -> None:
-        """Over what is open for lines and for replies, two descriptors. Asks for the size, which may take so many
-        seconds, as the replies to each text may."""
+    def __init__(self, input: HasDescriptor, output: HasDescriptor) -> None:
+        """Over what is open for lines and for replies, two descriptors."""
+        super().__init__()
         self.lines = 0
+        self.size = 0
         self._input, self._output = input, output
-        self._seconds = math.inf if seconds is None else seconds
+        self._is_usable = True  # until it is abandoned, closed or left to the parent
         self._is_abandoned = False
+        self._is_closing = False
+        self._why = ""
+
+    def load(self, deadline: Deadline) -> None:
+        """Asks for the size. Nothing else tells that a table is there, or that it is faulty. Closed where that fails."""
         try:
-            # Nothing else tells that a table is there, or that it is faulty.
-            self.size = int(self.replies_to(b"count all\n", 1).split()[-1])
+            self.size = int(self.replies_to(b"count all\n", 1, deadline).split()[-1])
         except BaseException:
             self.close()
             raise
@@ -47,14 +51,27 @@ class Transport(abc.ABC):
     @abc.abstractmethod
     def is_closed(self) -> bool: ...
 
-    @abc.abstractmethod
-    def close(self) -> None: ...
+    @property
+    def is_abandoned(self) -> bool:
+        """Whether it is never asked again."""
+        return self._is_abandoned
 
-    def abandon(self) -> None:
-        """Ends the other side's work at once, from any thread. What it would still have told belongs to no line, and it is
-        never asked again, even where a part of it should live on."""
+    @abc.abstractmethod
+    def close(self, deadline: Deadline = ENDLESS) -> None:
+        """Ends the other side, whose own end is waited for until the deadline at most."""
+
+    def abandon(self, why: str = "") -> None:
+        """Ends the other side's work at once, from any thread, and keeps why. What it would still have told belongs to no
+        line, and it is never asked again, even where a part of it should live on."""
+        self._why = self._why or why
+        self._is_usable = False
         self._is_abandoned = True
         self._end_at_once()
+
+    def hang_up(self) -> None:
+        """Ends a call that waits, from any thread: it raises `ValueError`, as each further one does."""
+        self._is_closing = True
+        self.abandon()
 
     @abc.abstractmethod
     def _end_at_once(self) -> None:
@@ -68,52 +85,60 @@ class Transport(abc.ABC):
     def _ended(self) -> RtfilterError:
         """Why there are no more replies."""
 
-    def replies_to(self, text: bytes, lines: int) -> bytes:
+    def replies_to(self, text: bytes, lines: int, deadline: Deadline = ENDLESS) -> bytes:
         """The replies to a text of so many lines, of which the last has to be one that is answered.
 
         Raises what `_ended` tells where the other side ends, `TimedOut` where it takes too long, and `ValueError` where
         this was closed. Whatever is raised, it is abandoned: replies that are still to come would be taken for those to
         later lines.
         """
-        return b"".join(self.pieces_to(text, lines))
+        return b"".join(self.pieces_to(text, lines, deadline))
 
-    def pieces_to(self, text: bytes, lines: int) -> Iterator[bytes]:
+    def pieces_to(self, text: bytes, lines: int, deadline: Deadline = ENDLESS) -> Iterator[bytes]:
         """The same in pieces of whole lines, each as soon as it is there. Who doesn't take all of them abandons it."""
-        self._check_open()
+        if not self._is_usable:
+            self._check_open()
         try:
             self.lines += lines
-            yield from self._exchanged(memoryview(text), self._end_of_time())
-        except BaseException:
-            self.abandon()
+            yield from self._exchanged(memoryview(text), deadline)
+        except BaseException as error:
+            self._abandon_for(error)
             raise
 
-    def reply_to(self, line: bytes) -> bytes:
+    def reply_to(self, line: bytes, deadline: Deadline = ENDLESS) -> bytes:
         """The same for one line, which is answered. It is mostly sent at once, and one read has its reply; then this takes
         a third of the time beside the program's."""
-        self._check_open()
+        if not self._is_usable:
+            self._check_open()
         try:
             self.lines += 1
-            until = self._end_of_time()
             unsent = self._send(line)
-            reply = b"" if unsent else self._read(until)
+            reply = b"" if unsent else self._read(deadline)
             if reply.startswith(b"ok %d " % self.lines, reply.rfind(b"\n", 0, -1) + 1) and reply.endswith(b"\n"):
                 return reply
-            return b"".join(self._exchanged(unsent, until, reply))
-        except BaseException:
-            self.abandon()
+            return b"".join(self._exchanged(unsent, deadline, reply))
+        except BaseException as error:
+            self._abandon_for(error)
             raise
 
+    def _leave_to_parent(self) -> None:
+        super()._leave_to_parent()
+        self._is_usable = False
+
     def _check_open(self) -> None:
-        if self.is_closed:
+        """Raises why it can't be asked."""
+        self._check_process()
+        if self.is_closed or self._is_closing:
             raise ValueError(CLOSED)
         if self._is_abandoned:
             raise self._ended()
 
-    def _end_of_time(self) -> float:
-        """Until when replies are waited for that are asked for now."""
-        return math.inf if self._seconds == math.inf else time.monotonic() + self._seconds
+    def _abandon_for(self, error: BaseException) -> None:
+        """What met another call is told later ones; that the other side has ended they find themselves."""
+        is_met = isinstance(error, TimedOut) or not isinstance(error, RtfilterError)
+        self.abandon(f"ended because of an earlier call: {str(error) or type(error).__name__}" if is_met else "")
 
-    def _exchanged(self, unsent: Text, until: float, piece: bytes = b"") -> Iterator[bytes]:
+    def _exchanged(self, unsent: Text, deadline: Deadline, piece: bytes = b"") -> Iterator[bytes]:
         """Writes and reads by turns, so that neither side waits for ever for the other to read; a piece may have been read
         before. The pieces of whole lines."""
         last_lines = b"ok %d " % self.lines, b"error %d " % self.lines
@@ -128,7 +153,7 @@ class Transport(abc.ABC):
             else:
                 part += piece
             unsent = self._send(unsent)
-            piece = self._read(until) if not unsent or self._is_readable(until, is_sending=True) else b""
+            piece = self._read(deadline) if not unsent or self._is_readable(deadline, is_sending=True) else b""
 
     def _send(self, unsent: Text) -> Text:
         """What is left to send once the other side has taken what it takes without a wait."""
@@ -141,30 +166,55 @@ class Transport(abc.ABC):
         except ConnectionError:  # it has ended, as the end of its output tells
             return unsent[:0]
 
-    def _read(self, until: float) -> bytes:
+    def _read(self, deadline: Deadline) -> bytes:
         """Some bytes, once they are there: one or more."""
-        if until < math.inf:  # else the read itself may wait
-            self._is_readable(until, is_sending=False)
+        if not deadline.is_endless:  # else the read itself may wait
+            self._is_readable(deadline, is_sending=False)
         try:
             piece = os.read(self._output.fileno(), PIECE)
         except ConnectionError:  # a socket that was closed with bytes unread
             piece = b""
+        if self._is_closing:
+            raise ValueError(CLOSED)
         if not piece:
             raise self._ended()
         return piece
 
-    def _is_readable(self, until: float, is_sending: bool) -> bool:
+    def _is_readable(self, deadline: Deadline, is_sending: bool) -> bool:
         """Waits until something can be read, or sent where something is left; whether something can be read."""
         poll = select.poll()
         poll.register(self._output, select.POLLIN)
         if is_sending:
             poll.register(self._input, select.POLLOUT)
-        while not (ready := dict(poll.poll(None if until == math.inf else _milliseconds_to(until)))):
-            if time.monotonic() >= until:
-                raise TimedOut(self._seconds)
+        while not (ready := dict(poll.poll(None if deadline.is_endless else deadline.left() * 1000))):
+            if deadline.is_over:
+                raise deadline.error()
         return self._output.fileno() in ready
 
 
-def _milliseconds_to(until: float) -> float:
-    """How long to wait for a moment, at most as long as can be waited for at once."""
-    return max(0.0, min(until - time.monotonic(), LONGEST_WAIT)) * 1000
+Started = TypeVar("Started", bound=Transport)
+
+
+class Loads:
+    """The transports whose table isn't there yet. From any thread they can be ended."""
+
+    def __init__(self) -> None:
+        self.are_ended = False
+        self._coming: set[Transport] = set()
+
+    def ready(self, transport: Started, deadline: Deadline) -> Started:
+        """It, once its table is there."""
+        self._coming.add(transport)
+        try:
+            if self.are_ended:
+                transport.hang_up()
+            transport.load(deadline)
+        finally:
+            self._coming.discard(transport)
+        return transport
+
+    def end(self) -> None:
+        """Who waits for one is told that it was closed, and so is who begins to wait later."""
+        self.are_ended = True
+        for transport in list(self._coming):
+            transport.hang_up()

@@ -55,7 +55,7 @@ def written(replies: Iterable[Reply]) -> Iterator[bytes]:
         if isinstance(reply, QueryError):
             yield b"error %d %s %s\n" % (at, reply.code.encode(), reply.text.encode())
         elif reply is not None:
-            yield bytes(reply) + b"ok %d %d\n" % (at, reply.told)
+            yield bytes(reply) + b"ok %d %d\n" % (at, reply.total)
 
 
 def open_files() -> int:
@@ -75,3 +75,12 @@ def children_of(process: int) -> list[int]:
     """The processes that a process has started."""
     numbers = [int(name) for name in os.listdir("/proc") if name.isdigit()]
     return [number for number in numbers if parent_of(number) == process]
+
+
+def descendants_of(process: int) -> list[int]:
+    """The processes that a process has started, and those that these have, and so on."""
+    parents = {int(name): parent_of(int(name)) for name in os.listdir("/proc") if name.isdigit()}
+    found = [process]
+    for known in found:  # which grows
+        found += [child for child, parent in parents.items() if parent == known]
+    return found[1:]

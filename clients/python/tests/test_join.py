@@ -45,8 +45,9 @@ class Joins(unittest.TestCase):
                 ((1, 0, 1, 0), TypeError), ((1, 0, 1, 0, 1, 2, 3), TypeError), ((1, 0, 0.5, 0, 1), TypeError),
                 ((1, 1, 0, 0, 1), QueryError),
             ):  # fmt: skip
-                with self.assertRaises(error):
-                    list(join(boxes, [bad]))
+                with self.assertRaises(error) as raised:
+                    list(join(boxes, [(1, 0, 1, 0, 1), bad]))
+                self.assertRegex(str(raised.exception), r"^rows\[1\]: " if error is TypeError else "Q7")
             for on, error in ((64, ValueError), ([], ValueError), (True, TypeError)):
                 with self.assertRaises(error):
                     list(join(boxes, [(1, 0, 1, 0, 1)], on=on))

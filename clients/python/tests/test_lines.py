@@ -2,6 +2,7 @@
 
 import math
 import random
+import time
 import unittest
 from fractions import Fraction
 from itertools import pairwise
@@ -83,6 +84,34 @@ class Exactness(unittest.TestCase):
         chance = random.Random(2)
         geometries = [some_line(chance, 1000, 400) for _ in range(40)]
         self.assert_as_scanned(geometries, [(chance.randint(-1500, 1500), chance.randint(-1500, 1500)) for _ in range(15)])
+
+    def test_all_pieces_looked_at(self) -> None:
+        """Long pieces across, so many that a point lies in more boxes than are asked for: in an order and at random."""
+        chance = random.Random(6)
+        bundle = [line((-10**9 + at, -10**9), (10**9 - 3 * at, 10**9)) for at in range(400)]
+        across = [line(*((chance.randint(-900, 900), side) for side in (-1000, 1000))) for _ in range(400)]
+        walks = [some_line(chance, 1000, 300) for _ in range(300)]
+        for geometries in (bundle, bundle[::-1], across, [*across, *walks]):
+            points = [(chance.randint(-1200, 1200), chance.randint(-1200, 1200)) for _ in range(2)]
+            points += [(900_000_000, -900_000_000), (-10**9, 10**9)] * (geometries[0] in bundle)
+            with Lines(map(feature, geometries), program=PROGRAM) as roads:
+                for k in (1, 3, 40):
+                    for point in points:
+                        self.assertEqual(roads.nearest(k, *point), scanned(geometries, k, *point))
+
+    def test_many_crossing_diagonals(self) -> None:
+        """In time: by all boxes that hold a point it took 0.75 s each."""
+        chance = random.Random(7)
+        ends = [(chance.randint(-10**9, 10**9), chance.randint(-10**9, 10**9)) for _ in range(20_000)]
+        far = 10**9
+        geometries = [line((-far, a), (far, b)) if a % 2 else line((a, -far), (b, far)) for a, b in ends]
+        with Lines(map(feature, geometries), program=PROGRAM) as roads:
+            points = [(chance.randint(-far, far), chance.randint(-far, far)) for _ in range(20)]
+            begun = time.process_time()
+            found = [roads.nearest(3, *point) for point in points]
+            self.assertLess((time.process_time() - begun) / len(points), 0.06)
+        for point, some in zip(points[:1], found):
+            self.assertEqual(some, scanned(geometries, 3, *point))
 
     def test_ties_come_by_number(self) -> None:
         """More boxes at one distance than are asked for at once. Slanted pieces as far away have nearer boxes, and come

@@ -35,7 +35,7 @@ class Pools(unittest.TestCase):
             told: list[list[int]] = []
 
             def ask() -> None:
-                told.append([boxes.count(All()) for _ in range(50)] + [it.told for it in boxes.ask(["count all"] * 300)])
+                told.append([boxes.count(All()) for _ in range(50)] + [it.total for it in boxes.ask(["count all"] * 300)])
 
             run_at_once([ask] * 8)
             self.assertEqual(told, [[5] * 350] * 8)
@@ -116,7 +116,7 @@ class Reloads(unittest.TestCase):
 
             def ask() -> None:
                 while not is_over.is_set():
-                    told.append({answers.told for answers in boxes.ask(["count all"] * 400)})
+                    told.append({answers.total for answers in boxes.ask(["count all"] * 400)})
 
             def reload() -> None:
                 try:

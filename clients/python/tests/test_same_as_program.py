@@ -60,7 +60,7 @@ class Calls(unittest.TestCase):
                 (boxes.nearest(3, 12, 12), "nearest 3 12 12"),
             ):
                 self.assertEqual([found], boxes.ask([line]))
-                self.assertEqual(len(found), found.told)
+                self.assertEqual(len(found), found.total)
             self.assertEqual(list(boxes.nearest(3, 12, 12)), [(2, 0), (5, 0), (1, 8)])
             self.assertEqual(boxes.count(Window(0, 10, 0, 10)), 2)
             self.assertEqual(boxes.levels(), [(1, 1), (0, 5)])
@@ -108,7 +108,7 @@ class Calls(unittest.TestCase):
                 replies = boxes.replies(["count all", last])
                 self.assertEqual(replies[0], Answers(b"", 5))
                 self.assertEqual(isinstance(replies[1], QueryError), len(last) > 4096)
-            self.assertEqual([answers.told for answers in boxes.ask(["", "count all", "#"])], [0, 5, 0])
+            self.assertEqual([answers.total for answers in boxes.ask(["", "count all", "#"])], [0, 5, 0])
             self.assertEqual(boxes.replies(["count all", "count all", ""])[1:], [Answers(b"", 5), None])
             self.assertEqual(boxes.replies([""]), [None])
             self.assertEqual(boxes.replies([]), [])

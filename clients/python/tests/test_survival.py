@@ -66,10 +66,35 @@ class Ends(unittest.TestCase):
             with self.assertRaises(TypeError):
                 Rtfilter([box, row], program=PROGRAM)
         for row in ((), box[:4], (*box, 2, 3)):
-            with self.assertRaisesRegex(TypeError, f"^a row has five or six numbers, and not {len(row)}$"):
+            with self.assertRaisesRegex(TypeError, f"^rows.1.: a row has five or six numbers, and not {len(row)}$"):
                 Rtfilter([box, row], program=PROGRAM)
         with self.assertRaises(ValueError):
             Rtfilter([(1, 0, 1, 0, 1)], header=True, program=PROGRAM)
+
+    def test_the_place_is_told(self) -> None:
+        def rows(bad: object):
+            return (bad if at == 2345 else (at, 0, 1, 0, 1) for at in range(3000))
+
+        for bad, text in (
+            ((1, 0, 0.5, 0, 1), "'float' object cannot be interpreted as an integer"),
+            ((1, 0, 1), "a row has five or six numbers, and not 3"),
+            (7, "'int' object is not iterable"),
+        ):
+            with self.assertRaises(TypeError) as raised:
+                Rtfilter(rows(bad), program=PROGRAM)
+            self.assertEqual(str(raised.exception), f"rows[2345]: {text}")
+        with self.assertRaises(Ended) as ended:
+            Rtfilter("/no/such/table", program=PROGRAM)
+        self.assertEqual(ended.exception.__notes__, ["the table is /no/such/table"])
+        for address, name in (("/no/such/socket", "/no/such/socket"), (("127.0.0.1", 1), "127.0.0.1:1")):
+            with self.assertRaises(OSError) as nowhere:
+                Rtfilter(address=address)
+            self.assertEqual(nowhere.exception.filename, name)
+            self.assertIn(name, str(nowhere.exception))
+
+    def test_rows_of_what_can_be_gone_through_once(self) -> None:
+        with Rtfilter((map(int, f"{at} 0 1 0 1".split()) for at in range(1500)), program=PROGRAM) as boxes:
+            self.assertEqual(len(boxes), 1500)
 
     def test_rows_that_cannot_be_made(self) -> None:
         def rows():
@@ -259,7 +284,7 @@ class Crowds(unittest.TestCase):
     def test_one_reply_of_many_answers(self) -> None:
         with Rtfilter([(at, at, at, 0, 0) for at in range(200_000)], program=PROGRAM, timeout=60) as boxes:
             found = boxes.find(All())
-            self.assertEqual((len(found), found.told), (200_000, 200_000))
+            self.assertEqual((len(found), found.total), (200_000, 200_000))
             self.assertEqual(found.ids[-1], 199_999)
 
     def test_small_pipes(self) -> None:

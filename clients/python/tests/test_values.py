@@ -54,6 +54,18 @@ class Regions(unittest.TestCase):
         for value, words in WORDS.items():
             self.assertEqual(str(value), words)
 
+    def test_what_is_taken_for_a_whole_number_is_one(self) -> None:
+        """What is checked is what is asked, compared and shown."""
+        for value, words in (
+            (Circle(Index(1), Index(2), Index(3)), "circle 1 2 3"),
+            (Near(Index(-1), Index(2)), "near -1 2"),
+            (Polygon([(Index(0), Index(0)), (Index(3), Index(0)), (Index(0), Index(3))]), "polygon 3 0 0 3 0 0 3"),
+            (Window(Index(1), Index(2), Index(3), Index(4)), "window 1 2 3 4"),
+        ):
+            self.assertEqual(str(value), words)
+            self.assertEqual(pickle.loads(pickle.dumps(value)), value)
+            self.assertIn("1" if words[0] in "cw" else "(0, 0)" if words[0] == "p" else "-1", repr(value))
+
     def test_equal_by_kind_and_numbers(self) -> None:
         self.assertEqual(len(WORDS), 10)
         self.assertEqual(Window(1, 2, 3, 4), Window(1, 2, 3, 4))
@@ -147,7 +159,7 @@ class AnswersAsValues(unittest.TestCase):
     def test_readings(self) -> None:
         answers = Answers(self.LINES, 2)
         self.assertEqual(len(answers), 2)
-        self.assertEqual(answers.told, 2)
+        self.assertEqual(answers.total, 2)
         self.assertEqual(answers.ids, array("q", [-(2**63), 2**63 - 1]))
         self.assertEqual(answers.scores, [0, 36893488130239234050])
         self.assertEqual(list(answers), [(-(2**63), 0), (2**63 - 1, 36893488130239234050)])
@@ -155,13 +167,46 @@ class AnswersAsValues(unittest.TestCase):
 
     def test_without_answers(self) -> None:
         counted = Answers(b"", 7)
-        self.assertEqual((len(counted), counted.told, list(counted), len(counted.ids)), (0, 7, [], 0))
+        self.assertEqual((len(counted), counted.total, list(counted), len(counted.ids)), (0, 7, [], 0))
         self.assertFalse(counted)
+
+    def test_places_and_slices(self) -> None:
+        answers = Answers(b"5 0\n7 2\n9 36893488130239234050\n", 3)
+        pairs = [(5, 0), (7, 2), (9, 36893488130239234050)]
+        self.assertEqual([answers[at] for at in (0, 1, 2, -1)], [*pairs, pairs[2]])
+        for cut in (slice(None), slice(1, None), slice(None, None, -1), slice(5, 9)):
+            self.assertEqual(answers[cut], pairs[cut])
+        for at in (3, -4):
+            with self.assertRaises(IndexError):
+                answers[at]
+        self.assertIn((7, 2), answers)
+
+    def test_what_is_made_is_kept(self) -> None:
+        answers = Answers(self.LINES, 2)
+        again = pickle.loads(pickle.dumps(answers))
+        self.assertIs(answers.ids, answers.ids)
+        self.assertIs(answers.scores, answers.scores)
+        self.assertEqual((again, again.ids), (answers, answers.ids))
+
+    def test_the_name_before(self) -> None:
+        with self.assertWarns(DeprecationWarning) as warned:
+            self.assertEqual(Answers(b"", 7).told, 7)
+        self.assertEqual(warned.filename, __file__)
 
     def test_equal_by_text_and_number(self) -> None:
         self.assertEqual(Answers(self.LINES, 2), Answers(self.LINES, 2))
         self.assertNotEqual(Answers(b"", 2), Answers(b"", 3))
         self.assertEqual(len({Answers(b"", 2), Answers(b"", 2), Answers(b"1 2\n", 2)}), 2)
+
+
+class Index:
+    """What Python takes for a whole number, and no `int`."""
+
+    def __init__(self, number: int) -> None:
+        self.number = number
+
+    def __index__(self) -> int:
+        return self.number
 
 
 class Errors(unittest.TestCase):

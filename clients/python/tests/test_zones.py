@@ -5,9 +5,10 @@ import math
 import pickle
 import random
 import tempfile
+import time
 import unittest
 from fractions import Fraction
-from itertools import pairwise, product
+from itertools import groupby, pairwise, product
 from pathlib import Path
 from typing import Any
 
@@ -17,6 +18,7 @@ from shapely_runs import told_by_shapely
 from rtfilter import FeatureError, QueryError
 from rtfilter.batches import BATCH
 from rtfilter.geojson import whole_by
+from rtfilter.plane import is_straight
 from rtfilter.zones import Zones
 
 Place = tuple[int, int]
@@ -178,6 +180,61 @@ class Exactness(unittest.TestCase):
             self.assertEqual(list(ours.meeting_each(windows)), theirs["meeting"])
 
 
+class LongOutlines(unittest.TestCase):
+    """Sides that are many are looked at by runs of them, and the answers are those of a look at each."""
+
+    def assert_as_scanned(self, rings: Rings, points: list[Place], windows: list[Window]) -> None:
+        with Zones([feature(polygon(*rings))], program=PROGRAM) as zones:
+            self.assertEqual([bool(zones.holding(*it)) for it in points], [plainly_holds(rings, *it) for it in points])
+            self.assertEqual([bool(zones.meeting(*it)) for it in windows], [plainly_meets(rings, it) for it in windows])
+
+    def test_of_all_forms(self) -> None:
+        chance = random.Random(8)
+        span = 60
+        for sides in (65, 300):
+            walk = [(chance.randint(-span, span), chance.randint(-span, span)) for _ in range(sides)]
+            turns = [math.tau * at / sides for at in range(sides)]
+            spikes = [(round((30 + 25 * (at % 2)) * math.cos(turn)), round((30 + 25 * (at % 2)) * math.sin(turn)))
+                      for at, turn in enumerate(turns)]  # fmt: skip
+            comb = [(at // 2 - span + span * (at % 2), (at % 4 // 2) * 100 - 50) for at in range(sides)]
+            flat = [(at, 3) for at in range(sides)] + [(sides // 2, 40)]
+            for ring in (walk, spikes, comb, flat, [(y, x) for x, y in flat], [(x, -y) for x, y in comb]):
+                ring = [place for place, _ in groupby([*ring, ring[0]])]
+                if not is_straight(ring):
+                    points = [(chance.randint(-span, span), chance.randint(-span, span)) for _ in range(25)]
+                    points += chance.sample(ring, 10)
+                    windows = [some_window(chance, span) for _ in range(10)]
+                    self.assert_as_scanned([ring], points, windows)
+                    self.assert_as_scanned([ring, HOLE], points[:10], windows[:5])
+
+    def test_at_the_ends_of_the_plane(self) -> None:
+        least, greatest = -(2**31), 2**31 - 1
+        ring = [(least + 60_000_000 * at, (least, greatest)[at % 2]) for at in range(71)] + [(greatest, greatest)]
+        ring = [*ring, (greatest, least), ring[0]]
+        chance = random.Random(9)
+        points = [(chance.randint(least, greatest), chance.randint(least, greatest)) for _ in range(30)]
+        self.assert_as_scanned([ring], [*points, *ring], [(x, greatest, y, greatest) for x, y in points[:10]])
+
+    def test_in_time(self) -> None:
+        """A point in a zone of 100,000 corners. By a look at each side it took 13 ms, and a window 230."""
+        chance = random.Random(10)
+        count = 100_000
+        reach = [chance.randint(4 * 10**8, 10**9) for _ in range(count)]
+        spiky = [(round(r * math.cos(at * math.tau / count)), round(r * math.sin(at * math.tau / count)))
+                 for at, r in enumerate(reach)]  # fmt: skip
+        comb = [(20_000 * at - 10**9 + 10**9 * (at % 2), (-1) ** at * 10**9) for at in range(count // 2)]
+        for ring in (spiky, [*comb, (2 * 10**9, -(10**9) - 1), (-(10**9), -(10**9) - 1)]):
+            ring.append(ring[0])
+            with Zones([feature(polygon(ring))], program=PROGRAM) as zones:
+                points = [(chance.randint(-(10**9), 10**9), chance.randint(-(10**9), 10**9)) for _ in range(50)]
+                begun = time.process_time()
+                held = [bool(zones.holding(*point)) for point in points]
+                met = [bool(zones.meeting(x, x + 9, y, y + 9)) for x, y in points]
+                self.assertLess((time.process_time() - begun) / len(points), 0.004)
+            self.assertEqual(held[:1], [plainly_holds([ring], *point) for point in points[:1]])
+            self.assertLessEqual({0 < sum(held) < len(points), 0 < sum(met)}, {True})
+
+
 class Rules(unittest.TestCase):
     def test_sides_and_corners_belong_to_zones(self) -> None:
         with Zones([feature(polygon(SQUARE, HOLE)), feature(polygon([(x + 10, y) for x, y in SQUARE]))], program=PROGRAM) as zones:
@@ -225,7 +282,7 @@ class Reading(unittest.TestCase):
             ):  # fmt: skip
                 with Zones(features, program=PROGRAM) as zones:
                     self.assertEqual((zones.holding(5, 5), len(zones)), (held, len(held)))
-        for what in ({}, polygon(SQUARE), {"type": "FeatureCollection"}):
+        for what in ({}, {"type": "Polygons"}, {"type": "FeatureCollection"}):
             with self.assertRaises(ValueError):
                 Zones(what, program=PROGRAM)
         with self.assertRaises(FileNotFoundError):

@@ -51,7 +51,7 @@ def size_and_bounds(shard: Shard) -> tuple[int, Sides | None]:
 def counts(shard: Shard, regions: Iterable[object]) -> list[int]:
     """How many boxes of a shard each region accepts."""
     replies = shard.replies([f"count {region}" for region in regions])
-    return [reply.told for reply in replies if isinstance(reply, Answers)]
+    return [reply.total for reply in replies if isinstance(reply, Answers)]
 
 
 def narrowed(low: int, high: int, places: Iterable[int], counted: list[int]) -> tuple[int, int]:

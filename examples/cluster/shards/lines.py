@@ -25,5 +25,5 @@ def written(replies: Sequence[Reply], first: int) -> bytes:
         if isinstance(reply, QueryError):
             texts.append(f"error {at} {reply.code} {reply.text}\n".encode())
         elif reply is not None:
-            texts += [bytes(reply), b"ok %d %d\n" % (at, reply.told)]
+            texts += [bytes(reply), b"ok %d %d\n" % (at, reply.total)]
     return b"".join(texts)

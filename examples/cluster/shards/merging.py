@@ -25,8 +25,8 @@ def one_reply(line: str, question: Question | None, replies: list[Reply]) -> Rep
 def merged(parts: list[Answers], question: Question) -> Answers:
     """The answers of all shards by score and id, as many as are wanted; of a count the sum."""
     if question.is_count:
-        return Answers(b"", sum(part.told for part in parts))
-    some = [part for part in parts if part.told]
+        return Answers(b"", sum(part.total for part in parts))
+    some = [part for part in parts if part.total]
     if len(some) <= 1:  # whose shard has cut it
         return some[0] if some else parts[0]
     most = None if question.limit is None else min(question.limit, sys.maxsize)

@@ -8,6 +8,7 @@ from dataclasses import dataclass, field
 from rtfilter import Answers, QueryError, Reply, RtfilterError
 from rtfilter.client import query_lines
 from rtfilter.closing import Closing
+from rtfilter.forks import Owned
 from rtfilter.transport import CLOSED
 
 from .bounds import Shard, size_and_bounds
@@ -50,14 +51,14 @@ class Route:
         (nearest,) = told
         if not isinstance(nearest, Answers):
             return []
-        if nearest.told < self.limit:
+        if nearest.total < self.limit:
             return list(self.later)
         # Not only those that are nearer: at the same score a lower id comes first.
         farthest = last_score(nearest)
         return [it for it, distance in self.later.items() if distance <= farthest]
 
 
-class Cluster(Closing):
+class Cluster(Owned, Closing):
     """A table that shards hold together, none of whose ids is in two of them. Threads may share it.
 
     It is asked lines, as one program that held the whole table would be, and the replies are those of that program, but
@@ -68,6 +69,7 @@ class Cluster(Closing):
     def __init__(self, shards: Sequence[Shard]) -> None:
         if not shards:
             raise ValueError("a cluster has at least one shard")
+        super().__init__()
         self._shards = list(shards)
         self._threads = ThreadPoolExecutor(len(self._shards))
         self._is_closed = False
@@ -93,8 +95,10 @@ class Cluster(Closing):
     def replies(self, lines: Iterable[str]) -> list[Reply]:
         """The reply to each query line, with faults and skipped lines as values: as `Boxes.replies` of the client.
 
-        Raises `ShardError` where a shard that has to be asked gives no replies, and `ValueError` after `close`.
+        Raises `ShardError` where a shard that has to be asked gives no replies, `ValueError` after `close`, also where that
+        comes from another thread meanwhile, and `WrongProcess` in a child of a fork.
         """
+        self._check_process()
         if self._is_closed:
             raise ValueError(CLOSED)
         asked = query_lines(lines)
@@ -150,11 +154,15 @@ class Cluster(Closing):
         try:
             return self._shards[number].replies(lines)
         except Exception as error:
+            if self._is_closed:
+                raise ValueError(CLOSED) from error
             raise ShardError(number, str(error)) from error
 
     def close(self) -> None:
+        if self._is_inherited:
+            return
         self._is_closed = True
-        self._threads.shutdown()
         with contextlib.ExitStack() as stack:  # one that can't be closed leaves none of the others open
+            stack.callback(self._threads.shutdown)  # last: what a thread waits for ends with its shard
             for shard in self._shards:
                 stack.callback(shard.close)

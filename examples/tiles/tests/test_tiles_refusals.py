@@ -1,18 +1,19 @@
 """What isn't asked well is refused; tables of every kind are held as they are; the server ends with the program."""
 
+import contextlib
 import json
+import os
 import random
 import re
 import signal
 import socket
-import subprocess
 import tempfile
 import time
 import unittest
 from pathlib import Path
 from urllib.parse import quote
 
-from tiles_support import BOXES, LONGEST, Mapped, Server, told
+from tiles_support import BOXES, LONGEST, Mapped, Server, processes_of, told
 
 import random_runs
 
@@ -187,17 +188,45 @@ class Tables(unittest.TestCase):
             self.assertEqual([answer.get("name") for answer in answers], ["a\r\nb", None])
 
     def test_the_program_ends(self) -> None:
+        """It is started anew, as long as the table is the one that the page shows."""
         table = Path(self.enterContext(tempfile.TemporaryDirectory()), "boxes.csv")
         table.write_text("1,0,1,0,1\n")
         with Server(table) as server:
-            kill(server.program())
+            for _ in range(3):
+                send(signal.SIGKILL, server.program())
+                self.wait_for_answer(server)
+            table.write_text("1,0,1,0,1\n2,0,1,0,1\n")
+            processes = [server.program(), *processes_of(server.program())]
+            send(signal.SIGKILL, *processes)
             self.assertEqual(server.get("/ask?q=count+all")[0].status, 503)
             status, errors = server.ended()
             self.assertEqual((status, errors), (1, "serve.py: the program ended with status -9\n"))
 
+    def wait_for_answer(self, server: Server) -> None:
+        """One that was under way as the program ended is told so."""
+        until = time.monotonic() + 20
+        while server.get("/ask?q=count+all")[0].status != 200:
+            self.assertLess(time.monotonic(), until)
 
-def kill(process: int) -> None:
-    subprocess.run(["kill", f"-{int(signal.SIGKILL)}", str(process)], check=True)
+    def test_a_question_that_takes_too_long(self) -> None:
+        """Its process alone is given up."""
+        table = Path(self.enterContext(tempfile.TemporaryDirectory()), "boxes.csv")
+        table.write_text("1,0,1,0,1\n")
+        with Server(table, "--timeout", "1") as server:
+            processes = processes_of(server.program())
+            if not processes:
+                self.skipTest("there is no C compiler")
+            send(signal.SIGSTOP, processes[-1])
+            status = {server.get("/ask?q=count+all")[0].status for _ in range(100)}
+            self.assertEqual(status, {200, 503})
+            response, body = server.get("/ask?q=count+all")
+            self.assertEqual((response.status, json.loads(body)["told"]), (200, 1))
+
+
+def send(number: signal.Signals, *processes: int) -> None:
+    for process in processes:
+        with contextlib.suppress(ProcessLookupError):
+            os.kill(process, number)
 
 
 if __name__ == "__main__":

@@ -91,8 +91,9 @@ class Server:
         raise LookupError("the server has no process beside it")
 
     def seconds(self) -> float:
-        """Processor time so far, of the server and the program."""
-        return seconds_of(self.process.pid) + seconds_of(self.program())
+        """Processor time so far, of the server, the program, and its processes."""
+        holder = self.program()
+        return sum(map(seconds_of, (self.process.pid, holder, *processes_of(holder))))
 
     def end(self, number: int = signal.SIGTERM) -> tuple[int, str]:
         """Its exit status and what it has written on standard error."""
@@ -121,6 +122,12 @@ def parent_of(stat: Path) -> int | None:
         return int(fields_of(stat)[1])
     except OSError:  # it has ended meanwhile
         return None
+
+
+def processes_of(process: int) -> list[int]:
+    """The processes that a process has started, the one that was started last behind the others."""
+    stats = [stat for stat in Path("/proc").glob("[0-9]*/stat") if parent_of(stat) == process]
+    return sorted(int(stat.parent.name) for stat in stats)
 
 
 def seconds_of(process: int) -> float:

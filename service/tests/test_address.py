@@ -9,13 +9,12 @@ import random
 import re
 import signal
 import socket
-import tempfile
 import threading
 import time
 import unittest
 from pathlib import Path
 
-from served import BOXES, LONG, PROGRAM, SERVICE, Served, random_runs, read_lines, until
+from served import BOXES, LONG, PROGRAM, SERVICE, Case, random_runs, read_lines
 
 from rtfilter import All, Circle, Disconnected, Near, QueryError, Rtfilter, TimedOut, Window, join
 
@@ -40,15 +39,9 @@ def values_of(boxes: Rtfilter, lines: list[str]) -> list[object]:
     ]
 
 
-class Address(unittest.TestCase):
-    def setUp(self) -> None:
-        self.folder = self.enterContext(tempfile.TemporaryDirectory())
-
-    def served(self, *words: str, table: Path = BOXES) -> Served:
-        return self.enterContext(Served(self.folder, table, *words))
-
+class Address(Case):
     def test_the_same_as_a_program(self) -> None:
-        service = self.served("--tcp", "0")
+        service = self.served(BOXES, "--tcp", "0")
         for seed, address in enumerate((service.path, Path(service.path), service.tcp)):
             chance = random.Random(seed)
             lines = [os.fsdecode(random_runs.some_line(chance)) for _ in range(300)]
@@ -70,7 +63,7 @@ class Address(unittest.TestCase):
 
     def test_many_lines_in_one_call(self) -> None:
         """More than sockets hold, both ways."""
-        service = self.served("--waiting", "1000")
+        service = self.served()
         for timeout in (None, 60):
             with Rtfilter(address=service.path, timeout=timeout) as boxes:
                 found = boxes.ask(["find all".ljust(200)] * 50_000)
@@ -93,33 +86,37 @@ class Address(unittest.TestCase):
     def test_an_exchanged_table(self) -> None:
         table = Path(self.folder, "table")
         table.write_bytes(BOXES.read_bytes())
-        service = self.served(table=table)
+        service = self.served(table)
         with Rtfilter(address=service.path) as boxes:
             self.assertEqual(len(boxes), 5)
             table.write_text("7,0,1,0,1\n")
             service.exchange()
+            self.assertEqual((len(boxes), boxes.count(All())), (5, 5))  # the table of its connection
+            with Rtfilter(address=service.path) as others:
+                self.assertEqual((len(others), [*others.find(All()).ids]), (1, [7]))
+            boxes.reload()  # connects anew
             self.assertEqual((len(boxes), [*boxes.find(All()).ids]), (1, [7]))
-            with self.assertRaisesRegex(ValueError, "^the service exchanges its table$"):
-                boxes.reload()
+            with self.assertRaisesRegex(ValueError, "^the table behind an address is the service's$"):
+                boxes.reload(table)
 
     def test_too_many_connections(self) -> None:
-        service = self.served("--connections", "1")
+        service = self.served(BOXES, "--connections", "1")
         with Rtfilter(address=service.path) as boxes:
             with self.assertRaises(Disconnected) as raised:
                 Rtfilter(address=service.path)
             error = raised.exception
-            self.assertEqual(str(error), "the service closed the connection")
+            self.assertEqual(str(error), f"the service at {service.path} closed the connection")
             self.assertEqual(vars(pickle.loads(pickle.dumps(error))), vars(error))
             self.assertEqual(boxes.count(All()), 5)
 
     def test_a_service_that_ends(self) -> None:
-        service = self.served("--tcp", "0")
+        service = self.served(BOXES, "--tcp", "0")
         with Rtfilter(address=service.path) as boxes, Rtfilter(address=service.tcp) as others:
             os.kill(service.process.pid, signal.SIGTERM)
             service.process.wait(20)
             for _ in range(2):  # it stays so
-                for some in (boxes, others):
-                    with self.assertRaises(Disconnected):
+                for some, error in ((boxes, FileNotFoundError), (others, ConnectionRefusedError)):
+                    with self.assertRaises(error):
                         some.count(All())
 
     def test_nobody_there(self) -> None:
@@ -156,7 +153,7 @@ class Address(unittest.TestCase):
                     boxes.count(All())
                 asked[0].settimeout(LONG)
                 self.assertEqual(read_lines(asked[0], 3), b"count all\n" * 2)  # and then the end
-                with self.assertRaises(Disconnected):
+                with self.assertRaises(TimedOut):  # on another connection, which nobody takes
                     boxes.count(All())
             asked[0].close()
 
@@ -178,15 +175,15 @@ class Address(unittest.TestCase):
             boxes.count(All())
 
     def test_nothing_is_left_open(self) -> None:
-        service = self.served("--tcp", "0", "--connections", "1")
+        service = self.served(BOXES, "--tcp", "0", "--connections", "1")
         before = len(os.listdir("/proc/self/fd"))
-        for _ in range(20):
-            for address in (service.path, service.tcp):
+        for at in range(20):
+            for of_both, address in enumerate((service.path, service.tcp), 1):
                 with Rtfilter(address=address) as boxes:
                     self.assertEqual(boxes.count(All()), 5)
                     with self.assertRaises(Disconnected):
                         Rtfilter(address=address)
-                until(lambda: service.threads == 2, "the connection's end")
+                service.logs("status=0 ", 2 * at + of_both)
         for address in ("/no/such/socket", ("127.0.0.1", 1)):
             with self.assertRaises(OSError):
                 Rtfilter(address=address)

@@ -1,0 +1,97 @@
+"""Until when a call waits, whatever it waits for, and whose turn it is."""
+
+import math
+import threading
+import time
+from collections.abc import Callable
+from threading import get_ident
+from typing import TypeVar
+
+from .errors import TimedOut
+
+Given = TypeVar("Given")
+
+LONGEST_WAIT = 86_400.0  # seconds: the system takes no more than 24 days at once
+
+
+class Deadline:
+    """A moment by which a call has to be over, so many seconds from now. None, or infinity, is no such moment."""
+
+    __slots__ = ("is_endless", "_seconds", "_until")
+
+    def __init__(self, seconds: float | None) -> None:
+        self._seconds = math.inf if seconds is None else seconds
+        self._until = time.monotonic() + self._seconds
+        self.is_endless = self._until == math.inf
+
+    def left(self) -> float:
+        """How many seconds may be waited for at once."""
+        return max(0.0, min(self._until - time.monotonic(), LONGEST_WAIT))
+
+    @property
+    def is_over(self) -> bool:
+        return time.monotonic() >= self._until
+
+    def error(self) -> TimedOut:
+        return TimedOut(self._seconds)
+
+    def sooner(self, seconds: float) -> "Deadline":
+        """This one, or the one in so many seconds where that is sooner."""
+        other = Deadline(seconds)
+        return other if other._until < self._until else self
+
+
+ENDLESS = Deadline(None)
+
+
+class Turns:
+    """One call at a time. Who waits for its turn waits until its deadline.
+
+    No exception of a signal's handler leaves a turn taken, at whatever moment it comes.
+    """
+
+    def __init__(self) -> None:
+        # This kind of lock alone tells who doesn't hold it that it doesn't.
+        self._lock = threading.RLock()
+        self._taker: int | None = None
+
+    @property
+    def are_taken(self) -> bool:
+        """Whether a call is under way."""
+        return self._taker is not None
+
+    def take(self, ask: Callable[[], Given], deadline: Deadline) -> Given:
+        """What a call gives that is made in turn."""
+        me = get_ident()
+        if self._taker == me:
+            raise RuntimeError("asked in the middle of a call by the same thread, as by the handler of a signal")
+        if deadline.is_endless:
+            with self._lock:
+                self._taker = me
+                try:
+                    return ask()
+                finally:
+                    self._taker = None
+        is_over = False
+        try:
+            try:
+                if not (self._lock.acquire(blocking=False) or self._lock.acquire(timeout=deadline.left())):
+                    raise deadline.error()
+                self._taker = me
+                try:
+                    return ask()
+                finally:
+                    self._taker = None
+            finally:
+                self._release()
+                is_over = True
+        except BaseException:
+            if not is_over:
+                self._release()
+            raise
+
+    def _release(self) -> None:
+        try:
+            self._lock.release()
+        except RuntimeError:  # where it isn't held
+            pass

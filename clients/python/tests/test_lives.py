@@ -1,0 +1,600 @@
+"""Forks, drops, ends of programs and connections, deadlines and closes: each is told, and nothing waits for ever."""
+
+import contextlib
+import gc
+import multiprocessing
+import os
+import pickle
+import shutil
+import signal
+import socket
+import subprocess
+import sys
+import tempfile
+import threading
+import time
+import unittest
+from collections.abc import Callable, Iterator
+from concurrent.futures import ProcessPoolExecutor
+from pathlib import Path
+
+from serving import Service
+from support import BOXES, EXAMPLES, PACKAGE, PROGRAM, children_of, descendants_of, open_files, parent_of
+
+sys.path.insert(0, str(EXAMPLES / "cluster"))
+from shards.router import Cluster
+
+from rtfilter.prefork import library_of
+
+from rtfilter import All, Boxes, Disconnected, Ended, Pool, Rtfilter, TimedOut, Window, WrongProcess
+
+AT_ONCE = 0.5  # seconds that a busy machine may take for what takes no time
+held: Boxes  # by the process that the tests run in
+
+
+def in_child(act: Callable[[], object]) -> subprocess.CompletedProcess[bytes] | object:
+    """What a function gives in a child of a fork, or the exception that it raises there."""
+    reader, writer = os.pipe()
+    child = os.fork()
+    if not child:
+        try:
+            given = act()
+        except BaseException as error:
+            given = error
+        os.write(writer, pickle.dumps(given))
+        os._exit(0)
+    os.close(writer)
+    with open(reader, "rb") as file:
+        given = pickle.loads(file.read())
+    os.waitpid(child, 0)
+    return given
+
+
+@contextlib.contextmanager
+def living_child() -> Iterator[None]:
+    """A child of a fork that does nothing, for as long as the block takes."""
+    child = os.fork()
+    if not child:
+        signal.pause()
+    try:
+        yield
+    finally:
+        os.kill(child, signal.SIGKILL)
+        os.waitpid(child, 0)
+
+
+def programs() -> set[int]:
+    """The processes that this one has started, and those that these have."""
+    return set(descendants_of(os.getpid()))
+
+
+class Case(unittest.TestCase):
+    def setUp(self) -> None:
+        self.folder = Path(self.enterContext(tempfile.TemporaryDirectory()))
+        self.alone = str(shutil.copy(PROGRAM, self.folder))  # without what makes a table one for many
+        self.before = programs(), open_files()
+
+    def assert_nothing_left(self) -> None:
+        gc.collect()
+        self.assertEqual((programs(), open_files()), self.before)
+
+    def wait_for(self, is_so: Callable[[], bool]) -> None:
+        until = time.monotonic() + 20
+        while not is_so():
+            self.assertLess(time.monotonic(), until)
+            time.sleep(0.01)
+
+    @contextlib.contextmanager
+    def at_once(self, seconds: float = AT_ONCE) -> Iterator[None]:
+        begun = time.monotonic()
+        yield
+        self.assertLess(time.monotonic() - begun, seconds)
+
+    @contextlib.contextmanager
+    def under_way(self, ask: Callable[[], object]) -> Iterator[list[BaseException]]:
+        """A call of another thread, which has to end by what the block does; and what it has raised then."""
+        raised: list[BaseException] = []
+
+        def run() -> None:
+            try:
+                ask()
+            except BaseException as error:
+                raised.append(error)
+
+        thread = threading.Thread(target=run)
+        thread.start()
+        time.sleep(0.1)
+        yield raised
+        thread.join(AT_ONCE)
+        self.assertFalse(thread.is_alive())
+
+
+def stop(process: int) -> None:
+    os.kill(process, signal.SIGSTOP)
+
+
+def ask_held(_: int) -> int:
+    return held.count(All())
+
+
+class Forks(Case):
+    def each(self) -> Iterator[Boxes]:
+        with Service(self.folder / "socket") as service:
+            for opened in (
+                lambda: Rtfilter(BOXES, program=PROGRAM),
+                lambda: Pool(2, BOXES, program=PROGRAM),
+                lambda: Rtfilter(address=service.path),
+            ):
+                with opened() as boxes:
+                    yield boxes
+
+    def test_a_child_that_asks_is_told_and_the_parent_goes_on(self) -> None:
+        for boxes in self.each():
+            for ask in (
+                lambda: boxes.count(All()), lambda: boxes.ask(["count all"] * 300), lambda: len(boxes), boxes.reload
+            ):  # fmt: skip
+                told = in_child(ask)
+                self.assertIsInstance(told, WrongProcess)
+                self.assertIn(f"process {os.getpid()}", str(told))
+            in_child(boxes.close)
+            self.assertEqual(boxes.count(All()), 5)
+
+    def test_no_lock_is_waited_for_in_a_child(self) -> None:
+        with Rtfilter(BOXES, program=PROGRAM) as boxes, Pool(1, BOXES, program=PROGRAM) as pool:
+            for process in programs():
+                stop(process)
+            for one in (boxes, pool):
+                with self.under_way(lambda: one.count(All())):
+                    self.assertIsInstance(in_child(lambda: one.count(All())), WrongProcess)
+                    in_child(one.close)
+                    one.close()
+
+    def test_a_child_that_lives_keeps_nothing_open(self) -> None:
+        for boxes in self.each():
+            with living_child():
+                with self.at_once():
+                    boxes.close()
+        boxes = Rtfilter(BOXES, program=PROGRAM)
+        (process,) = programs() - self.before[0]
+        with living_child():
+            os.kill(process, signal.SIGKILL)
+            with self.at_once(), self.assertRaises(Ended):
+                boxes.count(All())
+        boxes.close()
+        self.assert_nothing_left()
+
+    def test_a_child_that_forks_while_programs_start(self) -> None:
+        """It inherits no pipe of a program that another thread starts."""
+        is_over = threading.Event()
+
+        def fork() -> None:
+            while not is_over.is_set():
+                with living_child():
+                    time.sleep(0.01)
+
+        thread = threading.Thread(target=fork)
+        thread.start()
+        try:
+            for _ in range(50):
+                with self.at_once(1.5):
+                    Rtfilter(BOXES, program=PROGRAM).close()
+        finally:
+            is_over.set()
+            thread.join()
+
+    def test_workers_of_processes(self) -> None:
+        global held
+        with Rtfilter(BOXES, program=PROGRAM) as held:
+            with ProcessPoolExecutor(2, multiprocessing.get_context("fork")) as workers:
+                with self.assertRaises(WrongProcess):
+                    list(workers.map(ask_held, range(4)))
+            self.assertEqual(held.count(All()), 5)
+            with self.assertRaisesRegex(TypeError, "belongs to the process that made it"):
+                pickle.dumps(held)
+
+    def test_a_child_that_ends_as_python_ends(self) -> None:
+        """What Python does at its end there is nothing for the parent's program."""
+        code = f"""
+import os, rtfilter
+boxes = rtfilter.Rtfilter({str(BOXES)!r}, program={PROGRAM!r})
+if not os.fork():
+    raise SystemExit
+os.wait()
+print(boxes.count(rtfilter.All()))
+"""
+        self.assertEqual(python(code), "5\n")
+
+
+def python(code: str) -> str:
+    environment = {**os.environ, "PYTHONPATH": str(PACKAGE), "PYTHONDONTWRITEBYTECODE": "1"}
+    done = subprocess.run([sys.executable, "-W", "error", "-c", code], env=environment, capture_output=True, text=True)
+    if done.returncode or done.stderr:
+        raise AssertionError(done.stderr)
+    return done.stdout
+
+
+class Drops(Case):
+    def test_a_dropped_client_ends_its_program(self) -> None:
+        for _ in range(8):
+            boxes: Boxes = Rtfilter(BOXES, program=PROGRAM)
+            boxes.count(All())
+        self.assertEqual(len(programs() - self.before[0]), 1)
+        boxes = Pool(3, BOXES, program=PROGRAM)
+        boxes.ask(["count all"] * 1000)
+        del boxes
+        self.assert_nothing_left()
+
+    def test_one_whose_program_is_stopped(self) -> None:
+        boxes = Rtfilter(BOXES, program=PROGRAM)
+        boxes.again = boxes  # a ring, which the collector finds
+        (process,) = programs() - self.before[0]
+        stop(process)
+        with self.at_once():
+            del boxes
+            gc.collect()
+        self.assert_nothing_left()
+
+    def test_open_at_the_end_of_python(self) -> None:
+        code = f"""
+import os, signal, subprocess, rtfilter
+one = rtfilter.Rtfilter({str(BOXES)!r}, program={PROGRAM!r})
+some = rtfilter.Pool(2, {str(BOXES)!r}, program={PROGRAM!r})
+programs = subprocess.run(["pgrep", "-P", str(os.getpid()), "rtfilter"], capture_output=True, text=True).stdout.split()
+forked = subprocess.run(["pgrep", "-P", ",".join(programs), "rtfilter"], capture_output=True, text=True).stdout.split()
+print(*programs, *forked)
+os.kill(int(programs[0]), signal.SIGSTOP)
+"""
+        processes = list(map(int, python(code).split()))
+        self.assertEqual(len(processes), 2 + 2 * (library_of(PROGRAM) is not None) + (library_of(PROGRAM) is None))
+        self.wait_for(lambda: [parent_of(process) for process in processes] == [None] * len(processes))
+
+
+class Pools(Case):
+    """Each copy is a program of its own."""
+
+    def table(self) -> Path:
+        table = self.folder / "table"
+        table.write_bytes(BOXES.read_bytes())
+        return table
+
+    def asked_at_once(self, boxes: Pool) -> bool:
+        """Asks of all copies that are there, so that an end is noticed."""
+        self.assertEqual([it.total for it in boxes.ask(["count all"] * 1000)], [5] * 1000)
+        return True
+
+    def test_a_dead_copy_is_started_anew(self) -> None:
+        with Pool(4, self.table(), program=self.alone, timeout=20) as boxes:
+            for _ in range(3):
+                begun = programs() - self.before[0]
+                os.kill(min(begun), signal.SIGKILL)
+                self.assertEqual([boxes.count(All()) for _ in range(300)], [5] * 300)
+                self.wait_for(lambda: self.asked_at_once(boxes) and len(programs() - begun - self.before[0]) == 1)
+            for process in programs() - self.before[0]:
+                os.kill(process, signal.SIGKILL)
+            self.assertEqual([it.total for it in boxes.ask(["count all"] * 1000)], [5] * 1000)
+        self.assert_nothing_left()
+
+    def test_one_whose_file_has_changed_is_not(self) -> None:
+        """No two copies hold different tables."""
+        table = self.table()
+        for change in (lambda: table.write_text("1,0,1,0,1\n"), table.unlink):
+            with Pool(3, self.table(), program=self.alone, timeout=20) as boxes:
+                change()
+                for left in (2, 1):
+                    os.kill(min(programs() - self.before[0]), signal.SIGKILL)
+                    self.wait_for(lambda: self.asked_at_once(boxes) and boxes._copies._lost == 3 - left)
+                for process in programs() - self.before[0]:
+                    with contextlib.suppress(ProcessLookupError):
+                        os.kill(process, signal.SIGKILL)
+                for _ in range(3):
+                    with self.at_once(), self.assertRaises(Ended):
+                        boxes.ask(["count all"] * 500)
+                boxes.reload(BOXES)
+                self.assertEqual(boxes.count(All()), 5)
+
+    def test_rows_are_read_once(self) -> None:
+        with Pool(2, [(1, 0, 1, 0, 1)], program=self.alone) as boxes:
+            for process in programs() - self.before[0]:
+                os.kill(process, signal.SIGKILL)
+            for _ in range(3):
+                with self.at_once(), self.assertRaises(Ended):
+                    boxes.count(All())
+        self.assert_nothing_left()
+
+    def test_after_no_answer_in_time(self) -> None:
+        with Pool(2, self.table(), program=self.alone, timeout=0.5) as boxes:
+            for process in programs() - self.before[0]:
+                stop(process)
+            for _ in range(2):
+                with self.assertRaises(TimedOut):
+                    boxes.count(All())
+            self.assertEqual([boxes.count(All()) for _ in range(50)], [5] * 50)
+
+
+class SharedPools(Case):
+    """Each copy is a process of one program, whose table is in memory once."""
+
+    def setUp(self) -> None:
+        super().setUp()
+        self.table = self.folder / "table"
+        self.table.write_bytes(BOXES.read_bytes())
+        if library_of(PROGRAM) is None:
+            self.skipTest("there is no C compiler")
+
+    def holder(self) -> int:
+        (process,) = set(children_of(os.getpid())) - self.before[0]
+        return process
+
+    def test_one_load(self) -> None:
+        loads = self.folder / "loads"
+        os.mkfifo(loads)  # which gives its lines once
+        writing = threading.Thread(target=loads.write_bytes, args=(BOXES.read_bytes(),))
+        writing.start()
+        with Pool(8, loads, program=PROGRAM) as boxes:
+            writing.join()
+            self.assertEqual([it.total for it in boxes.ask(["count all"] * 1000)], [5] * 1000)
+            self.assertEqual(len(programs() - self.before[0]), 9)
+        self.assert_nothing_left()
+
+    def test_a_process_that_ends(self) -> None:
+        with Pool(3, self.table, program=PROGRAM, timeout=20) as boxes:
+            for _ in range(3):
+                for process in children_of(self.holder()):
+                    os.kill(process, signal.SIGKILL)
+                self.assertEqual([it.total for it in boxes.ask(["count all"] * 1000)], [5] * 1000)
+                self.assertEqual([boxes.count(All()) for _ in range(20)], [5] * 20)
+        self.assert_nothing_left()
+
+    def test_a_program_that_ends(self) -> None:
+        """It is started anew for the next question, from the same table and from no other."""
+        with Pool(3, self.table, program=PROGRAM, timeout=20) as boxes:
+            for _ in range(3):
+                processes = programs() - self.before[0]
+                os.kill(self.holder(), signal.SIGKILL)
+                self.wait_for(lambda: not any(map(parent_of, processes)))
+                self.assertEqual([it.total for it in boxes.ask(["count all"] * 1000)], [5] * 1000)
+            self.table.write_text("7,0,1,0,1\n")
+            self.assertEqual(boxes.count(All()), 5)
+            processes = programs() - self.before[0]
+            os.kill(self.holder(), signal.SIGKILL)
+            self.wait_for(lambda: not any(map(parent_of, processes)))
+            for count in (1, 1000):
+                with self.at_once(), self.assertRaises(Ended) as raised:
+                    boxes.ask(["count all"] * count)
+                self.assertEqual(raised.exception.status, -signal.SIGKILL)
+            boxes.reload()
+            self.assertEqual((boxes.count(All()), len(boxes)), (1, 1))
+        self.assert_nothing_left()
+
+    def test_one_that_is_stopped(self) -> None:
+        """It alone is out of step: the others answer."""
+        with Pool(2, self.table, program=PROGRAM, timeout=0.5) as boxes:
+            for process in children_of(self.holder()):
+                os.kill(process, signal.SIGSTOP)
+            with self.assertRaises(TimedOut):
+                boxes.count(All())
+            self.assertEqual([boxes.count(All()) for _ in range(50)], [5] * 50)
+            boxes._copies._free.reverse()
+            with self.assertRaises(TimedOut):  # by the other one
+                boxes.count(All())
+            self.assertEqual([it.total for it in boxes.ask(["count all"] * 1000)], [5] * 1000)
+        self.assert_nothing_left()
+
+    def test_the_table_after_a_reload(self) -> None:
+        """Each call that begins after it is answered from the new table, on each connection."""
+        with Pool(4, self.table, program=PROGRAM, timeout=20) as boxes:
+            for size in range(1, 8):
+                self.table.write_text("".join(f"{at},0,1,0,1\n" for at in range(size)))
+                boxes.reload()
+                self.assertEqual({it.total for it in boxes.ask(["count all"] * 1000)}, {size})
+        self.assert_nothing_left()
+
+    def test_what_is_refused(self) -> None:
+        for table, options, status in (("/no/such/table", {}, 3), ([(1, 1, 0, 0, 0)], {}, 3), (BOXES, {"fanout": 1}, 2)):
+            with self.assertRaises(Ended) as raised:
+                Pool(2, table, program=PROGRAM, **options)
+            self.assertEqual(raised.exception.status, status)
+            self.assertRegex(raised.exception.text, "^rtfilter: ")
+        self.assert_nothing_left()
+
+
+class Connections(Case):
+    def test_the_next_question_connects_anew(self) -> None:
+        with Service(self.folder / "socket") as service, Rtfilter(address=service.path, timeout=20) as boxes:
+            for _ in range(3):
+                service.end_connections()
+                self.assertEqual((boxes.count(All()), len(boxes)), (5, 5))
+            service.table = self.folder / "other"
+            service.table.write_text("7,0,1,0,1\n")
+            self.assertEqual((boxes.count(All()), len(boxes)), (5, 5))  # a connection keeps its table
+            boxes.reload()
+            self.assertEqual((boxes.count(All()), len(boxes)), (1, 1))
+            with self.assertRaises(ValueError):
+                boxes.reload(BOXES)
+
+    def test_one_under_way_is_not_asked_again(self) -> None:
+        with Service(self.folder / "socket") as service, Rtfilter(address=service.path) as boxes:
+            stop(service.programs[0].pid)
+            with self.under_way(lambda: boxes.count(All())) as raised:
+                service.end_connections()
+            self.assertIsInstance(raised[0], Disconnected)
+            self.assertIn(str(service.path), str(raised[0]))
+            self.assertEqual((len(service.connections), boxes.count(All())), (0, 5))
+
+    def test_after_no_answer_in_time(self) -> None:
+        with Service(self.folder / "socket") as service, Rtfilter(address=service.path, timeout=0.5) as boxes:
+            stop(service.programs[0].pid)
+            with self.assertRaises(TimedOut):
+                boxes.count(All())
+            self.assertEqual(boxes.count(All()), 5)
+
+    def test_no_service_any_more(self) -> None:
+        with Service(self.folder / "socket") as service:
+            boxes = Rtfilter(address=service.path)
+        with self.assertRaises(FileNotFoundError) as raised:
+            boxes.count(All())
+        self.assertEqual(raised.exception.filename, str(service.path))
+        with Service(service.path):
+            self.assertEqual(boxes.count(All()), 5)
+        boxes.close()
+        with self.assertRaises(ValueError):
+            boxes.count(All())
+        self.assert_nothing_left()
+
+
+class Deadlines(Case):
+    SECONDS = 0.4
+
+    @contextlib.contextmanager
+    def timing_out(self) -> Iterator[None]:
+        begun = time.monotonic()
+        with self.assertRaises(TimedOut) as raised:
+            yield
+        self.assertEqual(raised.exception.seconds, self.SECONDS)
+        self.assertLess(abs(time.monotonic() - begun - self.SECONDS), 0.1)
+
+    def test_while_another_thread_asks(self) -> None:
+        """The wait for its end counts, and ends nothing: what is under way goes on."""
+        with Rtfilter(BOXES, program=PROGRAM, timeout=self.SECONDS) as boxes:
+            is_over = threading.Event()
+            holding = threading.Thread(target=boxes._turns.take, args=(is_over.wait, boxes._deadline()))
+            holding.start()
+            for ask in (lambda: boxes.count(All()), lambda: boxes.ask(["count all"] * 10), boxes.reload):
+                with self.timing_out():
+                    ask()
+            is_over.set()
+            holding.join()
+            self.assertEqual(boxes.count(All()), 5)
+
+    def test_all_threads_of_one_client(self) -> None:
+        with Rtfilter(BOXES, program=PROGRAM, timeout=self.SECONDS) as boxes:
+            (process,) = programs() - self.before[0]
+            stop(process)
+            threads, raised = [], []
+
+            def ask() -> None:
+                begun = time.monotonic()
+                try:
+                    boxes.count(All())
+                except (TimedOut, Ended) as error:
+                    raised.append((error, time.monotonic() - begun))
+
+            for _ in range(4):
+                threads.append(threading.Thread(target=ask))
+                threads[-1].start()
+            for thread in threads:
+                thread.join()
+            self.assertEqual(len(raised), 4)
+            self.assertLess(max(seconds for _, seconds in raised), self.SECONDS + 0.1)
+            with self.assertRaisesRegex(Ended, r"^ended because of an earlier call: no answer in 0\.4 s$"):
+                boxes.count(All())
+
+    def test_a_free_copy(self) -> None:
+        with Pool(1, [(1, 0, 1, 0, 1)], program=PROGRAM, timeout=self.SECONDS) as boxes:
+            client = boxes._copies._free.pop()
+            with self.timing_out():
+                boxes.count(All())
+            boxes._copies._give_back(client)
+            self.assertEqual(boxes.count(All()), 1)
+
+    def test_a_full_backlog(self) -> None:
+        path = self.folder / "socket"
+        with socket.socket(socket.AF_UNIX) as listener:
+            listener.bind(str(path))
+            listener.listen(0)
+            with socket.socket(socket.AF_UNIX) as first:
+                first.connect(str(path))
+                with self.timing_out():
+                    Rtfilter(address=path, timeout=self.SECONDS)
+                begun = time.monotonic()
+                with self.under_way(lambda: Rtfilter(address=path, timeout=20)) as raised:
+                    for _ in range(2):  # both are taken, and closed
+                        listener.accept()[0].close()
+                self.assertIsInstance(raised[0], Disconnected)
+                self.assertLess(time.monotonic() - begun, 5)
+        self.assert_nothing_left()
+
+    def test_a_service_that_says_nothing(self) -> None:
+        with socket.create_server(("127.0.0.1", 0)) as listener:
+            with self.timing_out():
+                Rtfilter(address=listener.getsockname(), timeout=self.SECONDS)
+        self.assert_nothing_left()
+
+
+class Closes(Case):
+    """From another thread, while a call waits for a program that is stopped."""
+
+    def test_client_pool_and_cluster(self) -> None:
+        for opened in (
+            lambda: Rtfilter(BOXES, program=PROGRAM),
+            lambda: Rtfilter(BOXES, program=PROGRAM, timeout=60),
+            lambda: Pool(2, BOXES, program=self.alone),
+            lambda: Cluster([Rtfilter(BOXES, program=PROGRAM), Rtfilter([(9, 0, 1, 0, 1)], program=PROGRAM)]),
+        ):
+            boxes = opened()
+            for process in programs() - self.before[0]:
+                stop(process)
+            with self.under_way(lambda: boxes.ask(["count all"] * 300)) as raised, self.at_once():
+                boxes.close()
+            self.assertIsInstance(raised[0], ValueError)
+            self.assertEqual(str(raised[0]), "the table was closed")
+            boxes.close()
+        self.assert_nothing_left()
+
+    def test_shared_pool(self) -> None:
+        boxes = Pool(2, BOXES, program=PROGRAM, timeout=60)
+        for process in children_of(min(programs() - self.before[0])):
+            stop(process)
+        with self.under_way(lambda: boxes.ask(["count all"] * 300)) as raised, self.at_once():
+            boxes.close()
+        self.assertIsInstance(raised[0], ValueError)
+        self.assert_nothing_left()
+
+    def test_by_address(self) -> None:
+        with Service(self.folder / "socket") as service:
+            boxes = Rtfilter(address=service.path)
+            stop(service.programs[0].pid)
+            with self.under_way(lambda: boxes.count(All())) as raised, self.at_once():
+                boxes.close()
+            self.assertIsInstance(raised[0], ValueError)
+
+    def test_while_it_connects_anew(self) -> None:
+        with Service(self.folder / "socket") as service:
+            boxes = Rtfilter(address=service.path)
+        path = self.folder / "socket"
+        with socket.socket(socket.AF_UNIX) as listener, socket.socket(socket.AF_UNIX) as first:
+            listener.bind(str(path))
+            listener.listen(0)
+            first.connect(str(path))
+            with self.under_way(lambda: boxes.count(All())) as raised, self.at_once():
+                boxes.close()
+            self.assertIsInstance(raised[0], ValueError)
+
+    def test_a_load(self) -> None:
+        never = self.folder / "never"
+        os.mkfifo(never)
+        for boxes in (Rtfilter(BOXES, program=PROGRAM), Pool(2, BOXES, program=PROGRAM)):
+            with self.under_way(lambda: boxes.reload(never)) as raised, self.at_once():
+                boxes.close()
+            self.assertIsInstance(raised[0], ValueError)
+        self.assert_nothing_left()
+
+    def test_a_program_that_is_stopped_and_not_asked(self) -> None:
+        boxes = Rtfilter(BOXES, program=PROGRAM, timeout=0.3)
+        (process,) = programs() - self.before[0]
+        stop(process)
+        with self.at_once(0.4):
+            boxes.close()
+        self.assert_nothing_left()
+
+    def test_in_the_middle_of_a_call_of_the_same_thread(self) -> None:
+        with Rtfilter(BOXES, program=PROGRAM) as boxes:
+            before = signal.signal(signal.SIGALRM, lambda *_: boxes.find(Window(0, 1, 0, 1)))
+            (process,) = programs() - self.before[0]
+            stop(process)
+            try:
+                signal.setitimer(signal.ITIMER_REAL, 0.1)
+                with self.assertRaisesRegex(RuntimeError, "in the middle of a call"):
+                    boxes.count(All())
+            finally:
+                signal.signal(signal.SIGALRM, before)

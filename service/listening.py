@@ -1,0 +1,77 @@
+"""The sockets that a service listens on."""
+
+import contextlib
+import fcntl
+import os
+import socket
+import stat
+from collections.abc import Iterator
+
+FIRST_GIVEN = 3  # the first descriptor that systemd passes
+BACKLOG = 4096  # as many as Linux lets wait, by default
+
+
+@contextlib.contextmanager
+def unix_listener(path: str, mode: int) -> Iterator[socket.socket]:
+    """A Unix socket at a path, with a mode that it has from the first. One on which nobody listens is replaced; what
+    stands there at the end is removed if it is this one."""
+    with socket.socket(socket.AF_UNIX) as listener:
+        with locked(path):
+            remove_if_unused(path)
+            mask = os.umask(0o777 & ~mode)
+            try:
+                listener.bind(path)
+            except OSError as error:
+                error.filename = path
+                raise
+            finally:
+                os.umask(mask)
+            listener.listen(BACKLOG)
+            own = os.lstat(path)
+        try:
+            yield listener
+        finally:
+            with contextlib.suppress(OSError), locked(path):
+                if os.path.samestat(own, os.lstat(path)):
+                    os.unlink(path)
+
+
+@contextlib.contextmanager
+def locked(path: str) -> Iterator[None]:
+    """Keeps other services from paths in this folder meanwhile."""
+    folder = os.open(os.path.dirname(path) or ".", os.O_RDONLY)
+    try:
+        fcntl.flock(folder, fcntl.LOCK_EX)
+        yield
+    finally:
+        os.close(folder)
+
+
+def remove_if_unused(path: str) -> None:
+    """Removes a socket on which nobody listens."""
+    with contextlib.suppress(FileNotFoundError, BlockingIOError), socket.socket(socket.AF_UNIX) as probe:
+        probe.setblocking(False)  # whose backlog is full is in use
+        if stat.S_ISSOCK(os.lstat(path).st_mode):
+            try:
+                probe.connect(path)
+            except ConnectionRefusedError:
+                os.unlink(path)
+
+
+def tcp_listener(host: str, port: int) -> socket.socket:
+    family = socket.AF_INET6 if ":" in host else socket.AF_INET
+    return socket.create_server((host, port), family=family, backlog=BACKLOG)
+
+
+def given_listeners() -> list[socket.socket]:
+    """The sockets that systemd has opened for this process (sd_listen_fds), which are told once."""
+    process, count = os.environ.pop("LISTEN_PID", ""), os.environ.pop("LISTEN_FDS", "0")
+    return [socket.socket(fileno=FIRST_GIVEN + at) for at in range(int(count) * (process == str(os.getpid())))]
+
+
+def name_of(listener: socket.socket) -> str:
+    """Where a socket listens, in words."""
+    where = listener.getsockname()
+    if listener.family == socket.AF_UNIX:
+        return str(where)
+    return f"[{where[0]}]:{where[1]}" if listener.family == socket.AF_INET6 else f"{where[0]}:{where[1]}"

@@ -1,0 +1,1 @@
+../clients/python/rtfilter/prefork.py

@@ -1,0 +1,117 @@
+#!/usr/bin/env python3
+"""Holds a table with rtfilter and answers query lines over sockets: each connection is a process of the program.
+
+The table is exchanged for what its file then holds on SIGHUP. README.md has the rules.
+"""
+
+import argparse
+import asyncio
+import contextlib
+import os
+import resource
+import signal
+import socket
+import sys
+from collections.abc import Callable, Sequence
+from functools import partial
+
+import prefork
+from listening import given_listeners, name_of, tcp_listener, unix_listener
+from service import NO_SERVICE, SIGNALS, Service, log
+
+LOOPBACK = "127.0.0.1"
+MOST_CONNECTIONS = 1 << 20  # as prefork.c has it
+LONGEST = 1e8  # seconds, three years
+
+
+def main(words: Sequence[str]) -> int:
+    parser = parser_of_words()
+    args = parser.parse_args(words)
+    try:
+        with contextlib.ExitStack() as stack:
+            prepare(args.nice)
+            listeners = opened(args, stack)
+            if not listeners:
+                parser.error("nowhere to listen: --unix, --tcp, or a socket of systemd")
+            health = stack.enter_context(tcp_listener(*args.health)) if args.health else None
+            library = prefork.library_of(args.program)
+            if library is None:
+                raise FileNotFoundError(f"no program {args.program}, or no {prefork.LIBRARY} with it")
+            for listener in listeners:
+                log(f"listening on {name_of(listener)}")
+            if health:
+                log(f"health on {name_of(health)}")
+            return asyncio.run(Service(args, command(args), library, listeners).run(health))
+    except OSError as error:
+        log(f"rtfilter-serve: {error}")
+    return NO_SERVICE
+
+
+def prepare(nice: int) -> None:
+    """Standard files are open, or what is opened next would be taken for them; signals wait for who heeds them, whatever
+    was ignored before; there are descriptors for connections."""
+    while (descriptor := os.open(os.devnull, os.O_RDWR)) <= 2:
+        pass
+    os.close(descriptor)
+    signal.signal(signal.SIGCHLD, signal.SIG_DFL)
+    signal.pthread_sigmask(signal.SIG_SETMASK, SIGNALS)
+    _, most = resource.getrlimit(resource.RLIMIT_NOFILE)
+    resource.setrlimit(resource.RLIMIT_NOFILE, (most, most))
+    os.nice(nice)
+
+
+def opened(args: argparse.Namespace, stack: contextlib.ExitStack) -> list[socket.socket]:
+    """The sockets that are given, and those that are asked for."""
+    listeners = [stack.enter_context(listener) for listener in given_listeners()]
+    listeners += [stack.enter_context(unix_listener(path, args.mode)) for path in args.unix]
+    return listeners + [stack.enter_context(tcp_listener(*place)) for place in args.tcp]
+
+
+def command(args: argparse.Namespace) -> list[str]:
+    """The program with its options and its table."""
+    words = [args.program, *["--header"] * args.header]
+    for name in ("fanout", "max_entries"):
+        if (value := getattr(args, name)) is not None:
+            words += [f"--{name.replace('_', '-')}", str(value)]
+    return [*words, "--", args.table]
+
+
+def parser_of_words() -> argparse.ArgumentParser:
+    parser = argparse.ArgumentParser(prog="rtfilter-serve", description="Answers rtfilter's query lines over sockets.")
+    add, seconds, octal = parser.add_argument, within(float, 0, LONGEST), partial(int, base=8)
+    add("table", metavar="TABLE", help="the CSV file of the boxes")
+    add("--unix", metavar="PATH", action="append", default=[], help="listen on a Unix socket")
+    add("--mode", type=within(octal, 0, 0o777), default=0o600, help="of the Unix socket, in octal (600)")
+    add("--tcp", metavar="[HOST:]PORT", type=host_and_port, action="append", default=[], help="listen on TCP (loopback)")
+    add("--health", metavar="[HOST:]PORT", type=host_and_port, help="answer /health and /metrics over HTTP there")
+    add("--connections", metavar="N", type=within(int, 1, MOST_CONNECTIONS), default=128, help="the most at a time (128)")
+    add("--silence", metavar="SECONDS", type=seconds, default=0.0, help="that a connection may be silent (0: for ever)")
+    add("--patience", metavar="SECONDS", type=seconds, default=60.0, help="that a reader may let replies wait (60)")
+    add("--drain", metavar="SECONDS", type=seconds, default=300.0, help="that connections keep the old table (300)")
+    add("--load-timeout", metavar="SECONDS", type=seconds, default=300.0, help="that a load may take (300)")
+    add("--nice", metavar="N", type=int, default=0, help="the niceness of all of it")
+    add("--program", default="rtfilter", help="the program, where it isn't on the path")
+    add("-H", "--header", action="store_true", help="as the program's option")
+    add("--fanout", type=int, help="as the program's option")
+    add("--max-entries", type=int, help="as the program's option")
+    return parser
+
+
+def within(kind: Callable[[str], float], least: float, most: float) -> Callable[[str], float]:
+    """Reads a number in a range."""
+    def number(word: str) -> float:
+        found = kind(word)
+        if not least <= found <= most:
+            raise ValueError
+        return found
+
+    return number
+
+
+def host_and_port(word: str) -> tuple[str, int]:
+    host, _, port = word.rpartition(":")
+    return host.removeprefix("[").removesuffix("]") or LOOPBACK, int(within(int, 0, 65535)(port))
+
+
+if __name__ == "__main__":
+    sys.exit(main(sys.argv[1:]))

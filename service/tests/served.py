@@ -1,0 +1,246 @@
+"""A service as a process beside the tests, and askers."""
+
+import contextlib
+import os
+import re
+import signal
+import socket
+import subprocess
+import sys
+import tempfile
+import threading
+import time
+import unittest
+from collections.abc import Callable, Iterable, Iterator
+from pathlib import Path
+
+ROOT = Path(__file__).resolve().parents[2]
+PACKAGE = ROOT / "clients/python"
+SERVICE = ROOT / "service/serve.py"
+BOXES = ROOT / "examples/boxes.csv"
+PROGRAM = os.environ["RTFILTER_PROGRAM"]
+SYSTEM_PYTHON = "/usr/bin/python3"  # which other users may run too
+LONG = 20.0  # seconds after which what is waited for doesn't come
+
+sys.path[:0] = [str(PACKAGE), str(ROOT / "tests")]
+
+import random_runs
+
+from rtfilter.prefork import library_of
+
+
+def until(is_so: Callable[[], object], what: str) -> None:
+    """Waits until something is so."""
+    end = time.monotonic() + LONG
+    while not is_so():
+        if time.monotonic() > end:
+            raise AssertionError(f"{what} doesn't come")
+        time.sleep(0.005)
+
+
+def children_of(process: int) -> list[int]:
+    """The processes that a process has started, those of all of its threads, and that haven't ended."""
+    found = []
+    for other in Path("/proc").glob("[0-9]*"):
+        with contextlib.suppress(FileNotFoundError, ProcessLookupError):  # it has ended meanwhile
+            state, parent = (other / "stat").read_text().rpartition(")")[2].split()[:2]
+            found += [int(other.name)] * (int(parent) == process and state != "Z")
+    return found
+
+
+def is_there(process: int) -> bool:
+    """Whether a process runs: one that has ended may still be waited for."""
+    try:
+        return Path(f"/proc/{process}/stat").read_text().rpartition(")")[2].split()[0] not in "ZX"
+    except (FileNotFoundError, ProcessLookupError):
+        return False
+
+
+class Served:
+    """The service over a table, on a Unix socket in a folder. To be used in a `with` statement, which ends it."""
+
+    def __init__(
+        self, folder: str, table: Path, *words: str, before: Iterable[str] = (), is_ready: bool = True,
+        program: str = PROGRAM, python: str = sys.executable, **options: object,
+    ) -> None:
+        """`before` are words of a command that runs it. Waits until the table is loaded, unless it isn't to be."""
+        self.path = str(Path(folder, "socket"))
+        self.log_file = Path(folder, "log")
+        command = [*before, python, "-B", str(SERVICE), "--program", program, "--unix", self.path, *words]
+        with open(self.log_file, "wb") as log:
+            self.process = subprocess.Popen([*command, str(table)], **{"stderr": log, **options})
+        if is_ready:
+            until(lambda: "ready: " in self.log or self.process.poll() is not None, "the service")
+
+    def __enter__(self) -> "Served":
+        return self
+
+    def __exit__(self, *_: object) -> None:
+        self.process.send_signal(signal.SIGTERM)
+        try:
+            self.process.wait(LONG)
+        except subprocess.TimeoutExpired:
+            self.process.kill()
+            self.process.wait()
+            raise
+
+    @property
+    def log(self) -> str:
+        return self.log_file.read_text()
+
+    def place(self, what: str = "listening") -> tuple[str, int]:
+        """Where it listens on TCP."""
+        host, port = re.search(rf"{what} on \[?([\d.:]+)\]?:(\d+)\n", self.log).groups()
+        return host, int(port)
+
+    @property
+    def tcp(self) -> tuple[str, int]:
+        return self.place()
+
+    def logs(self, pattern: str, count: int = 1) -> list[str]:
+        """Waits until so many lines of the log have a part that matches."""
+        until(lambda: len(re.findall(pattern, self.log, re.MULTILINE)) >= count, pattern)
+        return [line for line in self.log.splitlines() if re.search(pattern, line)]
+
+    def signal(self, number: int) -> None:
+        self.process.send_signal(number)
+
+    def exchange(self) -> None:
+        """Asks for another table, and waits until it's there."""
+        count = self.log.count("the table is exchanged")
+        self.signal(signal.SIGHUP)
+        self.logs("the table is exchanged", count + 1)
+
+    @property
+    def programs(self) -> list[int]:
+        """Those that hold a table."""
+        return children_of(self.process.pid)
+
+    @property
+    def connections(self) -> list[int]:
+        """The processes of connections."""
+        return [child for program in self.programs for child in children_of(program)]
+
+    @property
+    def processes(self) -> list[int]:
+        return [self.process.pid, *self.programs, *self.connections]
+
+    @property
+    def open_files(self) -> list[int]:
+        """How many, of the service and of its programs."""
+        return [len(os.listdir(f"/proc/{process}/fd")) for process in [self.process.pid, *self.programs]]
+
+    @property
+    def memory(self) -> int:
+        """KiB that are resident, of the service and its programs."""
+        texts = [Path(f"/proc/{process}/status").read_text() for process in [self.process.pid, *self.programs]]
+        return sum(int(re.search(r"VmRSS:\s*(\d+) kB", text)[1]) for text in texts)
+
+    def connect(self) -> socket.socket:
+        asker = socket.socket(socket.AF_UNIX)
+        asker.settimeout(LONG)
+        asker.connect(self.path)
+        return asker
+
+    def ask(self, queries: bytes) -> bytes:
+        return talk(self.connect(), [queries])
+
+    def get(self, path: str) -> tuple[int, str]:
+        """What the address of its health answers: a status, and a text."""
+        with socket.create_connection(self.place("health")) as asker:
+            asker.sendall(f"GET {path} HTTP/1.0\r\nHost: here\r\n\r\n".encode())
+            head, _, text = b"".join(iter(lambda: asker.recv(4096), b"")).decode().partition("\r\n\r\n")
+        return int(head.split()[1]), text
+
+    def metric(self, name: str) -> float:
+        return float(re.search(rf"^{re.escape(name)} (\S+)$", self.get("/metrics")[1], re.MULTILINE)[1])
+
+
+class Case(unittest.TestCase):
+    """A test with a folder of its own, in which services are started that end with it."""
+
+    def setUp(self) -> None:
+        if library_of(PROGRAM) is None:
+            self.skipTest("a C compiler: not installed")
+        self.folder = self.enterContext(tempfile.TemporaryDirectory())
+
+    def served(self, table: Path = BOXES, *words: str, **given: object) -> Served:
+        return self.enterContext(Served(self.folder, table, *words, **given))
+
+    def assert_well(self, service: Served) -> None:
+        """Others are answered, and soon."""
+        begun = time.monotonic()
+        self.assertRegex(service.ask(b"x\ncount all\n"), rb"^error 1 Q2 unknown verb\nok 2 \d+\n$")
+        self.assertLess(time.monotonic() - begun, 5)
+
+
+def talk(asker: socket.socket, pieces: Iterable[bytes]) -> bytes:
+    """Writes pieces, ends its input, and reads until the end, both at once."""
+    def write() -> None:
+        for piece in pieces:
+            asker.sendall(piece)
+        asker.shutdown(socket.SHUT_WR)
+
+    asker.settimeout(LONG)
+    with asker:
+        writer = threading.Thread(target=write)
+        writer.start()
+        replies = b"".join(iter(lambda: asker.recv(1 << 18), b""))
+        writer.join()
+    return replies
+
+
+def read_lines(asker: socket.socket, count: int) -> bytes:
+    """So many lines, and nothing behind them."""
+    found = b""
+    while found.count(b"\n") < count:
+        piece = asker.recv(1 << 16)
+        if not piece:
+            break
+        found += piece
+    return found
+
+
+def told_by_program(table: Path, queries: bytes) -> bytes:
+    """What the program writes that is given these bytes alone."""
+    return subprocess.run([PROGRAM, table], input=queries, capture_output=True, timeout=60).stdout
+
+
+def some_queries(chance, count: int) -> bytes:
+    """Sound and faulty lines, some skipped, some too long, the last one with its end or without."""
+    lines = [random_runs.some_line(chance) for _ in range(count)]
+    return b"\n".join(lines) + chance.choice([b"", b"\n"])
+
+
+def some_pieces(chance, text: bytes) -> Iterator[bytes]:
+    """A text in pieces of any length."""
+    at = 0
+    while at < len(text):
+        size = chance.choice([1, 7, 100, 5000, 100_000])
+        yield text[at:at + size]
+        at += size
+
+
+def table_of(folder: str, name: str, first: int, count: int) -> Path:
+    """Boxes with these ids, each a unit away from the next."""
+    table = Path(folder, name)
+    table.write_text("".join(f"{first + at},{at},{at},0,0\n" for at in range(count)))
+    return table
+
+
+def answers(first: int, count: int) -> bytes:
+    """What `find all` is answered over such a table."""
+    return b"".join(b"%d 0\n" % id for id in range(first, first + count))
+
+
+@contextlib.contextmanager
+def all_of(threads: Iterable[threading.Thread]) -> Iterator[None]:
+    """Threads that run meanwhile, and are waited for."""
+    begun = list(threads)
+    for thread in begun:
+        thread.start()
+    try:
+        yield
+    finally:
+        for thread in begun:
+            thread.join()

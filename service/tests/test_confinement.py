@@ -1,0 +1,155 @@
+"""What a connection can do: read, write, give memory back and end. And prefork.c by those who look for faults in C."""
+
+import os
+import re
+import shutil
+import signal
+import socket
+import subprocess
+import unittest
+from pathlib import Path
+
+from served import BOXES, PROGRAM, ROOT, Case, read_lines, table_of, told_by_program, until
+
+SOURCE = ROOT / "service/prefork.c"
+FLAGS = ["-std=gnu11", "-O", "-fPIC", "-shared"]
+CALLS = {"read", "write", "munmap", "brk", "exit_group"}
+ERROR_OF_VALGRIND = 99
+
+
+class Confinement(Case):
+    def build(self, *flags: object) -> str:
+        """A copy of the program, with a test build of the library."""
+        folder = Path(self.folder, "build")
+        folder.mkdir()
+        subprocess.run(["cc", *FLAGS, *map(str, flags), "-o", folder / "rtfilter-prefork.so", SOURCE], check=True)
+        return shutil.copy(PROGRAM, folder)
+
+    def test_what_is_tried(self) -> None:
+        """By a build that tries: the kernel ends the connection, and nothing else."""
+        service = self.served(program=self.build("-include", Path(__file__).with_name("tries.h")))
+        names = ["open", "openat", "socket", "mmap", "more", "high", "fork", "execve", "kill", "x32", "i386"]
+        for name in names:
+            with self.subTest(name), service.connect() as asker:
+                asker.sendall(b"count all\n")
+                self.assertEqual(read_lines(asker, 1), b"ok 1 5\n")
+                asker.sendall(f"# {name}\ncount all\n".encode())
+                self.assertEqual(asker.recv(100), b"")
+        self.assertEqual(len(service.logs(rf"signal={signal.SIGSYS:d} ", len(names))), len(names))
+        self.assertEqual(service.ask(b"# less\ncount all\n"), b"ok 2 5\n")
+        self.assertEqual(service.ask(b"# nothing\ncount all\n"), b"ok 2 5\n")
+
+    def test_its_state(self) -> None:
+        """No new privileges, a filter, no signal blocked or caught, the first to be taken where memory is short; and the
+        program none of these."""
+        service = self.served()
+        with service.connect() as asker:
+            asker.sendall(b"count all\n")
+            read_lines(asker, 1)
+            for (process,), score, filter in ((service.connections, "1000", 2), (service.programs, "0", 0)):
+                status = Path(f"/proc/{process}/status").read_text()
+                self.assertEqual(int(re.search(r"Seccomp:\t(\d)", status)[1]), filter)
+                self.assertEqual(int(re.search(r"NoNewPrivs:\t(\d)", status)[1]), filter // 2)
+                self.assertEqual(Path(f"/proc/{process}/oom_score_adj").read_text().strip(), score)
+            blocked, caught = (re.search(rf"{name}:\t(\w+)", Path(f"/proc/{service.connections[0]}/status").read_text())[1]
+                               for name in ("SigBlk", "SigCgt"))
+            self.assertEqual((int(blocked, 16), int(caught, 16)), (0, 0))
+
+    def test_its_memory(self) -> None:
+        """It has no part in the counts of connections, nor in the list of those that are open."""
+        service = self.served(BOXES, "--connections", "100000")
+        with service.connect() as asker:
+            asker.sendall(b"count all\n")
+            read_lines(asker, 1)
+            board, sizes = "rtfilter-board", {}
+            for (process,) in (service.programs, service.connections):
+                maps = Path(f"/proc/{process}/maps").read_text()
+                self.assertEqual(board in maps, process in service.programs)
+                ranges = re.findall(r"^(\w+)-(\w+) rw-p 00000000 00:00 0 $", maps, re.MULTILINE)
+                sizes[process in service.programs] = max(int(end, 16) - int(start, 16) for start, end in ranges)
+            self.assertGreater(sizes[True], 100_000 * 80)
+            self.assertLess(sizes[False], 100_000 * 80)
+
+    def test_calls(self) -> None:
+        """What strace sees, whatever is asked, to the end."""
+        if shutil.which("strace") is None:
+            self.skipTest("strace: not installed")
+        table = table_of(self.folder, "many", 0, 100_000)
+        service = self.served(table)
+        trace = Path(self.folder, "trace")
+        with service.connect() as asker:
+            asker.sendall(b"count all\n")
+            read_lines(asker, 1)
+            (process,) = service.connections
+            with open(trace, "w") as file:
+                tracer = subprocess.Popen(["strace", "-p", str(process)], stderr=file)
+            until(lambda: "attached" in trace.read_text(), "strace")
+            asker.sendall(b"find all\nfind window 0 9 0 9 near 3 3\nnearest 5 0 0\nx\nlevels\nfind all smallest first 900\n")
+            read_to(asker, b"\nok 7 900\n")
+            asker.shutdown(socket.SHUT_WR)
+            self.assertEqual(asker.recv(1), b"")
+            tracer.wait(10)
+        calls = set(re.findall(r"^(\w+)\(", trace.read_text(), re.MULTILINE))
+        self.assertLessEqual(calls, CALLS)
+        self.assertGreaterEqual(calls, {"read", "write", "exit_group"})
+        ends = [int(end, 16) for end in re.findall(r"^brk\((\w+)\)", trace.read_text().replace("NULL", "0x0"), re.MULTILINE)]
+        self.assertEqual(ends, sorted(ends, reverse=True))
+
+    def test_by_valgrind(self) -> None:
+        """The test build without the filter: no fault, in the program and in connections."""
+        if shutil.which("valgrind") is None:
+            self.skipTest("valgrind: not installed")
+        program = self.build("-g", "-DUNCONFINED")
+        wrapped = Path(self.folder, "rtfilter")
+        told = Path(self.folder, "valgrind")
+        told.mkdir()
+        wrapped.write_text(
+            f"#!/bin/sh\nexec valgrind --error-exitcode={ERROR_OF_VALGRIND} --trace-children=yes --leak-check=full "
+            f"--errors-for-leak-kinds=definite --log-file={told}/%p {program} \"$@\"\n"
+        )
+        wrapped.chmod(0o700)
+        Path(program).with_name("rtfilter-prefork.so").rename(wrapped.with_name("rtfilter-prefork.so"))
+        service = self.served(BOXES, "--connections", "2", "--tcp", "0", "--silence", "9", program=str(wrapped))
+        queries = b"find all\nx\nnearest 2 12 12\n"
+        for _ in range(3):
+            self.assertEqual(service.ask(queries), told_by_program(BOXES, queries))
+        with service.connect() as one, service.connect() as two:
+            for asker in (one, two):
+                asker.sendall(b"count all\n")
+                self.assertEqual(read_lines(asker, 1), b"ok 1 5\n")
+            with service.connect() as three:
+                self.assertEqual(three.recv(1), b"")
+            service.exchange()
+        service.logs("status=1 ", 3)
+        service.logs("status=0 ", 2)
+        service.signal(signal.SIGTERM)
+        self.assertEqual(service.process.wait(20), 0)
+        reports = [path.read_text() for path in told.iterdir()]
+        self.assertGreaterEqual(len(reports), 7)
+        for report in reports:
+            self.assertRegex(report, r"ERROR SUMMARY: 0 errors|Command: /bin/sh|Command: /usr/bin/valgrind", report)
+
+
+class Source(unittest.TestCase):
+    def test_by_compilers(self) -> None:
+        """With all their warnings, and with gcc's search for faults."""
+        tried = 0
+        for compiler, flags in (("gcc", ["-fanalyzer"]), ("clang", [])):
+            if shutil.which(compiler):
+                tried += 1
+                words = [compiler, *FLAGS, "-Wall", "-Wextra", "-Werror", *flags, "-o", os.devnull, SOURCE]
+                done = subprocess.run(words, capture_output=True, text=True)
+                self.assertEqual((done.returncode, done.stderr), (0, ""))
+        if not tried:
+            self.skipTest("gcc: not installed")
+
+
+def read_to(asker: socket.socket, end: bytes) -> None:
+    """Reads up to and with an end."""
+    found = b""
+    while not found.endswith(end):
+        found = found[-100:] + asker.recv(1 << 16)
+
+
+if __name__ == "__main__":
+    unittest.main()

@@ -1,0 +1,373 @@
+"""A connection reads what the program alone would write, whatever others do."""
+
+import contextlib
+import os
+import random
+import re
+import shutil
+import signal
+import socket
+import struct
+import subprocess
+import threading
+import time
+import unittest
+from pathlib import Path
+
+from served import (
+    BOXES, PROGRAM, SYSTEM_PYTHON, Case, Served, all_of, answers, read_lines, some_pieces, some_queries, table_of, talk,
+    told_by_program, until,
+)
+
+TOO_LONG_A_LINE = b"error %d Q1 line too long\n"
+RESET = struct.pack("2i", 1, 0)  # of SO_LINGER: a close sends a reset
+NO_FORK = """
+#define _GNU_SOURCE
+#include <errno.h>
+#include <stdlib.h>
+#include <sys/syscall.h>
+#include <unistd.h>
+pid_t fork(void)
+{
+  if (access(getenv("NO_FORK"), F_OK))
+    return syscall(SYS_fork);
+  errno = EAGAIN;
+  return -1;
+}
+"""
+
+
+class SameAsProgram(Case):
+    def asked(self, service: Served, seed: int) -> None:
+        """One connection of random lines, cut anywhere."""
+        chance = random.Random(seed)
+        queries = some_queries(chance, chance.choice([0, 1, 64, 65, 400]))
+        asker = socket.create_connection(service.tcp) if seed % 2 else service.connect()
+        found = talk(asker, some_pieces(chance, queries))
+        if found != told_by_program(BOXES, queries):
+            self.different.append(seed)
+
+    def test_random_lines(self) -> None:
+        """64 connections at once, and 40 one after another."""
+        self.different: list[int] = []
+        service = self.served(BOXES, "--tcp", "0")
+        for seed in range(40):
+            self.asked(service, seed)
+        with all_of(threading.Thread(target=self.asked, args=(service, seed)) for seed in range(40, 104)):
+            pass
+        self.assertEqual(self.different, [])
+        self.assertEqual(len(service.logs("status=[01] ", 104)), 104)
+
+    def test_64_that_are_open_at_once(self) -> None:
+        """Each asks some of its lines while all others are open."""
+        service = self.served(BOXES, "--tcp", "0")
+        texts = [some_queries(random.Random(seed), 100) for seed in range(64)]
+        with contextlib.ExitStack() as stack:
+            opened = [socket.create_connection(service.tcp) if at % 2 else service.connect() for at in range(64)]
+            askers = [stack.enter_context(asker) for asker in opened]
+            for at, (asker, text) in enumerate(zip(askers, texts)):
+                asker.sendall(text[:at * 10])
+            until(lambda: len(service.connections) == 64, "a process for each")
+            for at, (asker, text) in enumerate(zip(askers, texts)):
+                found = talk(asker, [text[at * 10:]])
+                self.assertEqual(found, told_by_program(BOXES, text))
+
+    def test_options(self) -> None:
+        service = self.served(BOXES, "--header", "--fanout", "2", "--max-entries", "4")
+        queries = b"levels\ncount all\n"
+        done = subprocess.run([PROGRAM, "-H", "--fanout", "2", BOXES], input=queries, capture_output=True)
+        self.assertEqual(service.ask(queries), done.stdout)
+
+    def test_ends_of_lines(self) -> None:
+        service = self.served()
+        line, comment = b"count all", b"# all"
+        for queries in (
+            b"", b"\n", b"\r", b"\r\n", line, line + b"\r", line + b"\r\n", line + b"\r\r\n", b"\n\n" + line, comment,
+            comment + b"\n" + line, line + b"\n" + comment, b"\0\n\xff\n", b"find all",
+            *(word.ljust(size) + end for word in (line, comment, b"") for size in (4095, 4096, 4097, 9000)
+              for end in (b"", b"\r", b"\n", b"\r\n")),
+        ):
+            with self.subTest(queries[:20], length=len(queries)):
+                self.assertEqual(service.ask(queries + b"\n" + line), told_by_program(BOXES, queries + b"\n" + line))
+                self.assertEqual(service.ask(queries), told_by_program(BOXES, queries))
+
+    def test_each_line_is_answered_at_once(self) -> None:
+        """Who asks writes the next line when it has the reply to the one before."""
+        service = self.served(BOXES, "--tcp", "[::1]:0")
+        for asker in (service.connect(), socket.create_connection(("::1", service.tcp[1]))):
+            with asker:
+                for at in range(1, 201):
+                    asker.sendall(b"count all\n")
+                    self.assertEqual(read_lines(asker, 1), b"ok %d 5\n" % at)
+
+    def test_a_byte_at_a_time(self) -> None:
+        service = self.served()
+        queries = b"find all\n\n# none\ncount all\r\nx\nnearest 2 12 12"
+        found = talk(service.connect(), (queries[at:at + 1] for at in range(len(queries))))
+        self.assertEqual(found, told_by_program(BOXES, queries))
+
+    def test_the_log(self) -> None:
+        """A line for each connection's end: who it was, with which status, after how long."""
+        service = self.served(BOXES, "--tcp", "0", "--tcp", "[::1]:0")
+        for number, (queries, status) in enumerate(((b"", 0), (b"count all\n", 0), (b"\n# none\nx", 1)), 1):
+            asker = socket.create_connection(service.tcp)
+            host, port = asker.getsockname()
+            talk(asker, [queries])
+            service.logs(rf"^connection {number} \({re.escape(host)}:{port}\): status={status} seconds=\d\.\d{{3}}$")
+        service.ask(b"count all")
+        service.logs(rf"^connection 4 \(process {os.getpid()} of user {os.getuid()}\): status=0 seconds=")
+        asker = socket.create_connection(("::1", int(re.search(r"\[::1\]:(\d+)\n", service.log)[1])))
+        port = asker.getsockname()[1]
+        talk(asker, [])
+        service.logs(rf"^connection 5 \(\[::1\]:{port}\): status=0 ")
+
+
+class Askers(Case):
+    def test_a_reader_that_leaves_in_mid_answer(self) -> None:
+        service = self.served(table_of(self.folder, "many", 0, 50_000))
+        wanted = told_by_program(Path(self.folder, "many"), b"find all first 1000\ncount all\n" * 20)
+        found: list[bytes] = []
+        other = threading.Thread(target=lambda: found.append(service.ask(b"find all first 1000\ncount all\n" * 20)))
+        with all_of([other]):
+            for at in range(10):
+                with service.connect() as asker:
+                    asker.sendall(b"find all\n" * 100)
+                    asker.recv(1000)
+        self.assertEqual(found, [wanted])
+        self.assertEqual(len(service.logs("status=[45] ", 10)), 10)
+        self.assert_well(service)
+
+    def test_a_line_without_an_end(self) -> None:
+        """10 MB take no memory, and are one faulty line."""
+        service = self.served()
+        before = service.memory
+        for end, replies in ((b"", b""), (b"\n", b""), (b"\ncount all", b"ok 3 5\n")):
+            with service.connect() as asker:
+                asker.sendall(b"count all\n")
+                for _ in range(100):
+                    asker.sendall(b"a" * 100_000)
+                self.assertEqual(read_lines(asker, 1), b"ok 1 5\n")
+                self.assertLess(service.memory - before, 2000)
+                self.assert_well(service)
+                asker.sendall(end)
+                asker.shutdown(socket.SHUT_WR)
+                self.assertEqual(read_lines(asker, 10), TOO_LONG_A_LINE % 2 + replies)
+
+    def test_readers_that_do_not_read(self) -> None:
+        """An honest one waits for none of them; each may go on to read whenever it likes."""
+        service = self.served(table_of(self.folder, "many", 0, 100_000))
+        with contextlib.ExitStack() as stack:
+            slow = [stack.enter_context(service.connect()) for _ in range(5)]
+            for asker in slow:
+                asker.sendall(b"find all\n" * 100)
+            time.sleep(0.3)
+            # The machine may have other work, but not in each of these rounds.
+            self.assertLess(min(self.worst_wait(service) for _ in range(5)), 0.05)
+            wanted = answers(0, 100_000) + b"ok 1 100000\n"
+            for asker in slow:
+                self.assertEqual(read_lines(asker, 100_001)[:len(wanted)], wanted)
+
+    def worst_wait(self, service: Served) -> float:
+        """Seconds that one of 200 lines waits for its reply."""
+        worst = 0.0
+        with service.connect() as asker:
+            for at in range(1, 201):
+                begun = time.monotonic()
+                asker.sendall(b"find all first 3\n")
+                self.assertEqual(read_lines(asker, 4), answers(0, 3) + b"ok %d 3\n" % at)
+                worst = max(worst, time.monotonic() - begun)
+        return worst
+
+    def test_patience(self) -> None:
+        """A reader who lets replies wait for longer has its connection ended, and what it got is a part of them."""
+        service = self.served(table_of(self.folder, "many", 0, 100_000), "--patience", "0.3", "--tcp", "0")
+        for asker in (service.connect(), socket.create_connection(service.tcp)):
+            with asker:
+                asker.sendall(b"find all\n" * 100)
+                service.logs(r"status=5 seconds=\d\.\d{3}$", 1 + (asker.family != socket.AF_UNIX))
+                found = b""
+                with contextlib.suppress(ConnectionResetError):  # lines of it were left unread
+                    while piece := asker.recv(1 << 18):
+                        found += piece
+                wanted = b"".join(answers(0, 100_000) + b"ok %d 100000\n" % at for at in range(1, 9))
+                self.assertTrue(found and wanted.startswith(found))
+        service.logs("^rtfilter: cannot write answers$", 2)
+        self.assert_well(service)
+
+    def test_silence(self) -> None:
+        """One who says nothing for so long is ended; one who says something now and then isn't."""
+        service = self.served(BOXES, "--silence", "0.6", "--tcp", "0")
+        with service.connect() as silent, service.connect() as asker, socket.create_connection(service.tcp) as other:
+            for at in range(1, 6):
+                asker.sendall(b"count all\n")
+                self.assertEqual(read_lines(asker, 1), b"ok %d 5\n" % at)
+                time.sleep(0.3)
+            self.assertEqual((silent.recv(1), other.recv(1)), (b"", b""))
+            self.assertEqual(len(service.logs(r"status=4 seconds=[01]\.\d{3}$", 2)), 2)
+        service.logs("^rtfilter: cannot read queries$", 2)
+
+    def test_a_stop_is_no_end(self) -> None:
+        """A process that is stopped and goes on has not waited in vain, with limits of time and without."""
+        for words in ((), ("--silence", "5", "--patience", "5")):
+            service = self.served(BOXES, *words)
+            with service.connect() as asker:
+                asker.sendall(b"count all\n")
+                read_lines(asker, 1)
+                (process,) = service.connections
+                for number in (signal.SIGSTOP, signal.SIGCONT):
+                    os.kill(process, number)
+                    time.sleep(0.05)
+                asker.sendall(b"count all\n")
+                self.assertEqual(read_lines(asker, 1), b"ok 2 5\n")
+            service.__exit__()
+
+    def test_2000_connections_leave_nothing(self) -> None:
+        service = self.served(BOXES, "--tcp", "0")
+
+        def connect(count: int) -> None:
+            for at in range(count):
+                if at % 4 == 0:
+                    self.assertEqual(service.ask(b"count all"), b"ok 1 5\n")
+                elif at % 4 == 1:
+                    service.connect().close()
+                elif at % 4 == 2:
+                    with socket.create_connection(service.tcp) as asker:
+                        asker.sendall(b"find all\nfind a")
+                        asker.setsockopt(socket.SOL_SOCKET, socket.SO_LINGER, RESET)
+                else:
+                    with socket.create_connection(service.tcp) as asker:
+                        for byte in b"count all\n":
+                            asker.sendall(bytes([byte]))
+                        self.assertEqual(asker.recv(100), b"ok 1 5\n")
+
+        connect(100)
+        service.logs("^connection ", 100)
+        before, programs, memory = service.open_files, service.programs, service.memory
+        connect(2000)
+        service.logs("^connection ", 2100)
+        self.assertEqual((service.open_files, service.programs, service.connections), (before, programs, []))
+        self.assertLess(service.memory - memory, 1000)
+        self.assertNotIn("refused", service.log)
+
+    def test_the_limit_on_connections(self) -> None:
+        service = self.served(BOXES, "--connections", "2")
+        with service.connect() as one, service.connect() as two:
+            for asker in (one, two):
+                asker.sendall(b"count all\n")
+                self.assertEqual(read_lines(asker, 1), b"ok 1 5\n")
+            with service.connect() as three:
+                self.assertEqual(three.recv(100), b"")
+            service.logs(r"^connection 3 \(.*\): refused, there are 2 connections$")
+            one.shutdown(socket.SHUT_WR)
+            self.assertEqual(one.recv(1), b"")
+            self.assert_well(service)
+            two.sendall(b"count all\n")
+            self.assertEqual(read_lines(two, 1), b"ok 2 5\n")
+
+    def test_one_connection_after_another(self) -> None:
+        """Whoever sees the end of a connection may connect again, by whatever it has ended."""
+        service = self.served(BOXES, "--connections", "1")
+        for at in range(300):
+            with service.connect() as asker:
+                asker.sendall(b"count all\n")
+                self.assertEqual(read_lines(asker, 1), b"ok 1 5\n")
+                if at % 3 == 0:
+                    os.kill(*service.connections, signal.SIGKILL)
+                elif at % 3 == 1:
+                    asker.sendall(b"x")
+                    asker.shutdown(socket.SHUT_WR)
+                    read_lines(asker, 1)
+                else:
+                    asker.shutdown(socket.SHUT_WR)
+                self.assertEqual(asker.recv(1), b"")
+        self.assertNotIn("refused", service.log)
+
+    def test_kill_meets_one_connection(self) -> None:
+        service = self.served()
+        with service.connect() as one, service.connect() as two:
+            for asker in (one, two):
+                asker.sendall(b"count all\n")
+                self.assertEqual(read_lines(asker, 1), b"ok 1 5\n")
+            os.kill(min(service.connections), signal.SIGKILL)
+            self.assertEqual(one.recv(1), b"")
+            two.sendall(b"count all\n")
+            self.assertEqual(read_lines(two, 1), b"ok 2 5\n")
+        service.logs(r"^connection 1 \(.*\): signal=9 ")
+        self.assert_well(service)
+
+
+class WantOfRoom(Case):
+    def test_a_fork_that_fails(self) -> None:
+        """It is told, the connection is closed and its slot free, and others go on."""
+        if shutil.which("cc") is None:
+            self.skipTest("a C compiler: not installed")
+        source, library, flag = (Path(self.folder, name) for name in ("no_fork.c", "no_fork.so", "flag"))
+        source.write_text(NO_FORK)
+        subprocess.run(["cc", "-shared", "-fPIC", "-o", library, source], check=True)
+        environment = {**os.environ, "LD_PRELOAD": str(library), "NO_FORK": str(flag)}
+        service = self.served(BOXES, "--connections", "2", env=environment)
+        with service.connect() as asker:
+            asker.sendall(b"count all\n")
+            self.assertEqual(read_lines(asker, 1), b"ok 1 5\n")
+            before = service.open_files
+            flag.touch()
+            for _ in range(5):
+                with service.connect() as other:
+                    self.assertEqual(other.recv(1), b"")
+            service.logs(r"^connection \d+ \(.*\): not begun: Resource temporarily unavailable$", 5)
+            flag.unlink()
+            asker.sendall(b"count all\n")
+            self.assertEqual(read_lines(asker, 1), b"ok 2 5\n")
+            self.assert_well(service)
+            self.assertEqual(service.open_files, before)
+
+    def test_processes_of_a_user(self) -> None:
+        """As another user, who may have so many processes and no more."""
+        if os.geteuid() != 0 or shutil.which("setpriv") is None:
+            self.skipTest("root and setpriv: not there")
+        os.chmod(self.folder, 0o777)
+        before = ["prlimit", "--nproc=6", "setpriv", "--reuid=61234", "--regid=61234", "--clear-groups"]
+        service = self.served(BOXES, before=before, python=SYSTEM_PYTHON)
+        with contextlib.ExitStack() as stack:
+            askers = [stack.enter_context(service.connect()) for _ in range(3)]  # beside two threads of the service, and its program
+            for asker in askers:
+                asker.sendall(b"count all\n")
+                self.assertEqual(read_lines(asker, 1), b"ok 1 5\n")
+            with service.connect() as other:
+                self.assertEqual(other.recv(1), b"")
+            service.logs(r"^connection 4 \(.*\): not begun: Resource temporarily unavailable$")
+            for asker in askers:
+                asker.sendall(b"count all\n")
+                self.assertEqual(read_lines(asker, 1), b"ok 2 5\n")
+        service.logs("status=0 ", 3)
+        self.assert_well(service)
+
+    def test_descriptors(self) -> None:
+        """Where the program has no descriptor left, those who connect wait, it is told once, and nothing is busy."""
+        service = self.served(BOXES, before=["prlimit", "--nofile=24"])
+        (program,) = service.programs
+        with contextlib.ExitStack() as stack:
+            askers = [stack.enter_context(service.connect()) for _ in range(40)]
+            service.logs("^no connection accepted: Too many open files$")
+            open_ones = len(service.connections)
+            self.assertIn(open_ones, range(10, 24))
+            spent = times_of(program)
+            time.sleep(1)
+            self.assertLess(times_of(program) - spent, 0.1)
+            self.assertEqual(service.log.count("no connection accepted"), 1)
+            for asker in askers:  # each comes in turn, as others leave
+                asker.sendall(b"count all\n")
+                self.assertEqual(read_lines(asker, 1), b"ok 1 5\n")
+                asker.close()
+        service.logs("status=0 ", 40)
+        self.assert_well(service)
+
+
+def times_of(process: int) -> float:
+    """Seconds of processor time that a process has taken."""
+    fields = Path(f"/proc/{process}/stat").read_text().rpartition(")")[2].split()
+    return (int(fields[11]) + int(fields[12])) / os.sysconf("SC_CLK_TCK")
+
+
+if __name__ == "__main__":
+    unittest.main()

@@ -1,0 +1,204 @@
+"""Who ends, and what is left then."""
+
+import os
+import re
+import signal
+import socket
+import sys
+import threading
+import time
+import unittest
+from pathlib import Path
+
+from served import BOXES, PROGRAM, Case, Served, is_there, library_of, read_lines, table_of, until
+
+
+class Ends(Case):
+    def test_the_service_ends(self) -> None:
+        """With a connection that reads nothing, one that is silent, one that is stopped, and one to the old table."""
+        service = self.served(table_of(self.folder, "many", 0, 100_000), "--tcp", "0")
+        with service.connect() as old:
+            old.sendall(b"count all\n")
+            read_lines(old, 1)
+            service.exchange()
+            stopped = self.enterContext(socket.create_connection(service.tcp))
+            with service.connect() as silent, service.connect() as reads_nothing:
+                for asker in (silent, stopped):
+                    asker.sendall(b"count all\n")
+                    self.assertEqual(read_lines(asker, 1), b"ok 1 100000\n")
+                reads_nothing.sendall(b"find all\n" * 50)
+                until(lambda: len(service.connections) == 4, "all of them")
+                os.kill(service.connections[-1], signal.SIGSTOP)
+                processes = service.processes
+                begun = time.monotonic()
+                service.signal(signal.SIGTERM)
+                self.assertEqual(service.process.wait(10), 0)
+                self.assertLess(time.monotonic() - begun, 4)
+                self.assertEqual((silent.recv(1), stopped.recv(1), old.recv(1)), (b"", b"", b""))
+        self.assertEqual(len(service.logs(r"^connection \d+ \(.*\): signal=9 ", 4)), 4)
+        self.assertFalse(os.path.exists(service.path))
+        until(lambda: not any(map(is_there, processes)), "the end of all processes")
+
+    def test_an_end_during_a_load(self) -> None:
+        """Of the first table, and of another one: by a signal, and by kill -9."""
+        for number, status in ((signal.SIGTERM, 0), (signal.SIGINT, 0), (signal.SIGKILL, -9)):
+            for is_first in (True, False):
+                table = Path(self.folder, f"table {number} {is_first}")
+                if is_first:
+                    os.mkfifo(table)
+                    service = self.served(table, is_ready=False)
+                    until(lambda: service.programs, "the load")
+                else:
+                    table.write_bytes(BOXES.read_bytes())
+                    service = self.served(table)
+                    table.unlink()
+                    os.mkfifo(table)
+                    service.signal(signal.SIGHUP)
+                    until(lambda: len(service.programs) == 2, "the load")
+                processes = service.processes
+                service.signal(number)
+                self.assertEqual(service.process.wait(10), status)
+                until(lambda: not any(map(is_there, processes)), "the end of all processes")
+
+    def test_kill_of_the_service(self) -> None:
+        """All end with it, and the path is free for another one."""
+        service = self.served()
+        with service.connect() as asker, service.connect() as other:
+            for one in (asker, other):
+                one.sendall(b"count all\n")
+                read_lines(one, 1)
+            service.exchange()
+            processes = service.processes
+            self.assertEqual(len(processes), 5)
+            service.signal(signal.SIGKILL)
+            service.process.wait()
+            self.assertEqual((asker.recv(1), other.recv(1)), (b"", b""))
+        until(lambda: not any(map(is_there, processes)), "the end of all processes")
+        self.assert_well(self.served())
+
+    def test_kill_of_the_program(self) -> None:
+        """Its connections end; who connects meanwhile waits until another one is loaded."""
+        service = self.served(BOXES, "--connections", "2")
+        for at in range(1, 4):
+            with service.connect() as one, service.connect() as two:
+                for asker in (one, two):
+                    asker.sendall(b"count all\n")
+                    read_lines(asker, 1)
+                os.kill(*service.programs, signal.SIGKILL)
+                self.assertEqual((one.recv(1), two.recv(1)), (b"", b""))
+            self.assertEqual(service.ask(b"count all\n"), b"ok 1 5\n")
+            service.logs("^the program has ended, with status -9: those who connect wait ", at)
+            service.logs("^ready again: 5 boxes$", at)
+        with service.connect() as one, service.connect() as two:  # no slot was lost
+            for asker in (one, two):
+                asker.sendall(b"count all\n")
+                self.assertEqual(read_lines(asker, 1), b"ok 1 5\n")
+
+    def test_kills_at_any_moment(self) -> None:
+        """Of connections and programs, while others ask, connect and exchange: what is answered is right, and none of the
+        three slots is lost."""
+        service = self.served(BOXES, "--connections", "3", "--health", "0")
+        is_over, faults = threading.Event(), []
+
+        def ask() -> None:
+            while not is_over.is_set():
+                with service.connect() as asker:
+                    try:
+                        asker.sendall(b"count all\n" * 20)
+                        found = read_lines(asker, 20)
+                    except (ConnectionResetError, BrokenPipeError):
+                        continue
+                if not b"".join(b"ok %d 5\n" % at for at in range(1, 21)).startswith(found):
+                    faults.append(found)
+
+        threads = [threading.Thread(target=ask) for _ in range(3)]
+        for thread in threads:
+            thread.start()
+        try:
+            for at in range(60):
+                time.sleep(0.01)
+                if at % 5 == 1:
+                    service.signal(signal.SIGHUP)
+                victims = service.programs if at % 6 == 0 else service.connections
+                for victim in victims[:1]:
+                    try:
+                        os.kill(victim, signal.SIGKILL)
+                    except ProcessLookupError:
+                        pass
+        finally:
+            is_over.set()
+            for thread in threads:
+                thread.join()
+        self.assertEqual(faults, [])
+        until(lambda: service.get("/health")[0] == 200 and not service.metric("rtfilter_connections"), "an end to all that")
+        until(lambda: len(service.programs) == 1, "one program")
+        askers = [service.connect() for _ in range(3)]
+        for asker in askers:
+            asker.sendall(b"count all\n")
+            self.assertEqual(read_lines(asker, 1), b"ok 1 5\n")
+        for asker in askers:
+            asker.close()
+
+    def test_a_program_that_ends_again_and_again(self) -> None:
+        """The pause before it is started anew grows; a signal ends it."""
+        table = Path(self.folder, "table")
+        table.write_bytes(BOXES.read_bytes())
+        service = self.served(table)
+        table.unlink()
+        os.kill(*service.programs, signal.SIGKILL)
+        service.logs("^the new table isn't taken, there is none: rtfilter: cannot open table$", 4)
+        begun = time.monotonic()
+        service.logs("there is none", 5)
+        self.assertGreater(time.monotonic() - begun, 0.5)
+        with service.connect() as asker:
+            table.write_bytes(BOXES.read_bytes())
+            begun = time.monotonic()
+            service.signal(signal.SIGHUP)
+            asker.sendall(b"count all\n")
+            self.assertEqual(read_lines(asker, 1), b"ok 1 5\n")
+            self.assertLess(time.monotonic() - begun, 1)
+
+    def test_a_program_that_is_stopped(self) -> None:
+        """It doesn't stop an exchange for ever."""
+        service = self.served()
+        os.kill(*service.programs, signal.SIGSTOP)
+        service.exchange()
+        self.assert_well(service)
+        until(lambda: len(service.programs) == 1, "the end of the old program")
+
+    def test_a_table_that_does_not_load(self) -> None:
+        for text, status, told in (
+            ("1,1,0,0,0\n", 3, "rtfilter: table record 1: minimum above maximum in x"),
+            (None, 3, "rtfilter: cannot open table"),
+            ("1,0,1,0,1\n", 2, "rtfilter: bad command line"),
+        ):
+            table = Path(self.folder, "table")
+            table.unlink(missing_ok=True)
+            if text is not None:
+                table.write_text(text)
+            words = ["--fanout", "1"] if status == 2 else []
+            service = self.served(table, *words)
+            self.assertEqual(service.process.wait(10), status)
+            self.assertEqual(service.log, f"listening on {service.path}\n{told}\n")
+            self.assertFalse(os.path.exists(service.path))
+
+    def test_a_first_load_that_takes_too_long(self) -> None:
+        table = Path(self.folder, "table")
+        os.mkfifo(table)
+        service = self.served(table, "--load-timeout", "0.3")
+        self.assertEqual(service.process.wait(10), 1)
+        service.logs("^it wasn't loaded in 0.3 seconds$")
+
+    def test_what_is_no_such_program(self) -> None:
+        """One that never begins to serve."""
+        program = Path(self.folder, "rtfilter")
+        program.write_text("#!/bin/sh\necho nonsense\nexit 0\n")
+        program.chmod(0o700)
+        program.with_name(library_of(PROGRAM).name).symlink_to(library_of(PROGRAM))
+        service = self.served(program=str(program))
+        self.assertEqual(service.process.wait(10), 1)
+        service.logs("^the program has ended, with status 0$")
+
+
+if __name__ == "__main__":
+    unittest.main()

@@ -1,0 +1,271 @@
+"""Another table beside the one that answers: each connection has one of them, for as long as it lives."""
+
+import os
+import signal
+import socket
+import threading
+import time
+import unittest
+from pathlib import Path
+
+from served import (
+    BOXES, PROGRAM, Case, Served, all_of, answers, library_of, read_lines, told_by_program, until,
+)
+
+
+class Exchanges(Case):
+    def put(self, text: str) -> None:
+        """A new table in the place of the old one, in one step."""
+        fresh = Path(self.folder, "fresh")
+        fresh.write_text(text)
+        fresh.replace(self.table)
+
+    def setUp(self) -> None:
+        super().setUp()
+        self.table = Path(self.folder, "table")
+        self.table.write_bytes(BOXES.read_bytes())
+
+    def test_200_under_load(self) -> None:
+        """Each connection is answered from one table, wholly, and who connects after an exchange from the new one; no slot
+        is lost, and nothing is left."""
+        self.put("".join(f"{at},0,1,0,1\n" for at in range(100)))
+        service = self.served(self.table, "--connections", "6", "--health", "0")
+        is_over, faults, finished = threading.Event(), [], []
+        least = 0  # of tables that may be met: the last one that was exchanged for
+
+        def ask() -> None:
+            while not is_over.is_set():
+                known = least
+                with service.connect() as asker:
+                    for line in range(1, 6):
+                        asker.sendall(b"find all\n")
+                        found = read_lines(asker, 101)
+                        first = int(found.split(b" ", 1)[0])
+                        if line == 1:
+                            begun = first
+                        if first != begun or first < known or found != answers(first, 100) + b"ok %d 100\n" % line:
+                            faults.append((line, begun, known, found[:50]))
+                    asker.shutdown(socket.SHUT_WR)
+                    if asker.recv(1):  # whoever has seen the end has given its slot back
+                        faults.append("more than was asked for")
+                finished.append(begun)
+
+        with all_of(threading.Thread(target=ask) for _ in range(6)):
+            try:
+                for at in range(1, 201):
+                    first = at * 1000
+                    self.put("".join(f"{first + box},0,1,0,1\n" for box in range(100)))
+                    service.exchange()
+                    least = first
+            finally:
+                is_over.set()
+        self.assertEqual(faults, [])
+        ends = [line for line in service.log.splitlines() if line.startswith("connection") and ": status=0 " not in line]
+        self.assertEqual(ends, [])
+        self.assertGreater(len(set(finished)), 50)
+        until(lambda: len(service.programs) == 1 and not service.connections, "the end of old tables")
+        service.logs("status=0 ", len(finished))
+        self.assertEqual(service.log.count(" status=0 "), len(finished))
+        self.assertEqual([service.metric(f"rtfilter_connections{name}") for name in ("", "_total")], [0, len(finished)])
+        self.assertNotIn("refused", service.log)
+
+    def test_a_connection_keeps_its_table(self) -> None:
+        service = self.served(self.table)
+        with service.connect() as old:
+            old.sendall(b"find all\n")
+            self.assertEqual(read_lines(old, 6), told_by_program(BOXES, b"find all\n"))
+            self.put("7,0,1,0,1\n")
+            service.exchange()
+            for at in range(2, 5):
+                old.sendall(b"count all\n")
+                self.assertEqual(read_lines(old, 1), b"ok %d 5\n" % at)
+                self.assertEqual(service.ask(b"find all"), b"7 0\nok 1 1\n")
+            self.assertEqual(len(service.programs), 2)
+        until(lambda: len(service.programs) == 1, "the end of the old table")
+        service.logs("^the table is exchanged: 1 boxes$")
+
+    def test_the_limit_counts_both_tables(self) -> None:
+        service = self.served(self.table, "--connections", "3")
+        with service.connect() as one, service.connect() as two:
+            for asker in (one, two):
+                asker.sendall(b"count all\n")
+                read_lines(asker, 1)
+            service.exchange()
+            with service.connect() as three:
+                three.sendall(b"count all\n")
+                self.assertEqual(read_lines(three, 1), b"ok 1 5\n")
+                with service.connect() as four:
+                    self.assertEqual(four.recv(1), b"")
+                two.shutdown(socket.SHUT_WR)
+                self.assertEqual(two.recv(1), b"")
+                with service.connect() as four:
+                    four.sendall(b"count all\n")
+                    self.assertEqual(read_lines(four, 1), b"ok 1 5\n")
+                    # What the old program takes with it is free again.
+                    old = min(service.programs)
+                    os.kill(old, signal.SIGKILL)
+                    self.assertEqual(one.recv(1), b"")
+                    until(lambda: len(service.programs) == 1, "the end of the old table")
+                    with service.connect() as five:
+                        five.sendall(b"count all\n")
+                        self.assertEqual(read_lines(five, 1), b"ok 1 5\n")
+
+    def test_drain(self) -> None:
+        """What is left to the old table after that is ended, and told."""
+        service = self.served(self.table, "--drain", "0.5")
+        with service.connect() as old, service.connect() as other:
+            old.sendall(b"count all\n")
+            read_lines(old, 1)
+            service.exchange()
+            begun = time.monotonic()
+            self.assertEqual(old.recv(1), b"")
+            self.assertLess(time.monotonic() - begun, 2)
+            service.logs("^the connections that are left to the old table are ended$")
+            service.logs(r"^connection 1 \(.*\): signal=9 ")
+        until(lambda: len(service.programs) == 1, "the end of the old table")
+        self.assert_well(service)
+
+    def test_at_most_two_tables(self) -> None:
+        """Who asks for a third has it once the first one's connections have ended; any number of times is once."""
+        service = self.served(self.table)
+        with service.connect() as old:
+            old.sendall(b"count all\n")
+            read_lines(old, 1)
+            self.put("7,0,1,0,1\n")
+            service.exchange()
+            self.put("8,0,1,0,1\n9,0,1,0,1\n")
+            for _ in range(50):
+                service.signal(signal.SIGHUP)
+                time.sleep(0.002)
+            service.logs("^the exchange waits ")
+            self.assertEqual(len(service.programs), 2)
+            self.assertEqual(service.ask(b"find all"), b"7 0\nok 1 1\n")
+            old.sendall(b"count all\n")
+            self.assertEqual(read_lines(old, 1), b"ok 2 5\n")
+        service.logs("^the table is exchanged: 2 boxes$")
+        self.assertEqual(service.ask(b"find all"), b"8 0\n9 0\nok 1 2\n")
+        until(lambda: len(service.programs) == 1, "the end of the old table")
+        self.assertEqual((service.log.count("is exchanged"), service.log.count("exchange waits")), (2, 1))
+
+    def slow_program(self, seconds: float) -> str:
+        """A program that takes a while to load."""
+        slow = Path(self.folder, "slow")
+        slow.write_text(f'#!/bin/sh\nsleep {seconds}\nexec {PROGRAM} "$@"\n')
+        slow.chmod(0o700)
+        Path(self.folder, library_of(PROGRAM).name).symlink_to(library_of(PROGRAM))
+        return str(slow)
+
+    def test_while_it_is_loaded(self) -> None:
+        """The old table answers; who asks for another one meanwhile has it loaded afterwards."""
+        service = self.served(self.table, program=self.slow_program(0.7))
+        self.put("7,0,1,0,1\n")
+        service.signal(signal.SIGHUP)
+        until(lambda: len(service.programs) == 2, "the load")
+        self.assertEqual(service.ask(b"count all"), b"ok 1 5\n")
+        self.assertNotIn("the table is exchanged", service.log)
+        service.signal(signal.SIGHUP)
+        service.logs("^the table is exchanged: 1 boxes$", 2)
+        self.assertEqual(service.ask(b"find all"), b"7 0\nok 1 1\n")
+
+    def test_faulty_tables(self) -> None:
+        """They change nothing, are told in one line, and leave nothing; so do a FIFO and one that is too slow."""
+        service = self.served(self.table, "--load-timeout", "0.4")
+        before = service.open_files
+        with service.connect() as asker:
+            for at, (text, told) in enumerate(
+                (
+                    ("1,0,1,0,1\n1,0,1,0,1\n", "rtfilter: table record 2: repeated id"),
+                    ("1,1,0,0,1\n", "rtfilter: table record 1: minimum above maximum in x"),
+                    (None, "rtfilter: cannot open table"),
+                    ("FIFO", "it wasn't loaded in 0.4 seconds"),
+                ),
+                1,
+            ):
+                self.table.unlink(missing_ok=True)
+                if text == "FIFO":
+                    os.mkfifo(self.table)
+                elif text is not None:
+                    self.table.write_text(text)
+                lines = len(service.log.splitlines())
+                service.signal(signal.SIGHUP)
+                service.logs(f"^the new table isn't taken, the old one stays: {told}$")
+                asker.sendall(b"count all\n")
+                self.assertEqual(read_lines(asker, 1), b"ok %d 5\n" % at)
+                self.assertEqual(len(service.log.splitlines()), lines + 1)
+                self.assertEqual(len(service.programs), 1)
+                self.assertEqual(service.ask(b"find all"), told_by_program(BOXES, b"find all"))
+                service.logs("status=0 ", at)
+            self.table.unlink()
+            self.table.write_text("7,0,1,0,1\n")
+            service.exchange()
+            self.assertEqual(service.ask(b"find all\n"), b"7 0\nok 1 1\n")
+        until(lambda: len(service.programs) == 1, "the end of the old table")
+        until(lambda: service.open_files == before, "nothing left open")
+
+    def test_a_load_that_has_no_end(self) -> None:
+        """More and more rows come: the load is ended, with all processes that it has."""
+        service = self.served(self.table, "--load-timeout", "0.5")
+        self.table.unlink()
+        os.mkfifo(self.table)
+        is_over = threading.Event()
+
+        def write() -> None:
+            at = 0
+            try:
+                with open(self.table, "w") as table:
+                    while not is_over.is_set():
+                        table.write(f"{at},0,1,0,1\n")
+                        at += 1
+            except BrokenPipeError:
+                pass
+
+        with all_of([threading.Thread(target=write)]):
+            service.signal(signal.SIGHUP)
+            service.logs("it wasn't loaded in 0.5 seconds$")
+            is_over.set()
+        self.assertEqual(len(service.programs), 1)
+        self.assert_well(service)
+
+    def test_nothing_is_left_of_old_tables(self) -> None:
+        service = self.served(self.table)
+        service.exchange()
+        until(lambda: len(service.programs) == 1, "the end of the old table")
+        before, memory = service.open_files, service.memory
+        for at in range(1, 21):
+            service.exchange()
+            self.assertEqual(service.ask(b"count all\n"), b"ok 1 5\n")
+        until(lambda: len(service.programs) == 1, "the end of old tables")
+        self.assertEqual(service.open_files, before)
+        self.assertLess(service.memory - memory, 2000)
+
+    def is_answered(self, service: Served) -> bool:
+        """Unless the program, or this connection, has just been killed."""
+        try:
+            return service.ask(b"count all\n") == b"ok 1 5\n"
+        except ConnectionError:
+            return False
+
+    def test_a_storm_of_signals(self) -> None:
+        """While others ask: no program that ends is overlooked meanwhile, and no signal to end."""
+        service = self.served(self.table)
+        is_over = threading.Event()
+
+        def storm() -> None:
+            while not is_over.is_set():
+                service.signal(signal.SIGHUP)
+
+        with all_of(threading.Thread(target=storm) for _ in range(2)):
+            try:
+                for at in range(10):
+                    for victim in service.programs[:1]:
+                        os.kill(victim, signal.SIGKILL)
+                    until(lambda: self.is_answered(service), "an answer")
+                service.signal(signal.SIGTERM)
+                until(lambda: service.process.poll() is not None, "the end of the service")
+            finally:
+                is_over.set()
+        self.assertEqual(service.process.returncode, 0)
+
+
+if __name__ == "__main__":
+    unittest.main()

@@ -1,0 +1,115 @@
+"""What a service tells of itself over HTTP."""
+
+import contextlib
+import os
+import re
+import signal
+import socket
+import time
+import unittest
+from pathlib import Path
+
+from served import BOXES, PROGRAM, Case, Served, library_of, read_lines, until
+
+HEAD = re.compile(
+    rb"HTTP/1\.0 (\d{3}) [A-Za-z ]+\r\nContent-Type: text/plain; version=0\.0\.4; charset=utf-8\r\n"
+    rb"Content-Length: (\d+)\r\n\r\n"
+)
+SAMPLE = r'^rtfilter_[a-z_]+(\{(status|signal)="\d+"\})? \d+(\.\d+)?$'
+
+
+class Health(Case):
+    def asked(self, service: Served, text: bytes) -> tuple[int, bytes]:
+        """The status and the text of what is answered to these bytes."""
+        with socket.create_connection(service.place("health")) as asker:
+            asker.settimeout(20)
+            asker.sendall(text)
+            found = b"".join(iter(lambda: asker.recv(4096), b""))
+        status, length = HEAD.match(found).groups()
+        text = found.partition(b"\r\n\r\n")[2]
+        self.assertEqual(len(text), int(length))
+        return int(status), text
+
+    def test_metrics(self) -> None:
+        service = self.served(BOXES, "--health", "0", "--connections", "2")
+        service.ask(b"count all\n")
+        service.ask(b"x\n")
+        with service.connect() as one, service.connect() as two:
+            for asker in (one, two):
+                asker.sendall(b"count all\n")
+                read_lines(asker, 1)
+            with service.connect() as three:
+                three.recv(1)
+            os.kill(min(service.connections), signal.SIGKILL)
+            self.assertEqual(one.recv(1), b"")
+            service.exchange()
+            until(lambda: service.metric("rtfilter_connections") == 1, "the end of a connection")
+            status, text = service.get("/metrics")
+        self.assertEqual(status, 200)
+        samples = [line for line in text.splitlines() if not line.startswith("#")]
+        for line in samples:
+            self.assertRegex(line, SAMPLE)
+        values = dict(line.rsplit(" ", 1) for line in samples)
+        self.assertLess(float(values.pop("rtfilter_table_age_seconds")), 5)
+        self.assertEqual(values, {
+            "rtfilter_ready": "1", "rtfilter_boxes": "5", "rtfilter_connections": "1", "rtfilter_connections_total": "5",
+            "rtfilter_connections_refused_total": "1", 'rtfilter_connections_ended_total{status="0"}': "1",
+            'rtfilter_connections_ended_total{status="1"}': "1", 'rtfilter_connections_ended_total{signal="9"}': "1",
+        })
+        types = dict(re.findall(r"^# TYPE (\w+) (\w+)$", text, re.MULTILINE))
+        self.assertEqual({name: "counter" if name.endswith("_total") else "gauge" for name in types}, types)
+        self.assertEqual(set(types), {re.match(r"\w+", name)[0] for name in values} | {"rtfilter_table_age_seconds"})
+
+    def test_while_there_is_no_table(self) -> None:
+        """Before the first one is loaded, and after the program has ended; not while another one is loaded."""
+        table = Path(self.folder, "table")
+        os.mkfifo(table)
+        service = self.served(table, "--health", "0", is_ready=False)
+        service.logs("^health on ")
+        self.assertEqual(service.get("/health"), (503, "not ready\n"))
+        self.assertNotIn("rtfilter_boxes", service.get("/metrics")[1])
+        table.write_bytes(BOXES.read_bytes())
+        service.logs("^ready: 5 boxes$")
+        self.assertEqual(service.get("/health"), (200, "ready\n"))
+        service.signal(signal.SIGHUP)
+        until(lambda: len(service.programs) == 2, "the load")
+        self.assertEqual(service.get("/health"), (200, "ready\n"))
+        os.kill(min(service.programs), signal.SIGKILL)
+        until(lambda: service.get("/health") == (503, "not ready\n"), "the end of the program")
+        table.write_bytes(BOXES.read_bytes())
+        until(lambda: service.get("/health") == (200, "ready\n"), "another program")
+
+    def test_requests(self) -> None:
+        service = self.served(BOXES, "--health", "0")
+        for request, status in (
+            (b"GET /health HTTP/1.1\r\nHost: here\r\nConnection: keep-alive\r\n\r\n", 200), (b"GET /health\n\n", 200),
+            (b"GET / HTTP/1.0\r\n\r\n", 404), (b"GET /healthy HTTP/1.0\r\n\r\n", 404),
+            (b"POST /health HTTP/1.0\r\n\r\n", 404), (b"\r\n\r\n", 404), (b"\0\xff\n\n", 404), (b"GET\r\n\r\n", 404),
+        ):
+            self.assertEqual(self.asked(service, request)[0], status, request)
+
+    def test_slow_and_silly_ones(self) -> None:
+        """Who says nothing, too much, or reads nothing keeps nobody waiting, and is left after some seconds."""
+        service = self.served(BOXES, "--health", "0")
+        (before, _) = service.open_files
+        with contextlib.ExitStack() as stack:
+            place = service.place("health")
+            askers = [stack.enter_context(socket.create_connection(place)) for _ in range(200)]
+            for at, asker in enumerate(askers):
+                with contextlib.suppress(ConnectionError):
+                    asker.sendall([b"", b"GET /health HTTP/1.0\r\n", b"GET " + b"x" * 10_000, b"a: b\r\n" * 2000][at % 4])
+            begun = time.monotonic()
+            self.assertEqual(service.get("/health"), (200, "ready\n"))
+            self.assert_well(service)
+            self.assertLess(time.monotonic() - begun, 1)
+            until(lambda: service.open_files[0] < before + 70, "an end to most of them")
+            for asker in askers:
+                asker.settimeout(10)
+                with contextlib.suppress(ConnectionError):
+                    self.assertNotIn(b"200", asker.recv(100))
+        until(lambda: service.open_files[0] == before, "nothing left open")
+        self.assertNotIn("Traceback", service.log)
+
+
+if __name__ == "__main__":
+    unittest.main()

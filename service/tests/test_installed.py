@@ -1,0 +1,158 @@
+"""The service as it is installed, without the repository and without pip, and its units."""
+
+import configparser
+import os
+import re
+import shutil
+import signal
+import socket
+import subprocess
+import unittest
+from pathlib import Path
+
+from served import BOXES, PROGRAM, ROOT, Case, read_lines, talk
+
+PAGE = ROOT / "service/README.md"
+UNITS = ROOT / "service/rtfilter.socket", ROOT / "service/rtfilter.service"
+PLAIN = {"PATH": "/usr/bin:/bin"}
+LEAST_EXPOSURE = 1.5
+
+
+class Installed(Case):
+    def make(self, target: str) -> None:
+        places = f"PROGRAM={PROGRAM}", f"DESTDIR={self.folder}/root", "PREFIX=/opt/it"
+        subprocess.run(["make", "--silent", "-C", ROOT, target, *places], check=True, stdout=subprocess.DEVNULL, env={**os.environ, "MAKEFLAGS": ""})
+
+    def setUp(self) -> None:
+        super().setUp()
+        self.make("install")
+        self.place = Path(self.folder, "root/opt/it")
+
+    def test_it_runs(self) -> None:
+        """By the system's Python, from another folder, with nothing but the system's paths."""
+        path = f"{self.folder}/socket"
+        words = [self.place / "bin/rtfilter-serve", "--program", self.place / "bin/rtfilter", "--unix", path, BOXES]
+        with subprocess.Popen(words, env=PLAIN, cwd="/", stderr=subprocess.PIPE, text=True) as service:
+            self.assertEqual(service.stderr.readline(), f"listening on {path}\n")
+            self.assertEqual(service.stderr.readline(), "ready: 5 boxes\n")
+            with socket.socket(socket.AF_UNIX) as asker:
+                asker.connect(path)
+                self.assertEqual(talk(asker, [b"count all\n"]), b"ok 1 5\n")
+            service.terminate()
+            self.assertEqual(service.wait(10), 0)
+
+    def test_it_is_removed(self) -> None:
+        self.make("uninstall")
+        left = [path for path in self.place.rglob("*") if not path.is_dir()]
+        self.assertEqual(left, [])
+
+    def test_units(self) -> None:
+        """They name what is installed, the socket is its owner's alone, and systemd finds no fault with them."""
+        folder = self.place / "lib/systemd/system"
+        units = []
+        for unit in UNITS:
+            self.assertEqual((folder / unit.name).read_text(), unit.read_text().replace("/usr/local", "/opt/it"))
+            parser = configparser.RawConfigParser(delimiters="=", strict=False)
+            parser.read(unit)
+            units.append(parser)
+        self.assertEqual(units[0]["Socket"]["SocketMode"], "0600")
+        self.assertEqual((units[1]["Unit"]["Requires"], units[1]["Service"]["Type"]), ("rtfilter.socket", "notify"))
+        words = units[1]["Service"]["ExecStart"].replace("/usr/local", str(self.place)).split()
+        self.assertTrue(os.access(words[0], os.X_OK) and os.access(words[words.index("--program") + 1], os.X_OK), words)
+        if shutil.which("systemd-analyze") is None:
+            self.skipTest("systemd-analyze: not installed")
+        for unit in UNITS:
+            text = unit.read_text().replace("/usr/local", str(self.place))
+            Path(self.folder, unit.name).write_text(text)
+        copies = [Path(self.folder, unit.name) for unit in UNITS]
+        told = self.analyzed("--man=no", "--recursive-errors=no", "verify", *copies)
+        # What it says of other units is the machine's affair.
+        self.assertEqual([line for line in told.splitlines() if "rtfilter" in line], [])
+        told = self.analyzed("--no-pager", "security", "--offline=true", copies[1])
+        self.assertLessEqual(float(re.search(r"exposure level for rtfilter.service: ([\d.]+)", told)[1]), LEAST_EXPOSURE)
+
+    def analyzed(self, *words: object) -> str:
+        command = ["systemd-analyze", *map(str, words)]
+        done = subprocess.run(command, stdout=subprocess.PIPE, stderr=subprocess.STDOUT, text=True, timeout=120)
+        self.assertEqual(done.returncode, 0, done.stdout)
+        return done.stdout
+
+
+class QuickStart(Case):
+    def test_as_typed(self) -> None:
+        """What the page shows, in a folder with what the repository has, by the system's Python and without pip."""
+        for name in ("service", "clients", "examples"):
+            Path(self.folder, name).symlink_to(ROOT / name)
+        Path(self.folder, "build").symlink_to(Path(PROGRAM).parent)
+        served, client, netcat = re.findall(r"^```\n\$ (.*?)^```$", PAGE.read_text(), re.MULTILINE | re.DOTALL)
+        session = re.search(r"^```pycon\n(.*?)^```$", PAGE.read_text(), re.MULTILINE | re.DOTALL)[1]
+        command, *told = served.splitlines()
+        words = {"shell": True, "executable": "/bin/bash", "env": PLAIN, "cwd": self.folder, "text": True}
+        with subprocess.Popen(f"exec {command}", stderr=subprocess.PIPE, **words) as service:
+            self.assertEqual([service.stderr.readline().rstrip("\n") for _ in told], told)
+            typed = "".join(f"{line[4:]}\n" for line in session.splitlines() if line.startswith((">>> ", "... "))) + "\n"
+            shown = [line for line in session.splitlines() if not line.startswith((">>> ", "... "))]
+            done = subprocess.run(client.strip(), input=typed, stdout=subprocess.PIPE, timeout=60, **words)
+            self.assertEqual(done.stdout.splitlines(), shown)
+            command, *shown = netcat.splitlines()
+            if has_netcat := shutil.which("nc"):
+                done = subprocess.run(command, stdout=subprocess.PIPE, timeout=60, **words)
+                self.assertEqual(done.stdout.splitlines(), shown)
+            service.terminate()
+            self.assertEqual(service.wait(10), 0)
+        self.assertFalse(os.path.lexists(f"{self.folder}/boxes.socket"))
+        if not has_netcat:
+            self.skipTest("nc: not installed")
+
+
+class AsUnit(Case):
+    def test_calls_that_its_unit_allows(self) -> None:
+        """The service, its programs and its connections make no others."""
+        for tool in ("strace", "systemd-analyze"):
+            if shutil.which(tool) is None:
+                self.skipTest(f"{tool}: not installed")
+        trace = Path(self.folder, "trace")
+        before = ["strace", "-f", "-qq", "-o", str(trace), "--interruptible=never"]
+        service = self.served(BOXES, "--tcp", "0", "--health", "0", "--nice", "1", before=before)
+        with service.connect() as asker:
+            asker.sendall(b"count all\n")
+            read_lines(asker, 1)
+            (traced,) = service.programs
+            self.assertEqual(os.getpriority(os.PRIO_PROCESS, traced), os.getpriority(os.PRIO_PROCESS, 0) + 1)
+            os.kill(traced, signal.SIGHUP)
+            service.logs("^the table is exchanged")
+        self.assertEqual(service.get("/health")[0], 200)
+        service.logs("status=0 ")
+        os.kill(traced, signal.SIGTERM)
+        self.assertEqual(service.process.wait(20), 0)
+        called = set(re.findall(r"^\d+ +(\w+)\(", trace.read_text(), re.MULTILINE))
+        self.assertGreater(len(called), 40)
+        self.assertEqual(called - (allowed("@system-service") - allowed("@privileged")), set())
+
+    def test_what_systemd_is_told(self) -> None:
+        """READY once the table stands, with its size; RELOADING, and READY again, whether there is a new table or not."""
+        with socket.socket(socket.AF_UNIX, socket.SOCK_DGRAM) as systemd:
+            systemd.bind(f"{self.folder}/notify")
+            systemd.settimeout(10)
+            table = Path(self.folder, "table")
+            table.write_bytes(BOXES.read_bytes())
+            service = self.served(table, env={**os.environ, "NOTIFY_SOCKET": f"{self.folder}/notify"})
+            self.assertEqual(systemd.recv(1000), b"READY=1\nSTATUS=5 boxes")
+            for text, told in (("7,0,1,0,1\n", b"READY=1\nSTATUS=1 boxes"), ("nonsense\n", b"READY=1")):
+                table.write_text(text)
+                service.signal(signal.SIGHUP)
+                self.assertRegex(systemd.recv(1000), rb"^RELOADING=1\nMONOTONIC_USEC=\d+$")
+                self.assertEqual(systemd.recv(1000), told)
+            service.signal(signal.SIGTERM)
+            self.assertEqual(systemd.recv(1000), b"STOPPING=1")
+
+
+def allowed(name: str) -> set[str]:
+    """The calls of a set of systemd's, and of those that it names."""
+    told = subprocess.run(["systemd-analyze", "syscall-filter", name], stdout=subprocess.PIPE, text=True, check=True).stdout
+    names = [line.strip() for line in told.splitlines()[1:] if line.strip() and not line.strip().startswith("#")]
+    return {call for it in names for call in (allowed(it) if it.startswith("@") else {it})}
+
+
+if __name__ == "__main__":
+    unittest.main()

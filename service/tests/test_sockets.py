@@ -1,0 +1,298 @@
+"""Where a service listens, and as whom it runs."""
+
+import contextlib
+import ctypes
+import fcntl
+import os
+import signal
+import socket
+import stat
+import subprocess
+import sys
+import time
+import unittest
+from pathlib import Path
+
+from served import BOXES, PROGRAM, SERVICE, SYSTEM_PYTHON, Case, Served, read_lines, table_of, talk, until
+
+PIDFD_GETFD = 438  # a call of Linux: another process's descriptor
+
+
+def run(*words: object) -> tuple[int, str]:
+    """A service that is to end by itself: its status, and what it tells."""
+    command = [sys.executable, "-B", str(SERVICE), "--program", PROGRAM, *map(str, words)]
+    done = subprocess.run(command, capture_output=True, text=True, timeout=20)
+    return done.returncode, done.stderr
+
+
+class Sockets(Case):
+    def mode_of(self, *words: str) -> int:
+        service = self.served(BOXES, *words)
+        self.assert_well(service)
+        return stat.S_IMODE(os.stat(service.path).st_mode)
+
+    def test_mode(self) -> None:
+        self.assertEqual(self.mode_of(), 0o600)
+
+    def test_mode_that_is_asked_for(self) -> None:
+        self.assertEqual(self.mode_of("--mode", "660"), 0o660)
+
+    def test_a_path_that_was_left(self) -> None:
+        """A socket on which nobody listens is replaced; another service's isn't, loading or not, and neither is a file."""
+        with socket.socket(socket.AF_UNIX) as left:
+            left.bind(str(Path(self.folder, "socket")))
+        service = self.served()
+        self.assert_well(service)
+        link = Path(self.folder, "link")
+        link.symlink_to(Path(self.folder, "nowhere"))
+        for path in (service.path, str(BOXES), str(link)):
+            told = f"rtfilter-serve: [Errno 98] Address already in use: '{path}'\n"
+            self.assertEqual(run("--unix", path, BOXES), (1, told))
+        self.assert_well(service)
+
+    def test_a_backlog_that_is_full(self) -> None:
+        """Whoever listens there is left alone, even where nobody is accepted."""
+        path = str(Path(self.folder, "full"))
+        busy, *askers = (self.enterContext(socket.socket(socket.AF_UNIX)) for _ in range(3))
+        with busy:
+            busy.bind(path)
+            busy.listen(0)
+            for asker in askers:
+                asker.setblocking(False)
+                asker.connect_ex(path)
+            self.assertEqual(run("--unix", path, BOXES)[0], 1)
+            self.assertTrue(os.path.exists(path))
+
+    def test_a_path_that_is_another_ones_by_now(self) -> None:
+        """What stands there at the end isn't removed."""
+        first = self.served()
+        os.unlink(first.path)
+        with Served(self.folder, BOXES) as second:
+            first.signal(signal.SIGTERM)
+            self.assertEqual(first.process.wait(10), 0)
+            self.assert_well(second)
+        self.assertFalse(os.path.exists(first.path))
+
+    def test_two_at_once(self) -> None:
+        """Of services that begin at the same time, over a socket that was left, one has the path."""
+        path = str(Path(self.folder, "socket"))
+        with socket.socket(socket.AF_UNIX) as left:
+            left.bind(path)
+        command = [sys.executable, "-B", str(SERVICE), "--program", PROGRAM, "--unix", path, str(BOXES)]
+        services = [subprocess.Popen(command, stderr=subprocess.PIPE, text=True) for _ in range(4)]
+        until(lambda: sum(service.poll() is not None for service in services) == 3, "the end of three")
+        (winner,) = [service for service in services if service.poll() is None]
+        told = winner.stderr.readline() + winner.stderr.readline()
+        self.assertEqual(told, f"listening on {path}\nready: 5 boxes\n")
+        with socket.socket(socket.AF_UNIX) as asker:
+            asker.connect(path)
+            self.assertEqual(talk(asker, [b"count all"]), b"ok 1 5\n")
+        winner.terminate()
+        for service in services:
+            service.communicate(timeout=10)
+        self.assertEqual(sorted(service.returncode for service in services), [0, 1, 1, 1])
+
+    def test_one_after_another(self) -> None:
+        """Who looks at a path, and takes or leaves it, is alone in its folder meanwhile."""
+        folder = os.open(self.folder, os.O_RDONLY)
+        self.addCleanup(os.close, folder)
+        fcntl.flock(folder, fcntl.LOCK_EX)
+        service = self.served(is_ready=False)
+        time.sleep(0.5)
+        self.assertFalse(os.path.exists(service.path))
+        fcntl.flock(folder, fcntl.LOCK_UN)
+        service.logs("^ready: ")
+        fcntl.flock(folder, fcntl.LOCK_EX)
+        service.signal(signal.SIGTERM)
+        time.sleep(0.3)
+        self.assertTrue(os.path.exists(service.path))
+        fcntl.flock(folder, fcntl.LOCK_UN)
+        self.assertEqual(service.process.wait(10), 0)
+        self.assertFalse(os.path.exists(service.path))
+
+    def test_a_port_that_is_taken(self) -> None:
+        """It is told before a table is loaded: this one would never be."""
+        table = Path(self.folder, "table")
+        os.mkfifo(table)
+        with socket.create_server(("127.0.0.1", 0)) as taken:
+            for option in ("--tcp", "--health"):
+                words = ["--unix", Path(self.folder, "socket"), option, taken.getsockname()[1], table]
+                status, told = run(*words)
+                self.assertEqual(status, 1)
+                self.assertRegex(told, r"^rtfilter-serve: \[Errno 98\] Address already in use.*\n$")
+        self.assertFalse(os.path.exists(Path(self.folder, "socket")))
+
+    def test_loopback(self) -> None:
+        self.assertEqual(self.served(BOXES, "--tcp", "0").tcp[0], "127.0.0.1")
+
+    def test_socket_activation(self) -> None:
+        """Two sockets are given as systemd gives them, from descriptor 3 on, beside those that are asked for."""
+        path = str(Path(self.folder, "given"))
+        with socket.socket(socket.AF_UNIX) as given, socket.create_server(("127.0.0.1", 0)) as other:
+            given.bind(path)
+            given.listen()
+            early = socket.socket(socket.AF_UNIX)
+            early.connect(path)  # before the service is there
+            script = f'exec 3<&{given.fileno()} 4<&{other.fileno()}; LISTEN_FDS=2 LISTEN_PID=$$ exec "$@"'
+            given_ones = given.fileno(), other.fileno()
+            service = self.served(BOXES, before=["sh", "-c", script, "-"], pass_fds=given_ones)
+            self.assertEqual(talk(early, [b"count all\n"]), b"ok 1 5\n")
+            self.assertEqual(talk(socket.create_connection(other.getsockname()), [b"count all"]), b"ok 1 5\n")
+            self.assert_well(service)
+            service.exchange()
+            self.assertEqual(talk(socket.create_connection(other.getsockname()), [b"count all"]), b"ok 1 5\n")
+        service.__exit__()
+        self.assertTrue(os.path.exists(path))
+
+    def test_others_sockets(self) -> None:
+        """Those that are meant for another process aren't taken."""
+        environment = {**os.environ, "LISTEN_FDS": "1", "LISTEN_PID": "1"}
+        self.assert_well(self.served(env=environment))
+
+    def test_a_connection_has_nothing_else(self) -> None:
+        """Its standard input and output, and the log."""
+        service = self.served(BOXES, "--tcp", "0", "--health", "0")
+        with service.connect() as asker:
+            asker.sendall(b"count all\n")
+            read_lines(asker, 1)
+            (process,) = service.connections
+            folder = f"/proc/{process}/fd"
+            files = {name: os.readlink(f"{folder}/{name}") for name in os.listdir(folder)}
+            self.assertEqual(files, {"0": files["1"], "1": files["1"], "2": str(service.log_file)})
+
+    def test_options_of_tcp(self) -> None:
+        """A line isn't held back for the next one, and a peer that is gone for good is noticed some day."""
+        service = self.served(BOXES, "--tcp", "0")
+        with socket.create_connection(service.tcp) as asker:
+            asker.sendall(b"count all\n")
+            read_lines(asker, 1)
+            process = os.pidfd_open(*service.connections)
+            self.addCleanup(os.close, process)
+            descriptor = ctypes.CDLL(None, use_errno=True).syscall(PIDFD_GETFD, process, 0, 0)
+            if descriptor < 0:
+                self.skipTest(f"the right to look at another process: {os.strerror(ctypes.get_errno())}")
+            with socket.socket(fileno=descriptor) as theirs:
+                self.assertEqual(theirs.getpeername(), asker.getsockname())
+                self.assertTrue(theirs.getsockopt(socket.IPPROTO_TCP, socket.TCP_NODELAY))
+                self.assertTrue(theirs.getsockopt(socket.SOL_SOCKET, socket.SO_KEEPALIVE))
+
+    def test_folders_with_spaces(self) -> None:
+        """The library is found and loaded where its path has what a list of paths can't hold."""
+        folder = Path(self.folder, "my: maps")
+        folder.mkdir()
+        self.enterContext(Served(str(folder), BOXES, program=str(copied(folder))))
+
+    def test_a_library_elsewhere(self) -> None:
+        """As it is installed: bin/rtfilter and lib/rtfilter/rtfilter-prefork.so. Without one, it is told."""
+        folder = Path(self.folder, "bin")
+        folder.mkdir()
+        program = copied(folder)
+        lib = Path(self.folder, "lib/rtfilter")
+        lib.mkdir(parents=True)
+        library = folder / "rtfilter-prefork.so"
+        library.rename(lib / library.name)
+        self.assert_well(self.served(program=str(program)))
+        (lib / library.name).unlink()
+        told = f"rtfilter-serve: no program {program}, or no rtfilter-prefork.so with it\n"
+        self.assertEqual(run("--unix", f"{self.folder}/other", "--program", program, BOXES), (1, told))
+
+    def test_nowhere_to_listen(self) -> None:
+        status, told = run(BOXES)
+        self.assertEqual(status, 2)
+        self.assertIn("nowhere to listen", told)
+
+    def test_bad_options(self) -> None:
+        path = Path(self.folder, "socket")
+        for words in (
+            ["--mode", "1000"], ["--mode", "x"], ["--connections", "0"], ["--connections", "1048577"], ["--silence", "-1"],
+            ["--patience", "inf"], ["--drain", "nan"], ["--load-timeout", "x"], ["--tcp", "x:y"], ["--health", "70000"],
+        ):
+            status, told = run("--unix", path, *words, BOXES)
+            self.assertEqual((status, told.splitlines()[-1][:22]), (2, f"rtfilter-serve: error:"), words)
+
+
+class Surroundings(Case):
+    def test_as_another_user(self) -> None:
+        if os.geteuid() != 0:
+            self.skipTest("root: not there")
+        os.chmod(self.folder, 0o777)
+        service = self.served(before=["setpriv", "--reuid=61235", "--regid=61235", "--clear-groups"], python=SYSTEM_PYTHON)
+        self.assert_well(service)
+        service.exchange()
+        self.assert_well(service)
+        self.assertEqual({os.stat(f"/proc/{process}").st_uid for process in service.processes}, {61235})
+
+    def test_signals_that_are_blocked_or_ignored(self) -> None:
+        """Whoever starts it may have blocked all signals, or have had these ignored."""
+        def prepare() -> None:
+            for number in (signal.SIGHUP, signal.SIGTERM, signal.SIGCHLD, signal.SIGINT, signal.SIGIO):
+                signal.signal(number, signal.SIG_IGN)
+            signal.pthread_sigmask(signal.SIG_BLOCK, signal.valid_signals())
+
+        service = self.served(BOXES, "--load-timeout", "0.3", preexec_fn=prepare)
+        self.assert_well(service)
+        with service.connect() as asker:
+            asker.sendall(b"count all\n")
+            read_lines(asker, 1)
+            status = Path(f"/proc/{service.connections[0]}/status").read_text()
+            self.assertRegex(status, r"SigBlk:\t0+\n")
+            self.assertRegex(status, r"SigCgt:\t0+\n")
+        service.exchange()
+        service.logs("status=[01] ", 2)
+        service.signal(signal.SIGTERM)
+        self.assertEqual(service.process.wait(10), 0)
+
+    def test_without_standard_files(self) -> None:
+        """Nobody takes its log, and it goes on: closed, or a pipe that nobody reads any more, or that is full."""
+        many = table_of(self.folder, "many", 0, 50_000)
+        reading, writing = os.pipe()
+        os.set_blocking(writing, False)
+        for size in (4096, 1):
+            with contextlib.suppress(BlockingIOError):
+                while True:
+                    os.write(writing, b"x" * size)
+        os.set_blocking(writing, True)
+        left, broken = os.pipe()
+        os.close(left)
+        scripts = 'exec "$@" 2>&-', 'exec "$@" <&- >&- 2>&-', 'exec "$@"', 'exec "$@"'
+        for script, errors in zip(scripts, (None, None, broken, writing)):
+            path = f"{self.folder}/socket"
+            command = ["sh", "-c", script, "-", sys.executable, "-B", str(SERVICE), "--program", PROGRAM, "--unix", path]
+            process = subprocess.Popen([*command, "--connections", "1", str(many)], stderr=errors)
+            self.addCleanup(process.kill)
+            until(lambda: answers_at(path), "the service")
+            for _ in range(3):
+                with socket.socket(socket.AF_UNIX) as asker:  # one that ends with a line of its own
+                    asker.connect(path)
+                    asker.sendall(b"find all\n" * 50)
+                    asker.recv(1)
+                until(lambda: answers_at(path), "an end to that")
+                process.send_signal(signal.SIGHUP)
+            process.terminate()
+            self.assertEqual(process.wait(10), 0)
+        for end in (reading, writing, broken):
+            os.close(end)
+
+
+def answers_at(path: str) -> bool:
+    """Whether somebody listens there, with room for a connection."""
+    with socket.socket(socket.AF_UNIX) as asker:
+        try:
+            asker.connect(path)
+            asker.sendall(b"count all\n")
+            asker.shutdown(socket.SHUT_WR)
+            return (asker.recv(100), asker.recv(1)) == (b"ok 1 50000\n", b"")
+        except OSError:
+            return False
+
+
+def copied(folder: Path) -> Path:
+    """A copy of the program and its library."""
+    for name in ("rtfilter", "rtfilter-prefork.so"):
+        Path(folder, name).write_bytes(Path(PROGRAM).with_name(name).read_bytes())
+    Path(folder, "rtfilter").chmod(0o755)
+    return Path(folder, "rtfilter")
+
+
+if __name__ == "__main__":
+    unittest.main()
