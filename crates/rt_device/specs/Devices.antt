@@ -1,5 +1,5 @@
 -- What a pull and a push do to the bytes that a device tells.
-use Rattle.std.specs.Prelude.{◌≡◌, ℕ, Bool, List, take, Option, IfSome, Result, MatchResult}
+use Rattle.std.specs.Prelude.{◌≡◌, ◌+◌, ℕ, Bool, List, take, Option, Some, IfSome, Result, MatchResult}
 use Rattle.std.specs.Io.KnownBytes.{Appends, Consumes, IsAtEnd}
 
 -- where the bytes are still told after a failure, they are as before
@@ -16,6 +16,11 @@ Pulls old new pulled room =
 abbrev pub Pushes : {E : Type 0} → Option (List ℕ) → Option (List ℕ) → Result ℕ E → List ℕ → Type 0
 Pushes old new pushed piece =
     MatchResult pushed (λ n. Appends old new (take n piece)) (λ _. IsSameIfTold old new)
+
+-- so many pulls were made, where their number is still told
+abbrev pub PulledTimes : (times : ℕ) → (old new : Option ℕ) → Type 0
+PulledTimes times old new =
+    IfSome new (λ now. (before : ℕ) × (old ≡ Some before) × (now ≡ before + times))
 
 -- a reader of std, and how many of its calls failed
 pub record Reader (R : Type 0) : Type 0 where
@@ -35,6 +40,8 @@ pub record Slice : Type 0 where
   -- the number, from 1, of the pull to come that fails; at 0 none does
   pub fails_in : ℕ
   pub failures : ℕ
+  -- how many pulls were made, as far as 64 bits count
+  pub pulls : Option ℕ
 
 -- bytes that room in memory has taken, at most so many a push
 pub record Room : Type 0 where

@@ -1,7 +1,7 @@
 //! Bytes in memory as a source.
 
 ghost use Rattle.std.specs.Prelude.{◌≡◌, ◌+◌, ◌-◌, ◌<◌, ◌≤◌, ◌^◌, ◌↔◌, Some, IfOk, IsErr, OnOk, OnErr, length, min, unwrap_or};
-ghost use Rattle.rt_device.specs.Devices.{Pulls};
+ghost use Rattle.rt_device.specs.Devices.{PulledTimes, Pulls};
 
 use crate::source::{ReadFault, Source};
 use std::marker::Model;
@@ -14,6 +14,8 @@ pub struct SliceSource<'a> {
     // The number, from 1, of the pull to come that fails; at 0 none does.
     fails_in: u64,
     failures: u64,
+    // How many pulls were made, none where they are more than can be counted.
+    pulls: Option<u64>,
 }
 
 impl<'a> Model for SliceSource<'a> {
@@ -22,7 +24,13 @@ impl<'a> Model for SliceSource<'a> {
 
     ghost Value = { Slice };
 
-    ghost view = { λ s. record { bytes = s.bytes.now; piece = s.piece; fails_in = s.fails_in; failures = s.failures } };
+    ghost view = { λ s. record {
+      bytes = s.bytes.now;
+      piece = s.piece;
+      fails_in = s.fails_in;
+      failures = s.failures;
+      pulls = s.pulls;
+    } };
 
     ghost invariant = { λ s. 0 < s.piece };
 }
@@ -32,13 +40,20 @@ impl<'a> SliceSource<'a> {
     /// 0 or none, no pull does.
     pub fn new(bytes: &'a [u8], piece: usize, fail_at: Option<u64>) -> SliceSource<'a>
         requires { 0 < piece }
-        ensures { result ≡ record { bytes = bytes.now; piece = piece; fails_in = unwrap_or fail_at 0; failures = 0 } }
+        ensures { result ≡ record {
+          bytes = bytes.now;
+          piece = piece;
+          fails_in = unwrap_or fail_at 0;
+          failures = 0;
+          pulls = Some 0;
+        } }
     {
         SliceSource {
             bytes,
             piece,
             fails_in: fail_at.unwrap_or(0),
             failures: 0,
+            pulls: Some(0),
         }
     }
 }
@@ -48,6 +63,8 @@ impl Source for SliceSource<'_> {
 
     ghost failed = { λ s. s.failures };
 
+    ghost pulled = { λ s. s.pulls };
+
     // As the trait says, and beside that just which pull fails and how many bytes each other one gives.
     fn pull(&mut self, room: &mut [u8]) -> Result<usize, ReadFault>
         requires room { 0 < length room.old }
@@ -56,12 +73,17 @@ impl Source for SliceSource<'_> {
         ensures bytes { Pulls (Some self.old.bytes) (Some self.new.bytes) result room.new }
         ensures went { OnOk result (self.new.failures ≡ self.old.failures) }
         ensures fails { OnErr result (self.new.failures ≡ self.old.failures + 1) }
+        ensures counted { PulledTimes 1 self.old.pulls self.new.pulls }
         ensures which { IsErr result ↔ (self.old.fails_in ≡ 1) }
         ensures many { IfOk result (λ n. n ≡ min self.old.piece (min (length room.new) (length self.old.bytes))) }
         ensures later { (self.new.fails_in ≡ self.old.fails_in - 1) × (self.new.piece ≡ self.old.piece) }
     {
         let fails = self.fails_in == 1;
         self.fails_in = self.fails_in.saturating_sub(1);
+        self.pulls = match self.pulls {
+            Some(pulls) => pulls.checked_add(1),
+            None => None,
+        };
         if fails {
             self.failures += 1;
             return Err(ReadFault);

@@ -1,7 +1,7 @@
 //! Where query bytes come from.
 
-ghost use Rattle.std.specs.Prelude.{◌≡◌, ◌+◌, ◌-◌, ◌<◌, ◌≤◌, ◌^◌, ℕ, List, Option, IfOk, OnOk, OnErr, length};
-ghost use Rattle.rt_device.specs.Devices.{Pulls};
+ghost use Rattle.std.specs.Prelude.{◌≡◌, ◌+◌, ◌-◌, ◌<◌, ◌≤◌, ◌^◌, ℕ, List, Option, None, IfOk, OnOk, OnErr, length};
+ghost use Rattle.rt_device.specs.Devices.{PulledTimes, Pulls};
 
 /// A pull that failed.
 #[derive(Clone, Copy, Debug, PartialEq, Eq)]
@@ -15,6 +15,9 @@ pub trait Source {
     // How many pulls failed.
     ghost failed: { Self → ℕ };
 
+    // How many pulls were made, where that is told. A source that doesn't count them leaves this out.
+    ghost pulled: { Self → Option ℕ } = { λ _. None };
+
     /// Puts the next bytes at the front of the room, and returns how many: 0 only where none are to come.
     fn pull(&mut self, room: &mut [u8]) -> Result<usize, ReadFault>
         requires room { 0 < length room.old }
@@ -22,7 +25,8 @@ pub trait Source {
         ensures bound { IfOk result (λ n. n ≤ length room.new) }
         ensures bytes { Pulls (coming self.old) (coming self.new) result room.new }
         ensures went { OnOk result (failed self.new ≡ failed self.old) }
-        ensures fails { OnErr result (failed self.new ≡ failed self.old + 1) };
+        ensures fails { OnErr result (failed self.new ≡ failed self.old + 1) }
+        ensures counted { PulledTimes 1 (pulled self.old) (pulled self.new) };
 
     /// How many pulls failed so far.
     fn failures(&self) -> u64
