@@ -1,12 +1,11 @@
 mod AnswerLemmas
-mod ConsumedLemmas
 mod FindLemmas
 mod LayerLemmas
 mod LevelLemmas
 mod LineLemmas
-mod PieceLemmas
 mod PushLemmas
 mod RunLemmas
 mod RunRows
+mod ServingLemmas
+mod SessionLemmas
 mod TreeLemmas
-mod TurnLemmas

@@ -1,10 +1,12 @@
 -- The lines of query bytes, one after the other.
-use Rattle.std.proofs.Common.{◌≡◌, ◌∙◌, ◌+◌, ◌<◌, ℕ, zero, suc, Bool, true, false, List, [], ◌∷◌, ◌++◌, length, take, drop, refl, ap, arith, add-one, Some, None}
+use Rattle.std.proofs.Common.{◌≡◌, ◌∙◌, ◌+◌, ℕ, zero, suc, Bool, true, false, List, [], ◌∷◌, ◌++◌, length, take, drop, refl, sym, ap, arith, add-one, append_assoc, append-nil, Some, None}
 use Rattle.std.proofs.lemmas.Bool.Decides.{nat_tests}
 use Rattle.std.specs.List.{enumerate_from, slice_split}
 use Rattle.std.proofs.lemmas.Bool.{false_from_ne_true}
+use Rattle.std.proofs.lemmas.List.FromFn.{length-enumerate_from}
+use Rattle.std.proofs.Math.Seq.{drop-append_seam}
 use Rattle.memchr.specs.Find.{IsFirstByte, is_byte}
-use Rattle.rt_filter.specs.Lines.{is_line_feed, lines_of_parts}
+use Rattle.rt_filter.specs.Lines.{begun_line, completed, is_line_feed, last_part, lines_of_parts, numbered_lines}
 use Rattle.rt_filter.specs.Stages.{HasNoLineFeed, line_feed, lines_from}
 
 -- ---- where the first line feed stands
@@ -45,7 +47,7 @@ clear-append [] ys h k = k
 clear-append (x ∷ xs) ys h k = (h.0, clear-append xs ys h.1 k)
 
 -- they are one part
-one_part : (xs : List ℕ) → HasNoLineFeed xs → slice_split is_line_feed xs ≡ xs ∷ []
+pub one_part : (xs : List ℕ) → HasNoLineFeed xs → slice_split is_line_feed xs ≡ xs ∷ []
 one_part [] h = refl
 one_part (x ∷ xs) h = rw (h.0, one_part xs h.1) refl
 
@@ -81,6 +83,115 @@ pub lines_from-none : (number : ℕ) (xs : List ℕ) → HasNoLineFeed xs → li
 lines_from-none number xs h = ap (λ parts. enumerate_from (number + 1) (lines_of_parts false parts)) (one_part xs h)
 
 -- and one at the end, unless it is empty
-pub lines_from-last : (number : ℕ) (xs : List ℕ) → HasNoLineFeed xs → 0 < length xs → lines_from number xs true ≡ (number + 1, xs) ∷ []
-lines_from-last number [] h some = absurd (omega (arith, some))
-lines_from-last number (x ∷ xs) h some = ap (λ parts. enumerate_from (number + 1) (lines_of_parts true parts)) (one_part (x ∷ xs) h)
+pub lines_from-last : (number x : ℕ) (xs : List ℕ) → HasNoLineFeed (x ∷ xs) → lines_from number (x ∷ xs) true ≡ (number + 1, x ∷ xs) ∷ []
+lines_from-last number x xs h = ap (λ parts. enumerate_from (number + 1) (lines_of_parts true parts)) (one_part (x ∷ xs) h)
+
+-- ---- bytes that go on
+
+-- their parts are those that are complete, and then those of the last one with what follows
+parts-append : (xs ys : List ℕ)
+    → slice_split is_line_feed (xs ++ ys) ≡ lines_of_parts false (slice_split is_line_feed xs) ++ slice_split is_line_feed (begun_line xs ++ ys)
+parts-append [] ys = refl
+parts-append (x ∷ xs) ys = let m = some_part xs in by (is_line_feed x) refl m.0 m.1 m.2 (parts-append xs ys)
+  where
+    by : (b : Bool) → is_line_feed x ≡ b → (part : List ℕ) (more : List (List ℕ)) → slice_split is_line_feed xs ≡ part ∷ more
+        → slice_split is_line_feed (xs ++ ys) ≡ lines_of_parts false (slice_split is_line_feed xs) ++ slice_split is_line_feed (begun_line xs ++ ys)
+        → slice_split is_line_feed (x ∷ (xs ++ ys)) ≡ lines_of_parts false (slice_split is_line_feed (x ∷ xs)) ++ slice_split is_line_feed (begun_line (x ∷ xs) ++ ys)
+    by true e part more s h = let k = rw s at h in rw (e, s, k) refl
+    by false e part [] s h = let k = rw s at h in rw (e, s, k, e) refl
+    by false e part (next ∷ more) s h = let k = rw s at h in rw (e, s, k) refl
+
+-- no line feed stands behind the last one
+pub begun_clear : (xs : List ℕ) → HasNoLineFeed (begun_line xs)
+begun_clear [] = tt
+begun_clear (x ∷ xs) = let m = some_part xs in by (is_line_feed x) refl m.0 m.1 m.2 (begun_clear xs)
+  where
+    by : (b : Bool) → is_line_feed x ≡ b → (part : List ℕ) (more : List (List ℕ)) → slice_split is_line_feed xs ≡ part ∷ more
+        → HasNoLineFeed (begun_line xs) → HasNoLineFeed (begun_line (x ∷ xs))
+    by true e part more s h = let k = rw s at h in rw (e, s) k
+    by false e part [] s h = let k = rw s at h in rw (e, s) (e, k)
+    by false e part (next ∷ more) s h = let k = rw s at h in rw (e, s) k
+
+lines_of_parts-append : (ended : Bool) (xs : List (List ℕ)) (part : List ℕ) (more : List (List ℕ))
+    → lines_of_parts ended (xs ++ part ∷ more) ≡ xs ++ lines_of_parts ended (part ∷ more)
+lines_of_parts-append ended [] part more = refl
+lines_of_parts-append ended (x ∷ []) part more = refl
+lines_of_parts-append ended (x ∷ y ∷ xs) part more = ap (λ ls. x ∷ ls) (lines_of_parts-append ended (y ∷ xs) part more)
+
+last_part-append : (xs : List (List ℕ)) (part : List ℕ) (more : List (List ℕ)) → last_part (xs ++ part ∷ more) ≡ last_part (part ∷ more)
+last_part-append [] part more = refl
+last_part-append (x ∷ []) part more = refl
+last_part-append (x ∷ y ∷ xs) part more = last_part-append (y ∷ xs) part more
+
+enumerate_from-append : (n : ℕ) (xs ys : List (List ℕ)) → enumerate_from n (xs ++ ys) ≡ enumerate_from n xs ++ enumerate_from (n + length xs) ys
+enumerate_from-append n [] ys = ap (λ k. enumerate_from k ys) (omega arith)
+enumerate_from-append n (x ∷ xs) ys =
+    ap (λ ls. (n, x) ∷ ls) (enumerate_from-append (n + 1) xs ys ∙ ap (λ k. enumerate_from (n + 1) xs ++ enumerate_from k ys) (omega arith))
+
+-- the lines of bytes that go on are those that are complete, and then those of what was begun with what follows
+pub numbered_lines-append : (xs ys : List ℕ) (ended : Bool)
+    → numbered_lines (xs ++ ys) ended ≡ numbered_lines xs false ++ lines_from (length (numbered_lines xs false)) (begun_line xs ++ ys) ended
+numbered_lines-append xs ys ended =
+    let whole : List (List ℕ) = lines_of_parts false (slice_split is_line_feed xs) in
+    let m = some_part (begun_line xs ++ ys) in
+    let lines : lines_of_parts ended (slice_split is_line_feed (xs ++ ys)) ≡ whole ++ lines_of_parts ended (slice_split is_line_feed (begun_line xs ++ ys)) =
+    ap (lines_of_parts ended) (parts-append xs ys) ∙ rw m.2 (lines_of_parts-append ended whole m.0 m.1) in
+    let count : 1 + length whole ≡ length (numbered_lines xs false) + 1 = omega (arith, length-enumerate_from 1 whole) in
+    ap (enumerate_from 1) lines ∙ enumerate_from-append 1 whole (lines_of_parts ended (slice_split is_line_feed (begun_line xs ++ ys)))
+    ∙ ap (λ k. numbered_lines xs false ++ enumerate_from k (lines_of_parts ended (slice_split is_line_feed (begun_line xs ++ ys)))) count
+
+begun_line-append : (xs ys : List ℕ) → begun_line (xs ++ ys) ≡ begun_line (begun_line xs ++ ys)
+begun_line-append xs ys =
+    let m = some_part (begun_line xs ++ ys) in
+    ap last_part (parts-append xs ys) ∙ rw m.2 (last_part-append (lines_of_parts false (slice_split is_line_feed xs)) m.0 m.1)
+
+-- ---- what more bytes complete
+
+pub completed-is : (xs ys : List ℕ) (ended : Bool) → completed xs ys ended ≡ lines_from (length (numbered_lines xs false)) (begun_line xs ++ ys) ended
+completed-is xs ys ended =
+    ap (drop (length (numbered_lines xs false))) (numbered_lines-append xs ys ended)
+    ∙ drop-append_seam (numbered_lines xs false) (lines_from (length (numbered_lines xs false)) (begun_line xs ++ ys) ended)
+
+pub completed-all : (xs ys : List ℕ) (ended : Bool) → numbered_lines (xs ++ ys) ended ≡ numbered_lines xs false ++ completed xs ys ended
+completed-all xs ys ended = numbered_lines-append xs ys ended ∙ ap (λ ls. numbered_lines xs false ++ ls) (sym (completed-is xs ys ended))
+
+-- what completes some and then more
+pub completed-append : (xs ys zs : List ℕ) (ended : Bool) → completed xs (ys ++ zs) ended ≡ completed xs ys false ++ completed (xs ++ ys) zs ended
+completed-append xs ys zs ended =
+    ap (λ bytes. drop (length (numbered_lines xs false)) (numbered_lines bytes ended)) (sym (append_assoc xs ys zs))
+    ∙ ap (drop (length (numbered_lines xs false))) (completed-all (xs ++ ys) zs ended ∙ ap (λ ls. ls ++ completed (xs ++ ys) zs ended) (completed-all xs ys false)
+    ∙ append_assoc (numbered_lines xs false) (completed xs ys false) (completed (xs ++ ys) zs ended))
+    ∙ drop-append_seam (numbered_lines xs false) (completed xs ys false ++ completed (xs ++ ys) zs ended)
+
+-- a line feed completes one line, and what follows completes the others
+pub completed-found : (xs line ys : List ℕ) (ended : Bool) → HasNoLineFeed line
+    → completed xs (line ++ line_feed ∷ ys) ended ≡ (length (numbered_lines xs false) + 1, begun_line xs ++ line) ∷ lines_from (length (numbered_lines xs false) + 1) ys ended
+completed-found xs line ys ended clear =
+    completed-is xs (line ++ line_feed ∷ ys) ended
+    ∙ ap (λ bytes. lines_from (length (numbered_lines xs false)) bytes ended) (sym (append_assoc (begun_line xs) line (line_feed ∷ ys)))
+    ∙ lines_from-found (length (numbered_lines xs false)) (begun_line xs ++ line) ys ended (clear-append (begun_line xs) line (begun_clear xs) clear)
+
+pub begun-found : (xs line : List ℕ) → HasNoLineFeed line → begun_line (xs ++ (line ++ line_feed ∷ [])) ≡ []
+begun-found xs line clear =
+    begun_line-append xs (line ++ line_feed ∷ []) ∙ ap begun_line (sym (append_assoc (begun_line xs) line (line_feed ∷ [])))
+    ∙ ap last_part (first_part (begun_line xs ++ line) [] (clear-append (begun_line xs) line (begun_clear xs) clear))
+
+-- without one nothing is complete
+pub completed-none : (xs ys : List ℕ) → HasNoLineFeed ys → completed xs ys false ≡ []
+completed-none xs ys clear =
+    completed-is xs ys false ∙ lines_from-none (length (numbered_lines xs false)) (begun_line xs ++ ys) (clear-append (begun_line xs) ys (begun_clear xs) clear)
+
+pub begun-none : (xs ys : List ℕ) → HasNoLineFeed ys → begun_line (xs ++ ys) ≡ begun_line xs ++ ys
+begun-none xs ys clear = begun_line-append xs ys ∙ ap last_part (one_part (begun_line xs ++ ys) (clear-append (begun_line xs) ys (begun_clear xs) clear))
+
+-- at the end a line is complete as if a line feed followed, unless it is empty
+pub completed-ended : (xs : List ℕ) → (x : ℕ) (begun : List ℕ) → begun_line xs ≡ x ∷ begun → completed xs [] true ≡ completed xs (line_feed ∷ []) false
+completed-ended xs x begun e =
+    completed-is xs [] true ∙ ap (λ line. lines_from (length (numbered_lines xs false)) line true) (append-nil (begun_line xs) ∙ e)
+    ∙ lines_from-last (length (numbered_lines xs false)) x begun (rw e at (begun_clear xs))
+    ∙ ap (λ line. (length (numbered_lines xs false) + 1, line) ∷ []) (sym e ∙ sym (append-nil (begun_line xs)))
+    ∙ sym (completed-found xs [] [] false tt)
+
+pub completed-ended_none : (xs : List ℕ) → begun_line xs ≡ [] → completed xs [] true ≡ []
+completed-ended_none xs e =
+    completed-is xs [] true ∙ ap (λ line. lines_from (length (numbered_lines xs false)) (line ++ []) true) e

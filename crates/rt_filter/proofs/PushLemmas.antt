@@ -1,10 +1,10 @@
 -- What pushes add up to.
 use Rattle.std.proofs.Common.{◌≡◌, ◌∙◌, ◌+◌, ℕ, List, [], ◌∷◌, ◌++◌, length, take, drop, Option, Some, None, refl, sym, ap, arith, append_assoc, append-nil}
-use Rattle.std.specs.Prelude.{IfSome, IsErrAnd, OnErr, Result, Ok, Err}
+use Rattle.std.specs.Prelude.{IfSome, IsErrAnd, MatchResult, Result, Ok, Err}
 use Rattle.std.specs.Io.{StartsWith}
 use Rattle.std.specs.Io.KnownBytes.{Appends}
-use Rattle.std.proofs.Math.Seq.{take-append_seam}
-use Rattle.std.proofs.lemmas.List.{take-append-drop}
+use Rattle.std.proofs.Math.Seq.{take-append-add, take-append_seam}
+use Rattle.std.proofs.lemmas.List.{append_cancel_left, length-append, take-append-drop}
 use Rattle.rt_device.specs.Devices.{IsSameIfTold}
 use Rattle.rt_filter.specs.Pushes.{Pushed, WasCut, WasPushed, WentPrefix}
 
@@ -13,10 +13,10 @@ pub if_some : (P : List ℕ → Type 0) (o : Option (List ℕ)) → ((xs : List 
 if_some P None h = tt
 if_some P (Some xs) h = h xs refl
 
--- what holds anyway holds where there is an error
-pub at_error : {T E P : Type 0} (r : Result T E) → P → OnErr r P
-at_error (Ok x) h = tt
-at_error (Err e) h = h
+-- what holds anyway holds of a failure
+pub at_failure : {T E B : Type 0} (r : Result T E) (P : E → Type 0) (A : T → Type 0) → IsErrAnd r P → B → MatchResult r A (λ _. B)
+at_failure (Ok x) P A is h = absurd is
+at_failure (Err e) P A is h = h
 
 -- of all bytes, what isn't left was pushed
 pub record AllBut (all : List ℕ) (old now : Option (List ℕ)) (rest : List ℕ) : Type 0 where
@@ -109,6 +109,29 @@ pub pushed_nothing : (all : List ℕ) (old mid new : Option (List ℕ)) (rest : 
 pushed_nothing all old mid new rest n p h =
     pushed_prefix all old new new (drop n rest) (pushed_more all old mid new rest (drop n rest) n p h refl) (unmoved_same new)
 
+-- what came out before, and then a prefix of the bytes: told by prefixes alone
+pub cut_told : (before bytes : List ℕ) (now : Option (List ℕ)) → WentPrefix before now bytes
+    → IfSome now (λ written. StartsWith written before × StartsWith (before ++ bytes) written)
+cut_told before bytes None h = tt
+cut_told before bytes (Some written) h = (
+  rw h.1 (take-append_seam before h.0),
+  rw (h.1, behind bytes h.0 h.2, ← append_assoc before h.0 (drop (length h.0) bytes)) (take-append_seam (before ++ h.0) (drop (length h.0) bytes)),
+)
+
+-- a prefix of what stands behind the same bytes
+starts_behind : (before bytes out : List ℕ) → StartsWith (before ++ bytes) (before ++ out) → StartsWith bytes out
+starts_behind before bytes out h = append_cancel_left before (take (length out) bytes) out
+    (sym (take-append-add before bytes (length out)) ∙ ap (λ n. take n (before ++ bytes)) (sym (length-append before out)) ∙ h)
+
+pub told_cut : (old now : Option (List ℕ)) (bytes : List ℕ)
+    → IfSome old (λ before. IfSome now (λ written. StartsWith written before × StartsWith (before ++ bytes) written)) → WasCut old now bytes
+told_cut None now bytes h = tt
+told_cut (Some before) None bytes h = tt
+told_cut (Some before) (Some written) bytes h =
+    let out : List ℕ = drop (length before) written in
+    let is : written ≡ before ++ out = behind written before h.0 in
+    (out, is, starts_behind before bytes out (rw is at h.1))
+
 -- ---- calls that push
 
 module _ {T E K : Type 0} (written : K → Option (List ℕ)) (failed : K → ℕ) (old mid new : K) where
@@ -136,3 +159,16 @@ module _ {T E K : Type 0} (written : K → Option (List ℕ)) (failed : K → �
       → Pushed written failed mid new r last → Pushed written failed old new r (first ++ last)
   pushed_after first last r h k = pushed_last (first ++ last) last r
       (pushed_next (first ++ last) first last _ _ _ (pushed_none (first ++ last) (written old)) h.0) h.1 k
+
+-- a push that is told by what was written alone
+pub pushed_told : {T E K : Type 0} (written : K → Option (List ℕ)) (failed : K → ℕ) (old new : K) (r : Result T E) (bytes : List ℕ)
+    → Pushed written failed old new r bytes
+    → IfSome (written old) (λ before. MatchResult r (λ _. written new ≡ Some (before ++ bytes))
+    (λ _. IfSome (written new) (λ known. StartsWith known before × StartsWith (before ++ bytes) known)))
+pushed_told written failed old new (Ok x) bytes h = h.0
+pushed_told written failed old new (Err e) bytes h = by (written old) h.0
+  where
+    by : (o : Option (List ℕ)) → WasCut o (written new) bytes
+        → IfSome o (λ before. IfSome (written new) (λ known. StartsWith known before × StartsWith (before ++ bytes) known))
+    by None k = tt
+    by (Some before) k = cut_told before bytes (written new) k

@@ -1,5 +1,5 @@
 -- Entries in another order are answered the same: what a tree holds is what was packed.
-use Rattle.std.proofs.Common.{◌≡◌, ◌≤◌, ◌∙◌, ◌++◌, ℕ, Bool, true, false, cond, List, [], ◌∷◌, take, map, Option, None, Some, refl, ap, ap₂, subst, sym, get_or}
+use Rattle.std.proofs.Common.{◌≡◌, ◌≤◌, ◌∙◌, ◌++◌, ℕ, Bool, true, false, cond, List, [], ◌∷◌, map, Option, refl, ap, ap₂, subst, sym, get_or}
 use Rattle.std.proofs.lemmas.List.Concat.{flat_map-cons}
 use Rattle.std.specs.List.{IsDistinct}
 use Rattle.std.specs.List.Sorted.{IsPermutation}
@@ -25,14 +25,8 @@ use Rattle.rt_text.specs.declared.query.Query.{Query}
 use Rattle.rt_text.specs.declared.query.Query.TheVariants.{CostCount, CostFind, Count, Find, Levels}
 use Rattle.rt_search.specs.Answers.{accepted, answer_cmp, answer_of, answers}
 use Rattle.rt_search.specs.Work.{opened_by_count, opened_by_search}
-use Rattle.rt_text.specs.Words.{is_empty}
-use Rattle.rt_filter.specs.Endings.{Happened, Serves, ServesWith}
-use Rattle.rt_filter.specs.Lines.{numbered_lines}
 use Rattle.rt_filter.specs.Replies.{Loaded, find_reply, judged_line, levels_reply, output, query_reply, reply, tree_of, verdict_of}
 use Rattle.rt_filter.specs.Stages.{loaded_tree}
-use Rattle.rt_filter.specs.declared.serving.ServeFault.{ServeFault}
-use Rattle.rt_filter.specs.declared.serving.ServeFault.TheVariants as serve
-use Rattle.rt_filter.specs.declared.serving.Served.{Served}
 use Rattle.rt_filter.proofs.AnswerLemmas.{answer_cmp_total, tied}
 
 -- ---- which entries are accepted
@@ -107,23 +101,7 @@ module _ (fanout : ℕ) (xs ys : List Entry) (distinct : IsDistinct int_eq (ids_
       ∙ ap₂ (λ (x : List ℕ) (y : List ℕ). x ++ y) (reply_same line.0 (judged_line line.1)) (output-IsPermutation lines)
       ∙ sym (flat_map-cons (λ (l : ℕ × List ℕ). reply other l.0 (judged_line l.1)) line lines)
 
--- ---- what is served over a tree
-
--- what is replied the same is served the same
-serves_same : (one other : Loaded) (what : Happened) (bad : Bool) (cause : Option ServeFault)
-    → ((lines : List (ℕ × List ℕ)) → output other lines ≡ output one lines)
-    → ServesWith one what bad cause → ServesWith other what bad cause
-serves_same one other what bad None same s =
-    (s.0, record { replies = rw (same (numbered_lines what.consumed true)) s.1.replies; faults = s.1.faults })
-serves_same one other what bad (Some serve.Read) same s =
-    record { replies = rw (same (numbered_lines what.consumed false)) s.replies; faults = s.faults }
-serves_same one other what bad (Some serve.Write) same s = record {
-  replies = rw (same (numbered_lines what.consumed (is_empty what.rest))) s.replies;
-  faults = s.faults;
-  earlier = s.earlier;
-  one_pull = s.one_pull;
-  answered = rw (same (numbered_lines (take s.earlier what.consumed) false)) s.answered;
-}
+-- ---- what is replied over a tree
 
 module _ (tree : Packed) (loaded : Loaded) (sound : IsSound tree) (packed : tree ≡ tree_of loaded) where
   fanout_same : tree.fanout ≡ loaded.fanout
@@ -133,15 +111,8 @@ module _ (tree : Packed) (loaded : Loaded) (sound : IsSound tree) (packed : tree
   moved = subst (λ (t : Packed). IsPermutation loaded.entries t.entries) (sym packed)
       (entries-IsPermutation loaded.fanout loaded.entries (subst (λ n. 2 ≤ n) fanout_same sound.several))
 
-  output_same : (lines : List (ℕ × List ℕ)) → output loaded lines ≡ output (loaded_tree tree) lines
+  -- what is replied over a tree is replied over each list of entries whose packed tree it is
+  pub output_same : (lines : List (ℕ × List ℕ)) → output loaded lines ≡ output (loaded_tree tree) lines
   output_same lines =
       output-IsPermutation loaded.fanout loaded.entries tree.entries sound.table.distinct moved lines
       ∙ ap (λ fanout. output (record { entries = tree.entries; fanout = fanout }) lines) (sym fanout_same)
-
-  -- what is served over a tree is served over each list of entries whose packed tree it is
-  pub serves_of_tree : (queries before : List ℕ) (coming written : Option (List ℕ)) (bad : Bool) (fault : Option ServeFault) (served : Served)
-      → served.bad ≡ bad → served.fault ≡ fault
-      → Serves (loaded_tree tree) queries before coming written (record { bad = bad; fault = fault })
-      → Serves loaded queries before coming written served
-  serves_of_tree queries before coming written bad fault served b f s =
-      rw (b, f) (s.0, s.1, serves_same (loaded_tree tree) loaded s.0 bad fault output_same s.2)

@@ -28,10 +28,14 @@ pub record Happened : Type 0 where
 abbrev pub StillTells : (failed : Type 0) → Option (List ℕ) → List ℕ → Type 0
 StillTells failed now bytes = IfSome now (λ known. known ≡ bytes) × (¬ failed → IsSome now)
 
--- the devices tell that this happened: of `queries` those that are still `coming`, and what is `written` after `before`
-abbrev pub Tells : (queries before : List ℕ) (coming written : Option (List ℕ)) (read_failed write_failed : Type 0) → Happened → Type 0
-Tells queries before coming written read_failed write_failed what = (queries ≡ what.consumed ++ what.rest)
-    × StillTells read_failed coming what.rest × StillTells write_failed written (before ++ what.out)
+-- a source that told its bytes, `coming`, tells that some were consumed and the rest are to come
+abbrev pub SourceTells : (failed : Type 0) → (coming now : Option (List ℕ)) → Happened → Type 0
+SourceTells failed coming now what =
+    IfSome coming (λ queries. (queries ≡ what.consumed ++ what.rest) × StillTells failed now what.rest)
+
+-- a sink that told its bytes, `written`, tells that some went out behind them
+abbrev pub SinkTells : (failed : Type 0) → (written now : Option (List ℕ)) → Happened → Type 0
+SinkTells failed written now what = IfSome written (λ before. StillTells failed now (before ++ what.out))
 
 -- at least so many bytes were consumed of those that were to come, where these are told
 abbrev pub ConsumedAtLeast : (count : ℕ) → (old new : Option (List ℕ)) → Type 0
@@ -45,14 +49,14 @@ pub record ServesLines (loaded : Loaded) (what : Happened) (bad ended : Bool) : 
   pub faults : bad ≡ any_fault (numbered_lines what.consumed ended)
 
 -- what went out is a prefix of the replies to what was consumed, which has ended where nothing rests, and has all replies
--- to what was consumed before the last pull, which gives at most a line and its line feed
+-- to some part of it that is at most a line and its line feed shorter
 pub record ServesPrefix (loaded : Loaded) (what : Happened) (bad : Bool) : Type 0 where
   pub replies : StartsWith (output loaded (numbered_lines what.consumed (is_empty what.rest))) what.out
   pub faults : bad ≡ true → any_fault (numbered_lines what.consumed (is_empty what.rest)) ≡ true
-  -- so many bytes were consumed before the last pull
-  pub earlier : ℕ
-  pub one_pull : length what.consumed ≤ earlier + (longest_line + 1)
-  pub answered : StartsWith what.out (output loaded (numbered_lines (take earlier what.consumed) false))
+  -- so many bytes
+  pub answered : ℕ
+  pub shorter : length what.consumed ≤ answered + (longest_line + 1)
+  pub replied : StartsWith what.out (output loaded (numbered_lines (take answered what.consumed) false))
 
 -- how serving ends: all was read, a pull failed or the turns were used up, or a push or a flush failed
 abbrev pub ServesWith : Loaded → Happened → (bad : Bool) → Option ServeFault → Type 0
@@ -60,18 +64,14 @@ ServesWith loaded what bad None = (what.rest ≡ []) × ServesLines loaded what 
 ServesWith loaded what bad (Some serve.Read) = ServesLines loaded what bad false
 ServesWith loaded what bad (Some serve.Write) = ServesPrefix loaded what bad
 
--- what the devices tell happened, and serving ends so
-abbrev pub Serves : Loaded → (queries before : List ℕ) → (coming written : Option (List ℕ)) → Served → Type 0
-Serves loaded queries before coming written served =
-    (what : Happened)
-    × Tells queries before coming written (served.fault ≡ Some serve.Read) (served.fault ≡ Some serve.Write) what
+-- this happened, as far as the devices tell, and serving ends so; a device that told no bytes leaves its part open
+abbrev pub Serves : Loaded → (coming coming' written written' : Option (List ℕ)) → Served → Type 0
+Serves loaded coming coming' written written' served =
+    (what : Happened) × SourceTells (served.fault ≡ Some serve.Read) coming coming' what
+    × SinkTells (served.fault ≡ Some serve.Write) written written' what
     × ServesWith loaded what served.bad served.fault
 
 -- ---- a whole run
-
--- no query was read, and nothing was written
-abbrev pub EndsEarly : Happened → Type 0
-EndsEarly what = (what.consumed ≡ []) × (what.out ≡ [])
 
 -- the table is sound, and serving the queries ended with this fault
 abbrev pub EndsServing : Result Loaded TableFault → Happened → ServeFault → Type 0
@@ -80,15 +80,15 @@ EndsServing loaded what cause = IsOkAnd loaded (λ loaded. (bad : Bool) × Serve
 -- the row of each fault; `run` is the run in which nothing fails outside
 abbrev pub EndsWith : Result Loaded TableFault → (run : Run) → Happened → Outcome → Option RunFault → Type 0
 EndsWith loaded run what outcome None = (what.rest ≡ []) × (run ≡ (what.out, outcome))
-EndsWith loaded run what outcome (Some (Table load.Read)) = EndsEarly what
-EndsWith loaded run what outcome (Some (Table of_text)) = EndsEarly what × (run ≡ (what.out, outcome))
+EndsWith loaded run what outcome (Some (Table load.Read)) = (what.consumed ≡ []) × (what.out ≡ [])
+EndsWith loaded run what outcome (Some (Table of_text)) = (what.consumed ≡ []) × (run ≡ (what.out, outcome))
 EndsWith loaded run what outcome (Some Read) = EndsServing loaded what serve.Read
 EndsWith loaded run what outcome (Some Write) = EndsServing loaded what serve.Write
-EndsWith loaded run what outcome (Some Memory) = EndsEarly what
+EndsWith loaded run what outcome (Some Memory) = (what.consumed ≡ []) × (what.out ≡ [])
 
--- how a run over a table's bytes and these queries may end
-abbrev pub Ends : Choices → (table queries before : List ℕ) → (coming written : Option (List ℕ)) → Outcome → Type 0
-Ends choices table queries before coming written outcome =
-    (what : Happened)
-    × Tells queries before coming written (outcome.fault ≡ Some Read) (outcome.fault ≡ Some Write) what
-    × EndsWith (loaded_of choices table) (run_of choices table queries) what outcome outcome.fault
+-- how a run over a table's bytes may end, as far as source and sink tell
+abbrev pub Ends : Choices → (table : List ℕ) → (coming coming' written written' : Option (List ℕ)) → Outcome → Type 0
+Ends choices table coming coming' written written' outcome =
+    (what : Happened) × SourceTells (outcome.fault ≡ Some Read) coming coming' what
+    × SinkTells (outcome.fault ≡ Some Write) written written' what
+    × EndsWith (loaded_of choices table) (run_of choices table (what.consumed ++ what.rest)) what outcome outcome.fault

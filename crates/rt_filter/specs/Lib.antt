@@ -1,10 +1,12 @@
 pub mod Endings
 pub mod Faults
+pub mod Lending
 pub mod Lines
 pub mod Pushes
 pub mod Replies
 pub mod Reports
 pub mod Runs
+pub mod Sessions
 pub mod Stages
 pub use Rattle.rt_command.specs.Choices
 pub use Rattle.rt_command.specs.Invocations

@@ -1,17 +1,19 @@
 -- What the private stages of a run promise one another. No public contract cites it.
-use Rattle.std.specs.Prelude.{◌≡◌, ◌+◌, ◌<◌, ℕ, List, [], ◌++◌, length, Bool, true, false, Option, Some, None, IfSome, Ok, ⊤}
+use Rattle.std.specs.Prelude.{◌≡◌, ◌+◌, ℕ, List, ◌++◌, Bool, true, false, Option, Some, None, Ok, ⊤}
 use Rattle.std.specs.List.{AllByRecursion, enumerate_from, slice_split}
-use Rattle.std.specs.Io.{StartsWith}
+use Rattle.std.specs.Io.KnownBytes.{Consumes}
 use Rattle.rt_command.specs.Choices.{Choices}
 use Rattle.rt_text.specs.Tables.{IsFaultOf}
+use Rattle.rt_text.specs.Words.{is_empty}
 use Rattle.rt_text.specs.declared.query.Parsed.{Parsed}
 use Rattle.rt_text.specs.declared.query.Parsed.TheVariants as parsed
 use Rattle.rt_text.specs.declared.query.QueryFault.TheVariants as fault
 use Rattle.rt_tree.specs.Packed.{Packed}
-use Rattle.rt_filter.specs.Lines.{is_line_feed, lines_of_parts, longest_line, numbered_lines}
-use Rattle.rt_filter.specs.Pushes.{WentPrefix}
-use Rattle.rt_filter.specs.Replies.{Loaded, any_fault, judged_line, output, tree_of}
+use Rattle.rt_filter.specs.Lines.{completed, is_line_feed, lines_of_parts, longest_line, numbered_lines}
+use Rattle.rt_filter.specs.Pushes.{WasPushed}
+use Rattle.rt_filter.specs.Replies.{Loaded, judged_line, output, tree_of}
 use Rattle.rt_filter.specs.Runs.{loaded_of}
+use Rattle.rt_filter.specs.Sessions.{Heard, heard_of, kept_of}
 use Rattle.rt_filter.specs.declared.filter.RunFault.{RunFault}
 use Rattle.rt_filter.specs.declared.filter.RunFault.TheVariants.{Table, Read, Write, Memory}
 use Rattle.rt_filter.specs.declared.serving.ServeFault.{ServeFault}
@@ -63,58 +65,40 @@ lines_from number bytes ended = enumerate_from (number + 1) (lines_of_parts ende
 abbrev pub HasNoLineFeed : List ℕ → Type 0
 HasNoLineFeed = AllByRecursion (λ c. is_line_feed c ≡ false)
 
--- what a line asks whose beginning was dropped where it is too long
-abbrev pub parsed_line : (is_long : Bool) → List ℕ → Parsed
-parsed_line true line = parsed.Fault fault.LineTooLong
-parsed_line false line = judged_line line
+-- ---- how a line begins that isn't complete
 
--- of these bytes so many lines were answered, and `bad` tells whether one of them is faulty. What stands after them is the
--- rest, before which bytes were dropped where it is too long for a line
-pub record IsAnswering (loaded : Loaded) (bytes before : List ℕ) (lines : ℕ) (bad is_long : Bool) (rest out : List ℕ)
+abbrev pub is_nothing : Option (List ℕ) → Bool
+is_nothing None = false
+is_nothing (Some begun) = is_empty begun
+
+-- more bytes are added
+abbrev pub kept_with : Option (List ℕ) → (more : List ℕ) → Option (List ℕ)
+kept_with None more = None
+kept_with (Some begun) more = kept_of (begun ++ more)
+
+-- what the line asks that these bytes end
+abbrev pub parsed_with : Option (List ℕ) → (end : List ℕ) → Parsed
+parsed_with None end = parsed.Fault fault.LineTooLong
+parsed_with (Some begun) end = judged_line (begun ++ end)
+
+-- ---- sessions
+
+-- how far the queries are answered, and whether anything was pushed since the last flush
+pub record Answering : Type 0 where
+  pub heard : Heard
+  pub is_pushed : Bool
+
+-- of these bytes some are answered, and the rest are to come: whatever was fed before
+pub record IsAnswered (loaded : Loaded) (old now : Heard) (old_out out : Option (List ℕ)) (bytes rest : List ℕ)
     : Type 0 where
-  pub answered : List (ℕ × List ℕ)
-  pub dropped : List ℕ
-  pub splits : (more : List ℕ) (ended : Bool)
-      → numbered_lines (bytes ++ more) ended ≡ answered ++ lines_from lines (dropped ++ (rest ++ more)) ended
-  pub replies : out ≡ before ++ output loaded answered
-  pub faults : bad ≡ any_fault answered
-  pub long : is_long ≡ true → longest_line < length dropped
-  pub short : is_long ≡ false → dropped ≡ []
-  pub clear : HasNoLineFeed dropped
+  pub front : List ℕ
+  pub parts : bytes ≡ front ++ rest
+  pub so : (fed : List ℕ) → old ≡ heard_of fed
+      → (now ≡ heard_of (fed ++ front)) × WasPushed old_out out (output loaded (completed fed front false))
 
--- the bytes that a source and a sink tell, before and after
-pub record Told : Type 0 where
-  -- of the queries that were to come
-  pub queries : List ℕ
-  -- in the sink, before
-  pub before : List ℕ
-  -- of the queries that are still to come
-  pub coming : Option (List ℕ)
-  -- in the sink, now
-  pub written : Option (List ℕ)
-
-abbrev pub told_of : (queries before : List ℕ) → (coming written : Option (List ℕ)) → Told
-told_of queries before coming written =
-    record { queries = queries; before = before; coming = coming; written = written }
-
--- these query bytes were consumed, and the rest are still to come
-abbrev pub Consumed : Told → (consumed rest : List ℕ) → Type 0
-Consumed told consumed rest = (told.coming ≡ Some rest) × (told.queries ≡ consumed ++ rest)
-
--- the queries are answered as far as they were pulled: what is kept is the beginning of the next line
-pub record IsServing (loaded : Loaded) (told : Told) (lines : ℕ) (bad is_long : Bool) (partial : List ℕ) : Type 0 where
+-- the queries are answered as far as they were pulled
+pub record IsServing (loaded : Loaded) (old_coming coming old_out out : Option (List ℕ)) (heard : Heard) : Type 0 where
   pub consumed : List ℕ
-  pub rest : List ℕ
-  pub told_so : Consumed told consumed rest
-  pub out : List ℕ
-  pub written : told.written ≡ Some out
-  pub answering : IsAnswering loaded consumed told.before lines bad is_long partial out
-  pub clear : HasNoLineFeed partial
-
--- a push or a flush failed on the way: what went out is a prefix of the answers to the lines of these bytes, and begins
--- with what had gone out
-pub record IsCut (loaded : Loaded) (lines : List (ℕ × List ℕ)) (before out : List ℕ) (now : Option (List ℕ)) (bad : Bool)
-    : Type 0 where
-  pub written : WentPrefix before now (output loaded lines)
-  pub answered : IfSome now (λ written. StartsWith written out)
-  pub faults : bad ≡ true → any_fault lines ≡ true
+  pub given : Consumes old_coming coming consumed
+  pub so : heard ≡ heard_of consumed
+  pub pushed : WasPushed old_out out (output loaded (numbered_lines consumed false))

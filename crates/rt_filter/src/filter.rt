@@ -1,19 +1,21 @@
 //! A whole run: a table and queries in, answers out.
 
-ghost use Rattle.std.specs.Prelude.{◌≡◌, ◌+◌, ◌-◌, ◌<◌, ◌≤◌, ◌^◌, ◌⊎◌, ◌≢◌, ℕ, List, Some, None, IfOk, IfErr, MatchOption, length, if◌then◌else◌, true, false};
+ghost use Rattle.std.specs.Prelude.{◌≡◌, ◌+◌, ◌-◌, ◌<◌, ◌≤◌, ◌^◌, ◌⊎◌, ◌≢◌, ◌++◌, ℕ, List, Some, None, IfOk, IfErr, MatchOption, length, if◌then◌else◌, true, false};
+ghost use Rattle.rt_device.specs.Devices.{PulledTimes};
 ghost use Rattle.rt_filter.specs.Endings.{Ends, ConsumedAtLeast};
+ghost use Rattle.rt_filter.specs.Runs.{run_of};
 ghost use Rattle.rt_filter.specs.Faults.{run_fault, run_fault_line, status_of};
 ghost use Rattle.rt_filter.specs.Stages.{HasLoaded, Stops, is_of_load, run_fault_of};
 ghost use Rattle.rt_filter.specs.declared.filter.RunFault.{RunFault};
 
 use crate::serving::{ServeFault, Served, serve};
 use rt_command::Settings;
-use rt_device::{Sink, Source};
+use rt_device::{ReadSource, Sink, Source, WriteSink};
 use rt_search::Frontier;
 use rt_text::{Line, TableFault, fault_line, read_table};
 use rt_tree::Tree;
 use std::alloc::{AllocError, Global};
-use std::io::Read;
+use std::io::{Read, Write};
 use thiserror::Error;
 
 /// Why a run ended before all was read and written.
@@ -42,6 +44,46 @@ pub struct Outcome {
     pub fault: Option<RunFault>,
 }
 
+/// The most pulls of the queries: as many as can be counted.
+const TURNS: u64 = u64::MAX;
+
+/// A run over readers and a writer of std, in as many turns as can be counted. Returns the last two as well, as they are
+/// then. It is what the program does with its open files.
+pub fn run_over<T: Read + Drop, Q: Read + Drop, W: Write + Drop>(
+    alloc: Global,
+    settings: &Settings,
+    table: T,
+    queries: Q,
+    answers: W,
+) -> (Outcome, ReadSource<Q>, WriteSink<W>)
+    // As of `run`. Each failure of the reader of the queries or of the writer is reported, and no other; the queries are
+    // given up without one only once all turns are used up.
+    ensures headline { (all asked before : List ℕ) → T.remaining table ≡ Some all
+        → Q.remaining queries ≡ Some asked → W.contents answers ≡ Some before
+        → result.0.fault ≢ Some RunFault.Memory → result.0.fault ≢ Some (RunFault.Table TableFault.Read)
+        → result.1.failures ≡ 0 → result.2.failures ≡ 0 → length asked < 2 ^ 64 - 1
+        → (W.contents result.2.device ≡ Some (before ++ (run_of settings.now all asked).0))
+        × (result.0 ≡ (run_of settings.now all asked).1) }
+    ensures ending { (all : List ℕ) → T.remaining table ≡ Some all → Ends settings.now all
+        (Q.remaining queries) (Q.remaining result.1.device) (W.contents answers) (W.contents result.2.device) result.0 }
+    ensures status { MatchOption result.0.fault (result.0.status ≤ 1) (λ fault. result.0.status ≡ status_of fault) }
+    ensures memory { result.0.fault ≢ Some (RunFault.Table TableFault.Memory) }
+    ensures pushes { (result.0.fault ≡ Some RunFault.Write → result.2.failures ≡ 1)
+        × (result.0.fault ≢ Some RunFault.Write → result.2.failures ≡ 0) }
+    ensures pulls { (result.1.failures ≡ 0)
+        ⊎ ((result.1.failures ≡ 1) × (result.0.fault ≡ Some RunFault.Read)) }
+    ensures turns { result.0.fault ≡ Some RunFault.Read → result.1.failures ≡ 0
+        → ConsumedAtLeast (2 ^ 64 - 1) (Q.remaining queries) (Q.remaining result.1.device) }
+    ensures flushed { result.0.fault ≢ Some RunFault.Write → result.2.waits ≡ false }
+    ensures untouched { (fault : RunFault) → result.0.fault ≡ Some fault → fault ≢ RunFault.Read → fault ≢ RunFault.Write
+        → (result.1.device ≡ queries) × (result.2.device ≡ answers) }
+{
+    let mut source = ReadSource::new(queries);
+    let mut sink = WriteSink::new(answers);
+    let outcome = run(alloc, settings, table, &mut source, &mut sink, TURNS);
+    (outcome, source, sink)
+}
+
 /// Loads the table, and then answers the query lines as [`serve`] does.
 pub fn run<R: Read + Drop, S: Source, K: Sink>(
     alloc: Global,
@@ -54,12 +96,21 @@ pub fn run<R: Read + Drop, S: Source, K: Sink>(
     requires source_count { S.failed source.old < 2 ^ 64 - 1 }
     requires sink_count { K.failed sink.old < 2 ^ 64 - 1 }
 
-    // The headline. Where the three devices tell their bytes and nothing fails, the run ends as `run_of` of the bytes:
-    // what is written, the fault and the status. After a failed push or flush a prefix of that went out, after a failed
-    // pull or used-up turns the replies to the complete lines, and where the load fails, nothing.
-    ensures ending { (table queries before : List ℕ)
-        → R.remaining reader ≡ Some table → S.coming source.old ≡ Some queries → K.written sink.old ≡ Some before
-        → Ends settings.now table queries before (S.coming source.new) (K.written sink.new) result }
+    // The headline. The three devices tell their bytes, no growth was refused while the table was loaded, no read of it
+    // failed, no pull, push or flush failed, and the queries are fewer bytes than the turns.
+    ensures headline { (table queries before : List ℕ) → R.remaining reader ≡ Some table
+        → S.coming source.old ≡ Some queries → K.written sink.old ≡ Some before
+        → result.fault ≢ Some RunFault.Memory → result.fault ≢ Some (RunFault.Table TableFault.Read)
+        → S.failed source.new ≡ S.failed source.old → K.failed sink.new ≡ K.failed sink.old
+        → length queries < turns
+        → (K.written sink.new ≡ Some (before ++ (run_of settings.now table queries).0))
+        × (result ≡ (run_of settings.now table queries).1) }
+
+    // How a run ends, failures included, as far as source and sink tell their bytes. After a failed push or flush a
+    // prefix went out, after a failed pull or used-up turns the replies to the complete lines, and where the load fails,
+    // nothing.
+    ensures ending { (table : List ℕ) → R.remaining reader ≡ Some table → Ends settings.now table
+        (S.coming source.old) (S.coming source.new) (K.written sink.old) (K.written sink.new) result }
 
     // The status is the fault's; without one it is 0 or 1. Want of memory is never told as a fault of the table.
     ensures status { MatchOption result.fault (result.status ≤ 1) (λ fault. result.status ≡ status_of fault) }
@@ -72,6 +123,11 @@ pub fn run<R: Read + Drop, S: Source, K: Sink>(
         ⊎ ((S.failed source.new ≡ S.failed source.old + 1) × (result.fault ≡ Some RunFault.Read)) }
     ensures turns { result.fault ≡ Some RunFault.Read → S.failed source.new ≡ S.failed source.old
         → ConsumedAtLeast turns (S.coming source.old) (S.coming source.new) }
+
+    // No more pulls are made than turns, and so many where they are used up.
+    ensures most { (times : ℕ) × PulledTimes times (S.pulled source.old) (S.pulled source.new) × (times ≤ turns) }
+    ensures used_up { result.fault ≡ Some RunFault.Read → S.failed source.new ≡ S.failed source.old
+        → PulledTimes turns (S.pulled source.old) (S.pulled source.new) }
 
     // What was pushed is flushed, unless a push or a flush failed, or something waited for a flush before.
     ensures flushed { result.fault ≢ Some RunFault.Write → K.waits sink.old ≡ false → K.waits sink.new ≡ false }

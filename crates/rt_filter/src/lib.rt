@@ -9,13 +9,16 @@
 #![tactic(auto)]
 
 mod filter;
+mod line_start;
 mod query;
 mod reply;
 mod serving;
+mod session;
 
-pub use filter::{Outcome, RunFault, run, run_fault_line};
+pub use filter::{Outcome, RunFault, run, run_fault_line, run_over};
 pub use rt_command::{ArgFault, Invocation, Name, Settings, settings_of};
 pub use rt_device::{
     ReadFault, ReadSource, Sink, SliceSink, SliceSource, Source, WriteFault, WriteSink,
 };
 pub use serving::{ServeFault, Served, serve};
+pub use session::{SESSION_ROOM, Session};

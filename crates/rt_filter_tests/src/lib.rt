@@ -12,4 +12,6 @@ mod replies;
 #[cfg(test)]
 mod runs;
 #[cfg(test)]
+mod sessions;
+#[cfg(test)]
 mod turns;

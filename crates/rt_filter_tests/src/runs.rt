@@ -3,9 +3,7 @@
 use crate::expect::expect_eq;
 use crate::given::{BOXES, FIND, FOUND, Given, PLAIN, WITH_HEADER};
 use itoa::Buffer;
-use rt_filter::{
-    Outcome, ReadSource, RunFault, Settings, Sink, Source, WriteSink, run, run_fault_line,
-};
+use rt_filter::{Outcome, RunFault, Settings, Sink, Source, run_fault_line, run_over};
 use rt_text::{Axis, TableFault};
 use std::alloc::{AllocError, Global};
 use std::test::Fail;
@@ -449,25 +447,14 @@ fn tells_faults_in_lines(rt: HostRuntime) {
 fn runs_over_std(rt: HostRuntime) -> Result<(), Fail> {
     let settings = Settings::new(false, 16, 5).ok_or("settings")?;
     let mut out = Vec::new(rt.alloc());
-    let mut source = ReadSource::new(FIND);
-    let mut sink = WriteSink::new(&mut out);
-    let outcome = run(
-        rt.alloc(),
-        &settings,
-        BOXES,
-        &mut source,
-        &mut sink,
-        u64::MAX,
-    );
-    expect_eq(
-        &rt,
-        outcome,
-        Outcome {
-            status: 0,
-            fault: None,
-        },
-    );
-    expect_eq(&rt, (source.failures(), sink.failures()), (0, 0));
+    let (outcome, queries, answers) = run_over(rt.alloc(), &settings, BOXES, FIND, &mut out);
+    let well = Outcome {
+        status: 0,
+        fault: None,
+    };
+    expect_eq(&rt, outcome, well);
+    expect_eq(&rt, (queries.failures(), answers.failures()), (0, 0));
+    drop(answers);
     expect_eq(&rt, out.as_slice(), FOUND);
     Ok(())
 }

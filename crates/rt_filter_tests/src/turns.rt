@@ -159,18 +159,6 @@ fn calls_are<R: Abort + AllocGlobal>(
     expected: &[u8],
     fault: Option<RunFault>,
 ) -> Result<(), Fail> {
-    calls_in_turns_are(rt, pieces, fails_in, u64::MAX, expected, fault)
-}
-
-// The same in so many turns.
-fn calls_in_turns_are<R: Abort + AllocGlobal>(
-    rt: &R,
-    pieces: &[&[u8]],
-    fails_in: u64,
-    turns: u64,
-    expected: &[u8],
-    fault: Option<RunFault>,
-) -> Result<(), Fail> {
     let settings = Settings::new(false, 16, 5).ok_or("settings")?;
     let calls = Calls {
         letters: Cell::new([0; 32]),
@@ -186,7 +174,14 @@ fn calls_in_turns_are<R: Abort + AllocGlobal>(
         fails_in,
         failures: 0,
     };
-    let outcome = run(rt.alloc(), &settings, BOXES, &mut source, &mut sink, turns);
+    let outcome = run(
+        rt.alloc(),
+        &settings,
+        BOXES,
+        &mut source,
+        &mut sink,
+        u64::MAX,
+    );
     let letters = calls.letters.get();
     expect_eq(rt, letters.get(..calls.len.get()), Some(expected));
     expect_eq(rt, outcome.fault, fault);
@@ -223,22 +218,6 @@ fn asks_nothing_of_a_sink_that_failed(rt: HostRuntime) -> Result<(), Fail> {
         calls_are(&rt, &[FIND, b"count all"], fails_in, expected, write)?;
     }
     calls_are(&rt, &[FIND, b"count all"], 6, b"pwwwfppwf", write)
-}
-
-#[test]
-fn pulls_once_a_turn(rt: HostRuntime) -> Result<(), Fail> {
-    let read = Some(RunFault::Read);
-    let ways: [(u64, &[u8], Option<RunFault>); 5] = [
-        (0, b"", read),
-        (1, b"pwwwf", read),
-        (2, b"pwwwfpwf", read),
-        (3, b"pwwwfpwfp", None),
-        (4, b"pwwwfpwfp", None),
-    ];
-    for (turns, expected, fault) in ways {
-        calls_in_turns_are(&rt, &[FIND, b"count all\n"], 0, turns, expected, fault)?;
-    }
-    Ok(())
 }
 
 #[test]

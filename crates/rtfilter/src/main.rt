@@ -1,14 +1,11 @@
 //! Finds boxes of a table: `rtfilter [-H|--header] [--fanout M] [--max-entries N] TABLE [QUERIES]`.
 //!
 //! The words are read, TABLE is opened, QUERIES is opened (standard input where there is none), and then
-//! `rt_filter::run` does the rest, with standard output as its sink.
+//! `rt_filter::run_over` does the rest, with standard output as the writer.
 #![tactic(auto)]
 
-ghost use Rattle.std.specs.Prelude.{◌-◌, ◌<◌, ◌^◌};
-
 use rt_filter::{
-    ArgFault, Invocation, Name, Outcome, ReadSource, RunFault, Settings, Sink, Source, WriteSink,
-    run, run_fault_line, settings_of,
+    ArgFault, Invocation, Name, Outcome, RunFault, Settings, run_fault_line, run_over, settings_of,
 };
 use rt_text::Line;
 use std::env;
@@ -20,9 +17,6 @@ use std::rt::{Env, Files};
 /// What help prints.
 const USAGE: &[u8] =
     b"usage: rtfilter [-H|--header] [--fanout M] [--max-entries N] TABLE [QUERIES]\n";
-
-/// The most pulls of the queries: as many as can be counted.
-const TURNS: u64 = u64::MAX;
 
 /// How many bytes of answers are kept before they are written. They are handed on before each pull in any case.
 const OUTPUT_ROOM: usize = 65_536;
@@ -120,38 +114,28 @@ fn open_and_run<R: Files + Input + Print + AllocGlobal>(rt: &R, invocation: &Inv
         return Ending::NoTable;
     };
     match &invocation.queries {
-        None => run_to_output(
-            rt,
-            &invocation.settings,
-            table,
-            &mut ReadSource::new(rt.reader()),
-        ),
+        None => run_to_output(rt, &invocation.settings, table, rt.reader()),
         Some(queries) => match File::open(rt, queries.text()) {
-            Ok(queries) => run_to_output(
-                rt,
-                &invocation.settings,
-                table,
-                &mut ReadSource::new(queries),
-            ),
+            Ok(queries) => run_to_output(rt, &invocation.settings, table, queries),
             Err(_) => Ending::NoQueries,
         },
     }
 }
 
-// Runs with standard output as the sink, buffered, so that a line is not a system call.
-fn run_to_output<R: Print + AllocGlobal, T: Read + Drop, S: Source>(
+// Runs with standard output as the writer, buffered, so that a line is not a system call.
+fn run_to_output<R: Print + AllocGlobal, T: Read + Drop, Q: Read + Drop>(
     rt: &R,
     settings: &Settings,
     table: T,
-    queries: &mut S,
-) -> Ending
-    requires { S.failed queries.old < 2 ^ 64 - 1 }
-{
-    let Ok(out) = BufWriter::with_capacity(rt.alloc(), OUTPUT_ROOM, io::writer(rt)) else {
-        return Ending::NoMemory;
-    };
-    let mut sink = WriteSink::new(out);
-    Ending::Ran(run(rt.alloc(), settings, table, queries, &mut sink, TURNS))
+    queries: Q,
+) -> Ending {
+    match BufWriter::with_capacity(rt.alloc(), OUTPUT_ROOM, io::writer(rt)) {
+        Ok(answers) => {
+            let (outcome, _, _) = run_over(rt.alloc(), settings, table, queries, answers);
+            Ending::Ran(outcome)
+        }
+        Err(_) => Ending::NoMemory,
+    }
 }
 
 #[cfg(test)]

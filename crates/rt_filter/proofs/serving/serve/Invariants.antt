@@ -1,6 +1,8 @@
-use Rattle.std.proofs.Common.{◌≡◌, ◌*◌, ◌<◌, ◌≤◌, false, length, take, List, ℕ, Some}
+use Rattle.std.proofs.Common.{◌≡◌, ◌*◌, ◌≤◌, false, length}
+use Rattle.rt_device.specs.Devices.{PulledTimes}
 use Rattle.rt_filter.specs.Endings.{ConsumedAtLeast}
-use Rattle.rt_filter.specs.Stages.{IsServing, loaded_tree, most_pulled, told_of}
+use Rattle.rt_filter.specs.Replies.{Loaded, tree_of}
+use Rattle.rt_filter.specs.Stages.{IsServing, most_pulled}
 use Rattle.rt_filter.proofs.serving.serve.Given as goal
 
 -- no call has failed, each turn gave a byte at least, and what was pulled is answered and flushed
@@ -9,12 +11,11 @@ invariant-loop-turn g l = record {
   capacity : length l.tree.entries ≤ l.frontier.capacity;
   source_count : g.S.Source.failed l.source ≡ g.S.Source.failed l.initial.source;
   sink_count : g.K.Sink.failed l.sink ≡ g.K.Sink.failed l.initial.sink;
-  whole : length l.room ≡ most_pulled;
-  short : l.partial < most_pulled;
-  few : l.progress.lines ≤ l._turn * most_pulled;
+  few : l.session.heard.lines ≤ l._turn * most_pulled;
+  pulled : PulledTimes l._turn (g.S.Source.pulled l.initial.source) (g.S.Source.pulled l.source);
   given : ConsumedAtLeast l._turn (g.S.Source.coming l.initial.source) (g.S.Source.coming l.source);
-  serving : (queries before : List ℕ) → g.S.Source.coming l.initial.source ≡ Some queries → g.K.Sink.written l.initial.sink ≡ Some before
-      → IsServing (loaded_tree l.tree) (told_of queries before (g.S.Source.coming l.source) (g.K.Sink.written l.sink))
-      l.progress.lines l.progress.bad l.progress.is_long (take l.partial l.room);
+  serving : (loaded : Loaded) → l.tree ≡ tree_of loaded
+      → IsServing loaded (g.S.Source.coming l.initial.source) (g.S.Source.coming l.source)
+      (g.K.Sink.written l.initial.sink) (g.K.Sink.written l.sink) l.session.heard;
   flushed : g.K.Sink.waits l.initial.sink ≡ false → g.K.Sink.waits l.sink ≡ false;
 }

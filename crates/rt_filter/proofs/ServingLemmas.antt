@@ -1,0 +1,203 @@
+-- One turn after the other, and how serving ends.
+use Rattle.std.proofs.Common.{◌≡◌, ◌∙◌, ◌+◌, ◌≤◌, ℕ, true, false, List, [], ◌++◌, length, take, drop, Option, Some, None, refl, sym, ap, subst, arith, append_assoc, append-nil}
+use Rattle.std.specs.Prelude.{unwrap_or}
+use Rattle.std.specs.Io.{StartsWith}
+use Rattle.std.specs.Io.KnownBytes.{Consumes, IsAtEnd}
+use Rattle.std.proofs.Math.Seq.{take-append_seam}
+use Rattle.std.proofs.lemmas.List.{length-append, length-take-le}
+use Rattle.rt_device.specs.Devices.{IsSameIfTold, PulledTimes}
+use Rattle.rt_text.specs.Words.{is_empty}
+use Rattle.rt_filter.specs.Endings.{ConsumedAtLeast, Happened, Serves, SinkTells, SourceTells}
+use Rattle.rt_filter.specs.Lines.{completed, longest_line, numbered_lines}
+use Rattle.rt_filter.specs.Pushes.{WasCut, WasPushed, WentPrefix}
+use Rattle.rt_filter.specs.Replies.{Loaded, any_fault, output}
+use Rattle.rt_filter.specs.Sessions.{Heard, heard_of}
+use Rattle.rt_filter.specs.Stages.{IsServing}
+use Rattle.rt_filter.specs.declared.serving.ServeFault.TheVariants as serve
+use Rattle.rt_filter.specs.declared.serving.Served.{Served}
+use Rattle.rt_filter.proofs.LineLemmas.{completed-all}
+use Rattle.rt_filter.proofs.PushLemmas.{behind}
+use Rattle.rt_filter.proofs.SessionLemmas.{any_fault-append, or_first, output-append, pushed_same, pushed_then}
+
+-- ---- what a source and a sink tell
+
+pub consumes_none : (old : Option (List ℕ)) → Consumes old old []
+consumes_none None = tt
+consumes_none (Some all) = refl
+
+consumes_more : (old mid new : Option (List ℕ)) (xs ys : List ℕ) → Consumes old mid xs → Consumes mid new ys → Consumes old new (xs ++ ys)
+consumes_more None mid new xs ys h k = tt
+consumes_more (Some all) None new xs ys h k = absurd h
+consumes_more (Some all) (Some left) None xs ys h k = absurd k
+consumes_more (Some all) (Some left) (Some rest) xs ys h k = h ∙ ap (λ zs. xs ++ zs) k ∙ sym (append_assoc xs ys rest)
+
+-- a pull that gave none
+pub no_bytes : (old new : Option (List ℕ)) (n : ℕ) (room : List ℕ) → n ≡ 0 → Consumes old new (take n room) → Consumes old new []
+no_bytes old new n room e h = rw e at h
+
+pub consumed_none : (old : Option (List ℕ)) → ConsumedAtLeast 0 old old
+consumed_none old = ([], consumes_none old, omega arith)
+
+-- a pull gave a byte at least
+pub consumed_more : (count n : ℕ) (room : List ℕ) (old mid new : Option (List ℕ)) → ConsumedAtLeast count old mid → 1 ≤ n → n ≤ length room
+    → Consumes mid new (take n room) → ConsumedAtLeast (count + 1) old new
+consumed_more count n room old mid new h some bound k =
+    (h.0 ++ take n room, consumes_more old mid new h.0 (take n room) h.1 k, omega (arith, some, h.2, length-append h.0 (take n room), length-take-le n room bound))
+
+pub pulled_none : (old : Option ℕ) → PulledTimes 0 old old
+pulled_none None = tt
+pulled_none (Some n) = (n, refl, omega arith)
+
+pub pulled_more : (times : ℕ) (old mid new : Option ℕ) → PulledTimes times old mid → PulledTimes 1 mid new → PulledTimes (times + 1) old new
+pulled_more times old mid None h k = tt
+pulled_more times old None (Some n) h k = absurd (grind (arith, k.1))
+pulled_more times old (Some m) (Some n) h k = (h.0, h.1, by k.1)
+  where
+    by : Some m ≡ Some k.0 → n ≡ h.0 + (times + 1)
+    by e = let same : m ≡ k.0 = cc in omega (arith, same, h.2, k.2)
+
+-- what rests, where it is told
+abbrev pub rest_of : Option (List ℕ) → List ℕ
+rest_of coming = unwrap_or coming []
+
+abbrev pub so_far : (consumed : List ℕ) (coming : Option (List ℕ)) (out : List ℕ) → Happened
+so_far consumed coming out = record { consumed = consumed; rest = rest_of coming; out = out }
+
+pub source_tells : (failed : Type 0) (old now : Option (List ℕ)) (consumed out : List ℕ) → Consumes old now consumed → SourceTells failed old now (so_far consumed now out)
+source_tells failed None now consumed out h = tt
+source_tells failed (Some all) None consumed out h = absurd h
+source_tells failed (Some all) (Some rest) consumed out h = (h, (refl, λ _. refl))
+
+source_failed : (failed : Type 0) → failed → (old mid now : Option (List ℕ)) (consumed out : List ℕ) → Consumes old mid consumed → IsSameIfTold mid now
+    → SourceTells failed old now (so_far consumed mid out)
+source_failed failed f None mid now consumed out h k = tt
+source_failed failed f (Some all) None now consumed out h k = absurd h
+source_failed failed f (Some all) (Some rest) None consumed out h k = (h, (tt, λ other. absurd (other f)))
+source_failed failed f (Some all) (Some rest) (Some left) consumed out h k = (h, (k, λ _. refl))
+
+pub sink_tells : (failed : Type 0) (old now : Option (List ℕ)) (what : Happened) → WasPushed old now what.out → SinkTells failed old now what
+sink_tells failed None now what h = tt
+sink_tells failed (Some before) now what h = rw h (refl, λ _. refl)
+
+-- some went out whole, and of the next bytes a prefix
+record WentOut (failed : Type 0) (old now : Option (List ℕ)) (consumed rest xs ys : List ℕ) : Type 0 where
+  out : List ℕ
+  prefix : StartsWith ys out
+  tells : SinkTells failed old now (record { consumed = consumed; rest = rest; out = xs ++ out })
+
+went_out : (failed : Type 0) → failed → (old mid now : Option (List ℕ)) (consumed rest xs ys : List ℕ) → WasPushed old mid xs → WasCut mid now ys
+    → WentOut failed old now consumed rest xs ys
+went_out failed f None mid now consumed rest xs ys h k = record { out = []; prefix = refl; tells = tt }
+went_out failed f (Some before) mid None consumed rest xs ys h k = record { out = []; prefix = refl; tells = (tt, λ other. absurd (other f)) }
+went_out failed f (Some before) mid (Some written) consumed rest xs ys h k =
+    let w : WentPrefix (before ++ xs) (Some written) ys = rw h at k in
+    record { out = w.0; prefix = w.2; tells = (w.1 ∙ append_assoc before xs w.0, λ _. refl) }
+
+-- ---- prefixes
+
+starts-between : (before xs front back : List ℕ) → StartsWith xs front → StartsWith (before ++ (xs ++ back)) (before ++ front)
+starts-between before xs front back h =
+    let whole : before ++ (xs ++ back) ≡ (before ++ front) ++ (drop (length front) xs ++ back) =
+    ap (λ zs. before ++ (zs ++ back)) (behind xs front h) ∙ ap (λ zs. before ++ zs) (append_assoc front (drop (length front) xs) back)
+    ∙ sym (append_assoc before front (drop (length front) xs ++ back)) in
+    rw whole (take-append_seam (before ++ front) (drop (length front) xs ++ back))
+
+-- ---- serving
+
+pub serving_first : (loaded : Loaded) (coming written : Option (List ℕ)) (heard : Heard) → heard ≡ heard_of [] → IsServing loaded coming coming written written heard
+serving_first loaded coming written heard e = record { consumed = []; given = consumes_none coming; so = e; pushed = pushed_same written }
+
+module _ (loaded : Loaded) (coming0 coming written0 written : Option (List ℕ)) (heard : Heard) (s : IsServing loaded coming0 coming written0 written heard) where
+  abbrev replied : List ℕ
+  replied = output loaded (numbered_lines s.consumed false)
+
+  -- a pull, and its lines answered
+  pub serving_more : (now out : Option (List ℕ)) (more : Heard) (given : List ℕ) → Consumes coming now given → more ≡ heard_of (s.consumed ++ given)
+      → WasPushed written out (output loaded (completed s.consumed given false)) → IsServing loaded coming0 now written0 out more
+  serving_more now out more given h e w = record {
+    consumed = s.consumed ++ given;
+    given = consumes_more coming0 coming now s.consumed given s.given h;
+    so = e;
+    pushed = rw (completed-all s.consumed given false, output-append loaded (numbered_lines s.consumed false)) (pushed_then written0 written out _ _ s.pushed w);
+  }
+
+  -- a failed pull, or turns that are used up
+  pub serves_read : (now : Option (List ℕ)) (served : Served) → IsSameIfTold coming now → served.bad ≡ heard.bad → served.fault ≡ Some serve.Read
+      → Serves loaded coming0 now written0 written served
+  serves_read now served h b f = rw (b, f) (
+    so_far s.consumed coming replied,
+    source_failed (Some serve.Read ≡ Some serve.Read) refl coming0 coming now s.consumed replied s.given h,
+    sink_tells (Some serve.Read ≡ Some serve.Write) written0 written (so_far s.consumed coming replied) s.pushed,
+    record { replies = refl; faults = ap (λ h. h.bad) s.so },
+  )
+
+  -- all was read and written
+  pub serves_all : (now out : Option (List ℕ)) (served : Served) → Consumes coming now [] → IsAtEnd now → WasPushed written out (output loaded (completed s.consumed [] true))
+      → served.bad ≡ any_fault (numbered_lines s.consumed true) → served.fault ≡ None → Serves loaded coming0 now written0 out served
+  serves_all now out served h at w b f =
+      let lines : numbered_lines s.consumed true ≡ numbered_lines s.consumed false ++ completed s.consumed [] true =
+      ap (λ zs. numbered_lines zs true) (sym (append-nil s.consumed)) ∙ completed-all s.consumed [] true in
+      let all : WasPushed written0 out (output loaded (numbered_lines s.consumed true)) =
+      rw (lines, output-append loaded (numbered_lines s.consumed false)) (pushed_then written0 written out _ _ s.pushed w) in
+      rw (b, f) (
+        so_far s.consumed now (output loaded (numbered_lines s.consumed true)),
+        source_tells (None ≡ Some serve.Read) coming0 now s.consumed (output loaded (numbered_lines s.consumed true)) (subst (Consumes coming0 now) (append-nil s.consumed) (consumes_more coming0 coming now s.consumed [] s.given h)),
+        sink_tells (None ≡ Some serve.Write) written0 out (so_far s.consumed now (output loaded (numbered_lines s.consumed true))) all,
+        (ended now at, record { replies = refl; faults = refl }),
+      )
+    where
+      ended : (now : Option (List ℕ)) → IsAtEnd now → rest_of now ≡ []
+      ended None at = refl
+      ended (Some rest) at = at
+
+  -- a push or a flush failed on the way
+  cut_row : (now out : Option (List ℕ)) (served : Served) (given : List ℕ) (lines later : List (ℕ × List ℕ)) → Consumes coming now given → length given ≤ longest_line + 1
+      → WasCut written out (output loaded lines) → numbered_lines (s.consumed ++ given) (is_empty (rest_of now)) ≡ numbered_lines s.consumed false ++ (lines ++ later)
+      → (served.bad ≡ true → any_fault (numbered_lines (s.consumed ++ given) (is_empty (rest_of now))) ≡ true) → served.fault ≡ Some serve.Write
+      → Serves loaded coming0 now written0 out served
+  cut_row now out served given lines later h few cut all b f =
+      let w = went_out (Some serve.Write ≡ Some serve.Write) refl written0 written out (s.consumed ++ given) (rest_of now) replied (output loaded lines) s.pushed cut in
+      rw f (
+        so_far (s.consumed ++ given) now (replied ++ w.out),
+        source_tells (Some serve.Write ≡ Some serve.Read) coming0 now (s.consumed ++ given) (replied ++ w.out) (consumes_more coming0 coming now s.consumed given s.given h),
+        w.tells,
+        record {
+          replies = rw (all, output-append loaded (numbered_lines s.consumed false) (lines ++ later), output-append loaded lines later)
+              (starts-between replied (output loaded lines) w.out (output loaded later) w.prefix);
+          faults = b;
+          answered = length s.consumed;
+          shorter = omega (arith, length-append s.consumed given, few);
+          replied = rw (take-append_seam s.consumed given) (take-append_seam replied w.out);
+        },
+      )
+
+  pub serves_cut : (now out : Option (List ℕ)) (served : Served) (given : List ℕ) → Consumes coming now given → length given ≤ longest_line + 1
+      → WasCut written out (output loaded (completed s.consumed given false))
+      → (served.bad ≡ true → any_fault (numbered_lines (s.consumed ++ given) false) ≡ true) → served.fault ≡ Some serve.Write
+      → Serves loaded coming0 now written0 out served
+  serves_cut now out served given h few cut b f =
+      let ended = is_empty (rest_of now) in
+      let later : List (ℕ × List ℕ) = completed (s.consumed ++ given) [] ended in
+      let more : numbered_lines (s.consumed ++ given) ended ≡ numbered_lines (s.consumed ++ given) false ++ later =
+      ap (λ zs. numbered_lines zs ended) (sym (append-nil (s.consumed ++ given))) ∙ completed-all (s.consumed ++ given) [] ended in
+      cut_row now out served given (completed s.consumed given false) later h few cut
+      (more ∙ ap (λ ls. ls ++ later) (completed-all s.consumed given false) ∙ append_assoc (numbered_lines s.consumed false) (completed s.consumed given false) later)
+      (λ e. rw (more, any_fault-append (numbered_lines (s.consumed ++ given) false)) (or_first (any_fault (numbered_lines (s.consumed ++ given) false)) (any_fault later) (b e))) f
+
+  -- at the end
+  pub serves_cut_at_end : (now out : Option (List ℕ)) (served : Served) → Consumes coming now [] → IsAtEnd now → WasCut written out (output loaded (completed s.consumed [] true))
+      → (served.bad ≡ true → any_fault (numbered_lines s.consumed true) ≡ true) → served.fault ≡ Some serve.Write → Serves loaded coming0 now written0 out served
+  serves_cut_at_end now out served h at cut b f =
+      by now h at
+    where
+      whole : numbered_lines s.consumed true ≡ numbered_lines (s.consumed ++ []) true
+      whole = ap (λ zs. numbered_lines zs true) (sym (append-nil s.consumed))
+
+      all : numbered_lines (s.consumed ++ []) true ≡ numbered_lines s.consumed false ++ (completed s.consumed [] true ++ [])
+      all = completed-all s.consumed [] true ∙ ap (λ ls. numbered_lines s.consumed false ++ ls) (sym (append-nil _))
+
+      by : (now : Option (List ℕ)) → Consumes coming now [] → IsAtEnd now → Serves loaded coming0 now written0 out served
+      by None h at = cut_row None out served [] (completed s.consumed [] true) [] h (omega arith) cut all (λ e. sym (ap any_fault whole) ∙ b e) f
+      by (Some rest) h at =
+          let k : Consumes coming (Some []) [] = rw at at h in
+          rw at (cut_row (Some []) out served [] (completed s.consumed [] true) [] k (omega arith) cut all (λ e. sym (ap any_fault whole) ∙ b e) f)

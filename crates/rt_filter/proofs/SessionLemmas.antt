@@ -1,0 +1,250 @@
+-- What a session has heard, and what it has answered.
+use Rattle.std.proofs.Common.{◌≡◌, ◌∙◌, ◌+◌, ℕ, Bool, true, false, ◌||◌, List, [], ◌∷◌, ◌++◌, length, take, drop, Option, Some, None, refl, sym, ap, subst, arith, append_assoc, append-nil}
+use Rattle.std.specs.Prelude.{nat_lt, Err, MatchResult, Ok, Result}
+use Rattle.std.specs.Io.KnownBytes.{Keeps}
+use Rattle.std.proofs.Math.Bool.{or-false}
+use Rattle.std.proofs.lemmas.Bool.{lt-ltb, ltb-true}
+use Rattle.std.proofs.lemmas.Grind.{flat_map-append}
+use Rattle.std.proofs.lemmas.List.{length-append}
+use Rattle.std.proofs.lemmas.List.Folds.{list_any-append}
+use Rattle.memchr.specs.Find.{IsFirstByte, is_byte}
+use Rattle.rt_device.specs.Devices.{IsSameIfTold}
+use Rattle.rt_filter.specs.Lines.{begun_line, completed, longest_line, numbered_lines}
+use Rattle.rt_filter.specs.Replies.{Loaded, any_fault, is_fault, judged_line, output, reply}
+use Rattle.rt_filter.specs.Pushes.{WasCut, WasPushed}
+use Rattle.rt_filter.specs.Sessions.{Heard, heard_of, kept_of}
+use Rattle.rt_filter.specs.Stages.{HasNoLineFeed, IsAnswered, is_nothing, kept_with, line_feed, lines_from, parsed_with}
+use Rattle.rt_filter.proofs.LineLemmas.{IsCutAt, begun-found, begun-none, completed-all, completed-append, completed-ended, completed-ended_none, completed-found, completed-none, found}
+use Rattle.rt_filter.proofs.PushLemmas.{pushed_cut, pushed_next, pushed_none, pushed_prefix, pushed_whole}
+
+-- ---- how a line begins
+
+-- what is kept of it is of more bytes a line's, or too long already
+kept_more : (begun more : List ℕ) → kept_with (kept_of begun) more ≡ kept_of (begun ++ more)
+kept_more begun more = by (nat_lt longest_line (length begun)) refl
+  where
+    by : (b : Bool) → nat_lt longest_line (length begun) ≡ b → kept_with (kept_of begun) more ≡ kept_of (begun ++ more)
+    by true e =
+        let over : nat_lt longest_line (length (begun ++ more)) ≡ true = lt-ltb longest_line (length (begun ++ more)) (omega (arith, length-append begun more, ltb-true longest_line (length begun) e)) in
+        rw (e, over) refl
+    by false e = rw e refl
+
+kept_parsed : (begun end : List ℕ) → parsed_with (kept_of begun) end ≡ judged_line (begun ++ end)
+kept_parsed begun end = by (nat_lt longest_line (length begun)) refl
+  where
+    by : (b : Bool) → nat_lt longest_line (length begun) ≡ b → parsed_with (kept_of begun) end ≡ judged_line (begun ++ end)
+    by true e =
+        let over : nat_lt longest_line (length (begun ++ end)) ≡ true = lt-ltb longest_line (length (begun ++ end)) (omega (arith, length-append begun end, ltb-true longest_line (length begun) e)) in
+        rw (e, over) refl
+    by false e = rw e refl
+
+kept_some : (x : ℕ) (begun : List ℕ) → is_nothing (kept_of (x ∷ begun)) ≡ false
+kept_some x begun = by (nat_lt longest_line (length (x ∷ begun))) refl
+  where
+    by : (b : Bool) → nat_lt longest_line (length (x ∷ begun)) ≡ b → is_nothing (kept_of (x ∷ begun)) ≡ false
+    by true e = rw e refl
+    by false e = rw e refl
+
+-- ---- replies to some lines and then others
+
+pub output-append : (loaded : Loaded) (xs ys : List (ℕ × List ℕ)) → output loaded (xs ++ ys) ≡ output loaded xs ++ output loaded ys
+output-append loaded xs ys = flat_map-append (λ (line : ℕ × List ℕ). reply loaded line.0 (judged_line line.1)) xs ys
+
+pub any_fault-append : (xs ys : List (ℕ × List ℕ)) → any_fault (xs ++ ys) ≡ (any_fault xs || any_fault ys)
+any_fault-append xs ys = list_any-append (λ (line : ℕ × List ℕ). is_fault (judged_line line.1)) xs ys
+
+pub pushed_then : (old mid new : Option (List ℕ)) (xs ys : List ℕ) → WasPushed old mid xs → WasPushed mid new ys → WasPushed old new (xs ++ ys)
+pushed_then old mid new xs ys h k =
+    pushed_whole (xs ++ ys) old new []
+    (pushed_next (xs ++ ys) ys [] old mid new (rw append-nil (pushed_next (xs ++ ys) xs ys old old mid (pushed_none (xs ++ ys) old) h)) k) refl
+
+pub cut_then : (old mid new : Option (List ℕ)) (xs ys zs : List ℕ) → WasPushed old mid xs → WasCut mid new ys → WasCut old new (xs ++ (ys ++ zs))
+cut_then old mid new xs ys zs h k =
+    pushed_cut (xs ++ (ys ++ zs)) ys zs old mid new (pushed_next (xs ++ (ys ++ zs)) xs (ys ++ zs) old old mid (pushed_none (xs ++ (ys ++ zs)) old) h) k
+
+pub pushed_same : (old : Option (List ℕ)) → WasPushed old old []
+pushed_same old = pushed_whole [] old old [] (pushed_none [] old) refl
+
+-- ---- what was heard
+
+heard_with : (fed : List ℕ) (lines : List (ℕ × List ℕ)) (begun : List ℕ) → numbered_lines fed false ≡ lines → begun_line fed ≡ begun
+    → heard_of fed ≡ record { lines = length lines; bad = any_fault lines; begun = kept_of begun }
+heard_with fed lines begun l b = rw (l, b) refl
+
+pub or_first : (a b : Bool) → a ≡ true → (a || b) ≡ true
+or_first a b h = rw h refl
+
+or_more : (a b c : Bool) → (a || b) ≡ true → (a || (b || c)) ≡ true
+or_more true b c h = refl
+or_more false true c h = refl
+or_more false false c h = grind (arith, h)
+
+module _ (fed line : List ℕ) (clear : HasNoLineFeed line) where
+  abbrev number : ℕ
+  number = length (numbered_lines fed false) + 1
+
+  -- the line that these bytes end, with a line feed
+  one_more : numbered_lines (fed ++ (line ++ line_feed ∷ [])) false ≡ numbered_lines fed false ++ (number, begun_line fed ++ line) ∷ []
+  one_more = completed-all fed (line ++ line_feed ∷ []) false ∙ ap (λ ls. numbered_lines fed false ++ ls) (completed-found fed line [] false clear)
+
+  heard-line : (heard : Heard) → heard ≡ heard_of fed
+      → record { lines = heard.lines + 1; bad = heard.bad || is_fault (parsed_with heard.begun line); begun = Some [] } ≡ heard_of (fed ++ (line ++ line_feed ∷ []))
+  heard-line heard e =
+      let count : heard.lines + 1 ≡ length (numbered_lines fed false ++ (number, begun_line fed ++ line) ∷ []) =
+      ap (λ h. h.lines + 1) e ∙ sym (length-append (numbered_lines fed false) ((number, begun_line fed ++ line) ∷ [])) in
+      let fault : (heard.bad || is_fault (parsed_with heard.begun line)) ≡ any_fault (numbered_lines fed false ++ (number, begun_line fed ++ line) ∷ []) =
+      ap (λ h. h.bad || is_fault (parsed_with h.begun line)) e
+      ∙ ap (λ asked. any_fault (numbered_lines fed false) || is_fault asked) (kept_parsed (begun_line fed) line)
+      ∙ ap (λ b. any_fault (numbered_lines fed false) || b) (sym (or-false _))
+      ∙ sym (any_fault-append (numbered_lines fed false) ((number, begun_line fed ++ line) ∷ [])) in
+      rw (count, fault) (sym (heard_with (fed ++ (line ++ line_feed ∷ [])) _ [] one_more (begun-found fed line clear)))
+
+heard-rest : (fed rest : List ℕ) → HasNoLineFeed rest → (heard : Heard) → heard ≡ heard_of fed
+    → record heard { begun = kept_with heard.begun rest } ≡ heard_of (fed ++ rest)
+heard-rest fed rest clear heard e =
+    let lines : numbered_lines (fed ++ rest) false ≡ numbered_lines fed false =
+    completed-all fed rest false ∙ ap (λ ls. numbered_lines fed false ++ ls) (completed-none fed rest clear) ∙ append-nil _ in
+    rw e (ap (λ begun. record { lines = length (numbered_lines fed false); bad = any_fault (numbered_lines fed false); begun = begun })
+    (kept_more (begun_line fed) rest) ∙ sym (heard_with (fed ++ rest) _ (begun_line fed ++ rest) lines (begun-none fed rest clear)))
+
+-- ---- what was answered
+
+pub answered-none : (loaded : Loaded) (heard : Heard) (out : Option (List ℕ)) (bytes : List ℕ) → IsAnswered loaded heard heard out out bytes bytes
+answered-none loaded heard out bytes = record {
+  front = [];
+  parts = refl;
+  so = λ fed e. (
+    rw append-nil e,
+    subst (λ ls. WasPushed out out (output loaded ls)) (sym (completed-none fed [] tt)) (pushed_same out),
+  );
+}
+
+module _ (loaded : Loaded) (old heard : Heard) (old_out out : Option (List ℕ)) (bytes rest : List ℕ) (s : IsAnswered loaded old heard old_out out bytes rest) where
+  -- a line was answered
+  module _ (n : ℕ) (at : IsFirstByte (is_byte line_feed) rest (Some n)) where
+    abbrev asked : List ℕ
+    asked = reply loaded (heard.lines + 1) (parsed_with heard.begun (take n rest))
+
+    cut : IsCutAt rest (take n rest) (drop (n + 1) rest)
+    cut = found rest n at
+
+    -- the reply is that to the line that is complete now
+    asked-is : (fed : List ℕ) → old ≡ heard_of fed
+        → asked ≡ reply loaded (length (numbered_lines (fed ++ s.front) false) + 1) (judged_line (begun_line (fed ++ s.front) ++ take n rest))
+    asked-is fed e =
+        ap (λ h. reply loaded (h.lines + 1) (parsed_with h.begun (take n rest))) (s.so fed e).0
+        ∙ ap (λ line. reply loaded (length (numbered_lines (fed ++ s.front) false) + 1) line) (kept_parsed (begun_line (fed ++ s.front)) (take n rest))
+
+    pub answered-more : (left : List ℕ) (now : Heard) (gone : Option (List ℕ)) → left ≡ drop (n + 1) rest
+        → now ≡ record { lines = heard.lines + 1; bad = heard.bad || is_fault (parsed_with heard.begun (take n rest)); begun = Some [] }
+        → WasPushed out gone asked → IsAnswered loaded old now old_out gone bytes left
+    answered-more left now gone l e w =
+        let line : List ℕ = take n rest ++ line_feed ∷ [] in
+        let parts : rest ≡ line ++ left = cut.parts ∙ ap (λ zs. take n rest ++ line_feed ∷ zs) (sym l) ∙ sym (append_assoc (take n rest) (line_feed ∷ []) left) in
+        record {
+          front = s.front ++ line;
+          parts = s.parts ∙ ap (λ zs. s.front ++ zs) parts ∙ sym (append_assoc s.front line left);
+          so = λ fed is.
+              let before : List ℕ = fed ++ s.front in
+              let whole : completed fed (s.front ++ line) false ≡ completed fed s.front false ++ (length (numbered_lines before false) + 1, begun_line before ++ take n rest) ∷ [] =
+              completed-append fed s.front line false ∙ ap (λ ls. completed fed s.front false ++ ls) (completed-found before (take n rest) [] false cut.clear) in
+              let both = pushed_then old_out out gone _ _ (s.so fed is).1 w in (
+                e ∙ heard-line before (take n rest) cut.clear heard (s.so fed is).0 ∙ ap heard_of (append_assoc fed s.front line),
+                rw (whole, output-append loaded (completed fed s.front false))
+                    (subst (λ zs. WasPushed old_out gone (output loaded (completed fed s.front false) ++ zs)) (asked-is fed is ∙ sym (append-nil _)) both),
+              );
+        }
+
+    -- the lines of all bytes are those that were answered, this one, and later ones
+    lines-later : (fed : List ℕ) → completed fed bytes false
+        ≡ completed fed s.front false ++ (length (numbered_lines (fed ++ s.front) false) + 1, begun_line (fed ++ s.front) ++ take n rest) ∷ lines_from (length (numbered_lines (fed ++ s.front) false) + 1) (drop (n + 1) rest) false
+    lines-later fed =
+        ap (λ zs. completed fed zs false) (s.parts ∙ ap (λ zs. s.front ++ zs) cut.parts)
+        ∙ completed-append fed s.front (take n rest ++ line_feed ∷ drop (n + 1) rest) false
+        ∙ ap (λ ls. completed fed s.front false ++ ls) (completed-found (fed ++ s.front) (take n rest) (drop (n + 1) rest) false cut.clear)
+
+    -- a line couldn't be answered
+    pub answered-cut : (gone : Option (List ℕ)) → WasCut out gone asked → (fed : List ℕ) → old ≡ heard_of fed → WasCut old_out gone (output loaded (completed fed bytes false))
+    answered-cut gone w fed is =
+        rw (lines-later fed, output-append loaded (completed fed s.front false))
+        (cut_then old_out out gone _ _ _ (s.so fed is).1 (rw (asked-is fed is) at w))
+
+    pub fault-cut : (bad : Bool) → bad ≡ (heard.bad || is_fault (parsed_with heard.begun (take n rest))) → (fed : List ℕ) → old ≡ heard_of fed
+        → bad ≡ true → any_fault (numbered_lines (fed ++ bytes) false) ≡ true
+    fault-cut bad b fed is h =
+        let so : (any_fault (numbered_lines (fed ++ s.front) false) || is_fault (judged_line (begun_line (fed ++ s.front) ++ take n rest))) ≡ true =
+        ap (λ asked. any_fault (numbered_lines (fed ++ s.front) false) || is_fault asked) (sym (kept_parsed (begun_line (fed ++ s.front)) (take n rest)))
+        ∙ ap (λ h. h.bad || is_fault (parsed_with h.begun (take n rest))) (sym (s.so fed is).0) ∙ sym b ∙ h in
+        let whole = ap (λ zs. numbered_lines (fed ++ zs) false) (s.parts ∙ ap (λ zs. s.front ++ zs) cut.parts)
+        ∙ ap (λ zs. numbered_lines zs false) (sym (append_assoc fed s.front (take n rest ++ line_feed ∷ drop (n + 1) rest)))
+        ∙ completed-all (fed ++ s.front) (take n rest ++ line_feed ∷ drop (n + 1) rest) false
+        ∙ ap (λ ls. numbered_lines (fed ++ s.front) false ++ ls) (completed-found (fed ++ s.front) (take n rest) (drop (n + 1) rest) false cut.clear) in
+        rw (whole, any_fault-append (numbered_lines (fed ++ s.front) false)) (or_more (any_fault (numbered_lines (fed ++ s.front) false)) (is_fault (judged_line (begun_line (fed ++ s.front) ++ take n rest))) _ so)
+
+  -- all lines are answered, and how the next begins is kept
+  pub answered-heard : HasNoLineFeed rest → (now : Heard) → now ≡ record heard { begun = kept_with heard.begun rest }
+      → (fed : List ℕ) → old ≡ heard_of fed → now ≡ heard_of (fed ++ bytes)
+  answered-heard clear now e fed is =
+      e ∙ heard-rest (fed ++ s.front) rest clear heard (s.so fed is).0
+      ∙ ap heard_of (append_assoc fed s.front rest ∙ ap (λ zs. fed ++ zs) (sym s.parts))
+
+  pub answered-all : HasNoLineFeed rest → (fed : List ℕ) → old ≡ heard_of fed → WasPushed old_out out (output loaded (completed fed bytes false))
+  answered-all clear fed is =
+      subst (λ ls. WasPushed old_out out (output loaded ls))
+      (sym (ap (λ zs. completed fed zs false) s.parts ∙ completed-append fed s.front rest false
+      ∙ ap (λ ls. completed fed s.front false ++ ls) (completed-none (fed ++ s.front) rest clear) ∙ append-nil _))
+      (s.so fed is).1
+
+-- a session that has heard of a faulty line was fed one
+pub fault-kept : (heard : Heard) (fed : List ℕ) → heard ≡ heard_of fed → heard.bad ≡ true → any_fault (numbered_lines fed false) ≡ true
+fault-kept heard fed e h = sym (ap (λ h. h.bad) e) ∙ h
+
+-- ---- a flush
+
+kept : (xs : List ℕ) (new : Option (List ℕ)) → Keeps (Some xs) new → new ≡ Some xs
+kept xs None h = absurd h
+kept xs (Some ys) h = ap (λ zs. Some zs) h
+
+pub pushed_kept : (old mid new : Option (List ℕ)) (bytes : List ℕ) → WasPushed old mid bytes → Keeps mid new → WasPushed old new bytes
+pushed_kept None mid new bytes w k = tt
+pushed_kept (Some xs) mid new bytes w k = kept (xs ++ bytes) new (rw w at k)
+
+pub pushed_lost : (old mid new : Option (List ℕ)) (bytes : List ℕ) → WasPushed old mid bytes → IsSameIfTold mid new → WasCut old new bytes
+pushed_lost old mid new bytes w k =
+    pushed_prefix bytes old mid new [] (pushed_next bytes bytes [] old old mid (rw append-nil (pushed_none bytes old)) w) k
+
+-- ---- the end
+
+-- nothing stands behind the last line feed
+pub ended-none : (heard : Heard) → is_nothing heard.begun ≡ true → (fed : List ℕ) → heard ≡ heard_of fed → completed fed [] true ≡ []
+ended-none heard h fed e = by (begun_line fed) refl (sym (ap (λ h. is_nothing h.begun) e) ∙ h)
+  where
+    by : (begun : List ℕ) → begun_line fed ≡ begun → is_nothing (kept_of (begun_line fed)) ≡ true → completed fed [] true ≡ []
+    by [] b k = completed-ended_none fed b
+    by (x ∷ begun) b k = absurd (grind (arith, k, kept_some x begun, b))
+
+-- something does
+pub ended-some : (heard : Heard) → is_nothing heard.begun ≡ false → (fed : List ℕ) → heard ≡ heard_of fed → completed fed [] true ≡ completed fed (line_feed ∷ []) false
+ended-some heard h fed e = by (begun_line fed) refl (sym (ap (λ h. is_nothing h.begun) e) ∙ h)
+  where
+    by : (begun : List ℕ) → begun_line fed ≡ begun → is_nothing (kept_of (begun_line fed)) ≡ false → completed fed [] true ≡ completed fed (line_feed ∷ []) false
+    by [] b k = absurd (grind (arith, (rw b at k)))
+    by (x ∷ begun) b k = completed-ended fed x begun b
+
+-- all lines, those that the end completes with them
+ended-lines : (fed : List ℕ) → numbered_lines fed true ≡ numbered_lines fed false ++ completed fed [] true
+ended-lines fed = ap (λ zs. numbered_lines zs true) (sym (append-nil fed)) ∙ completed-all fed [] true
+
+pub ended-lines_none : (heard : Heard) → is_nothing heard.begun ≡ true → (fed : List ℕ) → heard ≡ heard_of fed → numbered_lines fed true ≡ numbered_lines fed false
+ended-lines_none heard h fed e = ended-lines fed ∙ ap (λ ls. numbered_lines fed false ++ ls) (ended-none heard h fed e) ∙ append-nil _
+
+pub ended-lines_some : (heard : Heard) → is_nothing heard.begun ≡ false → (fed : List ℕ) → heard ≡ heard_of fed → numbered_lines fed true ≡ numbered_lines (fed ++ line_feed ∷ []) false
+ended-lines_some heard h fed e =
+    ended-lines fed ∙ ap (λ ls. numbered_lines fed false ++ ls) (ended-some heard h fed e) ∙ sym (completed-all fed (line_feed ∷ []) false)
+
+-- whether one of the lines is faulty, as far as it is known after a call
+pub ended-bad : {T E : Type 0} (r : Result T E) (heard : Heard) (fed : List ℕ)
+    → MatchResult r (λ _. heard ≡ heard_of fed) (λ _. heard.bad ≡ true → any_fault (numbered_lines fed false) ≡ true)
+    → MatchResult r (λ _. heard.bad ≡ any_fault (numbered_lines fed false)) (λ _. heard.bad ≡ true → any_fault (numbered_lines fed false) ≡ true)
+ended-bad (Ok x) heard fed h = ap (λ h. h.bad) h
+ended-bad (Err e) heard fed h = h

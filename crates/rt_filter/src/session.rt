@@ -1,0 +1,269 @@
+//! A session: query bytes as they come, each line answered as soon as it is complete.
+
+ghost use Rattle.std.specs.Prelude.{◌≡◌, ◌+◌, ◌-◌, ◌||◌, ◌<◌, ◌≤◌, ◌^◌, ◌++◌, ℕ, List, [], Some, IfOk, IfSome, OnOk, OnErr, MatchResult, length, take, false, true};
+ghost use Rattle.std.specs.Io.{StartsWith};
+ghost use Rattle.std.specs.Io.KnownBytes.{Keeps};
+ghost use Rattle.std.specs.Borrow.{sem};
+ghost use Rattle.rt_device.specs.Devices.{IsSameIfTold};
+ghost use Rattle.rt_filter.specs.Lines.{completed, longest_line, numbered_lines};
+ghost use Rattle.rt_filter.specs.Pushes.{CountsFailure, Pushed};
+ghost use Rattle.rt_filter.specs.Replies.{Loaded, any_fault, is_fault, output, reply, tree_of};
+ghost use Rattle.rt_filter.specs.Sessions.{heard_of};
+ghost use Rattle.rt_filter.specs.Stages.{loaded_tree, parsed_with};
+
+use crate::line_start::{LONGEST_LINE, LineStart};
+use crate::query::push_reply;
+use crate::reply::push_line;
+use memchr::memchr;
+use rt_device::{Sink, WriteFault};
+use rt_search::Frontier;
+use rt_text::{Parsed, error_line};
+use rt_tree::Tree;
+use std::marker::Model;
+
+/// How many bytes a session has room for at a time: those of the longest line and its line feed.
+pub const SESSION_ROOM: usize = LONGEST_LINE + 1;
+
+/// The byte that ends a line.
+const LINE_FEED: u8 = b'\n';
+
+/// Query bytes as they come, each line answered as soon as it is complete.
+///
+/// For whoever reads by himself: put the next bytes at the front of [`Session::room`], and tell [`Session::answer`] how
+/// many they are; once no more come, [`Session::end`] answers what stands behind the last line feed. What a session has
+/// heard is a function of the bytes that it was fed, however they were cut. No memory is taken.
+#[derive(Drop)]
+pub struct Session {
+    room: [u8; SESSION_ROOM],
+    progress: Progress,
+}
+
+impl Model for Session {
+    ghost use Rattle.rt_filter.specs.Sessions.{Hearing};
+
+    ghost Value = { Hearing };
+
+    ghost view = { λ s. record { heard = s.progress.heard; room = s.room } };
+}
+
+// How far the queries are answered.
+#[derive(Drop)]
+struct Progress {
+    // How many lines were answered.
+    lines: u128,
+    // Whether one of them is faulty.
+    bad: bool,
+    // How the next one begins.
+    begun: LineStart,
+    // Whether anything was pushed since the last flush.
+    is_pushed: bool,
+}
+
+impl Model for Progress {
+    ghost use Rattle.rt_filter.specs.Stages.{Answering};
+
+    ghost Value = { Answering };
+
+    ghost view = { λ s. record {
+      heard = record { lines = s.lines; bad = s.bad; begun = s.begun };
+      is_pushed = s.is_pushed;
+    } };
+}
+
+impl Session {
+    ghost use Rattle.rt_filter.specs.Lending.{LendsRoom};
+
+    /// A session that was fed nothing.
+    pub fn new() -> Session
+        ensures { result.heard ≡ heard_of [] }
+    {
+        Session {
+            room: [0; SESSION_ROOM],
+            progress: Progress {
+                lines: 0,
+                bad: false,
+                begun: LineStart::new(),
+                is_pushed: false,
+            },
+        }
+    }
+
+    /// The room for the next bytes.
+    pub fn room(&mut self) -> &mut [u8; SESSION_ROOM]
+        ensures* writes_back { sem 𝓛 (LendsRoom self.entry result) }
+        ensures room { result.now ≡ self.old.room }
+    {
+        &mut self.room
+    }
+
+    /// Whether some line that was answered is faulty.
+    pub fn is_bad(&self) -> bool
+        ensures value { result ≡ self.now.heard.bad }
+        ensures faults { (fed : List ℕ) → self.now.heard ≡ heard_of fed
+            → result ≡ any_fault (numbered_lines fed false) }
+    {
+        self.progress.bad
+    }
+
+    /// Feeds the first `n` bytes of the room: pushes the replies to the lines that they complete, and flushes if there are
+    /// any. Returns the frontier. After a push or a flush that failed, a prefix of these replies went out.
+    pub fn answer<K: Sink>(
+        &mut self,
+        tree: &Tree,
+        frontier: Frontier,
+        n: usize,
+        sink: &mut K,
+    ) -> Result<Frontier, WriteFault>
+        requires filled { n ≤ length self.old.room }
+        requires room { length tree.now.entries ≤ frontier.capacity }
+        requires count { K.failed sink.old < 2 ^ 64 - 1 }
+        requires few { self.old.heard.lines + n < 2 ^ 128 }
+
+        // Over any entries whose packed tree this is, and whatever was fed before.
+        ensures replies { (loaded : Loaded) → tree.now ≡ tree_of loaded
+            → (fed : List ℕ) → self.old.heard ≡ heard_of fed
+            → IfSome (K.written sink.old) (λ before. MatchResult result
+            (λ _. K.written sink.new
+            ≡ Some (before ++ output loaded (completed fed (take n self.old.room) false)))
+            (λ _. IfSome (K.written sink.new) (λ written. StartsWith written before
+            × StartsWith (before ++ output loaded (completed fed (take n self.old.room) false)) written))) }
+        ensures heard { (fed : List ℕ) → self.old.heard ≡ heard_of fed → MatchResult result
+            (λ _. self.new.heard ≡ heard_of (fed ++ take n self.old.room))
+            (λ _. self.new.heard.bad ≡ true
+            → any_fault (numbered_lines (fed ++ take n self.old.room) false) ≡ true) }
+
+        ensures failures { MatchResult result (λ _. K.failed sink.new ≡ K.failed sink.old)
+            (λ _. K.failed sink.new ≡ K.failed sink.old + 1) }
+        ensures few { self.new.heard.lines ≤ self.old.heard.lines + n }
+        ensures flushed { OnOk result (K.waits sink.old ≡ false → K.waits sink.new ≡ false) }
+        ensures capacity { IfOk result (λ left. left.capacity ≡ frontier.capacity) }
+    {
+        // (called, so that it is known that the tree is the packed one of its own entries)
+        let _most = tree.len();
+        self.progress.answer(tree, frontier, &self.room[..n], sink)
+    }
+
+    /// Answers what stands behind the last line feed, if anything does, as a line, and flushes: no more bytes come.
+    pub fn end<K: Sink>(
+        &mut self,
+        tree: &Tree,
+        frontier: Frontier,
+        sink: &mut K,
+    ) -> Result<Frontier, WriteFault>
+        requires room { length tree.now.entries ≤ frontier.capacity }
+        requires count { K.failed sink.old < 2 ^ 64 - 1 }
+        requires few { self.old.heard.lines + 1 < 2 ^ 128 }
+        ensures replies { (loaded : Loaded) → tree.now ≡ tree_of loaded
+            → (fed : List ℕ) → self.old.heard ≡ heard_of fed
+            → IfSome (K.written sink.old) (λ before. MatchResult result
+            (λ _. K.written sink.new ≡ Some (before ++ output loaded (completed fed [] true)))
+            (λ _. IfSome (K.written sink.new) (λ written. StartsWith written before
+            × StartsWith (before ++ output loaded (completed fed [] true)) written))) }
+        ensures bad { (fed : List ℕ) → self.old.heard ≡ heard_of fed → MatchResult result
+            (λ _. self.new.heard.bad ≡ any_fault (numbered_lines fed true))
+            (λ _. self.new.heard.bad ≡ true → any_fault (numbered_lines fed true) ≡ true) }
+        ensures failures { MatchResult result (λ _. K.failed sink.new ≡ K.failed sink.old)
+            (λ _. K.failed sink.new ≡ K.failed sink.old + 1) }
+        ensures flushed { OnOk result (K.waits sink.old ≡ false → K.waits sink.new ≡ false) }
+        ensures capacity { IfOk result (λ left. left.capacity ≡ frontier.capacity) }
+    {
+        // (called, so that it is known that the tree is the packed one of its own entries)
+        let _most = tree.len();
+        if self.progress.begun.is_empty() {
+            return Ok(frontier);
+        }
+        // (it is answered as if a line feed ended it)
+        self.progress.answer(tree, frontier, &[LINE_FEED], sink)
+    }
+}
+
+impl Progress {
+    // Answers the lines that these bytes complete, keeps how the next one begins, and flushes.
+    fn answer<K: Sink>(
+        &mut self,
+        tree: &Tree,
+        frontier: Frontier,
+        bytes: &[u8],
+        sink: &mut K,
+    ) -> Result<Frontier, WriteFault>
+        requires room { length tree.now.entries ≤ frontier.capacity }
+        requires count { K.failed sink.old < 2 ^ 64 - 1 }
+        requires few { self.old.heard.lines + length bytes.now < 2 ^ 128 }
+        ensures replies { (fed : List ℕ) → self.old.heard ≡ heard_of fed
+            → Pushed K.written K.failed sink.old sink.new result
+            (output (loaded_tree tree.now) (completed fed bytes.now false)) }
+        ensures heard { (fed : List ℕ) → self.old.heard ≡ heard_of fed → MatchResult result
+            (λ _. self.new.heard ≡ heard_of (fed ++ bytes.now))
+            (λ _. self.new.heard.bad ≡ true
+            → any_fault (numbered_lines (fed ++ bytes.now) false) ≡ true) }
+        ensures failures { CountsFailure result (K.failed sink.old) (K.failed sink.new) }
+        ensures few { self.new.heard.lines ≤ self.old.heard.lines + length bytes.now }
+        ensures flushed { OnOk result (K.waits sink.old ≡ false → K.waits sink.new ≡ false) }
+        ensures capacity { IfOk result (λ left. left.capacity ≡ frontier.capacity) }
+    {
+        let mut frontier = frontier;
+        let mut rest = bytes;
+        while let Some(end) = memchr(LINE_FEED, rest) {
+            frontier = self.answer_line(tree, frontier, &rest[..end], sink)?;
+            rest = &rest[end + 1..];
+        }
+        self.begun.push(rest);
+        self.flush(sink)?;
+        Ok(frontier)
+    }
+
+    // Answers the line that these bytes end. Where nothing is pushed, the sink is left alone.
+    fn answer_line<K: Sink>(
+        &mut self,
+        tree: &Tree,
+        frontier: Frontier,
+        end: &[u8],
+        sink: &mut K,
+    ) -> Result<Frontier, WriteFault>
+        requires room { length tree.now.entries ≤ frontier.capacity }
+        requires count { K.failed sink.old < 2 ^ 64 - 1 }
+        requires few { self.old.heard.lines + 1 < 2 ^ 128 }
+        ensures pushed { Pushed K.written K.failed sink.old sink.new result
+            (reply (loaded_tree tree.now) (self.old.heard.lines + 1) (parsed_with self.old.heard.begun end.now)) }
+        ensures heard { self.new.heard ≡ record {
+          lines = self.old.heard.lines + 1;
+          bad = self.old.heard.bad || is_fault (parsed_with self.old.heard.begun end.now);
+          begun = Some [];
+        } }
+        ensures capacity { IfOk result (λ left. left.capacity ≡ frontier.capacity) }
+        ensures untouched { self.new.is_pushed ≡ false → (self.old.is_pushed ≡ false) × (sink.new ≡ sink.old) }
+    {
+        let parsed = self.begun.parse(end);
+        self.lines += 1;
+        match parsed {
+            Parsed::Skip => Ok(frontier),
+            Parsed::Query(query) => {
+                self.is_pushed = true;
+                push_reply(tree, frontier, self.lines, query, sink)
+            }
+            Parsed::Fault(fault) => {
+                self.is_pushed = true;
+                self.bad = true;
+                push_line(&error_line(self.lines, fault), sink)?;
+                Ok(frontier)
+            }
+        }
+    }
+
+    // Hands on what was pushed, if anything was.
+    fn flush<K: Sink>(&mut self, sink: &mut K) -> Result<(), WriteFault>
+        requires { K.failed sink.old < 2 ^ 64 - 1 }
+        ensures bytes { OnOk result (Keeps (K.written sink.old) (K.written sink.new)) }
+        ensures flushed { OnOk result ((self.old.is_pushed ≡ false → K.waits sink.old ≡ false)
+            → K.waits sink.new ≡ false) }
+        ensures lost { OnErr result (IsSameIfTold (K.written sink.old) (K.written sink.new)) }
+        ensures failures { CountsFailure result (K.failed sink.old) (K.failed sink.new) }
+        ensures heard { self.new.heard ≡ self.old.heard }
+    {
+        if self.is_pushed {
+            sink.flush()?;
+            self.is_pushed = false;
+        }
+        Ok(())
+    }
+}
