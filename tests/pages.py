@@ -7,7 +7,8 @@ In README.md, docs/*.md and the manual page a console example is a command after
 what it prints. One is tried where each of its lines calls `rtfilter` or `cat`, in a folder with the files of examples/.
 A block that names tools behind `console` is a recipe, which tests/recipes tries. A row of a table with the columns `line`
 and `reply` is a run with that line alone over boxes.csv, or over the table that the head of the column names, perhaps with
-options in front of it. The last line is `N passed, M failed`.
+options in front of it. The logic that pages say all is proved with is that of `rt version`, where `rt` is there. The last
+line is `N passed, M failed`.
 """
 
 import os
@@ -76,6 +77,21 @@ def printed(command, folder, path):
     return done.stdout.decode(errors="replace")
 
 
+def logics(text):
+    """The logics of the toolchain that a text names."""
+    return set(re.findall(r"\blogic ([0-9a-f]{16})\b", text))
+
+
+def names_of_the_logic():
+    """The pages that name a logic, each with those that it names, and the toolchain's own; none where it isn't here."""
+    if shutil.which("rt") is None:
+        print("skipped: the logic that the pages name, since rt isn't on the path")
+        return
+    own = logics(subprocess.run(["rt", "version"], capture_output=True, text=True, timeout=60).stdout)
+    for page in [ROOT / "README.md", ROOT / "docs/PROVED.md"]:
+        yield page, "the logic of rt version", logics(page.read_text(encoding="utf-8")), own
+
+
 def main():
     passed = failed = 0
     with tempfile.TemporaryDirectory() as room:
@@ -83,8 +99,8 @@ def main():
         shutil.copytree(ROOT / "examples", folder)
         path.mkdir()
         (path / "rtfilter").symlink_to(Path(sys.argv[1]).resolve())
-        for page, command, shown in examples():
-            found = printed(command, folder, path)
+        outcomes = ((page, command, shown, printed(command, folder, path)) for page, command, shown in examples())
+        for page, command, shown, found in [*outcomes, *names_of_the_logic()]:
             if found == shown:
                 passed += 1
             else:
