@@ -8,7 +8,7 @@ those that these name, and so on. A line counts unless it is blank, a comment, a
   Its contract is its clauses. What a trait asks of a type, what a type says of itself as one, and what it is seen as
   count as well. The view and the invariant of a type don't: they speak of its fields, which no caller sees.
 - What the headline reaches, which is one clause of one call, is told beside what all of them reach.
-- What only SAID_AGAIN reaches is told apart: it follows from what other clauses say.
+- What only SAID_AGAIN reaches is told apart: it follows from what other clauses say, or nobody has to know it.
 - Lemmas, in `specs/Lemmas`, are proved: nobody has to believe them. Types that the code declares are read there.
 
 Run from anywhere: `python3 tools/definitions.py`. `--names` tells the definitions one by one. `--check` fails where
@@ -27,14 +27,16 @@ CRATES = ROOT / "crates"
 MOST_LINES = {"contracts": 912, "headline": 700}
 
 # The headline: its crate, its call and its clause.
-HEADLINE = ("rt_filter", "run", "ending")
+HEADLINE = ("rt_filter", "run", "headline")
 
 # That a tree is sound follows from its being the packed tree of its entries, and what a polygon's state says of points
-# from the state.
+# from the state. What a session has heard is only handed from call to call: any function of the bytes would do.
 SAID_AGAIN = {
     ("rt_tree", "Packed", "IsSound"),
     ("rt_geo", "Polygons", "HoldsEachPoint"),
+    ("rt_geo", "Polygons", "SharesNoPoint"),
     ("rt_geo", "Polygons", "SharesPoint"),
+    ("rt_filter", "Sessions", "heard_of"),
 }
 
 IMPORT = re.compile(r"^ *(?:ghost )?use Rattle\.(\w+)\.specs\.([A-Z]\w*)(.*?);?$", re.MULTILINE)
@@ -42,7 +44,7 @@ HANDED_ON = re.compile(r"^pub use (?:\w+::)+(\w+|\{[^}]*\});", re.MULTILINE)
 ITEM = re.compile(r"(?:pub )?(?:(?P<kind>fn|trait)|impl(?:<.*?>)?(?: (?P<of>\w+)\S* for)?) (?P<name>\w+)")
 TRAIT = re.compile(r"^(?:pub\S* )?trait (\w+)", re.MULTILINE)
 MEMBER = re.compile(r"(?P<pub>pub )?(?:fn|ghost) (?P<name>\w+)")
-CLAUSE = re.compile(r"(?:(?:requires|ensures)(?: (?P<name>\w+))?|ghost (?!view\b|invariant\b)\w+(?::| =)) (?=\{)")
+CLAUSE = re.compile(r"(?:(?:requires|ensures)\*?(?: (?P<name>\w+))?|ghost (?!view\b|invariant\b)\w+(?::| =)) (?=\{)")
 DEFINITION = re.compile(r"(?:(?:abbrev|unfoldable|pub|record) )+(\S+) ")
 UNCOUNTED = re.compile(r" *(?:--.*|(?:pub )?use .*|infix.*)?$")
 NAME = re.compile(r"(?<![^\s(){},;])[^\s(){}.,;]+")
