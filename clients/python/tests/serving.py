@@ -22,17 +22,31 @@ class Service:
         self._listener = socket.socket(socket.AF_UNIX)
         self._listener.bind(str(path))
         self._listener.listen(backlog)
+        self._beginning = threading.Lock()
         self._thread = threading.Thread(target=self._accept)
 
     def _accept(self) -> None:
         with contextlib.suppress(OSError):
             while True:
                 connection, _ = self._listener.accept()
-                self.connections.append(connection)
-                command = [PROGRAM, str(self.table)]
-                self.programs.append(subprocess.Popen(command, stdin=connection, stdout=connection, stderr=subprocess.DEVNULL))
+                with self._beginning:
+                    self._begin(connection)
+
+    def _begin(self, connection: socket.socket) -> None:
+        self.connections.append(connection)
+        command = [PROGRAM, str(self.table)]
+        self.programs.append(subprocess.Popen(command, stdin=connection, stdout=connection, stderr=subprocess.DEVNULL))
+
+    def process(self) -> int:
+        """The process that answers the first connection. Its answer may come before it is known here."""
+        with self._beginning:
+            return self.programs[0].pid
 
     def end_connections(self) -> None:
+        with self._beginning:
+            self._end_connections()
+
+    def _end_connections(self) -> None:
         for program in self.programs:
             program.kill()
             program.wait()

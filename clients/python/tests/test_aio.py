@@ -217,7 +217,7 @@ class Lives(Case):
                 service.end_connections()
                 self.assertEqual(await asyncio.gather(*(boxes.count(All()) for _ in range(20))), [5] * 20)
                 self.assertEqual(len(service.connections), 1)
-                os.kill(service.programs[0].pid, signal.SIGSTOP)
+                os.kill(service.process(), signal.SIGSTOP)
                 asked = asyncio.create_task(boxes.count(All()))
                 await asyncio.sleep(0.05)
                 service.end_connections()

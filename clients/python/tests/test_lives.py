@@ -414,7 +414,7 @@ class Connections(Case):
 
     def test_one_under_way_is_not_asked_again(self) -> None:
         with Service(self.folder / "socket") as service, Rtfilter(address=service.path) as boxes:
-            stop(service.programs[0].pid)
+            stop(service.process())
             with self.under_way(lambda: boxes.count(All())) as raised:
                 service.end_connections()
             self.assertIsInstance(raised[0], Disconnected)
@@ -423,7 +423,7 @@ class Connections(Case):
 
     def test_after_no_answer_in_time(self) -> None:
         with Service(self.folder / "socket") as service, Rtfilter(address=service.path, timeout=0.5) as boxes:
-            stop(service.programs[0].pid)
+            stop(service.process())
             with self.assertRaises(TimedOut):
                 boxes.count(All())
             self.assertEqual(boxes.count(All()), 5)
@@ -553,7 +553,7 @@ class Closes(Case):
     def test_by_address(self) -> None:
         with Service(self.folder / "socket") as service:
             boxes = Rtfilter(address=service.path)
-            stop(service.programs[0].pid)
+            stop(service.process())
             with self.under_way(lambda: boxes.count(All())) as raised, self.at_once():
                 boxes.close()
             self.assertIsInstance(raised[0], ValueError)
