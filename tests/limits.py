@@ -9,6 +9,7 @@ loaded, no more bytes each than BYTES_A_BOX says. Answers are handed on in piece
 their writes are looked at. The last line is `N passed, M failed`.
 """
 
+import contextlib
 import os
 import re
 import resource
@@ -48,8 +49,9 @@ def fed(program, words, pieces):
     with subprocess.Popen(
         [program, *words], stdin=subprocess.PIPE, stdout=subprocess.PIPE, stderr=subprocess.PIPE
     ) as process:
-        for piece in pieces:
-            process.stdin.write(piece)
+        with contextlib.suppress(BrokenPipeError):  # it has ended already, as its status tells
+            for piece in pieces:
+                process.stdin.write(piece)
         out, errors = process.communicate(timeout=SECONDS)
     return process.returncode, out, errors
 

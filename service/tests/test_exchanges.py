@@ -1,5 +1,6 @@
 """Another table beside the one that answers: each connection has one of them, for as long as it lives."""
 
+import contextlib
 import os
 import signal
 import socket
@@ -258,7 +259,8 @@ class Exchanges(Case):
             try:
                 for at in range(10):
                     for victim in service.programs[:1]:
-                        os.kill(victim, signal.SIGKILL)
+                        with contextlib.suppress(ProcessLookupError):  # it has just ended by itself
+                            os.kill(victim, signal.SIGKILL)
                     until(lambda: self.is_answered(service), "an answer")
                 service.signal(signal.SIGTERM)
                 until(lambda: service.process.poll() is not None, "the end of the service")
