@@ -91,7 +91,7 @@ reference:
 SHARE := $(DESTDIR)$(PREFIX)/share
 LIBRARY := $(DESTDIR)$(PREFIX)/lib/rtfilter
 UNITS := $(DESTDIR)$(PREFIX)/lib/systemd/system
-SERVICE := serve.py service.py listening.py health.py prefork.py
+SERVICE := $(addprefix service/,serve.py service.py listening.py health.py) clients/python/rtfilter/prefork.py
 COMPLETION := $(SHARE)/bash-completion/completions/rtfilter
 
 # The service too, where there is a C compiler.
@@ -101,7 +101,7 @@ install: $(PROGRAM) $(PREFORK)
 	install -D -m 644 packaging/rtfilter.bash "$(COMPLETION)"
 ifdef PREFORK
 	install -d "$(LIBRARY)" "$(UNITS)"
-	install -m 644 $(PREFORK) $(SERVICE:%=service/%) "$(LIBRARY)"
+	install -m 644 $(PREFORK) $(SERVICE) "$(LIBRARY)"
 	chmod 755 "$(LIBRARY)/serve.py"
 	ln -sf ../lib/rtfilter/serve.py "$(DESTDIR)$(PREFIX)/bin/rtfilter-serve"
 	for unit in rtfilter.service rtfilter.socket; do \

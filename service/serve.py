@@ -14,6 +14,10 @@ import socket
 import sys
 from collections.abc import Callable, Sequence
 from functools import partial
+from pathlib import Path
+
+# Where the service is installed, prefork.py stands beside this; in a checkout it is the client's.
+sys.path.append(str(Path(__file__).resolve().parent.parent / "clients/python/rtfilter"))
 
 import prefork
 from listening import given_listeners, name_of, tcp_listener, unix_listener

@@ -49,7 +49,7 @@ const TURNS: u64 = u64::MAX;
 
 /// A run over readers and a writer of std, in as many turns as can be counted. Returns the last two as well, as they are
 /// then. It is what the program does with its open files.
-pub fn run_over<T: Read + Drop, Q: Read + Drop, W: Write + Drop>(
+pub fn run_std<T: Read + Drop, Q: Read + Drop, W: Write + Drop>(
     alloc: Global,
     settings: &Settings,
     table: T,

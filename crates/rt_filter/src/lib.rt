@@ -15,7 +15,7 @@ mod reply;
 mod serving;
 mod session;
 
-pub use filter::{Outcome, RunFault, run, run_fault_line, run_over};
+pub use filter::{Outcome, RunFault, run, run_fault_line, run_std};
 pub use rt_command::{ArgFault, Invocation, Name, Settings, settings_of};
 pub use rt_device::{
     ReadFault, ReadSource, Sink, SliceSink, SliceSource, Source, WriteFault, WriteSink,

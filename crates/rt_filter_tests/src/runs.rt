@@ -3,7 +3,7 @@
 use crate::expect::expect_eq;
 use crate::given::{BOXES, FIND, FOUND, Given, PLAIN, WITH_HEADER};
 use itoa::Buffer;
-use rt_filter::{Outcome, RunFault, Settings, Sink, Source, run_fault_line, run_over};
+use rt_filter::{Outcome, RunFault, Settings, Sink, Source, run_fault_line, run_std};
 use rt_text::{Axis, TableFault};
 use std::alloc::{AllocError, Global};
 use std::test::Fail;
@@ -447,7 +447,7 @@ fn tells_faults_in_lines(rt: HostRuntime) {
 fn runs_over_std(rt: HostRuntime) -> Result<(), Fail> {
     let settings = Settings::new(false, 16, 5).ok_or("settings")?;
     let mut out = Vec::new(rt.alloc());
-    let (outcome, queries, answers) = run_over(rt.alloc(), &settings, BOXES, FIND, &mut out);
+    let (outcome, queries, answers) = run_std(rt.alloc(), &settings, BOXES, FIND, &mut out);
     let well = Outcome {
         status: 0,
         fault: None,

@@ -1,11 +1,11 @@
 //! Finds boxes of a table: `rtfilter [-H|--header] [--fanout M] [--max-entries N] TABLE [QUERIES]`.
 //!
 //! The words are read, TABLE is opened, QUERIES is opened (standard input where there is none), and then
-//! `rt_filter::run_over` does the rest, with standard output as the writer.
+//! `rt_filter::run_std` does the rest, with standard output as the writer.
 #![tactic(auto)]
 
 use rt_filter::{
-    ArgFault, Invocation, Name, Outcome, RunFault, Settings, run_fault_line, run_over, settings_of,
+    ArgFault, Invocation, Name, Outcome, RunFault, Settings, run_fault_line, run_std, settings_of,
 };
 use rt_text::Line;
 use std::env;
@@ -131,7 +131,7 @@ fn run_to_output<R: Print + AllocGlobal, T: Read + Drop, Q: Read + Drop>(
 ) -> Ending {
     match BufWriter::with_capacity(rt.alloc(), OUTPUT_ROOM, io::writer(rt)) {
         Ok(answers) => {
-            let (outcome, _, _) = run_over(rt.alloc(), settings, table, queries, answers);
+            let (outcome, _, _) = run_std(rt.alloc(), settings, table, queries, answers);
             Ending::Ran(outcome)
         }
         Err(_) => Ending::NoMemory,

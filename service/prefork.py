@@ -1,1 +1,0 @@
-../clients/python/rtfilter/prefork.py
