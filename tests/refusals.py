@@ -165,7 +165,7 @@ def fronts():
     made, held, left = 0, 0, b"".join(LINES)
     yield b""
     while left:
-        size = min(MOST_PULLED - held, len(left))
+        size = min(MOST_PULLED, len(left))
         lines = left[:size].count(b"\n")
         held = size + held - lines * len(LINES[0])
         made, left = made + lines, left[size:]

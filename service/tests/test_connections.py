@@ -15,7 +15,7 @@ import unittest
 from pathlib import Path
 
 from served import (
-    BOXES, PROGRAM, SYSTEM_PYTHON, Case, Served, all_of, answers, read_lines, some_pieces, some_queries, table_of, talk,
+    BOXES, PROGRAM, SERVICE, SYSTEM_PYTHON, Case, Served, all_of, answers, read_lines, some_pieces, some_queries, table_of, talk,
     told_by_program, until,
 )
 
@@ -325,6 +325,8 @@ class WantOfRoom(Case):
         """As another user, who may have so many processes and no more."""
         if os.geteuid() != 0 or shutil.which("setpriv") is None:
             self.skipTest("root and setpriv: not there")
+        if not all(it.stat().st_mode & 1 for it in SERVICE.parents):
+            self.skipTest("a checkout that others may read: not there")
         os.chmod(self.folder, 0o777)
         before = ["prlimit", "--nproc=6", "setpriv", "--reuid=61234", "--regid=61234", "--clear-groups"]
         service = self.served(BOXES, before=before, python=SYSTEM_PYTHON)

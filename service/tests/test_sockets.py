@@ -218,6 +218,8 @@ class Surroundings(Case):
     def test_as_another_user(self) -> None:
         if os.geteuid() != 0:
             self.skipTest("root: not there")
+        if not all(it.stat().st_mode & 1 for it in SERVICE.parents):
+            self.skipTest("a checkout that others may read: not there")
         os.chmod(self.folder, 0o777)
         service = self.served(before=["setpriv", "--reuid=61235", "--regid=61235", "--clear-groups"], python=SYSTEM_PYTHON)
         self.assert_well(service)
