@@ -44,6 +44,24 @@ AllAccepted accepts extent = (b : Extent) → IsBoxInside b extent → accepts b
 abbrev pub NoneAccepted : (Extent → Bool) → Extent → Type 0
 NoneAccepted accepts extent = (b : Extent) → IsBoxInside b extent → accepts b ≡ false
 
+-- ---- what it means
+
+-- which boxes are accepted, the score of each of them, and the verdict that is answered on whatever is asked
+pub record Meaning : Type 0 where
+  pub accepts : Extent → Bool
+  pub score : Extent → ℕ
+  pub verdict : Info → Verdict
+
+-- that of a shape and a rank: what the one accepts and the states that it answers, the scores of the other and its
+-- estimates of them
+abbrev pub guided : (accepts : Extent → Bool) → (state : Info → Within) → (score : Extent → ℕ) → (estimate : Info → ℕ)
+    → Meaning
+guided accepts state score estimate = record {
+  accepts = accepts;
+  score = score;
+  verdict = λ info. record { within = state info; score = estimate info };
+}
+
 -- ---- what it may be asked
 
 -- an info that shows an entry or a node: its bounds are a box of the plane, as each `Bounds` is, it has some layer, an
@@ -89,17 +107,14 @@ pub record IsAdmissible (score : Extent → ℕ) (estimate : Info → ℕ) : Typ
   pub admissibility : (i : Info) → IsWellFormed i → 0 < i.level
       → (b : Extent) → IsBoxInside b (extent_of i) → estimate i ≤ score b
 
--- the laws of a geometry: what it accepts, the scores of boxes, and the verdicts that it answers
-pub record IsLawful (accepts : Extent → Bool) (score : Extent → ℕ) (verdict : Info → Verdict) : Type 0 where
+-- the laws of a geometry
+pub record IsLawful (meaning : Meaning) : Type 0 where
   -- its states keep the leaf law, the pruning law and the fullness law
-  pub faithful : IsFaithful accepts (λ i. (verdict i).within)
+  pub faithful : IsFaithful meaning.accepts (λ i. (meaning.verdict i).within)
   -- an entry that is accepted has the score of its box
-  pub exact : (i : Info) → IsQuestion accepts i → i.level ≡ 0
-      → accepts (extent_of i) ≡ true → (verdict i).score ≡ score (extent_of i)
+  pub exact : (i : Info) → IsQuestion meaning.accepts i → i.level ≡ 0
+      → meaning.accepts (extent_of i) ≡ true → (meaning.verdict i).score ≡ meaning.score (extent_of i)
   -- a node has at most the score of each accepted box inside
-  pub admissibility : (i : Info) → IsQuestion accepts i → 0 < i.level
-      → (b : Extent) → IsBoxInside b (extent_of i) → accepts b ≡ true → (verdict i).score ≤ score b
-
--- the verdict that joins a state and a score
-abbrev pub guided_verdict : (Info → Within) → (Info → ℕ) → Info → Verdict
-guided_verdict state estimate info = record { within = state info; score = estimate info }
+  pub admissibility : (i : Info) → IsQuestion meaning.accepts i → 0 < i.level
+      → (b : Extent) → IsBoxInside b (extent_of i) → meaning.accepts b ≡ true
+      → (meaning.verdict i).score ≤ meaning.score b

@@ -43,9 +43,9 @@ impl<'a, G: Geometry> Counted<'a, G> {
 
     /// What the geometry answers. The number of checks rises by one, and has to be below [`u64::MAX`].
     pub fn check(&mut self, info: &Info) -> Verdict
-        requires honest { IsHonest (G.accepts self.old.geometry) info.now }
+        requires honest { IsHonest (G.meaning self.old.geometry).accepts info.now }
         requires room { self.old.asked < 2 ^ 64 - 1 }
-        ensures verdict { result ≡ G.verdict self.old.geometry info.now }
+        ensures verdict { result ≡ (G.meaning self.old.geometry).verdict info.now }
         ensures geometry { self.new.geometry ≡ self.old.geometry }
         ensures asked { self.new.asked ≡ self.old.asked + 1 }
     {

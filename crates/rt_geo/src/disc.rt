@@ -2,7 +2,7 @@
 
 ghost use Rattle.std.specs.Prelude.{◌≡◌, IfSome, nat_le, nat_lt};
 ghost use Rattle.std.specs.Option.{SomeIff};
-ghost use Rattle.rt_geo.specs.Discs.{AnswersAs};
+ghost use Rattle.rt_geo.specs.Discs.{MeansBoth};
 ghost use Rattle.rt_geo.specs.Distances.{far2, near2};
 ghost use Rattle.rt_geo.specs.Orders.{near};
 ghost use Rattle.rt_geo.specs.Regions.{disc_of, state_by};
@@ -13,13 +13,13 @@ use crate::geometry::{Geometry, Info, Verdict, Within};
 use crate::order::Order;
 use crate::shapes::Circle;
 
-/// Accepts the boxes that share a point with a disc, those nearest to its middle first.
+/// Accepts the boxes that share a point with a disc, those nearest to its centre first.
 ///
-/// It answers what [`Circle`] and [`Near`](crate::Near) to its middle answer as a [`Guided`](crate::Guided), with one
+/// It answers what [`Circle`] and [`Near`](crate::Near) to its centre answer as a [`Guided`](crate::Guided), with one
 /// distance for both.
 #[derive(Clone, Copy, Debug, PartialEq, Eq)]
 pub struct Disc {
-    /// The middle of the disc.
+    /// The centre of the disc.
     pub centre: Point,
     /// The square of how far the disc reaches from there.
     pub radius2: u128,
@@ -38,10 +38,10 @@ impl Disc {
     }
 
     /// A circle and an order in one: it answers what they do as a [`Guided`](crate::Guided). `None` where the order
-    /// isn't by the distance from the middle of the circle, and nowhere else.
+    /// isn't by the distance from the centre of the circle, and nowhere else.
     pub fn from_parts(circle: &Circle, order: &Order) -> Option<Disc>
         ensures when { SomeIff result (order.now ≡ near circle.now.centre) (disc_of circle.now) }
-        ensures answers { IfSome result (λ disc. AnswersAs disc circle.now order.now) }
+        ensures means { IfSome result (λ disc. MeansBoth disc circle.now order.now) }
     {
         match order {
             Order::Near(rank) if circle.is_around(rank.0) => Some(Disc::new(*circle)),
@@ -49,7 +49,7 @@ impl Disc {
         }
     }
 
-    // How many of the boxes inside the bounds are accepted, whose nearest point is so far from the middle.
+    // How many of the boxes inside the bounds are accepted, whose nearest point is so far from the centre.
     fn within(&self, nearest: u128, bounds: Bounds) -> Within
         requires { nearest ≡ near2 self.now.centre bounds }
         ensures { result ≡ state_by (nat_lt self.now.radius2 (near2 self.now.centre bounds))
@@ -66,15 +66,11 @@ impl Disc {
 }
 
 impl Geometry for Disc {
-    ghost use Rattle.rt_geo.specs.Laws.{guided_verdict};
+    ghost use Rattle.rt_geo.specs.Discs.{disc_meaning};
     ghost use Rattle.rt_geo.specs.Orders.{near, order_estimate, order_score};
     ghost use Rattle.rt_geo.specs.Regions.{disc_accepts, disc_state};
 
-    ghost accepts = { disc_accepts };
-
-    ghost score = { λ d. order_score (near d.centre) };
-
-    ghost verdict = { λ d. guided_verdict (disc_state d) (order_estimate (near d.centre)) };
+    ghost meaning = { disc_meaning };
 
     fn check(&self, info: &Info) -> Verdict {
         let nearest = near2(self.centre, info.bounds);

@@ -8,9 +8,8 @@
 //! inside its bounds is accepted, and a node's score is at most that of each accepted box inside.
 
 ghost use Rattle.std.specs.Prelude.{◌≡◌, ℕ, Bool};
-ghost use Rattle.rt_geo.specs.Laws.{Extent, IsAdmissible, IsFaithful, IsHonest, IsLawful};
+ghost use Rattle.rt_geo.specs.Laws.{Extent, IsAdmissible, IsFaithful, IsHonest, IsLawful, Meaning};
 ghost use Rattle.rt_geo.specs.declared.geometry.Info.{Info};
-ghost use Rattle.rt_geo.specs.declared.geometry.Verdict.{Verdict};
 ghost use Rattle.rt_geo.specs.declared.geometry.Within.{Within};
 
 use crate::bounds::Bounds;
@@ -95,20 +94,14 @@ pub trait Rank {
 /// [`Guided`](crate::Guided) makes one of a [`Shape`] and a [`Rank`];
 /// `docs/write-your-own-geometry.md` shows how to write one whole.
 pub trait Geometry {
-    /// Whether a box is accepted.
-    ghost accepts: { Self → Extent → Bool };
-
-    /// The score of a box that is accepted.
-    ghost score: { Self → Extent → ℕ };
-
-    /// What `check` answers.
-    ghost verdict: { Self → Info → Verdict };
+    /// Which boxes are accepted, the score of each of them, and what `check` answers.
+    ghost meaning: { Self → Meaning };
 
     /// The state and the score of an entry or of a node.
     fn check(&self, info: &Info) -> Verdict
-        requires { IsHonest (accepts self.now) info.now }
-        ensures { result ≡ verdict self.now info.now };
+        requires { IsHonest (meaning self.now).accepts info.now }
+        ensures { result ≡ (meaning self.now).verdict info.now };
 
     /// The leaf, pruning, fullness and admissibility laws.
-    ghost lawful: { (g : Self) → IsLawful (accepts g) (score g) (verdict g) };
+    ghost lawful: { (g : Self) → IsLawful (meaning g) };
 }

@@ -1,6 +1,6 @@
 //! A geometry from two parts.
 
-ghost use Rattle.rt_geo.specs.Laws.{guided_verdict};
+ghost use Rattle.rt_geo.specs.Laws.{guided};
 
 use crate::geometry::{Geometry, Info, Rank, Shape, Verdict};
 
@@ -16,11 +16,7 @@ pub struct Guided<S: Shape, R: Rank> {
 }
 
 impl<S: Shape, R: Rank> Geometry for Guided<S, R> {
-    ghost accepts = { λ g. S.accepts g.shape };
-
-    ghost score = { λ g. R.score g.rank };
-
-    ghost verdict = { λ g. guided_verdict (S.state g.shape) (R.estimate g.rank) };
+    ghost meaning = { λ g. guided (S.accepts g.shape) (S.state g.shape) (R.score g.rank) (R.estimate g.rank) };
 
     fn check(&self, info: &Info) -> Verdict {
         Verdict {

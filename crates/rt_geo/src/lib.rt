@@ -10,7 +10,7 @@
 //! - Distances: [`Point`], [`near2`], [`far2`].
 //! - Query functions: [`Shape`], [`Rank`], [`Geometry`], asked with an [`Info`], answering a [`Within`],
 //!   a score or a [`Verdict`]; [`Guided`] joins a shape and a rank, [`Disc`] is a circle and the order by distance from
-//!   its middle in one; [`Counted`] counts the checks.
+//!   its centre in one; [`Counted`] counts the checks.
 //! - Shapes: [`All`], [`Window`], [`Inside`], [`Covers`], [`Circle`], [`Polygon`], and the enum [`Region`] of
 //!   these; [`OnLayers`] is one of them on some layers. A [`PreparedPolygon`] is a polygon that is asked faster.
 //! - Ranks: [`ById`], [`Near`], [`Smallest`], and the enum [`Order`] of these.
@@ -48,7 +48,7 @@ pub use guided::Guided;
 pub use layers::Layers;
 pub use on_layers::OnLayers;
 pub use order::Order;
-pub use polygon::{Polygon, PolygonFault};
+pub use polygon::{FEWEST_VERTICES, MOST_VERTICES, Polygon, PolygonFault};
 pub use prepared::PreparedPolygon;
 pub use ranks::{ById, Near, Smallest};
 pub use region::Region;

@@ -23,10 +23,10 @@ use arrayvec::ArrayVec;
 use std::marker::Model;
 
 /// The fewest vertices of a polygon.
-const FEWEST_VERTICES: usize = 3;
+pub const FEWEST_VERTICES: usize = 3;
 
 /// The most vertices of a polygon.
-pub(crate) const MOST_VERTICES: usize = 16;
+pub const MOST_VERTICES: usize = 16;
 
 /// Why a list of vertices is no polygon.
 #[derive(Clone, Copy, Debug, PartialEq, Eq)]
@@ -292,7 +292,7 @@ fn left_of(edge: Edge, points: &[Point]) -> usize
 /// The points in a vector of their own.
 #[inline(always)]
 fn vertices_of(points: &[Point]) -> ArrayVec<Point, MOST_VERTICES>
-    requires { length points.now ≤ 16 }
+    requires { length points.now ≤ MOST_VERTICES }
     ensures { result.items ≡ points.now }
 {
     let mut vertices = ArrayVec::new();

@@ -189,7 +189,7 @@ pub(crate) fn prepare(polygon: &Polygon) -> Option<PreparedPolygon<'_>>
 /// The half-planes of the edges from the first point on through the others in turn. `None` where one isn't short.
 #[inline(always)]
 fn half_planes(first: Point, others: &[Point]) -> Option<ArrayVec<HalfPlane, MOST_VERTICES>>
-    requires { length others.now ≤ 16 }
+    requires { length others.now ≤ MOST_VERTICES }
     ensures { result ≡ half_planes_of (path_from first others.now) }
 {
     let mut half_planes = ArrayVec::new();

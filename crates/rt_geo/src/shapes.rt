@@ -29,14 +29,14 @@ pub struct Covers(pub Bounds);
 /// Accepts the boxes that share a point with a disc, its edge included.
 #[derive(Clone, Copy, Debug, PartialEq, Eq)]
 pub struct Circle {
-    /// The middle of the disc.
+    /// The centre of the disc.
     pub centre: Point,
     /// How far the disc reaches from there.
     pub radius: u32,
 }
 
 impl Circle {
-    /// Whether a point is the middle of the disc.
+    /// Whether a point is the centre of the disc.
     pub fn is_around(&self, point: Point) -> bool
         ensures { Decides result (self.now.centre ≡ point) }
     {

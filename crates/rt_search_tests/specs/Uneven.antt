@@ -2,22 +2,18 @@
 use Rattle.std.specs.Prelude.{◌≡◌, ◌≤◌, ℕ, min, Bool, true, ◌==◌, if◌then◌else◌}
 use Rattle.std.proofs.Common.{refl, arith}
 use Rattle.std.proofs.lemmas.Bool.Decides.{nat_tests}
-use Rattle.rt_geo.specs.Laws.{IsFaithful, IsLawful, Extent}
+use Rattle.rt_geo.specs.Laws.{IsFaithful, IsLawful, Meaning}
 use Rattle.rt_geo.specs.declared.geometry.Info.{Info}
 use Rattle.rt_geo.specs.declared.geometry.Verdict.{Verdict}
 use Rattle.rt_geo.specs.declared.geometry.Within.TheVariants.{Fully}
 
--- it accepts every box
-abbrev pub uneven_accepts : Extent → Bool
-uneven_accepts b = true
-
--- each box scores 10
-abbrev pub uneven_score : Extent → ℕ
-uneven_score b = 10
-
 -- FULLY everywhere; a node of level l scores the lesser of l and 10
-abbrev pub uneven_verdict : Info → Verdict
+abbrev uneven_verdict : Info → Verdict
 uneven_verdict i = record { within = Fully; score = if i.level == 0 then 10 else min i.level 10 }
+
+-- it accepts every box, and each scores 10
+abbrev pub uneven : Meaning
+uneven = record { accepts = λ b. true; score = λ b. 10; verdict = uneven_verdict }
 
 exact : (i : Info) → i.level ≡ 0 → (uneven_verdict i).score ≡ 10
 exact i entry = grind (arith, nat_tests)
@@ -25,14 +21,14 @@ exact i entry = grind (arith, nat_tests)
 at_most : (i : Info) → (uneven_verdict i).score ≤ 10
 at_most i = grind (arith, nat_tests)
 
-faithful : IsFaithful uneven_accepts (λ i. (uneven_verdict i).within)
+faithful : IsFaithful uneven.accepts (λ i. (uneven_verdict i).within)
 faithful = record {
   leaf = λ i question entry. (λ e. cc, λ e. cc);
   pruning = λ i question node e. cc;
   fullness = λ i question node e b h. refl;
 }
 
-pub uneven-lawful : IsLawful uneven_accepts uneven_score uneven_verdict
+pub uneven-lawful : IsLawful uneven
 uneven-lawful = record {
   faithful = faithful;
   exact = λ i question entry accepted. exact i entry;

@@ -8,13 +8,9 @@ use rt_geo::{Geometry, Info, Verdict, Within};
 pub struct Uneven;
 
 impl Geometry for Uneven {
-    ghost use Rattle.rt_search_tests.specs.Uneven.{uneven_accepts, uneven_score, uneven_verdict};
+    ghost use Rattle.rt_search_tests.specs.Uneven.{uneven};
 
-    ghost accepts = { λ _. uneven_accepts };
-
-    ghost score = { λ _. uneven_score };
-
-    ghost verdict = { λ _. uneven_verdict };
+    ghost meaning = { λ _. uneven };
 
     fn check(&self, info: &Info) -> Verdict {
         let score = if info.level == 0 {

@@ -27,11 +27,7 @@ impl<G: Geometry> Watched<G> {
 }
 
 impl<G: Geometry> Geometry for Watched<G> {
-    ghost accepts = { λ w. G.accepts w.geometry };
-
-    ghost score = { λ w. G.score w.geometry };
-
-    ghost verdict = { λ w. G.verdict w.geometry };
+    ghost meaning = { λ w. G.meaning w.geometry };
 
     fn check(&self, info: &Info) -> Verdict {
         let place = self.checks.get();
