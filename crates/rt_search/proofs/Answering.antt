@@ -6,7 +6,7 @@ use Rattle.std.proofs.lemmas.List.{append-nil, map-append, take_more, Elements.{
 use Rattle.std.proofs.lemmas.List.Sorted.{IsPermutation-cons, IsPermutation-map, IsPermutation-middle}
 use Rattle.std.proofs.lemmas.List.Sorted.{IsPermutation-refl, IsPermutation-trans}
 use Rattle.std.specs.{Prelude.{IfNone, MatchOption}, List.{AllByRecursion, flat_map}, Ordering.{is_gt}}
-use Rattle.rt_geo.specs.Laws.{Extent, IsBoxInside, IsPart, NoneAccepted, extent_of_entry}
+use Rattle.rt_geo.specs.Laws.{Extent, IsBoxInside, IsPart, NoneAccepted, extent_of_entry, Meaning}
 use Rattle.rt_geo.specs.{Lemmas.Laws.{IsBoxInside-part}, declared.entry.Entry.{Entry}}
 use Rattle.rt_tree.specs.Packed.{Packed, IsSubtree, child_nodes, entries_under, extent_of_node, node_at}
 use Rattle.rt_tree.specs.{Sorting.{put, sorted}, declared.tree.Node.{Node}}
@@ -48,28 +48,28 @@ all_inside t (suc h) n s = each_inside t h (extent_of_node n) (λ k. all_inside 
 
 -- ---- the answers among entries
 
-module _ (accepts : Extent → Bool) (score : Extent → ℕ) where
+module _ (meaning : Meaning) where
   abbrev pub among : List Entry → List Answer
-  among es = scored es accepts score
+  among es = scored es meaning
 
   pub among-append : (es fs : List Entry) → among (es ++ fs) ≡ among es ++ among fs
   among-append es fs = grind (arith, filter-append, map-append)
 
-  pub among_accepted : (e : Entry) (es : List Entry) → accepts (extent_of_entry e) ≡ true → among (e ∷ es)
-      ≡ (e.id, score (extent_of_entry e)) ∷ among es
+  pub among_accepted : (e : Entry) (es : List Entry) → meaning.accepts (extent_of_entry e) ≡ true → among (e ∷ es)
+      ≡ (e.id, meaning.score (extent_of_entry e)) ∷ among es
   among_accepted e es h = rw h refl
 
-  pub among_refused : (e : Entry) (es : List Entry) → accepts (extent_of_entry e) ≡ false → among (e ∷ es) ≡ among es
+  pub among_refused : (e : Entry) (es : List Entry) → meaning.accepts (extent_of_entry e) ≡ false → among (e ∷ es) ≡ among es
   among_refused e es h = rw h refl
 
   -- a bound on the scores of boxes inside is one on the answers
-  pub among_above : (c : Extent) (s : ℕ) → ((b : Extent) → IsBoxInside b c → accepts b ≡ true → s ≤ score b)
+  pub among_above : (c : Extent) (s : ℕ) → ((b : Extent) → IsBoxInside b c → meaning.accepts b ≡ true → s ≤ meaning.score b)
       → (es : List Entry) → AllByRecursion (IsEntryInside c) es → AllByRecursion (λ a. s ≤ a.1) (among es)
   among_above c s low [] a = tt
   among_above c s low (e ∷ es) a = grind (arith, cond_both, among_above c s low es a.1)
 
   -- where no box inside is accepted there is no answer
-  pub among_none : (c : Extent) → NoneAccepted accepts c → (es : List Entry) → AllByRecursion (IsEntryInside c) es
+  pub among_none : (c : Extent) → NoneAccepted meaning.accepts c → (es : List Entry) → AllByRecursion (IsEntryInside c) es
       → among es ≡ []
   among_none c never [] a = refl
   among_none c never (e ∷ es) a = among_refused e es (never (extent_of_entry e) a.0) ∙ among_none c never es a.1
@@ -77,19 +77,19 @@ module _ (accepts : Extent → Bool) (score : Extent → ℕ) where
   -- ---- the order of the entries doesn't matter
 
   abbrev kept : List Entry → List Entry
-  kept es = accepted es accepts
+  kept es = accepted es meaning
 
   skip : (e : Entry) (es fs : List Entry) → IsPermutation (kept es) (kept fs)
       → IsPermutation (kept (e ∷ es)) (kept (e ∷ fs))
   skip e es fs h =
-      elim (accepts (extent_of_entry e)) as
+      elim (meaning.accepts (extent_of_entry e)) as
       (λ b. IsPermutation (cond b (e ∷ kept es) (kept es)) (cond b (e ∷ kept fs) (kept fs))) [
         | true ↦ IsPermutation-cons e (kept es) (kept fs) h
         | false ↦ h
       ]
 
   turn : (d e : Entry) (es : List Entry) → IsPermutation (kept (d ∷ e ∷ es)) (kept (e ∷ d ∷ es))
-  turn d e es = by (accepts (extent_of_entry d)) (accepts (extent_of_entry e))
+  turn d e es = by (meaning.accepts (extent_of_entry d)) (meaning.accepts (extent_of_entry e))
     where
       by : (p q : Bool) → IsPermutation (cond p (d ∷ cond q (e ∷ kept es) (kept es)) (cond q (e ∷ kept es) (kept es)))
           (cond q (e ∷ cond p (d ∷ kept es) (kept es)) (cond p (d ∷ kept es) (kept es)))
@@ -100,72 +100,70 @@ module _ (accepts : Extent → Bool) (score : Extent → ℕ) where
   pub among-IsPermutation : (es fs : List Entry) → IsPermutation es fs
       → sorted answer_cmp (among es) ≡ sorted answer_cmp (among fs)
   among-IsPermutation es fs h = answer_order.rearranged (among es) (among fs)
-      (IsPermutation-map (answer_of score) (kept es) (kept fs)
+      (IsPermutation-map (answer_of meaning) (kept es) (kept fs)
       (along_permutation (λ es fs. IsPermutation (kept es) (kept fs)) (λ es. IsPermutation-refl (kept es)) skip turn
       (λ es fs gs h k. IsPermutation-trans _ _ _ h k) es fs h))
 
   -- ---- the answers that items stand for
 
   module _ (t : Packed) where
-    pub at_above : (s : ℕ) (p : Place) → IsSoundAt t accepts score s p
-        → AllByRecursion (λ a. s ≤ a.1) (answers_at t accepts score s p)
+    pub at_above : (s : ℕ) (p : Place) → IsSoundAt t meaning s p
+        → AllByRecursion (λ a. s ≤ a.1) (answers_at t meaning s p)
     at_above s (place.Node n) h =
         let k = n.number.number in
         among_above (extent_of_node (node_at t k)) s h.below.least (entries_under t (height_at t k) (node_at t k))
         (all_inside t (height_at t k) (node_at t k) h.tree)
     at_above s (place.Entry i) h = (omega arith, tt)
 
-    pub remaining-put : (x : Item) (xs : List Item) → remaining t accepts score (put item_cmp x xs)
-        ≡ put_all answer_cmp (answers_at t accepts score x.score x.place) (remaining t accepts score xs)
+    pub remaining-put : (x : Item) (xs : List Item) → remaining t meaning (put item_cmp x xs)
+        ≡ put_all answer_cmp (answers_at t meaning x.score x.place) (remaining t meaning xs)
     remaining-put x [] = refl
     remaining-put x (y ∷ ys) = grind (arith, put_cases, put_all-put_all, answer_order, remaining-put x ys)
 
-    pub AllSound-put : (x : Item) (xs : List Item) → IsSoundAt t accepts score x.score x.place
-        → AllSound t accepts score xs → AllSound t accepts score (put item_cmp x xs)
-    AllSound-put x xs h a = put-all item_cmp item_order (λ y. IsSoundAt t accepts score y.score y.place) x xs h a
+    pub AllSound-put : (x : Item) (xs : List Item) → IsSoundAt t meaning x.score x.place
+        → AllSound t meaning xs → AllSound t meaning (put item_cmp x xs)
+    AllSound-put x xs h a = put-all item_cmp item_order (λ y. IsSoundAt t meaning y.score y.place) x xs h a
 
     -- ---- an entry that is taken out
 
     least_at : (i : ℤ) (s r : ℕ) (p : Place) → is_gt (item_cmp (item_at s (place.Entry i)) (item_at r p)) ≡ false
-        → IsSoundAt t accepts score r p
-        → AllByRecursion (λ q. is_gt (answer_cmp (i, s) q) ≡ false) (answers_at t accepts score r p)
+        → IsSoundAt t meaning r p → AllByRecursion (λ q. is_gt (answer_cmp (i, s) q) ≡ false) (answers_at t meaning r p)
     least_at i s r (place.Entry j) h k = (h, tt)
     least_at i s r (place.Node n) h k =
         all_map (λ q. r ≤ q.1) (λ q. is_gt (answer_cmp (i, s) q) ≡ false) (λ q b. grind (arith, nat_tests))
-        (answers_at t accepts score r (place.Node n)) (at_above r (place.Node n) k)
+        (answers_at t meaning r (place.Node n)) (at_above r (place.Node n) k)
 
     all_least : (i : ℤ) (s : ℕ) (xs : List Item)
-        → AllByRecursion (λ y. is_gt (item_cmp (item_at s (place.Entry i)) y) ≡ false) xs → AllSound t accepts score xs
-        → AllByRecursion (λ q. is_gt (answer_cmp (i, s) q) ≡ false) (remaining t accepts score xs)
+        → AllByRecursion (λ y. is_gt (item_cmp (item_at s (place.Entry i)) y) ≡ false) xs → AllSound t meaning xs
+        → AllByRecursion (λ q. is_gt (answer_cmp (i, s) q) ≡ false) (remaining t meaning xs)
     all_least i s [] a b = tt
     all_least i s (y ∷ ys) a b =
         put_all-all answer_cmp answer_order (λ q. is_gt (answer_cmp (i, s) q) ≡ false)
-        (answers_at t accepts score y.score y.place) (remaining t accepts score ys)
+        (answers_at t meaning y.score y.place) (remaining t meaning ys)
         (least_at i s y.score y.place a.0 b.0) (all_least i s ys a.1 b.1)
 
     -- an entry that comes after none of the items that wait is the next answer
     pub take_entry : (i : ℤ) (s : ℕ) (xs : List Item)
         → AllByRecursion (λ y. is_gt (item_cmp (item_at s (place.Entry i)) y) ≡ false) xs
-        → AllSound t accepts score xs → remaining t accepts score (item_at s (place.Entry i) ∷ xs)
-        ≡ (i, s) ∷ remaining t accepts score xs
+        → AllSound t meaning xs → remaining t meaning (item_at s (place.Entry i) ∷ xs) ≡ (i, s) ∷ remaining t meaning xs
     take_entry i s xs a b = grind (arith, put_least, answer_order, all_least)
 
     -- ---- and where entries alone wait
 
-    entry_sound : (s : ℕ) (p : Place) → IsEntry p → IsSoundAt t accepts score s p
+    entry_sound : (s : ℕ) (p : Place) → IsEntry p → IsSoundAt t meaning s p
     entry_sound s (place.Node n) h = absurd h
     entry_sound s (place.Entry id) h = tt
 
     -- what is taken out is given, or nothing is left
     pub given : (out : Option Answer) (items new : List Item) → AllEntries items → IsTakenOut (taken_entry out) items new
-        → MatchOption out (remaining t accepts score items ≡ [])
-        (λ a. remaining t accepts score items ≡ a ∷ remaining t accepts score new)
-    given None items new all out = ap (remaining t accepts score) out.0
+        → MatchOption out (remaining t meaning items ≡ [])
+        (λ a. remaining t meaning items ≡ a ∷ remaining t meaning new)
+    given None items new all out = ap (remaining t meaning) out.0
     given (Some a) items new all out = grind (arith, take_entry, all_map, entry_sound)
 
     pub none_left : (out : Option Answer) (items new : List Item) → IsTakenOut (taken_entry out) items new
-        → IfNone out (remaining t accepts score new ≡ [])
-    none_left None items new out = ap (remaining t accepts score) out.1
+        → IfNone out (remaining t meaning new ≡ [])
+    none_left None items new out = ap (remaining t meaning) out.1
     none_left (Some a) items new out = tt
 
     -- ---- a node that joins

@@ -3,6 +3,7 @@ use Rattle.std.proofs.Common.{◌≡◌, ◌<◌, ◌≤◌, ◌+◌, ◌-◌, �
 use Rattle.std.proofs.Common.{Some, take, drop, get_or, refl, sym, ◌∙◌, ap, subst, arith}
 use Rattle.std.proofs.lemmas.List.{get_or-map, get_or-take, get_or-drop, get_or_default, length-map, length-take}
 use Rattle.std.proofs.lemmas.{List.{length-drop, take_all, Elements.{All-from_recursion}}, Option.{slice_get-get_or}}
+use Rattle.rt_geo.specs.Laws.{Meaning}
 use Rattle.rt_geo.specs.{Boxes.{IsRect, inside, plane}, Lemmas.Layers.{HasSome-only}}
 use Rattle.rt_geo.specs.{Entries.{HasBox, HasLayer}, declared.entry.Entry.{Entry}}
 use Rattle.rt_geo.specs.{Layers.{HasSome}, Laws.{Extent, IsHonest, IsPart, IsQuestion, extent_of, extent_of_entry}}
@@ -160,8 +161,8 @@ pub record HasChildren (t : Packed) (number : ℕ) (n : Node) (children : List P
   pub count : length children ≡ (node_at t number).count
   pub inside : n.first + length children ≤ length t.nodes
 
-module _ {t : Packed} {accepts : Extent → Bool} {score : Extent → ℕ} {number : ℕ} {v : Verdict}
-    (opened : IsOpenable t accepts score number v) {n : Node} (is : n ≡ node_at t number) (above : n.level ≡ 1 → ⊥) where
+module _ {t : Packed} {meaning : Meaning} {number : ℕ} {v : Verdict}
+    (opened : IsOpenable t meaning number v) {n : Node} (is : n ≡ node_at t number) (above : n.level ≡ 1 → ⊥) where
   is_high : 2 ≤ (node_at t number).level
   is_high =
       let level = subtree_level t (height_at t number) (node_at t number) opened.tree in
@@ -225,16 +226,15 @@ height_suc t number s level = (inner_at t (height_at t number) (node_at t number
 -- ---- what may be asked
 
 -- what is part of a node may be asked about under the node's verdict
-pub honest_child : (accepts : Extent → Bool) (score : Extent → ℕ) (whole : Extent) (info : Info) (v : Verdict)
-    → IsBelow accepts score whole v → info.parent_within ≡ v.within → IsPart (extent_of info) whole
-    → IsHonest accepts info
-honest_child accepts score whole info v below told part = λ full.
-    AllAccepted-part accepts (extent_of info) whole part (below.full (sym told ∙ full))
+pub honest_child : (meaning : Meaning) (whole : Extent) (info : Info) (v : Verdict)
+    → IsBelow meaning whole v → info.parent_within ≡ v.within → IsPart (extent_of info) whole
+    → IsHonest meaning.accepts info
+honest_child meaning whole info v below told part = λ full.
+    AllAccepted-part meaning.accepts (extent_of info) whole part (below.full (sym told ∙ full))
 
-module _ (accepts : Extent → Bool) (score : Extent → ℕ) (t : Packed) (sound : IsSound t) (v : Verdict)
-    (small : v.score < 2 ^ 128) where
-  pub entry_question : (n : Node) (e : Entry) (i : ℕ) → IsBelow accepts score (extent_of_node n) v → IsLeafAt t n i e
-      → IsQuestion accepts (info_of_child t v e)
+module _ (meaning : Meaning) (t : Packed) (sound : IsSound t) (v : Verdict) (small : v.score < 2 ^ 128) where
+  pub entry_question : (n : Node) (e : Entry) (i : ℕ) → IsBelow meaning (extent_of_node n) v → IsLeafAt t n i e
+      → IsQuestion meaning.accepts (info_of_child t v e)
   entry_question n e i below at =
       record {
         well_formed = record {
@@ -246,11 +246,11 @@ module _ (accepts : Extent → Bool) (score : Extent → ℕ) (t : Packed) (soun
           top = grind arith;
           parent_score = small;
         };
-        honest = honest_child accepts score (extent_of_node n) (info_of_child t v e) v below refl at.within;
+        honest = honest_child meaning (extent_of_node n) (info_of_child t v e) v below refl at.within;
       }
 
-  pub node_question : (n : Node) (h i k : ℕ) → n.level ≤ 24 → IsBelow accepts score (extent_of_node n) v
-      → IsChild t n h i k → IsQuestion accepts (info_of_node t v (node_at t k))
+  pub node_question : (n : Node) (h i k : ℕ) → n.level ≤ 24 → IsBelow meaning (extent_of_node n) v
+      → IsChild t n h i k → IsQuestion meaning.accepts (info_of_node t v (node_at t k))
   node_question n h i k low below at =
       record {
         well_formed = record {
@@ -262,5 +262,5 @@ module _ (accepts : Extent → Bool) (score : Extent → ℕ) (t : Packed) (soun
           top = omega arith;
           parent_score = small;
         };
-        honest = honest_child accepts score (extent_of_node n) (info_of_node t v (node_at t k)) v below refl at.within;
+        honest = honest_child meaning (extent_of_node n) (info_of_node t v (node_at t k)) v below refl at.within;
       }

@@ -4,6 +4,7 @@ use Rattle.std.proofs.Common.{Option, Some, None, refl, sym, ◌∙◌, ap, subs
 use Rattle.std.proofs.lemmas.List.{length-drop, length-map, Sums.{count_by-le-length, length-filter}}
 use Rattle.std.proofs.lemmas.List.Sorted.{length_permutation}
 use Rattle.std.specs.Prelude.{IfSome, slice_get}
+use Rattle.rt_geo.specs.Laws.{Meaning}
 use Rattle.rt_geo.specs.{Laws.{Extent, extent_of_entry}, declared.{entry.Entry.{Entry}, geometry.Info.{Info}}}
 use Rattle.rt_geo.specs.declared.geometry.Verdict.{Verdict}
 use Rattle.rt_tree.specs.{Packed.{Packed}, Sorting.{limited}, declared.tree.Node.{Node}}
@@ -73,27 +74,27 @@ next_still None limit g more h = tt
 next_still (Some zero) limit g more h = absurd (more (h ∙ ap Some (omega arith)))
 next_still (Some (suc n)) limit g more h = h ∙ ap Some (omega arith)
 
-module _ (accepts : Extent → Bool) (score : Extent → ℕ) where
-  pub length-scored : (es : List Entry) → length (scored es accepts score) ≤ length es
+module _ (meaning : Meaning) where
+  pub length-scored : (es : List Entry) → length (scored es meaning) ≤ length es
   length-scored es = omega (
     arith,
-    length-map (accepted es accepts) (answer_of score),
-    length-filter (λ (e : Entry). accepts (extent_of_entry e)) es,
-    count_by-le-length (λ (e : Entry). accepts (extent_of_entry e)) es,
+    length-map (accepted es meaning) (answer_of meaning),
+    length-filter (λ (e : Entry). meaning.accepts (extent_of_entry e)) es,
+    count_by-le-length (λ (e : Entry). meaning.accepts (extent_of_entry e)) es,
   )
 
-module _ (accepts : Extent → Bool) (score : Extent → ℕ) (verdict : Info → Verdict) (t : Packed) where
+module _ (meaning : Meaning) (t : Packed) where
   abbrev all : List Answer
-  all = answers t.entries accepts score None
+  all = answers t.entries meaning None
 
   -- ---- the work after so many answers
 
   work_after : (cost : Node → ℕ) (g : ℕ) (a : Answer) (rest : List Answer) → drop g all ≡ a ∷ rest
-      → reached_from_root (is_reached (Some a.1)) cost verdict t ≡ search_work cost accepts score verdict t (Some (suc g))
+      → reached_from_root (is_reached (Some a.1)) cost meaning t ≡ search_work cost meaning t (Some (suc g))
   work_after cost g a rest h = grind (arith, suc_less, drop_step)
 
   work_in_all : (cost : Node → ℕ) (limit : Option ℕ) (g : ℕ) → IsInLimit limit g → limit ≢ Some g → drop g all ≡ []
-      → reached_from_root (is_reached None) cost verdict t ≡ search_work cost accepts score verdict t limit
+      → reached_from_root (is_reached None) cost meaning t ≡ search_work cost meaning t limit
   work_in_all cost None g le n h = refl
   work_in_all cost (Some zero) g le n h = absurd (let lt = below_limit zero g le n in omega arith)
   work_in_all cost (Some (suc k)) g le n h = grind (arith, suc_less, past_end, below_limit)
@@ -101,50 +102,49 @@ module _ (accepts : Extent → Bool) (score : Extent → ℕ) (verdict : Info �
 -- ---- the steps
 
 -- an answer is given
-pub record IsGiven (accepts : Extent → Bool) (score : Extent → ℕ) (verdict : Info → Verdict) (t : Packed)
+pub record IsGiven (meaning : Meaning) (t : Packed)
     (limit : Option ℕ) (given next opened asked capacity : ℕ) (wanted : Option ℕ) (a : Answer) (items : List Item)
     : Type 0 where
-  pub going : IsGiving accepts score verdict t limit next opened asked capacity wanted items
-  pub answer : drop given (answers t.entries accepts score limit) ≡ a ∷ drop next (answers t.entries accepts score limit)
-  pub worked : HasWorked accepts score verdict t (Some next) opened asked
+  pub going : IsGiving meaning t limit next opened asked capacity wanted items
+  pub answer : drop given (answers t.entries meaning limit) ≡ a ∷ drop next (answers t.entries meaning limit)
+  pub worked : HasWorked meaning t (Some next) opened asked
 
 -- no answer is left
-pub record HasEnded (accepts : Extent → Bool) (score : Extent → ℕ) (verdict : Info → Verdict) (t : Packed)
+pub record HasEnded (meaning : Meaning) (t : Packed)
     (limit : Option ℕ) (given opened asked capacity : ℕ) (wanted : Option ℕ) (items : List Item) : Type 0 where
-  pub going : IsGiving accepts score verdict t limit given opened asked capacity wanted items
-  pub answer : drop given (answers t.entries accepts score limit) ≡ []
-  pub worked : HasWorked accepts score verdict t limit opened asked
+  pub going : IsGiving meaning t limit given opened asked capacity wanted items
+  pub answer : drop given (answers t.entries meaning limit) ≡ []
+  pub worked : HasWorked meaning t limit opened asked
 
-module _ {accepts : Extent → Bool} {score : Extent → ℕ} {verdict : Info → Verdict} {t : Packed} {limit : Option ℕ}
+module _ {meaning : Meaning} {t : Packed} {limit : Option ℕ}
     {given opened asked capacity : ℕ} {wanted : Option ℕ} {items : List Item}
-    (going : IsGiving accepts score verdict t limit given opened asked capacity wanted items) where
+    (going : IsGiving meaning t limit given opened asked capacity wanted items) where
   -- the number stays small
   pub given_low : {opened' asked' : ℕ} {wanted' : Option ℕ} {a : Answer} {new : List Item}
-      → IsFound accepts score verdict t opened' asked' wanted'
-      (drop given (answers t.entries accepts score None)) a new → given + 1 ≤ 16777216
+      → IsFound meaning t opened' asked' wanted'
+      (drop given (answers t.entries meaning None)) a new → given + 1 ≤ 16777216
   given_low found =
       let sound = going.state.state.tree in
       omega (
         arith,
         ap length found.first,
-        length-drop given (answers t.entries accepts score None),
-        length_permutation _ _ (IsPermutation-sorted answer_cmp (scored t.entries accepts score)),
-        length-scored accepts score t.entries,
+        length-drop given (answers t.entries meaning None),
+        length_permutation _ _ (IsPermutation-sorted answer_cmp (scored t.entries meaning)),
+        length-scored meaning t.entries,
       )
 
   module _ (more : limit ≢ Some given) {opened' asked' : ℕ} {wanted' : Option ℕ} {new : List Item} where
-    pub give : {a : Answer} → wanted' ≡ one_less wanted
-        → IsFound accepts score verdict t opened' asked' wanted'
-        (drop given (answers t.entries accepts score None)) a new
-        → IsGiven accepts score verdict t limit given (given + 1) opened' asked' capacity wanted' a new
+    pub give : {a : Answer} → wanted' ≡ one_less wanted → IsFound meaning t opened' asked' wanted'
+        (drop given (answers t.entries meaning None)) a new
+        → IsGiven meaning t limit given (given + 1) opened' asked' capacity wanted' a new
     give {a} less found =
-        let all = answers t.entries accepts score None in
+        let all = answers t.entries meaning None in
         let there : drop given all ≡ a ∷ found.rest = found.first in
-        let worked : HasWorked accepts score verdict t (Some (suc given)) opened' asked' = record {
-          in_nodes = found.reached.nodes ∙ work_after accepts score verdict t one_node given a found.rest there;
-          in_checks = found.reached.checks ∙ work_after accepts score verdict t its_children given a found.rest there;
+        let worked : HasWorked meaning t (Some (suc given)) opened' asked' = record {
+          in_nodes = found.reached.nodes ∙ work_after meaning t one_node given a found.rest there;
+          in_checks = found.reached.checks ∙ work_after meaning t its_children given a found.rest there;
         } in
-        subst (λ m. IsGiven accepts score verdict t limit given m opened' asked' capacity wanted' a new)
+        subst (λ m. IsGiven meaning t limit given m opened' asked' capacity wanted' a new)
         (sym (add-one given)) (record {
           going = record {
             state = grind (arith, drop_step);
@@ -152,17 +152,17 @@ module _ {accepts : Extent → Bool} {score : Extent → ℕ} {verdict : Info �
             in_limit = next_in_limit limit given going.in_limit more;
             still = subst (λ w. IfSome w (λ n. limit ≡ Some (suc given + n))) (sym less)
                 (next_still wanted limit given more going.still);
-            stopped = λ e. subst (λ l. HasWorked accepts score verdict t l opened' asked') (sym e) worked;
+            stopped = λ e. subst (λ l. HasWorked meaning t l opened' asked') (sym e) worked;
           };
           answer = limited_step limit given all a found.rest going.in_limit more there;
           worked = worked;
         })
 
-    pub end : wanted' ≡ wanted → IsOver accepts score verdict t opened' asked' wanted'
-        (drop given (answers t.entries accepts score None)) new
-        → HasEnded accepts score verdict t limit given opened' asked' capacity wanted' new
+    pub end : wanted' ≡ wanted → IsOver meaning t opened' asked' wanted'
+        (drop given (answers t.entries meaning None)) new
+        → HasEnded meaning t limit given opened' asked' capacity wanted' new
     end same over =
-        let worked : HasWorked accepts score verdict t limit opened' asked' = grind (arith, work_in_all) in
+        let worked : HasWorked meaning t limit opened' asked' = grind (arith, work_in_all) in
         record {
           going = record {
             state = over.state;
@@ -171,6 +171,6 @@ module _ {accepts : Extent → Bool} {score : Extent → ℕ} {verdict : Info �
             still = subst (λ w. IfSome w (λ n. limit ≡ Some (given + n))) (sym same) going.still;
             stopped = λ e. worked;
           };
-          answer = limited_end limit given (answers t.entries accepts score None) over.none;
+          answer = limited_end limit given (answers t.entries meaning None) over.none;
           worked = worked;
         }

@@ -1,6 +1,7 @@
 -- What opening a node means for the answers to come.
 use Rattle.std.proofs.Common.{◌≡◌, ◌<◌, ◌≤◌, ◌+◌, ◌-◌, ◌^◌, ℕ, zero, suc, Bool, true, false, cond, List, [], ◌∷◌, ◌++◌}
 use Rattle.std.proofs.{Common.{length, take, refl, sym, ◌∙◌, ap, subst, arith, add-one}, lemmas.Bool.{cond_both}}
+use Rattle.rt_geo.specs.Laws.{Meaning}
 use Rattle.rt_geo.specs.{Laws.{Extent, IsLawful, IsQuestion, extent_of}, declared.geometry.Info.{Info}}
 use Rattle.rt_geo.specs.declared.geometry.{Verdict.{Verdict}, Within.{Within, TheVariants.{Not, Partly, Fully}}}
 use Rattle.rt_tree.specs.Packed.{Packed, IsSound, IsSubtree, child_nodes, entries_under, extent_of_node, node_at}
@@ -31,94 +32,90 @@ verdict_told v k h = ap (λ w. record { within = w; score = v.score }) (within_t
 
 -- ---- the answers under the children of a higher node
 
-module _ {t : Packed} {accepts : Extent → Bool} {score : Extent → ℕ} {number : ℕ} {v : Verdict}
-    (opened : IsOpenable t accepts score number v) (high : 2 ≤ (node_at t number).level) where
+module _ {t : Packed} {meaning : Meaning} {number : ℕ} {v : Verdict}
+    (opened : IsOpenable t meaning number v) (high : 2 ≤ (node_at t number).level) where
   -- those of the first so many
   abbrev pub answers_upto : ℕ → List Answer
-  answers_upto i = under_all accepts score t (height_at t number - 1) (take i (child_nodes t (node_at t number)))
+  answers_upto i = under_all meaning t (height_at t number - 1) (take i (child_nodes t (node_at t number)))
 
   pub upto_more : (i : ℕ) → i < (node_at t number).count
-      → answers_upto i ++ answers_under t accepts score ((node_at t number).first + i) ≡ answers_upto (i + 1)
+      → answers_upto i ++ answers_under t meaning ((node_at t number).first + i) ≡ answers_upto (i + 1)
   upto_more i lt =
       let ks = child_nodes t (node_at t number) in
       let m = node_at t ((node_at t number).first + i) in
       let h = height_at t number - 1 in
       let k = child t number opened.tree high i lt in
-      let there : under_all accepts score t h (m ∷ []) ≡ answers_under t accepts score ((node_at t number).first + i) =
-      under_all-one accepts score t h m ∙ ap (λ l. among accepts score (entries_under t l m)) (sym k.height) in
-      ap (λ l. under_all accepts score t h (take i ks) ++ l) (sym there)
-      ∙ sym (under_all-append accepts score t h (take i ks) (m ∷ []))
-      ∙ ap (under_all accepts score t h) (sym (take_more_at ks i m k.place k.is))
+      let there : under_all meaning t h (m ∷ []) ≡ answers_under t meaning ((node_at t number).first + i) =
+      under_all-one meaning t h m ∙ ap (λ l. among meaning (entries_under t l m)) (sym k.height) in
+      ap (λ l. under_all meaning t h (take i ks) ++ l) (sym there)
+      ∙ sym (under_all-append meaning t h (take i ks) (m ∷ []))
+      ∙ ap (under_all meaning t h) (sym (take_more_at ks i m k.place k.is))
 
-  pub upto_all : answers_upto (node_at t number).count ≡ answers_under t accepts score number
+  pub upto_all : answers_upto (node_at t number).count ≡ answers_under t meaning number
   upto_all = grind (arith, under_all, all_children, under_all-whole, among, height_suc)
 
-module _ {accepts : Extent → Bool} {score : Extent → ℕ} {verdict : Info → Verdict}
-    (law : IsLawful accepts score verdict) (t : Packed) where
+module _ {meaning : Meaning} (law : IsLawful meaning) (t : Packed) where
   -- answers
-  pub answers_joined : (answers : List Answer) (xs : List Item) → remaining t accepts score (join_answers answers xs)
-      ≡ put_all answer_cmp answers (remaining t accepts score xs)
+  pub answers_joined : (answers : List Answer) (xs : List Item) → remaining t meaning (join_answers answers xs)
+      ≡ put_all answer_cmp answers (remaining t meaning xs)
   answers_joined [] xs = refl
   answers_joined (a ∷ answers) xs =
-      remaining-put accepts score t (item_of a) (join_answers answers xs)
-      ∙ ap (put answer_cmp a) (answers_joined answers xs)
+      remaining-put meaning t (item_of a) (join_answers answers xs) ∙ ap (put answer_cmp a) (answers_joined answers xs)
 
-  pub answers_sound : (answers : List Answer) (xs : List Item) → AllSound t accepts score xs
-      → AllSound t accepts score (join_answers answers xs)
+  pub answers_sound : (answers : List Answer) (xs : List Item) → AllSound t meaning xs
+      → AllSound t meaning (join_answers answers xs)
   answers_sound [] xs all = all
   answers_sound (a ∷ answers) xs all =
-      AllSound-put accepts score t (item_of a) (join_answers answers xs) tt (answers_sound answers xs all)
+      AllSound-put meaning t (item_of a) (join_answers answers xs) tt (answers_sound answers xs all)
 
   -- a node
   node_sound : (k : ℕ) (info : Info) (xs : List Item) → extent_of info ≡ extent_of_node (node_at t k) → 0 < info.level
-      → IsQuestion accepts info → k < length t.nodes → IsSubtree t (height_at t k) (node_at t k)
-      → (node_at t k).level ≤ 24 → AllSound t accepts score xs
-      → AllSound t accepts score (join_node (verdict info) k xs)
+      → IsQuestion meaning.accepts info → k < length t.nodes → IsSubtree t (height_at t k) (node_at t k)
+      → (node_at t k).level ≤ 24 → AllSound t meaning xs → AllSound t meaning (join_node (meaning.verdict info) k xs)
   node_sound k info xs at high question inside tree low a =
-      let v = verdict info in
+      let v = meaning.verdict info in
       let put_in = put item_cmp (item_at v.score (place.Node (waiting_node k v.within))) xs in
-      let below : IsBelow accepts score (extent_of info) v =
+      let below : IsBelow meaning (extent_of info) v =
       record {
         full = λ f. law.faithful.fullness info question high f;
         least = grind arith;
       } in
-      cond_both (is_kept v.within) put_in xs (AllSound t accepts score)
-      (λ h. AllSound-put accepts score t (item_at v.score (place.Node (waiting_node k v.within))) xs
-      (subst (IsOpenable t accepts score k) (sym (verdict_told v k h)) (record {
+      cond_both (is_kept v.within) put_in xs (AllSound t meaning)
+      (λ h. AllSound-put meaning t (item_at v.score (place.Node (waiting_node k v.within))) xs
+      (subst (IsOpenable t meaning k) (sym (verdict_told v k h)) (record {
         inside = inside;
         tree = tree;
         low = low;
-        below = subst (λ c. IsBelow accepts score c v) at below;
+        below = subst (λ c. IsBelow meaning c v) at below;
       })) a)
       (λ h. a)
 
   module _ (sound : IsSound t) (v : Verdict) (small : v.score < 2 ^ 128) where
     -- ---- the children of a higher node
 
-    module _ (number : ℕ) (opened : IsOpenable t accepts score number v) (high : 2 ≤ (node_at t number).level) where
+    module _ (number : ℕ) (opened : IsOpenable t meaning number v) (high : 2 ≤ (node_at t number).level) where
       child_question : (i : ℕ) → i < (node_at t number).count
-          → IsQuestion accepts (info_of_node t v (node_at t ((node_at t number).first + i)))
+          → IsQuestion meaning.accepts (info_of_node t v (node_at t ((node_at t number).first + i)))
       child_question i lt =
-          node_question accepts score t sound v small (node_at t number) (height_at t number - 1) i
+          node_question meaning t sound v small (node_at t number) (height_at t number - 1) i
           ((node_at t number).first + i) opened.low opened.below (child t number opened.tree high i lt)
 
       pub nodes_upto : (xs : List Item) (i : ℕ) → i ≤ (node_at t number).count
-          → remaining t accepts score (join_nodes verdict t v (node_at t number) i xs)
-          ≡ put_all answer_cmp (answers_upto opened high i) (remaining t accepts score xs)
+          → remaining t meaning (join_nodes meaning t v (node_at t number) i xs)
+          ≡ put_all answer_cmp (answers_upto opened high i) (remaining t meaning xs)
       nodes_upto xs zero le = grind (arith, under_all-none)
       nodes_upto xs (suc i) le =
           let lt : i < (node_at t number).count = omega arith in
           let m = (node_at t number).first + i in
           let k = child t number opened.tree high i lt in
-          let R = remaining t accepts score in
-          let those = answers_under t accepts score m in
+          let R = remaining t meaning in
+          let those = answers_under t meaning m in
           let info = info_of_node t v (node_at t m) in
-          let w = (verdict info).within in
-          let ys = join_nodes verdict t v (node_at t number) i xs in
-          let x = item_at (verdict info).score (place.Node (waiting_node m w)) in
+          let w = (meaning.verdict info).within in
+          let ys = join_nodes meaning t v (node_at t number) i xs in
+          let x = item_at (meaning.verdict info).score (place.Node (waiting_node m w)) in
           cond_both (is_kept w) (put item_cmp x ys) ys (λ l. R l ≡ put_all answer_cmp those (R ys))
-          (λ h. remaining-put accepts score t x ys)
-          (λ h.
+          (λ h. remaining-put meaning t x ys) (λ h.
           let never = law.faithful.pruning info (child_question i lt) k.level (kept_not w h) in
           grind (arith, among_none, all_inside))
           ∙ ap (put_all answer_cmp those) (nodes_upto xs i (omega arith))
@@ -126,7 +123,7 @@ module _ {accepts : Extent → Bool} {score : Extent → ℕ} {verdict : Info �
           ∙ sym (put_all-append answer_cmp answer_order (answers_upto opened high i) those (R xs))
           ∙ ap (λ l. put_all answer_cmp l (R xs)) (rw (add-one i) at (upto_more opened high i lt))
 
-      pub nodes_sound : (xs : List Item) (i : ℕ) → i ≤ (node_at t number).count → AllSound t accepts score xs
-          → AllSound t accepts score (join_nodes verdict t v (node_at t number) i xs)
+      pub nodes_sound : (xs : List Item) (i : ℕ) → i ≤ (node_at t number).count → AllSound t meaning xs
+          → AllSound t meaning (join_nodes meaning t v (node_at t number) i xs)
       nodes_sound xs zero le a = a
       nodes_sound xs (suc i) le a = grind (arith, child, node_sound, child_question, nodes_sound xs i (omega arith) a)

@@ -2,6 +2,7 @@
 use Rattle.std.proofs.Common.{◌≡◌, ◌≢◌, ◌≤◌, ◌<◌, ◌+◌, ◌-◌, ℕ, zero, suc, Bool, true, false, cond, Option, Some, None}
 use Rattle.std.proofs.Common.{List, Ordering, [], ◌∷◌, length, refl, sym, ◌∙◌, ap, subst, arith}
 use Rattle.std.specs.{Ordering.{is_gt}, declared.cmp.Reverse.{Reverse}}
+use Rattle.rt_geo.specs.Laws.{Meaning}
 use Rattle.rt_geo.specs.declared.geometry.{Info.{Info}, Verdict.{Verdict}}
 use Rattle.rt_tree.specs.{Packed.{Packed, node_at}, Sorting.{put}}
 use Rattle.rt_search.specs.{Items.{Limited, item_at, item_cmp}, Work.{info_of_node, is_kept}, declared.item.Item.{Item}}
@@ -166,16 +167,16 @@ enough_node wanted v number new xs ys h k =
     enough_trans wanted new (join_node v number xs) (join_node v number ys) k
     (enough_one (is_kept v.within) wanted (item_at v.score (Node (waiting_node number v.within))) xs ys h)
 
-module _ (verdict : Info → Verdict) (t : Packed) (v : Verdict) (n : node.Node) (wanted : Option ℕ) where
+module _ (meaning : Meaning) (t : Packed) (v : Verdict) (n : node.Node) (wanted : Option ℕ) where
   pub enough_nodes : (i : ℕ) (xs ys : List Item) → IsEnough wanted xs ys
-      → IsEnough wanted (join_nodes verdict t v n i xs) (join_nodes verdict t v n i ys)
+      → IsEnough wanted (join_nodes meaning t v n i xs) (join_nodes meaning t v n i ys)
   enough_nodes zero xs ys h = h
   enough_nodes (suc i) xs ys h =
-      let w = verdict (info_of_node t v (node_at t (n.first + i))) in
+      let w = meaning.verdict (info_of_node t v (node_at t (n.first + i))) in
       enough_one (is_kept w.within) wanted (item_at w.score (Node (waiting_node (n.first + i) w.within))) _ _
       (enough_nodes i xs ys h)
 
-  pub rising_nodes : (i : ℕ) (xs : List Item) → IsRising xs → IsRising (join_nodes verdict t v n i xs)
+  pub rising_nodes : (i : ℕ) (xs : List Item) → IsRising xs → IsRising (join_nodes meaning t v n i xs)
   rising_nodes zero xs h = h
   rising_nodes (suc i) xs h = grind (arith, rising_one, rising_nodes i xs h)
 

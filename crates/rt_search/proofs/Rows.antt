@@ -1,8 +1,8 @@
 -- Answers that were worked out by hand: the definitions give them by computing.
 use Rattle.std.proofs.Common.{◌≡◌, refl, ℕ, ℤ, pos, negsuc, zero, suc, Option, [], ◌∷◌, Some, None, length}
-use Rattle.rt_geo.specs.{Boxes.{Rect, rect_of}, Laws.{guided_verdict}}
+use Rattle.rt_geo.specs.{Boxes.{Rect, rect_of}, Laws.{Meaning, guided}}
 use Rattle.rt_geo.specs.{Orders.{by_id, near, order_estimate, order_score}, Regions.{region_accepts, region_state}}
-use Rattle.rt_geo.specs.declared.{entry.Entry.{Entry}, geometry.{Info.{Info}, Verdict.{Verdict}}, order.Order.{Order}}
+use Rattle.rt_geo.specs.declared.{entry.Entry.{Entry}, order.Order.{Order}}
 use Rattle.rt_geo.specs.declared.region.Region.{Region, TheVariants.{All, Window}}
 use Rattle.rt_tree.specs.{Packed.{Packed}, Packing.{pack_of}}
 use Rattle.rt_search.specs.Answers.{accepted, answers}
@@ -37,23 +37,22 @@ window = Window (record { 0 = rect_of (pos 0) (pos 10) (pos 0) (pos 10) })
 abbrev near_point : Order
 near_point = near (record { x = pos 12; y = pos 12 })
 
-abbrev verdict_of : Region → Order → Info → Verdict
-verdict_of region order = guided_verdict (region_state region) (order_estimate order)
+abbrev meaning_of : Region → Order → Meaning
+meaning_of region order =
+    guided (region_accepts region) (region_state region) (order_score order) (order_estimate order)
 
 -- ---- all, near a point
 
-three_nearest : answers tree.entries (region_accepts all) (order_score near_point) (Some 3)
-    ≡ (pos 2, 0) ∷ (pos 5, 0) ∷ (pos 1, 8) ∷ []
+three_nearest : answers tree.entries (meaning_of all near_point) (Some 3) ≡ (pos 2, 0) ∷ (pos 5, 0) ∷ (pos 1, 8) ∷ []
 three_nearest = refl
 
 abbrev opened_near : (limit : Option ℕ) → ℕ
-opened_near = opened_by_search (region_accepts all) (order_score near_point) (verdict_of all near_point) tree
+opened_near = opened_by_search (meaning_of all near_point) tree
 
 opened_for_three : opened_near (Some 3) ≡ 5
 opened_for_three = refl
 
-asked_for_three : asked_by_search (region_accepts all) (order_score near_point) (verdict_of all near_point) tree (Some 3)
-    ≡ 9
+asked_for_three : asked_by_search (meaning_of all near_point) tree (Some 3) ≡ 9
 asked_for_three = refl
 
 opened_for_two : opened_near (Some 2) ≡ 3
@@ -64,31 +63,31 @@ opened_for_none = refl
 
 -- ---- all, by id
 
-all_by_id : answers tree.entries (region_accepts all) (order_score by_id) None
+all_by_id : answers tree.entries (meaning_of all by_id) None
     ≡ (pos 1, 0) ∷ (pos 2, 0) ∷ (pos 3, 0) ∷ (pos 4, 0) ∷ (pos 5, 0) ∷ []
 all_by_id = refl
 
-opened_by_id : opened_by_search (region_accepts all) (order_score by_id) (verdict_of all by_id) tree None ≡ 6
+opened_by_id : opened_by_search (meaning_of all by_id) tree None ≡ 6
 opened_by_id = refl
 
 -- ---- counts
 
-two_in_window : length (accepted tree.entries (region_accepts window)) ≡ 2
+two_in_window : length (accepted tree.entries (meaning_of window by_id)) ≡ 2
 two_in_window = refl
 
-opened_for_window : opened_by_count (verdict_of window by_id) tree ≡ 5
+opened_for_window : opened_by_count (meaning_of window by_id) tree ≡ 5
 opened_for_window = refl
 
-opened_for_all : opened_by_count (verdict_of all by_id) tree ≡ 1
+opened_for_all : opened_by_count (meaning_of all by_id) tree ≡ 1
 opened_for_all = refl
 
-asked_for_all : asked_by_count (verdict_of all by_id) tree ≡ 2
+asked_for_all : asked_by_count (meaning_of all by_id) tree ≡ 2
 asked_for_all = refl
 
 -- ---- an empty tree
 
-nothing_opened : opened_by_search (region_accepts all) (order_score by_id) (verdict_of all by_id) (pack_of 2 []) None ≡ 0
+nothing_opened : opened_by_search (meaning_of all by_id) (pack_of 2 []) None ≡ 0
 nothing_opened = refl
 
-nothing_counted : opened_by_count (verdict_of all by_id) (pack_of 2 []) ≡ 0
+nothing_counted : opened_by_count (meaning_of all by_id) (pack_of 2 []) ≡ 0
 nothing_counted = refl

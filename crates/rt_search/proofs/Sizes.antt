@@ -3,6 +3,7 @@ use Rattle.std.proofs.Common.{◌≡◌, ◌<◌, ◌≤◌, ◌+◌, ◌*◌, �
 use Rattle.std.proofs.{Common.{length, refl, ◌∙◌, ap, arith, length-append}, lemmas.Bool.Decides.{nat_tests}}
 use Rattle.std.proofs.lemmas.{List.{Sorted.{length_permutation}, Sums.{sum_by-cons}}, Nat.{mul-le}}
 use Rattle.std.specs.List.{AllByRecursion, flat_map, sum_by}
+use Rattle.rt_geo.specs.Laws.{Meaning}
 use Rattle.rt_geo.specs.{Laws.{Extent}, declared.geometry.{Info.{Info}, Verdict.{Verdict}}}
 use Rattle.rt_tree.specs.Packed.{Packed, IsSound, IsSubtree, child_nodes, entries_under, node_at}
 use Rattle.rt_tree.specs.declared.tree.Node.{Node}
@@ -63,69 +64,68 @@ one_is_fair t h n s = let p = (size_counts t h n s).0 in omega arith
 pub count_is_fair : (t : Packed) → IsFair t its_children
 count_is_fair t h n s = (size_counts t h n s).1
 
-pub work_cons : (opens : Verdict → Bool) (cost : Node → ℕ) (verdict : Info → Verdict) (t : Packed) (x : Item)
-    (xs : List Item) → work_left opens cost verdict t (x ∷ xs)
-    ≡ work_at opens cost verdict t x.score x.place + work_left opens cost verdict t xs
-work_cons opens cost verdict t x xs = sum_by-cons (λ (y : Item). work_at opens cost verdict t y.score y.place) x xs
+pub work_cons : (opens : Verdict → Bool) (cost : Node → ℕ) (meaning : Meaning) (t : Packed) (x : Item)
+    (xs : List Item) → work_left opens cost meaning t (x ∷ xs)
+    ≡ work_at opens cost meaning t x.score x.place + work_left opens cost meaning t xs
+work_cons opens cost meaning t x xs = sum_by-cons (λ (y : Item). work_at opens cost meaning t y.score y.place) x xs
 
-module _ (opens : Verdict → Bool) (cost : Node → ℕ) (verdict : Info → Verdict) (t : Packed) (fair : IsFair t cost) where
+module _ (opens : Verdict → Bool) (cost : Node → ℕ) (meaning : Meaning) (t : Packed) (fair : IsFair t cost) where
   each_le : (h : ℕ) → ((k : Node) (v : Verdict) → IsSubtree t h k
-      → reached opens cost verdict t h v k ≤ (h + 1) * k.size) → (v : Verdict) (ks : List Node)
+      → reached opens cost meaning t h v k ≤ (h + 1) * k.size) → (v : Verdict) (ks : List Node)
       → AllByRecursion (IsSubtree t h) ks
-      → sum_by (λ k. let w = verdict (info_of_node t v k) in cond (opens w) (reached opens cost verdict t h w k) 0)
+      → sum_by (λ k. let w = meaning.verdict (info_of_node t v k) in cond (opens w) (reached opens cost meaning t h w k) 0)
       ks ≤ (h + 1) * sum_by (λ k. k.size) ks
   each_le h f v [] a = omega arith
   each_le h f v (k ∷ ks) a =
-      let w = verdict (info_of_node t v k) in
-      let here = cond_le (opens w) (reached opens cost verdict t h w k) ((h + 1) * k.size) (f k w a.0) in
-      let more = sum_by-cons
-      (λ (k : Node). let w = verdict (info_of_node t v k) in
-      cond (opens w) (reached opens cost verdict t h w k) 0) k ks in
+      let w = meaning.verdict (info_of_node t v k) in
+      let here = cond_le (opens w) (reached opens cost meaning t h w k) ((h + 1) * k.size) (f k w a.0) in
+      let more = sum_by-cons (λ (k : Node). let w = meaning.verdict (info_of_node t v k) in
+      cond (opens w) (reached opens cost meaning t h w k) 0) k ks in
       let sizes = ap (λ n. (h + 1) * n) (sum_by-cons (λ (k : Node). k.size) k ks) in
       omega (arith, each_le h f v ks a.1)
 
   work_from_le : (h : ℕ) (n : Node) (v : Verdict) → IsSubtree t h n
-      → reached opens cost verdict t h v n ≤ (h + 1) * n.size
+      → reached opens cost meaning t h v n ≤ (h + 1) * n.size
   work_from_le zero n v sub = omega (arith, fair zero n sub)
   work_from_le (suc h) n v sub =
       let sizes = ap (λ m. (h + 1) * m) sub.size in
       omega (arith, fair (suc h) n sub, each_le h (λ k w. work_from_le h k w) v (child_nodes t n) sub.below)
 
-  pub work_le : IsSound t → reached_from_root opens cost verdict t ≤ 2 ^ 32
+  pub work_le : IsSound t → reached_from_root opens cost meaning t ≤ 2 ^ 32
   work_le sound = grind (arith, nat_tests, length_permutation, size_under, mul-le, work_from_le)
 
-  cost_le_work : (h : ℕ) (v : Verdict) (n : Node) → cost n ≤ reached opens cost verdict t h v n
+  cost_le_work : (h : ℕ) (v : Verdict) (n : Node) → cost n ≤ reached opens cost meaning t h v n
   cost_le_work zero v n = omega arith
   cost_le_work (suc h) v n = omega arith
 
   -- opening a node that waits is part of the work
   pub done_upto : (done s : ℕ) (n : WaitingNode) (xs : List Item) → opens (verdict_on s n) ≡ true
-      → done + work_left opens cost verdict t (item_at s (place.Node n) ∷ xs) ≡ reached_from_root opens cost verdict t
-      → done + cost (node_at t n.number.number) ≤ reached_from_root opens cost verdict t
+      → done + work_left opens cost meaning t (item_at s (place.Node n) ∷ xs) ≡ reached_from_root opens cost meaning t
+      → done + cost (node_at t n.number.number) ≤ reached_from_root opens cost meaning t
   done_upto done s n xs open' course =
       let k = node_at t n.number.number in
-      let whole : work_at opens cost verdict t s (place.Node n)
-      ≡ reached opens cost verdict t (height_at t n.number.number) (verdict_on s n) k = rw open' refl in
+      let whole : work_at opens cost meaning t s (place.Node n)
+      ≡ reached opens cost meaning t (height_at t n.number.number) (verdict_on s n) k = rw open' refl in
       let least = cost_le_work (height_at t n.number.number) (verdict_on s n) k in
-      omega (arith, work_cons opens cost verdict t (item_at s (place.Node n)) xs)
+      omega (arith, work_cons opens cost meaning t (item_at s (place.Node n)) xs)
 
   -- and keeps the work done small
   pub done_le : IsSound t → (done s : ℕ) (n : WaitingNode) (xs : List Item) → opens (verdict_on s n) ≡ true
-      → done + work_left opens cost verdict t (item_at s (place.Node n) ∷ xs) ≡ reached_from_root opens cost verdict t
+      → done + work_left opens cost meaning t (item_at s (place.Node n) ∷ xs) ≡ reached_from_root opens cost meaning t
       → done + cost (node_at t n.number.number) ≤ 2 ^ 32
   done_le sound done s n xs open' course = omega (arith, work_le sound, done_upto done s n xs open' course)
 
 -- ---- room
 
-module _ (accepts : Extent → Bool) (score : Extent → ℕ) (t : Packed) where
+module _ (meaning : Meaning) (t : Packed) where
   pub held_cons : (x : Item) (xs : List Item) → held t (x ∷ xs) ≡ size_at t x.place + held t xs
   held_cons x xs = sum_by-cons (λ (y : Item). size_at t y.place) x xs
 
-  size_of : (s : ℕ) (p : Place) → IsSoundAt t accepts score s p → 0 < size_at t p
+  size_of : (s : ℕ) (p : Place) → IsSoundAt t meaning s p → 0 < size_at t p
   size_of s (place.Node n) h = (size_counts t (height_at t n.number.number) (node_at t n.number.number) h.tree).0
   size_of s (place.Entry i) h = omega arith
 
   -- each item stands for an entry of its own
-  pub length_le_held : (xs : List Item) → AllSound t accepts score xs → length xs ≤ held t xs
+  pub length_le_held : (xs : List Item) → AllSound t meaning xs → length xs ≤ held t xs
   length_le_held [] a = omega arith
   length_le_held (x ∷ xs) a = omega (arith, held_cons x xs, size_of x.score x.place a.0, length_le_held xs a.1)

@@ -4,6 +4,7 @@ use Rattle.std.proofs.{Common.{refl, sym, ◌∙◌, ap, subst, arith}, lemmas.B
 use Rattle.std.proofs.lemmas.{Bool.Decides.{nat_tests}, List.{nil_from_length, Sorted.{length_permutation}}}
 use Rattle.std.proofs.lemmas.List.Sums.{sum_by-cons}
 use Rattle.std.specs.Prelude.{IfSome}
+use Rattle.rt_geo.specs.Laws.{Meaning}
 use Rattle.rt_search.specs.{Remaining.{remaining}, Answers.{answers}, Joining.{root_item, root_items}, Kept.{IsRising}}
 use Rattle.rt_search.specs.{Limits.{IsEnough}, Progress.{IsGiving, IsInLimit, IsOnCourse, IsSearching, work_left}}
 use Rattle.rt_search.specs.Work.{reached_from_root, HasWorked, is_reached, is_within_bound, its_children, one_node}
@@ -22,10 +23,10 @@ within_zero (Some b) = grind (arith, nat_tests)
 pub some_nodes : (t : Packed) → 0 < length t.nodes → (length t.nodes == 0) ≡ false
 some_nodes t some = grind (arith, nat_tests)
 
-pub root_work : (opens : Verdict → Bool) (cost : Node → ℕ) (verdict : Info → Verdict) (t : Packed)
-    → opens root_verdict ≡ true → 0 < length t.nodes → work_left opens cost verdict t (root_item t ∷ [])
-    ≡ reached_from_root opens cost verdict t
-root_work opens cost verdict t open' some = grind (arith, sum_by-cons, some_nodes)
+pub root_work : (opens : Verdict → Bool) (cost : Node → ℕ) (meaning : Meaning) (t : Packed)
+    → opens root_verdict ≡ true → 0 < length t.nodes → work_left opens cost meaning t (root_item t ∷ [])
+    ≡ reached_from_root opens cost meaning t
+root_work opens cost meaning t open' some = grind (arith, sum_by-cons, some_nodes)
 
 pub nat_eq_false : {n : ℕ} → (n == 0) ≡ false → 0 < n
 nat_eq_false h = grind (arith, nat_tests)
@@ -39,26 +40,26 @@ pub from_first : (wanted limit : Option ℕ) → IfSome wanted (λ n. limit ≡ 
 from_first None limit h = tt
 from_first (Some n) limit h = h ∙ ap Some (omega arith)
 
-module _ (accepts : Extent → Bool) (score : Extent → ℕ) (verdict : Info → Verdict) (t : Packed) (sound : IsSound t)
+module _ (meaning : Meaning) (t : Packed) (sound : IsSound t)
   where
-    root_course : (cost : Node → ℕ) → 0 < length t.nodes → IsOnCourse accepts score verdict cost t 0 (root_item t ∷ [])
+    root_course : (cost : Node → ℕ) → 0 < length t.nodes → IsOnCourse meaning cost t 0 (root_item t ∷ [])
     root_course cost some = record {
-      in_all = omega (arith, root_work (is_reached None) cost verdict t refl some);
+      in_all = omega (arith, root_work (is_reached None) cost meaning t refl some);
       at_each = grind (arith, all_each, root_work, within_zero);
     }
 
-    pub empty_answers : length t.nodes ≡ 0 → answers t.entries accepts score None ≡ []
+    pub empty_answers : length t.nodes ≡ 0 → answers t.entries meaning None ≡ []
     empty_answers none = grind (arith, cases_lt, nil_from_length)
 
     -- a search has begun
     pub started : (limit : Option ℕ) (capacity : ℕ) (wanted : Option ℕ) (items : List Item)
         → length t.entries ≤ capacity → IfSome wanted (λ n. limit ≡ Some n) → IsEnough wanted items (root_items t)
-        → IsGiving accepts score verdict t limit 0 0 0 capacity wanted items
+        → IsGiving meaning t limit 0 0 0 capacity wanted items
     started limit capacity wanted items room first enough = record {
       state = record {
         all = root_items t;
         state =
-            cond_both (length t.nodes == 0) [] (root_item t ∷ []) (IsSearching accepts score verdict t 0 0)
+            cond_both (length t.nodes == 0) [] (root_item t ∷ []) (IsSearching meaning t 0 0)
             (λ h. grind arith) (λ h. let some = nat_eq_false h in record {
               tree = sound;
               sound = grind arith;
@@ -68,14 +69,12 @@ module _ (accepts : Extent → Bool) (score : Extent → ℕ) (verdict : Info �
             });
         rising = cond_both (length t.nodes == 0) [] (root_item t ∷ []) IsRising (λ h. tt) (λ h. (tt, tt));
         follows = cond_both (length t.nodes == 0) [] (root_item t ∷ [])
-            (λ l. remaining t accepts score l ≡ answers t.entries accepts score None)
-            (λ h. sym (empty_answers (eqb-true _ 0 h)))
+            (λ l. remaining t meaning l ≡ answers t.entries meaning None) (λ h. sym (empty_answers (eqb-true _ 0 h)))
             (λ h. let some = nat_eq_false h in grind (arith, put_all-nil, answer_order, among-IsPermutation));
         enough = enough;
       };
       room = room;
       in_limit = none_given limit;
       still = from_first wanted limit first;
-      stopped = λ e. subst (λ l. HasWorked accepts score verdict t l 0 0) (sym e)
-          (record { in_nodes = refl; in_checks = refl });
+      stopped = λ e. subst (λ l. HasWorked meaning t l 0 0) (sym e) (record { in_nodes = refl; in_checks = refl });
     }

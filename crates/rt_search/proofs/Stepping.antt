@@ -2,6 +2,7 @@
 use Rattle.std.proofs.{lemmas.Bool.Decides.{nat_tests}, Common.{false, cond, List, [], ◌∷◌, length, Option}}
 use Rattle.std.proofs.Common.{Some, None, refl, sym, ◌∙◌, ap, subst, arith, ◌≡◌, ◌<◌, ◌≤◌, ◌+◌, ◌^◌, ℕ, ℤ, Bool, true}
 use Rattle.std.proofs.lemmas.Bool.{cond-false, cond-true, le-leb, lt-leb}
+use Rattle.rt_geo.specs.Laws.{Meaning}
 use Rattle.rt_geo.specs.{declared.geometry.{Within.TheVariants.{Partly, Fully}, Info.{Info}}, Laws.{Extent, IsLawful}}
 use Rattle.rt_geo.specs.declared.geometry.Verdict.{Verdict}
 use Rattle.rt_search.specs.Progress.{AddsUp, IsNodeStep, IsOnCourse, IsTaken, held, work_at, work_left}
@@ -30,49 +31,46 @@ pub reached_is : (bound : Option ℕ) (s : ℕ) (n : WaitingNode) → is_reached
     ≡ is_within_bound bound s
 reached_is bound s n = (let k = kept_within n.is_full in rw k refl)
 
-module _ {accepts : Extent → Bool} {score : Extent → ℕ} {verdict : Info → Verdict}
-    (law : IsLawful accepts score verdict) (t : Packed) where
+module _ {meaning : Meaning} (law : IsLawful meaning) (t : Packed) where
   -- no answer to come is below the least item's score
   above_least : (x : Item) (xs : List Item) → AllByRecursion (λ y. is_gt (item_cmp x y) ≡ false) xs
-      → AllSound t accepts score xs → AllByRecursion (λ q. x.score ≤ q.1) (remaining t accepts score xs)
+      → AllSound t meaning xs → AllByRecursion (λ q. x.score ≤ q.1) (remaining t meaning xs)
   above_least x [] a b = tt
   above_least x (y ∷ ys) a b =
-      put_all-all answer_cmp answer_order (λ q. x.score ≤ q.1) (answers_at t accepts score y.score y.place)
-      (remaining t accepts score ys)
-      (all_map (λ q. y.score ≤ q.1) (λ q. x.score ≤ q.1)
+      put_all-all answer_cmp answer_order (λ q. x.score ≤ q.1) (answers_at t meaning y.score y.place)
+      (remaining t meaning ys) (all_map (λ q. y.score ≤ q.1) (λ q. x.score ≤ q.1)
       (λ q m. let up = score_upto x y a.0 in omega arith)
-      (answers_at t accepts score y.score y.place) (at_above accepts score t y.score y.place b.0))
-      (above_least x ys a.1 b.1)
+      (answers_at t meaning y.score y.place) (at_above meaning t y.score y.place b.0)) (above_least x ys a.1 b.1)
 
   none_at : (cost : Node → ℕ) (i : ℤ) (s r : ℕ) (p : Place)
       → is_gt (item_cmp (item_at s (place.Entry i)) (item_at r p)) ≡ false
-      → work_at (is_reached (Some s)) cost verdict t r p ≡ 0
+      → work_at (is_reached (Some s)) cost meaning t r p ≡ 0
   none_at cost i s r (place.Entry j) h = refl
   none_at cost i s r (place.Node n) h = grind (arith, cond-false, reached_is, lt-leb, nat_tests)
 
   -- behind an entry that is least, no node is within its score
   no_work : (cost : Node → ℕ) (i : ℤ) (s : ℕ) (xs : List Item)
       → AllByRecursion (λ y. is_gt (item_cmp (item_at s (place.Entry i)) y) ≡ false) xs
-      → work_left (is_reached (Some s)) cost verdict t xs ≡ 0
+      → work_left (is_reached (Some s)) cost meaning t xs ≡ 0
   no_work cost i s [] a = refl
   no_work cost i s (y ∷ ys) a = grind (arith, none_at, work_cons, no_work cost i s ys a.1)
 
   -- ---- an entry is taken out
 
   pub entry_course : (cost : Node → ℕ) (i : ℤ) (s : ℕ) (done : ℕ) (xs : List Item)
-      → AllByRecursion (λ y. is_gt (item_cmp (item_at s (place.Entry i)) y) ≡ false) xs → AllSound t accepts score xs
-      → IsOnCourse accepts score verdict cost t done (item_at s (place.Entry i) ∷ xs)
-      → IsOnCourse accepts score verdict cost t done xs × (done ≡ reached_from_root (is_reached (Some s)) cost verdict t)
+      → AllByRecursion (λ y. is_gt (item_cmp (item_at s (place.Entry i)) y) ≡ false) xs → AllSound t meaning xs
+      → IsOnCourse meaning cost t done (item_at s (place.Entry i) ∷ xs)
+      → IsOnCourse meaning cost t done xs × (done ≡ reached_from_root (is_reached (Some s)) cost meaning t)
   entry_course cost i s done xs least sound course =
       let x = item_at s (place.Entry i) in
-      let next : remaining t accepts score (x ∷ xs) ≡ (i, s) ∷ remaining t accepts score xs =
-      take_entry accepts score t i s xs least sound in
-      let each = subst (AllByRecursion (λ p. AddsUp verdict cost t done (x ∷ xs) (Some p.1))) next course.at_each in
-      let head : AddsUp verdict cost t done (x ∷ xs) (Some s) = each.0 in
+      let next : remaining t meaning (x ∷ xs) ≡ (i, s) ∷ remaining t meaning xs =
+      take_entry meaning t i s xs least sound in
+      let each = subst (AllByRecursion (λ p. AddsUp meaning cost t done (x ∷ xs) (Some p.1))) next course.at_each in
+      let head : AddsUp meaning cost t done (x ∷ xs) (Some s) = each.0 in
       let none = no_work cost i s xs least in
-      let first = work_cons (is_reached (Some s)) cost verdict t x xs in (
+      let first = work_cons (is_reached (Some s)) cost meaning t x xs in (
         record {
-          in_all = (let h = course.in_all in let k = work_cons (is_reached None) cost verdict t x xs in omega arith);
+          in_all = (let h = course.in_all in let k = work_cons (is_reached None) cost meaning t x xs in omega arith);
           at_each = grind (arith, all_map, work_cons);
         },
         omega arith,
@@ -82,51 +80,50 @@ module _ {accepts : Extent → Bool} {score : Extent → ℕ} {verdict : Info �
 
   node_course : (cost : Node → ℕ) (s : ℕ) (n : WaitingNode) (done : ℕ) (xs new : List Item)
       → AllByRecursion (λ y. is_gt (item_cmp (item_at s (place.Node n)) y) ≡ false) xs
-      → AllSound t accepts score (item_at s (place.Node n) ∷ xs)
-      → remaining t accepts score new ≡ remaining t accepts score (item_at s (place.Node n) ∷ xs)
-      → ((bound : Option ℕ) → work_left (is_reached bound) cost verdict t new + cost (node_at t n.number.number)
-      ≡ work_left (is_reached bound) cost verdict t xs + reached (is_reached bound) cost verdict t
+      → AllSound t meaning (item_at s (place.Node n) ∷ xs)
+      → remaining t meaning new ≡ remaining t meaning (item_at s (place.Node n) ∷ xs)
+      → ((bound : Option ℕ) → work_left (is_reached bound) cost meaning t new + cost (node_at t n.number.number)
+      ≡ work_left (is_reached bound) cost meaning t xs + reached (is_reached bound) cost meaning t
       (height_at t n.number.number) (verdict_on s n) (node_at t n.number.number))
-      → IsOnCourse accepts score verdict cost t done (item_at s (place.Node n) ∷ xs)
-      → IsOnCourse accepts score verdict cost t (done + cost (node_at t n.number.number)) new
+      → IsOnCourse meaning cost t done (item_at s (place.Node n) ∷ xs)
+      → IsOnCourse meaning cost t (done + cost (node_at t n.number.number)) new
   node_course cost s n done xs new least sound same moves course =
       let x = item_at s (place.Node n) in
       let after = done + cost (node_at t n.number.number) in
       let W : Option ℕ → ℕ =
-      λ bound. reached (is_reached bound) cost verdict t (height_at t n.number.number) (verdict_on s n)
+      λ bound. reached (is_reached bound) cost meaning t (height_at t n.number.number) (verdict_on s n)
       (node_at t n.number.number) in
       record {
         in_all = (
             let all : cond (is_reached None (verdict_on s n)) (W None) 0 ≡ W None =
             cond-true (is_reached None (verdict_on s n)) (W None) 0 (reached_is None s n) in
-            omega (arith, work_cons (is_reached None) cost verdict t x xs, moves None));
-        at_each = subst (AllByRecursion (λ p. AddsUp verdict cost t after new (Some p.1))) (sym same)
-            (all_both (λ p. AddsUp verdict cost t done (x ∷ xs) (Some p.1)) (λ p. s ≤ p.1)
-            (λ p. AddsUp verdict cost t after new (Some p.1))
-            (λ p h le.
+            omega (arith, work_cons (is_reached None) cost meaning t x xs, moves None));
+        at_each = subst (AllByRecursion (λ p. AddsUp meaning cost t after new (Some p.1))) (sym same)
+            (all_both (λ p. AddsUp meaning cost t done (x ∷ xs) (Some p.1)) (λ p. s ≤ p.1)
+            (λ p. AddsUp meaning cost t after new (Some p.1)) (λ p h le.
             let all : cond (is_reached (Some p.1) (verdict_on s n)) (W (Some p.1)) 0 ≡ W (Some p.1) =
             cond-true (is_reached (Some p.1) (verdict_on s n)) (W (Some p.1)) 0
             (reached_is (Some p.1) s n ∙ le-leb s p.1 le) in
-            omega (arith, work_cons (is_reached (Some p.1)) cost verdict t x xs, moves (Some p.1)))
-            (remaining t accepts score (x ∷ xs)) course.at_each
-            (put_all-all answer_cmp answer_order (λ p. s ≤ p.1) (answers_at t accepts score s (place.Node n)) _
-            (at_above accepts score t s (place.Node n) sound.0) (above_least x xs least sound.1)));
+            omega (arith, work_cons (is_reached (Some p.1)) cost meaning t x xs, moves (Some p.1)))
+            (remaining t meaning (x ∷ xs)) course.at_each
+            (put_all-all answer_cmp answer_order (λ p. s ≤ p.1) (answers_at t meaning s (place.Node n)) _
+            (at_above meaning t s (place.Node n) sound.0) (above_least x xs least sound.1)));
       }
 
   node_step : {opened asked s : ℕ} {n : WaitingNode} {xs : List Item} (new : List Item)
-      → IsTaken accepts score verdict t opened asked (item_at s (place.Node n)) xs
-      → remaining t accepts score new ≡ remaining t accepts score (item_at s (place.Node n) ∷ xs)
-      → AllSound t accepts score new → held t new ≤ held t xs + (node_at t n.number.number).size
+      → IsTaken meaning t opened asked (item_at s (place.Node n)) xs
+      → remaining t meaning new ≡ remaining t meaning (item_at s (place.Node n) ∷ xs)
+      → AllSound t meaning new → held t new ≤ held t xs + (node_at t n.number.number).size
       → ((cost : Node → ℕ) (bound : Option ℕ)
-      → work_left (is_reached bound) cost verdict t new + cost (node_at t n.number.number)
-      ≡ work_left (is_reached bound) cost verdict t xs + reached (is_reached bound) cost verdict t
+      → work_left (is_reached bound) cost meaning t new + cost (node_at t n.number.number)
+      ≡ work_left (is_reached bound) cost meaning t xs + reached (is_reached bound) cost meaning t
       (height_at t n.number.number) (verdict_on s n) (node_at t n.number.number))
-      → IsNodeStep accepts score verdict t opened asked s n xs new
+      → IsNodeStep meaning t opened asked s n xs new
   node_step {opened} {asked} {s} {n} {xs} new k same sound size moves = record {
     state = record {
       tree = k.state.tree;
       sound = sound;
-      room = (let r = k.state.room in let h = held_cons accepts score t (item_at s (place.Node n)) xs in
+      room = (let r = k.state.room in let h = held_cons meaning t (item_at s (place.Node n)) xs in
           omega arith);
       opening = node_course one_node s n opened xs new k.least k.state.sound same (moves one_node) k.state.opening;
       asking = node_course its_children s n asked xs new k.least k.state.sound same (moves its_children) k.state.asking;
@@ -135,47 +132,43 @@ module _ {accepts : Extent → Bool} {score : Extent → ℕ} {verdict : Info �
   }
 
   pub leaf_step : {opened asked s : ℕ} {n : WaitingNode} {xs : List Item} → s < 2 ^ 128
-      → (node_at t n.number.number).level ≡ 1
-      → IsTaken accepts score verdict t opened asked (item_at s (place.Node n)) xs
-      → IsNodeStep accepts score verdict t opened asked s n xs
-      (join_answers (answers_among t accepts score (node_at t n.number.number) (node_at t n.number.number).count) xs)
+      → (node_at t n.number.number).level ≡ 1 → IsTaken meaning t opened asked (item_at s (place.Node n)) xs
+      → IsNodeStep meaning t opened asked s n xs
+      (join_answers (answers_among t meaning (node_at t n.number.number) (node_at t n.number.number).count) xs)
   leaf_step {s = s} {n = n} {xs = xs} small low k =
       let number = n.number.number in
       let node = node_at t number in
       let v = verdict_on s n in
       let here = k.state.sound.0 in
       let flat : height_at t number ≡ 0 = (leaf_node t (height_at t number) node here.tree low).0 in
-      let found = answers_among t accepts score node node.count in
+      let found = answers_among t meaning node node.count in
       node_step _ k
       (answers_joined law t found xs
-      ∙ ap (λ l. put_all answer_cmp l (remaining t accepts score xs)) (answers_all accepts score t number here.tree low))
+      ∙ ap (λ l. put_all answer_cmp l (remaining t meaning xs)) (answers_all meaning t number here.tree low))
       (answers_sound law t found xs k.state.sound.1)
       (omega (
         arith,
-        held-join_answers verdict t v found xs,
-        few_under accepts score t number here.tree,
-        ap length (answers_all accepts score t number here.tree low),
+        held-join_answers meaning t v found xs,
+        few_under meaning t number here.tree,
+        ap length (answers_all meaning t number here.tree low),
       ))
       (λ cost bound.
-      let e = work-join_answers verdict t v (is_reached bound) cost found xs in
-      let z : reached (is_reached bound) cost verdict t (height_at t number) v node ≡ cost node =
-      ap (λ h. reached (is_reached bound) cost verdict t h v node) flat in
+      let e = work-join_answers meaning t v (is_reached bound) cost found xs in
+      let z : reached (is_reached bound) cost meaning t (height_at t number) v node ≡ cost node =
+      ap (λ h. reached (is_reached bound) cost meaning t h v node) flat in
       omega arith)
 
   pub inner_step : {opened asked s : ℕ} {n : WaitingNode} {xs : List Item} → s < 2 ^ 128
-      → 2 ≤ (node_at t n.number.number).level
-      → IsTaken accepts score verdict t opened asked (item_at s (place.Node n)) xs
-      → IsNodeStep accepts score verdict t opened asked s n xs
-      (join_nodes verdict t (verdict_on s n) (node_at t n.number.number) (node_at t n.number.number).count xs)
+      → 2 ≤ (node_at t n.number.number).level → IsTaken meaning t opened asked (item_at s (place.Node n)) xs
+      → IsNodeStep meaning t opened asked s n xs
+      (join_nodes meaning t (verdict_on s n) (node_at t n.number.number) (node_at t n.number.number).count xs)
   inner_step {s = s} {n = n} {xs = xs} small high k =
       let number = n.number.number in
       let v = verdict_on s n in
       let here = k.state.sound.0 in
       node_step _ k
       (nodes_upto law t k.state.tree v small number here high xs (node_at t number).count (omega arith)
-      ∙ ap (λ l. put_all answer_cmp l (remaining t accepts score xs)) (upto_all here high))
+      ∙ ap (λ l. put_all answer_cmp l (remaining t meaning xs)) (upto_all here high))
       (nodes_sound law t k.state.tree v small number here high xs (node_at t number).count
-      (omega arith) k.state.sound.1)
-      (held-join_nodes verdict t v number here.tree high xs)
-      (λ cost bound. work-join_nodes verdict t v number here.tree high (is_reached bound) (λ v h. rw h refl) cost
-      xs)
+      (omega arith) k.state.sound.1) (held-join_nodes meaning t v number here.tree high xs)
+      (λ cost bound. work-join_nodes meaning t v number here.tree high (is_reached bound) (λ v h. rw h refl) cost xs)

@@ -3,6 +3,7 @@ use Rattle.std.proofs.Common.{◌≡◌, ◌≢◌, ◌<◌, ◌≤◌, ◌+◌,
 use Rattle.std.proofs.Common.{Some, None, refl, sym, ◌∙◌, ap, subst, arith}
 use Rattle.std.proofs.lemmas.Bool.{cond_both, eq-eqb, eqb-false, eqb-true, ne_eqb}
 use Rattle.std.specs.Prelude.{MatchOption}
+use Rattle.rt_geo.specs.Laws.{Meaning}
 use Rattle.rt_geo.specs.{Laws.{Extent, IsLawful}, declared.geometry.{Info.{Info}, Verdict.{Verdict}}}
 use Rattle.rt_tree.specs.Packed.{Packed, IsSound, node_at}
 use Rattle.rt_search.specs.{Answers.{Answer}, Joining.{join_answers, join_nodes}}
@@ -22,69 +23,64 @@ pub still_more : (w w' : Option ℕ) → w' ≡ w → w ≢ Some 0 → w' ≢ So
 still_more w w' same more = λ e. more (sym same ∙ e)
 
 -- no more waits than there are entries
-pub few_wait : (accepts : Extent → Bool) (score : Extent → ℕ) (verdict : Info → Verdict) (t : Packed)
+pub few_wait : (meaning : Meaning) (t : Packed)
     {opened asked : ℕ} {wanted : Option ℕ} {to_come : List Answer} {items : List Item}
-    → IsUnderWay accepts score verdict t opened asked wanted to_come items → length items ≤ length t.entries
-few_wait accepts score verdict t u =
-    omega (arith, u.enough.few, length_le_held accepts score t u.all u.state.sound, u.state.room)
+    → IsUnderWay meaning t opened asked wanted to_come items → length items ≤ length t.entries
+few_wait meaning t u = omega (arith, u.enough.few, length_le_held meaning t u.all u.state.sound, u.state.room)
 
 -- ---- what was taken out of a frontier
 
-module _ (accepts : Extent → Bool) (score : Extent → ℕ) (verdict : Info → Verdict) (t : Packed) (wanted : Option ℕ)
-    (s : ℕ) (n : WaitingNode) where
+module _ (meaning : Meaning) (t : Packed) (wanted : Option ℕ) (s : ℕ) (n : WaitingNode) where
   enough_children : (xs ys : List Item) → IsEnough wanted xs ys
-      → IsEnough wanted (join_children accepts score verdict t s n xs) (join_children accepts score verdict t s n ys)
+      → IsEnough wanted (join_children meaning t s n xs) (join_children meaning t s n ys)
   enough_children xs ys h =
       let m = node_at t n.number.number in
       let v = verdict_on s n in
       elim (m.level == 1) as
-      (λ b. IsEnough wanted (cond b (join_answers (answers_among t accepts score m m.count) xs) (join_nodes verdict t v m m.count xs))
-      (cond b (join_answers (answers_among t accepts score m m.count) ys) (join_nodes verdict t v m m.count ys))) [
-        | true ↦ enough_put_all wanted (map item_of (answers_among t accepts score m m.count)) xs ys h
-        | false ↦ enough_nodes verdict t v m wanted m.count xs ys h
+      (λ b. IsEnough wanted (cond b (join_answers (answers_among t meaning m m.count) xs) (join_nodes meaning t v m m.count xs))
+      (cond b (join_answers (answers_among t meaning m m.count) ys) (join_nodes meaning t v m m.count ys))) [
+        | true ↦ enough_put_all wanted (map item_of (answers_among t meaning m m.count)) xs ys h
+        | false ↦ enough_nodes meaning t v m wanted m.count xs ys h
       ]
 
-module _ {accepts : Extent → Bool} {score : Extent → ℕ} {verdict : Info → Verdict}
-    (law : IsLawful accepts score verdict) (t : Packed) where
+module _ {meaning : Meaning} (law : IsLawful meaning) (t : Packed) where
   -- ---- a node is opened
 
   -- what the calls leave is what is defined
   pub leaf_joins : (wanted : Option ℕ) (s : ℕ) (n : WaitingNode) (m : node.Node) (new xs : List Item)
       → m ≡ node_at t n.number.number → m.level ≡ 1
-      → IsEnough wanted new (join_answers (answers_among t accepts score m m.count) xs)
-      → IsEnough wanted new (join_children accepts score verdict t s n xs)
+      → IsEnough wanted new (join_answers (answers_among t meaning m m.count) xs)
+      → IsEnough wanted new (join_children meaning t s n xs)
   leaf_joins wanted s n m new xs is low h =
       subst (λ (l : node.Node). IsEnough wanted new (cond (l.level == 1)
-      (join_answers (answers_among t accepts score l l.count) xs)
-      (join_nodes verdict t (verdict_on s n) l l.count xs)))
+      (join_answers (answers_among t meaning l l.count) xs) (join_nodes meaning t (verdict_on s n) l l.count xs)))
       is (rw (eq-eqb m.level 1 low) h)
 
   pub nodes_join : (wanted : Option ℕ) (s : ℕ) (n : WaitingNode) (m : node.Node) (v : Verdict) (new xs : List Item)
       → m ≡ node_at t n.number.number → m.level ≢ 1 → v ≡ verdict_on s n
-      → (let l = node_at t n.number.number in IsEnough wanted new (join_nodes verdict t v l l.count xs))
-      → IsEnough wanted new (join_children accepts score verdict t s n xs)
+      → (let l = node_at t n.number.number in IsEnough wanted new (join_nodes meaning t v l l.count xs))
+      → IsEnough wanted new (join_children meaning t s n xs)
   nodes_join wanted s n m v new xs is high same h =
       let l = node_at t n.number.number in
       let other : (l.level == 1) ≡ false = subst (λ (i : node.Node). (i.level == 1) ≡ false) is (ne_eqb m.level 1 high) in
-      rw other (subst (λ u. IsEnough wanted new (join_nodes verdict t u l l.count xs)) same h)
+      rw other (subst (λ u. IsEnough wanted new (join_nodes meaning t u l l.count xs)) same h)
 
   -- what opening it requires, and what it leads to
   pub record CanGoOn (opened asked : ℕ) (wanted : Option ℕ) (to_come : List Answer) (s : ℕ) (n : WaitingNode)
       (xs : List Item) : Type 0 where
     pub tree : IsSound t
-    pub node : IsOpenable t accepts score n.number.number (verdict_on s n)
+    pub node : IsOpenable t meaning n.number.number (verdict_on s n)
     pub room : length xs + (node_at t n.number.number).count ≤ length t.entries
     pub opened_low : opened + 1 ≤ 2 ^ 32
     pub asked_low : asked + (node_at t n.number.number).count ≤ 2 ^ 32
-    pub opened_upto : opened + 1 ≤ reached_from_root (is_reached None) one_node verdict t
-    pub next : (new : List Item) → IsEnough wanted new (join_children accepts score verdict t s n xs)
-        → IsUnderWay accepts score verdict t (opened + 1) (asked + (node_at t n.number.number).count) wanted
+    pub opened_upto : opened + 1 ≤ reached_from_root (is_reached None) one_node meaning t
+    pub next : (new : List Item) → IsEnough wanted new (join_children meaning t s n xs)
+        → IsUnderWay meaning t (opened + 1) (asked + (node_at t n.number.number).count) wanted
         to_come new
 
   pub go_on : {opened asked : ℕ} {wanted limit : Option ℕ} {to_come : List Answer} {items xs : List Item}
       (out : Option ScoredNode × Option Answer) (m : ScoredNode) → m.score < 2 ^ 128 → wanted ≡ limit → limit ≢ Some 0
-      → out.0 ≡ Some m → IsTakenOut (taken_item out) items xs
-      → IsUnderWay accepts score verdict t opened asked wanted to_come items
+      → out.0 ≡ Some m → IsTakenOut (taken_item out) items xs → IsUnderWay meaning t opened asked wanted to_come items
       → CanGoOn opened asked wanted to_come m.score m.node xs
   go_on {opened} {asked} {wanted} {limit} {to_come} {items} {xs} out m small is_limit some told took u =
       let more = still_more limit wanted is_limit some in
@@ -95,22 +91,21 @@ module _ {accepts : Extent → Bool} {score : Extent → ℕ} {verdict : Info �
       let k = first_kept wanted x xs u.all more (subst (λ l. IsEnough wanted l u.all) is u.enough) in
       let ys = k.0 in
       let up = subst IsRising k.1.0 u.rising in
-      let taken : IsTaken accepts score verdict t opened asked x ys = record {
+      let taken : IsTaken meaning t opened asked x ys = record {
         least = up.0;
-        state = subst (IsSearching accepts score verdict t opened asked) k.1.0 u.state;
+        state = subst (IsSearching meaning t opened asked) k.1.0 u.state;
       } in
       let k' = node_at t n.number.number in
       let v = verdict_on s n in
-      let found = answers_among t accepts score k' k'.count in
+      let found = answers_among t meaning k' k'.count in
       let level = subtree_level t (height_at t n.number.number) k' taken.state.sound.0.tree in
-      let next = join_children accepts score verdict t s n ys in
-      let step : IsNodeStep accepts score verdict t opened asked s n ys next =
-      cond_both (k'.level == 1) (join_answers found ys) (join_nodes verdict t v k' k'.count ys)
-      (IsNodeStep accepts score verdict t opened asked s n ys)
-      (λ e. leaf_step law t small (eqb-true k'.level 1 e) taken)
+      let next = join_children meaning t s n ys in
+      let step : IsNodeStep meaning t opened asked s n ys next =
+      cond_both (k'.level == 1) (join_answers found ys) (join_nodes meaning t v k' k'.count ys)
+      (IsNodeStep meaning t opened asked s n ys) (λ e. leaf_step law t small (eqb-true k'.level 1 e) taken)
       (λ e. let other = eqb-false k'.level 1 e in inner_step law t small (omega arith) taken) in
-      let h = held_cons accepts score t x ys in
-      let few = length_le_held accepts score t ys taken.state.sound.1 in
+      let h = held_cons meaning t x ys in
+      let few = length_le_held meaning t ys taken.state.sound.1 in
       let count = (size_counts t (height_at t n.number.number) k' taken.state.sound.0.tree).1 in
       let r = taken.state.room in
       let opens = reached_is None s n in
@@ -118,50 +113,48 @@ module _ {accepts : Extent → Bool} {score : Extent → ℕ} {verdict : Info �
         tree = taken.state.tree;
         node = taken.state.sound.0;
         room = omega arith;
-        opened_low = done_le (is_reached None) one_node verdict t (one_is_fair t) taken.state.tree opened s n ys opens
+        opened_low = done_le (is_reached None) one_node meaning t (one_is_fair t) taken.state.tree opened s n ys opens
             taken.state.opening.in_all;
-        asked_low = done_le (is_reached None) its_children verdict t (count_is_fair t) taken.state.tree asked s n ys
+        asked_low = done_le (is_reached None) its_children meaning t (count_is_fair t) taken.state.tree asked s n ys
             opens taken.state.asking.in_all;
-        opened_upto = done_upto (is_reached None) one_node verdict t (one_is_fair t) opened s n ys opens
+        opened_upto = done_upto (is_reached None) one_node meaning t (one_is_fair t) opened s n ys opens
             taken.state.opening.in_all;
         next = λ new h. record {
           all = next;
           state = step.state;
-          rising = cond_both (k'.level == 1) (join_answers found ys) (join_nodes verdict t v k' k'.count ys) IsRising
+          rising = cond_both (k'.level == 1) (join_answers found ys) (join_nodes meaning t v k' k'.count ys) IsRising
               (λ e. rising_put_all (map item_of found) ys up.1)
-              (λ e. rising_nodes verdict t v k' wanted k'.count ys up.1);
-          follows = step.same ∙ ap (remaining t accepts score) (sym k.1.0) ∙ u.follows;
-          enough = enough_trans wanted new (join_children accepts score verdict t s n xs) next h
-              (enough_children accepts score verdict t wanted s n xs ys k.1.1);
+              (λ e. rising_nodes meaning t v k' wanted k'.count ys up.1);
+          follows = step.same ∙ ap (remaining t meaning) (sym k.1.0) ∙ u.follows;
+          enough = enough_trans wanted new (join_children meaning t s n xs) next h
+              (enough_children meaning t wanted s n xs ys k.1.1);
         };
       }
 
   -- an entry was taken out, or nothing
   pub ended : (out : Option Answer) (new : List Item) {opened asked : ℕ} {wanted wanted' : Option ℕ}
       {to_come : List Answer} {items : List Item} → wanted ≢ Some 0 → IsTakenOut (taken_entry out) items new
-      → wanted' ≡ wanted_after (taken_entry out) wanted
-      → IsUnderWay accepts score verdict t opened asked wanted to_come items
-      → MatchOption out (IsOver accepts score verdict t opened asked wanted' to_come new)
-      (λ a. IsFound accepts score verdict t opened asked wanted' to_come a new)
+      → wanted' ≡ wanted_after (taken_entry out) wanted → IsUnderWay meaning t opened asked wanted to_come items
+      → MatchOption out (IsOver meaning t opened asked wanted' to_come new)
+      (λ a. IsFound meaning t opened asked wanted' to_come a new)
   ended None new more took same u = grind (arith, none_left)
   ended (Some a) xs {opened} {asked} {wanted} {to_come = to_come} more took same u =
       let x = item_at a.1 (place.Entry a.0) in
       let k = first_kept wanted x xs u.all more (subst (λ l. IsEnough wanted l u.all) took.0 u.enough) in
       let ys = k.0 in
       let up = subst IsRising k.1.0 u.rising in
-      let taken : IsTaken accepts score verdict t opened asked x ys = record {
+      let taken : IsTaken meaning t opened asked x ys = record {
         least = up.0;
-        state = subst (IsSearching accepts score verdict t opened asked) k.1.0 u.state;
+        state = subst (IsSearching meaning t opened asked) k.1.0 u.state;
       } in
       let sound = taken.state.sound.1 in
       let o = entry_course law t one_node a.0 a.1 opened ys taken.least sound taken.state.opening in
       let b = entry_course law t its_children a.0 a.1 asked ys taken.least sound taken.state.asking in
-      let h = held_cons accepts score t x ys in
+      let h = held_cons meaning t x ys in
       let r = taken.state.room in
-      subst (λ w. IsFound accepts score verdict t opened asked w to_come a xs) (sym same) (record {
-        rest = remaining t accepts score ys;
-        first = sym u.follows ∙ ap (remaining t accepts score) k.1.0
-            ∙ take_entry accepts score t a.0 a.1 ys taken.least sound;
+      subst (λ w. IsFound meaning t opened asked w to_come a xs) (sym same) (record {
+        rest = remaining t meaning ys;
+        first = sym u.follows ∙ ap (remaining t meaning) k.1.0 ∙ take_entry meaning t a.0 a.1 ys taken.least sound;
         state = record {
           all = ys;
           state = record { tree = taken.state.tree; sound = sound; room = omega arith; opening = o.0; asking = b.0 };

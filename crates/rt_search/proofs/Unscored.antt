@@ -2,6 +2,7 @@
 use Rattle.std.proofs.Common.{◌≡◌, ◌≢◌, ◌≤◌, ◌+◌, ◌&&◌, ℕ, zero, suc, Bool, cond, List, [], ◌∷◌, length, map}
 use Rattle.std.proofs.{Common.{Option, Some, None, refl, ◌∙◌, ap, arith}, lemmas.List.{Sums.{sum_by-cons}}}
 use Rattle.std.specs.{Prelude.{IfSome}, List.{AllByRecursion, sum_by}}
+use Rattle.rt_geo.specs.Laws.{Meaning}
 use Rattle.rt_geo.specs.{Laws.{Extent, IsLawful}, declared.geometry.{Info.{Info}, Verdict.{Verdict}}}
 use Rattle.rt_tree.specs.{Packed.{Packed, IsSound, IsSubtree, child_nodes}, declared.tree.Node.{Node}}
 use Rattle.rt_search.specs.{Progress.{AddsUp, IsGiving, IsOnCourse, work_left}}
@@ -16,21 +17,21 @@ use Rattle.rt_search.proofs.{WalkWhole.{tree_answers, tree_few}, Working.{held-j
 
 -- ---- any bound opens what none does
 
-module _ (verdict : Info → Verdict) (unscored : IsUnscored verdict) (t : Packed) (within : Option ℕ) (cost : Node → ℕ) where
+module _ (meaning : Meaning) (unscored : IsUnscored meaning) (t : Packed) (within : Option ℕ) (cost : Node → ℕ) where
   abbrev below : (bound : Option ℕ) → (h : ℕ) → Verdict → Node → ℕ
   below bound h v k =
-      let w = verdict (info_of_node t v k) in cond (is_reached bound w) (reached (is_reached bound) cost verdict t h w k) 0
+      let w = meaning.verdict (info_of_node t v k) in cond (is_reached bound w) (reached (is_reached bound) cost meaning t h w k) 0
 
   children_alike : (h : ℕ) → ((v : Verdict) (n : Node) → IsSubtree t h n
-      → reached (is_reached within) cost verdict t h v n ≡ reached (is_reached None) cost verdict t h v n)
+      → reached (is_reached within) cost meaning t h v n ≡ reached (is_reached None) cost meaning t h v n)
       → (v : Verdict) (ks : List Node) → AllByRecursion (IsSubtree t h) ks
       → sum_by (below within h v) ks ≡ sum_by (below None h v) ks
   children_alike h f v [] sub = refl
   children_alike h f v (k ∷ ks) sub =
       let i = info_of_node t v k in
-      let w = verdict i in
+      let w = meaning.verdict i in
       let level = subtree_level t h k sub.0 in
-      let same = ap (λ o. cond o (reached (is_reached within) cost verdict t h w k) 0) (
+      let same = ap (λ o. cond o (reached (is_reached within) cost meaning t h w k) 0) (
       ap (λ s. is_kept w.within && is_within_bound within s) (unscored i (omega arith))
       ∙ ap (λ l. is_kept w.within && l) (within_zero within))
       ∙ ap (λ m. cond (is_reached None w) m 0) (f w k sub.0) in
@@ -42,63 +43,61 @@ module _ (verdict : Info → Verdict) (unscored : IsUnscored verdict) (t : Packe
       )
 
   reached_alike : (h : ℕ) (v : Verdict) (n : Node) → IsSubtree t h n
-      → reached (is_reached within) cost verdict t h v n ≡ reached (is_reached None) cost verdict t h v n
+      → reached (is_reached within) cost meaning t h v n ≡ reached (is_reached None) cost meaning t h v n
   reached_alike zero v n sub = refl
   reached_alike (suc h) v n sub =
       ap (λ m. cost n + m) (children_alike h (λ w k. reached_alike h w k) v (child_nodes t n) sub.below)
 
   whole_alike : IsSound t
-      → reached_from_root (is_reached within) cost verdict t ≡ reached_from_root (is_reached None) cost verdict t
+      → reached_from_root (is_reached within) cost meaning t ≡ reached_from_root (is_reached None) cost meaning t
   whole_alike sound = grind (arith, reached_alike, nat_eq_false)
 
 -- ---- all were opened
 
-module _ {accepts : Extent → Bool} {score : Extent → ℕ} {verdict : Info → Verdict}
-    (law : IsLawful accepts score verdict) (t : Packed) (sound : IsSound t)
-    (unscored : IsUnscored verdict) where
+module _ {meaning : Meaning} (law : IsLawful meaning) (t : Packed) (sound : IsSound t)
+    (unscored : IsUnscored meaning) where
   abbrev gathered : List Item
-  gathered = join_answers (answers_in_tree t accepts score) []
+  gathered = join_answers (answers_in_tree t meaning) []
 
   -- the work of a search for so many answers is the whole, unless it is for none
   pub work : (limit : Option ℕ) → limit ≢ Some 0 → (cost : Node → ℕ)
-      → search_work cost accepts score verdict t limit ≡ reached_from_root (is_reached None) cost verdict t
+      → search_work cost meaning t limit ≡ reached_from_root (is_reached None) cost meaning t
   work None some cost = refl
   work (Some zero) some cost = absurd (some refl)
   work (Some (suc more)) some cost = grind (arith, whole_alike)
 
-  none_left : (bound : Option ℕ) (cost : Node → ℕ) → work_left (is_reached bound) cost verdict t gathered ≡ 0
-  none_left bound cost =
-      work-join_answers verdict t root_verdict (is_reached bound) cost (answers_in_tree t accepts score) []
+  none_left : (bound : Option ℕ) (cost : Node → ℕ) → work_left (is_reached bound) cost meaning t gathered ≡ 0
+  none_left bound cost = work-join_answers meaning t root_verdict (is_reached bound) cost (answers_in_tree t meaning) []
 
-  course : (cost : Node → ℕ) (done : ℕ) → done ≡ reached_from_root (is_reached None) cost verdict t
-      → IsOnCourse accepts score verdict cost t done gathered
+  course : (cost : Node → ℕ) (done : ℕ) → done ≡ reached_from_root (is_reached None) cost meaning t
+      → IsOnCourse meaning cost t done gathered
   course cost done h = record {
     in_all = omega (arith, none_left None cost);
-    at_each = all_each (λ a. AddsUp verdict cost t done gathered (Some a.1))
-        (λ a. omega (arith, none_left (Some a.1) cost, whole_alike verdict unscored t (Some a.1) cost sound))
-        (remaining t accepts score gathered);
+    at_each = all_each (λ a. AddsUp meaning cost t done gathered (Some a.1))
+        (λ a. omega (arith, none_left (Some a.1) cost, whole_alike meaning unscored t (Some a.1) cost sound))
+        (remaining t meaning gathered);
   }
 
   pub begun : (limit : Option ℕ) (opened asked capacity : ℕ) (wanted : Option ℕ) (items : List Item)
       → length t.entries ≤ capacity → limit ≢ Some 0 → IfSome wanted (λ n. limit ≡ Some n)
-      → opened ≡ reached_from_root (is_reached None) one_node verdict t
-      → asked ≡ reached_from_root (is_reached None) its_children verdict t → IsEnough wanted items gathered
-      → IsGiving accepts score verdict t limit 0 opened asked capacity wanted items
+      → opened ≡ reached_from_root (is_reached None) one_node meaning t
+      → asked ≡ reached_from_root (is_reached None) its_children meaning t → IsEnough wanted items gathered
+      → IsGiving meaning t limit 0 opened asked capacity wanted items
   begun limit opened asked capacity wanted items room some first nodes checks enough = record {
     state = record {
       all = gathered;
       state = record {
         tree = sound;
-        sound = answers_sound law t (answers_in_tree t accepts score) [] tt;
+        sound = answers_sound law t (answers_in_tree t meaning) [] tt;
         room = omega (
           arith,
-          held-join_answers verdict t root_verdict (answers_in_tree t accepts score) [],
-          tree_few accepts score verdict t sound,
+          held-join_answers meaning t root_verdict (answers_in_tree t meaning) [],
+          tree_few meaning t sound,
         );
         opening = course one_node opened nodes;
         asking = course its_children asked checks;
       };
-      rising = rising_put_all (map item_of (answers_in_tree t accepts score)) [] tt;
+      rising = rising_put_all (map item_of (answers_in_tree t meaning)) [] tt;
       follows = grind (arith, answers_joined, tree_answers);
       enough = enough;
     };

@@ -2,6 +2,7 @@
 use Rattle.std.proofs.Common.{◌≡◌, ◌<◌, ◌≤◌, ◌+◌, ◌-◌, ◌^◌, ◌==◌, ◌∙◌, ℕ, Bool, None, [], length, refl, sym, ap, subst}
 use Rattle.std.proofs.{Common.{arith}, lemmas.{Bool.{cond_both, eqb-true}, List.Sorted.{length_permutation}}}
 use Rattle.std.proofs.lemmas.List.{length-map}
+use Rattle.rt_geo.specs.Laws.{Meaning}
 use Rattle.rt_geo.specs.{Laws.{Extent}, declared.geometry.{Info.{Info}, Verdict.{Verdict}}}
 use Rattle.rt_tree.specs.{Packed.{Packed, IsSound, entries_under, height, node_at, root_of}, declared.tree.Node.{Node}}
 use Rattle.rt_search.specs.{Answers.{accepted, answer_cmp, answer_of, answers, scored}, Remaining.{IsOpenable, put_all}}
@@ -12,44 +13,43 @@ use Rattle.rt_search.proofs.{OrderedLists.{length-put_all, put_all-nil}}
 use Rattle.rt_search.proofs.{Orders.{answer_order}, Sizes.{count_is_fair, one_is_fair, size_under, work_le}}
 use Rattle.rt_search.proofs.Starting.{empty_answers, nat_eq_false, some_nodes}
 
-module _ (accepts : Extent → Bool) (score : Extent → ℕ) (verdict : Info → Verdict) (t : Packed) (sound : IsSound t)
+module _ (meaning : Meaning) (t : Packed) (sound : IsSound t)
   where
     -- ---- the answers of a whole tree
 
     -- in order they are those of a scan
-    pub tree_answers : put_all answer_cmp (answers_in_tree t accepts score) [] ≡ answers t.entries accepts score None
+    pub tree_answers : put_all answer_cmp (answers_in_tree t meaning) [] ≡ answers t.entries meaning None
     tree_answers =
-        cond_both (length t.nodes == 0) [] (answers_under t accepts score (length t.nodes - 1))
-        (λ l. put_all answer_cmp l [] ≡ answers t.entries accepts score None)
-        (λ h. sym (empty_answers accepts score verdict t sound (eqb-true _ 0 h)))
-        (λ h. put_all-nil answer_cmp answer_order (answers_under t accepts score (length t.nodes - 1))
-        ∙ among-IsPermutation accepts score (entries_under t (height t) (root_of t)) t.entries
-        (sound.every (nat_eq_false h)))
+        cond_both (length t.nodes == 0) [] (answers_under t meaning (length t.nodes - 1))
+        (λ l. put_all answer_cmp l [] ≡ answers t.entries meaning None)
+        (λ h. sym (empty_answers meaning t sound (eqb-true _ 0 h)))
+        (λ h. put_all-nil answer_cmp answer_order (answers_under t meaning (length t.nodes - 1))
+        ∙ among-IsPermutation meaning (entries_under t (height t) (root_of t)) t.entries (sound.every (nat_eq_false h)))
 
     -- and as many
-    pub tree_count : length (answers_in_tree t accepts score) ≡ length (accepted t.entries accepts)
+    pub tree_count : length (answers_in_tree t meaning) ≡ length (accepted t.entries meaning)
     tree_count =
-        let all = ap length (tree_answers ∙ sym (put_all-nil answer_cmp answer_order (scored t.entries accepts score))) in
-        let here = length-put_all answer_cmp answer_order (answers_in_tree t accepts score) [] in
-        let there = length-put_all answer_cmp answer_order (scored t.entries accepts score) [] in
-        omega (arith, length-map (accepted t.entries accepts) (answer_of score))
+        let all = ap length (tree_answers ∙ sym (put_all-nil answer_cmp answer_order (scored t.entries meaning))) in
+        let here = length-put_all answer_cmp answer_order (answers_in_tree t meaning) [] in
+        let there = length-put_all answer_cmp answer_order (scored t.entries meaning) [] in
+        omega (arith, length-map (accepted t.entries meaning) (answer_of meaning))
 
     -- of which there are no more than entries
-    pub tree_few : length (answers_in_tree t accepts score) ≤ length t.entries
+    pub tree_few : length (answers_in_tree t meaning) ≤ length t.entries
     tree_few =
-        omega (arith, tree_count, length-map (accepted t.entries accepts) (answer_of score), length-scored accepts score t.entries)
+        omega (arith, tree_count, length-map (accepted t.entries meaning) (answer_of meaning), length-scored meaning t.entries)
 
     -- ---- from the root
 
     -- what holds of the node that a walk begins with
     pub record IsWhole (opens : Verdict → Bool) (number : ℕ) : Type 0 where
-      pub node : IsOpenable t accepts score number root_verdict
+      pub node : IsOpenable t meaning number root_verdict
       pub few : (node_at t number).size ≤ length t.entries
-      pub opened_few : work_under opens one_node verdict t root_verdict number ≤ 2 ^ 32
-      pub asked_few : work_under opens its_children verdict t root_verdict number ≤ 2 ^ 32
+      pub opened_few : work_under opens one_node meaning t root_verdict number ≤ 2 ^ 32
+      pub asked_few : work_under opens its_children meaning t root_verdict number ≤ 2 ^ 32
 
     whole_work : (opens : Verdict → Bool) (cost : Node → ℕ) → 0 < length t.nodes
-        → work_under opens cost verdict t root_verdict (length t.nodes - 1) ≡ reached_from_root opens cost verdict t
+        → work_under opens cost meaning t root_verdict (length t.nodes - 1) ≡ reached_from_root opens cost meaning t
     whole_work opens cost some = (let none = some_nodes t some in rw none refl)
 
     pub whole : (opens : Verdict → Bool) (number : ℕ) → number + 1 ≡ length t.nodes → IsWhole opens number
@@ -61,6 +61,6 @@ module _ (accepts : Extent → Bool) (score : Extent → ℕ) (verdict : Info �
         subst (IsWhole opens) {x = length t.nodes - 1} (omega arith) (record {
           node = grind arith;
           few = omega (arith, size_under t (height t) (root_of t) (sound.root some));
-          opened_few = omega (arith, work_le opens one_node verdict t (one_is_fair t) sound);
-          asked_few = omega (arith, work_le opens its_children verdict t (count_is_fair t) sound);
+          opened_few = omega (arith, work_le opens one_node meaning t (one_is_fair t) sound);
+          asked_few = omega (arith, work_le opens its_children meaning t (count_is_fair t) sound);
         })

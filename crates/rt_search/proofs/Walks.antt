@@ -4,7 +4,7 @@ use Rattle.std.proofs.Common.{length, take, get_or, refl, sym, ◌∙◌, ap, su
 use Rattle.std.proofs.lemmas.{Bool.{cond-false, cond-true}, List.{get_or_default, length-take, take_all}}
 use Rattle.std.proofs.lemmas.List.Sums.{sum_by-take-drop}
 use Rattle.std.specs.List.{AllByRecursion, sum_by}
-use Rattle.rt_geo.specs.Laws.{AllAccepted, Extent, IsLawful, IsQuestion, NoneAccepted, extent_of, extent_of_entry}
+use Rattle.rt_geo.specs.Laws.{AllAccepted, Extent, IsLawful, IsQuestion, NoneAccepted, extent_of, extent_of_entry, Meaning}
 use Rattle.rt_geo.specs.declared.{entry.Entry.{Entry}, geometry.{Info.{Info}, Verdict.{Verdict}}}
 use Rattle.rt_tree.specs.Packed.{Packed, IsLeafNode, IsSound, IsSubtree, child_entries, child_nodes, entries_under}
 use Rattle.rt_tree.specs.{Packed.{extent_of_node, node_at}, declared.{nodes.PlainNode.{PlainNode}, tree.Node.{Node}}}
@@ -35,69 +35,68 @@ taken_room takes room fills old new (x ∷ xs) h =
 -- ---- what a walk costs
 
 -- a child that is opened
-pub at_child : (opens : Verdict → Bool) (cost : Node → ℕ) (verdict : Info → Verdict) (t : Packed) (w : Verdict) (k : ℕ)
-    → opens w ≡ true → work_at_child opens cost verdict t w k ≡ work_under opens cost verdict t w k
-at_child opens cost verdict t w k h = rw h refl
+pub at_child : (opens : Verdict → Bool) (cost : Node → ℕ) (meaning : Meaning) (t : Packed) (w : Verdict) (k : ℕ)
+    → opens w ≡ true → work_at_child opens cost meaning t w k ≡ work_under opens cost meaning t w k
+at_child opens cost meaning t w k h = rw h refl
 
-module _ (accepts : Extent → Bool) (score : Extent → ℕ) (t : Packed) where
+module _ (meaning : Meaning) (t : Packed) where
   -- ---- a node of level 1
 
   pub answers_all : (number : ℕ) → IsSubtree t (height_at t number) (node_at t number) → (node_at t number).level ≡ 1
-      → answers_among t accepts score (node_at t number) (node_at t number).count ≡ answers_under t accepts score number
+      → answers_among t meaning (node_at t number) (node_at t number).count ≡ answers_under t meaning number
   answers_all number tree low = grind (arith, leaf_node, part_length, among, take_all)
 
   -- no more are accepted than there are
   pub few_under : (k : ℕ) → IsSubtree t (height_at t k) (node_at t k)
-      → length (answers_under t accepts score k) ≤ (node_at t k).size
+      → length (answers_under t meaning k) ≤ (node_at t k).size
   few_under k tree = grind (arith, length-scored, size_under)
 
   -- so many entries have no more answers
-  pub few_entries : (n : Node) (i : ℕ) → length (answers_among t accepts score n i) ≤ i
+  pub few_entries : (n : Node) (i : ℕ) → length (answers_among t meaning n i) ≤ i
   few_entries n i = grind (arith, length-scored, length-take)
 
-  all_among : (c : Extent) → AllAccepted accepts c → (es : List Entry) → AllByRecursion (IsEntryInside c) es
-      → length (among accepts score es) ≡ length es
+  all_among : (c : Extent) → AllAccepted meaning.accepts c → (es : List Entry) → AllByRecursion (IsEntryInside c) es
+      → length (among meaning es) ≡ length es
   all_among c full [] a = refl
   all_among c full (e ∷ es) a = grind (arith, among_accepted, all_among c full es a.1)
 
-module _ {accepts : Extent → Bool} {score : Extent → ℕ} {verdict : Info → Verdict}
-    (law : IsLawful accepts score verdict) where
+module _ {meaning : Meaning} (law : IsLawful meaning) where
   -- ---- an entry that was asked about
 
   entry_answer : (e : Entry) (info : Info) → extent_of info ≡ extent_of_entry e → info.level ≡ 0
-      → IsQuestion accepts info
-      → answer_if (is_kept (verdict info).within) e.id (verdict info).score ≡ among accepts score (e ∷ [])
+      → IsQuestion meaning.accepts info
+      → answer_if (is_kept (meaning.verdict info).within) e.id (meaning.verdict info).score ≡ among meaning (e ∷ [])
   entry_answer e info at low question =
-      let v = verdict info in
+      let v = meaning.verdict info in
       let one : List Answer = (e.id, v.score) ∷ [] in
-      let split : (b : Bool) → accepts (extent_of_entry e) ≡ b
-      → answer_if (is_kept v.within) e.id v.score ≡ among accepts score (e ∷ []) = elim [
+      let split : (b : Bool) → meaning.accepts (extent_of_entry e) ≡ b
+      → answer_if (is_kept v.within) e.id v.score ≡ among meaning (e ∷ []) = elim [
         | true ↦ λ h.
-            let here = subst (λ c. accepts c ≡ true) (sym at) h in
+            let here = subst (λ c. meaning.accepts c ≡ true) (sym at) h in
             cond-true (is_kept v.within) one [] (kept (is_kept v.within) h refl)
-            ∙ ap (λ s. (e.id, s) ∷ []) (law.exact info question low here ∙ ap score at)
-            ∙ sym (among_accepted accepts score e [] h)
+            ∙ ap (λ s. (e.id, s) ∷ []) (law.exact info question low here ∙ ap meaning.score at)
+            ∙ sym (among_accepted meaning e [] h)
         | false ↦ λ h.
-            let none = (law.faithful.leaf info question low).1 (subst (λ c. accepts c ≡ false) (sym at) h) in
-            cond-false (is_kept v.within) one [] (ap is_kept none) ∙ sym (among_refused accepts score e [] h)
+            let none = (law.faithful.leaf info question low).1 (subst (λ c. meaning.accepts c ≡ false) (sym at) h) in
+            cond-false (is_kept v.within) one [] (ap is_kept none) ∙ sym (among_refused meaning e [] h)
       ] in
-      split (accepts (extent_of_entry e)) refl
+      split (meaning.accepts (extent_of_entry e)) refl
     where
-      kept : (b : Bool) → accepts (extent_of_entry e) ≡ true → is_kept (verdict info).within ≡ b → b ≡ true
+      kept : (b : Bool) → meaning.accepts (extent_of_entry e) ≡ true → is_kept (meaning.verdict info).within ≡ b → b ≡ true
       kept true h k = refl
       kept false h k = grind (arith, kept_not)
 
   -- ---- a node that was asked about
 
-  module _ {t : Packed} {k : ℕ} {info : Info} (can : IsCheckable t accepts k info) where
-    pub known : IsKnown (verdict info).within (node_at t k).size (answers_under t accepts score k)
+  module _ {t : Packed} {k : ℕ} {info : Info} (can : IsCheckable t meaning k info) where
+    pub known : IsKnown (meaning.verdict info).within (node_at t k).size (answers_under t meaning k)
     known =
         let n = node_at t k in
         let es = entries_under t (height_at t k) n in
         let inside = all_inside t (height_at t k) n can.tree in
         record {
-          none = λ is. among_none accepts score (extent_of_node n)
-              (subst (NoneAccepted accepts) can.extent (law.faithful.pruning info can.question can.high is)) es inside;
+          none = λ is. among_none meaning (extent_of_node n)
+              (subst (NoneAccepted meaning.accepts) can.extent (law.faithful.pruning info can.question can.high is)) es inside;
           all = grind (arith, all_among, size_under);
         }
 
@@ -114,41 +113,40 @@ module _ {accepts : Extent → Bool} {score : Extent → ℕ} {verdict : Info �
         leaf_at t n i e sound.table leaf lt read
 
     pub one_entry : {v : Verdict} → v.score < 2 ^ 128 → {n : Node} → IsLeafNode t n
-        → IsBelow accepts score (extent_of_node n) v → (i : ℕ) → i < n.count
-        → let e = get_or (child_entries t n) i no_entry in let w = verdict (info_of_child t v e) in
-        answers_among t accepts score n i ++ answer_if (is_kept w.within) e.id w.score
-        ≡ answers_among t accepts score n (i + 1)
+        → IsBelow meaning (extent_of_node n) v → (i : ℕ) → i < n.count
+        → let e = get_or (child_entries t n) i no_entry in let w = meaning.verdict (info_of_child t v e) in
+        answers_among t meaning n i ++ answer_if (is_kept w.within) e.id w.score ≡ answers_among t meaning n (i + 1)
     one_entry {v} small {n} leaf below i lt =
         let es = child_entries t n in
         let e = get_or es i no_entry in
         let at = entry_at n i leaf lt in
         let one = entry_answer e (info_of_child t v e) refl refl
-        (entry_question accepts score t sound v small n e i below at) in
-        ap (λ l. among accepts score (take i es) ++ l) one ∙ sym (among-append accepts score (take i es) (e ∷ []))
-        ∙ ap (among accepts score) (sym (take_more_at es i e at.place at.is))
+        (entry_question meaning t sound v small n e i below at) in
+        ap (λ l. among meaning (take i es) ++ l) one ∙ sym (among-append meaning (take i es) (e ∷ []))
+        ∙ ap (among meaning) (sym (take_more_at es i e at.place at.is))
 
     -- ---- the children of a higher node
 
-    module _ {v : Verdict} (small : v.score < 2 ^ 128) {number : ℕ} (opened : IsOpenable t accepts score number v)
+    module _ {v : Verdict} (small : v.score < 2 ^ 128) {number : ℕ} (opened : IsOpenable t meaning number v)
         (high : 2 ≤ (node_at t number).level) where
       -- ---- their work
 
       -- that of the first so many
       abbrev pub work_upto : (opens : Verdict → Bool) (cost : Node → ℕ) → ℕ → ℕ
-      work_upto opens cost i = sum_by (work_of_child opens cost verdict t v (height_at t number - 1))
+      work_upto opens cost i = sum_by (work_of_child opens cost meaning t v (height_at t number - 1))
           (take i (child_nodes t (node_at t number)))
 
       pub work_more : (opens : Verdict → Bool) (cost : Node → ℕ) (i : ℕ) → i < (node_at t number).count
           → let k = (node_at t number).first + i in work_upto opens cost (i + 1)
-          ≡ work_upto opens cost i + work_at_child opens cost verdict t (verdict (info_of_node t v (node_at t k))) k
+          ≡ work_upto opens cost i + work_at_child opens cost meaning t (meaning.verdict (info_of_node t v (node_at t k))) k
       work_more opens cost i lt =
           let k = (node_at t number).first + i in
           rw (add-one i)
-          (sum_more verdict t v number opened.tree high (work_of_child opens cost verdict t v (height_at t number - 1)) i lt
-          ∙ ap (λ h. work_upto opens cost i + work_of_child opens cost verdict t v h (node_at t k))
+          (sum_more meaning t v number opened.tree high (work_of_child opens cost meaning t v (height_at t number - 1)) i lt
+          ∙ ap (λ h. work_upto opens cost i + work_of_child opens cost meaning t v h (node_at t k))
           (sym (child t number opened.tree high i lt).height))
 
-      pub work_all : (opens : Verdict → Bool) (cost : Node → ℕ) → work_under opens cost verdict t v number
+      pub work_all : (opens : Verdict → Bool) (cost : Node → ℕ) → work_under opens cost meaning t v number
           ≡ cost (node_at t number) + work_upto opens cost (node_at t number).count
       work_all opens cost = grind (arith, height_suc, all_children)
 
@@ -156,14 +154,14 @@ module _ {accepts : Extent → Bool} {score : Extent → ℕ} {verdict : Info �
 
       few_upto : (i : ℕ) → i ≤ (node_at t number).count
           → length (answers_upto opened high i) ≤ sum_by (λ k. k.size) (take i (child_nodes t (node_at t number)))
-      few_upto zero le = omega (arith, ap length (under_all-none accepts score t (height_at t number - 1)))
+      few_upto zero le = omega (arith, ap length (under_all-none meaning t (height_at t number - 1)))
       few_upto (suc i) le =
           let lt : i < (node_at t number).count = omega arith in
           let k = (node_at t number).first + i in
           let more = rw (add-one i) at (ap length (upto_more opened high i lt)) in
-          let long = length-append (answers_upto opened high i) (answers_under t accepts score k) in
-          let sizes = sum_more verdict t v number opened.tree high (λ k. k.size) i lt in
-          let few = few_under accepts score t k (child t number opened.tree high i lt).tree in
+          let long = length-append (answers_upto opened high i) (answers_under t meaning k) in
+          let sizes = sum_more meaning t v number opened.tree high (λ k. k.size) i lt in
+          let few = few_under meaning t k (child t number opened.tree high i lt).tree in
           omega (arith, few_upto i (omega arith))
 
       -- ---- the loop over them
@@ -171,21 +169,21 @@ module _ {accepts : Extent → Bool} {score : Extent → ℕ} {verdict : Info �
       module _ (opens : Verdict → Bool) where
         -- what walk_child requires of one
         pub record CanVisit (begun asked room k : ℕ) (info : Info) : Type 0 where
-          pub node : IsCheckable t accepts k info
+          pub node : IsCheckable t meaning k info
           pub room_is : (node_at t k).size ≤ room
-          pub opened_few : begun + work_at_child opens one_node verdict t (verdict info) k ≤ 2 ^ 32
-          pub asked_few : asked + 1 + work_at_child opens its_children verdict t (verdict info) k ≤ 2 ^ 32
+          pub opened_few : begun + work_at_child opens one_node meaning t (meaning.verdict info) k ≤ 2 ^ 32
+          pub asked_few : asked + 1 + work_at_child opens its_children meaning t (meaning.verdict info) k ≤ 2 ^ 32
           pub lower : (node_at t k).level < (node_at t number).level
 
         -- one more is part of the whole
         within : (cost : Node → ℕ) (i : ℕ) → i < (node_at t number).count
             → let k = (node_at t number).first + i in cost (node_at t number) + work_upto opens cost i
-            + work_at_child opens cost verdict t (verdict (info_of_node t v (node_at t k))) k
-            ≤ work_under opens cost verdict t v number
+            + work_at_child opens cost meaning t (meaning.verdict (info_of_node t v (node_at t k))) k
+            ≤ work_under opens cost meaning t v number
         within cost i lt =
-            let part = sum_by-take-drop (work_of_child opens cost verdict t v (height_at t number - 1))
+            let part = sum_by-take-drop (work_of_child opens cost meaning t v (height_at t number - 1))
             (child_nodes t (node_at t number)) (i + 1) in
-            let whole = ap (λ h. reached opens cost verdict t h v (node_at t number))
+            let whole = ap (λ h. reached opens cost meaning t h v (node_at t number))
             (height_suc t number opened.tree high) in
             omega (arith, work_more opens cost i lt)
 
@@ -194,8 +192,8 @@ module _ {accepts : Extent → Bool} {score : Extent → ℕ} {verdict : Info �
             → HasTaken takes old (answers_upto opened high i) new → (node_at t number).size ≤ room old
             → (begun begun' asked asked' : ℕ) → begun' ≡ begun + 1 + work_upto opens one_node i
             → asked' ≡ asked + i + work_upto opens its_children i
-            → begun + work_under opens one_node verdict t v number ≤ 2 ^ 32
-            → asked + work_under opens its_children verdict t v number ≤ 2 ^ 32
+            → begun + work_under opens one_node meaning t v number ≤ 2 ^ 32
+            → asked + work_under opens its_children meaning t v number ≤ 2 ^ 32
             → CanVisit begun' asked' (room new) k info
         visit {i} {k} {info = info} is takes room fills old new taken fits begun begun' asked asked' b a begun_fits asked_fits =
             let few = is.few in
@@ -211,11 +209,11 @@ module _ {accepts : Extent → Bool} {score : Extent → ℕ} {verdict : Info �
                     high = k.level;
                     extent = refl;
                     question =
-                        node_question accepts score t sound v small (node_at t number) (height_at t number - 1) i
+                        node_question meaning t sound v small (node_at t number) (height_at t number - 1) i
                         ((node_at t number).first + i) opened.low opened.below k;
                   };
               room_is =
-                  let sizes = sum_more verdict t v number opened.tree high (λ k. k.size) i few in
+                  let sizes = sum_more meaning t v number opened.tree high (λ k. k.size) i few in
                   let size = (inner_at t (height_at t number) (node_at t number) opened.tree high).1.size in
                   let part = sum_by-take-drop (λ (k : Node). k.size) (child_nodes t (node_at t number)) (suc i) in
                   omega (arith, few_upto i (omega (arith, few)));

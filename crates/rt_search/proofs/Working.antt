@@ -3,6 +3,7 @@ use Rattle.std.proofs.Common.{◌≡◌, ◌<◌, ◌≤◌, ◌+◌, ◌-◌, �
 use Rattle.std.proofs.{Common.{take, refl, ◌∙◌, ap, arith, add-one}, lemmas.Bool.{cond_both}}
 use Rattle.std.proofs.lemmas.List.Sums.{sum_by-append}
 use Rattle.std.specs.List.{sum_by}
+use Rattle.rt_geo.specs.Laws.{Meaning}
 use Rattle.rt_geo.specs.declared.geometry.{Info.{Info}, Verdict.{Verdict}}
 use Rattle.rt_tree.specs.{Packed.{Packed, IsSubtree, child_nodes, node_at}, Sorting.{put}, declared.tree.Node.{Node}}
 use Rattle.rt_search.specs.{Answers.{Answer}, Items.{item_at, item_cmp, item_of}, Joining.{join_answers, join_nodes}}
@@ -26,7 +27,7 @@ cond_at_most : (b : Bool) (n : ℕ) → cond b n 0 ≤ n
 cond_at_most true n = omega arith
 cond_at_most false n = omega arith
 
-module _ (verdict : Info → Verdict) (t : Packed) (v : Verdict) where
+module _ (meaning : Meaning) (t : Packed) (v : Verdict) where
   pub held-join_answers : (answers : List Answer) (xs : List Item)
       → held t (join_answers answers xs) ≡ held t xs + length answers
   held-join_answers [] xs = omega arith
@@ -38,12 +39,12 @@ module _ (verdict : Info → Verdict) (t : Packed) (v : Verdict) where
       )
 
   pub work-join_answers : (opens : Verdict → Bool) (cost : Node → ℕ) (answers : List Answer) (xs : List Item)
-      → work_left opens cost verdict t (join_answers answers xs) ≡ work_left opens cost verdict t xs
+      → work_left opens cost meaning t (join_answers answers xs) ≡ work_left opens cost meaning t xs
   work-join_answers opens cost [] xs = refl
   work-join_answers opens cost (a ∷ answers) xs =
       omega (
         arith,
-        sum_by-put item_cmp item_order (λ x. work_at opens cost verdict t x.score x.place) (item_of a)
+        sum_by-put item_cmp item_order (λ x. work_at opens cost meaning t x.score x.place) (item_of a)
             (join_answers answers xs),
         work-join_answers opens cost answers xs,
       )
@@ -51,7 +52,7 @@ module _ (verdict : Info → Verdict) (t : Packed) (v : Verdict) where
   abbrev waiting : Verdict → ℕ → Item
   waiting w m = item_at w.score (place.Node (waiting_node m w.within))
 
-  pub length-join_nodes : (n : Node) (i : ℕ) (xs : List Item) → length (join_nodes verdict t v n i xs) ≤ length xs + i
+  pub length-join_nodes : (n : Node) (i : ℕ) (xs : List Item) → length (join_nodes meaning t v n i xs) ≤ length xs + i
   length-join_nodes n zero xs = omega arith
   length-join_nodes n (suc i) xs = grind (arith, one_longer, length-join_nodes n i xs)
 
@@ -68,35 +69,34 @@ module _ (verdict : Info → Verdict) (t : Packed) (v : Verdict) where
         ∙ ap (λ z. sum_by f (take i (child_nodes t (node_at t number))) + z) (omega arith))
 
     held_upto : (xs : List Item) (i : ℕ) → i ≤ (node_at t number).count
-        → held t (join_nodes verdict t v (node_at t number) i xs) ≤ held t xs + sum_by (λ k. k.size)
+        → held t (join_nodes meaning t v (node_at t number) i xs) ≤ held t xs + sum_by (λ k. k.size)
         (take i (child_nodes t (node_at t number)))
     held_upto xs zero le = omega arith
     held_upto xs (suc i) le = grind (arith, joined_adds, cond_at_most, sum_more, held_upto xs i (omega arith))
 
     pub held-join_nodes : (xs : List Item)
-        → held t (join_nodes verdict t v (node_at t number) (node_at t number).count xs) ≤ held t xs +
+        → held t (join_nodes meaning t v (node_at t number) (node_at t number).count xs) ≤ held t xs +
         (node_at t number).size
     held-join_nodes xs = grind (arith, all_children, held_upto, inner_at)
 
     module _ (opens : Verdict → Bool) (closed : (v : Verdict) → is_kept v.within ≡ false → opens v ≡ false) (cost : Node → ℕ) where
       -- what a child brings to the work
       abbrev brings : ℕ → Node → ℕ
-      brings = work_of_child opens cost verdict t v
+      brings = work_of_child opens cost meaning t v
 
-      brought : (m : ℕ) → let w = verdict (info_of_node t v (node_at t m)) in
-          cond (is_kept w.within) (work_at opens cost verdict t w.score (place.Node (waiting_node m w.within))) 0
+      brought : (m : ℕ) → let w = meaning.verdict (info_of_node t v (node_at t m)) in
+          cond (is_kept w.within) (work_at opens cost meaning t w.score (place.Node (waiting_node m w.within))) 0
           ≡ brings (height_at t m) (node_at t m)
       brought m = grind (arith, cond_both, verdict_told)
 
       work_upto : (xs : List Item) (i : ℕ) → i ≤ (node_at t number).count
-          → work_left opens cost verdict t (join_nodes verdict t v (node_at t number) i xs)
-          ≡ work_left opens cost verdict t xs + sum_by (brings (height_at t number - 1))
+          → work_left opens cost meaning t (join_nodes meaning t v (node_at t number) i xs)
+          ≡ work_left opens cost meaning t xs + sum_by (brings (height_at t number - 1))
           (take i (child_nodes t (node_at t number)))
       work_upto xs zero le = omega arith
       work_upto xs (suc i) le = grind (arith, child, joined_adds, brought, sum_more, work_upto xs i (omega arith))
 
-      pub work-join_nodes : (xs : List Item) → work_left opens cost verdict t
-          (join_nodes verdict t v (node_at t number) (node_at t number).count xs) + cost (node_at t number)
-          ≡ work_left opens cost verdict t xs + reached opens cost verdict t (height_at t number) v
-          (node_at t number)
+      pub work-join_nodes : (xs : List Item) → work_left opens cost meaning t
+          (join_nodes meaning t v (node_at t number) (node_at t number).count xs) + cost (node_at t number)
+          ≡ work_left opens cost meaning t xs + reached opens cost meaning t (height_at t number) v (node_at t number)
       work-join_nodes xs = grind (arith, all_children, height_suc, work_upto)

@@ -1,7 +1,7 @@
 -- What opening a node leaves in the frontier. Nothing that a public call promises speaks of this.
 use Rattle.std.specs.Prelude.{◌≡◌, ◌+◌, ◌-◌, ◌==◌, ℕ, zero, suc, pos, false, if◌then◌else◌, List, [], ◌∷◌}
 use Rattle.std.specs.Prelude.{length, map}
-use Rattle.rt_geo.specs.Laws.{extent_of_entry}
+use Rattle.rt_geo.specs.Laws.{extent_of_entry, Meaning}
 use Rattle.rt_geo.specs.declared.entry.Entry.{Entry}
 use Rattle.rt_geo.specs.declared.geometry.Info.{Info}
 use Rattle.rt_geo.specs.declared.geometry.Verdict.{Verdict}
@@ -39,11 +39,11 @@ abbrev pub no_entry : Entry
 no_entry = record { id = pos 0; bounds = no_box; layer = 0 }
 
 -- the first so many children of a node above level 1 join
-abbrev pub join_nodes : (verdict : Info → Verdict) → Packed → Verdict → Node → (so_many : ℕ) → List Item → List Item
-join_nodes verdict t of_node n zero items = items
-join_nodes verdict t of_node n (suc i) items =
-    join_node (verdict (info_of_node t of_node (node_at t (n.first + i)))) (n.first + i)
-    (join_nodes verdict t of_node n i items)
+abbrev pub join_nodes : Meaning → Packed → Verdict → Node → (so_many : ℕ) → List Item → List Item
+join_nodes meaning t of_node n zero items = items
+join_nodes meaning t of_node n (suc i) items =
+    join_node (meaning.verdict (info_of_node t of_node (node_at t (n.first + i)))) (n.first + i)
+    (join_nodes meaning t of_node n i items)
 
 -- ---- the root, which waits
 

@@ -2,7 +2,7 @@
 use Rattle.std.specs.Prelude.{◌≡◌, ◌-◌, ◌<◌, ◌≤◌, ℕ, Bool, true, false, if◌then◌else◌, List, [], ◌∷◌, length}
 use Rattle.std.specs.List.{AllByRecursion}
 use Rattle.std.specs.declared.cmp.Ordering.{Ordering}
-use Rattle.rt_geo.specs.Laws.{AllAccepted, Extent, IsBoxInside}
+use Rattle.rt_geo.specs.Laws.{AllAccepted, Extent, IsBoxInside, Meaning}
 use Rattle.rt_geo.specs.declared.geometry.Verdict.{Verdict}
 use Rattle.rt_geo.specs.declared.geometry.Within.{Within}
 use Rattle.rt_geo.specs.declared.geometry.Within.TheVariants.{Not, Partly, Fully}
@@ -36,33 +36,33 @@ abbrev pub verdict_on : (score : ℕ) → WaitingNode → Verdict
 verdict_on score n = record { within = if n.is_full then Fully else Partly; score = score }
 
 -- what is known under a verdict: where it is FULLY all are accepted, and each that is accepted has at least its score
-pub record IsBelow (accepts : Extent → Bool) (score : Extent → ℕ) (extent : Extent) (v : Verdict) : Type 0 where
-  pub full : v.within ≡ Fully → AllAccepted accepts extent
-  pub least : (b : Extent) → IsBoxInside b extent → accepts b ≡ true → v.score ≤ score b
+pub record IsBelow (meaning : Meaning) (extent : Extent) (v : Verdict) : Type 0 where
+  pub full : v.within ≡ Fully → AllAccepted meaning.accepts extent
+  pub least : (b : Extent) → IsBoxInside b extent → meaning.accepts b ≡ true → v.score ≤ meaning.score b
 
 -- what holds of a node that may be opened under a verdict
-pub record IsOpenable (t : Packed) (accepts : Extent → Bool) (score : Extent → ℕ) (number : ℕ) (v : Verdict) : Type 0
+pub record IsOpenable (t : Packed) (meaning : Meaning) (number : ℕ) (v : Verdict) : Type 0
   where
     pub inside : number < length t.nodes
     pub tree : IsSubtree t (height_at t number) (node_at t number)
     pub low : (node_at t number).level ≤ 24
-    pub below : IsBelow accepts score (extent_of_node (node_at t number)) v
+    pub below : IsBelow meaning (extent_of_node (node_at t number)) v
 
 -- the same of a node of level 1, by itself
-pub record IsOpenableLeaf (t : Packed) (accepts : Extent → Bool) (score : Extent → ℕ) (n : Node) (v : Verdict) : Type 0
+pub record IsOpenableLeaf (t : Packed) (meaning : Meaning) (n : Node) (v : Verdict) : Type 0
   where
     pub sound : IsSound t
     pub node : IsLeafNode t n
-    pub below : IsBelow accepts score (extent_of_node n) v
+    pub below : IsBelow meaning (extent_of_node n) v
 
 -- what holds of an item
-abbrev pub IsSoundAt : Packed → (accepts : Extent → Bool) → (score : Extent → ℕ) → ℕ → Place → Type 0
-IsSoundAt t accepts score s (place.Node n) = IsOpenable t accepts score n.number.number (verdict_on s n)
-IsSoundAt t accepts score s (place.Entry id) = Unit {0}
+abbrev pub IsSoundAt : Packed → Meaning → ℕ → Place → Type 0
+IsSoundAt t meaning s (place.Node n) = IsOpenable t meaning n.number.number (verdict_on s n)
+IsSoundAt t meaning s (place.Entry id) = Unit {0}
 
 -- what holds of each item
-abbrev pub AllSound : Packed → (accepts : Extent → Bool) → (score : Extent → ℕ) → List Item → Type 0
-AllSound t accepts score = AllByRecursion (λ x. IsSoundAt t accepts score x.score x.place)
+abbrev pub AllSound : Packed → Meaning → List Item → Type 0
+AllSound t meaning = AllByRecursion (λ x. IsSoundAt t meaning x.score x.place)
 
 -- ---- the answers under them
 
@@ -72,13 +72,12 @@ put_all cmp [] zs = zs
 put_all cmp (x ∷ xs) zs = put cmp x (put_all cmp xs zs)
 
 -- the answers that an item stands for
-abbrev pub answers_at : Packed → (accepts : Extent → Bool) → (score : Extent → ℕ) → ℕ → Place → List Answer
-answers_at t accepts score s (place.Node n) =
-    scored (entries_under t (height_at t n.number.number) (node_at t n.number.number)) accepts score
-answers_at t accepts score s (place.Entry id) = (id, s) ∷ []
+abbrev pub answers_at : Packed → Meaning → ℕ → Place → List Answer
+answers_at t meaning s (place.Node n) =
+    scored (entries_under t (height_at t n.number.number) (node_at t n.number.number)) meaning
+answers_at t meaning s (place.Entry id) = (id, s) ∷ []
 
 -- the answers that are still to come, in order
-abbrev pub remaining : Packed → (accepts : Extent → Bool) → (score : Extent → ℕ) → List Item → List Answer
-remaining t accepts score [] = []
-remaining t accepts score (x ∷ xs) =
-    put_all answer_cmp (answers_at t accepts score x.score x.place) (remaining t accepts score xs)
+abbrev pub remaining : Packed → Meaning → List Item → List Answer
+remaining t meaning [] = []
+remaining t meaning (x ∷ xs) = put_all answer_cmp (answers_at t meaning x.score x.place) (remaining t meaning xs)

@@ -1,7 +1,7 @@
 -- What a walk over the nodes leaves with its visitor. Nothing that a public call promises speaks of this.
 use Rattle.std.specs.Prelude.{◌≡◌, ◌+◌, ◌-◌, ◌<◌, ◌≤◌, ◌==◌, ℕ, ℤ, Bool, if◌then◌else◌, List, [], ◌∷◌}
 use Rattle.std.specs.Prelude.{length, take}
-use Rattle.rt_geo.specs.Laws.{Extent, IsQuestion, extent_of}
+use Rattle.rt_geo.specs.Laws.{Extent, IsQuestion, extent_of, Meaning}
 use Rattle.rt_geo.specs.declared.geometry.Info.{Info}
 use Rattle.rt_geo.specs.declared.geometry.Verdict.{Verdict}
 use Rattle.rt_geo.specs.declared.geometry.Within.{Within}
@@ -19,19 +19,16 @@ abbrev pub answer_if : (is_kept : Bool) → (id : ℤ) → (score : ℕ) → Lis
 answer_if is_kept id score = if is_kept then (id, score) ∷ [] else []
 
 -- the answers under a node
-abbrev pub answers_under : Packed → (accepts : Extent → Bool) → (score : Extent → ℕ) → (number : ℕ) → List Answer
-answers_under t accepts score number =
-    scored (entries_under t (height_at t number) (node_at t number)) accepts score
+abbrev pub answers_under : Packed → Meaning → (number : ℕ) → List Answer
+answers_under t meaning number = scored (entries_under t (height_at t number) (node_at t number)) meaning
 
 -- those among the first so many children of a node of level 1
-abbrev pub answers_among : Packed → (accepts : Extent → Bool) → (score : Extent → ℕ) → Node → (so_many : ℕ)
-    → List Answer
-answers_among t accepts score n so_many = scored (take so_many (child_entries t n)) accepts score
+abbrev pub answers_among : Packed → Meaning → Node → (so_many : ℕ) → List Answer
+answers_among t meaning n so_many = scored (take so_many (child_entries t n)) meaning
 
 -- those of a whole tree, as its nodes have them: the last node is the root
-abbrev pub answers_in_tree : Packed → (accepts : Extent → Bool) → (score : Extent → ℕ) → List Answer
-answers_in_tree t accepts score =
-    if length t.nodes == 0 then [] else answers_under t accepts score (length t.nodes - 1)
+abbrev pub answers_in_tree : Packed → Meaning → List Answer
+answers_in_tree t meaning = if length t.nodes == 0 then [] else answers_under t meaning (length t.nodes - 1)
 
 -- what is known of the answers under a node of this state and size
 pub record IsKnown (within : Within) (size : ℕ) (answers : List Answer) : Type 0 where
@@ -52,27 +49,25 @@ IsFilling {S} takes room = (old new : S) (a : Answer) → takes old a new → ro
 -- ---- the work
 
 -- what the work under an opened node costs
-abbrev pub work_under : (opens : Verdict → Bool) → (cost : Node → ℕ) → (verdict : Info → Verdict) → Packed → Verdict
-    → (number : ℕ) → ℕ
-work_under opens cost verdict t v number = reached opens cost verdict t (height_at t number) v (node_at t number)
+abbrev pub work_under : (opens : Verdict → Bool) → (cost : Node → ℕ) → Meaning → Packed → Verdict → (number : ℕ) → ℕ
+work_under opens cost meaning t v number = reached opens cost meaning t (height_at t number) v (node_at t number)
 
 -- what it costs under a node that is opened where the test says so of its verdict
-abbrev pub work_at_child : (opens : Verdict → Bool) → (cost : Node → ℕ) → (verdict : Info → Verdict) → Packed
-    → Verdict → (number : ℕ) → ℕ
-work_at_child opens cost verdict t v number = if opens v then work_under opens cost verdict t v number else 0
+abbrev pub work_at_child : (opens : Verdict → Bool) → (cost : Node → ℕ) → Meaning → Packed → Verdict → (number : ℕ) → ℕ
+work_at_child opens cost meaning t v number = if opens v then work_under opens cost meaning t v number else 0
 
 -- what it costs under a child of a node that has this verdict, with so many levels of nodes below the child
-abbrev pub work_of_child : (opens : Verdict → Bool) → (cost : Node → ℕ) → (verdict : Info → Verdict) → Packed
+abbrev pub work_of_child : (opens : Verdict → Bool) → (cost : Node → ℕ) → Meaning → Packed
     → Verdict → (below : ℕ) → Node → ℕ
-work_of_child opens cost verdict t of_node below child =
-    let of_child = verdict (info_of_node t of_node child) in
-    if opens of_child then reached opens cost verdict t below of_child child else 0
+work_of_child opens cost meaning t of_node below child =
+    let of_child = meaning.verdict (info_of_node t of_node child) in
+    if opens of_child then reached opens cost meaning t below of_child child else 0
 
 -- what holds of a node that may be asked about
-pub record IsCheckable (t : Packed) (accepts : Extent → Bool) (number : ℕ) (info : Info) : Type 0 where
+pub record IsCheckable (t : Packed) (meaning : Meaning) (number : ℕ) (info : Info) : Type 0 where
   pub inside : number < length t.nodes
   pub tree : IsSubtree t (height_at t number) (node_at t number)
   pub low : (node_at t number).level ≤ 24
   pub high : 0 < info.level
   pub extent : extent_of info ≡ extent_of_node (node_at t number)
-  pub question : IsQuestion accepts info
+  pub question : IsQuestion meaning.accepts info

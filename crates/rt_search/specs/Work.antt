@@ -3,7 +3,7 @@ use Rattle.std.specs.Prelude.{◌≡◌, ◌<◌, ℕ, zero, suc, ◌+◌, ◌-�
 use Rattle.std.specs.Prelude.{Option, Some, None, List, length, slice_get}
 use Rattle.std.specs.List.{sum_by}
 use Rattle.std.specs.Option.{option_map}
-use Rattle.rt_geo.specs.Laws.{Extent}
+use Rattle.rt_geo.specs.Laws.{Extent, Meaning}
 use Rattle.rt_geo.specs.declared.geometry.Info.{Info}
 use Rattle.rt_geo.specs.declared.geometry.Verdict.{Verdict}
 use Rattle.rt_geo.specs.declared.geometry.Within.{Within}
@@ -39,17 +39,16 @@ info_of_node t parent n = info_under (root_of t).level parent (extent_of_node n)
 -- plus the sum of reached over the child nodes whose verdict passes the test. So where each node costs one and the test is
 -- that of a search: one, plus the sum of reached over the child nodes whose verdict isn't NOT and whose score is at most
 -- the bound
-abbrev pub reached : (opens : Verdict → Bool) → (cost : Node → ℕ) → (verdict : Info → Verdict) → Packed
-    → (below : ℕ) → Verdict → Node → ℕ
-reached opens cost verdict t zero of_node n = cost n
-reached opens cost verdict t (suc below) of_node n =
-    cost n + sum_by (λ child. let of_child = verdict (info_of_node t of_node child) in
-    if opens of_child then reached opens cost verdict t below of_child child else 0) (child_nodes t n)
+abbrev pub reached : (opens : Verdict → Bool) → (cost : Node → ℕ) → Meaning → Packed → (below : ℕ) → Verdict → Node → ℕ
+reached opens cost meaning t zero of_node n = cost n
+reached opens cost meaning t (suc below) of_node n =
+    cost n + sum_by (λ child. let of_child = meaning.verdict (info_of_node t of_node child) in
+    if opens of_child then reached opens cost meaning t below of_child child else 0) (child_nodes t n)
 
 -- the same from the root, which is opened where there is one
-abbrev pub reached_from_root : (opens : Verdict → Bool) → (cost : Node → ℕ) → (verdict : Info → Verdict) → Packed → ℕ
-reached_from_root opens cost verdict t =
-    if length t.nodes == 0 then 0 else reached opens cost verdict t (height t) root_verdict (root_of t)
+abbrev pub reached_from_root : (opens : Verdict → Bool) → (cost : Node → ℕ) → Meaning → Packed → ℕ
+reached_from_root opens cost meaning t =
+    if length t.nodes == 0 then 0 else reached opens cost meaning t (height t) root_verdict (root_of t)
 
 -- what opening a node costs in nodes
 abbrev pub one_node : Node → ℕ
@@ -72,8 +71,8 @@ is_within_bound None score = true
 is_within_bound (Some bound) score = nat_le score bound
 
 -- each node scores 0, as in the orders by id and by area
-abbrev pub IsUnscored : (verdict : Info → Verdict) → Type 0
-IsUnscored verdict = (info : Info) → 0 < info.level → (verdict info).score ≡ 0
+abbrev pub IsUnscored : Meaning → Type 0
+IsUnscored meaning = (info : Info) → 0 < info.level → (meaning.verdict info).score ≡ 0
 
 -- a search up to a bound opens what isn't NOT and scores at most the bound
 abbrev pub is_reached : (bound : Option ℕ) → Verdict → Bool
@@ -86,27 +85,23 @@ last_score found (Some limit) = option_map (λ a. a.1) (slice_get found (limit -
 
 -- the sum of a cost over the nodes that a search opens for so many answers, or for all where there is no limit: what
 -- scores at most as the last of them. For no answer none is opened
-abbrev pub search_work : (cost : Node → ℕ) → (accepts : Extent → Bool) → (score : Extent → ℕ)
-    → (verdict : Info → Verdict) → Packed → (limit : Option ℕ) → ℕ
-search_work cost accepts score verdict t (Some zero) = 0
-search_work cost accepts score verdict t limit =
-    reached_from_root (is_reached (last_score (answers t.entries accepts score None) limit)) cost verdict t
+abbrev pub search_work : (cost : Node → ℕ) → Meaning → Packed → (limit : Option ℕ) → ℕ
+search_work cost meaning t (Some zero) = 0
+search_work cost meaning t limit =
+    reached_from_root (is_reached (last_score (answers t.entries meaning None) limit)) cost meaning t
 
 -- how many nodes a search opens for so many answers
-abbrev pub opened_by_search : (accepts : Extent → Bool) → (score : Extent → ℕ) → (verdict : Info → Verdict) → Packed
-    → (limit : Option ℕ) → ℕ
+abbrev pub opened_by_search : Meaning → Packed → (limit : Option ℕ) → ℕ
 opened_by_search = search_work one_node
 
 -- how many checks it makes
-abbrev pub asked_by_search : (accepts : Extent → Bool) → (score : Extent → ℕ) → (verdict : Info → Verdict) → Packed
-    → (limit : Option ℕ) → ℕ
+abbrev pub asked_by_search : Meaning → Packed → (limit : Option ℕ) → ℕ
 asked_by_search = search_work its_children
 
 -- so many nodes were opened and checks made as a search needs for so many answers
-pub record HasWorked (accepts : Extent → Bool) (score : Extent → ℕ) (verdict : Info → Verdict) (t : Packed)
-    (limit : Option ℕ) (opened asked : ℕ) : Type 0 where
-  pub in_nodes : opened ≡ opened_by_search accepts score verdict t limit
-  pub in_checks : asked ≡ asked_by_search accepts score verdict t limit
+pub record HasWorked (meaning : Meaning) (t : Packed) (limit : Option ℕ) (opened asked : ℕ) : Type 0 where
+  pub in_nodes : opened ≡ opened_by_search meaning t limit
+  pub in_checks : asked ≡ asked_by_search meaning t limit
 
 -- ---- by a count
 
@@ -120,9 +115,9 @@ abbrev pub is_divided : Verdict → Bool
 is_divided v = is_partly v.within
 
 -- how many nodes a count opens: the root, and each node that is PARTLY under an opened one
-abbrev pub opened_by_count : (verdict : Info → Verdict) → Packed → ℕ
+abbrev pub opened_by_count : Meaning → Packed → ℕ
 opened_by_count = reached_from_root is_divided one_node
 
 -- how many checks it makes
-abbrev pub asked_by_count : (verdict : Info → Verdict) → Packed → ℕ
+abbrev pub asked_by_count : Meaning → Packed → ℕ
 asked_by_count = reached_from_root is_divided its_children

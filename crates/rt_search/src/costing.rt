@@ -19,7 +19,7 @@ pub fn cost<G: Geometry>(
     requires capacity { length tree.now.entries ≤ frontier.capacity }
     requires asked { counted.asked ≡ 0 }
     ensures opened { let g = counted.entry.geometry in
-        result.0 ≡ opened_by_search (G.accepts g) (G.score g) (G.verdict g) tree.now limit }
+        result.0 ≡ opened_by_search (G.meaning g) tree.now limit }
     ensures capacity { result.1.capacity ≡ frontier.capacity }
     ensures items { length result.1.items ≤ length tree.now.entries }
 {

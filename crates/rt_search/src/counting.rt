@@ -72,9 +72,9 @@ pub fn count<G: Geometry>(
     counted: &mut Counted<'_, G>,
 ) -> Count
     requires asked { counted.old.asked ≡ 0 }
-    ensures accepted { result.accepted ≡ length (accepted tree.now.entries (G.accepts counted.old.geometry)) }
-    ensures opened { result.opened ≡ opened_by_count (G.verdict counted.old.geometry) tree.now }
-    ensures asked { counted.new.asked ≡ asked_by_count (G.verdict counted.old.geometry) tree.now }
+    ensures accepted { result.accepted ≡ length (accepted tree.now.entries (G.meaning counted.old.geometry)) }
+    ensures opened { result.opened ≡ opened_by_count (G.meaning counted.old.geometry) tree.now }
+    ensures asked { counted.new.asked ≡ asked_by_count (G.meaning counted.old.geometry) tree.now }
     ensures items { frontier.new.items ≡ [] }
     ensures capacity { frontier.new.capacity ≡ frontier.old.capacity }
     ensures geometry { counted.new.geometry ≡ counted.old.geometry }

@@ -31,7 +31,7 @@ impl<'a, G: Geometry> Model for FullSearch<'a, G> {
     ghost view = { λ s. let g = s.counted.geometry in record {
       tree = s.tree.now;
       geometry = g;
-      to_come = remaining s.tree.now (G.accepts g) (G.score g) s.frontier.hits;
+      to_come = remaining s.tree.now (G.meaning g) s.frontier.hits;
       opened = s.opened;
       asked = s.counted.asked;
       capacity = s.frontier.capacity;
@@ -49,11 +49,11 @@ impl<'a, G: Geometry> FullSearch<'a, G> {
         requires capacity { length tree.now.entries ≤ frontier.capacity }
         requires asked { counted.asked ≡ 0 }
         ensures to_come { let g = counted.entry.geometry in
-            result.to_come ≡ answers tree.now.entries (G.accepts g) (G.score g) None }
+            result.to_come ≡ answers tree.now.entries (G.meaning g) None }
 
         // The work is that of a search without a limit.
         ensures worked { let g = counted.entry.geometry in
-            HasWorked (G.accepts g) (G.score g) (G.verdict g) tree.now None result.opened result.asked }
+            HasWorked (G.meaning g) tree.now None result.opened result.asked }
 
         ensures tree { result.tree ≡ tree.now }
         ensures geometry { result.geometry ≡ counted.entry.geometry }

@@ -24,14 +24,14 @@ fn pull<G: Geometry>(
     requires more { frontier.old.wanted ≢ Some 0 }
     requires capacity { length tree.now.entries ≤ frontier.old.capacity }
     requires state { let g = counted.old.geometry in (to_come : List Answer) ×
-        IsUnderWay (G.accepts g) (G.score g) (G.verdict g) tree.now opened.old counted.old.asked frontier.old.wanted
+        IsUnderWay (G.meaning g) tree.now opened.old counted.old.asked frontier.old.wanted
         to_come frontier.old.items }
     ensures step { let g = counted.old.geometry in (to_come : List Answer) →
-        IsUnderWay (G.accepts g) (G.score g) (G.verdict g) tree.now opened.old counted.old.asked frontier.old.wanted
+        IsUnderWay (G.meaning g) tree.now opened.old counted.old.asked frontier.old.wanted
         to_come frontier.old.items → MatchOption result
-        (IsOver (G.accepts g) (G.score g) (G.verdict g) tree.now opened.new counted.new.asked frontier.new.wanted
+        (IsOver (G.meaning g) tree.now opened.new counted.new.asked frontier.new.wanted
         to_come frontier.new.items)
-        (λ a. IsFound (G.accepts g) (G.score g) (G.verdict g) tree.now opened.new counted.new.asked frontier.new.wanted
+        (λ a. IsFound (G.meaning g) tree.now opened.new counted.new.asked frontier.new.wanted
         to_come a frontier.new.items) }
     ensures wanted { MatchOption result (frontier.new.wanted ≡ frontier.old.wanted)
         (λ _. frontier.new.wanted ≡ one_less frontier.old.wanted) }
@@ -73,7 +73,7 @@ impl<'a, G: Geometry> Model for Search<'a, G> {
       tree = s.tree.now;
       geometry = g;
       limit = s.limit;
-      to_come = drop s.given (answers s.tree.now.entries (G.accepts g) (G.score g) s.limit);
+      to_come = drop s.given (answers s.tree.now.entries (G.meaning g) s.limit);
       given = s.given;
       opened = s.opened;
       asked = s.counted.asked;
@@ -81,7 +81,7 @@ impl<'a, G: Geometry> Model for Search<'a, G> {
     } };
 
     ghost invariant = { λ s. let g = s.counted.geometry in
-        IsGiving (G.accepts g) (G.score g) (G.verdict g) s.tree.now s.limit s.given s.opened s.counted.asked
+        IsGiving (G.meaning g) s.tree.now s.limit s.given s.opened s.counted.asked
         s.frontier.capacity s.frontier.wanted s.frontier.items };
 }
 
@@ -97,7 +97,7 @@ impl<'a, G: Geometry> Search<'a, G> {
         requires capacity { length tree.now.entries ≤ frontier.capacity }
         requires asked { counted.asked ≡ 0 }
         ensures to_come { let g = counted.entry.geometry in
-            result.to_come ≡ answers tree.now.entries (G.accepts g) (G.score g) limit }
+            result.to_come ≡ answers tree.now.entries (G.meaning g) limit }
         ensures limit { result.limit ≡ limit }
         ensures given { result.given ≡ 0 }
         ensures opened { result.opened ≡ 0 }
@@ -131,15 +131,15 @@ impl<'a, G: Geometry> Search<'a, G> {
     ) -> Search<'a, G>
         requires capacity { length tree.now.entries ≤ frontier.capacity }
         requires asked { counted.asked ≡ 0 }
-        requires unscored { IsUnscored (G.verdict counted.geometry) }
+        requires unscored { IsUnscored (G.meaning counted.geometry) }
         ensures to_come { let g = counted.entry.geometry in
-            result.to_come ≡ answers tree.now.entries (G.accepts g) (G.score g) limit }
+            result.to_come ≡ answers tree.now.entries (G.meaning g) limit }
         ensures limit { result.limit ≡ limit }
         ensures given { result.given ≡ 0 }
 
         // The work is done: it is that of a search for so many answers.
         ensures worked { let g = counted.entry.geometry in
-            HasWorked (G.accepts g) (G.score g) (G.verdict g) tree.now limit result.opened result.asked }
+            HasWorked (G.meaning g) tree.now limit result.opened result.asked }
 
         ensures tree { result.tree ≡ tree.now }
         ensures geometry { result.geometry ≡ counted.entry.geometry }
@@ -173,10 +173,10 @@ impl<'a, G: Geometry> Search<'a, G> {
         // After an answer the work is that of a search for so many answers, and once `None` is returned that of the
         // whole search.
         ensures worked { let g = self.old.geometry in
-            IfSome result (λ _. HasWorked (G.accepts g) (G.score g) (G.verdict g) self.old.tree (Some self.new.given)
+            IfSome result (λ _. HasWorked (G.meaning g) self.old.tree (Some self.new.given)
             self.new.opened self.new.asked) }
         ensures worked_in_all { let g = self.old.geometry in
-            IfNone result (HasWorked (G.accepts g) (G.score g) (G.verdict g) self.old.tree self.old.limit
+            IfNone result (HasWorked (G.meaning g) self.old.tree self.old.limit
             self.new.opened self.new.asked) }
 
         ensures limit { self.new.limit ≡ self.old.limit }

@@ -56,11 +56,11 @@ pub(crate) trait Visitor: Collector {
         parent: Verdict,
     )
         requires leaf { let g = counted.old.geometry in
-            IsOpenableLeaf tree.now (G.accepts g) (G.score g) node parent }
+            IsOpenableLeaf tree.now (G.meaning g) node parent }
         requires room { node.count ≤ Self.room self.old }
         requires asked { counted.old.asked + node.count ≤ 2 ^ 64 - 1 }
         ensures taken { let g = counted.old.geometry in
-            HasTaken Self.takes self.old (answers_among tree.now (G.accepts g) (G.score g) node node.count) self.new }
+            HasTaken Self.takes self.old (answers_among tree.now (G.meaning g) node node.count) self.new }
         ensures geometry { counted.new.geometry ≡ counted.old.geometry }
         ensures asked { counted.new.asked ≡ counted.old.asked + node.count }
     {
@@ -112,11 +112,11 @@ pub(crate) fn visit_entries<C: Collector, G: Geometry>(
     parent: Verdict,
 )
     requires leaf { let g = counted.old.geometry in
-        IsOpenableLeaf tree.now (G.accepts g) (G.score g) node parent }
+        IsOpenableLeaf tree.now (G.meaning g) node parent }
     requires room { node.count ≤ C.room collector.old }
     requires asked { counted.old.asked + node.count ≤ 2 ^ 64 - 1 }
     ensures taken { let g = counted.old.geometry in
-        HasTaken C.takes collector.old (answers_among tree.now (G.accepts g) (G.score g) node node.count) collector.new }
+        HasTaken C.takes collector.old (answers_among tree.now (G.meaning g) node node.count) collector.new }
     ensures geometry { counted.new.geometry ≡ counted.old.geometry }
     ensures asked { counted.new.asked ≡ counted.old.asked + node.count }
 {
@@ -141,10 +141,10 @@ pub(crate) fn walk<V: Visitor, G: Geometry>(
     requires asked { counted.old.asked ≡ 0 }
     ensures sound { IsSound tree.now }
     ensures taken { let g = counted.old.geometry in
-        HasTaken V.takes visitor.old (answers_in_tree tree.now (G.accepts g) (G.score g)) visitor.new }
-    ensures opened { result ≡ reached_from_root V.opens one_node (G.verdict counted.old.geometry) tree.now }
+        HasTaken V.takes visitor.old (answers_in_tree tree.now (G.meaning g)) visitor.new }
+    ensures opened { result ≡ reached_from_root V.opens one_node (G.meaning counted.old.geometry) tree.now }
     ensures asked { counted.new.asked
-        ≡ reached_from_root V.opens its_children (G.verdict counted.old.geometry) tree.now }
+        ≡ reached_from_root V.opens its_children (G.meaning counted.old.geometry) tree.now }
     ensures geometry { counted.new.geometry ≡ counted.old.geometry }
 {
     let mut opened = 0;
@@ -171,18 +171,18 @@ fn walk_under<V: Visitor, G: Geometry>(
 )
     requires sound { IsSound tree.now }
     requires node { let g = counted.old.geometry in
-        IsOpenable tree.now (G.accepts g) (G.score g) number.number parent }
+        IsOpenable tree.now (G.meaning g) number.number parent }
     requires room { (node_at tree.now number.number).size ≤ V.room visitor.old }
     requires opened { opened.old
-        + work_under V.opens one_node (G.verdict counted.old.geometry) tree.now parent number.number ≤ 2 ^ 32 }
+        + work_under V.opens one_node (G.meaning counted.old.geometry) tree.now parent number.number ≤ 2 ^ 32 }
     requires asked { counted.old.asked
-        + work_under V.opens its_children (G.verdict counted.old.geometry) tree.now parent number.number ≤ 2 ^ 32 }
+        + work_under V.opens its_children (G.meaning counted.old.geometry) tree.now parent number.number ≤ 2 ^ 32 }
     ensures taken { let g = counted.old.geometry in
-        HasTaken V.takes visitor.old (answers_under tree.now (G.accepts g) (G.score g) number.number) visitor.new }
+        HasTaken V.takes visitor.old (answers_under tree.now (G.meaning g) number.number) visitor.new }
     ensures opened { opened.new ≡ opened.old
-        + work_under V.opens one_node (G.verdict counted.old.geometry) tree.now parent number.number }
+        + work_under V.opens one_node (G.meaning counted.old.geometry) tree.now parent number.number }
     ensures asked { counted.new.asked ≡ counted.old.asked
-        + work_under V.opens its_children (G.verdict counted.old.geometry) tree.now parent number.number }
+        + work_under V.opens its_children (G.meaning counted.old.geometry) tree.now parent number.number }
     ensures geometry { counted.new.geometry ≡ counted.old.geometry }
 {
     let node = tree.node(number);
@@ -223,19 +223,19 @@ fn walk_child<V: Visitor, G: Geometry>(
     info: &Info,
 )
     requires sound { IsSound tree.now }
-    requires node { IsCheckable tree.now (G.accepts counted.old.geometry) number.number info.now }
+    requires node { IsCheckable tree.now (G.meaning counted.old.geometry) number.number info.now }
     requires size { size ≡ (node_at tree.now number.number).size }
     requires room { size ≤ V.room visitor.old }
     requires opened { let g = counted.old.geometry in opened.old
-        + work_at_child V.opens one_node (G.verdict g) tree.now (G.verdict g info.now) number.number ≤ 2 ^ 32 }
+        + work_at_child V.opens one_node (G.meaning g) tree.now ((G.meaning g).verdict info.now) number.number ≤ 2 ^ 32 }
     requires asked { let g = counted.old.geometry in counted.old.asked + 1
-        + work_at_child V.opens its_children (G.verdict g) tree.now (G.verdict g info.now) number.number ≤ 2 ^ 32 }
+        + work_at_child V.opens its_children (G.meaning g) tree.now ((G.meaning g).verdict info.now) number.number ≤ 2 ^ 32 }
     ensures taken { let g = counted.old.geometry in
-        HasTaken V.takes visitor.old (answers_under tree.now (G.accepts g) (G.score g) number.number) visitor.new }
+        HasTaken V.takes visitor.old (answers_under tree.now (G.meaning g) number.number) visitor.new }
     ensures opened { let g = counted.old.geometry in opened.new ≡ opened.old
-        + work_at_child V.opens one_node (G.verdict g) tree.now (G.verdict g info.now) number.number }
+        + work_at_child V.opens one_node (G.meaning g) tree.now ((G.meaning g).verdict info.now) number.number }
     ensures asked { let g = counted.old.geometry in counted.new.asked ≡ counted.old.asked + 1
-        + work_at_child V.opens its_children (G.verdict g) tree.now (G.verdict g info.now) number.number }
+        + work_at_child V.opens its_children (G.meaning g) tree.now ((G.meaning g).verdict info.now) number.number }
     ensures geometry { counted.new.geometry ≡ counted.old.geometry }
 {
     let verdict = counted.check(info);

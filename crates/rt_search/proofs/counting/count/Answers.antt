@@ -9,11 +9,10 @@ walk-opened-requires-clause-room g c sound = omega (arith, sound.table.few)
 pub returns-clause-accepted : goal.returns-clause-accepted
 returns-clause-accepted g c =
     let geometry = c.args.counted.now.geometry in
-    let accepts = g.G.Geometry.accepts geometry in
-    let score = g.G.Geometry.score geometry in
+    let meaning = g.G.Geometry.meaning geometry in
     let tree = c.args.tree.now in
     let e = c.walk-opened.ensures in
-    let found = tally_counts (record { accepted = 0 }) c.walk-opened.new.visitor (answers_in_tree tree accepts score)
+    let found = tally_counts (record { accepted = 0 }) c.walk-opened.new.visitor (answers_in_tree tree meaning)
     e.taken in
-    let all = tree_count accepts score (g.G.Geometry.verdict geometry) tree e.sound in
+    let all = tree_count meaning tree e.sound in
     omega arith

@@ -10,7 +10,7 @@ returns-then-node-eq1-clause-children g c =
     let geometry = c.args.counted.now.geometry in
     let n = c.node-node.result in
     let joined = entries_join c.args.frontier.now c.visit_entries.new.collector
-    (answers_among c.args.tree.now (g.G.Geometry.accepts geometry) (g.G.Geometry.score geometry) n n.count)
+    (answers_among c.args.tree.now (g.G.Geometry.meaning geometry) n n.count)
     c.visit_entries.ensures.taken in
     record {
       items = leaf_joins (g.met.G.Geometry.lawful geometry) c.args.tree.now c.args.frontier.now.wanted c.args.taken.score
@@ -32,7 +32,7 @@ ask_node-requires g c =
     let here = children_of c.requires.node c.node-node.ensures c.if-node-eq1.false c.child_nodes-children.ensures in
     let k = asked here c.loop-i.i c.verdict_on-parent.result c.loop-i-test.true c.index-children-i.is
     c.new-number.ensures c.node-whole.ensures c.info_under-info.ensures in
-    let long = length-join_nodes (g.G.Geometry.verdict geometry) tree v (node_at tree number) c.loop-i.i
+    let long = length-join_nodes (g.G.Geometry.meaning geometry) tree v (node_at tree number) c.loop-i.i
     c.args.frontier.now.items in
     record {
       honest = grind (arith, honest_child);
@@ -60,7 +60,7 @@ loop-i-preserved g c =
 
 pub returns : goal.returns
 returns g c =
-    let verdict = g.G.Geometry.verdict c.args.counted.now.geometry in
+    let meaning = g.G.Geometry.meaning c.args.counted.now.geometry in
     let here = children_of c.requires.node c.node-node.ensures c.if-node-eq1.false c.child_nodes-children.ensures in
     let inv = c.loop-i.invariant in
     let end : c.loop-i.i ≡ (node_at c.args.tree.now c.args.taken.node.number.number).count = omega arith in

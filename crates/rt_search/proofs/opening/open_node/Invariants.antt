@@ -5,7 +5,7 @@ use Rattle.rt_search.proofs.opening.open_node.Given as goal
 
 abbrev pub invariant-loop-i : goal.invariant-loop-i
 invariant-loop-i g l = record {
-  children : KeepsEnough (join_nodes (g.G.Geometry.verdict l.initial.counted.geometry) l.tree l.parent
+  children : KeepsEnough (join_nodes (g.G.Geometry.meaning l.initial.counted.geometry) l.tree l.parent
       (node_at l.tree l.fn.taken.node.number.number) l.i l.initial.frontier.items) (limited l.initial.frontier)
       (limited l.frontier);
   geometry : l.counted.geometry ≡ l.initial.counted.geometry;

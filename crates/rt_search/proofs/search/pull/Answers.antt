@@ -41,7 +41,7 @@ loop-node-preserved g c =
     let same = e.wanted
     ∙ ap (λ o. wanted_after (node_or o (taken_entry c.take-node.result.1)) c.loop-node.frontier.wanted) c.in-Some.is in
     let items = subst (λ y. IsEnough c.loop-node.frontier.wanted c.open_node.new.frontier.items
-    (join_children (g.G.Geometry.accepts y) (g.G.Geometry.score y) (g.G.Geometry.verdict y) c.args.tree.now n.score n.node c.take-node.new.self.items)) v.geometry
+    (join_children (g.G.Geometry.meaning y) c.args.tree.now n.score n.node c.take-node.new.self.items)) v.geometry
     (rw same at o.children.items) in
     record {
       state = λ to_come u.

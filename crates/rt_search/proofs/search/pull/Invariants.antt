@@ -4,13 +4,11 @@ use Rattle.rt_search.proofs.search.pull.Given as goal
 
 abbrev pub invariant-loop-node : goal.invariant-loop-node
 invariant-loop-node g l =
-    let accepts = g.G.Geometry.accepts l.initial.counted.geometry in
-    let score = g.G.Geometry.score l.initial.counted.geometry in
-    let verdict = g.G.Geometry.verdict l.initial.counted.geometry in
+    let meaning = g.G.Geometry.meaning l.initial.counted.geometry in
     record {
-      state : (to_come : List Answer) → IsUnderWay accepts score verdict l.tree l.initial.opened l.initial.counted.asked
+      state : (to_come : List Answer) → IsUnderWay meaning l.tree l.initial.opened l.initial.counted.asked
           l.initial.frontier.wanted to_come l.initial.frontier.items
-          → IsUnderWay accepts score verdict l.tree l.opened l.counted.asked l.frontier.wanted to_come l.frontier.items;
+          → IsUnderWay meaning l.tree l.opened l.counted.asked l.frontier.wanted to_come l.frontier.items;
       wanted : l.frontier.wanted ≡ l.initial.frontier.wanted;
       capacity : l.frontier.capacity ≡ l.initial.frontier.capacity;
       geometry : l.counted.geometry ≡ l.initial.counted.geometry;
@@ -18,4 +16,4 @@ invariant-loop-node g l =
 
 abbrev pub decreases-loop-node : goal.decreases-loop-node
 decreases-loop-node g l =
-    reached_from_root (is_reached None) one_node (g.G.Geometry.verdict l.initial.counted.geometry) l.tree - l.opened
+    reached_from_root (is_reached None) one_node (g.G.Geometry.meaning l.initial.counted.geometry) l.tree - l.opened

@@ -9,19 +9,19 @@ use Rattle.rt_search.proofs.walk.+walk.Goals as goal
 pub walk_child-walk_under-requires : goal.walk_child-walk_under-requires
 walk_child-walk_under-requires g t c κs within =
     let geometry = c.args.counted.now.geometry in
-    let verdict = g.G.Geometry.verdict geometry in
+    let meaning = g.G.Geometry.meaning geometry in
     let law = g.met.G.Geometry.lawful geometry in
     let tree = c.args.tree.now in
     let number = c.args.number.number in
     let info = c.args.info.now in
     let e = c.check-verdict.ensures in
-    let v : c.check-verdict.result ≡ verdict info = e.verdict in
+    let v : c.check-verdict.result ≡ meaning.verdict info = e.verdict in
     let opens = sym c.visit_node.ensures.opens ∙ c.if-visit_node.true in
     let stays : c.visit_node.new.self ≡ c.args.visitor.now =
     rw c.if-visit_node.true at
     (c.visit_node.ensures.taken _ (rw (← v, ← c.requires.size) at (known law c.requires.node))) in
-    let one = at_child g.V.Visitor.opens one_node verdict tree (verdict info) number (rw v at opens) in
-    let its = at_child g.V.Visitor.opens its_children verdict tree (verdict info) number (rw v at opens) in
+    let one = at_child g.V.Visitor.opens one_node meaning tree (meaning.verdict info) number (rw v at opens) in
+    let its = at_child g.V.Visitor.opens its_children meaning tree (meaning.verdict info) number (rw v at opens) in
     let asked_few = c.requires.asked in
     let o = c.requires.sound in (
       omega arith,

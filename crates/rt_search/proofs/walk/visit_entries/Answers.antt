@@ -14,8 +14,7 @@ check-verdict-requires-clause-honest g c =
     let layers = subst (λ o. IfSome o (λ e. c.layers_at-layers.result ≡ (extent_of_entry e).layers)) k.found
     c.layers_at-layers.ensures in
     rw c.loop-i.invariant.geometry
-    (honest_child (g.G.Geometry.accepts c.args.counted.now.geometry)
-    (g.G.Geometry.score c.args.counted.now.geometry) (extent_of_node c.args.node) c.info_under-info.result
+    (honest_child (g.G.Geometry.meaning c.args.counted.now.geometry) (extent_of_node c.args.node) c.info_under-info.result
     c.args.parent c.requires.leaf.below (ap (λ i. i.parent_within) c.info_under-info.ensures)
     (rw (c.info_under-info.ensures, k.is, layers) k.at.within))
 
@@ -28,10 +27,10 @@ visit_entry-requires g c =
     let tree = c.args.tree.now in
     let count = entries_count tree c.args.node c.child_entries-entries.result.now c.requires.leaf.node
     c.child_entries-entries.ensures in
-    let found = answers_among tree (g.G.Geometry.accepts geometry) (g.G.Geometry.score geometry) c.args.node c.loop-i.i in
+    let found = answers_among tree (g.G.Geometry.meaning geometry) c.args.node c.loop-i.i in
     let left = taken_room g.C.Collector.takes g.C.Collector.room g.met.C.Collector.fills c.args.collector.now
     c.loop-i.collector found c.loop-i.invariant.taken in
-    let few = few_entries (g.G.Geometry.accepts geometry) (g.G.Geometry.score geometry) tree c.args.node c.loop-i.i in
+    let few = few_entries (g.G.Geometry.meaning geometry) tree c.args.node c.loop-i.i in
     omega arith
 
 pub loop-i-preserved : goal.loop-i-preserved
@@ -54,7 +53,7 @@ loop-i-preserved g c =
     let more = one_entry (g.met.G.Geometry.lawful geometry) c.requires.leaf.sound (search rules) c.requires.leaf.node
     c.requires.leaf.below i (omega arith) in
     let both = taken-append g.C.Collector.takes c.args.collector.now c.loop-i.collector c.visit_entry.new.self
-    (answers_among tree (g.G.Geometry.accepts geometry) (g.G.Geometry.score geometry) c.args.node i) _ inv.taken one in
+    (answers_among tree (g.G.Geometry.meaning geometry) c.args.node i) _ inv.taken one in
     record {
       taken = subst (λ l. HasTaken g.C.Collector.takes c.args.collector.now l c.visit_entry.new.self) more both;
       geometry = e.geometry;

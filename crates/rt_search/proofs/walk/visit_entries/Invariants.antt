@@ -7,7 +7,7 @@ invariant-loop-i g l =
     let geometry = l.initial.counted.geometry in
     record {
       taken : HasTaken g.C.Collector.takes l.initial.collector
-          (answers_among l.tree (g.G.Geometry.accepts geometry) (g.G.Geometry.score geometry) l.fn.node l.i) l.collector;
+          (answers_among l.tree (g.G.Geometry.meaning geometry) l.fn.node l.i) l.collector;
       geometry : l.counted.geometry ≡ l.initial.counted.geometry;
       asked : l.counted.asked ≡ l.initial.counted.asked + l.i;
     }

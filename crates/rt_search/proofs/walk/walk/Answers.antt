@@ -5,7 +5,7 @@ use Rattle.rt_search.proofs.walk.walk.Goals as goal
 pub walk_under-requires : goal.walk_under-requires
 walk_under-requires g c =
     let geometry = c.args.counted.now.geometry in
-    let k = whole (g.G.Geometry.accepts geometry) (g.G.Geometry.score geometry) (g.G.Geometry.verdict geometry)
+    let k = whole (g.G.Geometry.meaning geometry)
     c.args.tree.now c.in-Some.ensures.sound g.V.Visitor.opens c.in-Some.number.number c.in-Some.ensures.number in
     record {
       sound = c.in-Some.ensures.sound;

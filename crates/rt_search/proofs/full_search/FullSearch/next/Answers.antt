@@ -7,10 +7,9 @@ use Rattle.rt_search.proofs.full_search.FullSearch.next.Goals as goal
 pub returns-clause-answer : goal.returns-clause-answer
 returns-clause-answer g c =
     let geometry = c.self.inside.counted.geometry in
-    let accepts = g.G.Geometry.accepts geometry in
-    let score = g.G.Geometry.score geometry in
+    let meaning = g.G.Geometry.meaning geometry in
     let tree = c.self.inside.tree.now in
     let e = c.take_hit.ensures in
     subst (λ s. MatchOption c.take_hit.result (s.to_come ≡ [])
-    (λ a. s.to_come ≡ a ∷ remaining tree accepts score c.take_hit.new.self.hits)) c.self.view_is
-    (given accepts score tree c.take_hit.result c.self.inside.frontier.hits c.take_hit.new.self.hits e.entries e.taken)
+    (λ a. s.to_come ≡ a ∷ remaining tree meaning c.take_hit.new.self.hits)) c.self.view_is
+    (given meaning tree c.take_hit.result c.self.inside.frontier.hits c.take_hit.new.self.hits e.entries e.taken)

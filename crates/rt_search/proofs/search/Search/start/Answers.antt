@@ -8,7 +8,7 @@ invariant_of-result g c =
     let room : length c.args.tree.now.entries ≤ c.put_root.new.frontier.capacity =
     rw (put.root.capacity, c.clear.ensures.capacity) c.requires.capacity in
     let geometry = c.args.counted.geometry in
-    let begun = started (g.G.Geometry.accepts geometry) (g.G.Geometry.score geometry) (g.G.Geometry.verdict geometry)
+    let begun = started (g.G.Geometry.meaning geometry)
     c.args.tree.now put.sound c.args.limit c.put_root.new.frontier.capacity c.put_root.new.frontier.wanted
     c.put_root.new.frontier.items room (rw put.root.wanted c.clear.ensures.wanted) (rw put.root.wanted put.root.items) in
     rw c.requires.asked begun

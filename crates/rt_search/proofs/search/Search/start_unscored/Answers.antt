@@ -8,15 +8,14 @@ use Rattle.rt_search.proofs.search.Search.start_unscored.Goals as goal
 pub invariant_of-result : goal.invariant_of-result
 invariant_of-result g c =
     let geometry = c.args.counted.geometry in
-    let accepts = g.G.Geometry.accepts geometry in
-    let score = g.G.Geometry.score geometry in
+    let meaning = g.G.Geometry.meaning geometry in
     let tree = c.args.tree.now in
     let e = c.walk-opened.ensures in
     let new = c.walk-opened.new.visitor in
-    let joined = entries_join c.clear.new.self new (answers_in_tree tree accepts score) e.taken in
+    let joined = entries_join c.clear.new.self new (answers_in_tree tree meaning) e.taken in
     let room : length tree.entries ≤ new.capacity = rw (joined.capacity, c.clear.ensures.capacity) c.requires.capacity in
     let first : IfSome new.wanted (λ n. c.args.limit ≡ Some n) = rw joined.wanted c.clear.ensures.wanted in
-    let enough : IsEnough new.wanted new.items (join_answers (answers_in_tree tree accepts score) []) =
+    let enough : IsEnough new.wanted new.items (join_answers (answers_in_tree tree meaning) []) =
     rw (joined.wanted, ← c.clear.ensures.items) joined.items in
     rw e.geometry (begun (g.met.G.Geometry.lawful geometry) tree e.sound c.requires.unscored c.args.limit
     c.walk-opened.result _ new.capacity new.wanted new.items room (search rules) first e.opened e.asked enough)
