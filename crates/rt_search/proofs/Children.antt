@@ -1,5 +1,5 @@
 -- The children of a node, one at a time, and what may be asked about them.
-use Rattle.std.proofs.Common.{◌≡◌, ◌<◌, ◌≤◌, ◌+◌, ◌-◌, ◌^◌, ℕ, zero, suc, Bool, true, List, length, map, slice_get}
+use Rattle.std.proofs.Common.{◌≡◌, ◌<◌, ◌≤◌, ◌+◌, ◌-◌, ◌^◌, ℕ, zero, suc, true, List, length, map, slice_get}
 use Rattle.std.proofs.Common.{Some, take, drop, get_or, refl, sym, ◌∙◌, ap, subst, arith}
 use Rattle.std.proofs.lemmas.List.{get_or-map, get_or-take, get_or-drop, get_or_default, length-map, length-take}
 use Rattle.std.proofs.lemmas.{List.{length-drop, take_all, Elements.{All-from_recursion}}, Option.{slice_get-get_or}}

@@ -1,8 +1,8 @@
 -- What opening a node means for the answers to come.
-use Rattle.std.proofs.Common.{◌≡◌, ◌<◌, ◌≤◌, ◌+◌, ◌-◌, ◌^◌, ℕ, zero, suc, Bool, true, false, cond, List, [], ◌∷◌, ◌++◌}
+use Rattle.std.proofs.Common.{◌≡◌, ◌<◌, ◌≤◌, ◌+◌, ◌-◌, ◌^◌, ℕ, zero, suc, true, false, cond, List, [], ◌∷◌, ◌++◌}
 use Rattle.std.proofs.{Common.{length, take, refl, sym, ◌∙◌, ap, subst, arith, add-one}, lemmas.Bool.{cond_both}}
 use Rattle.rt_geo.specs.Laws.{Meaning}
-use Rattle.rt_geo.specs.{Laws.{Extent, IsLawful, IsQuestion, extent_of}, declared.geometry.Info.{Info}}
+use Rattle.rt_geo.specs.{Laws.{IsLawful, IsQuestion, extent_of}, declared.geometry.Info.{Info}}
 use Rattle.rt_geo.specs.declared.geometry.{Verdict.{Verdict}, Within.{Within, TheVariants.{Not, Partly, Fully}}}
 use Rattle.rt_tree.specs.Packed.{Packed, IsSound, IsSubtree, child_nodes, entries_under, extent_of_node, node_at}
 use Rattle.rt_tree.specs.Sorting.{put}

@@ -3,7 +3,7 @@ use Rattle.std.proofs.Common.{◌≡◌, ◌≢◌, ◌≤◌, ◌<◌, ◌+◌,
 use Rattle.std.proofs.Common.{List, Ordering, [], ◌∷◌, length, refl, sym, ◌∙◌, ap, subst, arith}
 use Rattle.std.specs.{Ordering.{is_gt}, declared.cmp.Reverse.{Reverse}}
 use Rattle.rt_geo.specs.Laws.{Meaning}
-use Rattle.rt_geo.specs.declared.geometry.{Info.{Info}, Verdict.{Verdict}}
+use Rattle.rt_geo.specs.declared.geometry.{Verdict.{Verdict}}
 use Rattle.rt_tree.specs.{Packed.{Packed, node_at}, Sorting.{put}}
 use Rattle.rt_search.specs.{Items.{Limited, item_at, item_cmp}, Work.{info_of_node, is_kept}, declared.item.Item.{Item}}
 use Rattle.rt_search.specs.{Joining.{join_node, join_nodes}, declared.item.Place.{Place, TheVariants.{Node, Entry}}}

@@ -4,7 +4,7 @@ use Rattle.std.proofs.{Common.{length, refl, ◌∙◌, ap, arith, length-append
 use Rattle.std.proofs.lemmas.{List.{Sorted.{length_permutation}, Sums.{sum_by-cons}}, Nat.{mul-le}}
 use Rattle.std.specs.List.{AllByRecursion, flat_map, sum_by}
 use Rattle.rt_geo.specs.Laws.{Meaning}
-use Rattle.rt_geo.specs.{Laws.{Extent}, declared.geometry.{Info.{Info}, Verdict.{Verdict}}}
+use Rattle.rt_geo.specs.{declared.geometry.{Verdict.{Verdict}}}
 use Rattle.rt_tree.specs.Packed.{Packed, IsSound, IsSubtree, child_nodes, entries_under, node_at}
 use Rattle.rt_tree.specs.declared.tree.Node.{Node}
 use Rattle.rt_search.specs.{Items.{item_at}, Progress.{held, size_at, work_at, work_left}}

@@ -9,7 +9,7 @@ use Rattle.rt_search.specs.{Remaining.{remaining}, Answers.{answers}, Joining.{r
 use Rattle.rt_search.specs.{Limits.{IsEnough}, Progress.{IsGiving, IsInLimit, IsOnCourse, IsSearching, work_left}}
 use Rattle.rt_search.specs.Work.{reached_from_root, HasWorked, is_reached, is_within_bound, its_children, one_node}
 use Rattle.rt_search.specs.{Work.{root_verdict}, declared.item.Item.{Item}}
-use Rattle.rt_geo.specs.{Laws.{Extent}, declared.geometry.{Info.{Info}, Verdict.{Verdict}}}
+use Rattle.rt_geo.specs.{declared.geometry.{Verdict.{Verdict}}}
 use Rattle.rt_tree.specs.{Packed.{Packed, IsSound}, declared.tree.Node.{Node}}
 use Rattle.rt_search.proofs.{Answering.{among-IsPermutation}, Elements.{all_each}, OrderedLists.{put_all-nil}}
 use Rattle.rt_search.proofs.{Orders.{answer_order}, Sizes.{size_under}}

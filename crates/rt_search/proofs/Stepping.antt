@@ -3,8 +3,7 @@ use Rattle.std.proofs.{lemmas.Bool.Decides.{nat_tests}, Common.{false, cond, Lis
 use Rattle.std.proofs.Common.{Some, None, refl, sym, ◌∙◌, ap, subst, arith, ◌≡◌, ◌<◌, ◌≤◌, ◌+◌, ◌^◌, ℕ, ℤ, Bool, true}
 use Rattle.std.proofs.lemmas.Bool.{cond-false, cond-true, le-leb, lt-leb}
 use Rattle.rt_geo.specs.Laws.{Meaning}
-use Rattle.rt_geo.specs.{declared.geometry.{Within.TheVariants.{Partly, Fully}, Info.{Info}}, Laws.{Extent, IsLawful}}
-use Rattle.rt_geo.specs.declared.geometry.Verdict.{Verdict}
+use Rattle.rt_geo.specs.{declared.geometry.{Within.TheVariants.{Partly, Fully}}, Laws.{IsLawful}}
 use Rattle.rt_search.specs.Progress.{AddsUp, IsNodeStep, IsOnCourse, IsTaken, held, work_at, work_left}
 use Rattle.rt_search.specs.{Remaining.{AllSound, answers_at, height_at, put_all, remaining, verdict_on}, Work.{reached}}
 use Rattle.rt_search.specs.{Walking.{answers_among}, Items.{item_at, item_cmp}, declared.item.Place.{Place}}

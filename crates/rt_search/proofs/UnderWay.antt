@@ -1,10 +1,10 @@
 -- A search goes on, and keeps no more than its limit makes necessary.
-use Rattle.std.proofs.Common.{◌≡◌, ◌≢◌, ◌<◌, ◌≤◌, ◌+◌, ◌^◌, ◌==◌, ℕ, Bool, true, false, cond, List, length, map, Option}
+use Rattle.std.proofs.Common.{◌≡◌, ◌≢◌, ◌<◌, ◌≤◌, ◌+◌, ◌^◌, ◌==◌, ℕ, true, false, cond, List, length, map, Option}
 use Rattle.std.proofs.Common.{Some, None, refl, sym, ◌∙◌, ap, subst, arith}
 use Rattle.std.proofs.lemmas.Bool.{cond_both, eq-eqb, eqb-false, eqb-true, ne_eqb}
 use Rattle.std.specs.Prelude.{MatchOption}
 use Rattle.rt_geo.specs.Laws.{Meaning}
-use Rattle.rt_geo.specs.{Laws.{Extent, IsLawful}, declared.geometry.{Info.{Info}, Verdict.{Verdict}}}
+use Rattle.rt_geo.specs.{Laws.{IsLawful}, declared.geometry.{Verdict.{Verdict}}}
 use Rattle.rt_tree.specs.Packed.{Packed, IsSound, node_at}
 use Rattle.rt_search.specs.{Answers.{Answer}, Joining.{join_answers, join_nodes}}
 use Rattle.rt_search.specs.{Items.{item_at, item_of}, Work.{is_reached, its_children, one_node, reached_from_root}}

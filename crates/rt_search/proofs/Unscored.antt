@@ -1,9 +1,9 @@
 -- A search whose nodes all score 0: those that may hold answers were opened before the first answer.
-use Rattle.std.proofs.Common.{◌≡◌, ◌≢◌, ◌≤◌, ◌+◌, ◌&&◌, ℕ, zero, suc, Bool, cond, List, [], ◌∷◌, length, map}
+use Rattle.std.proofs.Common.{◌≡◌, ◌≢◌, ◌≤◌, ◌+◌, ◌&&◌, ℕ, zero, suc, cond, List, [], ◌∷◌, length, map}
 use Rattle.std.proofs.{Common.{Option, Some, None, refl, ◌∙◌, ap, arith}, lemmas.List.{Sums.{sum_by-cons}}}
 use Rattle.std.specs.{Prelude.{IfSome}, List.{AllByRecursion, sum_by}}
 use Rattle.rt_geo.specs.Laws.{Meaning}
-use Rattle.rt_geo.specs.{Laws.{Extent, IsLawful}, declared.geometry.{Info.{Info}, Verdict.{Verdict}}}
+use Rattle.rt_geo.specs.{Laws.{IsLawful}, declared.geometry.{Verdict.{Verdict}}}
 use Rattle.rt_tree.specs.{Packed.{Packed, IsSound, IsSubtree, child_nodes}, declared.tree.Node.{Node}}
 use Rattle.rt_search.specs.{Progress.{AddsUp, IsGiving, IsOnCourse, work_left}}
 use Rattle.rt_search.specs.{Items.{item_of}, Limits.{IsEnough}, Remaining.{remaining}}

@@ -3,7 +3,7 @@ use Rattle.std.proofs.Common.{◌≡◌, ◌<◌, ◌≤◌, ◌+◌, ◌-◌, �
 use Rattle.std.proofs.{Common.{arith}, lemmas.{Bool.{cond_both, eqb-true}, List.Sorted.{length_permutation}}}
 use Rattle.std.proofs.lemmas.List.{length-map}
 use Rattle.rt_geo.specs.Laws.{Meaning}
-use Rattle.rt_geo.specs.{Laws.{Extent}, declared.geometry.{Info.{Info}, Verdict.{Verdict}}}
+use Rattle.rt_geo.specs.{declared.geometry.{Verdict.{Verdict}}}
 use Rattle.rt_tree.specs.{Packed.{Packed, IsSound, entries_under, height, node_at, root_of}, declared.tree.Node.{Node}}
 use Rattle.rt_search.specs.{Answers.{accepted, answer_cmp, answer_of, answers, scored}, Remaining.{IsOpenable, put_all}}
 use Rattle.rt_search.specs.Walking.{answers_in_tree, answers_under, work_under}

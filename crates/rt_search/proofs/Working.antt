@@ -4,7 +4,7 @@ use Rattle.std.proofs.{Common.{take, refl, ◌∙◌, ap, arith, add-one}, lemma
 use Rattle.std.proofs.lemmas.List.Sums.{sum_by-append}
 use Rattle.std.specs.List.{sum_by}
 use Rattle.rt_geo.specs.Laws.{Meaning}
-use Rattle.rt_geo.specs.declared.geometry.{Info.{Info}, Verdict.{Verdict}}
+use Rattle.rt_geo.specs.declared.geometry.{Verdict.{Verdict}}
 use Rattle.rt_tree.specs.{Packed.{Packed, IsSubtree, child_nodes, node_at}, Sorting.{put}, declared.tree.Node.{Node}}
 use Rattle.rt_search.specs.{Answers.{Answer}, Items.{item_at, item_cmp, item_of}, Joining.{join_answers, join_nodes}}
 use Rattle.rt_search.specs.{Progress.{held, size_at, work_at, work_left}, Remaining.{height_at, waiting_node}}

@@ -1,5 +1,5 @@
 -- What a query answers: filter, score, sort, take.
-use Rattle.std.specs.Prelude.{ℕ, ℤ, Bool, List, Option, filter, map}
+use Rattle.std.specs.Prelude.{ℕ, ℤ, List, Option, filter, map}
 use Rattle.std.specs.Ordering.{int_cmp, nat_cmp, on, then_cmp}
 use Rattle.std.specs.declared.cmp.Ordering.{Ordering}
 use Rattle.rt_geo.specs.Laws.{Meaning, extent_of_entry}

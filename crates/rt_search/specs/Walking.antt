@@ -1,7 +1,7 @@
 -- What a walk over the nodes leaves with its visitor. Nothing that a public call promises speaks of this.
 use Rattle.std.specs.Prelude.{◌≡◌, ◌+◌, ◌-◌, ◌<◌, ◌≤◌, ◌==◌, ℕ, ℤ, Bool, if◌then◌else◌, List, [], ◌∷◌}
 use Rattle.std.specs.Prelude.{length, take}
-use Rattle.rt_geo.specs.Laws.{Extent, IsQuestion, extent_of, Meaning}
+use Rattle.rt_geo.specs.Laws.{IsQuestion, extent_of, Meaning}
 use Rattle.rt_geo.specs.declared.geometry.Info.{Info}
 use Rattle.rt_geo.specs.declared.geometry.Verdict.{Verdict}
 use Rattle.rt_geo.specs.declared.geometry.Within.{Within}
