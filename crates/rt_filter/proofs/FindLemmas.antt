@@ -1,9 +1,9 @@
 -- The lines of the answers, one after the other.
-use Rattle.std.proofs.Common.{◌≡◌, ◌<◌, ◌≤◌, ℕ, ℤ, Bool, List, ◌∷◌, ◌++◌, length, Option, Some, None, ap, arith}
+use Rattle.std.proofs.Common.{◌≡◌, ◌<◌, ◌≤◌, ℕ, ℤ, List, ◌∷◌, ◌++◌, length, Option, Some, None, ap, arith}
 use Rattle.std.proofs.lemmas.List.Concat.{flat_map-cons}
 use Rattle.std.proofs.lemmas.List.{length-take}
 use Rattle.std.proofs.lemmas.List.Sorted.{length_permutation}
-use Rattle.rt_geo.specs.Laws.{Extent}
+use Rattle.rt_geo.specs.Laws.{Meaning}
 use Rattle.rt_geo.specs.declared.entry.Entry.{Entry}
 use Rattle.rt_tree.specs.Sorting.{limited, sorted}
 use Rattle.rt_tree.proofs.SortingLemmas.{IsPermutation-sorted}
@@ -18,17 +18,17 @@ length-limited None xs = omega arith
 length-limited (Some limit) xs = omega (arith, length-take limit xs)
 
 -- there are at most as many answers as entries
-length-answers : (entries : List Entry) (accepts : Extent → Bool) (score : Extent → ℕ) (limit : Option ℕ)
-    → length (answers entries accepts score limit) ≤ length entries
-length-answers entries accepts score limit =
-    let found : List Answer = scored entries accepts score in
+length-answers : (entries : List Entry) (meaning : Meaning) (limit : Option ℕ)
+    → length (answers entries meaning limit) ≤ length entries
+length-answers entries meaning limit =
+    let found : List Answer = scored entries meaning in
     let same = length_permutation found (sorted answer_cmp found) (IsPermutation-sorted answer_cmp found) in
-    omega (arith, same, length-limited limit (sorted answer_cmp found), length-scored accepts score entries)
+    omega (arith, same, length-limited limit (sorted answer_cmp found), length-scored meaning entries)
 
-pub few_answers : (entries : List Entry) (accepts : Extent → Bool) (score : Extent → ℕ) (limit : Option ℕ) (found : List Answer) (n most : ℕ)
-    → found ≡ answers entries accepts score limit → n ≡ length entries → n < most → length found < most
-few_answers entries accepts score limit found n most is size few =
-    omega (arith, ap length is, size, few, length-answers entries accepts score limit)
+pub few_answers : (entries : List Entry) (meaning : Meaning) (limit : Option ℕ) (found : List Answer) (n most : ℕ)
+    → found ≡ answers entries meaning limit → n ≡ length entries → n < most → length found < most
+few_answers entries meaning limit found n most is size few =
+    omega (arith, ap length is, size, few, length-answers entries meaning limit)
 
 module _ (all : List ℕ) (old mid new : Option (List ℕ)) (id : ℤ) (score : ℕ) (found more : List Answer) where
   first : found ≡ (id, score) ∷ more → AllBut all old mid (answer_lines found)
@@ -44,8 +44,3 @@ module _ (all : List ℕ) (old mid new : Option (List ℕ)) (id : ℤ) (score : 
   pub answer_cut : found ≡ (id, score) ∷ more → AllBut all old mid (answer_lines found) → WasCut mid new (answer_line id score)
       → WasCut old new all
   answer_cut is p h = pushed_cut all (answer_line id score) (answer_lines more) old mid new (first is p) h
-
--- what holds of an acceptance and a score holds of the same ones under other names
-pub renamed : (P : (Extent → Bool) → (Extent → ℕ) → Type 0) (a b : Extent → Bool) (s t : Extent → ℕ)
-    → a ≡ b → s ≡ t → P a s → P b t
-renamed P a b s t e f h = rw (← e, ← f) h

@@ -4,15 +4,15 @@ use Rattle.std.specs.List.{All, AllByRecursion}
 use Rattle.std.proofs.lemmas.List.Elements.{recursion_from_All}
 use Rattle.rt_geo.specs.Entries.{HasLayer}
 use Rattle.rt_geo.specs.Layers.{all_layers, disjoint}
-use Rattle.rt_geo.specs.Laws.{Extent, extent_of_entry}
+use Rattle.rt_geo.specs.Laws.{Extent, Meaning, extent_of_entry}
 use Rattle.rt_geo.specs.Lemmas.Layers.{disjoint-only, has-all}
 use Rattle.rt_geo.specs.OnLayers.{on_layers_accepts}
 use Rattle.rt_geo.specs.declared.entry.Entry.{Entry}
 use Rattle.rt_geo.specs.declared.layers.Layers.{Layers}
-use Rattle.rt_geo.specs.Orders.{order_score}
+use Rattle.rt_geo.specs.Orders.{by_id, order_score}
 use Rattle.rt_text.specs.ReplyLines.{ok_line}
 use Rattle.rt_filter.specs.Replies.{find_reply}
-use Rattle.rt_filter.specs.Reports.{report_on}
+use Rattle.rt_filter.specs.Reports.{report_on, scanned}
 use Rattle.rt_filter.specs.declared.query.Report.{Report}
 use Rattle.rt_filter.specs.declared.query.Report.TheVariants.{Answers, Count}
 use Rattle.rt_tree.specs.Sorting.{limited, sorted}
@@ -33,28 +33,35 @@ and_not : (a b : Bool) → b ≡ false → (a && not b) ≡ a
 and_not true b h = ap not h
 and_not false b h = refl
 
-module _ (accepts : Extent → Bool) where
+module _ (accepts : Extent → Bool) (score : Extent → ℕ) where
+  abbrev on_layers : Layers → Meaning
+  on_layers layers = scanned (on_layers_accepts accepts layers) score
+
+  abbrev plain : Meaning
+  plain = scanned accepts score
+
   same_by_recursion : (entries : List Entry) → AllByRecursion HasLayer entries
-      → accepted entries (on_layers_accepts accepts all_layers) ≡ accepted entries accepts
+      → accepted entries (on_layers all_layers) ≡ accepted entries plain
   same_by_recursion [] a = refl
   same_by_recursion (entry ∷ entries) a =
       let test = and_not (accepts (extent_of_entry entry)) _ (on_some entry a.0) in
       let rest = same_by_recursion entries a.1 in
-      ap (λ b. cond b (entry ∷ accepted entries (on_layers_accepts accepts all_layers))
-      (accepted entries (on_layers_accepts accepts all_layers))) test
+      ap (λ b. cond b (entry ∷ accepted entries (on_layers all_layers)) (accepted entries (on_layers all_layers))) test
       ∙ ap (λ l. cond (accepts (extent_of_entry entry)) (entry ∷ l) l) rest
 
   module _ (entries : List Entry) (few : All HasLayer entries) (layers : Layers) (all : layers ≡ all_layers) where
-    accepted-all : accepted entries (on_layers_accepts accepts layers) ≡ accepted entries accepts
-    accepted-all = ap (λ s. accepted entries (on_layers_accepts accepts s)) all
+    accepted-all : accepted entries (on_layers layers) ≡ accepted entries plain
+    accepted-all = ap (λ s. accepted entries (on_layers s)) all
         ∙ same_by_recursion entries (recursion_from_All HasLayer entries few)
 
-    answers-all : (score : Extent → ℕ) (limit : Option ℕ)
-        → answers entries (on_layers_accepts accepts layers) score limit ≡ answers entries accepts score limit
-    answers-all score limit =
-        ap (λ found. limited limit (sorted answer_cmp (map (answer_of score) found))) accepted-all
+    answers-all : (limit : Option ℕ) → answers entries (on_layers layers) limit ≡ answers entries plain limit
+    answers-all limit = ap (λ found. limited limit (sorted answer_cmp (map (answer_of plain) found))) accepted-all
 
-    pub report_on-all : (line : ℕ) (report : Report)
-        → report_on entries (on_layers_accepts accepts layers) line report ≡ report_on entries accepts line report
-    report_on-all line (Answers order limit) = ap (find_reply line) (answers-all (order_score order) limit)
-    report_on-all line Count = ap (λ found. ok_line line (length found)) accepted-all
+module _ (accepts : Extent → Bool) (entries : List Entry) (few : All HasLayer entries) (layers : Layers)
+    (all : layers ≡ all_layers) (line : ℕ) where
+  pub report_on-all : (report : Report)
+      → report_on entries (on_layers_accepts accepts layers) line report ≡ report_on entries accepts line report
+  report_on-all (Answers order limit) =
+      ap (find_reply line) (answers-all accepts (order_score order) entries few layers all limit)
+  report_on-all Count =
+      ap (λ found. ok_line line (length found)) (accepted-all accepts (order_score by_id) entries few layers all)

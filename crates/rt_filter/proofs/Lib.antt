@@ -1,4 +1,3 @@
-mod AnswerLemmas
 mod FindLemmas
 mod LayerLemmas
 mod LevelLemmas

@@ -4,8 +4,7 @@ use Rattle.std.specs.Prelude.{Ok, Err, Some, None, codes}
 use Rattle.std.specs.Fmt.{digits}
 use Rattle.rt_command.specs.Choices.{Choices}
 use Rattle.rt_geo.specs.Layers.{all_layers}
-use Rattle.rt_geo.specs.Orders.{near, order_score}
-use Rattle.rt_geo.specs.Regions.{region_accepts}
+use Rattle.rt_geo.specs.Orders.{near}
 use Rattle.rt_geo.specs.declared.order.Order.TheVariants.{ById}
 use Rattle.rt_geo.specs.declared.region.Region.TheVariants.{All, Circle}
 use Rattle.rt_text.proofs.Rows.{boxes, boxes_entries, boxes_load, line}
@@ -14,7 +13,7 @@ use Rattle.rt_text.specs.declared.tables.TableFault.TheVariants as fault
 use Rattle.rt_search.specs.Answers.{answers}
 use Rattle.rt_filter.specs.Faults.{run_fault_line}
 use Rattle.rt_filter.specs.Lines.{numbered_lines}
-use Rattle.rt_filter.specs.Replies.{query_reply}
+use Rattle.rt_filter.specs.Replies.{meaning_of, query_reply}
 use Rattle.rt_filter.specs.Runs.{Run, run_of, run_over}
 use Rattle.rt_filter.specs.declared.filter.RunFault.TheVariants.{Table}
 use Rattle.rt_filter.proofs.RunLemmas.{loaded_with, whole_run}
@@ -31,7 +30,8 @@ row_ended = refl
 -- ---- answers
 
 -- unequal scores, a tie that goes by id, and a limit
-row_nearest : answers boxes_entries (region_accepts (All (record {}))) (order_score (near (record { x = pos 12; y = pos 12 }))) (Some 3) ≡ (pos 2, 0) ∷ (pos 5, 0) ∷ (pos 1, 8) ∷ []
+row_nearest : answers boxes_entries (meaning_of (All (record {})) all_layers (near (record { x = pos 12; y = pos 12 }))) (Some 3)
+    ≡ (pos 2, 0) ∷ (pos 5, 0) ∷ (pos 1, 8) ∷ []
 row_nearest = refl
 
 -- ---- replies over the five boxes, at most two children for each node

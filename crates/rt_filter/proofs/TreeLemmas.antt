@@ -1,19 +1,18 @@
 -- Entries in another order are answered the same: what a tree holds is what was packed.
-use Rattle.std.proofs.Common.{◌≡◌, ◌≤◌, ◌∙◌, ◌++◌, ℕ, Bool, true, false, cond, List, [], ◌∷◌, map, Option, refl, ap, ap₂, subst, sym, get_or}
+use Rattle.std.proofs.Common.{◌≡◌, ◌≤◌, ◌∙◌, ◌++◌, ℕ, List, [], ◌∷◌, Option, refl, ap, ap₂, subst, sym}
 use Rattle.std.proofs.lemmas.List.Concat.{flat_map-cons}
 use Rattle.std.specs.List.{IsDistinct}
 use Rattle.std.specs.List.Sorted.{IsPermutation}
 use Rattle.std.specs.Ordering.{int_eq}
-use Rattle.std.proofs.lemmas.List.Sorted.{IsPermutation-cons, IsPermutation-map, IsPermutation-middle, IsPermutation-refl, IsPermutation-sym, IsPermutation-trans, length_permutation}
-use Rattle.rt_geo.specs.Laws.{Extent, extent_of_entry}
-use Rattle.rt_geo.specs.OnLayers.{on_layers_accepts}
-use Rattle.rt_geo.specs.Orders.{by_id, order_estimate, order_score}
-use Rattle.rt_geo.specs.Regions.{region_accepts}
+use Rattle.std.proofs.lemmas.List.Sorted.{IsPermutation-sym, length_permutation}
+use Rattle.rt_geo.specs.Laws.{Meaning}
+use Rattle.rt_geo.specs.Orders.{by_id}
 use Rattle.rt_geo.specs.declared.entry.Entry.{Entry}
-use Rattle.rt_tree.proofs.Permutations.{along_permutation}
+use Rattle.rt_geo.specs.declared.layers.Layers.{Layers}
+use Rattle.rt_geo.specs.declared.region.Region.{Region}
+use Rattle.rt_tree.specs.Packing.{pack_of}
 use Rattle.rt_tree.proofs.PackSound.{entries-IsPermutation}
 use Rattle.rt_tree.proofs.Repacked.{pack_of-IsPermutation}
-use Rattle.rt_tree.proofs.SortingLemmas.{sorted-IsPermutation}
 use Rattle.rt_tree.specs.Entries.{ids_of}
 use Rattle.rt_tree.specs.Levels.{level_sizes}
 use Rattle.rt_tree.specs.Packed.{IsSound, Packed}
@@ -23,47 +22,17 @@ use Rattle.rt_text.specs.declared.query.Parsed.{Parsed}
 use Rattle.rt_text.specs.declared.query.Parsed.TheVariants as parsed
 use Rattle.rt_text.specs.declared.query.Query.{Query}
 use Rattle.rt_text.specs.declared.query.Query.TheVariants.{CostCount, CostFind, Count, Find, Levels}
-use Rattle.rt_search.specs.Answers.{accepted, answer_cmp, answer_of, answers}
+use Rattle.rt_search.specs.Answers.{answers}
 use Rattle.rt_search.specs.Work.{opened_by_count, opened_by_search}
-use Rattle.rt_filter.specs.Replies.{Loaded, find_reply, judged_line, levels_reply, output, query_reply, reply, tree_of, verdict_of}
+use Rattle.rt_filter.specs.Replies.{Loaded, find_reply, judged_line, levels_reply, meaning_of, output, query_reply, reply, tree_of}
 use Rattle.rt_filter.specs.Stages.{loaded_tree}
-use Rattle.rt_filter.proofs.AnswerLemmas.{answer_cmp_total, tied}
-
--- ---- which entries are accepted
-
-module _ (accepts : Extent → Bool) where
-  abbrev kept : List Entry → List Entry
-  kept entries = accepted entries accepts
-
-  skip : (x : Entry) (xs ys : List Entry) → IsPermutation (kept xs) (kept ys) → IsPermutation (kept (x ∷ xs)) (kept (x ∷ ys))
-  skip x xs ys h =
-      elim (accepts (extent_of_entry x)) as (λ b. IsPermutation (cond b (x ∷ kept xs) (kept xs)) (cond b (x ∷ kept ys) (kept ys))) [
-        | true ↦ IsPermutation-cons x (kept xs) (kept ys) h
-        | false ↦ h
-      ]
-
-  turn : (x y : Entry) (xs : List Entry) → IsPermutation (kept (x ∷ y ∷ xs)) (kept (y ∷ x ∷ xs))
-  turn x y xs = by (accepts (extent_of_entry x)) (accepts (extent_of_entry y))
-    where
-      by : (p q : Bool) → IsPermutation (cond p (x ∷ cond q (y ∷ kept xs) (kept xs)) (cond q (y ∷ kept xs) (kept xs)))
-          (cond q (y ∷ cond p (x ∷ kept xs) (kept xs)) (cond p (x ∷ kept xs) (kept xs)))
-      by true true = IsPermutation-middle (x ∷ []) y (kept xs)
-      by true false = IsPermutation-refl _
-      by false true = IsPermutation-refl _
-      by false false = IsPermutation-refl _
-
-  pub IsPermutation-accepted : (xs ys : List Entry) → IsPermutation xs ys → IsPermutation (accepted xs accepts) (accepted ys accepts)
-  IsPermutation-accepted = along_permutation (λ xs ys. IsPermutation (kept xs) (kept ys)) (λ xs. IsPermutation-refl (kept xs))
-      skip turn (λ xs ys zs h k. IsPermutation-trans _ _ _ h k)
+use Rattle.rt_search.proofs.Answering.{accepted-IsPermutation, among-IsPermutation}
 
 -- ---- answers
 
-answers-IsPermutation : (xs ys : List Entry) (accepts : Extent → Bool) (score : Extent → ℕ) (limit : Option ℕ) → IsPermutation xs ys
-    → answers xs accepts score limit ≡ answers ys accepts score limit
-answers-IsPermutation xs ys accepts score limit moved =
-    let scored = IsPermutation-map (answer_of score) (accepted xs accepts) (accepted ys accepts) (IsPermutation-accepted accepts xs ys moved) in
-    ap (limited limit) (sorted-IsPermutation answer_cmp answer_cmp_total (map (answer_of score) (accepted xs accepts)) (map (answer_of score) (accepted ys accepts))
-    (λ i j d h k. tied (get_or (map (answer_of score) (accepted xs accepts)) i d) (get_or (map (answer_of score) (accepted xs accepts)) j d)) scored)
+answers-IsPermutation : (xs ys : List Entry) (meaning : Meaning) (limit : Option ℕ) → IsPermutation xs ys
+    → answers xs meaning limit ≡ answers ys meaning limit
+answers-IsPermutation xs ys meaning limit moved = ap (limited limit) (among-IsPermutation meaning xs ys moved)
 
 -- ---- replies
 
@@ -79,15 +48,14 @@ module _ (fanout : ℕ) (xs ys : List Entry) (distinct : IsDistinct int_eq (ids_
 
   query_same : (line : ℕ) (query : Query) → query_reply first line query ≡ query_reply other line query
   query_same line (Find region order limit layers) = ap (find_reply line)
-      (answers-IsPermutation xs ys (on_layers_accepts (region_accepts region) layers) (order_score order) limit moved)
+      (answers-IsPermutation xs ys (meaning_of region layers order) limit moved)
   query_same line (Count region layers) = ap (ok_line line) (sym (length_permutation _ _
-      (IsPermutation-accepted (on_layers_accepts (region_accepts region) layers) xs ys moved)))
+      (accepted-IsPermutation (meaning_of region layers by_id) xs ys moved)))
   query_same line Levels = ap (λ n. levels_reply line (level_sizes n fanout)) (sym (length_permutation xs ys moved))
-  query_same line (CostFind region order limit layers) = ap (λ tree. ok_line line (opened_by_search
-      (on_layers_accepts (region_accepts region) layers) (order_score order)
-      (verdict_of region layers (order_estimate order)) tree limit)) same_tree
+  query_same line (CostFind region order limit layers) =
+      ap (λ tree. ok_line line (opened_by_search (meaning_of region layers order) tree limit)) same_tree
   query_same line (CostCount region layers) =
-      ap (λ tree. ok_line line (opened_by_count (verdict_of region layers (order_estimate by_id)) tree)) same_tree
+      ap (λ tree. ok_line line (opened_by_count (meaning_of region layers by_id) tree)) same_tree
 
   reply_same : (line : ℕ) (parsed : Parsed) → reply first line parsed ≡ reply other line parsed
   reply_same line parsed.Skip = refl
@@ -116,3 +84,12 @@ module _ (tree : Packed) (loaded : Loaded) (sound : IsSound tree) (packed : tree
   output_same lines =
       output-IsPermutation loaded.fanout loaded.entries tree.entries sound.table.distinct moved lines
       ∙ ap (λ fanout. output (record { entries = tree.entries; fanout = fanout }) lines) (sym fanout_same)
+
+-- ---- what a count costs
+
+-- how many nodes a count opens of a tree is its cost line's answer
+pub count_cost : (tree : Packed) (line opened : ℕ) (region : Region) (layers : Layers)
+    → tree ≡ pack_of tree.fanout tree.entries → opened ≡ opened_by_count (meaning_of region layers by_id) tree
+    → ok_line line opened ≡ query_reply (loaded_tree tree) line (CostCount region layers)
+count_cost tree line opened region layers packed is =
+    ap (ok_line line) (is ∙ ap (opened_by_count (meaning_of region layers by_id)) packed)

@@ -1,14 +1,13 @@
 -- The bytes that lines are answered with.
 use Rattle.std.specs.Prelude.{ℕ, nat_lt, Bool, true, false, if◌then◌else◌, List, [], ◌++◌, length, flat_map, reverse}
 use Rattle.std.specs.List.{enumerate_from, list_any}
-use Rattle.rt_geo.specs.Laws.{guided_verdict}
+use Rattle.rt_geo.specs.Laws.{Meaning, guided}
 use Rattle.rt_geo.specs.OnLayers.{on_layers_accepts, on_layers_state}
 use Rattle.rt_geo.specs.Orders.{by_id, order_estimate, order_score}
 use Rattle.rt_geo.specs.Regions.{region_accepts, region_state}
 use Rattle.rt_geo.specs.declared.entry.Entry.{Entry}
-use Rattle.rt_geo.specs.declared.geometry.Info.{Info}
-use Rattle.rt_geo.specs.declared.geometry.Verdict.{Verdict}
 use Rattle.rt_geo.specs.declared.layers.Layers.{Layers}
+use Rattle.rt_geo.specs.declared.order.Order.{Order}
 use Rattle.rt_geo.specs.declared.region.Region.{Region}
 use Rattle.rt_tree.specs.Levels.{level_sizes}
 use Rattle.rt_tree.specs.Packed.{Packed}
@@ -46,23 +45,23 @@ abbrev pub levels_reply : (line : ℕ) → (sizes : List ℕ) → List ℕ
 levels_reply line sizes =
     flat_map (λ level. level_line level.0 level.1) (reverse (enumerate_from 0 sizes)) ++ ok_line line (length sizes)
 
--- what is known of the boxes below a node: whether they are in the region and on these layers, and a score
--- that is at most that of each
-abbrev pub verdict_of : Region → Layers → (estimate : Info → ℕ) → Info → Verdict
-verdict_of region layers estimate = guided_verdict (on_layers_state (region_state region) layers) estimate
+-- what is asked for: the boxes of the region that are on these layers, in this order
+abbrev pub meaning_of : Region → Layers → Order → Meaning
+meaning_of region layers order =
+    guided (on_layers_accepts (region_accepts region) layers) (on_layers_state (region_state region) layers)
+    (order_score order) (order_estimate order)
 
 -- the reply to a query; a cost is how many nodes are opened of the tree
 abbrev pub query_reply : Loaded → (line : ℕ) → Query → List ℕ
 query_reply loaded line (Find region order limit layers) =
-    find_reply line (answers loaded.entries (on_layers_accepts (region_accepts region) layers) (order_score order) limit)
+    find_reply line (answers loaded.entries (meaning_of region layers order) limit)
 query_reply loaded line (Count region layers) =
-    ok_line line (length (accepted loaded.entries (on_layers_accepts (region_accepts region) layers)))
+    ok_line line (length (accepted loaded.entries (meaning_of region layers by_id)))
 query_reply loaded line Levels = levels_reply line (level_sizes (length loaded.entries) loaded.fanout)
 query_reply loaded line (CostFind region order limit layers) =
-    ok_line line (opened_by_search (on_layers_accepts (region_accepts region) layers) (order_score order)
-    (verdict_of region layers (order_estimate order)) (tree_of loaded) limit)
+    ok_line line (opened_by_search (meaning_of region layers order) (tree_of loaded) limit)
 query_reply loaded line (CostCount region layers) =
-    ok_line line (opened_by_count (verdict_of region layers (order_estimate by_id)) (tree_of loaded))
+    ok_line line (opened_by_count (meaning_of region layers by_id) (tree_of loaded))
 
 -- the reply to what a line asks
 abbrev pub reply : Loaded → (line : ℕ) → Parsed → List ℕ

@@ -8,7 +8,7 @@ ghost use Rattle.rt_geo.specs.OnLayers.{on_layers_accepts};
 ghost use Rattle.rt_geo.specs.Regions.{region_accepts};
 ghost use Rattle.rt_tree.specs.Levels.{level_sizes};
 ghost use Rattle.rt_text.specs.ReplyLines.{ok_line};
-ghost use Rattle.rt_search.specs.Answers.{accepted, answers};
+ghost use Rattle.rt_search.specs.Answers.{answers};
 ghost use Rattle.rt_search.specs.Work.{IsUnscored};
 ghost use Rattle.rt_filter.specs.Pushes.{Pushed};
 ghost use Rattle.rt_filter.specs.Replies.{find_reply, levels_reply, query_reply};
@@ -202,7 +202,7 @@ fn push_count<S: Shape + Drop, K: Sink>(
     requires room { length tree.now.entries ≤ frontier.capacity }
     requires count { K.failed sink.old < 2 ^ 64 - 1 }
     ensures pushed { Pushed K.written K.failed sink.old sink.new result
-        (ok_line line (length (accepted tree.now.entries (S.accepts shape)))) }
+        (report_on tree.now.entries (S.accepts shape) line Report.Count) }
     ensures capacity { IfOk result (λ left. left.capacity ≡ frontier.capacity) }
 {
     let geometry = Guided { shape, rank: ById };
@@ -225,9 +225,9 @@ fn find<G: Geometry + Drop, K: Sink>(
 ) -> Result<Frontier, WriteFault>
     requires room { length tree.now.entries ≤ frontier.capacity }
     requires count { K.failed sink.old < 2 ^ 64 - 1 }
-    requires unscored { is_unscored ≡ true → IsUnscored (G.verdict geometry) }
+    requires unscored { is_unscored ≡ true → IsUnscored (G.meaning geometry) }
     ensures pushed { Pushed K.written K.failed sink.old sink.new result
-        (find_reply line (answers tree.now.entries (G.accepts geometry) (G.score geometry) limit)) }
+        (find_reply line (answers tree.now.entries (G.meaning geometry) limit)) }
     ensures capacity { IfOk result (λ left. left.capacity ≡ frontier.capacity) }
 {
     // (called, so that it is known that the number of answers fits)

@@ -97,12 +97,15 @@ module _ (meaning : Meaning) where
       by true false = IsPermutation-refl _
       by false q = IsPermutation-refl _
 
+  pub accepted-IsPermutation : (es fs : List Entry) → IsPermutation es fs
+      → IsPermutation (accepted es meaning) (accepted fs meaning)
+  accepted-IsPermutation = along_permutation (λ es fs. IsPermutation (kept es) (kept fs))
+      (λ es. IsPermutation-refl (kept es)) skip turn (λ es fs gs h k. IsPermutation-trans _ _ _ h k)
+
   pub among-IsPermutation : (es fs : List Entry) → IsPermutation es fs
       → sorted answer_cmp (among es) ≡ sorted answer_cmp (among fs)
   among-IsPermutation es fs h = answer_order.rearranged (among es) (among fs)
-      (IsPermutation-map (answer_of meaning) (kept es) (kept fs)
-      (along_permutation (λ es fs. IsPermutation (kept es) (kept fs)) (λ es. IsPermutation-refl (kept es)) skip turn
-      (λ es fs gs h k. IsPermutation-trans _ _ _ h k) es fs h))
+      (IsPermutation-map (answer_of meaning) (kept es) (kept fs) (accepted-IsPermutation es fs h))
 
   -- ---- the answers that items stand for
 

@@ -1,6 +1,5 @@
-use Rattle.std.proofs.Common.{false, ◌∙◌, ap, subst, take}
+use Rattle.std.proofs.Common.{false, ◌∙◌, ap, take}
 use Rattle.rt_filter.specs.Lines.{completed}
-use Rattle.rt_filter.specs.Pushes.{Pushed}
 use Rattle.rt_filter.specs.Replies.{output}
 use Rattle.rt_filter.proofs.PushLemmas.{pushed_told}
 use Rattle.rt_filter.proofs.TreeLemmas.{output_same}
