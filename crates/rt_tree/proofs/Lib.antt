@@ -8,7 +8,6 @@ mod LevelOrder
 mod LevelSizes
 mod LoopLemmas
 mod NodeLemmas
-mod Numbering
 mod OrderLemmas
 mod PackCounts
 mod PackLemmas

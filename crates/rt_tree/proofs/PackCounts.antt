@@ -12,23 +12,12 @@ use Rattle.rt_geo.specs.Boxes.{Rect}
 use Rattle.rt_geo.specs.Laws.{Extent, extent_of_entry}
 use Rattle.rt_geo.specs.declared.entry.Entry.{Entry}
 use Rattle.rt_tree.specs.Packed.{extent_of_node}
-use Rattle.rt_tree.specs.Packing.{chunks, groups, joined, node_over, nodes_over}
+use Rattle.rt_tree.specs.Packing.{chunks, groups, joined, node_over, nodes_from, nodes_over}
 use Rattle.rt_tree.specs.declared.tree.Node.{Node}
 use Rattle.rt_tree.proofs.ChunkLemmas.{joined-chunks, le_or_lt, length-chunks}
 use Rattle.rt_tree.proofs.LevelLemmas.{div_ceil-halves}
 use Rattle.rt_tree.proofs.Soundness.{length-nodes_over, sum_by-ones}
 use Rattle.rt_tree.proofs.TileLemmas.{groups-IsPermutation, groups-chunks}
-
--- the nodes of this level, in the order in which the level above is cut, and then those of all levels above, up to one
--- that has a single node, each numbered as it is made. `first` is the number of the first of them; the fuel is no less
--- than the number of levels
-abbrev pub nodes_from : (fuel fanout level first : ℕ) → List Node → List Node
-nodes_from zero fanout level first made = made
-nodes_from (suc fuel) fanout level first made =
-    let cut = groups (λ n. n.bounds) fanout made in
-    let above = nodes_over extent_of_node (λ n. n.size) (level + 1) first cut in
-    if nat_le (length made) 1 then made
-    else joined cut ++ nodes_from fuel fanout (level + 1) (first + length made) above
 
 -- ---- one level
 

@@ -12,7 +12,7 @@ use Rattle.std.proofs.lemmas.List.Sorted.{IsPermutation-sym, IsPermutation-trans
 use Rattle.rt_geo.specs.declared.entry.Entry.{Entry}
 use Rattle.rt_tree.specs.Packed.{Packed, IsSound, IsSubtree, all_child_entries, all_child_nodes, child_entries}
 use Rattle.rt_tree.specs.Packed.{entries_under, extent_of_node, height, level_by_level, no_node, node_at, root_of}
-use Rattle.rt_tree.specs.Packing.{all_nodes, chunks, groups, joined, nodes_over, pack_of}
+use Rattle.rt_tree.specs.Packing.{all_nodes, chunks, groups, joined, nodes_from, nodes_over, pack_of}
 use Rattle.rt_tree.specs.Entries.{IsTable, ids_of}
 use Rattle.rt_tree.specs.Sorting.{sorted}
 use Rattle.rt_geo.specs.Entries.{HasBox, HasLayer}
@@ -28,8 +28,7 @@ use Rattle.rt_tree.proofs.Children.{once_more}
 use Rattle.rt_tree.proofs.ChunkLemmas.{chunks-size, le_or_lt}
 use Rattle.rt_tree.proofs.OrderLemmas.{all_append, all_moved, flat_map-IsPermutation}
 use Rattle.rt_tree.proofs.PackCounts.{IsCounted, counted_first, counted_more, cut, fewer, length-above, length-groups}
-use Rattle.rt_tree.proofs.PackCounts.{weight-nodes_over, nodes_from, nodes_from-last, nodes_from-more}
-use Rattle.rt_tree.proofs.Numbering.{all_nodes-is}
+use Rattle.rt_tree.proofs.PackCounts.{nodes_from-last, nodes_from-more, weight-nodes_over}
 use Rattle.rt_tree.proofs.LoopLemmas.{get_or_behind}
 use Rattle.rt_tree.proofs.LevelLemmas.{div_ceil-positive}
 use Rattle.rt_tree.proofs.LevelOrder.{last_node-top, nodes_from-levels, nodes_over-AreOn, sizes_from, sizes_from_first}
@@ -325,11 +324,10 @@ module _ (fanout : ℕ) (several : 2 ≤ fanout) (in_order : List Entry) where
             (arith, long)),
       ) in
       let on = nodes_over-AreOn extent_of_entry (λ _. 1) 1 0 gs in
-      subst (λ ns. IsSound (tree fanout es ns)) (sym (all_nodes-is fanout several made)) (sound_finished fanout several
-      es (nodes_from (length made) fanout 1 0 made) (length made) (omega (arith, there, long)) count
+      sound_finished fanout several es (all_nodes fanout made) (length made) (omega (arith, there, long)) count
       (nodes_from-levels fanout several (length made) 1 0 made (omega arith) some on) table
       (sound_from fanout several es (length made) 0 [] made (omega arith) some (made-IsBuilt table)
-      (made-first there table)))
+      (made-first there table))
 
 -- without entries there are no nodes
 packed-none : (fanout : ℕ) (several : 2 ≤ fanout) (in_order : List Entry) → in_order ≡ []

@@ -83,30 +83,20 @@ leaf_nodes = nodes_over extent_of_entry (λ _. 1) 1 0
 
 -- ---- level by level
 
--- the levels from these nodes on, up to one that has a single node, but at most so many. The nodes of each stand in the
--- order in which the level above it is cut, and a node's first child is told by its place on the level below
-abbrev pub levels_from : (most fanout level : ℕ) → List Node → List (List Node)
-levels_from zero fanout level nodes = []
-levels_from (suc most) fanout level nodes =
+-- the nodes of this level, in the order in which the level above it is cut, and then those of all levels above, up to
+-- one that has a single node. They are numbered as they stand, from `first` on, and a node's first child is told by its
+-- number. The fuel is no less than the number of levels
+abbrev pub nodes_from : (fuel fanout level first : ℕ) → List Node → List Node
+nodes_from zero fanout level first nodes = nodes
+nodes_from (suc fuel) fanout level first nodes =
     let cut = groups (λ n. n.bounds) fanout nodes in
-    let above = nodes_over extent_of_node (λ n. n.size) (level + 1) 0 cut in
-    if nat_le (length nodes) 1 then nodes ∷ [] else joined cut ∷ levels_from most fanout (level + 1) above
+    let above = nodes_over extent_of_node (λ n. n.size) (level + 1) first cut in
+    if nat_le (length nodes) 1 then nodes
+    else joined cut ++ nodes_from fuel fanout (level + 1) (first + length nodes) above
 
--- a node whose first child's place is counted from this number on
-abbrev pub counted_from : (start : ℕ) → Node → Node
-counted_from start node = record node { first = start + node.first }
-
--- the nodes of these levels, one level after the other, and numbered on from level to level: those of the first have
--- their numbers from `number` on, and their children from `children` on
-abbrev pub numbered : (number children : ℕ) → List (List Node) → List Node
-numbered number children [] = []
-numbered number children (level ∷ more) =
-    map (counted_from children) level ++ numbered (number + length level) number more
-
--- the nodes of all levels, over those of level 1: there are no more levels than such nodes. Numbers begin at 0 with level
--- 1, and so do the places of its children, the entries
+-- the nodes of all levels, over those of level 1, whose numbers begin at 0: there are no more levels than such nodes
 abbrev pub all_nodes : (fanout : ℕ) → List Node → List Node
-all_nodes fanout nodes = numbered 0 0 (levels_from (length nodes) fanout 1 nodes)
+all_nodes fanout nodes = nodes_from (length nodes) fanout 1 0 nodes
 
 -- ---- the tree
 

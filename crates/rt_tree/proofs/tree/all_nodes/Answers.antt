@@ -1,5 +1,4 @@
-use Rattle.std.proofs.Common.{◌≡◌, ◌<◌, ◌+◌, ◌++◌, ◌∙◌, ap, arith, length, sym}
-use Rattle.rt_tree.proofs.Numbering.{all_nodes-is}
+use Rattle.std.proofs.Common.{◌≡◌, ◌<◌, ◌+◌, ◌++◌, ◌∙◌, ap, arith, length}
 use Rattle.rt_tree.specs.Packed.{extent_of_node}
 use Rattle.rt_tree.specs.Packing.{all_nodes, chunks, nodes_over}
 use Rattle.rt_tree.proofs.PackCounts.{course_more, entries_counted, level_counted, level_smaller}
@@ -10,8 +9,7 @@ pub levels-init : goal.levels-init
 levels-init c = rw c.new-nodes.ensures.items (record {
   counted = entries_counted c.args.fanout c.requires.several c.args.leaves.now c.in_ok-made.made.items
       c.requires.few c.in_ok-made.ensures;
-  course = sym (all_nodes-is c.args.fanout c.requires.several c.in_ok-made.made.items)
-      ∙ ap (all_nodes c.args.fanout) c.in_ok-made.ensures;
+  course = ap (all_nodes c.args.fanout) c.in_ok-made.ensures;
 })
 
 pub nodes_over-requires-clause-few : goal.nodes_over-requires-clause-few
