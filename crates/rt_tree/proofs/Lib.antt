@@ -11,6 +11,7 @@ mod NodeLemmas
 mod OrderLemmas
 mod PackCounts
 mod PackLemmas
+mod Packable
 mod PairLemmas
 mod Rows
 mod SortKeyLemmas
@@ -19,6 +20,7 @@ mod Soundness
 mod TieLemmas
 mod TieOrders
 mod TileLemmas
+mod TileLoops
 pub mod Permutations
 pub mod PackSound
 pub mod Repacked

@@ -3,18 +3,16 @@ use Rattle.std.proofs.Common.{◌≡◌, ◌<◌, ◌≤◌, ◌+◌, ◌-◌, �
 use Rattle.std.proofs.Common.{set, get_or, min, refl, sym, ◌∙◌, ap, subst, arith, add-one, append_assoc, inl, inr}
 use Rattle.std.proofs.Common.{Option, Some}
 use borrow.Rule.Slice.PartMut.{post_of, put_mid}
-use Rattle.std.specs.List.{All, enumerate_from, filter_map, flat_map, reduce, sum_by}
+use Rattle.std.specs.List.{All, enumerate_from, filter_map, flat_map, reduce}
 use Rattle.std.specs.Prelude.{unwrap_or}
 use Rattle.std.proofs.lemmas.List.Elements.{filter_map-append}
 use Rattle.std.proofs.lemmas.List.{append-nil, drop-drop, drop_all, get_or-drop, get_or-take, length-append}
 use Rattle.std.proofs.lemmas.List.{length-drop, length-map, length-take, map-append, take-append-le, take_all}
 use Rattle.std.proofs.lemmas.List.{take_more}
-use Rattle.std.proofs.lemmas.List.Sums.{fold-append, sum_by-take-drop, sum_by-take-le}
+use Rattle.std.proofs.lemmas.List.Sums.{fold-append}
 use Rattle.std.proofs.lemmas.Slice.{drop-put_mid, take-put_mid}
 use Rattle.std.proofs.Math.Seq.{drop-cons}
-use Rattle.rt_geo.specs.Laws.{Extent}
-use Rattle.rt_tree.specs.Packing.{chunks, node_over, nodes_over}
-use Rattle.rt_tree.specs.declared.tree.Node.{Node}
+use Rattle.rt_tree.specs.Packing.{chunks}
 use Rattle.rt_tree.proofs.ChunkLemmas.{chunks-step, le_or_lt}
 
 -- ---- each element gets a key
@@ -192,60 +190,6 @@ pub reduced-push : {X : Type 0} (f : X → X → X) (none : X) (xs : List X) (x 
     → reduced f none (xs ++ x ∷ []) ≡ f (reduced f none xs) x
 reduced-push f none [] x some = absurd (omega (arith, some))
 reduced-push f none (y ∷ xs) x some = fold-append f y xs (x ∷ [])
-
--- the element at i of what is behind the first one
-next_behind : {X : Type 0} (xs : List X) (i : ℕ) (x : X) → i < length xs - 1
-    → x ≡ get_or (take (length xs - 1) (drop 1 xs)) i x
-    → take (i + 1 + 1) xs ≡ take (i + 1) xs ++ x ∷ []
-next_behind xs i x h e =
-    let rest : take (length xs - 1) (drop 1 xs) ≡ drop 1 xs = take_all (length xs - 1) (drop 1 xs) (omega
-    (arith, length-drop 1 xs)) in
-    let at : get_or xs (i + 1) x ≡ x = ap (λ n. get_or xs n x) (omega arith) ∙ sym (get_or-drop 1 xs i x)
-    ∙ ap (λ l. get_or l i x) (sym rest) ∙ sym e in
-    take_more xs (i + 1) x (omega (arith, h)) ∙ ap (λ y. take (i + 1) xs ++ y ∷ []) at
-
-pub reduced_more : {X Y : Type 0} (f : Y → Y → Y) (none : Y) (show : X → Y) (xs : List X) (i : ℕ) (x : X) (y : Y)
-    → i < length xs - 1 → x ≡ get_or (take (length xs - 1) (drop 1 xs)) i x
-    → y ≡ reduced f none (map show (take (i + 1) xs)) → f y (show x) ≡ reduced f none (map show (take (i + 1 + 1) xs))
-reduced_more f none show xs i x y h e is =
-    let front = map show (take (i + 1) xs) in
-    let long : 0 < length front = omega (arith, h, length-map (take (i + 1) xs) show, length-take (i + 1) xs) in
-    sym (ap (λ l. reduced f none (map show l)) (next_behind xs i x h e)
-    ∙ ap (reduced f none) (map-append show (take (i + 1) xs) (x ∷ [])) ∙ reduced-push f none front (show x) long
-    ∙ ap (λ z. f z (show x)) (sym is))
-
-pub weight_more : {X : Type 0} (weight : X → ℕ) (xs : List X) (i : ℕ) (x : X) → i < length xs - 1
-    → x ≡ get_or (take (length xs - 1) (drop 1 xs)) i x
-    → sum_by weight (take (i + 1 + 1) xs) ≡ sum_by weight (take (i + 1) xs) + weight x
-weight_more weight xs i x h e = ap (sum_by weight) (next_behind xs i x h e)
-    ∙ fold-append (λ a y. a + weight y) 0 (take (i + 1) xs) (x ∷ [])
-
--- a part weighs no more than the whole
-pub part-weight : {X : Type 0} (weight : X → ℕ) (n start : ℕ) (xs : List X)
-    → sum_by weight (take n (drop start xs)) ≤ sum_by weight xs
-part-weight weight n start xs = omega (arith, sum_by-take-le weight (drop start xs) n, sum_by-take-drop weight xs start)
-
--- ---- a node over each chunk
-
-pub nodes_more : {X : Type 0} (extent : X → Extent) (weight : X → ℕ) (level first size start n k : ℕ) (items : List X)
-    (nodes whole : List Node) (node : Node)
-    → 0 < size → start < length items → n ≡ min size (length items - start) → k ≡ n
-    → node ≡ node_over extent weight level (first + start) (take k (drop start items))
-    → nodes ++ nodes_over extent weight level (first + start) (chunks size (drop start items)) ≡ whole
-    → (nodes ++ node ∷ []) ++ nodes_over extent weight level (first + (start + n)) (chunks size (drop
-    (start + n) items)) ≡ whole
-nodes_more extent weight level first size start n k items nodes whole node some there at k_is is course =
-    let group = take n (drop start items) in
-    let rest = chunks size (drop (start + n) items) in
-    let long : length group ≡ n = omega (arith, length-take n (drop start items), length-drop start items) in
-    let this : node ≡ node_over extent weight level (first + start) group = is
-    ∙ ap (λ m. node_over extent weight level (first + start) (take m (drop start items))) k_is in
-    let next : first + start + length group ≡ first + (start + n) = omega (arith, long) in
-    append_assoc nodes (node ∷ []) (nodes_over extent weight level (first + (start + n)) rest)
-    ∙ ap (λ l. nodes ++ l) (ap (λ m. node ∷ nodes_over extent weight level m rest) (sym next)
-    ∙ ap (λ m. m ∷ nodes_over extent weight level (first + start + length group) rest) this
-    ∙ ap (nodes_over extent weight level (first + start)) (sym (chunks-at size start n items some there at)))
-    ∙ course
 
 -- the front of a list that is as long as what is taken
 pub front_of : {X : Type 0} (n : ℕ) (xs ys : List X) → length xs ≡ n → take n (xs ++ ys) ≡ xs
