@@ -1,6 +1,7 @@
 -- Lists cut into chunks.
 use Rattle.std.proofs.Common.{◌≡◌, ◌<◌, ◌≤◌, ◌+◌, ◌-◌, ◌*◌, ℕ, zero, suc, List, [], ◌∷◌, ◌++◌, length}
-use Rattle.std.proofs.Common.{map, take, drop, refl, sym, ◌∙◌, ap, arith, add-one, inl, inr, ◌⊎◌}
+use Rattle.std.proofs.Common.{map, take, drop, min, refl, sym, ◌∙◌, ap, subst, arith, add-one, inl, inr, ◌⊎◌}
+use Rattle.std.proofs.Math.Seq.{drop-append_seam, take-append_seam}
 use Rattle.std.proofs.Common.{Bool, true, false, nat_le}
 use Rattle.std.proofs.lemmas.Bool.Decides.{nat_tests}
 use Rattle.std.specs.Int.{div_ceil}
@@ -11,7 +12,7 @@ use native.Mathlib.Nat.{add-mul}
 use Rattle.std.proofs.Math.Nat.{zero-div, zero-mod, mul-le-mul_right}
 use Rattle.std.proofs.lemmas.Grind.{div_ceil_times}
 use Rattle.std.proofs.lemmas.List.{append-nil, drop-append-le, drop-map, drop_all, length-append, length-drop}
-use Rattle.std.proofs.lemmas.List.{length-map, length-take, take-append-drop, take-append-le}
+use Rattle.std.proofs.lemmas.List.{length-map, length-take, take-append-drop, take-append-le, take_all}
 use Rattle.std.proofs.lemmas.List.{take-map}
 use Rattle.rt_tree.specs.Packing.{chunks, joined, pieces}
 
@@ -84,6 +85,22 @@ chunks-step n xs some more =
     ∙ ap (λ k. first_chunks n k xs) (div_ceil-step (length xs) n some more)
     ∙ ap (λ len. take n xs ∷ first_chunks n (div_ceil len n) (drop n xs)) (sym (length-drop n xs))
     ∙ ap (λ l. take n xs ∷ l) (sym (chunks-first_chunks n (drop n xs) some))
+
+-- the chunk in front, which is as long as it may be
+pub chunks-front : {X : Type 0} (n : ℕ) (front behind : List X) → 0 < n → 0 < length front
+    → length front ≡ min n (length (front ++ behind)) → chunks n (front ++ behind) ≡ front ∷ chunks n behind
+chunks-front n front [] some there long =
+    let bare = append-nil front in
+    let few : length front ≤ n = omega (arith, long) in
+    ap (chunks n) bare ∙ chunks-step n front some there
+    ∙ ap (λ l. l ∷ chunks n (drop n front)) (take_all n front few)
+    ∙ ap (λ l. front ∷ chunks n l) (drop_all n front few)
+chunks-front n front (x ∷ behind) some there long =
+    let full : length front ≡ n = omega (arith, long, length-append front (x ∷ behind)) in
+    let whole = front ++ x ∷ behind in
+    chunks-step n whole some (omega (arith, there, length-append front (x ∷ behind)))
+    ∙ ap (λ l. l ∷ chunks n (drop n whole)) (subst (λ k. take k whole ≡ front) full (take-append_seam front (x ∷ behind)))
+    ∙ ap (λ l. front ∷ chunks n l) (subst (λ k. drop k whole ≡ x ∷ behind) full (drop-append_seam front (x ∷ behind)))
 
 length-first_chunks : {X : Type 0} (n k : ℕ) (xs : List X) → length (first_chunks n k xs) ≡ k
 length-first_chunks n zero xs = refl

@@ -7,28 +7,24 @@ use Rattle.rt_geo.specs.declared.entry.Entry.{Entry}
 use Rattle.rt_geo.specs.declared.layers.Layers.{Layers}
 use Rattle.rt_tree.specs.Leaves.{entries_of, with_layer, without_layer}
 use Rattle.rt_tree.specs.declared.entries.LeafEntry.{LeafEntry}
-use Rattle.rt_tree.proofs.PairLemmas.{left-alone, length-paired, paired-made, right-alone}
+use Rattle.rt_tree.proofs.PairLemmas.{left-alone, length-paired, right-alone}
 
 -- the layer of an entry
 abbrev pub layer_of : Entry → ℕ
 layer_of entry = entry.layer
 
--- what the two lists of entries make is the entries
-pub entries_of-made : (entries : List Entry) → entries_of (map without_layer entries) (map layer_of entries) ≡ entries
-entries_of-made = paired-made with_layer without_layer layer_of (λ _ _. refl) (λ _ _. refl) (λ _. refl)
-
--- and what two lists make has them both
+-- what two lists of entries make has them both
 pub entries-alone : (entries : List LeafEntry) (layers : List ℕ) → length entries ≡ length layers
     → map without_layer (entries_of entries layers) ≡ entries
-entries-alone = left-alone with_layer without_layer layer_of (λ _ _. refl) (λ _ _. refl) (λ _. refl)
+entries-alone = left-alone with_layer without_layer layer_of (λ _ _. refl) (λ _ _. refl)
 
 pub layers-alone : (entries : List LeafEntry) (layers : List ℕ) → length entries ≡ length layers
     → map layer_of (entries_of entries layers) ≡ layers
-layers-alone = right-alone with_layer without_layer layer_of (λ _ _. refl) (λ _ _. refl) (λ _. refl)
+layers-alone = right-alone with_layer without_layer layer_of (λ _ _. refl) (λ _ _. refl)
 
 pub length-entries_of : (entries : List LeafEntry) (layers : List ℕ) → length entries ≡ length layers
     → length (entries_of entries layers) ≡ length entries
-length-entries_of = length-paired with_layer without_layer layer_of (λ _ _. refl) (λ _ _. refl) (λ _. refl)
+length-entries_of = length-paired with_layer without_layer layer_of (λ _ _. refl) (λ _ _. refl)
 
 -- the layer of an entry that is there
 pub layers_told : (entries : List Entry) (place : ℕ) (layers : Layers)

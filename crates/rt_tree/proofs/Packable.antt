@@ -1,12 +1,11 @@
 -- Entries of a table can be packed, and so can nodes.
-use Rattle.std.proofs.Common.{◌≡◌, ℕ, Ordering, List, [], ◌∷◌, length, refl, arith}
+use Rattle.std.proofs.Common.{List, arith}
 use Rattle.std.proofs.lemmas.List.Sorted.{IsPermutation-refl}
 use Rattle.std.specs.Ordering.{int_cmp, nat_cmp, on}
-use Rattle.rt_geo.specs.Boxes.{Rect}
 use Rattle.rt_geo.specs.Entries.{HasLayer}
 use Rattle.rt_geo.specs.declared.entry.Entry.{Entry}
 use Rattle.rt_tree.specs.Entries.{IsTable}
-use Rattle.rt_tree.specs.SortKeys.{AreFewNodes, ArePackable, by_rank_and_id, tiled_keys, told}
+use Rattle.rt_tree.specs.SortKeys.{AreFewNodes, ArePackable, by_rank_and_id}
 use Rattle.rt_tree.specs.Sorting.{sorted}
 use Rattle.rt_tree.specs.declared.tree.Node.{Node}
 use Rattle.rt_tree.proofs.PackLemmas.{by_id}
@@ -34,9 +33,3 @@ nodes_packable nodes a = record {
   moved = IsPermutation-refl nodes;
   arranged = λ fanout some x y. nodes_told (λ (n : Node). n.bounds) nodes a.few x y fanout some;
 }
-
--- without items there are no keys to tell any
-pub none_told : {X : Type 0} (order : ℕ → ℕ → Ordering) (box : X → Rect) (fanout : ℕ) (items : List X)
-    → length items ≡ 0 → told items (tiled_keys order box fanout items) ≡ []
-none_told order box fanout [] none = refl
-none_told order box fanout (x ∷ items) none = absurd (omega (arith, none))

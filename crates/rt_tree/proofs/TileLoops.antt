@@ -4,8 +4,8 @@ use Rattle.std.proofs.Common.{length, map, take, drop}
 use Rattle.std.proofs.Common.{get_or, slice_get, min, refl, sym, ◌∙◌, ap, subst, arith, append_assoc, inl, inr}
 use Rattle.std.specs.List.{All, sum_by}
 use Rattle.std.proofs.Math.Seq.{drop-append_seam, take-append_seam}
-use Rattle.std.proofs.lemmas.List.{append-nil, drop_all, get_or-drop, length-append, length-drop, length-map, length-take}
-use Rattle.std.proofs.lemmas.List.{map-append, take-append-drop, take_all}
+use Rattle.std.proofs.lemmas.List.{get_or-drop, length-append, length-drop, length-map, length-take}
+use Rattle.std.proofs.lemmas.List.{map-append, take-append-drop, take_all, take_more}
 use Rattle.std.proofs.lemmas.List.Elements.{All-drop, All-take, filter_map-append}
 use Rattle.std.proofs.lemmas.List.Sorted.{IsPermutation-trans, length_permutation, sum_by-IsPermutation}
 use Rattle.std.proofs.lemmas.List.Sums.{sum_by-append}
@@ -18,8 +18,8 @@ use Rattle.rt_tree.specs.Packed.{no_box}
 use Rattle.rt_tree.specs.Packing.{chunks, groups, joined, node_over, nodes_over}
 use Rattle.rt_tree.specs.SortKeys.{ArePackable, place_of, told}
 use Rattle.rt_tree.specs.declared.tree.Node.{Node}
-use Rattle.rt_tree.proofs.ChunkLemmas.{chunks-step}
-use Rattle.rt_tree.proofs.LoopLemmas.{reduced, reduced-push, told_more}
+use Rattle.rt_tree.proofs.ChunkLemmas.{chunks-front}
+use Rattle.rt_tree.proofs.LoopLemmas.{reduced, reduced-push}
 use Rattle.rt_tree.proofs.TileLemmas.{groups-chunks, groups-moved}
 
 -- a node with the children of another behind its own
@@ -63,8 +63,8 @@ module _ {X : Type 0} (items : List X) where
   -- with one key more
   pub told_next : (keys : List ℕ) (i : ℕ) (x : X) → i < length keys → slice_get items (place_of (get_or keys i 0)) ≡ Some x
       → told items (take (i + 1) keys) ≡ told items (take i keys) ++ x ∷ []
-  told_next keys i x there is =
-      sym (told_more (λ key. slice_get items (place_of key)) keys i x (told items (take i keys)) there is refl)
+  told_next keys i x there is = ap (told items) (take_more keys i 0 there) ∙ told-append (take i keys) (get_or keys i 0 ∷ [])
+      ∙ rw is refl
 
   -- what the first of them weigh with the next
   pub told-weight : (size : X → ℕ) (keys : List ℕ) (i : ℕ) (x : X) → i < length keys
@@ -89,17 +89,6 @@ module _ {X : Type 0} (items : List X) where
       pub long : length (told items keys) ≡ length keys
       pub packed_is : packed ≡ before ++ told items keys
       pub node_is : node ≡ node_over extent size level first (told items keys)
-
-    pub tile_first : (before packed : List X) (keys : List ℕ) (x : X) (node : Node) → 0 < length keys
-        → slice_get items (place_of (get_or keys 0 0)) ≡ Some x → packed ≡ before ++ x ∷ []
-        → node ≡ node_over extent size level first (x ∷ []) → IsTilePart before packed (take 1 keys) node
-    tile_first before packed keys x node there is packed_is node_is =
-        let one : told items (take 1 keys) ≡ x ∷ [] = told_next keys 0 x there is in
-        record {
-          long = omega (arith, ap length one, length-take 1 keys);
-          packed_is = packed_is ∙ ap (λ l. before ++ l) (sym one);
-          node_is = node_is ∙ ap (node_over extent size level first) (sym one);
-        }
 
     node_over-push : (group : List X) (x : X) (other : ℕ) → 0 < length group
         → with_children (node_over extent size level first group) (node_over extent size level other (x ∷ []))
@@ -155,22 +144,6 @@ All-behind : {X : Type 0} (P : X → Type 0) (front behind : List X) → All P (
 All-behind P front behind all =
     subst (All P) (drop-append_seam front behind) (All-drop P (length front) (front ++ behind) all)
 
--- the chunk in front, which is as long as it may be
-chunks-front : {X : Type 0} (n : ℕ) (front behind : List X) → 0 < n → 0 < length front
-    → length front ≡ min n (length (front ++ behind)) → chunks n (front ++ behind) ≡ front ∷ chunks n behind
-chunks-front n front [] some there long =
-    let bare = append-nil front in
-    let few : length front ≤ n = omega (arith, long) in
-    ap (chunks n) bare ∙ chunks-step n front some there
-    ∙ ap (λ l. l ∷ chunks n (drop n front)) (take_all n front few)
-    ∙ ap (λ l. front ∷ chunks n l) (drop_all n front few)
-chunks-front n front (x ∷ behind) some there long =
-    let full : length front ≡ n = omega (arith, long, length-append front (x ∷ behind)) in
-    let whole = front ++ x ∷ behind in
-    chunks-step n whole some (omega (arith, there, length-append front (x ∷ behind)))
-    ∙ ap (λ l. l ∷ chunks n (drop n whole)) (subst (λ k. take k whole ≡ front) full (take-append_seam front (x ∷ behind)))
-    ∙ ap (λ l. front ∷ chunks n l) (subst (λ k. drop k whole ≡ x ∷ behind) full (drop-append_seam front (x ∷ behind)))
-
 module _ {X : Type 0} (items : List X) (extent : X → Extent) (size : X → ℕ) (level fanout : ℕ) where
   -- the items of the first keys are packed, and the nodes over them made: those of the later keys are still to come
   pub record IsLevelPart (all_packed : List X) (all_nodes : List Node) (packed : List X) (nodes : List Node)
@@ -201,25 +174,19 @@ module _ {X : Type 0} (items : List X) (extent : X → Extent) (size : X → ℕ
       }
 
   -- what is asked of the next tile
-  pub record IsNextTile (packed : List X) (tile : List ℕ) : Type 0 where
-    pub tell : All (Tells items) tile
-    pub weight : sum_by size (told items tile) < 2 ^ 32
-    pub room : length packed < 2 ^ 32
-
   pub next_tile : (all_packed : List X) (all_nodes : List Node) (packed : List X) (nodes : List Node)
       (keys tile later : List ℕ) → IsLevelPart all_packed all_nodes packed nodes keys → keys ≡ tile ++ later
-      → IsNextTile packed tile
-  next_tile all_packed all_nodes packed nodes keys tile later part is = record {
-    tell = All-front (Tells items) tile later (subst (All (Tells items)) is part.tell);
-    weight = omega (
+      → All (Tells items) tile × (sum_by size (told items tile) < 2 ^ 32)
+  next_tile all_packed all_nodes packed nodes keys tile later part is = (
+    All-front (Tells items) tile later (subst (All (Tells items)) is part.tell),
+    omega (
       arith,
       part.weight,
       ap (λ ks. sum_by size (told items ks)) is,
       ap (sum_by size) (told-append items tile later),
       sum_by-append size (told items tile) (told items later),
-    );
-    room = omega (arith, part.room);
-  }
+    ),
+  )
 
   pub level_more : (all_packed : List X) (all_nodes : List Node) (packed packed' : List X) (nodes nodes' : List Node)
       (keys tile later : List ℕ) (node : Node) → 0 < fanout → IsLevelPart all_packed all_nodes packed nodes keys
@@ -253,13 +220,3 @@ module _ {X : Type 0} (items : List X) (extent : X → Extent) (size : X → ℕ
             ∙ ap (λ n. nodes ++ n ∷ nodes_over extent size level (length packed + length group) (chunks fanout rest)) node_is
             ∙ ap (λ gs. nodes ++ nodes_over extent size level (length packed) gs) (sym cut) ∙ part.nodes_are;
       }
-
-  -- without later keys all is done
-  pub level_done : (all_packed : List X) (all_nodes : List Node) (packed : List X) (nodes : List Node) (later : List ℕ)
-      → length later ≡ 0 → IsLevelPart all_packed all_nodes packed nodes later
-      → (packed ≡ all_packed) × (nodes ≡ all_nodes)
-  level_done all_packed all_nodes packed nodes [] none part = (
-    sym (append-nil packed) ∙ part.packed_are,
-    sym (append-nil nodes) ∙ part.nodes_are,
-  )
-  level_done all_packed all_nodes packed nodes (key ∷ later) none part = absurd (omega (arith, none))

@@ -21,12 +21,12 @@ loop-tile-init g c =
 pub pack_tile-requires-clause-places : goal.pack_tile-requires-clause-places
 pack_tile-requires-clause-places g c =
     (next_tile (g.T.Items.list c.args.items.now) g.T.Items.extent g.T.Items.size c.args.level c.args.fanout _ _ _ _ _
-    c.in-Some.tile.now _ c.loop-tile.invariant.part c.in-Some.ensures.steps.1.0).tell
+    c.in-Some.tile.now _ c.loop-tile.invariant.part c.in-Some.ensures.steps.1.0).0
 
 pub pack_tile-requires-clause-weight : goal.pack_tile-requires-clause-weight
 pack_tile-requires-clause-weight g c =
     (next_tile (g.T.Items.list c.args.items.now) g.T.Items.extent g.T.Items.size c.args.level c.args.fanout _ _ _ _ _
-    c.in-Some.tile.now _ c.loop-tile.invariant.part c.in-Some.ensures.steps.1.0).weight
+    c.in-Some.tile.now _ c.loop-tile.invariant.part c.in-Some.ensures.steps.1.0).1
 
 pub loop-tile-preserved : goal.loop-tile-preserved
 loop-tile-preserved g c =
