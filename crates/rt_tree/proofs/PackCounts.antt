@@ -26,7 +26,7 @@ pub length-groups : {X : Type 0} (box : X → Rect) (fanout : ℕ) (items : List
     → length (groups box fanout items) ≡ div_ceil (length items) fanout
 length-groups box fanout items several there =
     ap length (groups-chunks box items fanout (omega arith))
-    ∙ length-chunks fanout (joined (groups box fanout items)) (omega arith)
+    ∙ length-chunks fanout (joined (groups box fanout items))
     ∙ ap (λ n. div_ceil n fanout) (length_permutation items (joined (groups box fanout items))
     (groups-IsPermutation box items fanout several there))
 
@@ -184,7 +184,7 @@ module _ (fanout : ℕ) (several : 2 ≤ fanout) where
       let long = length_permutation entries (joined gs) (groups-moved box fanout entries several) in
       let count : length (leaf_nodes gs) ≡ div_ceil (length (joined gs)) fanout = length-nodes_over extent_of_entry
       (λ _. 1) 1 0 gs ∙ ap length (groups-chunks box entries fanout (omega arith))
-      ∙ length-chunks fanout (joined gs) (omega arith) in (
+      ∙ length-chunks fanout (joined gs) in (
         omega (arith, count, long, few, div_ceil-halves (length (joined gs)) fanout several),
         omega (arith, weight-nodes_over extent_of_entry (λ _. 1) 1 0 gs, sum_by-ones (joined gs), long, few),
       )

@@ -4,7 +4,7 @@ use Rattle.std.proofs.Common.{length, map, take, drop}
 use Rattle.std.proofs.Common.{get_or, slice_get, min, refl, sym, ◌∙◌, ap, subst, arith, append_assoc, inl, inr}
 use Rattle.std.specs.List.{All, sum_by}
 use Rattle.std.proofs.Math.Seq.{drop-append_seam, take-append_seam}
-use Rattle.std.proofs.lemmas.List.{get_or-drop, length-append, length-drop, length-map, length-take}
+use Rattle.std.proofs.lemmas.List.{append-nil, get_or-drop, length-append, length-drop, length-map, length-take}
 use Rattle.std.proofs.lemmas.List.{map-append, take-append-drop, take_all, take_more}
 use Rattle.std.proofs.lemmas.List.Elements.{All-drop, All-take, filter_map-append}
 use Rattle.std.proofs.lemmas.List.Sorted.{IsPermutation-trans, length_permutation, sum_by-IsPermutation}
@@ -18,7 +18,7 @@ use Rattle.rt_tree.specs.Packed.{no_box}
 use Rattle.rt_tree.specs.Packing.{chunks, groups, joined, node_over, nodes_over}
 use Rattle.rt_tree.specs.SortKeys.{ArePackable, place_of, told}
 use Rattle.rt_tree.specs.declared.tree.Node.{Node}
-use Rattle.rt_tree.proofs.ChunkLemmas.{chunks-front}
+use Rattle.rt_tree.proofs.ChunkLemmas.{chunks-front, chunks-nil}
 use Rattle.rt_tree.proofs.LoopLemmas.{reduced, reduced-push}
 use Rattle.rt_tree.proofs.TileLemmas.{groups-chunks, groups-moved}
 
@@ -220,3 +220,10 @@ module _ {X : Type 0} (items : List X) (extent : X → Extent) (size : X → ℕ
             ∙ ap (λ n. nodes ++ n ∷ nodes_over extent size level (length packed + length group) (chunks fanout rest)) node_is
             ∙ ap (λ gs. nodes ++ nodes_over extent size level (length packed) gs) (sym cut) ∙ part.nodes_are;
       }
+
+  -- without later keys all nodes are made
+  pub level_done : (all_packed : List X) (all_nodes : List Node) (packed : List X) (nodes : List Node) (later : List ℕ)
+      → length later ≡ 0 → IsLevelPart all_packed all_nodes packed nodes later → nodes ≡ all_nodes
+  level_done all_packed all_nodes packed nodes [] none part = sym (append-nil nodes)
+      ∙ ap (λ gs. nodes ++ nodes_over extent size level (length packed) gs) (sym (chunks-nil fanout)) ∙ part.nodes_are
+  level_done all_packed all_nodes packed nodes (key ∷ later) none part = absurd (omega (arith, none))

@@ -1,10 +1,10 @@
 -- Sort-tile-recursive packing (Leutenegger, Lopez and Edgington, 1997: STR, a simple and efficient algorithm for R-tree
 -- packing). Items are cut into the groups that become nodes, these nodes are grouped in turn, and so on up to one node.
 use Rattle.std.specs.Prelude.{◌+◌, ◌*◌, ℕ, zero, suc, nat_le, if◌then◌else◌, ℤ, ◌+ℤ◌, List, [], ◌∷◌, ◌++◌, length, map}
-use Rattle.std.specs.Prelude.{take, drop}
 use Rattle.std.specs.Int.{div_ceil}
 use Rattle.std.specs.List.{enumerate_from, flat_map, sum_by}
 use Rattle.std.specs.Ordering.{int_cmp, nat_cmp, on, then_cmp}
+use Rattle.std.specs.Simd.{first_chunks}
 use Rattle.std.specs.declared.cmp.Ordering.{Ordering}
 use Rattle.rt_geo.specs.Boxes.{Rect}
 use Rattle.rt_geo.specs.Laws.{Extent, extent_of_entry}
@@ -20,15 +20,9 @@ abbrev pub ceil_sqrt : ℕ → ℕ
 ceil_sqrt zero = 0
 ceil_sqrt (suc n) = let root = ceil_sqrt n in if nat_le (suc n) (root * root) then root else suc root
 
--- the first pieces of this size that xs is cut into, at most so many; the last of all may be shorter
-abbrev pub pieces : {X : Type 0} → (most size : ℕ) → List X → List (List X)
-pieces zero size xs = []
-pieces (suc most) size [] = []
-pieces (suc most) size (x ∷ xs) = take size (x ∷ xs) ∷ pieces most size (drop size (x ∷ xs))
-
--- xs cut into pieces of this size, of which the last may be shorter: there are no more of them than elements
+-- xs cut into pieces of this size, of which the last may be shorter
 abbrev pub chunks : {X : Type 0} → (size : ℕ) → List X → List (List X)
-chunks size xs = pieces (length xs) size xs
+chunks size xs = first_chunks size (div_ceil (length xs) size) xs
 
 -- twice the middle of a box on each axis
 abbrev pub twice_middle_x : Rect → ℤ

@@ -1,6 +1,6 @@
 use Rattle.std.proofs.Common.{◌≡◌, ◌∙◌, ap, arith, length, min}
 use Rattle.std.specs.Slice.Iter.{chunks_rest, chunks_size}
-use Rattle.rt_tree.proofs.TileLoops.{level_first, level_more, next_tile}
+use Rattle.rt_tree.proofs.TileLoops.{level_done, level_first, level_more, next_tile}
 use Rattle.rt_tree.proofs.packing.pack_level.Goals as goal
 
 pub loop-tile-init : goal.loop-tile-init
@@ -39,3 +39,7 @@ loop-tile-preserved g c =
           c.loop-tile.invariant.part steps.1.0 (steps.1.1 ∙ ap (λ n. min n (length rest)) c.loop-tile.invariant.size)
           steps.1.2 c.in_ok-pack_tile.ensures.packed c.in_ok-pack_tile.ensures.node c.in_ok-push.ensures;
     }
+
+pub returns-clause-nodes : goal.returns-clause-nodes
+returns-clause-nodes g c = level_done (g.T.Items.list c.args.items.now) g.T.Items.extent g.T.Items.size c.args.level
+    c.args.fanout _ _ _ c.loop-tile.nodes _ c.in-None.ensures.steps.1.0 c.loop-tile.invariant.part
