@@ -12,10 +12,6 @@ use Rattle.std.proofs.lemmas.Simd.{bitmask_splat, trailing_mask_l}
 
 -- ---- two digits in a lane
 
--- the lower of the four digits of a lane, by what is left of them
-pub lower_two : (x y : ℕ) → x < 10000 → x % 100 ≡ y → (x + (65536 - x / 100 * 100 % 65536)) % 65536 ≡ y
-lower_two x y h e = omega arith
-
 -- ---- in the text of a number
 
 -- the text of digits

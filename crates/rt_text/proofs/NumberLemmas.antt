@@ -1,6 +1,6 @@
 -- Numbers as text: one digit at a time, up to a greatest number, and one range within another.
 use Rattle.std.proofs.Common.{◌≡◌, ◌+◌, ◌*◌, ◌-◌, ◌%◌, ◌<◌, ◌≤◌, ℕ, zero, suc, ℤ, pos, negsuc, ◌^◌, ◌≤ℤ◌, ◌<ℤ◌, min, Bool, true, false, ◌&&◌, Option, Some, None, List, [], ◌∷◌, map, replicate, drop, take, length, get_or, arith, ◌∙◌, ap, sym, refl, add-one}
-use Rattle.std.specs.Prelude.{Result, Ok, Err, int_le, if◌then◌else◌, neg_ℤ, ok_or, option_map}
+use Rattle.std.specs.Prelude.{Result, Ok, Err, int_le, if◌then◌else◌, neg_ℤ, option_map}
 use Rattle.std.specs.Char.{digit_value, is_ascii_digit}
 use Rattle.std.specs.Int.Digits.{AllBelowBase, number_from_digits}
 use Rattle.std.specs.List.{list_all}
@@ -11,7 +11,7 @@ use Rattle.std.proofs.lemmas.Bool.Decides.{nat_tests}
 use Rattle.std.proofs.lemmas.Int.{ints}
 use Rattle.std.proofs.lemmas.Int.Digits.{digits_value_is, digits_value_more, number_lt}
 use Rattle.std.proofs.lemmas.List.{length-map, take_all}
-use Rattle.std.proofs.lemmas.List.Folds.{list_all_at, list_all_more}
+use Rattle.std.proofs.lemmas.List.Folds.{list_all_more}
 use Rattle.rt_text.specs.Numbers.{digits_number, in_range, is_numeral, number_text}
 use Rattle.rt_text.specs.declared.numbers.NumberFault.{NumberFault}
 use Rattle.rt_text.specs.declared.numbers.NumberFault.TheVariants as fault
@@ -21,14 +21,6 @@ use Rattle.rt_text.specs.declared.numbers.NumberFault.TheVariants as fault
 pub all_digits-more : (xs : List ℕ) (i : ℕ) → i < length xs → list_all is_ascii_digit (take i xs) ≡ true → is_ascii_digit (get_or xs i 0) ≡ true
     → list_all is_ascii_digit (take (i + 1) xs) ≡ true
 all_digits-more xs i h before here = list_all_more is_ascii_digit xs i 0 h ∙ rw (before, here) refl
-
--- each of the digits is one
-pub digit_at : (xs : List ℕ) (i : ℕ) → i < length xs → list_all is_ascii_digit xs ≡ true → is_ascii_digit (get_or xs i 0) ≡ true
-digit_at xs i h all = by (is_ascii_digit (get_or xs i 0)) refl
-  where
-    by : (b : Bool) → is_ascii_digit (get_or xs i 0) ≡ b → is_ascii_digit (get_or xs i 0) ≡ true
-    by true e = e
-    by false e = let x : true ≡ false = sym all ∙ list_all_at is_ascii_digit xs i 0 h e in absurd cc
 
 -- a cap at each step is a cap at the end
 capped_step : (n d most : ℕ) → min (min (min n most * 10) most + d) most ≡ min (n * 10 + d) most
@@ -99,15 +91,6 @@ in_lanes xs long all =
 pub short_step : (i m : ℕ) → i < 19 → m < 10 ^ i → m < 10 ^ 18
 short_step i m h small = omega (arith, pow-le-pow_right {n = 10} (omega arith) {i = i} {j = 18} (omega arith))
 
--- fewer digits than an i64 has room for
-pub natural-small : (i m : ℕ) → i ≤ 18 → m < 10 ^ i → m < 10 ^ 18
-natural-small i m h small = omega (arith, small, pow-le-pow_right {n = 10} (omega arith) {i = i} {j = 18} h)
-
--- a value, made into another
-pub ok-mapped : {A B E : Type 0} (f : A → B) (o : Option A) (a : A) (e : E) → Ok a ≡ ok_or o e → Ok (f a) ≡ ok_or (option_map f o) e
-ok-mapped f None a e h = absurd cc
-ok-mapped f (Some b) a e h = let same : a ≡ b = cc in rw same refl
-
 -- ---- a range within another
 
 -- the ends of the range of `i128`
@@ -166,21 +149,6 @@ in_range-above low high n a = if_false _ _ _ (above low high n a)
   where
     above : (low high n : ℤ) → high <ℤ n → (int_le low n && int_le n high) ≡ false
     above low high n a = grind (arith, ints)
-
--- a number that was found lies in its range
-pub in_range-within : (low high : ℤ) (o : Option ℤ) (n : ℤ) → Ok n ≡ in_range low high o → (low ≤ℤ n) × (n ≤ℤ high)
-in_range-within low high None n e = absurd cc
-in_range-within low high (Some m) n e = by (int_le low m && int_le m high) refl
-  where
-    inside : (low high n : ℤ) → (int_le low n && int_le n high) ≡ true → (low ≤ℤ n) × (n ≤ℤ high)
-    inside low high n h = (grind (arith, ints), grind (arith, ints))
-
-    by : (b : Bool) → (int_le low m && int_le m high) ≡ b → (low ≤ℤ n) × (n ≤ℤ high)
-    by true p =
-        let x : ◌≡◌ {A = Result ℤ NumberFault} (Ok n) (Ok m) = e ∙ if_true _ _ _ p in
-        let same : n ≡ m = cc in
-        rw same (inside low high m p)
-    by false p = let x : ◌≡◌ {A = Result ℤ NumberFault} (Ok n) (Err fault.OutOfRange) = e ∙ if_false _ _ _ p in absurd cc
 
 -- ---- a minus
 

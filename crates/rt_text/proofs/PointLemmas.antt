@@ -1,5 +1,5 @@
 -- Points that are read one after the other.
-use Rattle.std.proofs.Common.{◌≡◌, ◌∙◌, ℕ, suc, List, [], ◌∷◌, ◌++◌, refl, ap, sym, append_assoc, append-nil}
+use Rattle.std.proofs.Common.{◌≡◌, ◌∙◌, ℕ, suc, List, [], ◌∷◌, ◌++◌, refl, ap, sym, append_assoc}
 use Rattle.std.specs.Prelude.{Result, Ok, Err}
 use Rattle.rt_geo.specs.declared.distance.Point.{Point}
 use Rattle.rt_text.specs.Queries.{Taken, point, points}
@@ -33,9 +33,6 @@ after_none : (read : PointsRead) → read ≡ (read >>= after_all [])
 after_none (Ok more) = refl
 after_none (Err cause) = refl
 
-pub points_after-none : (n : ℕ) (words : List (List ℕ)) → points n words ≡ points_after [] n words
-points_after-none n words = after_none (points n words)
-
 -- one point more was read
 after_one : (so_far : List Point) (p : Point) (read : PointsRead)
     → ((read >>= after_first p) >>= after_all so_far) ≡ (read >>= after_all (so_far ++ p ∷ []))
@@ -54,8 +51,3 @@ pub points_after-fault : (so_far : List Point) (n : ℕ) (words : List (List ℕ
     → points_after so_far (suc n) words ≡ Err cause
 points_after-fault so_far n words cause e =
     let read : PointRead → PointsRead = λ first. (first >>= then_points n) >>= after_all so_far in ap read e
-
--- all were read
-pub points_after-all : (so_far : List Point) (words : List (List ℕ)) → points_after so_far 0 words ≡ Ok (so_far, words)
-points_after-all so_far words =
-    let read : List Point → PointsRead = λ ps. Ok (ps, words) in ap read (append-nil so_far)

@@ -1,6 +1,6 @@
 -- The table: the fields of a record, and one record after the other.
-use Rattle.std.proofs.Common.{◌≡◌, ◌+◌, ◌-◌, ◌<◌, ◌≤◌, ℕ, zero, suc, Bool, true, false, ◌&&◌, ◌==◌, List, [], ◌∷◌, ◌++◌, length, drop, get_or, option_map, Option, Some, None, refl, ◌∙◌, ap, sym, inl, inr, arith, rules}
-use Rattle.std.specs.Prelude.{Result, Ok, Err, if◌then◌else◌, nat_le, IsOkAnd, IsSome}
+use Rattle.std.proofs.Common.{◌≡◌, ◌+◌, ◌-◌, ◌<◌, ◌≤◌, ℕ, zero, suc, Bool, true, false, ◌&&◌, ◌==◌, List, [], ◌∷◌, ◌++◌, length, drop, get_or, option_map, Option, Some, None, refl, ◌∙◌, ap, inl, inr, arith, rules}
+use Rattle.std.specs.Prelude.{Result, Ok, Err, if◌then◌else◌, nat_le, IsSome}
 use Rattle.std.proofs.lemmas.Bool.Decides.{nat_tests}
 use Rattle.csv.specs.Records.{field_at}
 use Rattle.rt_geo.specs.declared.entry.Entry.{Entry}
@@ -27,26 +27,12 @@ IsSome-field text (Some a) fields place e h = search rules
 
 -- ---- one record
 
-pub entry_after-too_many : (max number : ℕ) (so_far : List Entry) (fields : List (List ℕ)) → max ≤ length so_far → entry_after max number so_far fields ≡ Err (fault.TooMany number)
-entry_after-too_many max number so_far fields full = rw full_now refl
-  where
-    full_now : nat_le max (length so_far) ≡ true
-    full_now = grind (arith, nat_tests)
-
 pub entry_after-fields : (max number : ℕ) (so_far : List Entry) (fields : List (List ℕ)) → length so_far < max
     → entry_after max number so_far fields ≡ entry_of_fields number fields
 entry_after-fields max number so_far fields room = rw room_now refl
   where
     room_now : nat_le max (length so_far) ≡ false
     room_now = grind (arith, nat_tests)
-
--- what the entry of a record adds, the record adds
-pub added-fields : (max number : ℕ) (so_far more : List Entry) (fields : List (List ℕ)) (entry : Entry) → length so_far < max
-    → Ok entry ≡ entry_of_fields number fields → more ≡ so_far ++ entry ∷ []
-    → IsOkAnd (entry_after max number so_far fields) (λ e. more ≡ so_far ++ e ∷ [])
-added-fields max number so_far more fields entry room read added =
-    let is : entry_after max number so_far fields ≡ Ok entry = entry_after-fields max number so_far fields room ∙ sym read in
-    rw is added
 
 -- the entry, where no entry so far has its id
 abbrev new_entry : (number : ℕ) → List Entry → Entry → Result Entry TableFault

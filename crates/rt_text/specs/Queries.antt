@@ -1,5 +1,5 @@
 -- What a query line asks: a recursion on its words from left to right, whose first fault is the line's.
-use Rattle.std.specs.Prelude.{◌≡◌, ℕ, zero, suc, ◌-◌, ◌^◌, ◌==◌, nat_eq, ℤ, pos, int_lt, unsigned_abs, Bool, ◌||◌, if◌then◌else◌, List, [], ◌∷◌, Option, Some, None, Result, Ok, Err, codes}
+use Rattle.std.specs.Prelude.{drop, false, ◌≡◌, ℕ, zero, suc, ◌-◌, ◌^◌, ◌==◌, nat_eq, ℤ, pos, int_lt, unsigned_abs, Bool, ◌||◌, if◌then◌else◌, List, [], ◌∷◌, Option, Some, None, Result, Ok, Err, codes}
 use Rattle.std.specs.List.{slice_split, starts_with}
 use Rattle.std.specs.Str.{bytes_eq}
 use Rattle.std.specs.Str.Lines.{strip_carriage_return}
@@ -39,11 +39,10 @@ abbrev pub word_as : {X : Type 0} → (read : List ℕ → Result X QueryFault) 
 word_as read [] = Err fault.MissingWord
 word_as read (word ∷ more) = map_value (λ found. (found, more)) (read word)
 
--- what `read` reads after the word `key`, where that stands next; `otherwise` where it doesn't
-abbrev pub after : {X : Type 0} → (key : List ℕ) → (read : List (List ℕ) → Result (Taken X) QueryFault) → (otherwise : X)
-    → List (List ℕ) → Result (Taken X) QueryFault
-after key read otherwise [] = Ok (otherwise, [])
-after key read otherwise (word ∷ more) = if bytes_eq word key then read more else Ok (otherwise, word ∷ more)
+-- the word `key` stands next
+abbrev pub is_next : (key : List ℕ) → List (List ℕ) → Bool
+is_next key [] = false
+is_next key (word ∷ more) = bytes_eq word key
 
 -- ---- numbers, each a word
 
@@ -141,7 +140,7 @@ layers_of list = layers_from no_layers (slice_split is_comma list)
 
 -- `on LIST`, where it stands next; all layers where it doesn't
 abbrev pub on_list : List (List ℕ) → Result (Taken Layers) QueryFault
-on_list words = after (codes "on") (word_as layers_of) all_layers words
+on_list words = if is_next (codes "on") words then word_as layers_of (drop 1 words) else Ok (all_layers, words)
 
 -- ---- orders and limits
 
@@ -152,15 +151,15 @@ usual_order other = by_id
 
 -- `near X Y` or `smallest`, where one stands next
 abbrev pub order : Region → List (List ℕ) → Result (Taken Order) QueryFault
-order found [] = Ok (usual_order found, [])
-order found (word ∷ more) =
-    if bytes_eq word (codes "near") then taken_as near (point more)
-    else if bytes_eq word (codes "smallest") then Ok (Smallest (record {}), more)
-    else Ok (usual_order found, word ∷ more)
+order found words =
+    if is_next (codes "near") words then taken_as near (point (drop 1 words))
+    else if is_next (codes "smallest") words then Ok (Smallest (record {}), drop 1 words)
+    else Ok (usual_order found, words)
 
 -- `first K`, where it stands next, K of 64 bits
 abbrev pub limit : List (List ℕ) → Result (Taken (Option ℕ)) QueryFault
-limit words = after (codes "first") (λ more. taken_as Some (word_as (natural (2 ^ 64 - 1)) more)) None words
+limit words =
+    if is_next (codes "first") words then taken_as Some (word_as (natural (2 ^ 64 - 1)) (drop 1 words)) else Ok (None, words)
 
 -- ---- queries
 

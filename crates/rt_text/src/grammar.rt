@@ -181,12 +181,7 @@ fn finished(words: &Words) -> Result<(), QueryFault>
 fn on_list(words: &mut Words) -> Result<Layers, QueryFault>
     ensures { Takes (on_list words.old) result words.new }
 {
-    let mut ahead = words.ahead();
-    let Some(word) = ahead.next() else {
-        return Ok(Layers::all());
-    };
-    if word == b"on".as_slice() {
-        *words = ahead;
+    if words.takes(b"on") {
         list_word(words)
     } else {
         Ok(Layers::all())
@@ -253,12 +248,7 @@ fn usual_order(found: &Region) -> Order
 fn limit(words: &mut Words) -> Result<Option<u64>, QueryFault>
     ensures { Takes (limit words.old) result words.new }
 {
-    let mut ahead = words.ahead();
-    let Some(word) = ahead.next() else {
-        return Ok(None);
-    };
-    if word == b"first".as_slice() {
-        *words = ahead;
+    if words.takes(b"first") {
         Ok(Some(natural_word(words, u64::MAX)?))
     } else {
         Ok(None)

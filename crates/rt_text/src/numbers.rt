@@ -9,11 +9,8 @@ ghost use Rattle.rt_text.specs.Numbers.{digits_number, in_range, number_in, numb
 use crate::digits::number_of;
 use std::simd::prelude::*;
 
-/// As many digits as a `u64` has room for, whichever they are.
-const SHORT: usize = 19;
-
 /// As many digits as an `i64` has room for, whichever they are and with either sign.
-const SHORT_SIGNED: usize = 18;
+const SHORT: usize = 18;
 
 /// As many digits as are judged at once, so that a processor may take them side by side.
 const GROUP: usize = 8;
@@ -60,14 +57,25 @@ pub(crate) fn number_64(text: &[u8], low: i64, high: i64) -> Result<i64, NumberF
     ensures value { result ≡ number_in low high text.now }
     ensures within { IfOk result (λ n. (low ≤ℤ n) × (n ≤ℤ high)) }
 {
-    if SHORT_SIGNED < text.len() {
-        return Ok(number(text, i128::from(low), i128::from(high))? as i64);
+    match leading_number(text) {
+        Some(found) if found.len == text.len() => {
+            if found.number < low || high < found.number {
+                return Err(NumberFault::OutOfRange);
+            }
+            Ok(found.number)
+        }
+        _ => any_number_64(text, low, high),
     }
-    let number = short_signed(text)?;
-    if number < low || high < number {
-        return Err(NumberFault::OutOfRange);
-    }
-    Ok(number)
+}
+
+// The same whatever the text is. Kept out of line, as most fields of tables are short numbers and nothing else.
+#[cold]
+#[inline(never)]
+fn any_number_64(text: &[u8], low: i64, high: i64) -> Result<i64, NumberFault>
+    ensures value { result ≡ number_in low high text.now }
+    ensures within { IfOk result (λ n. (low ≤ℤ n) × (n ≤ℤ high)) }
+{
+    Ok(number(text, i128::from(low), i128::from(high))? as i64)
 }
 
 /// A number in front of a text, whatever stands behind it: a sign if there is one, and its digits up to the 18th.
@@ -101,9 +109,9 @@ fn leading_digits(text: &[u8]) -> Digits
     ensures within { result.count ≤ length text.now }
     ensures digits { list_all is_ascii_digit (take result.count text.now) ≡ true }
     ensures number { result.number ≡ digits_value 10 (take result.count text.now) }
-    ensures small { result.number < 10 ^ SHORT_SIGNED }
+    ensures small { result.number < 10 ^ SHORT }
 {
-    let most = text.len().min(SHORT_SIGNED);
+    let most = text.len().min(SHORT);
     let first = leading_group(text);
     let mut number = first.number;
     for at in first.count..most {
@@ -162,18 +170,6 @@ fn written(digits: &[u8]) -> u64
     number_of(u8x8::from_slice(digits) - u8x8::splat(b'0'))
 }
 
-// The number that a short text gives.
-fn short_signed(text: &[u8]) -> Result<i64, NumberFault>
-    requires { length text.now ≤ SHORT_SIGNED }
-    ensures { result ≡ ok_or (number_text text.now) NumberFault.NotNumber }
-{
-    if text.is_empty() {
-        return Err(NumberFault::NotNumber);
-    }
-    let number = short_natural(without_sign(text))?;
-    Ok(if text[0] == b'-' { -number } else { number })
-}
-
 // What stands behind a sign, if there is one. Branchless, since whether there is one would be mispredicted.
 fn without_sign(text: &[u8]) -> &[u8]
     requires { 0 < length text.now }
@@ -181,15 +177,6 @@ fn without_sign(text: &[u8]) -> &[u8]
 {
     let signed = (text[0] == b'-') | (text[0] == b'+');
     &text[signed as usize..]
-}
-
-// The number that a few digits write.
-fn short_natural(digits: &[u8]) -> Result<i64, NumberFault>
-    requires { length digits.now ≤ SHORT_SIGNED }
-    ensures value { result ≡ ok_or (option_map pos (digits_number digits.now)) NumberFault.NotNumber }
-    ensures natural { IfOk result (λ n. pos 0 ≤ℤ n) }
-{
-    Ok(short_magnitude(digits)? as i64)
 }
 
 // The number that a text gives, where an `i128` has room for it.
@@ -223,37 +210,6 @@ fn above_zero(digits: &[u8]) -> Result<i128, NumberFault>
 
 // The number that digits write, or the greatest `u128` where it is above that.
 fn magnitude(digits: &[u8]) -> Result<u128, NumberFault>
-    ensures { result ≡ ok_or (option_map (λ n. min n u128.MAX) (digits_number digits.now)) NumberFault.NotNumber }
-{
-    if digits.len() <= SHORT {
-        Ok(u128::from(short_magnitude(digits)?))
-    } else {
-        long_magnitude(digits)
-    }
-}
-
-// The number that a few digits write, for which a `u64` has room.
-fn short_magnitude(digits: &[u8]) -> Result<u64, NumberFault>
-    requires { length digits.now ≤ SHORT }
-    ensures value { result ≡ ok_or (digits_number digits.now) NumberFault.NotNumber }
-    ensures small { IfOk result (λ n. n < 10 ^ length digits.now) }
-{
-    if digits.is_empty() {
-        return Err(NumberFault::NotNumber);
-    }
-    let first = leading_group(digits);
-    let mut magnitude = first.number;
-    for at in first.count..digits.len() {
-        if !digits[at].is_ascii_digit() {
-            return Err(NumberFault::NotNumber);
-        }
-        magnitude = magnitude * 10 + u64::from(digits[at] - b'0');
-    }
-    Ok(magnitude)
-}
-
-// The number that any digits write, or the greatest `u128` where it is above that.
-fn long_magnitude(digits: &[u8]) -> Result<u128, NumberFault>
     ensures { result ≡ ok_or (option_map (λ n. min n u128.MAX) (digits_number digits.now)) NumberFault.NotNumber }
 {
     if digits.is_empty() {

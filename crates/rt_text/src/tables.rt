@@ -206,7 +206,7 @@ fn entry_of(number: u32, fields: &ByteRecord) -> Result<Entry, TableFault>
             found: found as u64,
         });
     }
-    let id = id_of(number, field(fields, 0))?;
+    let id = number_of(number, 1, field(fields, 0), i64::MIN, i64::MAX)?;
     let min_x = coordinate_of(number, 2, field(fields, 1))?;
     let max_x = coordinate_of(number, 3, field(fields, 2))?;
     let min_y = coordinate_of(number, 4, field(fields, 3))?;
@@ -223,14 +223,7 @@ fn field(fields: &ByteRecord, place: usize) -> &[u8]
     fields.get(place).unwrap()
 }
 
-// The first field.
-fn id_of(number: u32, text: &[u8]) -> Result<i64, TableFault>
-    ensures { result ≡ number_of number 1 i64.MIN i64.MAX text.now }
-{
-    number_of(number, 1, text, i64::MIN, i64::MAX)
-}
-
-// A later field.
+// A coordinate.
 #[inline(always)]
 fn coordinate_of(number: u32, field: u8, text: &[u8]) -> Result<i32, TableFault>
     ensures { result ≡ number_of number field i32.MIN i32.MAX text.now }

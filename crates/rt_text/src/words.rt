@@ -1,8 +1,9 @@
 //! The words of a line.
 
-ghost use Rattle.std.specs.Prelude.{◌≡◌, ◌≤◌, ◌==◌, ℕ, List, [], ◌∷◌, ◌↔◌, IsTrue, Some, length, not, MatchOption};
+ghost use Rattle.std.specs.Prelude.{◌≡◌, ◌≤◌, ◌==◌, ℕ, List, [], ◌∷◌, ◌↔◌, IsTrue, Some, drop, if◌then◌else◌, length, not, MatchOption};
 ghost use Rattle.std.specs.List.{position, position_or_len};
 ghost use Rattle.rt_text.specs.Numbers.{number_text};
+ghost use Rattle.rt_text.specs.Queries.{is_next};
 ghost use Rattle.rt_text.specs.Words.{is_blank, words};
 
 use crate::numbers::leading_number;
@@ -61,6 +62,21 @@ impl<'a> Words<'a> {
         ensures { result ≡ self.now }
     {
         Words { rest: self.rest }
+    }
+
+    /// Whether a word stands next, which is then read.
+    #[inline(always)]
+    pub(crate) fn takes(&mut self, word: &[u8]) -> bool
+        ensures next { result ≡ is_next word.now self.old }
+        ensures rest { self.new ≡ (if result then drop 1 self.old else self.old) }
+    {
+        match first_word(self.rest) {
+            Some((next, rest)) if next == word => {
+                self.rest = rest;
+                true
+            }
+            _ => false,
+        }
     }
 }
 

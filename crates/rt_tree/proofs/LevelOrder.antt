@@ -13,12 +13,12 @@ use Rattle.rt_geo.specs.Laws.{Extent}
 use Rattle.rt_tree.specs.Levels.{level_sizes, sizes_above}
 use Rattle.rt_tree.specs.Packed.{level_by_level, no_node}
 use Rattle.rt_tree.specs.Packed.{extent_of_node}
-use Rattle.rt_tree.specs.Packing.{joined, nodes_over}
+use Rattle.rt_tree.specs.Packing.{joined, nodes_from, nodes_over}
 use Rattle.rt_tree.specs.declared.tree.Node.{Node}
 use Rattle.rt_tree.proofs.ChunkLemmas.{le_or_lt}
 use Rattle.rt_tree.proofs.LevelLemmas.{div_ceil-positive, sizes_above-step}
 use Rattle.rt_tree.proofs.OrderLemmas.{all_moved}
-use Rattle.rt_tree.proofs.PackCounts.{above, cut, fewer, length-above, nodes_from, nodes_from-last, nodes_from-more}
+use Rattle.rt_tree.proofs.PackCounts.{above, cut, fewer, length-above, nodes_from-last, nodes_from-more}
 use Rattle.rt_tree.proofs.TileLemmas.{groups-IsPermutation}
 
 -- ---- level by level

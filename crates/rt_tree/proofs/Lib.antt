@@ -8,10 +8,10 @@ mod LevelOrder
 mod LevelSizes
 mod LoopLemmas
 mod NodeLemmas
-mod Numbering
 mod OrderLemmas
 mod PackCounts
 mod PackLemmas
+mod Packable
 mod PairLemmas
 mod Rows
 mod SortKeyLemmas
@@ -20,6 +20,7 @@ mod Soundness
 mod TieLemmas
 mod TieOrders
 mod TileLemmas
+mod TileLoops
 pub mod Permutations
 pub mod PackSound
 pub mod Repacked

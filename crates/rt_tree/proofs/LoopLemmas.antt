@@ -1,21 +1,17 @@
 -- One more step of a loop over a list.
 use Rattle.std.proofs.Common.{◌≡◌, ◌<◌, ◌≤◌, ◌+◌, ◌-◌, ℕ, suc, List, [], ◌∷◌, ◌++◌, length, map, take, drop}
 use Rattle.std.proofs.Common.{set, get_or, min, refl, sym, ◌∙◌, ap, subst, arith, add-one, append_assoc, inl, inr}
-use Rattle.std.proofs.Common.{Option, Some}
 use borrow.Rule.Slice.PartMut.{post_of, put_mid}
-use Rattle.std.specs.List.{All, enumerate_from, filter_map, flat_map, reduce, sum_by}
+use Rattle.std.specs.List.{All, enumerate_from, reduce}
 use Rattle.std.specs.Prelude.{unwrap_or}
-use Rattle.std.proofs.lemmas.List.Elements.{filter_map-append}
-use Rattle.std.proofs.lemmas.List.{append-nil, drop-drop, drop_all, get_or-drop, get_or-take, length-append}
+use Rattle.std.proofs.lemmas.List.{append-nil, drop-drop, drop_all, get_or-drop, get_or-take, length-append, take-append-drop}
 use Rattle.std.proofs.lemmas.List.{length-drop, length-map, length-take, map-append, take-append-le, take_all}
 use Rattle.std.proofs.lemmas.List.{take_more}
-use Rattle.std.proofs.lemmas.List.Sums.{fold-append, sum_by-take-drop, sum_by-take-le}
+use Rattle.std.proofs.lemmas.List.Sums.{fold-append}
 use Rattle.std.proofs.lemmas.Slice.{drop-put_mid, take-put_mid}
 use Rattle.std.proofs.Math.Seq.{drop-cons}
-use Rattle.rt_geo.specs.Laws.{Extent}
-use Rattle.rt_tree.specs.Packing.{chunks, node_over, nodes_over}
-use Rattle.rt_tree.specs.declared.tree.Node.{Node}
-use Rattle.rt_tree.proofs.ChunkLemmas.{chunks-step, le_or_lt}
+use Rattle.rt_tree.specs.Packing.{chunks}
+use Rattle.rt_tree.proofs.ChunkLemmas.{chunks-front, le_or_lt}
 
 -- ---- each element gets a key
 
@@ -82,29 +78,39 @@ unchanged_at f old new i d h is =
 pub mapped_all : (f : ℕ → ℕ) (old : List ℕ) (i : ℕ) → length old ≤ i → map f (take i old) ++ drop i old ≡ map f old
 mapped_all f old i h = rw (take_all i old h, drop_all i old h) (append-nil (map f old))
 
--- ---- the items that keys tell
+-- ---- parts of a list are changed in their places, one after the other
 
-pub told_more : {X : Type 0} (h : ℕ → Option X) (keys : List ℕ) (i : ℕ) (x : X) (told : List X) → i < length keys
-    → h (get_or keys i 0) ≡ Some x
-    → told ≡ filter_map h (take i keys) → told ++ x ∷ [] ≡ filter_map h (take (i + 1) keys)
-told_more h keys i x told there e is =
-    sym (ap (filter_map h) (take_more keys i 0 there) ∙ filter_map-append h (take i keys) (get_or keys i 0 ∷ [])
-    ∙ rw (e, ← is) refl)
+-- up to a place the list is what F makes of it, and from there on it is as it was
+pub record IsChangedTo (F : List ℕ → List ℕ) (place : ℕ) (old new : List ℕ) : Type 0 where
+  pub inside : place ≤ length new
+  pub later : drop place new ≡ drop place old
+  pub changed : take place new ++ F (drop place old) ≡ F old
 
--- ---- each chunk is changed in its place
-
--- what an end past the list takes and leaves
-take_min : {X : Type 0} (size : ℕ) (xs : List X) → take size xs ≡ take (min size (length xs)) xs
-take_min size xs = elim (le_or_lt size (length xs)) [
-  | inl h ↦ ap (λ n. take n xs) (omega arith)
-  | inr h ↦ take_all size xs (omega arith) ∙ sym (take_all (min size (length xs)) xs (omega arith))
-]
-
-drop_min : {X : Type 0} (size : ℕ) (xs : List X) → drop size xs ≡ drop (min size (length xs)) xs
-drop_min size xs = elim (le_or_lt size (length xs)) [
-  | inl h ↦ ap (λ n. drop n xs) (omega arith)
-  | inr h ↦ drop_all size xs (omega arith) ∙ sym (drop_all (min size (length xs)) xs (omega arith))
-]
+-- the next part is changed, with which begins what F makes of the rest
+pub changed_more : (F : List ℕ → List ℕ) (start end : ℕ) (old new part : List ℕ) → IsChangedTo F start old new
+    → start ≤ end → end ≤ length new → length part ≡ end - start → F (drop start old) ≡ part ++ F (drop end old)
+    → IsChangedTo F end old (put_mid start (end - start) new part)
+changed_more F start end old new part so_far up there long next =
+    let n = end - start in
+    let at : start + n ≡ end = omega (arith, up) in
+    let behind = post_of start n new in
+    record {
+      inside = omega (
+        arith,
+        there,
+        up,
+        long,
+        length-append (take start new) (part ++ behind),
+        length-append part behind,
+        length-take start new,
+      );
+      later = drop-put_mid start n new part end (omega (arith, at)) so_far.inside long
+          ∙ ap (λ k. drop k new) (sym at) ∙ sym (drop-drop n start new) ∙ ap (drop n) so_far.later
+          ∙ drop-drop n start old ∙ ap (λ k. drop k old) at;
+      changed = ap (λ l. l ++ F (drop end old)) (take-put_mid start n new part end (omega (arith, long, at)) so_far.inside)
+          ∙ append_assoc (take start new) part (F (drop end old)) ∙ ap (λ l. take start new ++ l) (sym next)
+          ∙ so_far.changed;
+    }
 
 -- the chunk that begins at a place, and those behind it
 pub chunks-at : {X : Type 0} (size start n : ℕ) (xs : List X) → 0 < size → start < length xs
@@ -112,50 +118,12 @@ pub chunks-at : {X : Type 0} (size start n : ℕ) (xs : List X) → 0 < size →
     → chunks size (drop start xs) ≡ take n (drop start xs) ∷ chunks size (drop (start + n) xs)
 chunks-at size start n xs some there e =
     let rest = drop start xs in
-    let long = length-drop start xs in
-    let same : min size (length rest) ≡ n = ap (min size) long ∙ sym e in
-    chunks-step size rest some (omega (arith, long))
-    ∙ ap (λ l. l ∷ chunks size (drop size rest)) (take_min size rest ∙ ap (λ k. take k rest) same)
-    ∙ ap (λ l. take n rest ∷ chunks size l) (drop_min size rest ∙ ap (λ k. drop k rest) same ∙ drop-drop n start xs)
-
--- the chunk from start on was changed, and those before it were
-pub slices_more : (F : List ℕ → List ℕ) (size start n k : ℕ) (old keys slice whole : List ℕ) → 0 < size
-    → start < length keys → length keys ≡ length old
-    → n ≡ min size (length keys - start) → k ≡ n → drop start keys ≡ drop start old
-    → slice ≡ F (take k (drop start keys)) → length slice ≡ k
-    → take start keys ++ flat_map F (chunks size (drop start old)) ≡ whole
-    → take (start + n) (put_mid start k keys slice) ++ flat_map F (chunks size (drop (start + n) old)) ≡ whole
-slices_more F size start n k old keys slice whole some there same at k_is later is long course =
-    let rest = flat_map F (chunks size (drop (start + n) old)) in
-    let chunk : slice ≡ F (take n (drop start old)) = is ∙ ap (λ m. F (take m (drop start keys))) k_is
-    ∙ ap (λ l. F (take n l)) later in
-    let step : flat_map F (chunks size (drop start old)) ≡ slice ++ rest =
-    ap (flat_map F) (chunks-at size start n old some (omega (arith, same)) (at
-    ∙ ap (λ l. min size (l - start)) same)) ∙ ap (λ l. l ++ rest) (sym chunk) in
-    ap (λ l. l ++ rest) (take-put_mid start k keys slice (start + n) (omega (arith, long, k_is)) (omega arith))
-    ∙ append_assoc (take start keys) slice rest ∙ ap (λ l. take start keys ++ l) (sym step) ∙ course
-
-pub later_more : (start n k : ℕ) (old keys slice : List ℕ) → start < length keys → k ≡ n → length slice ≡ k
-    → drop start keys ≡ drop start old
-    → drop (start + n) (put_mid start k keys slice) ≡ drop (start + n) old
-later_more start n k old keys slice there k_is long later =
-    drop-put_mid start k keys slice (start + n) (omega (arith, k_is)) (omega arith) long
-    ∙ sym (drop-drop n start keys) ∙ ap (drop n) later ∙ drop-drop n start old
-
-pub inside_more : (start n k : ℕ) (keys slice : List ℕ) → start < length keys → k ≡ n → length slice ≡ k
-    → start + n ≤ length (put_mid start k keys slice)
-inside_more start n k keys slice there k_is long =
-    let behind = post_of start k keys in
-    omega (
-      arith,
-      there,
-      k_is,
-      long,
-      length-append (take start keys)
-          (slice ++ behind),
-      length-append slice behind,
-      length-take start keys,
-    )
+    let whole = take-append-drop n rest in
+    let long = length-take n rest in
+    let left = length-drop start xs in
+    ap (chunks size) (sym whole) ∙ chunks-front size (take n rest) (drop n rest) some
+    (omega (arith, long, left, e, some, there)) (omega (arith, ap length whole, long, left, e))
+    ∙ ap (λ l. take n rest ∷ chunks size l) (drop-drop n start xs)
 
 -- what holds of each element before the chunk, and of each in the chunk as it was
 pub all_more : (P : ℕ → Type 0) (start n k : ℕ) (old keys : List ℕ) → k ≡ n → start + n ≤ length keys
@@ -192,60 +160,6 @@ pub reduced-push : {X : Type 0} (f : X → X → X) (none : X) (xs : List X) (x 
     → reduced f none (xs ++ x ∷ []) ≡ f (reduced f none xs) x
 reduced-push f none [] x some = absurd (omega (arith, some))
 reduced-push f none (y ∷ xs) x some = fold-append f y xs (x ∷ [])
-
--- the element at i of what is behind the first one
-next_behind : {X : Type 0} (xs : List X) (i : ℕ) (x : X) → i < length xs - 1
-    → x ≡ get_or (take (length xs - 1) (drop 1 xs)) i x
-    → take (i + 1 + 1) xs ≡ take (i + 1) xs ++ x ∷ []
-next_behind xs i x h e =
-    let rest : take (length xs - 1) (drop 1 xs) ≡ drop 1 xs = take_all (length xs - 1) (drop 1 xs) (omega
-    (arith, length-drop 1 xs)) in
-    let at : get_or xs (i + 1) x ≡ x = ap (λ n. get_or xs n x) (omega arith) ∙ sym (get_or-drop 1 xs i x)
-    ∙ ap (λ l. get_or l i x) (sym rest) ∙ sym e in
-    take_more xs (i + 1) x (omega (arith, h)) ∙ ap (λ y. take (i + 1) xs ++ y ∷ []) at
-
-pub reduced_more : {X Y : Type 0} (f : Y → Y → Y) (none : Y) (show : X → Y) (xs : List X) (i : ℕ) (x : X) (y : Y)
-    → i < length xs - 1 → x ≡ get_or (take (length xs - 1) (drop 1 xs)) i x
-    → y ≡ reduced f none (map show (take (i + 1) xs)) → f y (show x) ≡ reduced f none (map show (take (i + 1 + 1) xs))
-reduced_more f none show xs i x y h e is =
-    let front = map show (take (i + 1) xs) in
-    let long : 0 < length front = omega (arith, h, length-map (take (i + 1) xs) show, length-take (i + 1) xs) in
-    sym (ap (λ l. reduced f none (map show l)) (next_behind xs i x h e)
-    ∙ ap (reduced f none) (map-append show (take (i + 1) xs) (x ∷ [])) ∙ reduced-push f none front (show x) long
-    ∙ ap (λ z. f z (show x)) (sym is))
-
-pub weight_more : {X : Type 0} (weight : X → ℕ) (xs : List X) (i : ℕ) (x : X) → i < length xs - 1
-    → x ≡ get_or (take (length xs - 1) (drop 1 xs)) i x
-    → sum_by weight (take (i + 1 + 1) xs) ≡ sum_by weight (take (i + 1) xs) + weight x
-weight_more weight xs i x h e = ap (sum_by weight) (next_behind xs i x h e)
-    ∙ fold-append (λ a y. a + weight y) 0 (take (i + 1) xs) (x ∷ [])
-
--- a part weighs no more than the whole
-pub part-weight : {X : Type 0} (weight : X → ℕ) (n start : ℕ) (xs : List X)
-    → sum_by weight (take n (drop start xs)) ≤ sum_by weight xs
-part-weight weight n start xs = omega (arith, sum_by-take-le weight (drop start xs) n, sum_by-take-drop weight xs start)
-
--- ---- a node over each chunk
-
-pub nodes_more : {X : Type 0} (extent : X → Extent) (weight : X → ℕ) (level first size start n k : ℕ) (items : List X)
-    (nodes whole : List Node) (node : Node)
-    → 0 < size → start < length items → n ≡ min size (length items - start) → k ≡ n
-    → node ≡ node_over extent weight level (first + start) (take k (drop start items))
-    → nodes ++ nodes_over extent weight level (first + start) (chunks size (drop start items)) ≡ whole
-    → (nodes ++ node ∷ []) ++ nodes_over extent weight level (first + (start + n)) (chunks size (drop
-    (start + n) items)) ≡ whole
-nodes_more extent weight level first size start n k items nodes whole node some there at k_is is course =
-    let group = take n (drop start items) in
-    let rest = chunks size (drop (start + n) items) in
-    let long : length group ≡ n = omega (arith, length-take n (drop start items), length-drop start items) in
-    let this : node ≡ node_over extent weight level (first + start) group = is
-    ∙ ap (λ m. node_over extent weight level (first + start) (take m (drop start items))) k_is in
-    let next : first + start + length group ≡ first + (start + n) = omega (arith, long) in
-    append_assoc nodes (node ∷ []) (nodes_over extent weight level (first + (start + n)) rest)
-    ∙ ap (λ l. nodes ++ l) (ap (λ m. node ∷ nodes_over extent weight level m rest) (sym next)
-    ∙ ap (λ m. m ∷ nodes_over extent weight level (first + start + length group) rest) this
-    ∙ ap (nodes_over extent weight level (first + start)) (sym (chunks-at size start n items some there at)))
-    ∙ course
 
 -- the front of a list that is as long as what is taken
 pub front_of : {X : Type 0} (n : ℕ) (xs ys : List X) → length xs ≡ n → take n (xs ++ ys) ≡ xs

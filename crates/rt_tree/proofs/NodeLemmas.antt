@@ -4,21 +4,17 @@ use Rattle.rt_geo.specs.declared.layers.Layers.{Layers}
 use Rattle.rt_tree.specs.PlainNodes.{nodes_of, with_layers, without_layers}
 use Rattle.rt_tree.specs.declared.nodes.PlainNode.{PlainNode}
 use Rattle.rt_tree.specs.declared.tree.Node.{Node}
-use Rattle.rt_tree.proofs.PairLemmas.{left-alone, length-paired, paired-made}
+use Rattle.rt_tree.proofs.PairLemmas.{left-alone, length-paired}
 
 -- the layers of a node
 abbrev pub layers_of : Node → Layers
 layers_of n = n.layers
 
--- what the two lists of nodes make is the nodes
-pub nodes_of-made : (nodes : List Node) → nodes_of (map without_layers nodes) (map layers_of nodes) ≡ nodes
-nodes_of-made = paired-made with_layers without_layers layers_of (λ _ _. refl) (λ _ _. refl) (λ _. refl)
-
--- and what two lists make has the nodes without their layers
+-- what two lists make has the nodes without their layers
 pub nodes-alone : (nodes : List PlainNode) (layers : List Layers) → length nodes ≡ length layers
     → map without_layers (nodes_of nodes layers) ≡ nodes
-nodes-alone = left-alone with_layers without_layers layers_of (λ _ _. refl) (λ _ _. refl) (λ _. refl)
+nodes-alone = left-alone with_layers without_layers layers_of (λ _ _. refl) (λ _ _. refl)
 
 pub length-nodes_of : (nodes : List PlainNode) (layers : List Layers) → length nodes ≡ length layers
     → length (nodes_of nodes layers) ≡ length nodes
-length-nodes_of = length-paired with_layers without_layers layers_of (λ _ _. refl) (λ _ _. refl) (λ _. refl)
+length-nodes_of = length-paired with_layers without_layers layers_of (λ _ _. refl) (λ _ _. refl)

@@ -1,7 +1,7 @@
 -- How many nodes a packing makes, level by level.
 use Rattle.std.proofs.Common.{◌≡◌, ◌<◌, ◌≤◌, ◌+◌, ◌-◌, ◌*◌, ◌^◌, ℕ, zero, suc, true, false, nat_le, List, []}
 use Rattle.std.proofs.Common.{◌∷◌, ◌++◌, length, refl, sym, ◌∙◌, ap, subst, arith, append_assoc, inl}
-use Rattle.std.proofs.Common.{inr, length-append, if◌then◌else◌}
+use Rattle.std.proofs.Common.{inr, length-append}
 use Rattle.std.specs.Int.{div_ceil}
 use Rattle.std.specs.List.{sum_by}
 use Rattle.std.proofs.Math.Nat.{eq-or-lt_of_le, pow-succ'}
@@ -12,23 +12,12 @@ use Rattle.rt_geo.specs.Boxes.{Rect}
 use Rattle.rt_geo.specs.Laws.{Extent, extent_of_entry}
 use Rattle.rt_geo.specs.declared.entry.Entry.{Entry}
 use Rattle.rt_tree.specs.Packed.{extent_of_node}
-use Rattle.rt_tree.specs.Packing.{chunks, groups, joined, node_over, nodes_over}
+use Rattle.rt_tree.specs.Packing.{groups, joined, leaf_nodes, node_over, nodes_from, nodes_over}
 use Rattle.rt_tree.specs.declared.tree.Node.{Node}
-use Rattle.rt_tree.proofs.ChunkLemmas.{joined-chunks, le_or_lt, length-chunks}
+use Rattle.rt_tree.proofs.ChunkLemmas.{le_or_lt, length-chunks}
 use Rattle.rt_tree.proofs.LevelLemmas.{div_ceil-halves}
 use Rattle.rt_tree.proofs.Soundness.{length-nodes_over, sum_by-ones}
-use Rattle.rt_tree.proofs.TileLemmas.{groups-IsPermutation, groups-chunks}
-
--- the nodes of this level, in the order in which the level above is cut, and then those of all levels above, up to one
--- that has a single node, each numbered as it is made. `first` is the number of the first of them; the fuel is no less
--- than the number of levels
-abbrev pub nodes_from : (fuel fanout level first : ℕ) → List Node → List Node
-nodes_from zero fanout level first made = made
-nodes_from (suc fuel) fanout level first made =
-    let cut = groups (λ n. n.bounds) fanout made in
-    let above = nodes_over extent_of_node (λ n. n.size) (level + 1) first cut in
-    if nat_le (length made) 1 then made
-    else joined cut ++ nodes_from fuel fanout (level + 1) (first + length made) above
+use Rattle.rt_tree.proofs.TileLemmas.{groups-IsPermutation, groups-chunks, groups-moved}
 
 -- ---- one level
 
@@ -37,7 +26,7 @@ pub length-groups : {X : Type 0} (box : X → Rect) (fanout : ℕ) (items : List
     → length (groups box fanout items) ≡ div_ceil (length items) fanout
 length-groups box fanout items several there =
     ap length (groups-chunks box items fanout (omega arith))
-    ∙ length-chunks fanout (joined (groups box fanout items)) (omega arith)
+    ∙ length-chunks fanout (joined (groups box fanout items))
     ∙ ap (λ n. div_ceil n fanout) (length_permutation items (joined (groups box fanout items))
     (groups-IsPermutation box items fanout several there))
 
@@ -175,96 +164,50 @@ module _ (fanout : ℕ) (several : 2 ≤ fanout) where
         );
       }
 
-  -- the first level, over so many items of weight 1
-  pub counted_first : (made : List Node) (len : ℕ) → length made ≡ div_ceil len fanout → len ≤ 16777216
-      → sum_by (λ n. n.size) made ≡ len → IsCounted 1 [] made
-  counted_first made len long few weight =
-      let halves = div_ceil-halves len fanout several in
-      record {
-        from_one = omega arith;
-        few_levels = omega arith;
-        few = omega arith;
-        few_nodes = omega arith;
-        weight = omega arith;
-      }
+  -- the first level
+  pub counted_first : (made : List Node) → 2 * length made ≤ 16777217 → sum_by (λ n. n.size) made ≤ 16777216
+      → IsCounted 1 [] made
+  counted_first made few weight = record {
+    from_one = omega arith;
+    few_levels = omega arith;
+    few = omega (arith, few);
+    few_nodes = omega (arith, few);
+    weight = weight;
+  }
+
+  -- the nodes of level 1, over the groups of entries
+  pub leaf_nodes-few : (box : Entry → Rect) (entries : List Entry) → length entries ≤ 16777216
+      → (2 * length (leaf_nodes (groups box fanout entries)) ≤ 16777217)
+      × (sum_by (λ n. n.size) (leaf_nodes (groups box fanout entries)) ≤ 16777216)
+  leaf_nodes-few box entries few =
+      let gs = groups box fanout entries in
+      let long = length_permutation entries (joined gs) (groups-moved box fanout entries several) in
+      let count : length (leaf_nodes gs) ≡ div_ceil (length (joined gs)) fanout = length-nodes_over extent_of_entry
+      (λ _. 1) 1 0 gs ∙ ap length (groups-chunks box entries fanout (omega arith))
+      ∙ length-chunks fanout (joined gs) in (
+        omega (arith, count, long, few, div_ceil-halves (length (joined gs)) fanout several),
+        omega (arith, weight-nodes_over extent_of_entry (λ _. 1) 1 0 gs, sum_by-ones (joined gs), long, few),
+      )
 
   -- the course of the loop
-  pub course_more : (level : ℕ) (nodes made ordered new whole : List Node) → 1 < length made
-      → ordered ≡ joined (cut made)
-      → new ≡ nodes_over extent_of_node (λ n. n.size) (level + 1) (length nodes) (chunks fanout ordered)
+  pub course_more : (level : ℕ) (nodes made whole : List Node) → 1 < length made
       → nodes ++ nodes_from (length made) fanout level (length nodes) made ≡ whole
-      → (nodes ++ ordered) ++ nodes_from (length new) fanout (level + 1) (length (nodes ++ ordered)) new ≡ whole
-  course_more level nodes made ordered new whole some ordered_is new_is course =
+      → (nodes ++ joined (cut made)) ++ nodes_from (length (above level (length nodes) made)) fanout (level + 1)
+      (length (nodes ++ joined (cut made))) (above level (length nodes) made) ≡ whole
+  course_more level nodes made whole some course =
+      let ordered = joined (cut made) in
+      let new = above level (length nodes) made in
       let moved = groups-IsPermutation (λ (n : Node). n.bounds) made fanout several (omega arith) in
-      let same : new ≡ above level (length nodes) made =
-      new_is ∙ ap (nodes_over extent_of_node (λ n. n.size) (level + 1) (length nodes)) (ap
-      (chunks fanout) ordered_is ∙ sym (groups-chunks (λ (n : Node). n.bounds) made fanout (omega arith))) in
       let long : length (nodes ++ ordered) ≡ length nodes + length made = omega (
         arith,
         length-append nodes ordered,
-        ap length ordered_is,
-        length_permutation made (joined
-            (cut made)) moved,
+        length_permutation made ordered moved,
       ) in
       append_assoc nodes ordered (nodes_from (length new) fanout (level + 1) (length (nodes ++ ordered)) new)
-      ∙ ap (λ l. nodes ++ l) (ap (λ l. l ++ nodes_from (length new) fanout (level + 1) (length
-      (nodes ++ ordered)) new) ordered_is
-      ∙ ap (λ n. joined (cut made) ++ nodes_from (length new) fanout (level + 1) n new) long
-      ∙ ap (λ l. joined (cut made) ++ nodes_from (length l) fanout (level + 1) (length nodes + length made) l) same
-      ∙ sym (nodes_from-step level (length nodes) made some))
-      ∙ course
+      ∙ ap (λ n. nodes ++ (ordered ++ nodes_from (length new) fanout (level + 1) n new)) long
+      ∙ ap (λ l. nodes ++ l) (sym (nodes_from-step level (length nodes) made some)) ∙ course
 
   pub course_done : (level : ℕ) (nodes made whole : List Node) → length made ≤ 1
       → nodes ++ nodes_from (length made) fanout level (length nodes) made ≡ whole → nodes ++ made ≡ whole
   course_done level nodes made whole last course = ap (λ l. nodes ++ l) (sym (nodes_from-last (length made) level
       (length nodes) made last)) ∙ course
-
-  -- ---- the same of what the loop holds
-
-  pub above_is : (level first : ℕ) (made ordered new : List Node) → ordered ≡ joined (cut made)
-      → new ≡ nodes_over extent_of_node (λ n. n.size) (level + 1) first (chunks fanout ordered)
-      → new ≡ above level first made
-  above_is level first made ordered new ordered_is new_is =
-      new_is ∙ ap (nodes_over extent_of_node (λ n. n.size) (level + 1) first) (ap (chunks fanout) ordered_is
-      ∙ sym (groups-chunks (λ (n : Node). n.bounds) made fanout (omega arith)))
-
-  pub ordered_length : (made ordered : List Node) → 0 < length made → ordered ≡ joined (cut made)
-      → length ordered ≡ length made
-  ordered_length made ordered some is = ap length is ∙ length_permutation made (joined (cut made))
-      (groups-IsPermutation (λ (n : Node). n.bounds) made fanout several some)
-
-  pub ordered_weight : (made ordered : List Node) → 0 < length made → ordered ≡ joined (cut made)
-      → sum_by (λ n. n.size) ordered ≡ sum_by (λ n. n.size) made
-  ordered_weight made ordered some is =
-      ap (sum_by (λ n. n.size)) is ∙ sum_by-IsPermutation (λ (n : Node). n.size) made (joined (cut made))
-      (groups-IsPermutation (λ (n : Node). n.bounds) made fanout several some)
-
-  pub level_counted : (level : ℕ) (nodes made ordered new after : List Node) → IsCounted level nodes made
-      → 1 < length made → ordered ≡ joined (cut made)
-      → new ≡ nodes_over extent_of_node (λ n. n.size) (level + 1) (length nodes) (chunks fanout ordered)
-      → after ≡ nodes ++ ordered → IsCounted (level + 1) after new
-  level_counted level nodes made ordered new after c some ordered_is new_is after_is =
-      rw (after_is, ordered_is, above_is level (length nodes) made ordered new ordered_is new_is)
-      (counted_more level nodes made c some)
-
-  pub level_smaller : (level first : ℕ) (made ordered new : List Node) → 1 < length made → ordered ≡ joined (cut made)
-      → new ≡ nodes_over extent_of_node (λ n. n.size) (level + 1) first (chunks fanout ordered)
-      → length new < length made
-  level_smaller level first made ordered new some ordered_is new_is =
-      omega (
-        arith,
-        ap length (above_is level first made ordered new ordered_is new_is),
-        fewer level first
-            (length made - 1) made some (omega arith),
-      )
-
-  -- the nodes over entries
-  pub entries_counted : (entries : List Entry) (made : List Node) → length entries ≤ 16777216
-      → made ≡ nodes_over extent_of_entry (λ _. 1) 1 0 (chunks fanout entries) → IsCounted 1 [] made
-  entries_counted entries made few is =
-      let count : length made ≡ div_ceil (length entries) fanout = ap length is
-      ∙ length-nodes_over extent_of_entry (λ _. 1) 1 0 (chunks fanout entries) ∙ length-chunks fanout entries (omega arith) in
-      let weight : sum_by (λ n. n.size) made ≡ length entries =
-      ap (sum_by (λ n. n.size)) is ∙ weight-nodes_over extent_of_entry (λ _. 1) 1 0 (chunks fanout entries)
-      ∙ sum_by-ones (joined (chunks fanout entries)) ∙ ap length (joined-chunks fanout entries (omega arith)) in
-      counted_first made (length entries) count few weight

@@ -3,7 +3,7 @@ use Rattle.std.proofs.Common.{◌≡◌, ◌<◌, ◌≤◌, ◌+◌, ◌-◌, �
 use Rattle.std.proofs.Common.{filter, ◌==◌, drop, get_or, refl, sym, ◌∙◌, ap, subst, arith, add-one, append_assoc}
 use Rattle.std.proofs.Common.{inl, inr, length-append, IsPermutation, slice_get, Some}
 use Rattle.std.specs.Int.{div_ceil}
-use Rattle.std.specs.List.{AllByRecursion, flat_map, sum_by}
+use Rattle.std.specs.List.{AllByRecursion, flat_map}
 use Rattle.std.proofs.lemmas.List.{append-nil, nil_from_length}
 use Rattle.std.proofs.lemmas.List.Elements.{All-from_recursion, recursion_from_All}
 use Rattle.std.proofs.lemmas.List.Sorted.{All-permutation}
@@ -12,7 +12,7 @@ use Rattle.std.proofs.lemmas.List.Sorted.{IsPermutation-sym, IsPermutation-trans
 use Rattle.rt_geo.specs.declared.entry.Entry.{Entry}
 use Rattle.rt_tree.specs.Packed.{Packed, IsSound, IsSubtree, all_child_entries, all_child_nodes, child_entries}
 use Rattle.rt_tree.specs.Packed.{entries_under, extent_of_node, height, level_by_level, no_node, node_at, root_of}
-use Rattle.rt_tree.specs.Packing.{all_nodes, chunks, groups, joined, nodes_over, pack_of}
+use Rattle.rt_tree.specs.Packing.{all_nodes, chunks, groups, joined, nodes_from, nodes_over, pack_of}
 use Rattle.rt_tree.specs.Entries.{IsTable, ids_of}
 use Rattle.rt_tree.specs.Sorting.{sorted}
 use Rattle.rt_geo.specs.Entries.{HasBox, HasLayer}
@@ -27,15 +27,14 @@ use Rattle.rt_tree.proofs.Children.{AreOnce, all_child_entries-is, all_child_nod
 use Rattle.rt_tree.proofs.Children.{once_more}
 use Rattle.rt_tree.proofs.ChunkLemmas.{chunks-size, le_or_lt}
 use Rattle.rt_tree.proofs.OrderLemmas.{all_append, all_moved, flat_map-IsPermutation}
-use Rattle.rt_tree.proofs.PackCounts.{IsCounted, counted_first, counted_more, cut, fewer, length-above, length-groups}
-use Rattle.rt_tree.proofs.PackCounts.{weight-nodes_over, nodes_from, nodes_from-last, nodes_from-more}
-use Rattle.rt_tree.proofs.Numbering.{all_nodes-is}
+use Rattle.rt_tree.proofs.PackCounts.{IsCounted, counted_first, counted_more, cut, fewer, leaf_nodes-few, length-above}
+use Rattle.rt_tree.proofs.PackCounts.{length-groups, nodes_from-last, nodes_from-more}
 use Rattle.rt_tree.proofs.LoopLemmas.{get_or_behind}
 use Rattle.rt_tree.proofs.LevelLemmas.{div_ceil-positive}
 use Rattle.rt_tree.proofs.LevelOrder.{last_node-top, nodes_from-levels, nodes_over-AreOn, sizes_from, sizes_from_first}
 use Rattle.rt_tree.specs.Levels.{level_sizes}
 use Rattle.rt_tree.proofs.Soundness.{IsEntry, IsGroup, all_map, all_under_more, inner-range, leaves_sound, leaves_under}
-use Rattle.rt_tree.proofs.Soundness.{length-nodes_over, over_sound, over_under, subtree_more, sum_by-ones, tree}
+use Rattle.rt_tree.proofs.Soundness.{length-nodes_over, over_sound, over_under, subtree_more, tree}
 use Rattle.rt_tree.proofs.TileLemmas.{groups-IsPermutation, groups-chunks, groups-moved, groups-nil}
 
 all_front : {X : Type 0} (P : X → Type 0) (xs ys : List X) → AllByRecursion P (xs ++ ys)
@@ -289,14 +288,11 @@ module _ (fanout : ℕ) (several : 2 ≤ fanout) (in_order : List Entry) where
   moved : IsPermutation in_order es
   moved = groups-moved (λ (e : Entry). e.bounds) fanout in_order several
 
-  made-first : 0 < length in_order → IsTable es → IsCounted 1 [] made
-  made-first there table =
-      let long = length_permutation in_order es moved in
-      let count : length made ≡ div_ceil (length in_order) fanout = length-nodes_over extent_of_entry
-      (λ _. 1) 1 0 gs ∙ length-groups (λ (e : Entry). e.bounds) fanout in_order several there in
-      let weight : sum_by (λ n. n.size) made ≡ length in_order = weight-nodes_over extent_of_entry
-      (λ _. 1) 1 0 gs ∙ sum_by-ones es ∙ long in
-      counted_first fanout several made (length in_order) count (omega (arith, long, table.few)) weight
+  made-first : IsTable es → IsCounted 1 [] made
+  made-first table =
+      let few = leaf_nodes-few fanout several (λ e. e.bounds) in_order
+      (omega (arith, length_permutation in_order es moved, table.few)) in
+      counted_first fanout several made few.0 few.1
 
   made-IsBuilt : IsTable es → IsBuilt fanout several es 0 [] made
   made-IsBuilt table =
@@ -325,11 +321,10 @@ module _ (fanout : ℕ) (several : 2 ≤ fanout) (in_order : List Entry) where
             (arith, long)),
       ) in
       let on = nodes_over-AreOn extent_of_entry (λ _. 1) 1 0 gs in
-      subst (λ ns. IsSound (tree fanout es ns)) (sym (all_nodes-is fanout several made)) (sound_finished fanout several
-      es (nodes_from (length made) fanout 1 0 made) (length made) (omega (arith, there, long)) count
+      sound_finished fanout several es (all_nodes fanout made) (length made) (omega (arith, there, long)) count
       (nodes_from-levels fanout several (length made) 1 0 made (omega arith) some on) table
       (sound_from fanout several es (length made) 0 [] made (omega arith) some (made-IsBuilt table)
-      (made-first there table)))
+      (made-first table))
 
 -- without entries there are no nodes
 packed-none : (fanout : ℕ) (several : 2 ≤ fanout) (in_order : List Entry) → in_order ≡ []

@@ -10,14 +10,8 @@ paired join xs ys = map (λ p. join p.0 p.1) (zip xs ys)
 
 -- what two elements make, and the two elements of that
 module _ {X Y Z : Type 0} (join : X → Y → Z) (left : Z → X) (right : Z → Y)
-    (left_is : (x : X) (y : Y) → left (join x y) ≡ x) (right_is : (x : X) (y : Y) → right (join x y) ≡ y)
-    (whole_is : (z : Z) → join (left z) (right z) ≡ z) where
-  -- what the two lists of a list make is that list
-  pub paired-made : (zs : List Z) → paired join (map left zs) (map right zs) ≡ zs
-  paired-made [] = refl
-  paired-made (z ∷ zs) = rw (whole_is z, paired-made zs) refl
-
-  -- and what two lists make has them both
+    (left_is : (x : X) (y : Y) → left (join x y) ≡ x) (right_is : (x : X) (y : Y) → right (join x y) ≡ y) where
+  -- what two lists make has them both
   pub left-alone : (xs : List X) (ys : List Y) → length xs ≡ length ys → map left (paired join xs ys) ≡ xs
   left-alone [] ys long = refl
   left-alone (x ∷ xs) [] long = absurd (omega (arith, long))

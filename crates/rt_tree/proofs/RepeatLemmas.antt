@@ -1,11 +1,11 @@
 -- The first entry whose id an earlier one has.
-use Rattle.std.proofs.Common.{◌≡◌, ◌∙◌, ◌<◌, ◌≤◌, ◌+◌, ℕ, ℤ, Bool, true, false, ◌||◌, List, [], ◌∷◌, ◌++◌, length, length-append, drop, get_or, take, Option, Some, None, refl, sym, subst, ap, add-one, append_assoc, arith}
+use Rattle.std.proofs.Common.{◌≡◌, ◌∙◌, ◌<◌, ◌+◌, ℕ, ℤ, Bool, true, false, ◌||◌, List, [], ◌∷◌, ◌++◌, length, length-append, drop, get_or, take, Option, Some, None, refl, sym, subst, ap, add-one, append_assoc, arith}
 use Rattle.std.specs.Prelude.{if◌then◌else◌}
 use Rattle.std.specs.List.{AllByRecursion, IsDistinct}
 use Rattle.std.specs.Ordering.{int_eq}
 use Rattle.std.proofs.Math.Seq.{drop-cons}
 use Rattle.std.proofs.lemmas.Cmp.{int_eq_equiv}
-use Rattle.std.proofs.lemmas.List.{append-nil, drop_all, length-take-le, map-append, take_more}
+use Rattle.std.proofs.lemmas.List.{append-nil, length-take-le, map-append, take_more}
 use Rattle.std.proofs.lemmas.Map.Keys.{IsDistinct-push}
 use Rattle.rt_geo.specs.declared.entry.Entry.{Entry}
 use Rattle.rt_tree.specs.Entries.{first_repeat, has_id, ids_of, repeat_after}
@@ -92,11 +92,6 @@ module _ (entries : List Entry) (place : ℕ) (d : Entry) (there : place < lengt
 pub ids-more : (entries : List Entry) (place : ℕ) (d : Entry) (id : ℤ) → place < length entries
     → has_id (take (place + 1) entries) id ≡ (has_id (take place entries) id || int_eq id (get_or entries place d).id)
 ids-more entries place d id there = rw (take_more entries place d there) (has_id-push (take place entries) (get_or entries place d) id)
-
--- nothing is left
-pub repeat-end : (entries : List Entry) (place : ℕ) → length entries ≤ place
-    → first_repeat entries ≡ repeat_after (take place entries) (drop place entries) → first_repeat entries ≡ None
-repeat-end entries place over once = once ∙ rw (drop_all place entries over) refl
 
 -- ---- the place is that of an entry
 

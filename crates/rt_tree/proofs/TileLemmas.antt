@@ -4,13 +4,13 @@ use Rattle.std.proofs.Common.{ap, subst, arith, IsPermutation}
 use Rattle.std.specs.Int.{div_ceil}
 use Rattle.std.specs.List.{enumerate_from, flat_map}
 use Rattle.std.proofs.lemmas.List.Folds.{flat_map-map}
+use Rattle.std.proofs.lemmas.List.FromFn.{length-enumerate_from}
 use Rattle.std.proofs.lemmas.List.Sorted.{IsPermutation-append, IsPermutation-map, IsPermutation-refl}
 use Rattle.std.proofs.lemmas.List.Sorted.{IsPermutation-trans, length_permutation}
 use Rattle.rt_geo.specs.Boxes.{Rect}
 use Rattle.rt_tree.specs.Packing.{by_middle, ceil_sqrt, chunks, groups, joined, tiles, twice_middle_x, twice_middle_y}
 use Rattle.rt_tree.specs.Sorting.{sorted}
-use Rattle.rt_tree.proofs.ChunkLemmas.{chunks-nil, chunks_of-chunks, joined-chunks, map-chunks}
-use Rattle.rt_tree.proofs.LevelLemmas.{div_ceil-positive}
+use Rattle.rt_tree.proofs.ChunkLemmas.{chunks-nil, chunks_of-chunks, div_ceil-step, joined-chunks, map-chunks}
 use Rattle.rt_tree.proofs.OrderLemmas.{map-flat_map}
 use Rattle.rt_tree.proofs.SortingLemmas.{IsPermutation-sorted}
 use Rattle.rt_tree.proofs.SquareLemmas.{ceil_sqrt-positive}
@@ -46,11 +46,22 @@ module _ {X : Type 0} (box : X → Rect) (items : List X) where
   abbrev slice_size : ℕ → ℕ
   slice_size fanout = ceil_sqrt (div_ceil (length items) fanout) * fanout
 
+  wide : (fanout : ℕ) → 0 < fanout → 0 < length items → 0 < slice_size fanout
+  wide fanout some there = positive_product (ceil_sqrt (div_ceil (length items) fanout)) fanout (ceil_sqrt-positive
+      (div_ceil (length items) fanout) (omega (arith, div_ceil-step (length items) fanout some there))) some
+
   -- the tiles are chunks of the items in their order
   tiles-chunks : (fanout : ℕ) → 0 < fanout → tiles box fanout items ≡ chunks fanout (tiled_of (slice_size fanout))
   tiles-chunks fanout some =
       chunks_of-chunks (sorted (by_middle box twice_middle_y)) (sorted-length (by_middle box twice_middle_y))
       (ceil_sqrt (div_ceil (length items) fanout)) fanout some by_x_of
+      (λ there. wide fanout some (omega (
+        arith,
+        there,
+        sorted-length (by_middle box twice_middle_x)
+            (enumerate_from 0 items),
+        length-enumerate_from 0 items,
+      )))
 
   -- the items in the order of their groups
   pub joined-groups : (fanout : ℕ) → 0 < fanout → joined (groups box fanout items) ≡ map (λ p. p.1) (tiled_of
@@ -81,10 +92,8 @@ module _ {X : Type 0} (box : X → Rect) (items : List X) where
   pub groups-IsPermutation : (fanout : ℕ) → 2 ≤ fanout → 0 < length items
       → IsPermutation items (joined (groups box fanout items))
   groups-IsPermutation fanout several there =
-      let wide : 0 < slice_size fanout = positive_product (ceil_sqrt (div_ceil (length items) fanout)) fanout
-      (ceil_sqrt-positive (div_ceil (length items) fanout) (div_ceil-positive
-      (length items) fanout several there)) (omega arith) in
-      let moved = IsPermutation-map (λ (p : ℕ × X). p.1) _ _ (tiled-IsPermutation (slice_size fanout) wide) in
+      let moved = IsPermutation-map (λ (p : ℕ × X). p.1) _ _ (tiled-IsPermutation (slice_size fanout)
+      (wide fanout (omega arith) there)) in
       subst (λ l. IsPermutation l (joined (groups box fanout items))) (numbered_items 0 items) (subst (IsPermutation
       (map (λ (p : ℕ × X). p.1) (enumerate_from 0 items))) (sym (joined-groups fanout (omega arith))) moved)
 

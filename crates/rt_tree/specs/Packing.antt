@@ -1,10 +1,10 @@
 -- Sort-tile-recursive packing (Leutenegger, Lopez and Edgington, 1997: STR, a simple and efficient algorithm for R-tree
 -- packing). Items are cut into the groups that become nodes, these nodes are grouped in turn, and so on up to one node.
 use Rattle.std.specs.Prelude.{◌+◌, ◌*◌, ℕ, zero, suc, nat_le, if◌then◌else◌, ℤ, ◌+ℤ◌, List, [], ◌∷◌, ◌++◌, length, map}
-use Rattle.std.specs.Prelude.{take, drop}
 use Rattle.std.specs.Int.{div_ceil}
 use Rattle.std.specs.List.{enumerate_from, flat_map, sum_by}
 use Rattle.std.specs.Ordering.{int_cmp, nat_cmp, on, then_cmp}
+use Rattle.std.specs.Simd.{first_chunks}
 use Rattle.std.specs.declared.cmp.Ordering.{Ordering}
 use Rattle.rt_geo.specs.Boxes.{Rect}
 use Rattle.rt_geo.specs.Laws.{Extent, extent_of_entry}
@@ -20,15 +20,9 @@ abbrev pub ceil_sqrt : ℕ → ℕ
 ceil_sqrt zero = 0
 ceil_sqrt (suc n) = let root = ceil_sqrt n in if nat_le (suc n) (root * root) then root else suc root
 
--- the first pieces of this size that xs is cut into, at most so many; the last of all may be shorter
-abbrev pub pieces : {X : Type 0} → (most size : ℕ) → List X → List (List X)
-pieces zero size xs = []
-pieces (suc most) size [] = []
-pieces (suc most) size (x ∷ xs) = take size (x ∷ xs) ∷ pieces most size (drop size (x ∷ xs))
-
--- xs cut into pieces of this size, of which the last may be shorter: there are no more of them than elements
+-- xs cut into pieces of this size, of which the last may be shorter
 abbrev pub chunks : {X : Type 0} → (size : ℕ) → List X → List (List X)
-chunks size xs = pieces (length xs) size xs
+chunks size xs = first_chunks size (div_ceil (length xs) size) xs
 
 -- twice the middle of a box on each axis
 abbrev pub twice_middle_x : Rect → ℤ
@@ -83,30 +77,20 @@ leaf_nodes = nodes_over extent_of_entry (λ _. 1) 1 0
 
 -- ---- level by level
 
--- the levels from these nodes on, up to one that has a single node, but at most so many. The nodes of each stand in the
--- order in which the level above it is cut, and a node's first child is told by its place on the level below
-abbrev pub levels_from : (most fanout level : ℕ) → List Node → List (List Node)
-levels_from zero fanout level nodes = []
-levels_from (suc most) fanout level nodes =
+-- the nodes of this level, in the order in which the level above it is cut, and then those of all levels above, up to
+-- one that has a single node. They are numbered as they stand, from `first` on, and a node's first child is told by its
+-- number. The fuel is no less than the number of levels
+abbrev pub nodes_from : (fuel fanout level first : ℕ) → List Node → List Node
+nodes_from zero fanout level first nodes = nodes
+nodes_from (suc fuel) fanout level first nodes =
     let cut = groups (λ n. n.bounds) fanout nodes in
-    let above = nodes_over extent_of_node (λ n. n.size) (level + 1) 0 cut in
-    if nat_le (length nodes) 1 then nodes ∷ [] else joined cut ∷ levels_from most fanout (level + 1) above
+    let above = nodes_over extent_of_node (λ n. n.size) (level + 1) first cut in
+    if nat_le (length nodes) 1 then nodes
+    else joined cut ++ nodes_from fuel fanout (level + 1) (first + length nodes) above
 
--- a node whose first child's place is counted from this number on
-abbrev pub counted_from : (start : ℕ) → Node → Node
-counted_from start node = record node { first = start + node.first }
-
--- the nodes of these levels, one level after the other, and numbered on from level to level: those of the first have
--- their numbers from `number` on, and their children from `children` on
-abbrev pub numbered : (number children : ℕ) → List (List Node) → List Node
-numbered number children [] = []
-numbered number children (level ∷ more) =
-    map (counted_from children) level ++ numbered (number + length level) number more
-
--- the nodes of all levels, over those of level 1: there are no more levels than such nodes. Numbers begin at 0 with level
--- 1, and so do the places of its children, the entries
+-- the nodes of all levels, over those of level 1, whose numbers begin at 0: there are no more levels than such nodes
 abbrev pub all_nodes : (fanout : ℕ) → List Node → List Node
-all_nodes fanout nodes = numbered 0 0 (levels_from (length nodes) fanout 1 nodes)
+all_nodes fanout nodes = nodes_from (length nodes) fanout 1 0 nodes
 
 -- ---- the tree
 

@@ -2,16 +2,11 @@
 //!
 //! So a search that looks at no layers reads none, and an entry takes no more room than its id, its box and one byte.
 
-ghost use Rattle.std.specs.Prelude.{◌≡◌, ◌==◌, ◌-◌, ◌<◌, ◌≤◌, ◌++◌, ◌∷◌, [], IfOk, OnErr, OnOk, Some, get_or, length};
-ghost use Rattle.std.specs.Prelude.{map, slice_get, take};
-ghost use Rattle.std.specs.List.{All};
-ghost use Rattle.rt_geo.specs.Layers.{most_layer, only};
-ghost use Rattle.rt_tree.specs.Leaves.{entries_of, without_layer};
-ghost use Rattle.rt_tree.specs.Packed.{hull_of, union_of};
-ghost use Rattle.rt_tree.specs.SortKeys.{place_of, told};
+ghost use Rattle.std.specs.Prelude.{◌≡◌, ◌==◌, ◌-◌, ◌<◌, ◌++◌, ◌∷◌, [], OnErr, OnOk, Some, get_or, length, map};
+ghost use Rattle.std.specs.Prelude.{slice_get, take};
+ghost use Rattle.rt_tree.specs.Leaves.{without_layer};
 
-use crate::packing::place_of;
-use rt_geo::{Bounds, Entry, Layers, hull};
+use rt_geo::{Bounds, Entry};
 use std::alloc::{AllocError, Global};
 use std::marker::Model;
 
@@ -54,29 +49,12 @@ impl Entries {
         }
     }
 
-    /// The entries that keys tell.
-    pub(crate) fn gathered(
-        alloc: Global,
-        keys: &[u64],
-        entries: &Entries,
-    ) -> Result<Entries, AllocError>
-        requires { All (λ key. place_of key < length entries.now) keys.now }
-        ensures { IfOk result (λ gathered. gathered ≡ told entries.now keys.now) }
+    /// Makes room for so many more.
+    pub(crate) fn reserve(&mut self, more: usize) -> Result<(), AllocError>
+        ensures { self.new ≡ self.old }
     {
-        let mut gathered = Vec::with_capacity(alloc, keys.len())?;
-        let mut layers = Vec::with_capacity(alloc, keys.len())?;
-        for key in keys {
-            let entry = entries.get(place_of(*key));
-            gathered.push(LeafEntry {
-                id: entry.id,
-                bounds: entry.bounds,
-            })?;
-            layers.push(entry.layer)?;
-        }
-        Ok(Entries {
-            entries: gathered,
-            layers,
-        })
+        self.entries.reserve(more)?;
+        self.layers.reserve(more)
     }
 
     /// How many there are.
@@ -152,29 +130,4 @@ impl Entries {
     {
         self.layers.as_slice()
     }
-}
-
-/// The least box in which the boxes of entries lie.
-pub(crate) fn hull_over(entries: &[LeafEntry]) -> Bounds
-    requires { 0 < length entries.now }
-    ensures { result ≡ hull_of (map (λ entry. entry.bounds) entries.now) }
-{
-    let mut bounds = entries[0].bounds;
-    for entry in &entries[1..] {
-        bounds = hull(bounds, entry.bounds);
-    }
-    bounds
-}
-
-/// The set of some layers.
-pub(crate) fn layers_over(layers: &[u8]) -> Layers
-    requires some { 0 < length layers.now }
-    requires few { All (λ layer. layer ≤ most_layer) layers.now }
-    ensures { result ≡ union_of (map only layers.now) }
-{
-    let mut set = Layers::of(layers[0]);
-    for layer in &layers[1..] {
-        set = set.union(Layers::of(*layer));
-    }
-    set
 }

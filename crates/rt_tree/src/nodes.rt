@@ -2,7 +2,7 @@
 //!
 //! So a search that looks at no layers reads none, and more of the nodes that it asks about are in the cache.
 
-ghost use Rattle.std.specs.Prelude.{◌≡◌, ◌<◌, IfOk, Some, length, map, slice_get};
+ghost use Rattle.std.specs.Prelude.{◌≡◌, ◌<◌, ◌++◌, ◌∷◌, [], IfOk, OnOk, Some, length, map, slice_get};
 ghost use Rattle.rt_tree.specs.PlainNodes.{without_layers};
 
 use crate::tree::Node;
@@ -45,26 +45,30 @@ impl Model for Nodes {
 }
 
 impl Nodes {
-    /// Keeps these nodes. An error means that no memory is left.
-    pub fn of(alloc: Global, nodes: &[Node]) -> Result<Nodes, AllocError>
-        ensures { IfOk result (λ kept. kept ≡ nodes.now) }
+    /// No nodes, and room for so many.
+    pub fn with_room(alloc: Global, room: usize) -> Result<Nodes, AllocError>
+        ensures { IfOk result (λ nodes. nodes ≡ []) }
     {
-        let mut plain = Vec::with_capacity(alloc, nodes.len())?;
-        let mut layers = Vec::with_capacity(alloc, nodes.len())?;
-        for node in nodes {
-            plain.push(PlainNode {
-                bounds: node.bounds,
-                first: node.first,
-                size: node.size,
-                count: node.count,
-                level: node.level,
-            })?;
-            layers.push(node.layers)?;
-        }
         Ok(Nodes {
-            nodes: plain,
-            layers,
+            nodes: Vec::with_capacity(alloc, room)?,
+            layers: Vec::with_capacity(alloc, room)?,
         })
+    }
+
+    /// Adds a node last.
+    pub fn push(&mut self, node: Node) -> Result<(), AllocError>
+        ensures { OnOk result (self.new ≡ self.old ++ node ∷ []) }
+    {
+        self.nodes.reserve(1)?;
+        self.layers.push(node.layers)?;
+        self.nodes.push_reserved(PlainNode {
+            bounds: node.bounds,
+            first: node.first,
+            size: node.size,
+            count: node.count,
+            level: node.level,
+        });
+        Ok(())
     }
 
     /// How many there are.

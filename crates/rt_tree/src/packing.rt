@@ -4,28 +4,29 @@
 //! slice of them is sorted by y, and the items are moved once, at the end. Of nodes with one middle that at the lesser
 //! place goes first, and of entries that with the lesser id.
 
-ghost use Rattle.std.specs.Prelude.{◌≡◌, ℕ, ◌<◌, ◌≤◌, ◌*◌, ◌+◌, ◌^◌, ◌+ℤ◌, IfOk, List, Some, length, map, slice_get};
+ghost use Rattle.std.specs.Prelude.{◌≡◌, ℕ, ◌<◌, ◌≤◌, ◌*◌, ◌+◌, ◌^◌, ◌+ℤ◌, ◌++◌, ◌∷◌, [], ⊤, IfOk, List, OnOk, Some};
+ghost use Rattle.std.specs.Prelude.{length, map, slice_get};
 ghost use Rattle.std.specs.Int.{div_ceil};
 ghost use Rattle.std.specs.List.{All, enumerate_from, flat_map, sum_by};
 ghost use Rattle.std.specs.Ordering.{int_cmp, nat_cmp, on};
 ghost use Rattle.std.specs.declared.cmp.Ordering.{Ordering};
-ghost use Rattle.rt_geo.specs.Boxes.{Rect};
+ghost use Rattle.rt_geo.specs.Boxes.{Rect, hull};
 ghost use Rattle.rt_geo.specs.Entries.{HasLayer};
-ghost use Rattle.rt_geo.specs.Layers.{most_layer};
-ghost use Rattle.rt_geo.specs.Laws.{extent_of_entry};
-ghost use Rattle.rt_tree.specs.Entries.{IsTable, most_entries};
-ghost use Rattle.rt_tree.specs.Leaves.{entries_of};
+ghost use Rattle.rt_geo.specs.Layers.{union};
+ghost use Rattle.rt_geo.specs.Laws.{Extent, extent_of_entry};
+ghost use Rattle.rt_tree.specs.Entries.{most_entries};
 ghost use Rattle.rt_tree.specs.Packed.{extent_of_node};
-ghost use Rattle.rt_tree.specs.Packing.{ceil_sqrt, chunks, groups, joined, leaf_nodes, node_over, nodes_over};
+ghost use Rattle.rt_tree.specs.Packing.{ceil_sqrt, chunks, groups, joined, node_over, nodes_over};
 ghost use Rattle.rt_tree.specs.Packing.{twice_middle_x, twice_middle_y};
-ghost use Rattle.rt_tree.specs.SortKeys.{IsRanked, IsRankedAt, by_rank_and_id, by_y, keys_by_x, key_of, place_of, rank};
+ghost use Rattle.rt_tree.specs.SortKeys.{ArePackable, IsRanked, IsRankedAt, by_rank_and_id, by_y, key_of, place_of, rank};
 ghost use Rattle.rt_tree.specs.SortKeys.{rekeyed, sort_key, told};
 ghost use Rattle.rt_tree.specs.Sorting.{sorted};
 
-use crate::entries::{Entries, LeafEntry, hull_over, layers_over};
+use crate::entries::Entries;
+use crate::nodes::Nodes;
 use crate::ties::sort_by_rank_and_id;
 use crate::tree::Node;
-use rt_geo::{Bounds, Entry, hull};
+use rt_geo::{Bounds, Entry, Layers, hull};
 use std::alloc::{AllocError, Global};
 
 /// A sort key has room for so many places, one for each entry that a table may have.
@@ -45,6 +46,18 @@ pub(crate) trait Items {
     /// The box of one.
     ghost rect: { Self.Item → Rect };
 
+    /// Its box and its layers.
+    ghost extent: { Self.Item → Extent };
+
+    /// How many entries it stands for.
+    ghost size: { Self.Item → ℕ };
+
+    /// That its layers are some that there are.
+    ghost has_layers: { Self.Item → Type 0 };
+
+    /// The order in which those go whose boxes have one middle.
+    ghost in_order: { List Self.Item → List Self.Item };
+
     /// The order of the sort keys of such items.
     ghost key_order: { List Self.Item → ℕ → ℕ → Ordering };
 
@@ -57,9 +70,18 @@ pub(crate) trait Items {
         requires { place < length (list self.now) }
         ensures { slice_get (list self.now) place ≡ Some result };
 
+    /// Adds an item last.
+    fn push(&mut self, item: Self::Item) -> Result<(), AllocError>
+        ensures { OnOk result (list self.new ≡ list self.old ++ item ∷ []) };
+
     /// The box of an item.
     fn bounds(item: Self::Item) -> Bounds
         ensures { result ≡ rect item };
+
+    /// The node over an item alone.
+    fn node_over(item: Self::Item, level: u8, first: u32) -> Node
+        requires { has_layers item }
+        ensures { result ≡ node_over extent size level first (item ∷ []) };
 
     /// Sorts the keys of the items.
     fn sort_keys(&self, keys: &mut [u64])
@@ -73,6 +95,14 @@ impl Items for Entries {
 
     ghost rect = { λ e. e.bounds };
 
+    ghost extent = { extent_of_entry };
+
+    ghost size = { λ _. 1 };
+
+    ghost has_layers = { HasLayer };
+
+    ghost in_order = { sorted (on (λ e. e.id) int_cmp) };
+
     ghost key_order = { by_rank_and_id };
 
     fn count(&self) -> usize {
@@ -83,8 +113,23 @@ impl Items for Entries {
         self.get(place)
     }
 
+    fn push(&mut self, entry: Entry) -> Result<(), AllocError> {
+        self.push(entry)
+    }
+
     fn bounds(item: Entry) -> Bounds {
         item.bounds
+    }
+
+    fn node_over(item: Entry, level: u8, first: u32) -> Node {
+        Node {
+            layers: Layers::of(item.layer),
+            bounds: item.bounds,
+            first,
+            size: 1,
+            count: 1,
+            level,
+        }
     }
 
     fn sort_keys(&self, keys: &mut [u64]) {
@@ -92,12 +137,20 @@ impl Items for Entries {
     }
 }
 
-impl Items for Vec<Node> {
+impl Items for Nodes {
     type Item = Node;
 
-    ghost list = { λ nodes. nodes.items };
+    ghost list = { λ nodes. nodes };
 
     ghost rect = { λ n. n.bounds };
+
+    ghost extent = { extent_of_node };
+
+    ghost size = { λ n. n.size };
+
+    ghost has_layers = { λ _. ⊤ };
+
+    ghost in_order = { λ nodes. nodes };
 
     ghost key_order = { λ _. nat_cmp };
 
@@ -106,11 +159,24 @@ impl Items for Vec<Node> {
     }
 
     fn item(&self, place: usize) -> Node {
-        self[place]
+        self.get(place)
+    }
+
+    fn push(&mut self, node: Node) -> Result<(), AllocError> {
+        self.push(node)
     }
 
     fn bounds(item: Node) -> Bounds {
         item.bounds
+    }
+
+    fn node_over(item: Node, level: u8, first: u32) -> Node {
+        Node {
+            first,
+            count: 1,
+            level,
+            ..item
+        }
     }
 
     fn sort_keys(&self, keys: &mut [u64]) {
@@ -118,40 +184,13 @@ impl Items for Vec<Node> {
     }
 }
 
-// The sum of two coordinates, from 0 on.
-fn rank_of(least: i32, greatest: i32) -> u64
-    ensures value { result ≡ rank (least +ℤ greatest) }
+// The key of an item between two coordinates: keys sort by their sum, which is made no less than 0, and then by place.
+fn sort_key(least: i32, greatest: i32, place: usize) -> u64
+    requires { place < PLACES }
+    ensures value { result ≡ sort_key (rank (least +ℤ greatest)) place }
     ensures ranked { IsRanked (least +ℤ greatest) }
-    ensures small { result < 2 ^ 33 }
 {
-    (least as i64 + greatest as i64 + SUM_OFFSET) as u64
-}
-
-// Twice the middle of a box on the x axis.
-fn rank_x(bounds: Bounds) -> u64
-    ensures value { result ≡ rank (twice_middle_x bounds) }
-    ensures ranked { IsRanked (twice_middle_x bounds) }
-    ensures small { result < 2 ^ 33 }
-{
-    rank_of(bounds.min_x(), bounds.max_x())
-}
-
-// Twice the middle of a box on the y axis.
-fn rank_y(bounds: Bounds) -> u64
-    ensures value { result ≡ rank (twice_middle_y bounds) }
-    ensures ranked { IsRanked (twice_middle_y bounds) }
-    ensures small { result < 2 ^ 33 }
-{
-    rank_of(bounds.min_y(), bounds.max_y())
-}
-
-// Keys sort by rank, and then by place.
-fn sort_key(rank: u64, place: u64) -> u64
-    requires small { rank < 2 ^ 33 }
-    requires room { place < PLACES }
-    ensures { result ≡ sort_key rank place }
-{
-    rank * PLACES + place
+    (least as i64 + greatest as i64 + SUM_OFFSET) as u64 * PLACES + place as u64
 }
 
 /// The place in a key.
@@ -161,55 +200,45 @@ pub(crate) fn place_of(key: u64) -> usize
     (key % PLACES) as usize
 }
 
-/// Entries in the order of their tiles, those whose boxes have one middle by id.
-pub(crate) fn arranged_entries(
+/// Puts items behind those that are packed, in the order of their tiles, and makes the nodes over the tiles.
+pub(crate) fn pack_level<T: Items>(
     alloc: Global,
-    entries: &Entries,
+    items: &T,
     fanout: u8,
-) -> Result<Entries, AllocError>
-    requires table { IsTable entries.now }
+    level: u8,
+    packed: &mut T,
+) -> Result<Nodes, AllocError>
+    requires packable { ArePackable T.rect T.has_layers T.size (T.key_order (T.list items.now))
+        (T.in_order (T.list items.now)) (T.list items.now) }
     requires several { 2 ≤ fanout }
-    ensures { IfOk result (λ arranged. arranged ≡ joined (groups (λ e. e.bounds) fanout
-        (sorted (on (λ e. e.id) int_cmp) entries.now))) }
+    requires most { fanout ≤ 64 }
+    requires room { length (T.list packed.old) + length (T.list items.now) < 2 ^ 32 }
+    ensures packed { OnOk result (T.list packed.new
+        ≡ T.list packed.old ++ joined (groups T.rect fanout (T.in_order (T.list items.now)))) }
+    ensures nodes { IfOk result (λ nodes. nodes ≡ nodes_over T.extent T.size level (length (T.list packed.old))
+        (groups T.rect fanout (T.in_order (T.list items.now)))) }
 {
-    if entries.is_empty() {
-        return Ok(Entries::empty(alloc));
+    let keys = arranged_keys(alloc, items, fanout)?;
+    let mut nodes = Nodes::with_room(alloc, keys.len().div_ceil(fanout as usize))?;
+    for tile in keys.chunks(fanout as usize) {
+        nodes.push(pack_tile(items, tile, level, packed)?)?;
     }
-    let keys = arranged_keys(alloc, entries, fanout)?;
-    Entries::gathered(alloc, &keys, entries)
-}
-
-/// Nodes in the order of their tiles, those whose boxes have one middle by place.
-pub(crate) fn arranged_nodes(
-    alloc: Global,
-    nodes: &Vec<Node>,
-    fanout: u8,
-) -> Result<Vec<Node>, AllocError>
-    requires few { length nodes.now.items ≤ most_entries }
-    requires several { 2 ≤ fanout }
-    ensures { IfOk result (λ v. v.items ≡ joined (groups (λ n. n.bounds) fanout nodes.now.items)) }
-{
-    if nodes.is_empty() {
-        return Ok(Vec::new(alloc));
-    }
-    let keys = arranged_keys(alloc, nodes, fanout)?;
-    gathered(alloc, &keys, nodes)
+    Ok(nodes)
 }
 
 // The keys of items, in the order of their tiles.
 fn arranged_keys<T: Items>(alloc: Global, items: &T, fanout: u8) -> Result<Vec<u64>, AllocError>
-    requires some { 0 < length (T.list items.now) }
-    requires few { length (T.list items.now) ≤ most_entries }
+    requires packable { ArePackable T.rect T.has_layers T.size (T.key_order (T.list items.now))
+        (T.in_order (T.list items.now)) (T.list items.now) }
     requires several { 2 ≤ fanout }
-    ensures value { IfOk result (λ v. v.items ≡ flat_map (by_y (T.key_order (T.list items.now)) T.rect (T.list items.now))
-        (chunks (ceil_sqrt (div_ceil (length (T.list items.now)) fanout) * fanout)
-        (keys_by_x (T.key_order (T.list items.now)) T.rect (T.list items.now)))) }
-    ensures places { IfOk result (λ v. All (λ key. place_of key < length (T.list items.now)) v.items) }
-    ensures ranked_x { IfOk result (λ _. All (λ x. IsRanked (twice_middle_x (T.rect x))) (T.list items.now)) }
-    ensures ranked_y { IfOk result (λ _.
-        All (IsRankedAt T.rect twice_middle_y (T.list items.now)) (keys_by_x (T.key_order (T.list items.now)) T.rect (T.list items.now))) }
+    ensures told { IfOk result (λ keys. told (T.list items.now) keys.items
+        ≡ joined (groups T.rect fanout (T.in_order (T.list items.now)))) }
+    ensures places { IfOk result (λ keys. All (λ key. place_of key < length (T.list items.now)) keys.items) }
 {
     let mut keys = keys_of(alloc, items)?;
+    if keys.is_empty() {
+        return Ok(keys);
+    }
     items.sort_keys(&mut keys);
     sort_slices(&mut keys, items, slice_size(items.count(), fanout));
     Ok(keys)
@@ -234,7 +263,8 @@ fn keys_of<T: Items>(alloc: Global, items: &T) -> Result<Vec<u64>, AllocError>
 {
     let mut keys = Vec::with_capacity(alloc, items.count())?;
     for place in 0..items.count() {
-        keys.push(sort_key(rank_x(T::bounds(items.item(place))), place as u64))?;
+        let bounds = T::bounds(items.item(place));
+        keys.push(sort_key(bounds.min_x(), bounds.max_x(), place))?;
     }
     Ok(keys)
 }
@@ -276,107 +306,54 @@ fn key_by_y<T: Items>(key: u64, items: &T) -> u64
     ensures ranked { IsRankedAt T.rect twice_middle_y (T.list items.now) key }
 {
     let place = place_of(key);
-    sort_key(rank_y(T::bounds(items.item(place))), place as u64)
+    let bounds = T::bounds(items.item(place));
+    sort_key(bounds.min_y(), bounds.max_y(), place)
 }
 
-// The nodes that keys tell.
-fn gathered(alloc: Global, keys: &[u64], nodes: &[Node]) -> Result<Vec<Node>, AllocError>
-    requires { All (λ key. place_of key < length nodes.now) keys.now }
-    ensures { IfOk result (λ v. v.items ≡ told nodes.now keys.now) }
-{
-    let mut gathered = Vec::with_capacity(alloc, keys.len())?;
-    for key in keys {
-        gathered.push(nodes[place_of(*key)])?;
-    }
-    Ok(gathered)
-}
-
-/// A node of level 1 over each tile of entries that stand in the order of their tiles.
-pub(crate) fn leaf_nodes(
-    alloc: Global,
-    leaves: &Entries,
-    fanout: u8,
-) -> Result<Vec<Node>, AllocError>
-    requires several { 2 ≤ fanout }
-    requires few { length leaves.now ≤ most_entries }
-    requires layers { All HasLayer leaves.now }
-    ensures { IfOk result (λ v. v.items ≡ leaf_nodes (chunks fanout leaves.now)) }
-{
-    let entries = leaves.leaves();
-    let layers = leaves.layers();
-    let mut nodes = Vec::with_capacity(alloc, entries.len().div_ceil(fanout as usize))?;
-    let mut start = 0;
-    while start < entries.len() {
-        let end = start + (fanout as usize).min(entries.len() - start);
-        nodes.push(leaf_over(&entries[start..end], &layers[start..end], start as u32))?;
-        start = end;
-    }
-    Ok(nodes)
-}
-
-// The node of level 1 over a tile.
-fn leaf_over(entries: &[LeafEntry], layers: &[u8], first: u32) -> Node
-    requires some { 0 < length entries.now }
-    requires few { length entries.now < 2 ^ 8 }
-    requires paired { length entries.now ≡ length layers.now }
-    requires layers { All (λ layer. layer ≤ most_layer) layers.now }
-    ensures { result ≡ node_over extent_of_entry (λ _. 1) 1 first (entries_of entries.now layers.now) }
-{
-    Node {
-        layers: layers_over(layers),
-        bounds: hull_over(entries),
-        first,
-        size: entries.len() as u32,
-        count: entries.len() as u8,
-        level: 1,
-    }
-}
-
-/// A node over each tile of nodes that stand in the order of their tiles. `first` is the number of the first of them.
-pub(crate) fn nodes_over(
-    alloc: Global,
-    nodes: &[Node],
-    fanout: u8,
+// Puts the items that the keys of a tile tell behind those that are packed. The node over them.
+fn pack_tile<T: Items>(
+    items: &T,
+    tile: &[u64],
     level: u8,
-    first: u32,
-) -> Result<Vec<Node>, AllocError>
-    requires several { 2 ≤ fanout }
-    requires few { sum_by (λ n. n.size) nodes.now < 2 ^ 32 }
-    requires numbers { first + length nodes.now < 2 ^ 32 }
-    ensures { IfOk result (λ v. v.items
-        ≡ nodes_over extent_of_node (λ n. n.size) level first (chunks fanout nodes.now)) }
-{
-    let mut above = Vec::with_capacity(alloc, nodes.len().div_ceil(fanout as usize))?;
-    let mut start = 0;
-    while start < nodes.len() {
-        let end = start + (fanout as usize).min(nodes.len() - start);
-        above.push(node_over(&nodes[start..end], level, first + start as u32))?;
-        start = end;
-    }
-    Ok(above)
-}
-
-// The node over a tile.
-fn node_over(tile: &[Node], level: u8, first: u32) -> Node
+    packed: &mut T,
+) -> Result<Node, AllocError>
     requires some { 0 < length tile.now }
     requires few { length tile.now < 2 ^ 8 }
-    requires weight { sum_by (λ n. n.size) tile.now < 2 ^ 32 }
-    ensures { result ≡ node_over extent_of_node (λ n. n.size) level first tile.now }
+    requires places { All (λ key. place_of key < length (T.list items.now)) tile.now }
+    requires layers { All T.has_layers (T.list items.now) }
+    requires weight { sum_by T.size (told (T.list items.now) tile.now) < 2 ^ 32 }
+    requires room { length (T.list packed.old) < 2 ^ 32 }
+    ensures packed { OnOk result (T.list packed.new ≡ T.list packed.old ++ told (T.list items.now) tile.now) }
+    ensures node { IfOk result (λ node. node ≡ node_over T.extent T.size level (length (T.list packed.old))
+        (told (T.list items.now) tile.now)) }
 {
-    let mut layers = tile[0].layers;
-    let mut bounds = tile[0].bounds;
-    let mut size = tile[0].size;
-    for node in &tile[1..] {
-        layers = layers.union(node.layers);
-        bounds = hull(bounds, node.bounds);
-        size += node.size;
+    let item = items.item(place_of(tile[0]));
+    let mut node = T::node_over(item, level, packed.count() as u32);
+    packed.push(item)?;
+    for key in &tile[1..] {
+        let item = items.item(place_of(*key));
+        node = with_children(node, T::node_over(item, level, 0));
+        packed.push(item)?;
     }
+    Ok(node)
+}
+
+// A node with the children of another behind its own.
+fn with_children(node: Node, behind: Node) -> Node
+    requires size { node.size + behind.size < 2 ^ 32 }
+    requires count { node.count + behind.count < 2 ^ 8 }
+    ensures { result ≡ record node {
+      layers = union node.layers behind.layers;
+      bounds = hull node.bounds behind.bounds;
+      size = node.size + behind.size;
+      count = node.count + behind.count;
+    } }
+{
     Node {
-        layers,
-        bounds,
-        first,
-        size,
-        count: tile.len() as u8,
-        level,
+        layers: node.layers.union(behind.layers),
+        bounds: hull(node.bounds, behind.bounds),
+        size: node.size + behind.size,
+        count: node.count + behind.count,
+        ..node
     }
 }

@@ -1,22 +1,21 @@
 //! A packed tree of boxes.
 
-ghost use Rattle.std.specs.Prelude.{◌≡◌, ◌==◌, ◌+◌, ◌-◌, ◌<◌, ◌≤◌, ◌↔◌, IfOk, IfSome, IsSome, Some, length, map, slice_get, ℕ};
+ghost use Rattle.std.specs.Prelude.{◌≡◌, ◌==◌, ◌+◌, ◌-◌, ◌*◌, ◌<◌, ◌≤◌, ◌↔◌, IfOk, IfSome, IsSome, Some, length, map, slice_get, ℕ};
 ghost use Rattle.std.specs.Int.{div_ceil};
-ghost use Rattle.std.specs.List.{All};
+ghost use Rattle.std.specs.List.{sum_by};
 ghost use Rattle.std.specs.List.Sorted.{IsPermutation};
-ghost use Rattle.rt_geo.specs.Entries.{HasLayer};
 ghost use Rattle.rt_geo.specs.Laws.{extent_of_entry};
 ghost use Rattle.rt_tree.specs.Entries.{most_entries};
 ghost use Rattle.rt_tree.specs.Leaves.{without_layer};
 ghost use Rattle.rt_tree.specs.Levels.{level_sizes};
 ghost use Rattle.rt_tree.specs.Packed.{IsSound, child_entries, child_nodes, node_at, root_of};
-ghost use Rattle.rt_tree.specs.Packing.{all_nodes, chunks, leaf_nodes, pack_of};
+ghost use Rattle.rt_tree.specs.Packing.{all_nodes, pack_of};
 ghost use Rattle.rt_tree.specs.PlainNodes.{without_layers};
 
 use crate::entries::{Entries, LeafEntry};
 use crate::levels::Levels;
 use crate::nodes::{Nodes, PlainNode};
-use crate::packing::{arranged_entries, arranged_nodes, leaf_nodes, nodes_over};
+use crate::packing::pack_level;
 use crate::table::Table;
 use rt_geo::{Bounds, Entry, Layers};
 use std::alloc::{AllocError, Global};
@@ -101,10 +100,11 @@ impl Tree {
     {
         let levels = Levels::new(table.len(), fanout);
         let entries = table.into_entries();
-        let leaves = arranged_entries(alloc, &entries, fanout)?;
+        let mut leaves = Entries::empty(alloc);
+        leaves.reserve(entries.len())?;
+        let made = pack_level(alloc, &entries, fanout, 1, &mut leaves)?;
         drop(entries);
-        let made = all_nodes(alloc, &leaves, fanout)?;
-        let nodes = Nodes::of(alloc, &made)?;
+        let nodes = all_nodes(alloc, made, fanout)?;
         Ok(Tree {
             fanout,
             leaves,
@@ -236,22 +236,23 @@ impl Tree {
     }
 }
 
-// The nodes of all levels over entries that stand in the order of their tiles.
-fn all_nodes(alloc: Global, leaves: &Entries, fanout: u8) -> Result<Vec<Node>, AllocError>
+// The nodes of all levels, over those of level 1.
+fn all_nodes(alloc: Global, made: Nodes, fanout: u8) -> Result<Nodes, AllocError>
     requires several { 2 ≤ fanout }
-    requires few { length leaves.now ≤ most_entries }
-    requires layers { All HasLayer leaves.now }
-    ensures { IfOk result (λ v. v.items ≡ all_nodes fanout (leaf_nodes (chunks fanout leaves.now))) }
+    requires most { fanout ≤ 64 }
+    requires few { 2 * length made ≤ most_entries + 1 }
+    requires weight { sum_by (λ n. n.size) made ≤ most_entries }
+    ensures { IfOk result (λ nodes. nodes ≡ all_nodes fanout made) }
 {
-    let mut made = leaf_nodes(alloc, leaves, fanout)?;
-    let mut nodes = Vec::new(alloc);
+    let mut made = made;
+    let mut nodes = Nodes::with_room(alloc, 0)?;
     let mut level = 1;
     'levels: while made.len() > 1 {
         level += 1;
-        let ordered = arranged_nodes(alloc, &made, fanout)?;
-        made = nodes_over(alloc, &ordered, fanout, level, nodes.len() as u32)?;
-        nodes.extend_from_slice(&ordered)?;
+        made = pack_level(alloc, &made, fanout, level, &mut nodes)?;
     }
-    nodes.extend_from_slice(&made)?;
+    if made.len() == 1 {
+        nodes.push(made.get(0))?;
+    }
     Ok(nodes)
 }

@@ -14,7 +14,7 @@ sort_slices-requires-clause-places g c =
     let by_x : c.deref_mut-2.result.now ≡ keys_by_x order g.T.Items.rect items = c.deref_mut-2.ensures.value
     ∙ front_of _ c.sort_keys.new.keys _ (c.sort_keys.auto.keys ∙ c.deref_mut.ensures.len) ∙ c.sort_keys.ensures
     ∙ ap (sorted order) (c.deref_mut.ensures.value ∙ c.in_ok-keys.ensures.keys) in
-    subst (All (λ key. place_of key < length items)) (sym by_x) (keys_tell g.T.Items.rect items c.requires.few order)
+    subst (All (λ key. place_of key < length items)) (sym by_x) (keys_tell g.T.Items.rect items c.requires.packable.few order)
 
 pub returns-clause-places : goal.returns-clause-places
 returns-clause-places g c =
@@ -26,5 +26,5 @@ returns-clause-places g c =
     let now = front_of _ c.sort_slices.new.keys _ (c.sort_slices.auto.keys ∙ c.deref_mut-2.ensures.len)
     ∙ c.sort_slices.ensures.keys
     ∙ ap (λ ks. flat_map (by_y order g.T.Items.rect items) (chunks c.slice_size.result ks)) by_x in
-    subst (All (λ key. place_of key < length items)) (sym now) (sliced_tell g.T.Items.rect items c.requires.few order
+    subst (All (λ key. place_of key < length items)) (sym now) (sliced_tell g.T.Items.rect items c.requires.packable.few order
     c.slice_size.result)

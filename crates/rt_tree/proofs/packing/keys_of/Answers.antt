@@ -1,4 +1,5 @@
-use Rattle.std.proofs.Common.{◌∙◌, ap, below_more, get_or, subst, sym}
+use Rattle.std.proofs.Common.{◌≡◌, ◌∙◌, ◌+ℤ◌, FitsSigned, ap, below_more, get_or, of_z, refl, rules, subst, sym, to_z, w32}
+use Rattle.std.proofs.lemmas.Int.{to_z-of_z}
 use Rattle.std.proofs.lemmas.List.{get_or_default}
 use Rattle.std.proofs.lemmas.Option.{get_or_from_slice_get, slice_get_within}
 use Rattle.rt_tree.specs.Packing.{twice_middle_x}
@@ -13,8 +14,17 @@ loop-place-preserved g c =
     let x = c.item.result in
     let is = sym (get_or_from_slice_get items place x x c.item.ensures) in
     let there = slice_get_within items place x c.item.ensures in
-    let key = c.sort_key.ensures ∙ ap (λ r. sort_key r place) (c.rank_x.ensures.value
-    ∙ ap (λ b. rank (twice_middle_x b)) c.bounds.ensures) in
+    let low : FitsSigned w32 c.min_x.result = search rules in
+    let high : FitsSigned w32 c.max_x.result = search rules in
+    let sum : to_z w32 (of_z w32 c.min_x.result) +ℤ to_z w32 (of_z w32 c.max_x.result) ≡ twice_middle_x
+    (g.T.Items.rect x) = rw (
+      to_z-of_z w32 c.min_x.result low,
+      to_z-of_z w32 c.max_x.result high,
+      c.min_x.ensures.value,
+      c.max_x.ensures.value,
+      c.bounds-bounds.ensures,
+    ) refl in
+    let key = c.sort_key.ensures.value ∙ ap (λ s. sort_key (rank s) place) sum in
     record {
       keys = c.in_ok-push.ensures.items
           ∙ keys_more (key_of g.T.Items.rect twice_middle_x) items place c.sort_key.result x c.loop-place.keys.items
@@ -24,5 +34,5 @@ loop-place-preserved g c =
           (λ k h d. c.loop-place.invariant.ranked k d h)
           (λ d. subst (λ y. IsRanked (twice_middle_x (g.T.Items.rect y))) (is
           ∙ get_or_default items place x d there)
-          (subst (λ b. IsRanked (twice_middle_x b)) c.bounds.ensures c.rank_x.ensures.ranked)) k h d;
+          (subst IsRanked sum c.sort_key.ensures.ranked)) k h d;
     }

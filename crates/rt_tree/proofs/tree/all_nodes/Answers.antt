@@ -1,73 +1,63 @@
-use Rattle.std.proofs.Common.{◌≡◌, ◌<◌, ◌+◌, ◌++◌, ◌∙◌, ap, arith, length, sym}
-use Rattle.rt_tree.proofs.Numbering.{all_nodes-is}
-use Rattle.rt_tree.specs.Packed.{extent_of_node}
-use Rattle.rt_tree.specs.Packing.{all_nodes, chunks, nodes_over}
-use Rattle.rt_tree.proofs.PackCounts.{course_more, entries_counted, level_counted, level_smaller}
-use Rattle.rt_tree.proofs.PackCounts.{ordered_length, ordered_weight}
+use Rattle.std.proofs.Common.{◌≡◌, ◌<◌, ◌≤◌, ◌-◌, ◌++◌, ◌∷◌, ◌∙◌, [], List, Some, ap, arith, length, slice_get, sym}
+use Rattle.std.proofs.lemmas.List.{append-nil, nil_from_length}
+use Rattle.std.proofs.lemmas.Option.{get_or_from_slice_get}
+use Rattle.rt_tree.specs.Packing.{all_nodes}
+use Rattle.rt_tree.specs.declared.tree.Node.{Node}
+use Rattle.rt_tree.proofs.PackCounts.{counted_more, course_done, course_more, fewer}
+use Rattle.rt_tree.proofs.Packable.{nodes_packable}
 use Rattle.rt_tree.proofs.tree.all_nodes.Goals as goal
+use Rattle.rt_tree.proofs.tree.all_nodes.Goals.{then-len-eq1+in_ok-push, else-len-eq1}
 
-pub levels-init : goal.levels-init
-levels-init c = rw c.new-nodes.ensures.items (record {
-  counted = entries_counted c.args.fanout c.requires.several c.args.leaves.now c.in_ok-made.made.items
-      c.requires.few c.in_ok-made.ensures;
-  course = sym (all_nodes-is c.args.fanout c.requires.several c.in_ok-made.made.items)
-      ∙ ap (all_nodes c.args.fanout) c.in_ok-made.ensures;
-})
+-- a single node is the first one
+one_node : (nodes : List Node) (n : Node) → length nodes ≡ 1 → slice_get nodes 0 ≡ Some n → nodes ≡ n ∷ []
+one_node [] n long is = absurd (omega (arith, long))
+one_node (m ∷ []) n long is = ap (λ k. k ∷ []) (get_or_from_slice_get (m ∷ []) 0 n n is)
+one_node (m ∷ k ∷ nodes) n long is = absurd (omega (arith, long))
 
-pub nodes_over-requires-clause-few : goal.nodes_over-requires-clause-few
-nodes_over-requires-clause-few c =
-    let ordered = c.in_ok-ordered.ensures in
-    let there : 0 < length c.levels.made.items = omega (arith, c.levels-test.true, c.len.ensures) in
-    rw c.deref.ensures.value (omega (
-      arith,
-      c.levels.invariant.counted.weight,
-      ordered_weight c.args.fanout
-          c.requires.several c.levels.made.items c.in_ok-ordered.ordered.items there ordered,
-    ))
-
-pub nodes_over-requires-clause-numbers : goal.nodes_over-requires-clause-numbers
-nodes_over-requires-clause-numbers c =
-    let ordered = c.in_ok-ordered.ensures in
-    let there : 0 < length c.levels.made.items = omega (arith, c.levels-test.true, c.len.ensures) in
-    rw c.deref.ensures.value (omega (
-      arith,
-      c.levels.invariant.counted.few_nodes,
-      c.levels.invariant.counted.few_levels,
-      c.len-in-levels.ensures,
-      ordered_length c.args.fanout
-          c.requires.several c.levels.made.items c.in_ok-ordered.ordered.items there ordered,
-    ))
+pub pack_level-requires-clause-packable : goal.pack_level-requires-clause-packable
+pack_level-requires-clause-packable c =
+    let counted = c.levels.invariant.counted in
+    nodes_packable c.levels.made (record {
+      few = omega (arith, counted.few_nodes, counted.few_levels);
+      weight = omega (arith, counted.weight);
+    })
 
 pub levels-smaller : goal.levels-smaller
 levels-smaller c =
-    let ordered = c.in_ok-ordered.ensures in
-    let more : 1 < length c.levels.made.items = omega (arith, c.levels-test.true, c.len.ensures) in
-    let new = c.in_ok-made-2.ensures ∙ ap (λ l. nodes_over extent_of_node (λ n. n.size)
-    (c.levels.level + 1) c.len-in-levels.result (chunks c.args.fanout l)) c.deref.ensures.value in
-    level_smaller c.args.fanout c.requires.several c.levels.level c.len-in-levels.result c.levels.made.items
-    c.in_ok-ordered.ordered.items c.in_ok-made-2.made.items more ordered new
+    let made = c.levels.made in
+    let more : 1 < length made = omega (arith, c.levels-test.true, c.len.ensures) in
+    let smaller : length c.in_ok-made.made < length made = omega (
+      arith,
+      ap length c.in_ok-made.ensures.nodes,
+      fewer c.args.fanout c.requires.several c.levels.level (length c.levels.nodes) (length made - 1) made more
+          (omega (arith, more)),
+    ) in
+    smaller
 
 pub levels-preserved : goal.levels-preserved
 levels-preserved c =
     let several = c.requires.several in
-    let nodes = c.levels.nodes.items in
-    let made = c.levels.made.items in
-    let sorted = c.in_ok-ordered.ordered.items in
-    let above = c.in_ok-made-2.made.items in
-    let ordered = c.in_ok-ordered.ensures in
+    let level = c.levels.level in
+    let nodes = c.levels.nodes in
+    let made = c.levels.made in
     let more : 1 < length made = omega (arith, c.levels-test.true, c.len.ensures) in
-    let numbered : c.len-in-levels.result ≡ length nodes = omega (arith, c.len-in-levels.ensures) in
-    let new : above ≡ nodes_over extent_of_node (λ n. n.size) (c.levels.level + 1) (length nodes)
-    (chunks c.args.fanout sorted) =
-    c.in_ok-made-2.ensures ∙ ap (λ l. nodes_over extent_of_node (λ n. n.size)
-    (c.levels.level + 1) c.len-in-levels.result (chunks c.args.fanout l)) c.deref.ensures.value
-    ∙ ap (λ n. nodes_over extent_of_node (λ n. n.size) (c.levels.level + 1) n
-    (chunks c.args.fanout sorted)) numbered in
-    let after : c.extend_from_slice.new.self.items ≡ nodes ++ sorted = c.in_ok-extend_from_slice.ensures.items
-    ∙ ap (λ l. nodes ++ l) c.deref-in-levels.ensures.value in
-    record {
-      counted = level_counted c.args.fanout several c.levels.level nodes made sorted above
-          c.extend_from_slice.new.self.items c.levels.invariant.counted more ordered new after;
-      course = rw after (course_more c.args.fanout several c.levels.level nodes made sorted above _ more ordered new
-          c.levels.invariant.course);
-    }
+    rw (c.in_ok-made.ensures.packed, c.in_ok-made.ensures.nodes) (record {
+      counted = counted_more c.args.fanout several level nodes made c.levels.invariant.counted more;
+      course = course_more c.args.fanout several level nodes made _ more c.levels.invariant.course;
+    })
+
+pub returns : goal.returns
+returns c =
+    let made = c.levels.made in
+    let done = λ (last : length made ≤ 1). course_done c.args.fanout c.requires.several c.levels.level c.levels.nodes made
+    (all_nodes c.args.fanout c.args.made) last c.levels.invariant.course in
+    elim c.if-len-eq1.branch [
+      | then-len-eq1+in_ok-push w ↦
+          w.nodes-is ∙ w.in_ok-push.ensures
+          ∙ ap (λ l. c.levels.nodes ++ l) (sym (one_node made w.get.result (omega (arith, c.len-2.ensures, w.if-len-eq1.true))
+          w.get.ensures)) ∙ done (omega (arith, c.len-2.ensures, w.if-len-eq1.true))
+      | else-len-eq1 w ↦
+          let none : length made ≡ 0 = omega (arith, c.len-2.ensures, c.len.ensures, w.if-len-eq1.false, c.levels-test.false) in
+          w.nodes-is ∙ sym (append-nil c.levels.nodes) ∙ ap (λ l. c.levels.nodes ++ l) (sym (nil_from_length made none))
+          ∙ done (omega (arith, none))
+    ]

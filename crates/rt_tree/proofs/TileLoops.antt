@@ -1,0 +1,229 @@
+-- The loops that put items behind those that are packed, and make the nodes over them.
+use Rattle.std.proofs.Common.{◌≡◌, ◌<◌, ◌≤◌, ◌+◌, ◌-◌, ◌^◌, ℕ, suc, Ordering, Some, List, [], ◌∷◌, ◌++◌}
+use Rattle.std.proofs.Common.{length, map, take, drop}
+use Rattle.std.proofs.Common.{get_or, slice_get, min, refl, sym, ◌∙◌, ap, subst, arith, append_assoc, inl, inr}
+use Rattle.std.specs.List.{All, sum_by}
+use Rattle.std.proofs.Math.Seq.{drop-append_seam, take-append_seam}
+use Rattle.std.proofs.lemmas.List.{append-nil, get_or-drop, length-append, length-drop, length-map, length-take}
+use Rattle.std.proofs.lemmas.List.{map-append, take-append-drop, take_all, take_more}
+use Rattle.std.proofs.lemmas.List.Elements.{All-drop, All-take, filter_map-append}
+use Rattle.std.proofs.lemmas.List.Sorted.{IsPermutation-trans, length_permutation, sum_by-IsPermutation}
+use Rattle.std.proofs.lemmas.List.Sums.{sum_by-append}
+use Rattle.std.proofs.lemmas.Option.{slice_get_cases}
+use Rattle.rt_geo.specs.Boxes.{Rect, hull}
+use Rattle.rt_geo.specs.Layers.{no_layers, union}
+use Rattle.rt_geo.specs.Laws.{Extent}
+use Rattle.rt_geo.specs.declared.layers.Layers.{Layers}
+use Rattle.rt_tree.specs.Packed.{no_box}
+use Rattle.rt_tree.specs.Packing.{chunks, groups, joined, node_over, nodes_over}
+use Rattle.rt_tree.specs.SortKeys.{ArePackable, place_of, told}
+use Rattle.rt_tree.specs.declared.tree.Node.{Node}
+use Rattle.rt_tree.proofs.ChunkLemmas.{chunks-front, chunks-nil}
+use Rattle.rt_tree.proofs.LoopLemmas.{reduced, reduced-push}
+use Rattle.rt_tree.proofs.TileLemmas.{groups-chunks, groups-moved}
+
+-- a node with the children of another behind its own
+abbrev pub with_children : (node behind : Node) → Node
+with_children node behind = record node {
+  layers = union node.layers behind.layers;
+  bounds = hull node.bounds behind.bounds;
+  size = node.size + behind.size;
+  count = node.count + behind.count;
+}
+
+same_node : (k l : Layers) (a b : Rect) (first level m n i j : ℕ) → k ≡ l → a ≡ b → m ≡ n → i ≡ j → ◌≡◌ {A = Node}
+    (record { layers = k; bounds = a; first = first; size = m; count = i; level = level })
+    (record { layers = l; bounds = b; first = first; size = n; count = j; level = level })
+same_node k l a b first level m n i j p q r s = rw (p, q, r, s) refl
+
+-- ---- the items that keys tell
+
+module _ {X : Type 0} (items : List X) where
+  -- a key tells an item
+  abbrev pub Tells : ℕ → Type 0
+  Tells key = place_of key < length items
+
+  pub told-append : (keys more : List ℕ) → told items (keys ++ more) ≡ told items keys ++ told items more
+  told-append keys more = filter_map-append (λ key. slice_get items (place_of key)) keys more
+
+  one_told : (key : ℕ) → Tells key → length (told items (key ∷ [])) ≡ 1
+  one_told key tells = elim (slice_get_cases items (place_of key)).1 [
+    | inl h ↦ rw h.2 refl
+    | inr h ↦ absurd (omega (arith, tells, h.0))
+  ]
+
+  -- as many as keys
+  pub length-told : (keys : List ℕ) → All Tells keys → length (told items keys) ≡ length keys
+  length-told [] tell = refl
+  length-told (key ∷ keys) tell =
+      ap length (told-append (key ∷ []) keys) ∙ length-append (told items (key ∷ [])) (told items keys)
+      ∙ ap (λ n. n + length (told items keys)) (one_told key (tell 0 0 (omega arith)))
+      ∙ ap (λ n. 1 + n) (length-told keys (λ k d h. tell (suc k) d (omega (arith, h)))) ∙ omega arith
+
+  -- with one key more
+  pub told_next : (keys : List ℕ) (i : ℕ) (x : X) → i < length keys → slice_get items (place_of (get_or keys i 0)) ≡ Some x
+      → told items (take (i + 1) keys) ≡ told items (take i keys) ++ x ∷ []
+  told_next keys i x there is = ap (told items) (take_more keys i 0 there) ∙ told-append (take i keys) (get_or keys i 0 ∷ [])
+      ∙ rw is refl
+
+  -- what the first of them weigh with the next
+  pub told-weight : (size : X → ℕ) (keys : List ℕ) (i : ℕ) (x : X) → i < length keys
+      → slice_get items (place_of (get_or keys i 0)) ≡ Some x
+      → sum_by size (told items (take i keys)) + size x ≤ sum_by size (told items keys)
+  told-weight size keys i x there is =
+      let front = take (i + 1) keys in
+      let whole : sum_by size (told items keys) ≡ sum_by size (told items front) + sum_by size
+      (told items (drop (i + 1) keys)) = ap (λ ks. sum_by size (told items ks)) (sym (take-append-drop (i + 1) keys))
+      ∙ ap (sum_by size) (told-append front (drop (i + 1) keys))
+      ∙ sum_by-append size (told items front) (told items (drop (i + 1) keys)) in
+      let next : sum_by size (told items front) ≡ sum_by size (told items (take i keys)) + size x =
+      ap (sum_by size) (told_next keys i x there is) ∙ sum_by-append size (told items (take i keys)) (x ∷ [])
+      ∙ ap (λ n. sum_by size (told items (take i keys)) + n) (omega arith) in
+      omega (arith, whole, next)
+
+  module _ (extent : X → Extent) (size : X → ℕ) (level first : ℕ) where
+    -- ---- the loop over a tile
+
+    -- the items that the first keys tell are packed behind those before, and the node is the one over them
+    pub record IsTilePart (before packed : List X) (keys : List ℕ) (node : Node) : Type 0 where
+      pub long : length (told items keys) ≡ length keys
+      pub packed_is : packed ≡ before ++ told items keys
+      pub node_is : node ≡ node_over extent size level first (told items keys)
+
+    node_over-push : (group : List X) (x : X) (other : ℕ) → 0 < length group
+        → with_children (node_over extent size level first group) (node_over extent size level other (x ∷ []))
+        ≡ node_over extent size level first (group ++ x ∷ [])
+    node_over-push group x other some =
+        let layers = λ (y : X). (extent y).layers in
+        let box = λ (y : X). (extent y).bounds in
+        sym (same_node _ _ _ _ first level _ _ _ _
+        (ap (reduced union no_layers) (map-append layers group (x ∷ []))
+        ∙ reduced-push union no_layers (map layers group) (layers x) (omega (arith, some, length-map group layers)))
+        (ap (reduced hull no_box) (map-append box group (x ∷ []))
+        ∙ reduced-push hull no_box (map box group) (box x) (omega (arith, some, length-map group box)))
+        (sum_by-append size group (x ∷ [])) (length-append group (x ∷ [])))
+
+    pub tile_more : (before packed packed' : List X) (keys : List ℕ) (i : ℕ) (x : X) (node node' : Node) (other : ℕ)
+        → i + 1 < length keys → slice_get items (place_of (get_or keys (i + 1) 0)) ≡ Some x
+        → packed' ≡ packed ++ x ∷ [] → node' ≡ with_children node (node_over extent size level other (x ∷ []))
+        → IsTilePart before packed (take (i + 1) keys) node → IsTilePart before packed' (take (i + 1 + 1) keys) node'
+    tile_more before packed packed' keys i x node node' other there is packed_is node_is part =
+        let group = told items (take (i + 1) keys) in
+        let next : told items (take (i + 1 + 1) keys) ≡ group ++ x ∷ [] = told_next keys (i + 1) x there is in
+        let long = length-take (i + 1) keys in
+        record {
+          long = omega (
+            arith,
+            ap length next,
+            length-append group (x ∷ []),
+            part.long,
+            long,
+            length-take (i + 1 + 1) keys,
+            there,
+          );
+          packed_is = packed_is ∙ ap (λ l. l ++ x ∷ []) part.packed_is ∙ append_assoc before group (x ∷ [])
+              ∙ ap (λ l. before ++ l) (sym next);
+          node_is = node_is ∙ ap (λ n. with_children n (node_over extent size level other (x ∷ []))) part.node_is
+              ∙ node_over-push group x other (omega (arith, part.long, long, there))
+              ∙ ap (node_over extent size level first) (sym next);
+        }
+
+-- the key at a place behind the first
+pub key_behind : (keys : List ℕ) (i : ℕ) → i < length keys - 1
+    → get_or (take (length keys - 1) (drop 1 keys)) i 0 ≡ get_or keys (i + 1) 0
+key_behind keys i h =
+    ap (λ l. get_or l i 0) (take_all (length keys - 1) (drop 1 keys) (omega (arith, length-drop 1 keys)))
+    ∙ get_or-drop 1 keys i 0 ∙ ap (λ n. get_or keys n 0) (omega arith)
+
+-- ---- the loop over tiles
+
+All-front : {X : Type 0} (P : X → Type 0) (front behind : List X) → All P (front ++ behind) → All P front
+All-front P front behind all = subst (All P) (take-append_seam front behind) (All-take P (length front) (front ++ behind) all)
+
+All-behind : {X : Type 0} (P : X → Type 0) (front behind : List X) → All P (front ++ behind) → All P behind
+All-behind P front behind all =
+    subst (All P) (drop-append_seam front behind) (All-drop P (length front) (front ++ behind) all)
+
+module _ {X : Type 0} (items : List X) (extent : X → Extent) (size : X → ℕ) (level fanout : ℕ) where
+  -- the items of the first keys are packed, and the nodes over them made: those of the later keys are still to come
+  pub record IsLevelPart (all_packed : List X) (all_nodes : List Node) (packed : List X) (nodes : List Node)
+      (later : List ℕ) : Type 0 where
+    pub tell : All (Tells items) later
+    pub weight : sum_by size (told items later) < 2 ^ 32
+    pub room : length packed + length later < 2 ^ 32
+    pub packed_are : packed ++ told items later ≡ all_packed
+    pub nodes_are : nodes ++ nodes_over extent size level (length packed) (chunks fanout (told items later)) ≡ all_nodes
+
+  -- before the first tile
+  pub level_first : (box : X → Rect) (has_layers : X → Type 0) (order : ℕ → ℕ → Ordering) (in_order packed : List X)
+      (keys : List ℕ) → ArePackable box has_layers size order in_order items → 2 ≤ fanout
+      → told items keys ≡ joined (groups box fanout in_order) → All (Tells items) keys
+      → length packed + length items < 2 ^ 32
+      → IsLevelPart (packed ++ joined (groups box fanout in_order)) (nodes_over extent size level (length packed)
+      (groups box fanout in_order)) packed [] keys
+  level_first box has_layers order in_order packed keys packable several are tell room =
+      let ordered = joined (groups box fanout in_order) in
+      let moved = IsPermutation-trans _ _ _ packable.moved (groups-moved box fanout in_order several) in
+      record {
+        tell = tell;
+        weight = omega (arith, ap (sum_by size) are, sum_by-IsPermutation size items ordered moved, packable.weight);
+        room = omega (arith, ap length are, length-told items keys tell, length_permutation items ordered moved, room);
+        packed_are = ap (λ l. packed ++ l) are;
+        nodes_are = ap (nodes_over extent size level (length packed)) (ap (chunks fanout) are
+            ∙ sym (groups-chunks box in_order fanout (omega arith)));
+      }
+
+  -- what is asked of the next tile
+  pub next_tile : (all_packed : List X) (all_nodes : List Node) (packed : List X) (nodes : List Node)
+      (keys tile later : List ℕ) → IsLevelPart all_packed all_nodes packed nodes keys → keys ≡ tile ++ later
+      → All (Tells items) tile × (sum_by size (told items tile) < 2 ^ 32)
+  next_tile all_packed all_nodes packed nodes keys tile later part is = (
+    All-front (Tells items) tile later (subst (All (Tells items)) is part.tell),
+    omega (
+      arith,
+      part.weight,
+      ap (λ ks. sum_by size (told items ks)) is,
+      ap (sum_by size) (told-append items tile later),
+      sum_by-append size (told items tile) (told items later),
+    ),
+  )
+
+  pub level_more : (all_packed : List X) (all_nodes : List Node) (packed packed' : List X) (nodes nodes' : List Node)
+      (keys tile later : List ℕ) (node : Node) → 0 < fanout → IsLevelPart all_packed all_nodes packed nodes keys
+      → keys ≡ tile ++ later → length tile ≡ min fanout (length keys) → 0 < length keys
+      → packed' ≡ packed ++ told items tile → node ≡ node_over extent size level (length packed) (told items tile)
+      → nodes' ≡ nodes ++ node ∷ [] → IsLevelPart all_packed all_nodes packed' nodes' later
+  level_more all_packed all_nodes packed packed' nodes nodes' keys tile later node some part is long there packed_is node_is
+      nodes_is =
+      let all = subst (All (Tells items)) is part.tell in
+      let here = All-front (Tells items) tile later all in
+      let behind = All-behind (Tells items) tile later all in
+      let group = told items tile in
+      let rest = told items later in
+      let whole : told items keys ≡ group ++ rest = ap (told items) is ∙ told-append items tile later in
+      let count = length-told items tile here in
+      let count_all : length (group ++ rest) ≡ length keys = ap length (sym whole)
+      ∙ length-told items keys part.tell in
+      let cut : chunks fanout (told items keys) ≡ group ∷ chunks fanout rest = ap (chunks fanout) whole
+      ∙ chunks-front fanout group rest some (omega (arith, count, long, there, some))
+      (count ∙ long ∙ ap (min fanout) (sym count_all)) in
+      let next : length packed' ≡ length packed + length group = ap length packed_is ∙ length-append packed group in
+      record {
+        tell = behind;
+        weight = omega (arith, part.weight, ap (sum_by size) whole, sum_by-append size group rest);
+        room = omega (arith, part.room, next, count, ap length is, length-append tile later);
+        packed_are = ap (λ l. l ++ rest) packed_is ∙ append_assoc packed group rest
+            ∙ ap (λ l. packed ++ l) (sym whole) ∙ part.packed_are;
+        nodes_are = ap (λ n. nodes' ++ nodes_over extent size level n (chunks fanout rest)) next
+            ∙ ap (λ l. l ++ nodes_over extent size level (length packed + length group) (chunks fanout rest)) nodes_is
+            ∙ append_assoc nodes (node ∷ []) (nodes_over extent size level (length packed + length group) (chunks fanout rest))
+            ∙ ap (λ n. nodes ++ n ∷ nodes_over extent size level (length packed + length group) (chunks fanout rest)) node_is
+            ∙ ap (λ gs. nodes ++ nodes_over extent size level (length packed) gs) (sym cut) ∙ part.nodes_are;
+      }
+
+  -- without later keys all nodes are made
+  pub level_done : (all_packed : List X) (all_nodes : List Node) (packed : List X) (nodes : List Node) (later : List ℕ)
+      → length later ≡ 0 → IsLevelPart all_packed all_nodes packed nodes later → nodes ≡ all_nodes
+  level_done all_packed all_nodes packed nodes [] none part = sym (append-nil nodes)
+      ∙ ap (λ gs. nodes ++ nodes_over extent size level (length packed) gs) (sym (chunks-nil fanout)) ∙ part.nodes_are
+  level_done all_packed all_nodes packed nodes (key ∷ later) none part = absurd (omega (arith, none))
