@@ -102,10 +102,9 @@ impl Frontier {
     pub(crate) fn gather<G: Geometry>(&mut self, tree: &Tree, counted: &mut Counted<'_, G>) -> u64
         requires capacity { length tree.now.entries ≤ self.old.capacity }
         requires asked { counted.old.asked ≡ 0 }
-        ensures answers { let g = counted.old.geometry in remaining tree.now (G.meaning g) self.new.hits
-            ≡ answers tree.now.entries (G.meaning g) None }
-        ensures worked { let g = counted.old.geometry in
-            HasWorked (G.meaning g) tree.now None result counted.new.asked }
+        ensures answers { let meaning = G.meaning counted.old.geometry in
+            remaining tree.now meaning self.new.hits ≡ answers tree.now.entries meaning None }
+        ensures worked { HasWorked (G.meaning counted.old.geometry) tree.now None result counted.new.asked }
         ensures none_waits { self.new.items ≡ [] }
         ensures few { length self.new.hits ≤ length tree.now.entries }
         ensures capacity { self.new.capacity ≡ self.old.capacity }

@@ -48,12 +48,10 @@ impl<'a, G: Geometry> FullSearch<'a, G> {
     pub fn start(tree: &'a Tree, frontier: Frontier, counted: Counted<'a, G>) -> FullSearch<'a, G>
         requires capacity { length tree.now.entries ≤ frontier.capacity }
         requires asked { counted.asked ≡ 0 }
-        ensures to_come { let g = counted.entry.geometry in
-            result.to_come ≡ answers tree.now.entries (G.meaning g) None }
+        ensures to_come { result.to_come ≡ answers tree.now.entries (G.meaning counted.entry.geometry) None }
 
         // The work is that of a search without a limit.
-        ensures worked { let g = counted.entry.geometry in
-            HasWorked (G.meaning g) tree.now None result.opened result.asked }
+        ensures worked { HasWorked (G.meaning counted.entry.geometry) tree.now None result.opened result.asked }
 
         ensures tree { result.tree ≡ tree.now }
         ensures geometry { result.geometry ≡ counted.entry.geometry }

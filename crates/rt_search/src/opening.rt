@@ -38,13 +38,13 @@ pub(crate) fn open_node<G: Geometry>(
     taken: ScoredNode,
 )
     requires sound { IsSound tree.now }
-    requires node { let g = counted.old.geometry in
-        IsOpenable tree.now (G.meaning g) taken.node.number.number (verdict_on taken.score taken.node) }
+    requires node { IsOpenable tree.now (G.meaning counted.old.geometry) taken.node.number.number
+        (verdict_on taken.score taken.node) }
     requires room { length frontier.old.items + (node_at tree.now taken.node.number.number).count
         ≤ frontier.old.capacity }
     requires asked { counted.old.asked + (node_at tree.now taken.node.number.number).count ≤ 2 ^ 32 }
-    ensures children { let g = counted.old.geometry in KeepsEnough
-        (join_children (G.meaning g) tree.now taken.score taken.node frontier.old.items)
+    ensures children { let meaning = G.meaning counted.old.geometry in
+        KeepsEnough (join_children meaning tree.now taken.score taken.node frontier.old.items)
         (limited frontier.old) (limited frontier.new) }
     ensures asked { counted.new.asked ≡ counted.old.asked + (node_at tree.now taken.node.number.number).count }
     ensures geometry { counted.new.geometry ≡ counted.old.geometry }
@@ -89,8 +89,8 @@ fn ask_node<G: Geometry>(
     requires honest { IsHonest (G.meaning counted.old.geometry).accepts info.now }
     requires room { length frontier.old.items < frontier.old.capacity }
     requires asked { counted.old.asked < 2 ^ 64 - 1 }
-    ensures node { KeepsEnough (join_node ((G.meaning counted.old.geometry).verdict info.now) number.number frontier.old.items)
-        (limited frontier.old) (limited frontier.new) }
+    ensures node { let verdict = (G.meaning counted.old.geometry).verdict info.now in
+        KeepsEnough (join_node verdict number.number frontier.old.items) (limited frontier.old) (limited frontier.new) }
     ensures geometry { counted.new.geometry ≡ counted.old.geometry }
     ensures asked { counted.new.asked ≡ counted.old.asked + 1 }
 {

@@ -23,16 +23,14 @@ fn pull<G: Geometry>(
 ) -> Option<(i64, u128)>
     requires more { frontier.old.wanted ≢ Some 0 }
     requires capacity { length tree.now.entries ≤ frontier.old.capacity }
-    requires state { let g = counted.old.geometry in (to_come : List Answer) ×
-        IsUnderWay (G.meaning g) tree.now opened.old counted.old.asked frontier.old.wanted
-        to_come frontier.old.items }
-    ensures step { let g = counted.old.geometry in (to_come : List Answer) →
-        IsUnderWay (G.meaning g) tree.now opened.old counted.old.asked frontier.old.wanted
-        to_come frontier.old.items → MatchOption result
-        (IsOver (G.meaning g) tree.now opened.new counted.new.asked frontier.new.wanted
-        to_come frontier.new.items)
-        (λ a. IsFound (G.meaning g) tree.now opened.new counted.new.asked frontier.new.wanted
-        to_come a frontier.new.items) }
+    requires state { let meaning = G.meaning counted.old.geometry in (to_come : List Answer) ×
+        IsUnderWay meaning tree.now opened.old counted.old.asked frontier.old.wanted to_come frontier.old.items }
+    ensures step { let meaning = G.meaning counted.old.geometry in (to_come : List Answer) →
+        IsUnderWay meaning tree.now opened.old counted.old.asked frontier.old.wanted to_come frontier.old.items
+        → MatchOption result
+        (IsOver meaning tree.now opened.new counted.new.asked frontier.new.wanted to_come frontier.new.items)
+        (λ a. IsFound meaning tree.now opened.new counted.new.asked frontier.new.wanted to_come a
+        frontier.new.items) }
     ensures wanted { MatchOption result (frontier.new.wanted ≡ frontier.old.wanted)
         (λ _. frontier.new.wanted ≡ one_less frontier.old.wanted) }
     ensures capacity { frontier.new.capacity ≡ frontier.old.capacity }
@@ -80,9 +78,8 @@ impl<'a, G: Geometry> Model for Search<'a, G> {
       capacity = s.frontier.capacity;
     } };
 
-    ghost invariant = { λ s. let g = s.counted.geometry in
-        IsGiving (G.meaning g) s.tree.now s.limit s.given s.opened s.counted.asked
-        s.frontier.capacity s.frontier.wanted s.frontier.items };
+    ghost invariant = { λ s. IsGiving (G.meaning s.counted.geometry) s.tree.now s.limit s.given s.opened
+        s.counted.asked s.frontier.capacity s.frontier.wanted s.frontier.items };
 }
 
 impl<'a, G: Geometry> Search<'a, G> {
@@ -96,8 +93,7 @@ impl<'a, G: Geometry> Search<'a, G> {
     ) -> Search<'a, G>
         requires capacity { length tree.now.entries ≤ frontier.capacity }
         requires asked { counted.asked ≡ 0 }
-        ensures to_come { let g = counted.entry.geometry in
-            result.to_come ≡ answers tree.now.entries (G.meaning g) limit }
+        ensures to_come { result.to_come ≡ answers tree.now.entries (G.meaning counted.entry.geometry) limit }
         ensures limit { result.limit ≡ limit }
         ensures given { result.given ≡ 0 }
         ensures opened { result.opened ≡ 0 }
@@ -132,14 +128,12 @@ impl<'a, G: Geometry> Search<'a, G> {
         requires capacity { length tree.now.entries ≤ frontier.capacity }
         requires asked { counted.asked ≡ 0 }
         requires unscored { IsUnscored (G.meaning counted.geometry) }
-        ensures to_come { let g = counted.entry.geometry in
-            result.to_come ≡ answers tree.now.entries (G.meaning g) limit }
+        ensures to_come { result.to_come ≡ answers tree.now.entries (G.meaning counted.entry.geometry) limit }
         ensures limit { result.limit ≡ limit }
         ensures given { result.given ≡ 0 }
 
         // The work is done: it is that of a search for so many answers.
-        ensures worked { let g = counted.entry.geometry in
-            HasWorked (G.meaning g) tree.now limit result.opened result.asked }
+        ensures worked { HasWorked (G.meaning counted.entry.geometry) tree.now limit result.opened result.asked }
 
         ensures tree { result.tree ≡ tree.now }
         ensures geometry { result.geometry ≡ counted.entry.geometry }
@@ -172,11 +166,9 @@ impl<'a, G: Geometry> Search<'a, G> {
 
         // After an answer the work is that of a search for so many answers, and once `None` is returned that of the
         // whole search.
-        ensures worked { let g = self.old.geometry in
-            IfSome result (λ _. HasWorked (G.meaning g) self.old.tree (Some self.new.given)
-            self.new.opened self.new.asked) }
-        ensures worked_in_all { let g = self.old.geometry in
-            IfNone result (HasWorked (G.meaning g) self.old.tree self.old.limit
+        ensures worked { IfSome result (λ _. HasWorked (G.meaning self.old.geometry) self.old.tree
+            (Some self.new.given) self.new.opened self.new.asked) }
+        ensures worked_in_all { IfNone result (HasWorked (G.meaning self.old.geometry) self.old.tree self.old.limit
             self.new.opened self.new.asked) }
 
         ensures limit { self.new.limit ≡ self.old.limit }
