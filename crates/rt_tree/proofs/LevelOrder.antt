@@ -11,8 +11,7 @@ use Rattle.std.proofs.lemmas.List.{length-replicate, map-append}
 use Rattle.std.proofs.lemmas.List.Sorted.{length_permutation}
 use Rattle.rt_geo.specs.Laws.{Extent}
 use Rattle.rt_tree.specs.Levels.{level_sizes, sizes_above}
-use Rattle.rt_tree.specs.Packed.{level_by_level, no_node}
-use Rattle.rt_tree.specs.Packed.{extent_of_node}
+use Rattle.rt_tree.specs.Packed.{extent_of_node, no_node}
 use Rattle.rt_tree.specs.Packing.{joined, nodes_from, nodes_over}
 use Rattle.rt_tree.specs.declared.tree.Node.{Node}
 use Rattle.rt_tree.proofs.ChunkLemmas.{le_or_lt}
@@ -22,6 +21,11 @@ use Rattle.rt_tree.proofs.PackCounts.{above, cut, fewer, length-above, nodes_fro
 use Rattle.rt_tree.proofs.TileLemmas.{groups-IsPermutation}
 
 -- ---- level by level
+
+-- the levels of so many nodes each, from one level on
+abbrev pub level_by_level : (level : ℕ) → (sizes : List ℕ) → List ℕ
+level_by_level level [] = []
+level_by_level level (size ∷ sizes) = replicate size level ++ level_by_level (level + 1) sizes
 
 -- nodes of one level
 abbrev pub AreOn : ℕ → List Node → Type 0

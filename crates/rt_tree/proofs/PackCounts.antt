@@ -12,12 +12,20 @@ use Rattle.rt_geo.specs.Boxes.{Rect}
 use Rattle.rt_geo.specs.Laws.{Extent, extent_of_entry}
 use Rattle.rt_geo.specs.declared.entry.Entry.{Entry}
 use Rattle.rt_tree.specs.Packed.{extent_of_node}
-use Rattle.rt_tree.specs.Packing.{groups, joined, leaf_nodes, node_over, nodes_from, nodes_over}
+use Rattle.rt_tree.specs.Packing.{groups, joined, node_over, nodes_from, nodes_over}
 use Rattle.rt_tree.specs.declared.tree.Node.{Node}
 use Rattle.rt_tree.proofs.ChunkLemmas.{le_or_lt, length-chunks}
 use Rattle.rt_tree.proofs.LevelLemmas.{div_ceil-halves}
 use Rattle.rt_tree.proofs.Soundness.{length-nodes_over, sum_by-ones}
 use Rattle.rt_tree.proofs.TileLemmas.{groups-IsPermutation, groups-chunks, groups-moved}
+
+-- the nodes of level 1, over groups of entries
+abbrev pub leaf_nodes : List (List Entry) → List Node
+leaf_nodes = nodes_over extent_of_entry (λ _. 1) 1 0
+
+-- the nodes of all levels, over those of level 1
+abbrev pub all_nodes : (fanout : ℕ) → List Node → List Node
+all_nodes fanout nodes = nodes_from (length nodes) fanout 1 0 nodes
 
 -- ---- one level
 

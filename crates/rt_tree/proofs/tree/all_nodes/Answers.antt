@@ -1,9 +1,8 @@
 use Rattle.std.proofs.Common.{◌≡◌, ◌<◌, ◌≤◌, ◌-◌, ◌++◌, ◌∷◌, ◌∙◌, [], List, Some, ap, arith, length, slice_get, sym}
 use Rattle.std.proofs.lemmas.List.{append-nil, nil_from_length}
 use Rattle.std.proofs.lemmas.Option.{get_or_from_slice_get}
-use Rattle.rt_tree.specs.Packing.{all_nodes}
 use Rattle.rt_tree.specs.declared.tree.Node.{Node}
-use Rattle.rt_tree.proofs.PackCounts.{counted_more, course_done, course_more, fewer}
+use Rattle.rt_tree.proofs.PackCounts.{all_nodes, counted_more, course_done, course_more, fewer}
 use Rattle.rt_tree.proofs.Packable.{nodes_packable}
 use Rattle.rt_tree.proofs.tree.all_nodes.Goals as goal
 use Rattle.rt_tree.proofs.tree.all_nodes.Goals.{then-len-eq1+in_ok-push, else-len-eq1}
