@@ -1,6 +1,6 @@
 -- The tree that is packed over a table is sound.
 use Rattle.std.proofs.Common.{◌≡◌, ◌<◌, ◌≤◌, ◌+◌, ◌-◌, ◌^◌, ℕ, zero, suc, List, [], ◌∷◌, ◌++◌, length, map}
-use Rattle.std.proofs.Common.{filter, ◌==◌, drop, get_or, refl, sym, ◌∙◌, ap, subst, arith, add-one, append_assoc}
+use Rattle.std.proofs.Common.{filter, ◌==◌, drop, get_or, refl, sym, ◌∙◌, ap, subst, arith}
 use Rattle.std.proofs.Common.{inl, inr, length-append, IsPermutation, slice_get, Some}
 use Rattle.std.specs.Int.{div_ceil}
 use Rattle.std.specs.List.{AllByRecursion, flat_map}
@@ -27,8 +27,8 @@ use Rattle.rt_tree.proofs.Children.{AreOnce, all_child_entries, all_child_entrie
 use Rattle.rt_tree.proofs.Children.{nodes_once, once_first, once_more}
 use Rattle.rt_tree.proofs.ChunkLemmas.{chunks-size, le_or_lt}
 use Rattle.rt_tree.proofs.OrderLemmas.{all_append, all_moved, flat_map-IsPermutation}
-use Rattle.rt_tree.proofs.PackCounts.{IsCounted, all_nodes, counted_first, counted_more, cut, fewer, leaf_nodes-few, length-above}
-use Rattle.rt_tree.proofs.PackCounts.{length-groups, nodes_from-last, nodes_from-more}
+use Rattle.rt_tree.proofs.PackCounts.{IsCounted, above, all_nodes, counted_first, counted_more, course, cut, fewer}
+use Rattle.rt_tree.proofs.PackCounts.{leaf_nodes-few, length-groups, nodes_from-last, some_above}
 use Rattle.rt_tree.proofs.LoopLemmas.{get_or_behind}
 use Rattle.rt_tree.proofs.LevelLemmas.{div_ceil-positive}
 use Rattle.rt_tree.proofs.LevelOrder.{last_node-top, level_by_level, nodes_from-levels, nodes_over-AreOn, sizes_from}
@@ -147,54 +147,6 @@ module _ (fanout : ℕ) (several : 2 ≤ fanout) (es : List Entry) where
         few_nodes = omega (arith, long, c.few_nodes, c.few_levels);
       }
 
-  -- the nodes over those of a level
-  abbrev new_nodes : (h : ℕ) (numbered made : List Node) → List Node
-  new_nodes h numbered made = nodes_over extent_of_node (λ n. n.size) (suc (suc h)) (length numbered)
-      (cut fanout several made)
-
-  -- with one more level numbered, the nodes to come are the same
-  course : (fuel h : ℕ) (numbered made : List Node) → 1 < length made
-      → (numbered ++ joined (cut fanout several made)) ++ nodes_from fuel fanout (suc (suc h)) (length
-      (numbered ++ joined (cut fanout several made))) (new_nodes h numbered made)
-      ≡ numbered ++ nodes_from (suc fuel) fanout (suc h) (length numbered) made
-  course fuel h numbered made some =
-      let ordered = joined (cut fanout several made) in
-      let moved = groups-IsPermutation (λ (n : Node). n.bounds) made fanout several (omega arith) in
-      let long : length (numbered ++ ordered) ≡ length numbered + length made = omega
-      (arith, length-append numbered ordered, length_permutation made ordered moved) in
-      append_assoc numbered ordered (nodes_from fuel fanout (suc (suc h)) (length (numbered ++ ordered))
-      (new_nodes h numbered made))
-      ∙ ap (λ l. numbered ++ l) (ap (λ n. ordered ++ nodes_from fuel fanout (suc (suc h)) n
-      (new_nodes h numbered made)) long
-      ∙ ap (λ k. ordered ++ nodes_from fuel fanout k (length numbered + length made) (nodes_over extent_of_node
-      (λ n. n.size) k (length numbered) (cut fanout several made))) (sym (add-one (suc h)))
-      ∙ sym (nodes_from-more fanout several fuel (suc h) (length numbered) made some))
-
-  few_above : (fuel h : ℕ) (numbered made : List Node) → 1 < length made → length made ≤ suc fuel
-      → length (new_nodes h numbered made) ≤ fuel
-  few_above fuel h numbered made some few =
-      subst (λ k. length (nodes_over extent_of_node (λ n. n.size) k (length numbered)
-      (cut fanout several made)) ≤ fuel) (add-one (suc h)) (fewer fanout several (suc h)
-      (length numbered) fuel made some few)
-
-  some_above : (h : ℕ) (numbered made : List Node) → 0 < length made → 0 < length (new_nodes h numbered made)
-  some_above h numbered made some =
-      subst (λ k. 0 < length (nodes_over extent_of_node (λ n. n.size) k (length numbered)
-      (cut fanout several made))) (add-one (suc h))
-      (omega (
-        arith,
-        length-above fanout several (suc h) (length numbered) made some,
-        div_ceil-positive
-            (length made) fanout several some,
-      ))
-
-  counted_above : (h : ℕ) (numbered made : List Node) → 1 < length made → IsCounted (suc h) numbered made
-      → IsCounted (suc (suc h)) (numbered ++ joined (cut fanout several made)) (new_nodes h numbered made)
-  counted_above h numbered made some c =
-      subst (λ k. IsCounted k (numbered ++ joined (cut fanout several made)) (nodes_over extent_of_node
-      (λ n. n.size) k (length numbered) (cut fanout several made))) (add-one (suc h))
-      (counted_more fanout several (suc h) numbered made c some)
-
   pub sound_from : (fuel h : ℕ) (numbered made : List Node) → length made ≤ fuel → 0 < length made
       → IsBuilt h numbered made → IsCounted (suc h) numbered made
       → IsFinished (numbered ++ nodes_from fuel fanout (suc h) (length numbered) made)
@@ -204,11 +156,12 @@ module _ (fanout : ℕ) (several : 2 ≤ fanout) (es : List Entry) where
       (finished h numbered r b c)
   sound_from zero h numbered (r ∷ s ∷ made) few there b c = absurd (omega (arith, few))
   sound_from (suc fuel) h numbered (r ∷ s ∷ made) few there b c =
-      subst IsFinished (course fuel h numbered (r ∷ s ∷ made) (omega arith))
-      (sound_from fuel (suc h) (numbered ++ joined (cut fanout several (r ∷ s ∷ made))) (new_nodes h numbered
-      (r ∷ s ∷ made))
-      (few_above fuel h numbered (r ∷ s ∷ made) (omega arith) few) (some_above h numbered (r ∷ s ∷ made) there)
-      (climb h numbered (r ∷ s ∷ made) there b) (counted_above h numbered (r ∷ s ∷ made) (omega arith) c))
+      let all = r ∷ s ∷ made in
+      let first = length numbered in
+      subst IsFinished (course fanout several fuel (suc h) numbered all (omega arith))
+      (sound_from fuel (suc h) (numbered ++ joined (cut fanout several all)) (above fanout several (suc h) first all)
+      (fewer fanout several (suc h) first fuel all (omega arith) few) (some_above fanout several (suc h) first all there)
+      (climb h numbered all there b) (counted_more fanout several (suc h) numbered all c (omega arith)))
 
 -- ---- the whole tree
 

@@ -80,9 +80,9 @@ abbrev pub nodes_from : (fuel fanout level first : ℕ) → List Node → List N
 nodes_from zero fanout level first nodes = nodes
 nodes_from (suc fuel) fanout level first nodes =
     let cut = groups (λ n. n.bounds) fanout nodes in
-    let above = nodes_over extent_of_node (λ n. n.size) (level + 1) first cut in
+    let above = nodes_over extent_of_node (λ n. n.size) (suc level) first cut in
     if nat_le (length nodes) 1 then nodes
-    else joined cut ++ nodes_from fuel fanout (level + 1) (first + length nodes) above
+    else joined cut ++ nodes_from fuel fanout (suc level) (first + length nodes) above
 
 -- ---- the tree
 
