@@ -10,13 +10,21 @@ use Rattle.std.proofs.lemmas.List.Sorted.{IsPermutation-append, IsPermutation-ap
 use Rattle.std.proofs.lemmas.List.Sorted.{IsPermutation-refl, IsPermutation-sym, IsPermutation-to_front}
 use Rattle.std.proofs.lemmas.List.Sorted.{IsPermutation-trans}
 use Rattle.rt_geo.specs.declared.entry.Entry.{Entry}
-use Rattle.rt_tree.specs.Packed.{Packed, IsSubtree, all_child_entries, all_child_nodes, child_entries, child_nodes}
+use Rattle.rt_tree.specs.Packed.{Packed, IsSubtree, child_entries, child_nodes}
 use Rattle.rt_tree.specs.Packed.{extent_of_node}
 use Rattle.rt_tree.specs.Packing.{joined, nodes_over}
 use Rattle.rt_tree.specs.declared.tree.Node.{Node}
 use Rattle.rt_tree.proofs.LevelOrder.{AreOn}
 use Rattle.rt_tree.proofs.OrderLemmas.{flat_map-IsPermutation, flat_map-same}
 use Rattle.rt_tree.proofs.Soundness.{children_more, group_at, inner-range, tree}
+
+-- the nodes right under all nodes above level 1
+abbrev pub all_child_nodes : Packed → List Node
+all_child_nodes t = flat_map (child_nodes t) (filter (λ n. nat_lt 1 n.level) t.nodes)
+
+-- the entries right under all nodes of level 1
+abbrev pub all_child_entries : Packed → List Entry
+all_child_entries t = flat_map (child_entries t) (filter (λ n. n.level == 1) t.nodes)
 
 -- what a function gives of the elements that pass a test
 passing : {X Y : Type 0} (f : X → List Y) (p : X → Bool) (xs : List X)

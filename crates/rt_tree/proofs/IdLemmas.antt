@@ -1,8 +1,8 @@
 -- Ids in order, and ids in two parts.
-use Rattle.std.proofs.Common.{◌≡◌, ◌∙◌, ◌<◌, ◌+◌, ◌-◌, ℕ, zero, suc, ℤ, pos, ◌<ℤ◌, ◌≤ℤ◌, ◌≤◌, Bool, true, false, ◌||◌, List, [], ◌∷◌, length, get_or, refl, sym, ap, arith, Result, Ok, Err, inl, inr}
-use Rattle.std.specs.Prelude.{is_ok}
+use Rattle.std.proofs.Common.{◌≡◌, ◌∙◌, ◌<◌, ◌+◌, ℕ, zero, suc, ℤ, pos, Bool, true, false, ◌||◌, List, [], ◌∷◌, length, get_or, refl, sym, ap, arith, Result, Ok, Err, inl, inr}
+use Rattle.std.specs.Prelude.{◌↔◌, int_lt, is_ok}
 use Rattle.std.specs.BTreeSet.{BTreeSet, contains}
-use Rattle.std.specs.List.{AllByRecursion, IsDistinct, list_any}
+use Rattle.std.specs.List.{AllByRecursion, IsAllAdjacentAnswer, IsDistinct, list_any}
 use Rattle.std.specs.List.Sorted.{IsBinarySearchResult, IsPermutation, IsSearchInRange, IsSorted, IsStrictlySortedBy}
 use Rattle.std.specs.Ordering.{eq_by_cmp, int_cmp, int_eq}
 use Rattle.std.specs.declared.cmp.Ordering.TheVariants.{Less, Equal, Greater}
@@ -84,28 +84,21 @@ ids_are-sorted entries ids sorted none same moved empty id =
 
 -- ---- each is above the one before it
 
-pub one_more : (ids : List ℤ) (place : ℕ) → 1 ≤ place → ((k : ℕ) → k + 1 < place → int_cmp (get_or ids k (pos 0)) (get_or ids (k + 1) (pos 0)) ≡ Less)
-    → get_or ids (place - 1) (pos 0) <ℤ get_or ids place (pos 0) → (k : ℕ) → k + 1 < place + 1 → int_cmp (get_or ids k (pos 0)) (get_or ids (k + 1) (pos 0)) ≡ Less
-one_more ids place positive before above k h = elim (cases_lt (k + 1) place) [
-  | inl less ↦ before k less
-  | inr last ↦ at_end (omega arith) (omega arith)
-]
+pub rising-is : (ids : List ℤ) (answer : Bool) → IsAllAdjacentAnswer (λ x y b. b ≡ int_lt x y) ids answer
+    → (answer ≡ true) ↔ IsStrictlySortedBy int_cmp ids
+rising-is ids true all = (
+  (λ _. sorted_from_all_adjacent int_cmp_total ids (pos 0) (λ k h. below (get_or ids k (pos 0)) (get_or ids (k + 1) (pos 0))
+      (all k (pos 0) h))),
+  (λ _. refl),
+)
   where
-    below : (a b : ℤ) → a <ℤ b → int_cmp a b ≡ Less
+    below : (a b : ℤ) → true ≡ int_lt a b → int_cmp a b ≡ Less
     below a b h = grind (arith, ints)
-
-    at_end : k ≡ place - 1 → k + 1 ≡ place → int_cmp (get_or ids k (pos 0)) (get_or ids (k + 1) (pos 0)) ≡ Less
-    at_end e f = rw (f, e) (below (get_or ids (place - 1) (pos 0)) (get_or ids place (pos 0)) above)
-
-pub rising_all : (ids : List ℤ) (place : ℕ) → length ids ≤ place → ((k : ℕ) → k + 1 < place → int_cmp (get_or ids k (pos 0)) (get_or ids (k + 1) (pos 0)) ≡ Less)
-    → IsStrictlySortedBy int_cmp ids
-rising_all ids place over each = sorted_from_all_adjacent int_cmp_total ids (pos 0) (λ k h. each k (omega (arith, h)))
-
--- one that isn't
-pub rising-none : (ids : List ℤ) (place : ℕ) → 1 ≤ place → place < length ids → get_or ids place (pos 0) ≤ℤ get_or ids (place - 1) (pos 0)
-    → IsStrictlySortedBy int_cmp ids → ⊥
-rising-none ids place positive there above rising =
-    never (get_or ids (place - 1) (pos 0)) (get_or ids place (pos 0)) (Less-from_sorted int_cmp ids (place - 1) place (pos 0) rising (omega arith) there) above
+rising-is ids false some = (
+  (λ e. absurd cc),
+  (λ rising. never (get_or ids some.0 (pos 0)) (get_or ids (some.0 + 1) (pos 0)) (Less-from_sorted int_cmp ids some.0
+      (some.0 + 1) (pos 0) rising (omega arith) some.1) (some.2 (pos 0))),
+)
   where
-    never : (a b : ℤ) → int_cmp a b ≡ Less → b ≤ℤ a → ⊥
-    never a b e h = grind (arith, ints)
+    never : (a b : ℤ) → int_cmp a b ≡ Less → false ≡ int_lt a b → false ≡ true
+    never a b e h = absurd (grind (arith, ints))

@@ -11,8 +11,7 @@ use Rattle.std.proofs.lemmas.List.{length-replicate, map-append}
 use Rattle.std.proofs.lemmas.List.Sorted.{length_permutation}
 use Rattle.rt_geo.specs.Laws.{Extent}
 use Rattle.rt_tree.specs.Levels.{level_sizes, sizes_above}
-use Rattle.rt_tree.specs.Packed.{level_by_level, no_node}
-use Rattle.rt_tree.specs.Packed.{extent_of_node}
+use Rattle.rt_tree.specs.Packed.{extent_of_node, no_node}
 use Rattle.rt_tree.specs.Packing.{joined, nodes_from, nodes_over}
 use Rattle.rt_tree.specs.declared.tree.Node.{Node}
 use Rattle.rt_tree.proofs.ChunkLemmas.{le_or_lt}
@@ -22,6 +21,11 @@ use Rattle.rt_tree.proofs.PackCounts.{above, cut, fewer, length-above, nodes_fro
 use Rattle.rt_tree.proofs.TileLemmas.{groups-IsPermutation}
 
 -- ---- level by level
+
+-- the levels of so many nodes each, from one level on
+abbrev pub level_by_level : (level : ℕ) → (sizes : List ℕ) → List ℕ
+level_by_level level [] = []
+level_by_level level (size ∷ sizes) = replicate size level ++ level_by_level (suc level) sizes
 
 -- nodes of one level
 abbrev pub AreOn : ℕ → List Node → Type 0
@@ -60,18 +64,18 @@ module _ (fanout : ℕ) (several : 2 ≤ fanout) where
         let here : map (λ n. n.level) ordered ≡ replicate (length made) level =
         levels_of level ordered (all_moved (λ (n : Node). n.level ≡ level) made ordered moved on)
         ∙ ap (λ n. replicate n level) (length_permutation made ordered moved) in
-        let later = nodes_from-levels fuel (level + 1) (first + length made) new
+        let later = nodes_from-levels fuel (suc level) (first + length made) new
         (fewer fanout several level first fuel made h few) (omega (
           arith,
           count,
           div_ceil-positive
               (length made) fanout several there,
         )) (nodes_over-AreOn extent_of_node (λ n. n.size)
-        (level + 1) first (cut fanout several made)) in
+        (suc level) first (cut fanout several made)) in
         let sizes : sizes_above (length made) fanout (length made) ≡ sizes_from fanout (length new) =
         sizes_above-step fanout (length made) several there ∙ ap (sizes_from fanout) (sym count) in
         ap (map (λ n. n.level)) (nodes_from-more fanout several fuel level first made h)
-        ∙ map-append (λ (n : Node). n.level) ordered (nodes_from fuel fanout (level + 1) (first + length made) new)
+        ∙ map-append (λ (n : Node). n.level) ordered (nodes_from fuel fanout (suc level) (first + length made) new)
         ∙ rw (here, later, more, sizes) refl
   ]
 
@@ -95,7 +99,7 @@ length-level_by_level level size sizes there = omega (
   arith,
   there,
   length-append (replicate size level)
-      (level_by_level (level + 1) sizes),
+      (level_by_level (suc level) sizes),
   length-replicate size level,
 )
 
@@ -110,14 +114,14 @@ last_level level size [] some =
     (arith, some.0, length-replicate size level)) ∙ omega arith
 last_level level size (next ∷ sizes) some =
     let front = replicate size level in
-    let rest = level_by_level (level + 1) (next ∷ sizes) in
+    let rest = level_by_level (suc level) (next ∷ sizes) in
     let long = length-append front rest in
-    let there = length-level_by_level (level + 1) next sizes some.1.0 in
+    let there = length-level_by_level (suc level) next sizes some.1.0 in
     let back : length (front ++ rest) - 1 - size ≡ length rest - 1 = omega
     (arith, long, length-replicate size level, there) in
     get_or-append_right front rest size (length (front ++ rest) - 1) 0 (length-replicate size level) (omega
     (arith, long, length-replicate size level, there))
-    ∙ ap (λ i. get_or rest i 0) back ∙ last_level (level + 1) next sizes some.1 ∙ omega arith
+    ∙ ap (λ i. get_or rest i 0) back ∙ last_level (suc level) next sizes some.1 ∙ omega arith
 
 -- the last node of a tree whose nodes stand level by level
 pub last_node-level : (ns : List Node) (level size : ℕ) (sizes : List ℕ)

@@ -12,12 +12,20 @@ use Rattle.rt_geo.specs.Boxes.{Rect}
 use Rattle.rt_geo.specs.Laws.{Extent, extent_of_entry}
 use Rattle.rt_geo.specs.declared.entry.Entry.{Entry}
 use Rattle.rt_tree.specs.Packed.{extent_of_node}
-use Rattle.rt_tree.specs.Packing.{groups, joined, leaf_nodes, node_over, nodes_from, nodes_over}
+use Rattle.rt_tree.specs.Packing.{groups, joined, node_over, nodes_from, nodes_over}
 use Rattle.rt_tree.specs.declared.tree.Node.{Node}
 use Rattle.rt_tree.proofs.ChunkLemmas.{le_or_lt, length-chunks}
-use Rattle.rt_tree.proofs.LevelLemmas.{div_ceil-halves}
+use Rattle.rt_tree.proofs.LevelLemmas.{div_ceil-halves, div_ceil-positive}
 use Rattle.rt_tree.proofs.Soundness.{length-nodes_over, sum_by-ones}
 use Rattle.rt_tree.proofs.TileLemmas.{groups-IsPermutation, groups-chunks, groups-moved}
+
+-- the nodes of level 1, over groups of entries
+abbrev pub leaf_nodes : List (List Entry) → List Node
+leaf_nodes = nodes_over extent_of_entry (λ _. 1) 1 0
+
+-- the nodes of all levels, over those of level 1
+abbrev pub all_nodes : (fanout : ℕ) → List Node → List Node
+all_nodes fanout nodes = nodes_from (length nodes) fanout 1 0 nodes
 
 -- ---- one level
 
@@ -60,11 +68,11 @@ module _ (fanout : ℕ) (several : 2 ≤ fanout) where
 
   -- the nodes over them
   abbrev pub above : (level first : ℕ) → List Node → List Node
-  above level first made = nodes_over extent_of_node (λ n. n.size) (level + 1) first (cut made)
+  above level first made = nodes_over extent_of_node (λ n. n.size) (suc level) first (cut made)
 
   pub length-above : (level first : ℕ) (made : List Node) → 0 < length made
       → length (above level first made) ≡ div_ceil (length made) fanout
-  length-above level first made there = length-nodes_over extent_of_node (λ n. n.size) (level + 1) first
+  length-above level first made there = length-nodes_over extent_of_node (λ n. n.size) (suc level) first
       (cut made) ∙ length-groups (λ n. n.bounds) fanout made several there
 
   -- a level of one node, or of none, is the last one
@@ -75,7 +83,7 @@ module _ (fanout : ℕ) (several : 2 ≤ fanout) where
       (arith, nat_tests) in rw last refl
 
   pub nodes_from-more : (fuel level first : ℕ) (made : List Node) → 1 < length made
-      → nodes_from (suc fuel) fanout level first made ≡ joined (cut made) ++ nodes_from fuel fanout (level + 1)
+      → nodes_from (suc fuel) fanout level first made ≡ joined (cut made) ++ nodes_from fuel fanout (suc level)
       (first + length made) (above level first made)
   nodes_from-more fuel level first made h = let more : nat_le (length made) 1 ≡ false = grind (arith, nat_tests) in
       rw more refl
@@ -98,22 +106,29 @@ module _ (fanout : ℕ) (several : 2 ≤ fanout) where
   nodes_from-fuel (suc fuel) (suc other) level first made f g = elim (le_or_lt (length made) 1) [
     | inl h ↦ nodes_from-last (suc fuel) level first made h ∙ sym (nodes_from-last (suc other) level first made h)
     | inr h ↦ nodes_from-more fuel level first made h
-        ∙ ap (λ l. joined (cut made) ++ l) (nodes_from-fuel fuel other (level + 1) (first + length made)
+        ∙ ap (λ l. joined (cut made) ++ l) (nodes_from-fuel fuel other (suc level) (first + length made)
         (above level first made) (fewer level first fuel made h f) (fewer level first other made h g))
         ∙ sym (nodes_from-more other level first made h)
   ]
 
-  pub nodes_from-step : (level first : ℕ) (made : List Node) → 1 < length made
-      → nodes_from (length made) fanout level first made
-      ≡ joined (cut made) ++ nodes_from (length (above level first made)) fanout (level + 1) (first + length made)
-      (above level first made)
-  nodes_from-step level first made h =
-      let one_less : length made ≡ suc (length made - 1) = omega arith in
-      ap (λ n. nodes_from n fanout level first made) one_less
-      ∙ nodes_from-more (length made - 1) level first made h
-      ∙ ap (λ l. joined (cut made) ++ l) (nodes_from-fuel (length made - 1) (length (above level first made))
-      (level + 1) (first + length made) (above level first made) (fewer level first (length made - 1) made h
-      (omega arith)) (omega arith))
+  -- there are some on each further level
+  pub some_above : (level first : ℕ) (made : List Node) → 0 < length made → 0 < length (above level first made)
+  some_above level first made there =
+      omega (arith, length-above level first made there, div_ceil-positive (length made) fanout several there)
+
+  -- with one more level numbered, the nodes to come are the same
+  pub course : (fuel level : ℕ) (nodes made : List Node) → 1 < length made
+      → (nodes ++ joined (cut made)) ++ nodes_from fuel fanout (suc level) (length (nodes ++ joined (cut made)))
+      (above level (length nodes) made) ≡ nodes ++ nodes_from (suc fuel) fanout level (length nodes) made
+  course fuel level nodes made some =
+      let ordered = joined (cut made) in
+      let new = above level (length nodes) made in
+      let moved = groups-IsPermutation (λ (n : Node). n.bounds) made fanout several (omega arith) in
+      let long : length (nodes ++ ordered) ≡ length nodes + length made = omega
+      (arith, length-append nodes ordered, length_permutation made ordered moved) in
+      append_assoc nodes ordered (nodes_from fuel fanout (suc level) (length (nodes ++ ordered)) new)
+      ∙ ap (λ n. nodes ++ (ordered ++ nodes_from fuel fanout (suc level) n new)) long
+      ∙ ap (λ l. nodes ++ l) (sym (nodes_from-more fuel level (length nodes) made some))
 
   -- ---- a loop that makes one level after another
 
@@ -127,15 +142,15 @@ module _ (fanout : ℕ) (several : 2 ≤ fanout) where
       last : level ≡ 24 → made ≤ 1
       last e = subst (λ n. made ≤ 2 ^ (24 - n)) e few
 
-  half : (level made new : ℕ) → level < 24 → made ≤ 2 ^ (24 - level) → 2 * new ≤ made + 1 → new ≤ 2 ^ (24 - (level + 1))
+  half : (level made new : ℕ) → level < 24 → made ≤ 2 ^ (24 - level) → 2 * new ≤ made + 1 → new ≤ 2 ^ (24 - (suc level))
   half level made new low few halves =
-      let next : 24 - level ≡ suc (24 - (level + 1)) = omega arith in
-      let twice : 2 ^ (24 - level) ≡ 2 * 2 ^ (24 - (level + 1)) = ap (λ n. 2 ^ n) next
-      ∙ pow-succ' 2 (24 - (level + 1)) in
+      let next : 24 - level ≡ suc (24 - (suc level)) = omega arith in
+      let twice : 2 ^ (24 - level) ≡ 2 * 2 ^ (24 - (suc level)) = ap (λ n. 2 ^ n) next
+      ∙ pow-succ' 2 (24 - (suc level)) in
       omega arith
 
   pub counted_more : (level : ℕ) (nodes made : List Node) → IsCounted level nodes made → 1 < length made
-      → IsCounted (level + 1) (nodes ++ joined (cut made)) (above level (length nodes) made)
+      → IsCounted (suc level) (nodes ++ joined (cut made)) (above level (length nodes) made)
   counted_more level nodes made c some =
       let new = length-above level (length nodes) made (omega arith) in
       let halves = div_ceil-halves (length made) fanout several in
@@ -144,7 +159,7 @@ module _ (fanout : ℕ) (several : 2 ≤ fanout) where
       record {
         from_one = omega arith;
         few_levels = omega (arith, low);
-        few = subst (λ n. n ≤ 2 ^ (24 - (level + 1))) (sym new) (half level (length made) (div_ceil
+        few = subst (λ n. n ≤ 2 ^ (24 - (suc level))) (sym new) (half level (length made) (div_ceil
             (length made) fanout) low c.few halves);
         few_nodes = omega (
           arith,
@@ -158,7 +173,7 @@ module _ (fanout : ℕ) (several : 2 ≤ fanout) where
         weight = omega (
           arith,
           c.weight,
-          weight-nodes_over extent_of_node (λ n. n.size) (level + 1)
+          weight-nodes_over extent_of_node (λ n. n.size) (suc level)
               (length nodes) (cut made),
           sum_by-IsPermutation (λ (n : Node). n.size) made (joined (cut made)) moved,
         );
@@ -192,20 +207,16 @@ module _ (fanout : ℕ) (several : 2 ≤ fanout) where
   -- the course of the loop
   pub course_more : (level : ℕ) (nodes made whole : List Node) → 1 < length made
       → nodes ++ nodes_from (length made) fanout level (length nodes) made ≡ whole
-      → (nodes ++ joined (cut made)) ++ nodes_from (length (above level (length nodes) made)) fanout (level + 1)
+      → (nodes ++ joined (cut made)) ++ nodes_from (length (above level (length nodes) made)) fanout (suc level)
       (length (nodes ++ joined (cut made))) (above level (length nodes) made) ≡ whole
-  course_more level nodes made whole some course =
-      let ordered = joined (cut made) in
+  course_more level nodes made whole some so_far =
+      let after = nodes ++ joined (cut made) in
       let new = above level (length nodes) made in
-      let moved = groups-IsPermutation (λ (n : Node). n.bounds) made fanout several (omega arith) in
-      let long : length (nodes ++ ordered) ≡ length nodes + length made = omega (
-        arith,
-        length-append nodes ordered,
-        length_permutation made ordered moved,
-      ) in
-      append_assoc nodes ordered (nodes_from (length new) fanout (level + 1) (length (nodes ++ ordered)) new)
-      ∙ ap (λ n. nodes ++ (ordered ++ nodes_from (length new) fanout (level + 1) n new)) long
-      ∙ ap (λ l. nodes ++ l) (sym (nodes_from-step level (length nodes) made some)) ∙ course
+      let fuel = length made - 1 in
+      let one_less : suc fuel ≡ length made = omega (arith, some) in
+      ap (λ l. after ++ l) (nodes_from-fuel (length new) fuel (suc level) (length after) new (omega arith)
+      (fewer level (length nodes) fuel made some (omega (arith, one_less)))) ∙ course fuel level nodes made some
+      ∙ ap (λ n. nodes ++ nodes_from n fanout level (length nodes) made) one_less ∙ so_far
 
   pub course_done : (level : ℕ) (nodes made whole : List Node) → length made ≤ 1
       → nodes ++ nodes_from (length made) fanout level (length nodes) made ≡ whole → nodes ++ made ≡ whole

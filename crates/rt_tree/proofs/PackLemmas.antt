@@ -9,10 +9,10 @@ use Rattle.std.proofs.lemmas.List.Sorted.{length_permutation}
 use Rattle.rt_geo.specs.Laws.{extent_of_entry}
 use Rattle.rt_geo.specs.declared.entry.Entry.{Entry}
 use Rattle.rt_tree.specs.Packed.{Packed}
-use Rattle.rt_tree.specs.Packing.{all_nodes, groups, joined, leaf_nodes, nodes_over, pack_of}
+use Rattle.rt_tree.specs.Packing.{groups, joined, nodes_over, pack_of}
 use Rattle.rt_tree.specs.Sorting.{sorted}
 use Rattle.rt_tree.specs.declared.tree.Node.{Node}
-use Rattle.rt_tree.proofs.PackCounts.{leaf_nodes-few}
+use Rattle.rt_tree.proofs.PackCounts.{all_nodes, leaf_nodes, leaf_nodes-few}
 use Rattle.rt_tree.proofs.PackSound.{entries-IsPermutation}
 use Rattle.rt_tree.proofs.SortingLemmas.{IsPermutation-sorted}
 

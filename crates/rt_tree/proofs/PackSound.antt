@@ -1,6 +1,6 @@
 -- The tree that is packed over a table is sound.
 use Rattle.std.proofs.Common.{◌≡◌, ◌<◌, ◌≤◌, ◌+◌, ◌-◌, ◌^◌, ℕ, zero, suc, List, [], ◌∷◌, ◌++◌, length, map}
-use Rattle.std.proofs.Common.{filter, ◌==◌, drop, get_or, refl, sym, ◌∙◌, ap, subst, arith, add-one, append_assoc}
+use Rattle.std.proofs.Common.{filter, ◌==◌, drop, get_or, refl, sym, ◌∙◌, ap, subst, arith}
 use Rattle.std.proofs.Common.{inl, inr, length-append, IsPermutation, slice_get, Some}
 use Rattle.std.specs.Int.{div_ceil}
 use Rattle.std.specs.List.{AllByRecursion, flat_map}
@@ -10,9 +10,9 @@ use Rattle.std.proofs.lemmas.List.Sorted.{All-permutation}
 use Rattle.std.proofs.lemmas.List.Sorted.{IsPermutation-map, IsPermutation-refl}
 use Rattle.std.proofs.lemmas.List.Sorted.{IsPermutation-sym, IsPermutation-trans, length_permutation}
 use Rattle.rt_geo.specs.declared.entry.Entry.{Entry}
-use Rattle.rt_tree.specs.Packed.{Packed, IsSound, IsSubtree, all_child_entries, all_child_nodes, child_entries}
-use Rattle.rt_tree.specs.Packed.{entries_under, extent_of_node, height, level_by_level, no_node, node_at, root_of}
-use Rattle.rt_tree.specs.Packing.{all_nodes, chunks, groups, joined, nodes_from, nodes_over, pack_of}
+use Rattle.rt_tree.specs.Packed.{Packed, IsSound, IsSubtree, child_entries, entries_under, extent_of_node, height, no_node}
+use Rattle.rt_tree.specs.Packed.{node_at, root_of}
+use Rattle.rt_tree.specs.Packing.{chunks, groups, joined, nodes_from, nodes_over, pack_of}
 use Rattle.rt_tree.specs.Entries.{IsTable, ids_of}
 use Rattle.rt_tree.specs.Sorting.{sorted}
 use Rattle.rt_geo.specs.Entries.{HasBox, HasLayer}
@@ -23,15 +23,16 @@ use Rattle.std.proofs.lemmas.Option.{get_or_from_slice_get}
 use Rattle.rt_tree.proofs.EntryLemmas.{int_eq-sym}
 use Rattle.rt_tree.proofs.SortingLemmas.{IsPermutation-sorted}
 use Rattle.rt_tree.specs.declared.tree.Node.{Node}
-use Rattle.rt_tree.proofs.Children.{AreOnce, all_child_entries-is, all_child_nodes-is, nodes_once, once_first}
-use Rattle.rt_tree.proofs.Children.{once_more}
+use Rattle.rt_tree.proofs.Children.{AreOnce, all_child_entries, all_child_entries-is, all_child_nodes, all_child_nodes-is}
+use Rattle.rt_tree.proofs.Children.{nodes_once, once_first, once_more}
 use Rattle.rt_tree.proofs.ChunkLemmas.{chunks-size, le_or_lt}
 use Rattle.rt_tree.proofs.OrderLemmas.{all_append, all_moved, flat_map-IsPermutation}
-use Rattle.rt_tree.proofs.PackCounts.{IsCounted, counted_first, counted_more, cut, fewer, leaf_nodes-few, length-above}
-use Rattle.rt_tree.proofs.PackCounts.{length-groups, nodes_from-last, nodes_from-more}
+use Rattle.rt_tree.proofs.PackCounts.{IsCounted, above, all_nodes, counted_first, counted_more, course, cut, fewer}
+use Rattle.rt_tree.proofs.PackCounts.{leaf_nodes-few, length-groups, nodes_from-last, some_above}
 use Rattle.rt_tree.proofs.LoopLemmas.{get_or_behind}
 use Rattle.rt_tree.proofs.LevelLemmas.{div_ceil-positive}
-use Rattle.rt_tree.proofs.LevelOrder.{last_node-top, nodes_from-levels, nodes_over-AreOn, sizes_from, sizes_from_first}
+use Rattle.rt_tree.proofs.LevelOrder.{last_node-top, level_by_level, nodes_from-levels, nodes_over-AreOn, sizes_from}
+use Rattle.rt_tree.proofs.LevelOrder.{sizes_from_first}
 use Rattle.rt_tree.specs.Levels.{level_sizes}
 use Rattle.rt_tree.proofs.Soundness.{IsEntry, IsGroup, all_map, all_under_more, inner-range, leaves_sound, leaves_under}
 use Rattle.rt_tree.proofs.Soundness.{length-nodes_over, over_sound, over_under, subtree_more, tree}
@@ -146,54 +147,6 @@ module _ (fanout : ℕ) (several : 2 ≤ fanout) (es : List Entry) where
         few_nodes = omega (arith, long, c.few_nodes, c.few_levels);
       }
 
-  -- the nodes over those of a level
-  abbrev new_nodes : (h : ℕ) (numbered made : List Node) → List Node
-  new_nodes h numbered made = nodes_over extent_of_node (λ n. n.size) (suc (suc h)) (length numbered)
-      (cut fanout several made)
-
-  -- with one more level numbered, the nodes to come are the same
-  course : (fuel h : ℕ) (numbered made : List Node) → 1 < length made
-      → (numbered ++ joined (cut fanout several made)) ++ nodes_from fuel fanout (suc (suc h)) (length
-      (numbered ++ joined (cut fanout several made))) (new_nodes h numbered made)
-      ≡ numbered ++ nodes_from (suc fuel) fanout (suc h) (length numbered) made
-  course fuel h numbered made some =
-      let ordered = joined (cut fanout several made) in
-      let moved = groups-IsPermutation (λ (n : Node). n.bounds) made fanout several (omega arith) in
-      let long : length (numbered ++ ordered) ≡ length numbered + length made = omega
-      (arith, length-append numbered ordered, length_permutation made ordered moved) in
-      append_assoc numbered ordered (nodes_from fuel fanout (suc (suc h)) (length (numbered ++ ordered))
-      (new_nodes h numbered made))
-      ∙ ap (λ l. numbered ++ l) (ap (λ n. ordered ++ nodes_from fuel fanout (suc (suc h)) n
-      (new_nodes h numbered made)) long
-      ∙ ap (λ k. ordered ++ nodes_from fuel fanout k (length numbered + length made) (nodes_over extent_of_node
-      (λ n. n.size) k (length numbered) (cut fanout several made))) (sym (add-one (suc h)))
-      ∙ sym (nodes_from-more fanout several fuel (suc h) (length numbered) made some))
-
-  few_above : (fuel h : ℕ) (numbered made : List Node) → 1 < length made → length made ≤ suc fuel
-      → length (new_nodes h numbered made) ≤ fuel
-  few_above fuel h numbered made some few =
-      subst (λ k. length (nodes_over extent_of_node (λ n. n.size) k (length numbered)
-      (cut fanout several made)) ≤ fuel) (add-one (suc h)) (fewer fanout several (suc h)
-      (length numbered) fuel made some few)
-
-  some_above : (h : ℕ) (numbered made : List Node) → 0 < length made → 0 < length (new_nodes h numbered made)
-  some_above h numbered made some =
-      subst (λ k. 0 < length (nodes_over extent_of_node (λ n. n.size) k (length numbered)
-      (cut fanout several made))) (add-one (suc h))
-      (omega (
-        arith,
-        length-above fanout several (suc h) (length numbered) made some,
-        div_ceil-positive
-            (length made) fanout several some,
-      ))
-
-  counted_above : (h : ℕ) (numbered made : List Node) → 1 < length made → IsCounted (suc h) numbered made
-      → IsCounted (suc (suc h)) (numbered ++ joined (cut fanout several made)) (new_nodes h numbered made)
-  counted_above h numbered made some c =
-      subst (λ k. IsCounted k (numbered ++ joined (cut fanout several made)) (nodes_over extent_of_node
-      (λ n. n.size) k (length numbered) (cut fanout several made))) (add-one (suc h))
-      (counted_more fanout several (suc h) numbered made c some)
-
   pub sound_from : (fuel h : ℕ) (numbered made : List Node) → length made ≤ fuel → 0 < length made
       → IsBuilt h numbered made → IsCounted (suc h) numbered made
       → IsFinished (numbered ++ nodes_from fuel fanout (suc h) (length numbered) made)
@@ -203,11 +156,12 @@ module _ (fanout : ℕ) (several : 2 ≤ fanout) (es : List Entry) where
       (finished h numbered r b c)
   sound_from zero h numbered (r ∷ s ∷ made) few there b c = absurd (omega (arith, few))
   sound_from (suc fuel) h numbered (r ∷ s ∷ made) few there b c =
-      subst IsFinished (course fuel h numbered (r ∷ s ∷ made) (omega arith))
-      (sound_from fuel (suc h) (numbered ++ joined (cut fanout several (r ∷ s ∷ made))) (new_nodes h numbered
-      (r ∷ s ∷ made))
-      (few_above fuel h numbered (r ∷ s ∷ made) (omega arith) few) (some_above h numbered (r ∷ s ∷ made) there)
-      (climb h numbered (r ∷ s ∷ made) there b) (counted_above h numbered (r ∷ s ∷ made) (omega arith) c))
+      let all = r ∷ s ∷ made in
+      let first = length numbered in
+      subst IsFinished (course fanout several fuel (suc h) numbered all (omega arith))
+      (sound_from fuel (suc h) (numbered ++ joined (cut fanout several all)) (above fanout several (suc h) first all)
+      (fewer fanout several (suc h) first fuel all (omega arith) few) (some_above fanout several (suc h) first all there)
+      (climb h numbered all there b) (counted_more fanout several (suc h) numbered all c (omega arith)))
 
 -- ---- the whole tree
 
@@ -229,50 +183,58 @@ IsTable-IsPermutation xs ys moved t = record {
   few = omega (arith, t.few, length_permutation xs ys moved);
 }
 
+-- that a tree has each node and each entry once, and the nodes level by level. No search rests on it
+pub record IsWhole (t : Packed) : Type 0 where
+  -- each entry is a child of exactly one node, and so is each node but the root
+  pub entries_once : IsPermutation (all_child_entries t) t.entries
+  pub nodes_once : 0 < length t.nodes → IsPermutation (root_of t ∷ all_child_nodes t) t.nodes
+  pub levels : map (λ n. n.level) t.nodes ≡ level_by_level 1 (drop 1 (level_sizes (length t.entries) t.fanout))
+
 -- a tree without nodes, and without entries
-sound_empty : (t : Packed) → 2 ≤ t.fanout → t.nodes ≡ [] → t.entries ≡ [] → IsTable t.entries → IsSound t
+sound_empty : (t : Packed) → 2 ≤ t.fanout → t.nodes ≡ [] → t.entries ≡ [] → IsTable t.entries → IsSound t × IsWhole t
 sound_empty t several none nothing table =
-    let short : length t.nodes ≡ 0 = ap length none in
-    record {
-      several = several;
-      table = table;
-      some = (λ h. absurd (omega (arith, h, short)), λ h. absurd (omega (arith, h, ap length nothing)));
-      root = λ h. absurd (omega (arith, h, short));
-      every = λ h. absurd (omega (arith, h, short));
-      nodes = λ k d h. absurd (omega (arith, h, short));
-      nodes_once = λ h. absurd (omega (arith, h, short));
-      entries_once =
-          let bare : all_child_entries t ≡ [] = ap (λ ns. flat_map (child_entries t) (filter (λ
-          (n : Node). n.level == 1) ns)) none in
-          subst (λ l. IsPermutation l t.entries) (sym bare) (subst (IsPermutation []) (sym nothing)
-          (IsPermutation-refl []));
-      levels = rw (none, nothing) refl;
-      top = rw (none, nothing) refl;
-      few_levels = subst (λ ns. (get_or ns (length ns - 1) no_node).level ≤ 24) (sym none) (omega arith);
-      few_nodes = omega arith;
-    }
+    let short : length t.nodes ≡ 0 = ap length none in (
+      record {
+        several = several;
+        table = table;
+        some = (λ h. absurd (omega (arith, h, short)), λ h. absurd (omega (arith, h, ap length nothing)));
+        root = λ h. absurd (omega (arith, h, short));
+        every = λ h. absurd (omega (arith, h, short));
+        nodes = λ k d h. absurd (omega (arith, h, short));
+        top = rw (none, nothing) refl;
+        few_levels = subst (λ ns. (get_or ns (length ns - 1) no_node).level ≤ 24) (sym none) (omega arith);
+        few_nodes = omega arith;
+      },
+      record {
+        entries_once = let bare : all_child_entries t ≡ [] = ap (λ ns. flat_map (child_entries t) (filter (λ
+            (n : Node). n.level == 1) ns)) none in
+            subst (λ l. IsPermutation l t.entries) (sym bare) (subst (IsPermutation []) (sym nothing)
+            (IsPermutation-refl []));
+        nodes_once = λ h. absurd (omega (arith, h, short));
+        levels = rw (none, nothing) refl;
+      },
+    )
 
 sound_finished : (fanout : ℕ) (several : 2 ≤ fanout) (es : List Entry) (ns : List Node) (count : ℕ) → 0 < length es
     → count ≡ div_ceil (length es) fanout
     → map (λ n. n.level) ns ≡ level_by_level 1 (sizes_from fanout count) → IsTable es
-    → IsFinished fanout several es ns → IsSound (tree fanout es ns)
+    → IsFinished fanout several es ns → IsSound (tree fanout es ns) × IsWhole (tree fanout es ns)
 sound_finished fanout several es ns count there is in_levels table f =
     let levels : map (λ n. n.level) ns ≡ level_by_level 1 (drop 1 (level_sizes (length es) fanout)) = in_levels
-    ∙ ap (level_by_level 1) (sym (sizes_from_first fanout several (length es) count there is)) in
-    record {
-      several = several;
-      table = table;
-      some = (λ _. there, λ _. f.some);
-      root = λ _. f.root;
-      every = λ _. f.every;
-      nodes = All-from_recursion (λ n. IsSubtree (tree fanout es ns) (n.level - 1) n) ns f.nodes;
-      nodes_once = λ _. f.nodes_once;
-      entries_once = f.entries_once;
-      levels = levels;
-      top = last_node-top fanout several (length es) count there is ns levels;
-      few_levels = f.few_levels;
-      few_nodes = f.few_nodes;
-    }
+    ∙ ap (level_by_level 1) (sym (sizes_from_first fanout several (length es) count there is)) in (
+      record {
+        several = several;
+        table = table;
+        some = (λ _. there, λ _. f.some);
+        root = λ _. f.root;
+        every = λ _. f.every;
+        nodes = All-from_recursion (λ n. IsSubtree (tree fanout es ns) (n.level - 1) n) ns f.nodes;
+        top = last_node-top fanout several (length es) count there is ns levels;
+        few_levels = f.few_levels;
+        few_nodes = f.few_nodes;
+      },
+      record { entries_once = f.entries_once; nodes_once = λ _. f.nodes_once; levels = levels },
+    )
 
 module _ (fanout : ℕ) (several : 2 ≤ fanout) (in_order : List Entry) where
   -- the groups of the entries, the entries in their order, and the nodes of level 1
@@ -306,7 +268,8 @@ module _ (fanout : ℕ) (several : 2 ≤ fanout) (in_order : List Entry) where
             (leaves_under fanout es [] gs [] refl);
       }
 
-  packed-some : 0 < length in_order → IsTable es → IsSound (tree fanout es (all_nodes fanout made))
+  packed-some : 0 < length in_order → IsTable es
+      → IsSound (tree fanout es (all_nodes fanout made)) × IsWhole (tree fanout es (all_nodes fanout made))
   packed-some there table =
       let long = length_permutation in_order es moved in
       let count : length made ≡ div_ceil (length es) fanout =
@@ -334,8 +297,9 @@ packed-none fanout several in_order none =
     ∙ ap (λ g. all_nodes fanout (nodes_over extent_of_entry (λ _. 1) 1 0 g))
     (groups-nil (λ (e : Entry). e.bounds) fanout)
 
+-- a packed tree is sound, and whole
 pub pack_of-IsSound : (fanout : ℕ) (entries : List Entry) → 2 ≤ fanout → IsTable entries
-    → IsSound (pack_of fanout entries)
+    → IsSound (pack_of fanout entries) × IsWhole (pack_of fanout entries)
 pack_of-IsSound fanout entries several table =
     let in_order = sorted (on (λ (e : Entry). e.id) int_cmp) entries in
     let packed = entries-IsPermutation fanout entries several in

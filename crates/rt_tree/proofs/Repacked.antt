@@ -5,7 +5,8 @@ use Rattle.std.specs.Ordering.{int_eq}
 use Rattle.rt_geo.specs.declared.entry.Entry.{Entry}
 use Rattle.rt_tree.specs.Entries.{ids_of}
 use Rattle.rt_tree.specs.Packed.{Packed}
-use Rattle.rt_tree.specs.Packing.{all_nodes, groups, joined, leaf_nodes, pack_of}
+use Rattle.rt_tree.specs.Packing.{groups, joined, pack_of}
+use Rattle.rt_tree.proofs.PackCounts.{all_nodes, leaf_nodes}
 use Rattle.rt_tree.proofs.PackSound.{entries-IsPermutation}
 use Rattle.rt_tree.proofs.TieOrders.{sorted_by_id-IsPermutation}
 

@@ -1,6 +1,6 @@
 -- A packed tree: its entries in the order of their places, and its nodes in the order of their numbers.
-use Rattle.std.specs.Prelude.{◌↔◌, ◌≡◌, ◌+◌, ◌-◌, ◌<◌, ◌≤◌, ◌^◌, ◌==◌, nat_lt, ℕ, zero, suc, true, pos}
-use Rattle.std.specs.Prelude.{List, [], ◌∷◌, ◌++◌, drop, filter, get_or, length, map, replicate, take, unwrap_or}
+use Rattle.std.specs.Prelude.{◌↔◌, ◌≡◌, ◌+◌, ◌-◌, ◌<◌, ◌≤◌, ◌^◌, ℕ, zero, suc, true, pos}
+use Rattle.std.specs.Prelude.{List, drop, get_or, length, map, take, unwrap_or}
 use Rattle.std.specs.List.{All, AllByRecursion, flat_map, reduce, sum_by}
 use Rattle.std.specs.List.Sorted.{IsPermutation}
 use Rattle.rt_geo.specs.Boxes.{Rect, IsRect, hull, inside, plane, rect_of}
@@ -32,14 +32,6 @@ child_nodes t n = take n.count (drop n.first t.nodes)
 abbrev pub entries_under : Packed → (below : ℕ) → Node → List Entry
 entries_under t zero n = child_entries t n
 entries_under t (suc below) n = flat_map (entries_under t below) (child_nodes t n)
-
--- the nodes right under all nodes above level 1
-abbrev pub all_child_nodes : Packed → List Node
-all_child_nodes t = flat_map (child_nodes t) (filter (λ n. nat_lt 1 n.level) t.nodes)
-
--- the entries right under all nodes of level 1
-abbrev pub all_child_entries : Packed → List Entry
-all_child_entries t = flat_map (child_entries t) (filter (λ n. n.level == 1) t.nodes)
 
 -- the box of what has no children
 abbrev pub no_box : Rect
@@ -112,13 +104,8 @@ abbrev pub IsSubtree : Packed → (below : ℕ) → Node → Type 0
 IsSubtree t zero n = IsLeafNode t n
 IsSubtree t (suc below) n = IsInnerNode t below (IsSubtree t below) n
 
--- the levels of so many nodes each, from one level on
-abbrev pub level_by_level : (level : ℕ) → (sizes : List ℕ) → List ℕ
-level_by_level level [] = []
-level_by_level level (size ∷ sizes) = replicate size level ++ level_by_level (level + 1) sizes
-
--- a tree that a search may rest on: the entries are a table's, each stands once under the root, each node is what its
--- level asks for, and the nodes stand level by level
+-- a tree that a search may rest on: the entries are a table's, each stands once under the root, and each node is what
+-- its level asks for
 pub record IsSound (t : Packed) : Type 0 where
   pub several : 2 ≤ t.fanout
   pub table : IsTable t.entries
@@ -126,11 +113,6 @@ pub record IsSound (t : Packed) : Type 0 where
   pub root : 0 < length t.nodes → IsSubtree t (height t) (root_of t)
   pub every : 0 < length t.nodes → IsPermutation (entries_under t (height t) (root_of t)) t.entries
   pub nodes : All (λ n. IsSubtree t (n.level - 1) n) t.nodes
-  -- each entry is a child of exactly one node, and so is each node but the root
-  pub entries_once : IsPermutation (all_child_entries t) t.entries
-  pub nodes_once : 0 < length t.nodes → IsPermutation (root_of t ∷ all_child_nodes t) t.nodes
-  -- the nodes stand level by level
-  pub levels : map (λ n. n.level) t.nodes ≡ level_by_level 1 (drop 1 (level_sizes (length t.entries) t.fanout))
   pub top : (root_of t).level + 1 ≡ length (level_sizes (length t.entries) t.fanout)
   pub few_levels : (root_of t).level ≤ 24
   pub few_nodes : length t.nodes < 2 ^ 32

@@ -71,10 +71,6 @@ nodes_over extent size level first [] = []
 nodes_over extent size level first (group ∷ more) =
     node_over extent size level first group ∷ nodes_over extent size level (first + length group) more
 
--- the nodes of level 1, over groups of entries
-abbrev pub leaf_nodes : List (List Entry) → List Node
-leaf_nodes = nodes_over extent_of_entry (λ _. 1) 1 0
-
 -- ---- level by level
 
 -- the nodes of this level, in the order in which the level above it is cut, and then those of all levels above, up to
@@ -84,18 +80,16 @@ abbrev pub nodes_from : (fuel fanout level first : ℕ) → List Node → List N
 nodes_from zero fanout level first nodes = nodes
 nodes_from (suc fuel) fanout level first nodes =
     let cut = groups (λ n. n.bounds) fanout nodes in
-    let above = nodes_over extent_of_node (λ n. n.size) (level + 1) first cut in
+    let above = nodes_over extent_of_node (λ n. n.size) (suc level) first cut in
     if nat_le (length nodes) 1 then nodes
-    else joined cut ++ nodes_from fuel fanout (level + 1) (first + length nodes) above
-
--- the nodes of all levels, over those of level 1, whose numbers begin at 0: there are no more levels than such nodes
-abbrev pub all_nodes : (fanout : ℕ) → List Node → List Node
-all_nodes fanout nodes = nodes_from (length nodes) fanout 1 0 nodes
+    else joined cut ++ nodes_from fuel fanout (suc level) (first + length nodes) above
 
 -- ---- the tree
 
--- the tree over entries: those with equal middles go by id
+-- the tree over entries: those with equal middles go by id. Places and numbers begin at 0, and there are no more levels
+-- of nodes than nodes of level 1
 abbrev pub pack_of : (fanout : ℕ) → List Entry → Packed
 pack_of fanout entries =
     let cut = groups (λ e. e.bounds) fanout (sorted (on (λ e. e.id) int_cmp) entries) in
-    record { fanout = fanout; entries = joined cut; nodes = all_nodes fanout (leaf_nodes cut) }
+    let leaf_nodes = nodes_over extent_of_entry (λ _. 1) 1 0 cut in
+    record { fanout = fanout; entries = joined cut; nodes = nodes_from (length leaf_nodes) fanout 1 0 leaf_nodes }

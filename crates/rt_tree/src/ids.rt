@@ -121,12 +121,7 @@ fn ids_of(alloc: Global, entries: &Entries) -> Result<Vec<i64>, AllocError>
 fn rises(ids: &[i64]) -> bool
     ensures { (result ≡ true) ↔ IsStrictlySortedBy int_cmp ids.now }
 {
-    for place in 1..ids.len() {
-        if ids[place] <= ids[place - 1] {
-            return false;
-        }
-    }
-    true
+    ids.is_sorted_by(|one, next| one < next)
 }
 
 // Whether an id is among some in order.

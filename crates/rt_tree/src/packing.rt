@@ -24,13 +24,14 @@ ghost use Rattle.rt_tree.specs.Sorting.{sorted};
 
 use crate::entries::Entries;
 use crate::nodes::Nodes;
+use crate::table::Table;
 use crate::ties::sort_by_rank_and_id;
 use crate::tree::Node;
 use rt_geo::{Bounds, Entry, Layers, hull};
 use std::alloc::{AllocError, Global};
 
 /// A sort key has room for so many places, one for each entry that a table may have.
-pub(crate) const PLACES: u64 = 16_777_216;
+pub(crate) const PLACES: u64 = Table::MOST_ENTRIES as u64;
 
 // Added to the sum of two coordinates, so that it is no longer negative.
 const SUM_OFFSET: i64 = 4_294_967_296;

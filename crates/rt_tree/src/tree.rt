@@ -9,7 +9,7 @@ ghost use Rattle.rt_tree.specs.Entries.{most_entries};
 ghost use Rattle.rt_tree.specs.Leaves.{without_layer};
 ghost use Rattle.rt_tree.specs.Levels.{level_sizes};
 ghost use Rattle.rt_tree.specs.Packed.{IsSound, child_entries, child_nodes, node_at, root_of};
-ghost use Rattle.rt_tree.specs.Packing.{all_nodes, pack_of};
+ghost use Rattle.rt_tree.specs.Packing.{nodes_from, pack_of};
 ghost use Rattle.rt_tree.specs.PlainNodes.{without_layers};
 
 use crate::entries::{Entries, LeafEntry};
@@ -242,7 +242,7 @@ fn all_nodes(alloc: Global, made: Nodes, fanout: u8) -> Result<Nodes, AllocError
     requires most { fanout ≤ 64 }
     requires few { 2 * length made ≤ most_entries + 1 }
     requires weight { sum_by (λ n. n.size) made ≤ most_entries }
-    ensures { IfOk result (λ nodes. nodes ≡ all_nodes fanout made) }
+    ensures { IfOk result (λ nodes. nodes ≡ nodes_from (length made) fanout 1 0 made) }
 {
     let mut made = made;
     let mut nodes = Nodes::with_room(alloc, 0)?;

@@ -1,9 +1,8 @@
-use Rattle.std.proofs.Common.{◌≡◌, ◌<◌, ◌≤◌, ◌-◌, ◌++◌, ◌∷◌, ◌∙◌, [], List, Some, ap, arith, length, slice_get, sym}
+use Rattle.std.proofs.Common.{◌≡◌, ◌<◌, ◌≤◌, ◌-◌, ◌++◌, ◌∷◌, ◌∙◌, [], List, Some, add-one, ap, arith, length, slice_get, sym}
 use Rattle.std.proofs.lemmas.List.{append-nil, nil_from_length}
 use Rattle.std.proofs.lemmas.Option.{get_or_from_slice_get}
-use Rattle.rt_tree.specs.Packing.{all_nodes}
 use Rattle.rt_tree.specs.declared.tree.Node.{Node}
-use Rattle.rt_tree.proofs.PackCounts.{counted_more, course_done, course_more, fewer}
+use Rattle.rt_tree.proofs.PackCounts.{all_nodes, counted_more, course_done, course_more, fewer}
 use Rattle.rt_tree.proofs.Packable.{nodes_packable}
 use Rattle.rt_tree.proofs.tree.all_nodes.Goals as goal
 use Rattle.rt_tree.proofs.tree.all_nodes.Goals.{then-len-eq1+in_ok-push, else-len-eq1}
@@ -28,7 +27,7 @@ levels-smaller c =
     let more : 1 < length made = omega (arith, c.levels-test.true, c.len.ensures) in
     let smaller : length c.in_ok-made.made < length made = omega (
       arith,
-      ap length c.in_ok-made.ensures.nodes,
+      ap length (rw (add-one c.levels.level) at c.in_ok-made.ensures.nodes),
       fewer c.args.fanout c.requires.several c.levels.level (length c.levels.nodes) (length made - 1) made more
           (omega (arith, more)),
     ) in
@@ -41,7 +40,7 @@ levels-preserved c =
     let nodes = c.levels.nodes in
     let made = c.levels.made in
     let more : 1 < length made = omega (arith, c.levels-test.true, c.len.ensures) in
-    rw (c.in_ok-made.ensures.packed, c.in_ok-made.ensures.nodes) (record {
+    rw (c.in_ok-made.ensures.packed, c.in_ok-made.ensures.nodes, add-one level) (record {
       counted = counted_more c.args.fanout several level nodes made c.levels.invariant.counted more;
       course = course_more c.args.fanout several level nodes made _ more c.levels.invariant.course;
     })

@@ -1,6 +1,6 @@
 use Rattle.std.proofs.Common.{◌≡◌, ◌++◌, length}
-use Rattle.rt_tree.specs.Packing.{all_nodes, nodes_from}
-use Rattle.rt_tree.proofs.PackCounts.{IsCounted}
+use Rattle.rt_tree.specs.Packing.{nodes_from}
+use Rattle.rt_tree.proofs.PackCounts.{IsCounted, all_nodes}
 use Rattle.rt_tree.proofs.tree.all_nodes.Given as goal
 
 abbrev pub invariant-levels : goal.invariant-levels

@@ -33,7 +33,7 @@ invariant_of-result c =
     c.in_ok-made.ensures.packed c.in_ok-made.ensures.nodes c.in_ok-nodes.ensures in
     let long : length c.pack_level.new.packed ≡ length table = ap (λ (t : Packed). length t.entries) whole
     ∙ length-packed fanout table c.requires.several in (
-      subst IsSound (sym whole) (pack_of-IsSound fanout table c.requires.several c.into_entries-entries.ensures.table),
+      subst IsSound (sym whole) (pack_of-IsSound fanout table c.requires.several c.into_entries-entries.ensures.table).0,
       whole ∙ pack_of-repacked fanout table c.requires.several c.into_entries-entries.ensures.table.distinct
           ∙ ap (λ (t : Packed). pack_of fanout t.entries) (sym whole),
       c.new-levels.ensures.sizes ∙ ap (λ n. level_sizes n fanout) (c.len.ensures.value ∙ sym long),
