@@ -5,8 +5,8 @@ import selectors
 import socket
 import time
 
+from cutting import Cutter
 from events import Fence
-from positions import Cutter, Position, Refusal
 from signals import Signals
 
 READ = 1 << 16  # bytes at once
@@ -36,12 +36,12 @@ class Connection:
     def has_ended(self) -> bool:
         return self._is_last and not self.is_waiting
 
-    def read(self) -> tuple[list[Position], list[Refusal]]:
-        """What comes. Raises `OSError` where the other side is gone."""
+    def read(self) -> tuple[int, list[bytes]]:
+        """The number of the first of some lines that come, and these. Raises `OSError` where the other side is gone."""
         try:
             piece = self._socket.recv(READ)
         except BlockingIOError:
-            return [], []
+            return 0, []
         self._is_last = not piece
         return self._cutter.cut(piece) if piece else self._cutter.rest()
 

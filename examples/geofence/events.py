@@ -1,13 +1,13 @@
 """What is told of positions: a line of JSON for each zone that a device enters or leaves, and for each refusal."""
 
 import json
-from collections.abc import Iterator, Sequence
+from collections.abc import Iterator
 from operator import itemgetter
 
 from devices import Devices, Refused
 from exchange import Exchange
 from fences import Fences, Held
-from positions import Position, Refusal, numbers_of
+from positions import Position, Refusal, numbers_of, positions_of
 
 
 class Fence:
@@ -18,9 +18,10 @@ class Fence:
         self._devices = devices
         self._exchange = exchange
 
-    def told_of(self, positions: Sequence[Position], refusals: Sequence[Refusal]) -> bytes:
-        """The lines that are told of what was read at once, in its order."""
+    def told_of(self, first: int, lines: list[bytes]) -> bytes:
+        """The lines that are told of lines that were read at once, in their order. The first of them has this number."""
         self._exchange_zones()
+        positions, refusals = positions_of(first, lines)
         told = [(refusal.line, refusal_line(refusal)) for refusal in refusals]
         for position, held in zip(positions, self._fences.holding_each(positions)):
             line, device, _, _, moment, _, _ = position

@@ -16,7 +16,7 @@ from functools import partial
 from pathlib import Path
 
 HERE = Path(__file__).resolve().parent
-sys.path[:0] = [str(HERE.parent.parent / folder) for folder in ("clients/python", "service")]
+sys.path[:0] = [str(HERE.parent.parent / folder) for folder in ("clients/python", "service", "examples/common")]
 
 from connections import Connections
 from devices import Devices, Refused
@@ -65,7 +65,7 @@ def resumed(file: str | None, most: int) -> Devices:
 
 def serve(args: argparse.Namespace, fence: Fence, signals: Signals) -> None:
     if args.unix is None:
-        Stream(fence, signals, sys.stdin.fileno(), sys.stdout.fileno()).serve()
+        Stream(fence.told_of, signals, sys.stdin.fileno(), sys.stdout.fileno()).serve()
         return
     most = min(args.connections, resource.getrlimit(resource.RLIMIT_NOFILE)[0] - OTHER_FILES)
     with unix_listener(args.unix, args.mode) as listener:

@@ -1,12 +1,12 @@
 """Zones with names and layers, and which of them hold positions: the program finds boxes, outlines decide exactly."""
 
-import json
 from collections.abc import Callable, Sequence
 from dataclasses import dataclass, field
 from functools import cached_property, lru_cache
-from typing import Any, Union
+from typing import Union
 
 from bands import Bands, held_by
+from features import Feature, features_of, id_of, members, name_of
 from positions import SCALE, Position
 
 from rtfilter import Answers, Ended, FeatureError, Row, Rtfilter, TimedOut
@@ -32,8 +32,7 @@ class Zone:
     @cached_property
     def members(self) -> str:
         """What an object of JSON tells of it."""
-        told = {"zone": self.id, "name": self.name, "layer": self.layer}
-        return json.dumps({name: value for name, value in told.items() if value is not None})[1:-1]
+        return members(zone=self.id, name=self.name, layer=self.layer)
 
 
 Held = tuple[Zone, ...]
@@ -129,24 +128,9 @@ class Fences(Closing):
         self._rows.clear()
 
 
-def features_of(file: str) -> list[Any]:
-    """The features of a file of GeoJSON: one FeatureCollection."""
-    with open(file, encoding="utf-8-sig") as opened:
-        read = json.load(opened)
-    features = read.get("features") if isinstance(read, dict) else None
-    if not isinstance(features, list):
-        raise ValueError("no FeatureCollection")
-    return features
-
-
-def zone_of(feature: Any, number: int, layer: str) -> Zone:
-    """The zone of a feature at this place among the features."""
-    if not isinstance(feature, dict) or not isinstance(feature.get("properties") or {}, dict):
-        raise FeatureError(number, "no feature")
-    properties = feature.get("properties") or {}
-    id, name, layer_name = feature.get("id", number), properties.get("name"), properties.get(layer)
-    if isinstance(id, bool) or not isinstance(id, (str, int, float)):
-        raise FeatureError(number, f"an id that is neither a text nor a number: {id!r:.50}")
-    if isinstance(layer_name, bool) or not isinstance(layer_name, (str, int, type(None))):
-        raise FeatureError(number, f"a layer that is neither a text nor a whole number: {layer_name!r:.50}")
-    return Zone(id, name if isinstance(name, str) else None, None if layer_name is None else str(layer_name))
+def zone_of(feature: Feature, number: int, property: str) -> Zone:
+    """The zone of a feature at this place among the features. A property has its layer."""
+    layer = (feature.get("properties") or {}).get(property)
+    if isinstance(layer, bool) or not isinstance(layer, (str, int, type(None))):
+        raise FeatureError(number, f"a layer that is neither a text nor a whole number: {layer!r:.50}")
+    return Zone(id_of(feature, number), name_of(feature), None if layer is None else str(layer))

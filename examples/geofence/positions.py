@@ -4,13 +4,14 @@ import re
 from math import inf
 from typing import NamedTuple
 
+from cutting import LONGEST_LINE, is_skipped
+
 from rtfilter.geojson import whole_by
 
 SCALE = 1e7  # a degree in whole units, each about a centimetre
 SURE = 0.499  # a product this near to a whole number is rounded to it, whatever the product was rounded by
 
-LONGEST_LINE = 4096  # bytes
-LONGEST_DEVICE = 64
+LONGEST_DEVICE = 64  # bytes
 
 # A number is one of JSON, and goes out as it came in.
 NUMBER = rb"(-?(?:0|[1-9][0-9]*)(?:\.[0-9]+)?(?:[eE][-+]?[0-9]+)?)"
@@ -35,46 +36,25 @@ class Refusal(NamedTuple):
     device: bytes = b""
 
 
-class Cutter:
-    """Cuts what is read into lines, and counts them."""
-
-    def __init__(self) -> None:
-        self._part = b""
-        self._count = 0
-
-    def cut(self, piece: bytes) -> tuple[list[Position], list[Refusal]]:
-        """What those lines say that end in a piece, which begins where the one before ended. Blank lines and comments are
-        counted, and nothing more."""
-        *lines, part = (self._part + piece).split(b"\n")
-        self._part = part[: LONGEST_LINE + 1]  # that it is too long is all that is told of one that is longer
-        first, self._count = self._count + 1, self._count + len(lines)
-        positions: list[Position] = []
-        refusals: list[Refusal] = []
-        for line, text in enumerate(lines, first):
-            match = LINE.fullmatch(text)
-            if match is None or len(text) > LONGEST_LINE:
-                refusals += refusal_of(line, text)
-                continue
-            quoted, plain, longitude, latitude, time, layers = match.groups(b"")
-            device, east, north, moment = plain or quoted, float(longitude), float(latitude), float(time)
-            if len(device) > LONGEST_DEVICE or not (device.isascii() or is_text(device)):
-                refusals.append(Refusal(line, NO_DEVICE))
-            elif not (-180 <= east <= 180 and -90 <= north <= 90 and -inf < moment < inf):
-                refusals.append(Refusal(line, NO_PLACE, device))
-            else:
-                positions.append((line, device, whole(east), whole(north), moment, layers, text))
-        return positions, refusals
-
-    def rest(self) -> tuple[list[Position], list[Refusal]]:
-        """What a last line says that doesn't end."""
-        return self.cut(b"\n") if self._part else ([], [])
-
-
-def refusal_of(line: int, text: bytes) -> list[Refusal]:
-    """Why a line of another form isn't taken; nothing for one that is blank, or a comment."""
-    if len(text) > LONGEST_LINE:
-        return [Refusal(line, TOO_LONG)]
-    return [] if text.strip()[:1] in b"#" else [Refusal(line, NO_POSITION)]
+def positions_of(first: int, lines: list[bytes]) -> tuple[list[Position], list[Refusal]]:
+    """What lines say, of which the first has this number. Blank lines and comments say nothing."""
+    positions: list[Position] = []
+    refusals: list[Refusal] = []
+    for line, text in enumerate(lines, first):
+        match = LINE.fullmatch(text)
+        if match is None or len(text) > LONGEST_LINE:
+            if not is_skipped(text):
+                refusals.append(Refusal(line, NO_POSITION if len(text) <= LONGEST_LINE else TOO_LONG))
+            continue
+        quoted, plain, longitude, latitude, time, layers = match.groups(b"")
+        device, east, north, moment = plain or quoted, float(longitude), float(latitude), float(time)
+        if len(device) > LONGEST_DEVICE or not (device.isascii() or is_text(device)):
+            refusals.append(Refusal(line, NO_DEVICE))
+        elif not (-180 <= east <= 180 and -90 <= north <= 90 and -inf < moment < inf):
+            refusals.append(Refusal(line, NO_PLACE, device))
+        else:
+            positions.append((line, device, whole(east), whole(north), moment, layers, text))
+    return positions, refusals
 
 
 def numbers_of(text: bytes) -> tuple[str, str, str]:

@@ -18,7 +18,7 @@ ROOT = EXAMPLE.parent.parent
 PROGRAM = os.environ["RTFILTER_PROGRAM"]
 LONGEST = 60.0  # seconds that anything may take, on a busy machine
 
-sys.path += [str(EXAMPLE), *(str(ROOT / folder) for folder in ("clients/python/tests", "clients/python", "tests"))]
+sys.path += [str(EXAMPLE), *(str(ROOT / folder) for folder in ("examples/common", "clients/python/tests", "clients/python", "tests"))]
 
 
 class Lines:

@@ -18,7 +18,8 @@ from fence_support import EXAMPLE, LONGEST, PROGRAM, ROOT, Running, brief, featu
 
 import pages
 from bands import Bands, held_by
-from positions import Cutter, whole
+from cutting import LONGEST_LINE, Cutter
+from positions import whole
 from shapely_runs import told_by_shapely
 
 from rtfilter.geojson import whole_by
@@ -210,20 +211,19 @@ class Random(Folder):
                 self.assertEqual(whole(it), exactly(it))
 
     def test_pieces_of_any_length(self) -> None:
-        """What lines say is the same however reads cut them."""
+        """Lines are the same however reads cut them; of one that is too long no more than that is kept."""
         text = b"a,1,1,1\n\nx\n" + b"y" * 9000 + b"\n#\nb,1,1,2\r\nc,2,2,3"
         whole_cutter = Cutter()
         whole_of = [whole_cutter.cut(text), whole_cutter.rest()]
         for size in (1, 2, 3, 7, 1000, 4095, 4096, 4097):
             cutter = Cutter()
             cut = [cutter.cut(text[at : at + size]) for at in range(0, len(text), size)] + [cutter.rest()]
-            for kind in (0, 1):
-                self.assertEqual(sum((it[kind] for it in cut), []), sum((it[kind] for it in whole_of), []))
+            self.assertEqual(numbered(cut), numbered(whole_of))
 
 
 class Costs(Folder):
     def test_a_million_devices(self) -> None:
-        environment = {**os.environ, "PYTHONPATH": os.pathsep.join([str(EXAMPLE), str(ROOT / "clients/python")])}
+        environment = {**os.environ, "PYTHONPATH": os.pathsep.join([str(EXAMPLE), *(str(ROOT / it) for it in ("examples/common", "clients/python"))])}
         words = [sys.executable, "-B", "-c", DEVICES_MEASURED]
         done = subprocess.run(words, env=environment, capture_output=True, check=True, timeout=LONGEST)
         self.assertLess(int(done.stdout) * 1024, 200e6)
@@ -249,11 +249,15 @@ class Page(unittest.TestCase):
     def test_types(self) -> None:
         if subprocess.run(["which", "mypy"], capture_output=True).returncode:
             self.skipTest("mypy isn't installed")
-        environment = {**os.environ, "MYPYPATH": os.pathsep.join(str(ROOT / it) for it in ("clients/python", "service"))}
+        environment = {**os.environ, "MYPYPATH": os.pathsep.join(str(ROOT / it) for it in ("clients/python", "service", "examples/common"))}
         with contextlib.chdir(EXAMPLE):
-            words = ["mypy", "--strict", "--cache-dir", os.devnull, *map(str, EXAMPLE.glob("*.py"))]
+            words = ["mypy", "--strict", "--cache-dir", os.devnull, *map(str, [*EXAMPLE.glob("*.py"), *EXAMPLE.parent.glob("common/*.py")])]
             done = subprocess.run(words, env=environment, capture_output=True, text=True, timeout=LONGEST)
         self.assertEqual(done.returncode, 0, done.stdout)
+
+
+def numbered(cut: list[tuple[int, list[bytes]]]) -> list[tuple[int, bytes]]:
+    return [(first + at, line[: LONGEST_LINE + 1]) for first, lines in cut for at, line in enumerate(lines)]
 
 
 def degrees(units: int) -> str:

@@ -1,20 +1,23 @@
-"""Positions from one descriptor, and what is told of them to another one."""
+"""Lines from one descriptor, and what is answered to them to another one."""
 
 import os
 import select
+from collections.abc import Callable
 
-from events import Fence
-from positions import Cutter
+from cutting import Cutter
 from signals import Signals
 
 READ = 1 << 16  # bytes at once
+
+Answer = Callable[[int, list[bytes]], bytes]
+"""What is answered to lines, of which the first has this number."""
 
 
 class Stream:
     """An input and an output."""
 
-    def __init__(self, fence: Fence, signals: Signals, input: int, output: int) -> None:
-        self._fence = fence
+    def __init__(self, answer: Answer, signals: Signals, input: int, output: int) -> None:
+        self._answer = answer
         self._signals = signals
         self._input, self._output = input, output
 
@@ -24,14 +27,14 @@ class Stream:
         cutter = Cutter()
         while self._is_ready(self._input, select.POLLIN):
             piece = os.read(self._input, READ)
-            is_written = self._write(self._fence.told_of(*(cutter.cut(piece) if piece else cutter.rest())))
-            if not (piece and is_written):
+            answered = self._answer(*(cutter.cut(piece) if piece else cutter.rest()))
+            if not (self._write(answered) and piece):
                 return
 
-    def _write(self, told: bytes) -> bool:
+    def _write(self, answered: bytes) -> bool:
         """Whether all was written before a signal came that ends it. No write waits, and has a signal wait: a pipe that can be
         written to takes PIPE_BUF bytes."""
-        unsent = memoryview(told)
+        unsent = memoryview(answered)
         while unsent and self._is_ready(self._output, select.POLLOUT):
             unsent = unsent[os.write(self._output, unsent[: select.PIPE_BUF]) :]
         return not unsent
