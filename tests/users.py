@@ -28,6 +28,7 @@ TESTS = {  # those that take longest first
     "map": ROOT / "examples/tiles/tests",
     "shards": ROOT / "examples/cluster/tests",
     "fence": ROOT / "examples/geofence/tests",
+    "roads": ROOT / "examples/roads/tests",
     "package": ROOT / "packaging/tests",
     "recipes": ROOT / "tests/recipes",
 }

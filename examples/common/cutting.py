@@ -2,6 +2,12 @@
 
 LONGEST_LINE = 4096  # bytes
 
+NAME = rb'(?:"([^"\n]+)"|([^"#,\n][^",\n]*))'
+"""A field that is a name, as two groups: in quotes, or not and no comment."""
+
+NUMBER = rb"(-?(?:0|[1-9][0-9]*)(?:\.[0-9]+)?(?:[eE][-+]?[0-9]+)?)"
+"""A field that is a number as JSON has them."""
+
 
 class Cutter:
     """Cuts what is read into lines, and counts them."""

@@ -4,7 +4,7 @@ import re
 from math import inf
 from typing import NamedTuple
 
-from cutting import LONGEST_LINE, is_skipped
+from cutting import LONGEST_LINE, NAME, NUMBER, is_skipped
 
 from rtfilter.geojson import whole_by
 
@@ -13,9 +13,7 @@ SURE = 0.499  # a product this near to a whole number is rounded to it, whatever
 
 LONGEST_DEVICE = 64  # bytes
 
-# A number is one of JSON, and goes out as it came in.
-NUMBER = rb"(-?(?:0|[1-9][0-9]*)(?:\.[0-9]+)?(?:[eE][-+]?[0-9]+)?)"
-LINE = re.compile(rb'(?:"([^"\n]+)"|([^"#,\n][^",\n]*)),' + rb",".join([NUMBER] * 3) + rb'(?:,([^",\n]*))?\r?')
+LINE = re.compile(rb",".join([NAME, NUMBER, NUMBER, NUMBER]) + rb'(?:,([^",\n]*))?\r?')
 """A device, in quotes or not, a longitude, a latitude, a time, and layers."""
 
 TOO_LONG = f"a line of more than {LONGEST_LINE} bytes"

@@ -14,7 +14,7 @@ from pathlib import Path
 from fence_support import LONGEST, Connected, Running, brief, children_of, feature, is_gone, square, write_zones
 
 PARK, LAKE = feature("park", square(0, 0, 10)), feature("lake", square(20, 0, 10))
-WIDER = feature("park", square(0, 0, 15))
+WIDER = feature("park", square(0, 0, 15), name="Park", layer="green")
 BEYOND = "fence.py: features[0]: no geometry; the zones are those of before"
 
 
@@ -101,6 +101,22 @@ class Exchanges(Lives):
         for x, event, was_inside in told:
             self.assertEqual(event == "enter", not was_inside)
             self.assertTrue(event == "leave" if x == 50 else x == 12 or event == "enter", (x, event))
+
+    def test_a_load_that_does_not_end(self) -> None:
+        """Positions are answered meanwhile, there is no second load beside it, and a signal ends the fence."""
+        fence = self.running()
+        pipe = self.folder / "pipe"
+        os.mkfifo(pipe)
+        pipe.replace(self.zones)
+        for number in range(3):
+            fence.signal(signal.SIGHUP)
+            fence.send(f"{number},1,1,1")
+            self.assertEqual(brief(fence.events.some(1)), [(str(number), "enter", "park")])
+        self.assertEqual(len(os.listdir(f"/proc/{fence.process.pid}/task")), 2)
+        program = fence.program()
+        fence.signal(signal.SIGTERM)
+        self.assertEqual(fence.ended(), (0, []))
+        self.assertTrue(is_gone(program))
 
     def test_a_storm_of_signals(self) -> None:
         """The last of them is followed by a load."""
