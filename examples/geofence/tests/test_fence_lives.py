@@ -238,6 +238,15 @@ class Sockets(Lives):
         self.assertEqual(brief(other.events.some(1)), [("more", "enter", "park")])
         self.assertIsNone(fence.process.poll())
 
+    def test_who_reads_slowly(self) -> None:
+        """Nothing that is told is lost, though no buffer holds what one read is answered."""
+        self.listening()
+        it = self.connected()
+        sender = threading.Thread(target=it.socket.sendall, args=(b"x\n" * 100_000,))
+        sender.start()
+        self.assertEqual([event["line"] for event in it.events.some(100_000)], [*range(1, 100_001)])
+        sender.join(LONGEST)
+
     def test_who_leaves_in_the_middle(self) -> None:
         self.listening()
         for _ in range(50):
