@@ -53,7 +53,7 @@ $(foreach it,$(TESTS),$(eval $(call tests,$(it))))
 
 # The example of the README.
 example: build/rtfilter
-	@build/rtfilter examples/boxes.csv examples/queries.txt
+	@build/rtfilter examples/data/boxes.csv examples/data/queries.txt
 
 # One library and its tests: make check CRATE=rt_geo.
 check: build/$(CRATE).proved $(patsubst %,build/%.passed,$(filter $(CRATE)_tests,$(TESTS)))

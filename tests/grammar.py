@@ -15,10 +15,10 @@ import sys
 from pathlib import Path
 
 ROOT = Path(__file__).resolve().parent.parent
-BOXES = ROOT / "examples/boxes.csv"
+BOXES = ROOT / "examples/data/boxes.csv"
 
 sys.dont_write_bytecode = True
-sys.path.insert(0, str(ROOT / "docs"))
+sys.path.insert(0, str(ROOT / "tools"))
 from pictures import PAGE, grammar
 
 # Numbers that suit each other, and the vertices of a polygon in the place of its points.

@@ -4,7 +4,7 @@
 usage: tests/pages.py PROGRAM
 
 In README.md, docs/*.md and the manual page a console example is a command after `$ `, which may go on over lines, and
-what it prints. One is tried where each of its lines calls `rtfilter` or `cat`, in a folder with the files of examples/.
+what it prints. One is tried where each of its lines calls `rtfilter` or `cat`, in a folder with the files of examples/data/.
 A block that names tools behind `console` is a recipe, which tests/recipes tries. A row of a table with the columns `line`
 and `reply` is a run with that line alone over boxes.csv, or over the table that the head of the column names, perhaps with
 options in front of it. The logic that pages say all is proved with is that of `rt version`, where `rt` is there. The last
@@ -96,7 +96,7 @@ def main():
     passed = failed = 0
     with tempfile.TemporaryDirectory() as room:
         path, folder = Path(room, "bin"), Path(room, "examples")
-        shutil.copytree(ROOT / "examples", folder)
+        shutil.copytree(ROOT / "examples/data", folder)
         path.mkdir()
         (path / "rtfilter").symlink_to(Path(sys.argv[1]).resolve())
         outcomes = ((page, command, shown, printed(command, folder, path)) for page, command, shown in examples())

@@ -348,7 +348,7 @@ def endless_line(program, folder, room):
 
 def example(program):
     """The run of the examples, with the answers that stand beside them."""
-    folder = Path(__file__).parent.parent / "examples"
+    folder = Path(__file__).parent.parent / "examples/data"
     answers = (folder / "answers.txt").read_bytes()
     return (0, answers, b""), run(program, ["boxes.csv", "queries.txt"], folder, stdout=subprocess.PIPE)
 

@@ -29,12 +29,12 @@ import random_runs
 import reading
 
 ROOT = Path(__file__).resolve().parent.parent
-EXAMPLES = ROOT / "examples"
-ANSWERS = (EXAMPLES / "answers.txt").read_bytes()
-BOXES = (EXAMPLES / "boxes.csv").read_bytes()
-QUERIES = (EXAMPLES / "queries.txt").read_bytes()
+DATA = ROOT / "examples/data"
+ANSWERS = (DATA / "answers.txt").read_bytes()
+BOXES = (DATA / "boxes.csv").read_bytes()
+QUERIES = (DATA / "queries.txt").read_bytes()
 
-LAYERED = (EXAMPLES / "layers.csv").read_bytes()
+LAYERED = (DATA / "layers.csv").read_bytes()
 
 # More boxes than two levels of nodes hold, some of them equal, half of them on layer 7; and more queries than one pull
 # takes.

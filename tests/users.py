@@ -27,6 +27,8 @@ TESTS = {  # those that take longest first
     "client": ROOT / "clients/python/tests",
     "map": ROOT / "examples/tiles/tests",
     "shards": ROOT / "examples/cluster/tests",
+    "fence": ROOT / "examples/geofence/tests",
+    "roads": ROOT / "examples/roads/tests",
     "package": ROOT / "packaging/tests",
     "recipes": ROOT / "tests/recipes",
 }

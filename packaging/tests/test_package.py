@@ -14,7 +14,7 @@ import tomllib
 import unittest
 from pathlib import Path
 
-from support import EXAMPLES, PACKAGE, PROGRAM, ROOT
+from support import DATA, PACKAGE, PROGRAM, ROOT
 
 MAKE = ROOT / "packaging/make_deb.py"
 VERSION = (ROOT / "VERSION").read_text(encoding="utf-8").strip()
@@ -119,8 +119,8 @@ class Package(unittest.TestCase):
                         run(*dpkg, "--install", self.package)
                     continue
                 run(*dpkg, "--install", self.package)
-                told = run(Path(system, "usr/bin/rtfilter"), EXAMPLES / "boxes.csv", EXAMPLES / "queries.txt")
-                self.assertEqual(told, (EXAMPLES / "answers.txt").read_text())
+                told = run(Path(system, "usr/bin/rtfilter"), DATA / "boxes.csv", DATA / "queries.txt")
+                self.assertEqual(told, (DATA / "answers.txt").read_text())
                 run(*dpkg, "--verify", "rtfilter")
                 run(*dpkg, "--purge", "rtfilter")
                 left = [path for path in Path(system).rglob("*") if path.is_file() and data not in path.parents]

@@ -11,7 +11,7 @@ import unittest
 import zipfile
 from pathlib import Path
 
-from support import EXAMPLES, PACKAGE, PROGRAM, ROOT
+from support import DATA, PACKAGE, PROGRAM, ROOT
 from test_package import VERSION, run, wants
 
 MAKE = ROOT / "packaging/make_wheel.py"
@@ -73,7 +73,7 @@ class Wheel(unittest.TestCase):
         self.assertLessEqual(found[2].count("\n>>> ") + found[2].count("\n... ") + 1, 5)
         binaries = self.environment()
         self.pip(binaries, "install", self.wheel)
-        shutil.copytree(EXAMPLES, self.folder / "examples")
+        shutil.copytree(DATA, self.folder / "examples")
         session = self.folder / "session"
         session.write_text(found[2])
         code = f"""

@@ -17,7 +17,7 @@ from pathlib import Path
 ROOT = Path(__file__).resolve().parents[2]
 PACKAGE = ROOT / "clients/python"
 SERVICE = ROOT / "service/serve.py"
-BOXES = ROOT / "examples/boxes.csv"
+BOXES = ROOT / "examples/data/boxes.csv"
 PROGRAM = os.environ["RTFILTER_PROGRAM"]
 SYSTEM_PYTHON = "/usr/bin/python3"  # which other users may run too
 LONG = 20.0  # seconds after which what is waited for doesn't come

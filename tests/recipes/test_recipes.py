@@ -8,7 +8,7 @@ import unittest
 from pathlib import Path
 from unittest import mock
 
-from support import EXAMPLES, PROGRAM, ROOT
+from support import DATA, PROGRAM, ROOT
 
 import pages
 from postgres import server
@@ -38,7 +38,7 @@ class Recipes(unittest.TestCase):
             self.skipTest(f"{', '.join(missing)}: not installed")
         room = Path(self.enterContext(tempfile.TemporaryDirectory()))
         path, folder = room / "bin", room / "examples"
-        shutil.copytree(EXAMPLES, folder)
+        shutil.copytree(DATA, folder)
         path.mkdir()
         (path / "rtfilter").symlink_to(PROGRAM)
         if "psql" in tools:

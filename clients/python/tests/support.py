@@ -10,8 +10,9 @@ from pathlib import Path
 ROOT = Path(__file__).resolve().parents[3]
 PACKAGE = ROOT / "clients/python"
 EXAMPLES = ROOT / "examples"
-BOXES = EXAMPLES / "boxes.csv"
-LAYERS = EXAMPLES / "layers.csv"
+DATA = EXAMPLES / "data"
+BOXES = DATA / "boxes.csv"
+LAYERS = DATA / "layers.csv"
 PROGRAM = os.environ["RTFILTER_PROGRAM"]
 
 sys.path[:0] = [str(PACKAGE), str(ROOT / "tests")]

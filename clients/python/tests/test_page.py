@@ -11,7 +11,7 @@ import unittest
 from pathlib import Path
 from unittest import mock
 
-from support import EXAMPLES, PACKAGE, PROGRAM, ROOT
+from support import DATA, PACKAGE, PROGRAM, ROOT
 
 PAGE = ROOT / "docs/python-client.md"
 README = PACKAGE / "README.md"
@@ -24,13 +24,13 @@ class Page(unittest.TestCase):
         self.assertGreater(self.tries(README), 0)
 
     def tries(self, page: Path) -> int:
-        """How many examples a page has: one session, in a folder with the files of examples/, the program on the path."""
+        """How many examples a page has: one session, in a folder with the files of examples/data/."""
         text = page.read_text(encoding="utf-8")
         told = io.StringIO()
         runner = doctest.DocTestRunner(optionflags=doctest.REPORT_ONLY_FIRST_FAILURE)
         with tempfile.TemporaryDirectory() as room:
             path, folder = Path(room, "bin"), Path(room, "examples")
-            shutil.copytree(EXAMPLES, folder)
+            shutil.copytree(DATA, folder)
             path.mkdir()
             (path / "rtfilter").symlink_to(PROGRAM)
             on_path = mock.patch.dict(os.environ, PATH=f"{path}:{os.environ['PATH']}")

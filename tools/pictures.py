@@ -1,7 +1,7 @@
 #!/usr/bin/env python3
 """Draws the pictures of docs/query-language.md and of docs/DESIGN.md: docs/pictures/*.svg.
 
-usage: docs/pictures.py [--check]
+usage: tools/pictures.py [--check]
 
 The railroad diagrams are made from the grammar block of the page. Which boxes of a picture a region accepts is worked
 out by `tests/reading.py`, how points are packed by `tests/packing.py`, and distances by `tests/search.py`. With
@@ -346,7 +346,7 @@ def on_layer():
 
 
 def example():
-    """The picture of examples/boxes.csv."""
+    """The picture of examples/data/boxes.csv."""
     scene = Scene(-7, 32, -7, 17)
     parts = [
         scene.line((-6, 0), (31, 0), AXIS),
@@ -354,7 +354,7 @@ def example():
         *(scene.label(at, -1.4, at) for at in (10, 20, 30)),
         scene.label(-1.6, 10, 10),
     ]
-    table = reading.boxes((ROOT / "examples/boxes.csv").read_bytes(), False, 100)
+    table = reading.boxes((ROOT / "examples/data/boxes.csv").read_bytes(), False, 100)
     for id, (left, right, bottom, top, _) in table.items():
         if left == right:
             x, y = scene.place(left, top)
@@ -362,7 +362,7 @@ def example():
         else:
             parts.append(scene.box((left, right, bottom, top), YES))
         parts.append(scene.label(left + 1.4, top - 1.4, id))
-    return scene.picture("The five boxes of examples/boxes.csv", parts)
+    return scene.picture("The five boxes of examples/data/boxes.csv", parts)
 
 
 def packed_points():
@@ -458,14 +458,14 @@ def told(numbers):
     return f"{', '.join(front)} and {last}" if front else last
 
 
-# A window over examples/uneven.csv, whose larger boxes have a layer of their own; its units are drawn so many to one.
+# A window over examples/data/uneven.csv, whose larger boxes have a layer of their own; its units are drawn so many to one.
 UNEVEN = (30, 34, 30, 34)
 SCALE, FANOUT = 4, 4
 
 
 def uneven():
-    """The picture of the nodes of level 1 over all boxes of examples/uneven.csv and over the small ones alone."""
-    boxes = reading.boxes((ROOT / "examples/uneven.csv").read_bytes(), False, 100)
+    """The picture of the nodes of level 1 over all boxes of examples/data/uneven.csv and over the small ones alone."""
+    boxes = reading.boxes((ROOT / "examples/data/uneven.csv").read_bytes(), False, 100)
     every = [packing.Entry(id, box[:4], box[4]) for id, box in boxes.items()]
     left, right, bottom, top = (side / SCALE for side in packing.node(every, 1, 0).box)
     apart = right - left + 3
@@ -515,7 +515,7 @@ def main():
     kept = {file.name: file.read_text(encoding="utf-8") for file in PICTURES.glob("*.svg")}
     stale = [name for name in {**kept, **made} if kept.get(name) != made.get(name)]
     for name in stale:
-        print(f"FAIL docs/pictures/{name} isn't what docs/pictures.py draws")
+        print(f"FAIL docs/pictures/{name} isn't what tools/pictures.py draws")
     print(f"{len(made) - len([name for name in stale if name in made])} passed, {len(stale)} failed")
     return int(bool(stale))
 

@@ -11,8 +11,8 @@ The line right above a fenced block of Rattle or antt says where the block comes
 
 A block without such a line is a failure, so that no page shows code that nothing checks.
 
-Run from anywhere: `python3 docs/check_code.py`. The last line is `N passed, M failed`. With a folder,
-`python3 docs/check_code.py FOLDER` writes the files of the reader's crate there in place of that.
+Run from anywhere: `python3 tools/check_code.py`. The last line is `N passed, M failed`. With a folder,
+`python3 tools/check_code.py FOLDER` writes the files of the reader's crate there in place of that.
 """
 
 import pathlib

@@ -1,0 +1,50 @@
+"""Lines from one descriptor, and what is answered to them to another one."""
+
+import os
+import select
+from collections.abc import Callable
+
+from cutting import Cutter
+from signals import Signals
+
+READ = 1 << 16  # bytes at once
+
+Answer = Callable[[int, list[bytes]], bytes]
+"""What is answered to lines, of which the first has this number."""
+
+
+class Stream:
+    """An input and an output."""
+
+    def __init__(self, answer: Answer, signals: Signals, input: int, output: int) -> None:
+        self._answer = answer
+        self._signals = signals
+        self._input, self._output = input, output
+
+    def serve(self) -> None:
+        """Answers each read before the next one, until the input ends or a signal comes that ends it. Raises `OSError` where
+        a read or a write fails."""
+        cutter = Cutter()
+        while self._is_ready(self._input, select.POLLIN):
+            piece = os.read(self._input, READ)
+            answered = self._answer(*(cutter.cut(piece) if piece else cutter.rest()))
+            if not (self._write(answered) and piece):
+                return
+
+    def _write(self, answered: bytes) -> bool:
+        """Whether all was written before a signal came that ends it. No write waits, and has a signal wait: a pipe that can be
+        written to takes PIPE_BUF bytes."""
+        unsent = memoryview(answered)
+        while unsent and self._is_ready(self._output, select.POLLOUT):
+            unsent = unsent[os.write(self._output, unsent[: select.PIPE_BUF]) :]
+        return not unsent
+
+    def _is_ready(self, descriptor: int, event: int) -> bool:
+        """Waits for a descriptor; false where a signal comes that ends it."""
+        poll = select.poll()
+        poll.register(descriptor, event)
+        poll.register(self._signals, select.POLLIN)
+        while not self._signals.is_end():
+            if any(ready == descriptor for ready, _ in poll.poll()):
+                return True
+        return False

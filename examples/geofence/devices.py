@@ -1,0 +1,80 @@
+"""When each device was last heard of, and which zones held it then: some 150 bytes a device."""
+
+import json
+from array import array
+from collections.abc import Iterable
+from typing import Any
+
+from fences import Held, Zone
+
+
+class Refused(Exception):
+    """Why a position isn't taken."""
+
+
+class Devices:
+    """What is known of devices, of so many at most."""
+
+    def __init__(self, most: int) -> None:
+        self._most = most
+        # By a device's place in two columns: values of its own in the dictionary would take twice the memory.
+        self._place_of: dict[bytes, int] = {}
+        self._moments = array("d")
+        self._held: list[Held] = []
+
+    def __len__(self) -> int:
+        return len(self._place_of)
+
+    def move(self, device: bytes, moment: float, held: Held) -> Held:
+        """Takes which zones hold a device at a moment. Gives those that held it before: at first none.
+
+        Raises `Refused` for a moment before the last one, and for one device too many.
+        """
+        place = self._place_of.get(device)
+        if place is None:
+            self._add(device, moment, held)
+            return ()
+        if moment < self._moments[place]:
+            raise Refused("older than the last position of its device")
+        self._moments[place] = moment
+        before, self._held[place] = self._held[place], held
+        return before
+
+    def _add(self, device: bytes, moment: float, held: Held) -> None:
+        if len(self) == self._most:
+            raise Refused(f"one device more than {self._most}")
+        self._place_of[device] = len(self)
+        self._moments.append(moment)
+        self._held.append(held)
+
+    def resume(self, lines: Iterable[str]) -> int:
+        """Takes from events that were told before when each device was last told of, and which zones held it then. Gives how
+        many lines are no events, as one that was cut off."""
+        same: dict[Any, Any] = {}  # so that what is equal is kept once
+        strays = 0
+        for line in lines:
+            change = change_of(line)
+            if change is None:
+                strays += 1
+                continue
+            device, moment, is_in, zone = change
+            if device not in self._place_of:
+                self._add(device, moment, ())
+            place = self._place_of[device]
+            others = tuple(other for other in self._held[place] if other != zone)
+            held = (*others, same.setdefault(zone, zone)) if is_in else others
+            self._held[place] = same.setdefault(held, held)
+            self._moments[place] = moment
+        return strays
+
+
+def change_of(line: str) -> tuple[bytes, float, bool, Zone] | None:
+    """The device, the moment, whether it is in a zone from then on, and the zone, of an event of one that is entered or left;
+    what else is told is passed over as `None`."""
+    try:
+        told = json.loads(line)
+        is_in = {"enter": True, "leave": False}[told["event"]]
+        zone = Zone(told["zone"], told.get("name"), told.get("layer"))
+        return told["device"].encode(), float(told["time"]), is_in, zone
+    except (ValueError, KeyError, TypeError, AttributeError):
+        return None

@@ -1,0 +1,94 @@
+#!/usr/bin/env python3
+"""Tells which devices enter and leave the zones of a file, as their positions come.
+
+usage: fence.py [--unix PATH] [--layer PROPERTY] [--on LAYERS] [--devices N] [--resume EVENTS] [--mode MODE]
+                [--connections N] [--patience SECONDS] [--timeout SECONDS] [--program PROGRAM] ZONES
+
+Positions are lines DEVICE,LONGITUDE,LATITUDE,TIME on standard input, or from all who connect to PATH; what is told of them
+are lines of JSON. README.md says which.
+"""
+
+import argparse
+import contextlib
+import resource
+import sys
+from functools import partial
+from pathlib import Path
+
+HERE = Path(__file__).resolve().parent
+sys.path[:0] = [str(HERE.parent.parent / folder) for folder in ("clients/python", "service", "examples/common")]
+
+from connections import Connections
+from devices import Devices, Refused
+from events import Fence
+from exchange import Exchange
+from fences import Fences
+from listening import unix_listener
+from signals import Signals
+from stream import Stream
+
+from rtfilter import RtfilterError
+
+OTHER_FILES = 64  # descriptors that are left for what is no connection
+
+
+def arguments() -> argparse.Namespace:
+    parser = argparse.ArgumentParser(description="Tells which devices enter and leave zones, as their positions come.")
+    parser.add_argument("zones", help="a file of GeoJSON: polygons in degrees")
+    parser.add_argument("--unix", metavar="PATH", help="takes positions from all who connect to this socket")
+    parser.add_argument("--mode", type=partial(int, base=8), default=0o600, help="of the socket, in octal digits (600)")
+    parser.add_argument("--connections", type=int, default=256, metavar="N", help="served at once (256)")
+    parser.add_argument("--patience", type=float, default=60.0, metavar="SECONDS", help="with who takes nothing (60)")
+    parser.add_argument("--layer", default="layer", metavar="PROPERTY", help="which has a zone's layer (layer)")
+    parser.add_argument("--on", default="", metavar="LAYERS", help="which matter where a position names none, by ; (all)")
+    parser.add_argument("--devices", type=int, default=1_000_000, metavar="N", help="that are known at most (1000000)")
+    parser.add_argument("--resume", metavar="EVENTS", help="goes on from what was told before, a file of events")
+    parser.add_argument("--timeout", type=float, default=30.0, metavar="SECONDS", help="for the program (30)")
+    parser.add_argument("--program", default="rtfilter", help="rtfilter, by its name or path")
+    return parser.parse_args()
+
+
+def tell(text: str) -> None:
+    with contextlib.suppress(OSError):
+        print(f"fence.py: {text}", file=sys.stderr, flush=True)
+
+
+def resumed(file: str | None, most: int) -> Devices:
+    """What is known of devices at the start: nothing, or what events of before tell."""
+    devices = Devices(most)
+    if file is not None:
+        with open(file, encoding="utf-8", errors="replace") as events:
+            strays = devices.resume(events)
+        tell(f"devices: {len(devices)}; lines that are no events: {strays}")
+    return devices
+
+
+def serve(args: argparse.Namespace, fence: Fence, signals: Signals) -> None:
+    if args.unix is None:
+        Stream(fence.told_of, signals, sys.stdin.fileno(), sys.stdout.fileno()).serve()
+        return
+    most = min(args.connections, resource.getrlimit(resource.RLIMIT_NOFILE)[0] - OTHER_FILES)
+    with unix_listener(args.unix, args.mode) as listener:
+        tell(f"listening at {args.unix}")
+        Connections(fence, signals, listener, most, args.patience).serve()
+
+
+def main() -> int:
+    args = arguments()
+    load = partial(Fences, args.zones, args.layer, args.on, args.program, args.timeout)
+    try:
+        devices = resumed(args.resume, args.devices)
+        exchange = Exchange(load, tell)
+        signals = Signals(exchange.begin)
+        fences = load()
+        tell(f"zones: {len(fences.zones)}")
+        with contextlib.closing(Fence(fences, devices, exchange)) as fence:
+            serve(args, fence, signals)
+    except (RtfilterError, Refused, OSError, ValueError, RecursionError) as error:
+        tell(str(error))
+        return 1
+    return 0
+
+
+if __name__ == "__main__":
+    sys.exit(main())

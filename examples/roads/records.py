@@ -1,0 +1,58 @@
+"""Positions of a CSV file, whose records are written again with the roads nearest to them."""
+
+import csv
+from collections.abc import Callable, Iterator
+from itertools import islice
+from typing import TextIO
+
+from snapping import Position, Snapping
+
+AT_ONCE = 1000  # records
+
+Record = list[str]
+
+
+class Records:
+    """A CSV file with a header, and what is told of its records."""
+
+    def __init__(self, file: TextIO, columns: tuple[str, str], snapping: Snapping, tell: Callable[[str], None]) -> None:
+        """The coordinates are in these columns. Records that are passed over are told of. Raises `ValueError` where the header
+        doesn't have each column once."""
+        self._snapping = snapping
+        self._tell = tell
+        self._reader = csv.reader(file)
+        self._names: Record = next(self._reader, [])
+        for column in columns:
+            if self._names.count(column) != 1:
+                raise ValueError(f"{self._names.count(column)} columns are called {column}, and not one")
+        self._x, self._y = map(self._names.index, columns)
+        self.are_sound = True
+        """Whether no record was passed over so far."""
+
+    @property
+    def header(self) -> Record:
+        return [*self._names, *(f"nearest_{name}" for name in ("rank", "road", "name", *self._snapping.plane.names))]
+
+    def batches(self) -> Iterator[list[Record]]:
+        """Each record, once for each of its nearest roads, those of some records at once."""
+        remaining = self._positions()
+        while batch := list(islice(remaining, AT_ONCE)):
+            snapped_each = self._snapping.snapped_each([position for _, position in batch])
+            yield [
+                [*record, str(rank), str(it.road.id), it.road.name or "", *map(str, self._snapping.rounded(it))]
+                for (record, _), snapped in zip(batch, snapped_each)
+                for rank, it in enumerate(snapped, 1)
+            ]
+
+    def _positions(self) -> Iterator[tuple[Record, Position]]:
+        """The records that tell a position. Empty lines are no records."""
+        for record in filter(None, self._reader):
+            try:
+                if len(record) != len(self._names):
+                    raise ValueError(f"{len(record)} fields, and not {len(self._names)}")
+                position = self._snapping.position(float(record[self._x]), float(record[self._y]))
+            except ValueError as why:
+                self._tell(f"line {self._reader.line_num}: {why}")
+                self.are_sound = False
+                continue
+            yield record, position

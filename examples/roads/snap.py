@@ -1,0 +1,87 @@
+#!/usr/bin/env python3
+"""Tells the roads nearest to positions, the point on each, and how far it is.
+
+usage: snap.py [--nearest K] [--scale UNITS] [--columns X,Y] [--timeout SECONDS] [--program PROGRAM] ROADS [POSITIONS]
+
+Without POSITIONS, lines NAME,LONGITUDE,LATITUDE are read from standard input and answered by lines of JSON. POSITIONS is a
+CSV file with a header, whose records are written again with what is told of them. README.md says more.
+"""
+
+import argparse
+import contextlib
+import csv
+import sys
+from pathlib import Path
+
+HERE = Path(__file__).resolve().parent
+sys.path[:0] = [str(HERE.parent.parent / folder) for folder in ("clients/python", "examples/common")]
+
+from planes import Plane, Scaled, WebMercator
+from records import Records
+from roads import Roads
+from signals import Signals
+from snapping import Snapping
+from stream import Stream
+
+from rtfilter import RtfilterError
+
+
+def arguments() -> argparse.Namespace:
+    parser = argparse.ArgumentParser(description="Tells the roads nearest to positions, and how far it is.")
+    parser.add_argument("roads", help="a file of GeoJSON: lines in degrees, or with --scale in any plane")
+    parser.add_argument("positions", nargs="?", help="a CSV file with a header")
+    parser.add_argument("--nearest", type=int, default=1, metavar="K", help="how many roads (1)")
+    parser.add_argument("--scale", type=float, metavar="UNITS", help="whole units of a coordinate, which is of a plane")
+    parser.add_argument("--columns", metavar="X,Y", help="of POSITIONS (longitude,latitude, or x,y with --scale)")
+    parser.add_argument("--timeout", type=float, default=30.0, metavar="SECONDS", help="for the program (30)")
+    parser.add_argument("--program", default="rtfilter", help="rtfilter, by its name or path")
+    args = parser.parse_args()
+    if args.nearest < 1:
+        parser.error("one road or more is told")
+    if args.scale is not None and not 0 < args.scale < float("inf"):
+        parser.error("a scale is above 0")
+    return args
+
+
+def tell(text: str) -> None:
+    with contextlib.suppress(OSError):
+        print(f"snap.py: {text}", file=sys.stderr, flush=True)
+
+
+def columns_of(args: argparse.Namespace) -> tuple[str, str]:
+    names = ("longitude,latitude" if args.scale is None else "x,y") if args.columns is None else args.columns
+    x, _, y = names.partition(",")
+    return x, y
+
+
+def write_records(args: argparse.Namespace, snapping: Snapping) -> bool:
+    """Whether each record of the file was taken. Raises `OSError` where they can't be read or written."""
+    with open(args.positions, encoding="utf-8-sig", newline="") as file:
+        records = Records(file, columns_of(args), snapping, tell)
+        with open(sys.stdout.fileno(), "w", encoding="utf-8", newline="", closefd=False) as output:
+            writer = csv.writer(output, lineterminator="\n")
+            writer.writerow(records.header)
+            for batch in records.batches():
+                writer.writerows(batch)
+                output.flush()
+    return records.are_sound
+
+
+def main() -> int:
+    args = arguments()
+    plane: Plane = WebMercator() if args.scale is None else Scaled(args.scale)
+    try:
+        with Roads(args.roads, plane, args.program, args.timeout) as roads:
+            tell(f"roads: {len(roads)}")
+            snapping = Snapping(roads, plane, args.nearest)
+            if args.positions is not None:
+                return int(not write_records(args, snapping))
+            Stream(snapping.told_of, Signals(), sys.stdin.fileno(), sys.stdout.fileno()).serve()
+    except (RtfilterError, OSError, ValueError, RecursionError, csv.Error) as error:
+        tell(str(error))
+        return 1
+    return 0
+
+
+if __name__ == "__main__":
+    sys.exit(main())

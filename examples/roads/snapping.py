@@ -1,0 +1,97 @@
+"""What is told of positions: the roads nearest to each, the point on each, and how far it is."""
+
+import json
+import re
+from collections.abc import Iterator, Sequence
+from typing import NamedTuple
+
+from cutting import LONGEST_LINE, NAME, NUMBER, is_skipped
+from planes import Far, Plane
+from roads import Road, Roads
+
+from rtfilter.plane import Place
+
+LINE = re.compile(rb",".join([NAME, NUMBER, NUMBER]) + rb"\r?")
+"""A name, in quotes or not, and two coordinates."""
+
+
+class Position(NamedTuple):
+    """Two coordinates, and the same in whole units of the plane."""
+
+    x: float
+    y: float
+    place: Place
+
+
+class Snapped(NamedTuple):
+    """A road near a position, the coordinates of its nearest point, and how far it is."""
+
+    road: Road
+    x: float
+    y: float
+    far: Far
+
+
+class Snapping:
+    """Roads of a plane, of which the k nearest are told."""
+
+    def __init__(self, roads: Roads, plane: Plane, k: int) -> None:
+        self._roads = roads
+        self._k = k
+        self.plane = plane
+
+    def position(self, x: float, y: float) -> Position:
+        """Raises `ValueError` for what isn't in the plane."""
+        try:
+            return Position(x, y, self.plane.whole(x, y))
+        except OverflowError as error:
+            raise ValueError(str(error)) from None
+
+    def snapped_each(self, positions: Sequence[Position]) -> Iterator[list[Snapped]]:
+        """The roads nearest to each position, by their distances in the plane."""
+        found_each = self._roads.nearest_each(self._k, [position.place for position in positions])
+        for (x, y, _), found in zip(positions, found_each):
+            points = [self.plane.back(*it.point) for it in found]
+            yield [Snapped(it.road, *point, self.plane.far((x, y), point)) for it, point in zip(found, points)]
+
+    def told_of(self, first: int, lines: list[bytes]) -> bytes:
+        """The lines that are told of lines that were read at once, in their order. The first of them has this number."""
+        told: dict[int, str] = {}
+        names: list[tuple[int, str]] = []
+        positions: list[Position] = []
+        for line, text in enumerate(lines, first):
+            if is_skipped(text):
+                continue
+            try:
+                name, x, y = fields_of(text)
+                positions.append(self.position(x, y))
+                names.append((line, name))
+            except ValueError as why:
+                told[line] = f'{{"line": {line}, "refused": {json.dumps(str(why))}}}\n'
+        for (line, name), snapped in zip(names, self.snapped_each(positions)):
+            nearest = ", ".join([self.object_of(it) for it in snapped])
+            told[line] = f'{{"line": {line}, "name": {json.dumps(name)}, "nearest": [{nearest}]}}\n'
+        return "".join([told[line] for line in sorted(told)]).encode()
+
+    def rounded(self, snapped: Snapped) -> tuple[float, float, float, float]:
+        """What is told of a road in numbers, in the order of the plane's names."""
+        return self.plane.rounded(snapped.x, snapped.y, snapped.far)
+
+    def object_of(self, snapped: Snapped) -> str:
+        """A road near a position, as an object of JSON."""
+        numbers = zip(self.plane.names, self.rounded(snapped))
+        return ", ".join([f"{{{snapped.road.members}", *[f'"{name}": {number}' for name, number in numbers]]) + "}"
+
+
+def fields_of(line: bytes) -> tuple[str, float, float]:
+    """The name and the coordinates of a line. Raises `ValueError` for another one."""
+    match = LINE.fullmatch(line)
+    if len(line) > LONGEST_LINE:
+        raise ValueError(f"a line of more than {LONGEST_LINE} bytes")
+    if match is None:
+        raise ValueError("not NAME,X,Y")
+    quoted, plain, x, y = match.groups(b"")
+    try:
+        return (quoted or plain).decode(), float(x), float(y)
+    except UnicodeDecodeError:
+        raise ValueError("a name that isn't of UTF-8") from None

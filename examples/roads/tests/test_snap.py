@@ -1,0 +1,344 @@
+"""Roads are those that are nearest in the plane, exactly, and how far they are is right on the ground."""
+
+import contextlib
+import csv
+import io
+import json
+import math
+import os
+import random
+import re
+import select
+import signal
+import subprocess
+import tempfile
+import unittest
+from fractions import Fraction
+from pathlib import Path
+from typing import Any
+
+from snap_support import EXAMPLE, LONGEST, PROGRAM, ROOT, road, run, told_by_peers, words_of, write_roads
+
+import pages
+from planes import MOST_LATITUDE, Scaled, WebMercator, on_ground
+from roads import Roads
+from snapping import Snapping
+
+from rtfilter.plane import distance2
+
+MOST_MICROSECONDS = 300  # of processor time for a position: the page promises less, but others may use the machine
+Path_ = list[tuple[int, int]]
+
+
+class Folder(unittest.TestCase):
+    def setUp(self) -> None:
+        self.folder = Path(self.enterContext(tempfile.TemporaryDirectory()))
+        self.file = self.folder / "roads.geojson"
+
+    def roads(self, features: list[dict[str, Any]], plane: Any) -> Roads:
+        write_roads(self.file, features)
+        return self.enterContext(Roads(str(self.file), plane, PROGRAM, LONGEST))
+
+
+class Nearest(Folder):
+    """In whole units, where nothing is rounded."""
+
+    def test_order(self) -> None:
+        """Roads of pieces long and short, crossing and touching, on a grid so small that many are as near."""
+        chance = random.Random(1)
+        for _ in range(25):
+            high, count = chance.choice([5, 30, 1000, 2**31 - 1]), chance.randint(1, 60)
+            paths = [some_paths(chance, high) for _ in range(count)]
+            roads = self.roads([road(at, *it) for at, it in enumerate(paths)], Scaled(1))
+            places = [some_place(chance, high) for _ in range(40)]
+            for k in (1, 3, 100):
+                for (x, y), found in zip(places, roads.nearest_each(k, places)):
+                    squares = [(least_square(it, x, y), at) for at, it in enumerate(paths)]
+                    told = [(Fraction(it.foot.above, it.foot.below), it.road.id) for it in found]
+                    self.assertEqual(told, sorted(squares)[:k])
+                    for it in found:
+                        self.assertLessEqual(abs(math.dist(it.point, (x, y)) - math.sqrt(it.foot.squared)), 1e-6 * high)
+
+    def test_as_shapely(self) -> None:
+        """Roads, their distances and nearest points. Where two roads are exactly as near, shapely's floats may differ in their
+        last bit, and have the order of that."""
+        chance = random.Random(2)
+        paths = [some_paths(chance, 10_000_000) for _ in range(150)]
+        places = [some_place(chance, 10_000_000) for _ in range(150)]
+        lines = [road(0, *it)["geometry"] for it in paths]
+        told = told_by_peers(self, lines=lines, points=places)
+        roads = self.roads([road(at, *it) for at, it in enumerate(paths)], Scaled(1))
+        for found, distances, feet in zip(roads.nearest_each(10, places), told["distances"], told["feet"]):
+            self.assertEqual([it.road.id for it in found], sorted(range(150), key=lambda at: (round(distances[at], 6), at))[:10])
+            for it in found:
+                self.assertAlmostEqual(math.sqrt(it.foot.squared), distances[it.road.id], delta=1e-3)
+                self.assertLess(math.dist(it.point, feet[it.road.id]), 1e-3)
+
+    def test_what_floats_cannot_tell(self) -> None:
+        """The farther road comes first in the file, and both have the same distance in floats: one piece lies on the line from
+        (0, -1) to (2^31 - 1, 2^31 - 3), the other a little nearer."""
+        far = 2**31 - 1
+        first, second = [(far, far - 1), (0, -1)], [(far - 1, far - 3), (0, -2)]
+        place = (far // 2, far // 2 - 1)
+        squares = [least_square([it], *place) for it in (first, second)]
+        third = [(place[0] + 5, place[1] + 3), (place[0] + 5, place[1] + 9)]
+        fourth = [(place[0] + 3, place[1] - 5), (place[0] + 9, place[1] - 5)]
+        features = [road(at, it) for at, it in enumerate((first, second, third, fourth))]
+        roads = self.roads(features, Scaled(1))
+        squares += [Fraction(34), Fraction(34)]
+        (found,) = roads.nearest_each(4, [place])
+        self.assertEqual([it.road.id for it in found], sorted(range(4), key=lambda at: (squares[at], at)))
+
+    def test_long_slanting_roads(self) -> None:
+        """A position lies in most of their boxes, so that nearly all are asked for."""
+        chance = random.Random(3)
+        far = 10**9
+        paths = [[[(chance.randint(-far, far), -far), (chance.randint(-far, far), far)]] for _ in range(1500)]
+        roads = self.roads([road(at, *it) for at, it in enumerate(paths)], Scaled(1))
+        places = [some_place(chance, far // 4) for _ in range(20)]
+        for (x, y), found in zip(places, roads.nearest_each(3, places)):
+            wanted = sorted((least_square(it, x, y), at) for at, it in enumerate(paths))[:3]
+            self.assertEqual([it.road.id for it in found], [at for _, at in wanted])
+
+    def test_the_program_is_killed(self) -> None:
+        roads = self.roads([road("a", [(0, 0), (1, 1)])], Scaled(1))
+        for _ in range(3):
+            children = Path(f"/proc/self/task/{os.getpid()}/children").read_text().split()
+            for process in map(int, children):
+                if Path(f"/proc/{process}/comm").read_text() == f"{Path(PROGRAM).name}\n":
+                    os.kill(process, signal.SIGKILL)
+            self.assertEqual([it.road.id for it in next(roads.nearest_each(1, [(5, 5)]))], ["a"])
+
+
+class OnTheGround(Folder):
+    def test_distances(self) -> None:
+        """As geodesics of the ellipsoid, but for a hundred-thousandth."""
+        chance = random.Random(4)
+        pairs = []
+        for _ in range(2000):
+            x, y, reach = chance.uniform(-170, 170), chance.uniform(-84, 84), 10 ** chance.uniform(-7, 1.5)
+            pairs.append(((x, y), (x + chance.uniform(-reach, reach), min(84, max(-84, y + chance.uniform(-reach, reach))))))
+        for pair, metres in zip(pairs, told_by_peers(self, pairs=pairs)["metres"]):
+            self.assertLess(abs(on_ground(*pair) - metres), 2e-5 * metres + 1e-6, pair)
+        self.assertEqual(on_ground((5, 5), (5, 5)), 0)
+        self.assertAlmostEqual(on_ground((0, 0), (180, 0)) / 20_003_931, 1, delta=0.01)
+
+    def test_errors(self) -> None:
+        """Of the nearest road no point is nearer on the ground than the error says, by geodesics to many points of it."""
+        chance = random.Random(5)
+        plane, asked = WebMercator(), []
+        for _ in range(150):
+            x, y, reach = chance.uniform(-179, 179), chance.uniform(-82, 82), 10 ** chance.uniform(-5, 0.3)
+            ends = [(x + chance.uniform(-reach, reach), y + chance.uniform(-reach, reach)) for _ in range(2)]
+            asked.append(((x, y), [(min(180, max(-180, east)), north) for east, north in ends]))
+        features = [road(at, ends) for at, (_, ends) in enumerate(asked)]
+        pairs, seen = [], []
+        for (position, ends), feature in zip(asked, features):
+            snapping = Snapping(self.roads([feature], plane), plane, 1)
+            ((snapped,),) = snapping.snapped_each([snapping.position(*position)])
+            on_road = points_of(plane, ends)
+            seen.append((snapped, len(on_road)))
+            pairs += [(position, (snapped.x, snapped.y)), *((position, it) for it in on_road)]
+        metres = iter(told_by_peers(self, pairs=pairs)["metres"])
+        tight = 0
+        for snapped, count in seen:
+            to_foot, least = next(metres), min(next(metres) for _ in range(count))
+            self.assertLess(abs(to_foot - snapped.far.distance), 2e-5 * to_foot + 1e-3)
+            self.assertLess(snapped.far.distance - snapped.far.error, least + 1e-6)
+            self.assertLess(to_foot, least * 1.5 + 0.03 + snapped.far.error)
+            tight += snapped.far.error < 0.01 * snapped.far.distance + 0.03
+        self.assertGreater(tight, 80)
+
+    def test_degrees_order_wrongly(self) -> None:
+        """At 60 degrees north a degree to the east is half of one to the north."""
+        features = [road("north", [(9, 60.012), (11, 60.012)]), road("east", [(10.02, 59), (10.02, 61)])]
+        write_roads(self.file, features)
+        for options, first in ((["--scale", 1e7], "north"), ([], "east")):
+            done = run(*options, self.file, lines=b"a,10,60\n")
+            self.assertEqual(json.loads(done.stdout)["nearest"][0]["road"], first)
+
+    def test_edges(self) -> None:
+        """Where a nearer road may lie beyond the edge of the plane, nothing is promised."""
+        plane = WebMercator()
+        self.assertEqual(plane.whole(180, MOST_LATITUDE), (2003750834, 2003750824))
+        self.assertEqual(plane.whole(-180, -MOST_LATITUDE), (-2003750834, -2003750824))
+        for position in ((180.0000001, 0), (0, 85.0511288), (math.nan, 0), (0, math.inf)):
+            with self.assertRaises(ValueError):
+                plane.whole(*position)
+        for position, point in (((179.9, 10), (179.0, 10)), ((0, 84), (0, 82)), ((-179.9, -10), (-179, -10))):
+            far = plane.far(position, point)
+            self.assertEqual(far.error, far.distance)
+        for x, y in ((0, 0), (12345678, -1234567890), (-2003750834, 2003750820)):
+            self.assertEqual(plane.whole(*plane.back(x, y)), (x, y))
+
+
+class Program(Folder):
+    def setUp(self) -> None:
+        super().setUp()
+        features = [road(7, [(0, 0), (1000, 0)], name="Lane"), road("x", [(0, 5), (0, 9)], [(50, 3), (60, 3)])]
+        write_roads(self.file, features)
+
+    def test_lines(self) -> None:
+        """Each is answered, or told why not, in its order; lines that are blank and comments are counted."""
+        faulty = [
+            b"x", b"a,1", b"a,1,2,3", b",1,2", b"a,1,x", b"a,01,2", b"a,nan,2", b"\xff,1,2", b"a,1e999,2", b"a,3e9,2",
+            b"x" * 5000, b'"a,1,2',
+        ]  # fmt: skip
+        text = b"a,55,2\n\n# c\n" + b"".join(line + b"\n" for line in faulty) + b'"b, c",5,6'
+        text = text.replace(b"b, c", b"b c")
+        done = run("--scale", 1, "--nearest", 5, self.file, lines=text)
+        self.assertEqual((done.returncode, done.stderr), (0, b"snap.py: roads: 2\n"))
+        told = [json.loads(line) for line in done.stdout.splitlines()]
+        self.assertEqual([it["line"] for it in told], [1, *range(4, 5 + len(faulty))])
+        self.assertEqual([*told[0]], ["line", "name", "nearest"])
+        near = {"x": 55.0, "y": 3.0, "distance": 1.0, "error": 2.2}
+        far = {"x": 55.0, "y": 0.0, "distance": 2.0, "error": 2.2}
+        self.assertEqual(told[0]["nearest"], [{"road": "x", **near}, {"road": 7, "name": "Lane", **far}])
+        self.assertTrue(all("refused" in it for it in told[1:-1]), told)
+        self.assertEqual((told[-1]["name"], [it["road"] for it in told[-1]["nearest"]]), ("b c", ["x", 7]))
+
+    def test_each_read_is_answered_before_the_next(self) -> None:
+        pipes = {"stdin": subprocess.PIPE, "stdout": subprocess.PIPE, "stderr": subprocess.DEVNULL}
+        with subprocess.Popen(words_of("--scale", 1, self.file), bufsize=0, **pipes) as process:
+            assert process.stdin and process.stdout
+            for number in range(100):
+                process.stdin.write(b"%d,1,1\n%d,2,2\npart" % (number, number))
+                told = b""
+                while told.count(b"\n") < 2:
+                    self.assertTrue(select.select([process.stdout], [], [], LONGEST)[0])
+                    told += os.read(process.stdout.fileno(), 1 << 16)
+                self.assertEqual(told.count(b"\n"), 2)
+                process.stdin.write(b"\n")
+                self.assertIn(b"refused", process.stdout.readline())
+            process.send_signal(signal.SIGTERM)
+            self.assertEqual(process.wait(LONGEST), 0)
+
+    def test_records(self) -> None:
+        """A CSV file is written again, with the same roads that lines are told."""
+        chance = random.Random(6)
+        places = [(chance.randint(-20, 80), chance.randint(-20, 30)) for _ in range(2500)]
+        records = self.folder / "records.csv"
+        with open(records, "w", encoding="utf-8-sig", newline="") as file:
+            writer = csv.writer(file)
+            writer.writerows([["id", "y", 'a "note"', "x"], *([at, y, 'b,"\n', x] for at, (x, y) in enumerate(places))])
+        done = run("--scale", 1, "--nearest", 2, self.file, records)
+        self.assertEqual((done.returncode, done.stderr), (0, b"snap.py: roads: 2\n"))
+        header, *rows = csv.reader(io.StringIO(done.stdout.decode(), newline=""))
+        names = ["rank", "road", "name", "x", "y", "distance", "error"]
+        self.assertEqual(header, ["id", "y", 'a "note"', "x", *(f"nearest_{name}" for name in names)])
+        lines = "".join(f"{at},{x},{y}\n" for at, (x, y) in enumerate(places))
+        told = run("--scale", 1, "--nearest", 2, self.file, lines=lines.encode()).stdout.splitlines()
+        wanted = [
+            [str(at), str(y), 'b,"\n', str(x), str(rank), str(it["road"]), it.get("name", ""), *(str(it[name]) for name in names[3:])]
+            for (at, (x, y)), line in zip(enumerate(places), told)
+            for rank, it in enumerate(json.loads(line)["nearest"], 1)
+        ]
+        self.assertEqual(rows, wanted)
+
+    def test_records_that_are_faulty(self) -> None:
+        """They are told by their lines, the others are written, and the status says so."""
+        records = self.folder / "records.csv"
+        records.write_text("name,east,north\na,1,1\n\nb,x,1\nc,1\nd,1,1,1\ne,1e10,1\nf,,1\ng,nan,1\nh,2,2\n")
+        done = run("--scale", 1, "--columns", "east,north", self.file, records)
+        self.assertEqual(done.returncode, 1)
+        self.assertEqual([line[:1] for line in done.stdout.decode().splitlines()], ["n", "a", "h"])
+        told = re.findall(r"snap.py: line (\d+): ", done.stderr.decode())
+        self.assertEqual(told, ["4", "5", "6", "7", "8", "9"])
+        for columns, why in (("x,y", "0 columns are called x"), ("east", "0 columns are called ,")):
+            done = run("--scale", 1, "--columns", columns, self.file, records)
+            self.assertEqual((done.returncode, done.stdout), (1, b""))
+            self.assertIn(why, done.stderr.decode())
+
+    def test_who_reads_leaves(self) -> None:
+        records = self.folder / "records.csv"
+        records.write_text("x,y\n" + "1,1\n" * 50_000)
+        for options, text in (([records], b""), ([], b"a,1,1\n" * 50_000)):
+            lines = self.folder / "lines"
+            lines.write_bytes(text)
+            with open(lines, "rb") as file, subprocess.Popen(
+                words_of("--scale", 1, self.file, *options), stdin=file, stdout=subprocess.PIPE, stderr=subprocess.PIPE
+            ) as process:
+                assert process.stdout and process.stderr
+                process.stdout.readline()
+                process.stdout.close()
+                told = process.stderr.read().decode().splitlines()
+                self.assertEqual((process.wait(LONGEST), told[1:]), (1, ["snap.py: [Errno 32] Broken pipe"]))
+
+    def test_roads_that_are_not_taken(self) -> None:
+        for features, told in (
+            ([road(1, [(0, 0), (0, 0.2)])], "features[0]: a line whose positions, in whole numbers, are one"),
+            ([road(1, [(0, 0)])], "features[0]: a line of fewer than two positions"),
+            ([road(1, [(0, 0), (3e9, 0)])], "features[0]: a coordinate that is out of the range of 32 bits"),
+            ([road(1, [(0, 0), ("1", 0)])], "features[0]: a coordinate that is no number: '1'"),
+            ([road(1, [(0, 0), (True, 0)])], "features[0]: a coordinate that is no number: True"),
+            ([{"type": "Feature", "geometry": None, "properties": {}}], "features[0]: no geometry"),
+            ([{"type": "Feature", "geometry": {"type": "Point", "coordinates": [0, 0]}, "properties": {}}],
+             "features[0]: the geometry is of type Point, and neither LineString nor MultiLineString"),
+        ):  # fmt: skip
+            write_roads(self.file, features)
+            done = run("--scale", 1, self.file)
+            self.assertEqual((done.returncode, done.stderr.decode()), (1, f"snap.py: {told}\n"))
+        write_roads(self.file, [])
+        done = run(self.file, lines=b"a,1,1\n")
+        self.assertEqual(json.loads(done.stdout), {"line": 1, "name": "a", "nearest": []})
+
+    def test_processor_time(self) -> None:
+        words = [EXAMPLE / "measure.py", "--program", PROGRAM, "--positions", "20000", "--runs", "1"]
+        done = subprocess.run([*map(str, words)], capture_output=True, text=True, check=True, timeout=LONGEST)
+        for kind in ("line", "record"):
+            each = re.search(rf"a {kind} (-?[0-9.]+) us", done.stdout)
+            assert each is not None, done.stdout
+            self.assertLess(float(each[1]), MOST_MICROSECONDS)
+
+
+class Page(unittest.TestCase):
+    def test_examples(self) -> None:
+        """Each shows what it prints, in a checkout with the program on the path."""
+        path = Path(self.enterContext(tempfile.TemporaryDirectory()))
+        (path / "rtfilter").symlink_to(PROGRAM)
+        examples = [*pages.sessions((EXAMPLE / "README.md").read_text(encoding="utf-8"))]
+        self.assertGreater(len(examples), 1)
+        for command, shown in examples:
+            self.assertEqual(pages.printed(command, ROOT, path), shown, command)
+
+    def test_types(self) -> None:
+        if subprocess.run(["which", "mypy"], capture_output=True).returncode:
+            self.skipTest("mypy isn't installed")
+        environment = {**os.environ, "MYPYPATH": os.pathsep.join(str(ROOT / it) for it in ("clients/python", "examples/common"))}
+        with contextlib.chdir(EXAMPLE):
+            words = ["mypy", "--strict", "--cache-dir", os.devnull, *map(str, EXAMPLE.glob("*.py"))]
+            done = subprocess.run(words, env=environment, capture_output=True, text=True, timeout=LONGEST)
+        self.assertEqual(done.returncode, 0, done.stdout)
+
+
+def some_place(chance: random.Random, high: int) -> tuple[int, int]:
+    return chance.randint(-high, high), chance.randint(-high, high)
+
+
+def some_paths(chance: random.Random, high: int) -> list[Path_]:
+    """The lines of a road, which are long or short."""
+    paths = []
+    for _ in range(chance.choice([1, 1, 1, 3])):
+        x, y = some_place(chance, high)
+        step = chance.choice([high, max(1, high // 50)])
+        path = [(x, y)]
+        while len(path) < 2 or chance.random() < 0.7:
+            x, y = (min(high, max(-high, it + chance.randint(-step, step))) for it in path[-1])
+            if (x, y) != path[-1]:
+                path.append((x, y))
+        paths.append(path)
+    return paths
+
+
+def least_square(paths: list[Path_], x: int, y: int) -> Fraction:
+    return min(distance2(piece, x, y) for path in paths for piece in zip(path, path[1:]))
+
+
+def points_of(plane: WebMercator, ends: list[tuple[float, float]]) -> list[tuple[float, float]]:
+    """Many points of a straight piece of the plane."""
+    (ax, ay), (bx, by) = (plane.whole(*it) for it in ends)
+    return [plane.back(ax + (bx - ax) * at / 1000, ay + (by - ay) * at / 1000) for at in range(1001)]
+
+
+if __name__ == "__main__":
+    unittest.main()
