@@ -56,6 +56,11 @@ class Transport(Owned, abc.ABC):
         """Whether it is never asked again."""
         return self._is_abandoned
 
+    @property
+    def is_lost(self) -> bool:
+        """Whether the other side has gone, and another one may be asked in its place."""
+        return False
+
     @abc.abstractmethod
     def close(self, deadline: Deadline = ENDLESS) -> None:
         """Ends the other side, whose own end is waited for until the deadline at most."""
