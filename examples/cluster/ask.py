@@ -19,9 +19,10 @@ sys.dont_write_bytecode = True
 HERE = Path(__file__).resolve().parent
 sys.path[:0] = [str(HERE), str(HERE.parents[1] / "clients/python")]
 
+from shards.connections import ShardError
 from shards.lines import batches
 from shards.places import places_of
-from shards.router import Cluster, ShardError
+from shards.router import Cluster
 
 FAULTY, NO_SHARD, NO_READER = 1, 3, 5
 

@@ -4,11 +4,13 @@ import collections
 import os
 import random
 import re
+import shutil
 import signal
 import subprocess
 import threading
 import tracemalloc
 import unittest
+import unittest.mock
 from pathlib import Path
 
 from cluster_support import (
@@ -19,9 +21,10 @@ from cluster_support import (
 import random_runs
 import reading
 from shards.bounds import bounds_of
-from shards.cutting import TableError, cut
+from shards.cutting import cut
 from shards.places import places_of, there
 from shards.questions import question_of
+from shards.records import TableError
 from shards.router import Cluster, ShardError
 
 from rtfilter import Ended
@@ -30,6 +33,14 @@ from rtfilter.program import Program
 
 COUNTS = 1, 2, 4, 16  # shards
 LATER = 0.3  # seconds
+
+# A `sort` that fails when it is called for the so manieth time.
+SORT = """#!/bin/sh
+number=1
+until mkdir {log}/$number 2> /dev/null; do number=$((number + 1)); done
+[ $number != "$FAILING" ] || exit 2
+exec {sort} "$@"
+"""
 
 # A program that ends in the place of an answer with the id 5.
 DYING = """#!/usr/bin/env python3
@@ -78,6 +89,44 @@ class Cuts(Folders):
         for part in parts:
             bounds.append(size_and_bounds(part))
         self.assertEqual(bounds, [(4, (x, x + 1, y, y + 1)) for x in range(0, 8, 2) for y in range(0, 8, 2)])
+
+    def test_plain_tables(self) -> None:
+        """Those that awk reads are cut as others are: with headers, layers, long ids, and at any line of its parts."""
+        chance = random.Random(9)
+        for at in range(40):
+            rows = [[chance.choice([id, -id, 2**63 - 1 - id]), *random_runs.box(chance)] for id in range(1, at + 2)]
+            text = b"".join(b"%d,%d,%d,%d,%d%b\n" % (*row, chance.choice([b"", b",7"])) for row in rows)
+            header = chance.choice([b"", b"id,a,b,c,d\n", b'"id\n",a\n', b"\n\nx\n"])
+            table = self.table(header + text.removesuffix(chance.choice([b"", b"\n"])))
+            parts = cut(str(table), 3, str(self.folder / f"plain{at}"), bool(header))
+            found = [reading.boxes(part.read_bytes(), False, 2**24) for part in parts]
+            wanted = reading.boxes(table.read_bytes(), bool(header), 2**24)
+            self.assertEqual({id: box for part in found for id, box in part.items()}, wanted)
+
+    def test_a_cut_that_was_broken_off(self) -> None:
+        """It goes on from there, whichever of its sorts has failed, and has sorted no part twice that was done."""
+        table, wanted = self.even_table(2_000, 9)
+        texts = [part.read_bytes() for part in wanted]
+        log, command = self.folder / "sorts", self.folder / "bin/sort"
+        log.mkdir()
+        command.parent.mkdir()
+        command.write_text(SORT.format(log=log, sort=shutil.which("sort")))
+        command.chmod(0o700)
+        with unittest.mock.patch.dict(os.environ, PATH=f"{command.parent}:{os.environ['PATH']}"):
+            cut(str(table), 9, str(self.folder / "unbroken"))
+            sorts = len(os.listdir(log))
+            for failing in range(1, sorts + 1):
+                shutil.rmtree(log)
+                log.mkdir()
+                folder = str(self.folder / f"broken{failing}")
+                with unittest.mock.patch.dict(os.environ, FAILING=str(failing)), self.assertRaises(OSError):
+                    cut(str(table), 9, folder)
+                with self.assertRaises(FileExistsError):
+                    cut(str(table), 8, folder)
+                parts = cut(str(table), 9, folder)
+                self.assertEqual([part.read_bytes() for part in parts], texts)
+                self.assertEqual(sorted(os.listdir(folder)), sorted(part.name for part in parts))
+                self.assertLessEqual(len(os.listdir(log)), sorts + (os.cpu_count() or 1))
 
     def test_refused(self) -> None:
         table = self.table(b"1,0,1,0,1\n")
