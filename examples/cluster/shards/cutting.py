@@ -11,6 +11,7 @@ import contextlib
 import json
 import math
 import os
+import shlex
 import shutil
 import subprocess
 from collections.abc import Iterable, Iterator, Sequence
@@ -30,10 +31,10 @@ BY_Y = "-k2,2n", "-k3,3n"
 BY_ID = "-k1,1n", "-k2,2n"
 
 NOT_PLAIN = 3
-# Of plain records each makes a line `X,Y,RECORD`, by which they are sorted, and its id is a line of another file. Ids that
-# awk's numbers don't hold are left to Python, and so is whatever else is no plain record.
+# Each plain record makes a line `X,Y,RECORD`, by which they are sorted, and its id a line for another command. Ids that awk's
+# numbers don't hold are left to Python, and so is whatever else is no plain record.
 PLAIN = r"""
-BEGIN { FS = ","; CONVFMT = "%.0f"; least = -2147483648; most = 2147483647; ids = ENVIRON["IDS"] }
+BEGIN { FS = ","; CONVFMT = "%.0f"; least = -2147483648; most = 2147483647; ids = ENVIRON["SORT_IDS"] }
 /[^0-9,-]|[0-9]-|-[,-]|-$|,,|^,|,$/ || NF < 5 || NF > 6 { exit 3 }
 {
   x1 = $2 + 0; x2 = $3 + 0; y1 = $4 + 0; y2 = $5 + 0
@@ -41,7 +42,7 @@ BEGIN { FS = ","; CONVFMT = "%.0f"; least = -2147483648; most = 2147483647; ids 
   if (length($1) > 18 && ($1 > 9.2e18 || $1 < -9.2e18)) exit 3
   if (NF == 6 && ($6 < 0 || $6 > 63)) exit 3
   print (x1 + x2) "," (y1 + y2) "," $0
-  print $1 > ids
+  print $1 | ids
 }
 """
 
@@ -140,7 +141,7 @@ class Cut:
         ids = [part.with_suffix(".ids") for part in parts]
         with ThreadPoolExecutor(os.cpu_count()) as threads:
             are_plain = all(list(threads.map(self._sort_plain, parts, ids, ranges)))
-        if are_plain and parts and sum(map(lines_in, ids)) == self._distinct(ids):
+        if are_plain and parts and sum(map(lines_in, parts)) == self._distinct(ids):
             return parts
         self._remove("part*")
         return []
@@ -165,23 +166,22 @@ class Cut:
             return True
         begin, size = place
         new, some = part.with_suffix(".new"), ids.with_suffix(".new-ids")
-        some.touch()
+        some.unlink(missing_ok=True)
+        by_x, by_id = (sort(self._folder, "-o", it, "--parallel=1", *keys) for it, keys in ((new, BY_X), (some, ["-n"])))
         with open(self._table, "rb") as file:
             file.seek(begin)
-            keyed = ["head", "-c", str(size)], ["mawk", PLAIN]
-            with Pipeline(*keyed, [*sort(self._folder, *BY_X), "-o", str(new)], input=file, IDS=str(some)) as pipeline:
+            commands = ["head", "-c", str(size)], ["mawk", PLAIN], by_x
+            with Pipeline(*commands, input=file, SORT_IDS=shlex.join(by_id)) as pipeline:
                 is_plain = pipeline.wait()[1] != NOT_PLAIN
         if is_plain:
             pipeline.check()
             some.replace(ids)
             new.replace(part)
-        else:
-            some.unlink()
         return is_plain
 
     def _distinct(self, ids: Sequence[Path]) -> int:
         """How many different ids there are."""
-        with Pipeline(sort(self._folder, "-n", "-u", *ids), ["wc", "-l"]) as pipeline:
+        with Pipeline(sort(self._folder, "-m", "-n", "-u", *ids), ["wc", "-l"]) as pipeline:
             count = int(pipeline.output.read())
         pipeline.check()
         return count
@@ -215,10 +215,10 @@ class Cut:
         """The shards of a slice, whose lines are sorted by y."""
         if not name.exists():
             return
-        with Pipeline(sort(self._folder, *BY_Y, name)) as pipeline:
+        with Pipeline(sort(self._folder, *BY_Y, name), ["cut", "-d,", "-f3-"]) as pipeline:
             for shard, size in zip(shards, self._sizes(boxes, shards)):
                 with whole(shard) as file:
-                    file.writelines(line.split(b",", 2)[2] for line in islice(pipeline.output, size))
+                    file.writelines(islice(pipeline.output, size))
         pipeline.check()
         name.unlink()
 
