@@ -1,13 +1,17 @@
 #!/usr/bin/python3
 """Measures the Python client beside the program, the package rtree and SQLite's R*Tree.
 
-usage: bench/client.py PROGRAM [BOXES]
+usage: bench/client.py PROGRAM [--boxes N] [--beside FOLDER]
 
 Prints the tables of docs/python-client.md. Time is that of the wall, the least of some runs in which the cases take turns,
 so that a noisy moment meets all of them; ids are made into numbers unless it says bytes. Each case is told in time and as
-how many times that of its table's first row. Who has no rtree is told so. Answers are compared; it is no part of the gate.
+how many times that of its column's first row. FOLDER is a checkout with another client, of another time say, which takes
+turns too: `git archive 82b8986 clients/python | tar -x -C FOLDER`. Who has no rtree is told so. Answers are compared; it is
+no part of the gate.
 """
 
+import argparse
+import importlib
 import os
 import random
 import sqlite3
@@ -20,8 +24,9 @@ from pathlib import Path
 sys.dont_write_bytecode = True
 sys.path.insert(0, str(Path(__file__).resolve().parent.parent / "clients/python"))
 
-from rtfilter import Near, Rtfilter, Window
-from rtfilter.index import Index
+import rtfilter
+import rtfilter.index
+from rtfilter import Near, Window
 from rtfilter.queries import find_line, nearest_line
 
 try:
@@ -36,6 +41,8 @@ LINES = 50_000  # for the program on a file
 SIDE, LARGEST = 1_000_000, 1_000
 HITS, NEAREST = 20, 10
 LOAD, NO_LINE = "to load", "program, no line"
+ONE_BY_ONE = "one by one; the load of a file"
+AT_ONCE = f"{QUERIES} in one call"
 IN_SQL = "SELECT id FROM box WHERE max_x >= ? AND min_x <= ? AND max_y >= ? AND min_y <= ?"
 
 
@@ -85,35 +92,74 @@ def of_answers(client, lines):
         client.ask(batch)
 
 
-def loads(program, table, rows):
-    yield "client, a file", lambda: Rtfilter(table, program=program).close()
-    yield "client's Index, rows", lambda: Index(((row[0], interleaved(row[1:])) for row in rows), program=program).close()
+class Clients:
+    """A package of the client: its client over the table's file, and its `Index` over the table's rows."""
+
+    def __init__(self, name, package, program, table, rows):
+        self.name = name
+        self._open_file = lambda: package.Rtfilter(table, program=program)
+        self._open_index = lambda: package.index.Index(
+            ((row[0], interleaved(row[1:])) for row in rows), program=program
+        )
+        self.client, self.index = self._open_file(), self._open_index()
+        self._window = package.Window
+
+    def loads(self):
+        yield f"{self.name}, {ONE_BY_ONE}", lambda: self._open_file().close()
+        yield f"{self.name}, `Index`, one by one; the load of rows", lambda: self._open_index().close()
+
+    def windows(self, windows):
+        client, window = self.client, self._window
+        lines = [find_line(Window(*it), None, None) for it in windows]
+        yield f"{self.name}, {ONE_BY_ONE}", lambda: [list(client.find(window(*it)).ids) for it in windows]
+        yield f"{self.name}, {AT_ONCE}", lambda: [list(it.ids) for it in client.ask(lines)]
+        yield (
+            f"{self.name}, `Index`, one by one; the load of rows",
+            lambda: [list(self.index.intersection(interleaved(it))) for it in windows],
+        )
+
+    def nearest(self, points):
+        client = self.client
+        lines = [nearest_line(NEAREST, *it) for it in points]
+        yield f"{self.name}, {ONE_BY_ONE}", lambda: [list(client.nearest(NEAREST, *it).ids) for it in points]
+        yield f"{self.name}, {AT_ONCE}", lambda: [list(it.ids) for it in client.ask(lines)]
+        yield (
+            f"{self.name}, `Index`, one by one; the load of rows",
+            lambda: [list(self.index.nearest((x, y, x, y), NEAREST)) for x, y in points],
+        )
+
+    def close(self):
+        self.client.close()
+        self.index.close()
+
+
+def package_in(folder):
+    """Another client's package, beside the one that is imported."""
+    ours = {name: sys.modules.pop(name) for name in list(sys.modules) if name.partition(".")[0] == "rtfilter"}
+    sys.path.insert(0, str(Path(folder, "clients/python")))
+    try:
+        importlib.import_module("rtfilter.index")
+        return importlib.import_module("rtfilter")
+    finally:
+        sys.path.pop(0)
+        sys.modules.update(ours)
+
+
+def in_peers(rows, base, theirs, windows, points):
+    """The same of other indexes: loads, windows, the nearest."""
+    loads = [("SQLite's R*Tree; the load of rows", lambda: in_sqlite(rows).close())]
+    inside = [("SQLite's R*Tree; the load of rows", lambda: [[id for id, in base.execute(IN_SQL, it)] for it in windows])]
+    near = []
     if rtree:
-        yield "rtree, rows", lambda: in_rtree(rows)
-    yield "sqlite3, rows", lambda: in_sqlite(rows).close()
+        name = "rtree; the load of rows"
+        loads.insert(0, (name, lambda: in_rtree(rows)))
+        inside.insert(0, (name, lambda: [list(theirs.intersection(interleaved(it))) for it in windows]))
+        near.append((name, lambda: [list(theirs.nearest((x, y, x, y), NEAREST)) for x, y in points]))
+    return loads, inside, near
 
 
-def windows_asked(client, ours, theirs, base, windows):
-    lines = [find_line(Window(*it), None, None) for it in windows]
-    yield "client, one by one", lambda: [list(client.find(Window(*it)).ids) for it in windows]
-    yield "client, in one call", lambda: [list(it.ids) for batch in batches(lines) for it in client.ask(batch)]
-    yield "client's Index", lambda: [list(ours.intersection(interleaved(it))) for it in windows]
-    if rtree:
-        yield "rtree", lambda: [list(theirs.intersection(interleaved(it))) for it in windows]
-    yield "sqlite3", lambda: [[id for id, in base.execute(IN_SQL, it)] for it in windows]
-
-
-def nearest_asked(client, ours, theirs, points):
-    lines = [nearest_line(NEAREST, *it) for it in points]
-    yield "client, one by one", lambda: [list(client.nearest(NEAREST, *it).ids) for it in points]
-    yield "client, in one call", lambda: [list(it.ids) for batch in batches(lines) for it in client.ask(batch)]
-    yield "client's Index", lambda: [list(ours.nearest((x, y, x, y), NEAREST)) for x, y in points]
-    if rtree:
-        yield "rtree", lambda: [list(theirs.nearest((x, y, x, y), NEAREST)) for x, y in points]
-
-
-def in_lines(client, program, table, path, lines):
-    """The program on a file of lines, less a run without lines; and the client on the same lines."""
+def in_lines(clients, program, table, path, lines):
+    """The program on a file of lines, less a run without lines; and clients on the same lines."""
     path.write_text("".join(line + "\n" for line in lines))
 
     def run(queries):
@@ -121,8 +167,9 @@ def in_lines(client, program, table, path, lines):
 
     yield NO_LINE, lambda: run("/dev/null")
     yield "program, a file", lambda: run(path)
-    yield f"client, calls of {BATCH:,}, up to the bytes", lambda: of_bytes(client, lines)
-    yield f"client, calls of {BATCH:,}, `Answers`", lambda: of_answers(client, lines)
+    for it in clients:
+        yield f"{it.name}, calls of {BATCH:,}, up to the bytes", lambda it=it: of_bytes(it.client, lines)
+        yield f"{it.name}, calls of {BATCH:,}, `Answers`", lambda it=it: of_answers(it.client, lines)
 
 
 def measured(groups):
@@ -140,18 +187,26 @@ def measured(groups):
     return least
 
 
-def tell(groups, least, counts):
-    """A table for each group. What the program takes for its file of lines is told without its load."""
-    for group, cases in groups.items():
-        print(f"\n| {group} | us | times |\n|---|---|---|")
-        first = None
-        for name, _ in cases:
-            if name != NO_LINE:
-                seconds = least[group, name]
-                if name.startswith("program"):
-                    seconds -= least[group, NO_LINE]
-                first = first or seconds
-                print(f"| {name} | {seconds / counts[group] * 1e6:,.1f} | {seconds / first:.2f} |")
+def tell(corner, groups, least, counts):
+    """A table with a column for each group. What the program takes for its file of lines is told without its load."""
+    print(f"\n| {corner} | {' | '.join(groups)} |\n|{'---|' * (1 + len(groups))}")
+    rows = dict.fromkeys(name for cases in groups.values() for name, _ in cases if name != NO_LINE)
+    columns = [cells(group, [name for name, _ in cases], least, counts[group]) for group, cases in groups.items()]
+    for name in rows:
+        print(f"| {name} | {' | '.join(column.get(name, '') for column in columns)} |")
+
+
+def cells(group, names, least, count):
+    """What a column shows of each case that it has."""
+    found = {}
+    first = None
+    for name in names:
+        if name != NO_LINE:
+            seconds = least[group, name] - (least[group, NO_LINE] if name.startswith("program") else 0)
+            first = first or seconds
+            time_told = f"{1e3 * seconds:,.0f} ms" if group == LOAD else f"{1e6 * seconds / count:,.1f} us"
+            found[name] = f"{time_told} ({seconds / first:.2f})"
+    return found
 
 
 def check(windows, points):
@@ -163,7 +218,12 @@ def check(windows, points):
 
 
 def main():
-    program, boxes = str(Path(sys.argv[1]).resolve()), int(sys.argv[2]) if len(sys.argv) > 2 else 100_000
+    parser = argparse.ArgumentParser()
+    parser.add_argument("program")
+    parser.add_argument("--boxes", type=int, default=100_000)
+    parser.add_argument("--beside")
+    args = parser.parse_args()
+    program, boxes = str(Path(args.program).resolve()), args.boxes
     chance = random.Random(1)
     rows = list(some_boxes(chance, boxes))
     windows = list(some_windows(chance, boxes, QUERIES))
@@ -173,22 +233,29 @@ def main():
     with tempfile.TemporaryDirectory() as room:
         table = Path(room, "boxes.csv")
         table.write_text("".join("%d,%d,%d,%d,%d\n" % row for row in rows))
-        items = ((row[0], interleaved(row[1:])) for row in rows)
-        with Rtfilter(table, program=program) as client, Index(items, program=program) as ours:
-            base, theirs = in_sqlite(rows), in_rtree(rows) if rtree else None
-            groups = {
-                LOAD: list(loads(program, table, rows)),
-                f"a window of about {HITS} boxes": list(windows_asked(client, ours, theirs, base, windows)),
-                f"the {NEAREST} nearest": list(nearest_asked(client, ours, theirs, points)),
-                "a line: a window": list(in_lines(client, program, table, Path(room, "windows"), lines)),
-                f"a line: a window, the {NEAREST} nearest in it":
-                    list(in_lines(client, program, table, Path(room, "near"), near)),
-            }
-            kinds = [*groups]
-            check(groups[kinds[1]], groups[kinds[2]])
-            load = os.getloadavg()[0]
-            print(f"{boxes:,} boxes, Python {sys.version.split()[0]}, {os.cpu_count()} processors, load {load:.1f}")
-            tell(groups, measured(groups), dict(zip(kinds, [1, QUERIES, QUERIES, LINES, LINES])))
+        clients = [Clients("client", rtfilter, program, table, rows)]
+        if args.beside:
+            clients.append(Clients("client beside", package_in(args.beside), program, table, rows))
+        base, theirs = in_sqlite(rows), in_rtree(rows) if rtree else None
+        peers = in_peers(rows, base, theirs, windows, points)
+        calls = {
+            LOAD: [case for it in clients for case in it.loads()] + peers[0],
+            f"a window of about {HITS} boxes": [case for it in clients for case in it.windows(windows)] + peers[1],
+            f"the {NEAREST} nearest": [case for it in clients for case in it.nearest(points)] + peers[2],
+        }
+        batched = {
+            "a window": list(in_lines(clients, program, table, Path(room, "windows"), lines)),
+            f"a window, the {NEAREST} nearest in it": list(in_lines(clients, program, table, Path(room, "near"), near)),
+        }
+        _, *asked = calls.values()
+        check(*asked)
+        load = os.getloadavg()[0]
+        print(f"{boxes:,} boxes, Python {sys.version.split()[0]}, {os.cpu_count()} processors, load {load:.1f}")
+        least = measured(calls | batched)
+        tell("", calls, least, dict(zip(calls, [1, QUERIES, QUERIES])))
+        tell("a line", batched, least, dict.fromkeys(batched, LINES))
+        for it in clients:
+            it.close()
     if not rtree:
         print("rtree isn't installed for this Python")
 

@@ -14,7 +14,8 @@ from pathlib import Path
 sys.dont_write_bytecode = True
 sys.path.insert(0, str(Path(__file__).resolve().parent))
 
-from shards.cutting import TableError, cut
+from shards.cutting import cut
+from shards.records import TableError
 
 
 def main() -> int:

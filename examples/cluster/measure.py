@@ -1,8 +1,10 @@
 #!/usr/bin/python3
-"""Measures one program, copies of it, and shards, by each transport, on tables of even boxes.
+"""Measures one program, pools, and shards, by each transport, on tables of even boxes.
 
-usage: measure.py PROGRAM [BOXES]
+usage: measure.py PROGRAM [--boxes N] [--ssh COMMAND HOST]
 
+Shards are programs beside this process, programs that COMMAND starts on HOST, as "ssh -F config", services on this machine,
+and what dask's workers hold.
 Time is that of the wall, the least of some runs in which the cases take turns, so that a noisy moment meets all of
 them; answers stay bytes. What the table costs to cut, to load and to hold is told first, then each kind of query:
 asked one by one, and in calls of a thousand lines; and at last what the router and a merge cost alone. All cases have
@@ -10,9 +12,12 @@ to answer the same, or this ends with an error. Who has no dask.distributed is t
 package.
 """
 
+import argparse
 import contextlib
 import os
 import random
+import shlex
+import subprocess
 import sys
 import tempfile
 import time
@@ -23,14 +28,14 @@ sys.dont_write_bytecode = True
 HERE = Path(__file__).resolve().parent
 sys.path[:0] = [str(HERE), str(HERE.parents[1] / "clients/python")]
 
-from shards import processes, router
+from shards import connections
 from shards.cutting import cut
-from shards.lines import written
 from shards.merging import merged
-from shards.questions import question_of
+from shards.places import Place, here, service, there
 from shards.router import Cluster
+from shards.sinks import text_of
 
-from rtfilter import Answers, Pool, Rtfilter
+from rtfilter import Pool, Rtfilter
 
 try:
     from shards import over_dask
@@ -38,7 +43,8 @@ except ImportError:
     over_dask = None
 
 RUNS = 9
-WORKERS = 1, 2, 4
+COPIES = 2, 4
+BESIDE, REMOTE, ADDRESSES, WORKERS = (1, 2, 4), 16, 64, 4  # shards
 LINES, BATCH, SINGLE = 2_000, 1_000, 100
 SIDE, LARGEST = 10**9, 10**5
 
@@ -86,28 +92,58 @@ def most_resident(name):
     return max(found)
 
 
-def opened(stack, program, table, folder):
+def opened(stack, program, table, folder, ssh):
     """The cases by name. What it takes to make them is told."""
     seconds, alone = timed(lambda: stack.enter_context(Rtfilter(table, program=program)))
     print(f"one program: loaded in {seconds:.2f} s, at most {most_resident(table)} MiB")
     cases = {"one program": alone}
-    for count in WORKERS[1:]:
-        cases[f"{count} copies"] = stack.enter_context(Pool(count, table, program=program))
-    for count in WORKERS:
-        parts = f"{folder}/parts{count}"
-        seconds, names = timed(lambda: cut(table, count, parts))
-        names = list(map(str, names))
-        print(f"{count} shards: cut in {seconds:.2f} s, ", end="")
-        seconds, boxes = timed(lambda: Cluster(processes.opened(names, program)))
-        cases[f"{count} shards, co-processes"] = stack.enter_context(boxes)
-        print(f"loaded and bounds asked in {seconds:.2f} s, at most {most_resident(parts)} MiB each")
-        if over_dask is not None:
-            workers = os.path.join(folder, f"workers{count}")
-            os.mkdir(workers)
-            client = stack.enter_context(over_dask.local_workers(count, workers))
-            boxes = stack.enter_context(Cluster(over_dask.opened(client, names, program)))
-            cases[f"{count} shards, dask"] = boxes
+    for count in COPIES:
+        cases[f"a pool of {count}"] = stack.enter_context(Pool(count, table, program=program))
+    for count in BESIDE:
+        names = parts(table, folder, count)
+        cases[f"{count} shards, beside it"] = connected(stack, [[here(name, program)] for name in names])
+        print(f"  at most {most_resident(names[0])} MiB each")
+    if ssh:
+        command, host = ssh
+        names = parts(table, folder, REMOTE)
+        shards = [[there(host, name, program, shlex.split(command))] for name in names]
+        cases[f"{REMOTE} shards, ssh"] = connected(stack, shards)
+    names = parts(table, folder, ADDRESSES)
+    shards = [[service(served(stack, program, name))] for name in names]
+    cases[f"{ADDRESSES} shards, services"] = connected(stack, shards)
+    if over_dask is not None:
+        workers = os.path.join(folder, "workers")
+        os.mkdir(workers)
+        client = stack.enter_context(over_dask.local_workers(WORKERS, workers))
+        places = over_dask.places(client, parts(table, folder, WORKERS), program)
+        cases[f"{WORKERS} shards, dask"] = connected(stack, [[place] for place in places])
     return cases
+
+
+def parts(table, folder, count):
+    """The names of a table's shards, which are cut once."""
+    name = Path(folder, f"parts{count}")
+    if not name.exists():
+        seconds, _ = timed(lambda: cut(table, count, str(name)))
+        print(f"{count} shards: cut in {seconds:.2f} s")
+    return sorted(map(str, name.glob("*.csv")))
+
+
+def connected(stack, shards):
+    seconds, boxes = timed(lambda: stack.enter_context(Cluster(shards)))
+    print(f"{len(shards)} shards: connected, and bounds asked, in {seconds:.2f} s")
+    return boxes
+
+
+def served(stack, program, table):
+    """The address of a service that holds a table."""
+    command = [HERE.parents[1] / "service/serve.py", "--program", program, "--unix", f"{table}.socket", table]
+    process = stack.enter_context(subprocess.Popen(command, stderr=subprocess.PIPE, text=True))
+    stack.callback(process.terminate)
+    while not process.stderr.readline().startswith("ready"):
+        if process.poll() is not None:
+            raise SystemExit(f"no service over {table}")
+    return f"{table}.socket"
 
 
 def told(boxes, lines, at_once):
@@ -123,8 +159,8 @@ def measure(cases, lines):
             for way, (some, at_once) in enumerate(((lines[:SINGLE], 1), (lines, BATCH))):
                 seconds, replies = timed(lambda: told(boxes, some, at_once))
                 least[name][way] = min(least[name][way], seconds / len(some))
-            wanted = wanted or written(replies, 1)
-            if written(replies, 1) != wanted:
+            wanted = wanted or text_of(replies)
+            if text_of(replies) != wanted:
                 raise SystemExit(f"{name} answers otherwise than the one program")
     return least
 
@@ -132,13 +168,18 @@ def measure(cases, lines):
 class Silent:
     """A shard that has one answer to everything, at once."""
 
+    size, lines, is_lost = 1, 0, False
+
     def __init__(self, bounds):
         self.bounds = bounds
 
-    def replies(self, lines):
-        return [Answers(b"1 0\n", 1) for _ in lines]
+    def load(self, deadline):
+        pass
 
-    def close(self):
+    def pieces_to(self, text, lines, deadline):
+        return iter([b"1 0\nok 1 1\n" * lines])
+
+    def close(self, deadline):
         pass
 
 
@@ -148,7 +189,8 @@ def tiles(count):
     step = SIDE // across
     for x in range(0, step * across, step):
         for y in range(0, step * across, step):
-            yield Silent((x, x + step, y, y + step))
+            silent = Silent((x, x + step, y, y + step))
+            yield [Place("silent", lambda *_, silent=silent: silent)]
 
 
 def least_of(call, times):
@@ -161,26 +203,31 @@ def measure_router(chance):
     points = [(chance.randrange(SIDE), chance.randrange(SIDE)) for _ in range(BATCH)]
     lines = {"`nearest`": "nearest 1 {0} {1}", "a window": "find window {0} {0} {1} {1}"}
     for count in (4, 64):
-        with unittest.mock.patch.object(router, "size_and_bounds", lambda shard: (1, shard.bounds)):
-            boxes = Cluster(list(tiles(count)))
+        with unittest.mock.patch.object(connections, "bounds_of", lambda silent, _: silent.bounds):
+            boxes = Cluster(tiles(count))
         for name, line in lines.items():
             asked = [line.format(x, y) for x, y in points]
             print(f"| {name}, {count} shards | {1e6 * least_of(lambda: boxes.replies(asked), 3) / BATCH:.1f} |")
         boxes.close()
-    asked = question_of("find all near 0 0")
     for count in (2, 64):
-        parts = [some_answers(chance, 10_000 // count) for _ in range(count)]
-        told = sum(part.total for part in parts)
-        print(f"| an answer merged of {count} shards | {1e6 * least_of(lambda: merged(parts, asked), 3) / told:.1f} |")
+        texts = [some_answers(chance, 10_000 // count) for _ in range(count)]
+        told = sum(text.count(b"\n") for text in texts)
+        seconds = least_of(lambda: sum(map(len, merged([iter([text]) for text in texts], None))), 3)
+        print(f"| an answer merged of {count} shards | {1e6 * seconds / told:.1f} |")
 
 
 def some_answers(chance, count):
     rows = sorted((chance.randrange(10**12), chance.randrange(10**9)) for _ in range(count))
-    return Answers(b"".join(b"%d %d\n" % (id, score) for score, id in rows), count)
+    return b"".join(b"%d %d\n" % (id, score) for score, id in rows)
 
 
 def main():
-    program, boxes = str(Path(sys.argv[1]).resolve()), int(sys.argv[2]) if len(sys.argv) > 2 else 1_000_000
+    parser = argparse.ArgumentParser()
+    parser.add_argument("program")
+    parser.add_argument("--boxes", type=int, default=1_000_000)
+    parser.add_argument("--ssh", nargs=2, metavar=("COMMAND", "HOST"))
+    args = parser.parse_args()
+    program, boxes = str(Path(args.program).resolve()), args.boxes
     chance = random.Random(1)
     with tempfile.TemporaryDirectory() as folder, contextlib.ExitStack() as stack:
         table = f"{folder}/table.csv"
@@ -189,7 +236,7 @@ def main():
         print(f"{boxes} boxes, {os.cpu_count()} processors, load {load}")
         if over_dask is None:
             print("dask.distributed isn't installed for this Python")
-        cases = opened(stack, program, table, folder)
+        cases = opened(stack, program, table, folder, args.ssh)
         for kind, lines in kinds(chance, boxes).items():
             print(f"\n| {kind} | us, one by one | us, in calls of {BATCH} |\n|---|---|---|")
             for name, seconds in measure(cases, lines).items():

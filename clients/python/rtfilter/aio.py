@@ -68,7 +68,7 @@ class Pipeline:
         """Whether a question can't be answered any more, as far as is known here."""
         if self._error is not None or self._ending is not None:
             return True
-        return not self._calls and isinstance(self.transport, Connection) and self.transport.is_lost
+        return not self._calls and self.transport.is_lost
 
     async def told(self, text: bytes, lines: int) -> tuple[int, bytes]:
         """The number of the first of some lines, of which the last one is answered, and the replies to them."""

@@ -16,14 +16,13 @@ class Answers(Sequence[Answer]):
     hold. Of `levels` it is a level and how many nodes it has. They come in the order of the reply.
     """
 
-    __slots__ = ("_text", "_total", "_ids", "_scores")  # the last two once they are asked for
-
-    _ids: "array[int]"
-    _scores: list[int]
+    __slots__ = ("_text", "_total", "_ids", "_scores")
 
     def __init__(self, text: bytes, total: int) -> None:
         self._text = text
         self._total = total
+        self._ids: "array[int] | None" = None  # until they are asked for
+        self._scores: list[int] | None = None
 
     @property
     def total(self) -> int:
@@ -40,21 +39,17 @@ class Answers(Sequence[Answer]):
     @property
     def ids(self) -> "array[int]":
         """The ids, in 64 bits each. They are made once: who changes the array changes it for all."""
-        try:
-            return self._ids
-        except AttributeError:
+        if self._ids is None:
             # A list is taken faster than what is made on the way.
             self._ids = array("q", list(map(int, self._text.split()[::2])))
-            return self._ids
+        return self._ids
 
     @property
     def scores(self) -> list[int]:
         """The scores, as whole numbers of any size. They are made once, as the ids are."""
-        try:
-            return self._scores
-        except AttributeError:
+        if self._scores is None:
             self._scores = list(map(int, self._text.split()[1::2]))
-            return self._scores
+        return self._scores
 
     def __len__(self) -> int:
         """How many answers there are. A `count` has none, whatever it has counted, and neither has a `cost`."""

@@ -130,16 +130,13 @@ class Rtfilter(Boxes):
             raise ValueError(LINE_FEED.format(line))
         text = f"{line}\n".encode("utf-8", "surrogateescape")
         deadline = self._deadline()
-        return cut_one(self._turns.take(partial(self._told_one, text, deadline), deadline), line)
-
-    def _told_one(self, text: bytes, deadline: Deadline) -> bytes:
-        return self._open(deadline).reply_to(text, deadline)
+        return cut_one(self._turns.take(lambda: self._open(deadline).reply_to(text, deadline), deadline), line)
 
     def _open(self, deadline: Deadline) -> Transport:
         """What is asked now. Only who has its turn may use it."""
         if self._is_closed:
             raise ValueError(CLOSED)
-        if isinstance(self._transport, Connection) and self._transport.is_lost:
+        if self._address is not None and self._transport.is_lost:
             self._transport.close()
             self._transport = self._connection(deadline)
         return self._transport

@@ -42,17 +42,6 @@ class Connection(Transport):
     def is_closed(self) -> bool:
         return self._socket.fileno() < 0
 
-    @property
-    def is_lost(self) -> bool:
-        """Whether it can't be asked any more. While nothing is asked, there is nothing to read but its end."""
-        if not self._is_abandoned:
-            poll = select.poll()
-            poll.register(self._reader, select.POLLIN)
-            if not poll.poll(0):
-                return False
-            self.abandon()
-        return True
-
     def _write(self, text: Text) -> int:
         return self._socket.send(text, socket.MSG_DONTWAIT)
 

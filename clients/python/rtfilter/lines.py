@@ -1,6 +1,7 @@
 """The lines nearest to a point, exactly: a line is straight pieces, and its distance is that of its nearest point."""
 
 import math
+import random
 from array import array
 from collections.abc import Iterable, Iterator
 from fractions import Fraction
@@ -61,7 +62,8 @@ class Lines(Shapes[Piece]):
         Where pieces are long and slanting, a point lies in many boxes. Then it takes less time to look at all pieces.
         """
         if search.asked * SCANNED > len(self._shapes) > search.asked:
-            self._take(search, self._all_in_floats())
+            for pieces in self._all_in_floats():
+                self._take(search, pieces)
             search.end()
         else:
             self._take(search, ((at, *in_floats(self._shapes[at])) for at in answers.ids[search.seen :]))
@@ -69,20 +71,25 @@ class Lines(Shapes[Piece]):
 
     def _take(self, search: "Search", pieces: Iterable[tuple[int, float, float, float, float, float]]) -> None:
         """Takes pieces, but those that are farther than what the search has: mostly the distance to a piece's line, in
-        floats, tells that, in a tenth of the time of an exact distance."""
+        floats, tells that, in a tenth of the time of an exact distance. Those whose lines are nearest come first, so that
+        of pieces in whatever order few are taken."""
         x, y, reach = float(search.x), float(search.y), search.reach
+        lines = []
         for at, ax, ay, along_x, along_y, length2 in pieces:
             side = along_x * (y - ay) - along_y * (x - ax)
             if side * side <= reach * length2:
-                search.take(self._feature_of[at], self._shapes[at])
-                reach = search.reach
+                lines.append((side * side / length2 if length2 else 0.0, at))
+        for distance, at in sorted(lines):
+            if distance > search.reach:
+                break
+            search.take(self._feature_of[at], self._shapes[at])
 
-    def _all_in_floats(self) -> Iterator[tuple[int, float, float, float, float, float]]:
-        """All pieces, far from each other at first: where they are in an order, the best are soon near."""
+    def _all_in_floats(self) -> Iterator[Iterable[tuple[int, float, float, float, float, float]]]:
+        """All pieces, in parts that are spread over all of them, in any order: so the best of each are soon near."""
         count = len(self._shapes)
         step = math.isqrt(count)
-        for first in range(step):
-            yield from zip(range(first, count, step), *(column[first::step] for column in self._columns))
+        for first in random.Random(step).sample(range(step), step):
+            yield zip(range(first, count, step), *(column[first::step] for column in self._columns))
 
 
 def in_floats(piece: Piece) -> tuple[float, float, float, float, float]:

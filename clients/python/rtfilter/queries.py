@@ -17,7 +17,8 @@ _keep = object.__setattr__  # of a value that is frozen once it is made
 def _keep_whole(value: object, **numbers: int) -> None:
     """Keeps numbers as what Python takes them for, so that what is checked is what is asked."""
     for name, number in numbers.items():
-        _keep(value, name, index(number))
+        if type(number) is not int:
+            _keep(value, name, index(number))
 
 
 # ---- regions

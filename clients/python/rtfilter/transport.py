@@ -56,6 +56,17 @@ class Transport(Owned, abc.ABC):
         """Whether it is never asked again."""
         return self._is_abandoned
 
+    @property
+    def is_lost(self) -> bool:
+        """Whether it can't be asked any more. While nothing is asked, there is nothing to read but the other side's end."""
+        if not self._is_abandoned:
+            poll = select.poll()
+            poll.register(self._output, select.POLLIN)
+            if not poll.poll(0):
+                return False
+            self.abandon()
+        return True
+
     @abc.abstractmethod
     def close(self, deadline: Deadline = ENDLESS) -> None:
         """Ends the other side, whose own end is waited for until the deadline at most."""
@@ -95,12 +106,20 @@ class Transport(Owned, abc.ABC):
         return b"".join(self.pieces_to(text, lines, deadline))
 
     def pieces_to(self, text: bytes, lines: int, deadline: Deadline = ENDLESS) -> Iterator[bytes]:
-        """The same in pieces of whole lines, each as soon as it is there. Who doesn't take all of them abandons it."""
+        """The same in pieces of whole lines, each as soon as it is there. What is taken without a wait is sent when this
+        returns. Who doesn't take all of the pieces abandons it."""
         if not self._is_usable:
             self._check_open()
         try:
             self.lines += lines
-            yield from self._exchanged(memoryview(text), deadline)
+            return self._pieces(self._send(memoryview(text)), deadline)
+        except BaseException as error:
+            self._abandon_for(error)
+            raise
+
+    def _pieces(self, unsent: Text, deadline: Deadline) -> Iterator[bytes]:
+        try:
+            yield from self._exchanged(unsent, deadline)
         except BaseException as error:
             self._abandon_for(error)
             raise

@@ -100,18 +100,24 @@ class Exactness(unittest.TestCase):
                         self.assertEqual(roads.nearest(k, *point), scanned(geometries, k, *point))
 
     def test_many_crossing_diagonals(self) -> None:
-        """In time: by all boxes that hold a point it took 0.75 s each."""
-        chance = random.Random(7)
-        ends = [(chance.randint(-10**9, 10**9), chance.randint(-10**9, 10**9)) for _ in range(20_000)]
-        far = 10**9
-        geometries = [line((-far, a), (far, b)) if a % 2 else line((a, -far), (b, far)) for a, b in ends]
-        with Lines(map(feature, geometries), program=PROGRAM) as roads:
-            points = [(chance.randint(-far, far), chance.randint(-far, far)) for _ in range(20)]
-            begun = time.process_time()
-            found = [roads.nearest(3, *point) for point in points]
-            self.assertLess((time.process_time() - begun) / len(points), 0.06)
-        for point, some in zip(points[:1], found):
-            self.assertEqual(some, scanned(geometries, 3, *point))
+        """In time, in whatever order they are: by all boxes that hold a point it took 0.75 s each."""
+        chance, far, count = random.Random(7), 10**9, 20_000
+        ends = [(chance.randint(-far, far), chance.randint(-far, far)) for _ in range(count)]
+        even = range(-far, far, 2 * far // count)
+        kinds = {
+            "at random": [line((-far, a), (far, b)) if a % 2 else line((a, -far), (b, far)) for a, b in ends],
+            "parallel": [line((-far, at - far), (far, at + far)) for at in even],
+            "parallel, turned round": [line((-far, at - far), (far, at + far)) for at in reversed(even)],
+            "a fan": [line((-far, -far), (far, at)) for at in even],
+            "a star": [line((-far, at), (far, -at)) if at % 4 else line((at, -far), (-at, far)) for at in even],
+        }
+        for kind, geometries in kinds.items():
+            with self.subTest(kind), Lines(map(feature, geometries), program=PROGRAM) as roads:
+                points = [(chance.randint(-far, far), chance.randint(-far, far)) for _ in range(20)]
+                begun = time.process_time()
+                found = [roads.nearest(3, *point) for point in points]
+                self.assertLess((time.process_time() - begun) / len(points), 0.03)
+                self.assertEqual(found[0], scanned(geometries, 3, *points[0]))
 
     def test_ties_come_by_number(self) -> None:
         """More boxes at one distance than are asked for at once. Slanted pieces as far away have nearer boxes, and come

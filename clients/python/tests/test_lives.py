@@ -22,6 +22,7 @@ from serving import Service
 from support import BOXES, EXAMPLES, PACKAGE, PROGRAM, children_of, descendants_of, open_files, parent_of
 
 sys.path.insert(0, str(EXAMPLES / "cluster"))
+from shards.places import places_of
 from shards.router import Cluster
 
 from rtfilter.prefork import library_of
@@ -529,7 +530,7 @@ class Closes(Case):
             lambda: Rtfilter(BOXES, program=PROGRAM),
             lambda: Rtfilter(BOXES, program=PROGRAM, timeout=60),
             lambda: Pool(2, BOXES, program=self.alone),
-            lambda: Cluster([Rtfilter(BOXES, program=PROGRAM), Rtfilter([(9, 0, 1, 0, 1)], program=PROGRAM)]),
+            lambda: Cluster([places_of(str(BOXES), PROGRAM), places_of(str(EXAMPLES / "layers.csv"), PROGRAM)]),
         ):
             boxes = opened()
             for process in programs() - self.before[0]:

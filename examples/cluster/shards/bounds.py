@@ -1,11 +1,13 @@
-"""The bounds of a shard: asked of itself, so that they can't be those of another table."""
+"""The bounds of a shard: asked of the connection that is to answer, so that they can't be those of another table."""
 
 from collections.abc import Callable, Iterable
 from itertools import islice
-from typing import Protocol
 
-from rtfilter import All, Answers, Reply, Window
+from rtfilter import Window
+from rtfilter.deadlines import ENDLESS, Deadline
+from rtfilter.replies import OK_LINE
 
+from .places import Carrier
 from .questions import Sides
 
 LEAST, GREATEST = -(2**31), 2**31 - 1
@@ -21,37 +23,27 @@ WINDOWS: tuple[Callable[[int], Window], ...] = (
 )
 
 
-class Shard(Protocol):
-    """A program that holds a part of the table: an `Rtfilter` or a `Pool` say, or a cluster."""
-
-    def replies(self, lines: Iterable[str]) -> list[Reply]:
-        """The reply to each query line."""
-
-    def close(self) -> None:
-        """Ends it."""
-
-
-def size_and_bounds(shard: Shard) -> tuple[int, Sides | None]:
-    """How many boxes a shard has, and the least box around them, None where there are none.
+def bounds_of(transport: Carrier, deadline: Deadline = ENDLESS) -> Sides | None:
+    """The least box around the boxes of a table, which is there; None where it has none.
 
     The program tells no coordinates, but how many boxes there are on one side of a line.
     """
-    (size,) = counts(shard, [All()])
-    if not size:
-        return 0, None
+    if not transport.size:
+        return None
     ranges = [(LEAST, GREATEST)] * len(WINDOWS)
     while any(low < high for low, high in ranges):
         cuts = [range(low, high, max(1, -(-(high - low) // WAYS))) for low, high in ranges]
-        told = iter(counts(shard, (window(place) for window, places in zip(WINDOWS, cuts) for place in places)))
+        windows = [window(place) for window, places in zip(WINDOWS, cuts) for place in places]
+        told = iter(counts(transport, windows, deadline))
         ranges = [narrowed(*it, places, list(islice(told, len(places)))) for it, places in zip(ranges, cuts)]
     min_x, max_x, min_y, max_y = (low for low, _ in ranges)
-    return size, (min_x, -1 - max_x, min_y, -1 - max_y)
+    return min_x, -1 - max_x, min_y, -1 - max_y
 
 
-def counts(shard: Shard, regions: Iterable[object]) -> list[int]:
-    """How many boxes of a shard each region accepts."""
-    replies = shard.replies([f"count {region}" for region in regions])
-    return [reply.total for reply in replies if isinstance(reply, Answers)]
+def counts(transport: Carrier, windows: list[Window], deadline: Deadline) -> list[int]:
+    """How many boxes each window meets."""
+    text = "".join(f"count {window}\n" for window in windows).encode()
+    return list(map(int, OK_LINE.findall(transport.replies_to(text, len(windows), deadline))))
 
 
 def narrowed(low: int, high: int, places: Iterable[int], counted: list[int]) -> tuple[int, int]:

@@ -1,112 +1,229 @@
 """A table cut into shards by sort-tile-recursive slices: sorted by the middles of boxes on x and cut into slices, each
 of which is sorted by y and cut.
 
-The sorting is done by `sort` of coreutils, so that a table may be larger than memory; the folder of the shards takes up
-to four times the table's bytes meanwhile.
+`sort` of coreutils does the work, over parts of the table side by side, so that a table may be larger than memory; the folder
+of the shards takes up to four times the table's bytes meanwhile. `mawk` checks plain records, of which nearly all tables are;
+where there are others, Python reads the table. What is done stands in the folder under its name, so that a cut which was
+broken off goes on from there.
 """
 
 import contextlib
-import csv
+import json
 import math
 import os
-import re
+import shlex
 import shutil
 import subprocess
-from collections.abc import Iterator
+from collections.abc import Iterable, Iterator, Sequence
+from concurrent.futures import ThreadPoolExecutor
+from functools import partial
 from itertools import chain, islice
 from pathlib import Path
 from typing import IO
 
+from .records import TableError, boxes_in
+
 MOST_ENTRIES = 16777216  # that one program holds
-IDS = -(2**63), 2**63 - 1
-COORDINATES = -(2**31), 2**31 - 1
-LAYERS = 0, 63
-RANGES = [IDS, *[COORDINATES] * 4, LAYERS]
-DIGITS = 20  # no number in range has more, but for leading zeros
-NUMBER = re.compile(r"([+-]?)0*([0-9]+)")
+PART = 1 << 28  # bytes of a table that are sorted at once, at most
+PLAN = "cut.json"
+BY_X = "-k1,1n", "-k3,3n"
+BY_Y = "-k2,2n", "-k3,3n"
+BY_ID = "-k1,1n", "-k2,2n"
 
-
-class TableError(Exception):
-    """A table that no program would take. `record` is the number of its first faulty record, from 1."""
-
-    def __init__(self, record: int, text: str) -> None:
-        super().__init__(record, text)
-        self.record = record
-        self.text = text
-
-    def __str__(self) -> str:
-        return f"table record {self.record}: {self.text}"
+NOT_PLAIN = 3
+# Each plain record makes a line `X,Y,RECORD`, by which they are sorted, and its id a line for another command. Ids that awk's
+# numbers don't hold are left to Python, and so is whatever else is no plain record.
+PLAIN = r"""
+BEGIN { FS = ","; CONVFMT = "%.0f"; least = -2147483648; most = 2147483647; ids = ENVIRON["SORT_IDS"] }
+/[^0-9,-]|[0-9]-|-[,-]|-$|,,|^,|,$/ || NF < 5 || NF > 6 { exit 3 }
+{
+  x1 = $2 + 0; x2 = $3 + 0; y1 = $4 + 0; y2 = $5 + 0
+  if (x1 > x2 || y1 > y2 || x1 < least || x2 > most || y1 < least || y2 > most) exit 3
+  if (length($1) > 18 && ($1 > 9.2e18 || $1 < -9.2e18)) exit 3
+  if (NF == 6 && ($6 < 0 || $6 > 63)) exit 3
+  print (x1 + x2) "," (y1 + y2) "," $0
+  print $1 | ids
+}
+"""
 
 
 def cut(table: str, shards: int, folder: str, header: bool = False) -> list[Path]:
-    """Writes a table's shards into a folder, which is made, and gives their names.
+    """Writes a table's shards into a folder, which is made, and gives their names. A folder in which the same cut was broken
+    off is gone on with.
 
     Raises `TableError` with the fault that a program would tell, `ValueError` where a shard would have more boxes
-    than a program takes, and leaves no folder then.
+    than a program takes, and leaves no folder then; and `FileExistsError` where there is another folder.
     """
-    os.mkdir(folder)
+    state = os.stat(table)
+    plan = {"table": os.path.abspath(table), "state": [state.st_size, state.st_mtime_ns], "shards": shards, "header": header}
+    begin(Path(folder), plan)
     try:
-        with _Sorter(folder, "-k1,1n", "-k3,3n") as by_x:
-            boxes = _read(table, header, folder, by_x)
-            if boxes > shards * MOST_ENTRIES:
-                raise ValueError(f"{boxes} boxes are too many for {shards} shards of at most {MOST_ENTRIES}")
-            return _written(by_x.sorted(), boxes, shards, folder)
-    except BaseException:
+        return Cut(Path(folder), table, shards, header).run()
+    except (TableError, ValueError):
         shutil.rmtree(folder)
         raise
 
 
-class _Sorter(contextlib.AbstractContextManager["_Sorter"]):
-    """A process `sort` that takes lines of numbers parted by commas, and gives them back in order."""
-
-    def __init__(self, folder: str, *keys: str) -> None:
-        # Its temporary files go where the shards go: what `/tmp` is may be memory.
-        self._process = subprocess.Popen(
-            ["sort", "-t,", *keys, "-T", folder],
-            stdin=subprocess.PIPE, stdout=subprocess.PIPE, env={**os.environ, "LC_ALL": "C"},
-        )  # fmt: skip
-        assert self._process.stdin is not None and self._process.stdout is not None
-        self.input: IO[bytes] = self._process.stdin
-        self._output: IO[bytes] = self._process.stdout
-
-    def sorted(self) -> Iterator[bytes]:
-        """All lines in order. Raises `OSError` where they can't be sorted."""
-        self.input.close()
-        yield from self._output
-        if self._process.wait():
-            raise OSError(f"sort has ended with status {self._process.returncode}")
-
-    def __exit__(self, *_: object) -> None:
-        self._process.kill()
-        with contextlib.suppress(BrokenPipeError):
-            self.input.close()
-        self._output.close()
-        self._process.wait()
+def begin(folder: Path, plan: dict[str, object]) -> None:
+    """Makes a folder, or finds that this very cut was broken off in it."""
+    try:
+        folder.mkdir()
+    except FileExistsError:
+        with contextlib.suppress(OSError, ValueError):
+            if json.loads((folder / PLAN).read_text()) == plan:
+                return
+        raise
+    with whole(folder / PLAN) as file:
+        file.write(json.dumps(plan).encode())
 
 
-# ---- reading
+@contextlib.contextmanager
+def whole(path: Path) -> Iterator[IO[bytes]]:
+    """A file that has its name once it is written, and not before."""
+    new = path.with_suffix(".new")
+    with open(new, "wb") as file:
+        yield file
+    new.replace(path)
 
 
-def _read(table: str, header: bool, folder: str, by_x: _Sorter) -> int:
-    """Hands the boxes of a table on as lines `X,Y,RECORD`, by which they are sorted, and gives their number."""
-    boxes = 0
-    with open(table, encoding="latin-1", newline="") as file, _Sorter(folder, "-k1,1n", "-k2,2n") as by_id:
+class Cut:
+    """The steps from a table to its shards. Each leaves a file, and is passed over where that is there."""
+
+    def __init__(self, folder: Path, table: str, shards: int, header: bool) -> None:
+        self._folder, self._table, self._header = folder, table, header
+        self._names = [folder / f"{number:04}.csv" for number in range(shards)]
+        slices = math.isqrt(shards - 1) + 1
+        ends = [shards * at // slices for at in range(slices + 1)]
+        self._shards_of = [self._names[first:end] for first, end in zip(ends, ends[1:])]
+        self._slices = [folder / f"slice{number:04}" for number in range(slices)]
+        self._size = folder / "boxes"  # is there once there are slices
+
+    def run(self) -> list[Path]:
+        if not self._size.exists():
+            self._write_slices()
+        boxes = int(self._size.read_text())
+        with ThreadPoolExecutor() as threads:
+            list(threads.map(partial(self._write_shards, boxes), self._slices, self._shards_of))
+        for name in set(self._folder.iterdir()).difference(self._names):  # the plan, and what was left
+            name.unlink()
+        return self._names
+
+    # ---- by x
+
+    def _write_slices(self) -> None:
+        """The slices, whose lines are sorted by x. Raises the table's fault."""
+        parts = self._plain_parts() or [self._checked_part()]
+        boxes = sum(map(lines_in, parts))
+        if boxes > len(self._names) * MOST_ENTRIES:
+            raise ValueError(f"{boxes} boxes are too many for {len(self._names)} shards of at most {MOST_ENTRIES}")
+        with Pipeline(sort(self._folder, "-m", *BY_X, *parts)) as pipeline:
+            for name, shards in zip(self._slices, self._shards_of):
+                with whole(name) as file:
+                    file.writelines(islice(pipeline.output, sum(self._sizes(boxes, shards))))
+        pipeline.check()
+        with whole(self._size) as file:
+            file.write(b"%d" % boxes)
+        self._remove("part*")
+
+    def _remove(self, pattern: str) -> None:
+        for name in self._folder.glob(pattern):
+            name.unlink()
+
+    def _sizes(self, boxes: int, shards: Sequence[Path]) -> list[int]:
+        """How many boxes some shards get: each as many as another, or one more."""
+        count, first = len(self._names), self._names.index(shards[0])
+        return [boxes * (at + 1) // count - boxes * at // count for at in range(first, first + len(shards))]
+
+    def _plain_parts(self) -> list[Path]:
+        """Parts of the table, each sorted by x. None where a record isn't plain, or an id comes again."""
+        ranges = list(self._ranges()) if shutil.which("mawk") else []
+        parts = [self._folder / f"part{at:04}" for at in range(len(ranges))]
+        ids = [part.with_suffix(".ids") for part in parts]
+        with ThreadPoolExecutor(os.cpu_count()) as threads:
+            are_plain = all(list(threads.map(self._sort_plain, parts, ids, ranges)))
+        if are_plain and parts and sum(map(lines_in, parts)) == self._distinct(ids):
+            return parts
+        self._remove("part*")
+        return []
+
+    def _ranges(self) -> Iterator[tuple[int, int]]:
+        """Where parts begin, and how long they are, in whole lines; without a first line that is a header."""
+        with open(self._table, "rb") as file:
+            header = file.readline() if self._header else b""
+            if b'"' in header or header.isspace():  # a header that may have other lines, and isn't judged here
+                return
+            begin, size = file.tell(), os.stat(self._table).st_size
+            step = max(1, min(PART, -(-size // (os.cpu_count() or 1))))
+            while begin < size:
+                file.seek(min(begin + step, size) - 1)
+                file.readline()
+                yield begin, file.tell() - begin
+                begin = file.tell()
+
+    def _sort_plain(self, part: Path, ids: Path, place: tuple[int, int]) -> bool:
+        """Sorts a part of the table by x, if all of its records are plain."""
+        if part.exists() and ids.exists():
+            return True
+        begin, size = place
+        new, some = part.with_suffix(".new"), ids.with_suffix(".new-ids")
+        some.unlink(missing_ok=True)
+        by_x, by_id = (sort(self._folder, "-o", it, "--parallel=1", *keys) for it, keys in ((new, BY_X), (some, ["-n"])))
+        with open(self._table, "rb") as file:
+            file.seek(begin)
+            commands = ["head", "-c", str(size)], ["mawk", PLAIN], by_x
+            with Pipeline(*commands, input=file, SORT_IDS=shlex.join(by_id)) as pipeline:
+                is_plain = pipeline.wait()[1] != NOT_PLAIN
+        if is_plain:
+            pipeline.check()
+            some.replace(ids)
+            new.replace(part)
+        return is_plain
+
+    def _distinct(self, ids: Sequence[Path]) -> int:
+        """How many different ids there are."""
+        with Pipeline(sort(self._folder, "-m", "-n", "-u", *ids), ["wc", "-l"]) as pipeline:
+            count = int(pipeline.output.read())
+        pipeline.check()
+        return count
+
+    def _checked_part(self) -> Path:
+        """The table in one part, sorted by x, as Python reads it. Raises its first fault."""
+        part = self._folder / "part"
+        ids, keyed = part.with_suffix(".ids"), part.with_suffix(".keyed")
         faults = []
-        try:
-            for at, (id, min_x, max_x, min_y, max_y, layer) in _boxes(file, header):
-                record = b"%d,%d,%d,%d,%d,%d" % (id, min_x, max_x, min_y, max_y, layer)
-                by_x.input.write(b"%d,%d,%b\n" % (min_x + max_x, min_y + max_y, record))
-                by_id.input.write(b"%d,%d\n" % (id, at))
-                boxes += 1
-        except TableError as fault:
-            faults.append(fault)
-        first = min(chain(faults, _repeated(by_id.sorted())), key=lambda fault: fault.record, default=None)
-    if first is not None:
-        raise first
-    return boxes
+        with open(self._table, encoding="latin-1", newline="") as file, open(ids, "wb") as by_id, open(keyed, "wb") as by_x:
+            try:
+                for at, (id, min_x, max_x, min_y, max_y, layer) in boxes_in(file, self._header):
+                    by_id.write(b"%d,%d\n" % (id, at))
+                    record = b"%d,%d,%d,%d,%d,%d" % (id, min_x, max_x, min_y, max_y, layer)
+                    by_x.write(b"%d,%d,%b\n" % (min_x + max_x, min_y + max_y, record))
+            except TableError as fault:
+                faults.append(fault)
+        with Pipeline(sort(self._folder, *BY_ID, ids)) as pipeline:
+            first = min(chain(faults, repeated(pipeline.output)), key=lambda fault: fault.record, default=None)
+        pipeline.check()
+        if first is not None:
+            raise first
+        with Pipeline([*sort(self._folder, *BY_X, keyed), "-o", str(part)]) as pipeline:
+            pass
+        pipeline.check()
+        return part
+
+    # ---- by y
+
+    def _write_shards(self, boxes: int, name: Path, shards: Sequence[Path]) -> None:
+        """The shards of a slice, whose lines are sorted by y."""
+        if not name.exists():
+            return
+        with Pipeline(sort(self._folder, *BY_Y, name), ["cut", "-d,", "-f3-"]) as pipeline:
+            for shard, size in zip(shards, self._sizes(boxes, shards)):
+                with whole(shard) as file:
+                    file.writelines(islice(pipeline.output, size))
+        pipeline.check()
+        name.unlink()
 
 
-def _repeated(ids: Iterator[bytes]) -> Iterator[TableError]:
+def repeated(ids: Iterable[bytes]) -> Iterator[TableError]:
     """The faults of records whose ids stand in earlier ones too. Ids come in order, with the numbers of records."""
     before = b""
     for line in ids:
@@ -116,60 +233,46 @@ def _repeated(ids: Iterator[bytes]) -> Iterator[TableError]:
         before = id
 
 
-def _boxes(file: IO[str], header: bool) -> Iterator[tuple[int, list[int]]]:
-    """The boxes of a table, each with the number of its record: id, sides and layer.
-
-    Raises the first fault but those of repeated ids.
-    """
-    if file.read(3) != "\xef\xbb\xbf":  # the byte order mark, as these bytes are read here
-        file.seek(0)
-    csv.field_size_limit(2**31 - 1)
-    at = 0
-    for fields in csv.reader(file):
-        if not fields:
-            continue
-        at += 1
-        if not (header and at == 1):
-            yield at, _numbers(at, fields)
+def lines_in(file: Path) -> int:
+    return int(subprocess.run(["wc", "-l", file], stdout=subprocess.PIPE, check=True).stdout.split()[0])
 
 
-def _numbers(record: int, fields: list[str]) -> list[int]:
-    """The six numbers of a record."""
-    if len(fields) not in (5, 6):
-        raise TableError(record, f"wrong number of fields ({len(fields)})")
-    numbers = []
-    for at, (field, (least, greatest)) in enumerate(zip(fields, RANGES), 1):
-        match = NUMBER.fullmatch(field)
-        if match is None:
-            raise TableError(record, f"field {at} is not a number")
-        number = int(match[1] + match[2]) if len(match[2]) <= DIGITS else math.inf
-        if not least <= number <= greatest:
-            raise TableError(record, f"field {at} is out of range")
-        numbers.append(int(number))
-    for axis, low in (("x", 1), ("y", 3)):
-        if numbers[low] > numbers[low + 1]:
-            raise TableError(record, f"minimum above maximum in {axis}")
-    return numbers if len(numbers) == 6 else [*numbers, 0]
+def sort(folder: Path, *words: object) -> list[str]:
+    """A command that sorts lines of numbers parted by commas. Its temporary files go where the shards go: what `/tmp` is may
+    be memory."""
+    return ["sort", "-t,", "-T", str(folder), *map(str, words)]
 
 
-# ---- writing
+class Pipeline(contextlib.AbstractContextManager["Pipeline"]):
+    """Commands of which each reads what the one before writes. They end with the block: who leaves it early kills them."""
 
+    def __init__(self, *commands: Sequence[str], input: IO[bytes] | None = None, **more: str) -> None:
+        self._commands = commands
+        self._processes: list[subprocess.Popen[bytes]] = []
+        environment = {**os.environ, "LC_ALL": "C", **more}
+        given: int | IO[bytes] = subprocess.DEVNULL if input is None else input
+        for command in commands:
+            process = subprocess.Popen(command, stdin=given, stdout=subprocess.PIPE, env=environment)
+            assert process.stdout is not None
+            if self._processes:
+                self.output.close()  # the next one has it
+            self._processes.append(process)
+            self.output: IO[bytes] = process.stdout
+            given = self.output
 
-def _written(lines: Iterator[bytes], boxes: int, shards: int, folder: str) -> list[Path]:
-    """Writes the shards of boxes that come sorted by x. Each gets as many boxes as another, or one more."""
-    slices = math.isqrt(shards - 1) + 1
-    ends = [shards * at // slices for at in range(slices + 1)]
-    names = [Path(folder, f"{number:04}.csv") for number in range(shards)]
-    sizes = [boxes * (number + 1) // shards - boxes * number // shards for number in range(shards)]
-    for first, end in zip(ends, ends[1:]):
-        with _Sorter(folder, "-k2,2n", "-k3,3n") as by_y:
-            by_y.input.writelines(islice(lines, sum(sizes[first:end])))
-            in_order = by_y.sorted()
-            for name, size in zip(names[first:end], sizes[first:end]):
-                with open(name, "wb") as file:
-                    file.writelines(line.split(b",", 2)[2] for line in islice(in_order, size))
-            if next(in_order, None) is not None:
-                raise AssertionError("a slice has lines that none of its shards has")
-    if next(lines, None) is not None:
-        raise AssertionError("there are lines that no slice has")
-    return names
+    def wait(self) -> list[int]:
+        """Waits for all, and gives their statuses."""
+        return [process.wait() for process in self._processes]
+
+    def check(self) -> None:
+        """Raises `OSError` where one has failed."""
+        for command, status in zip(self._commands, self.wait()):
+            if status:
+                raise OSError(f"{command[0]} has ended with status {status}")
+
+    def __exit__(self, kind: type[BaseException] | None, error: BaseException | None, trace: object) -> None:
+        if error is not None:
+            for process in self._processes:
+                process.kill()
+        self.output.close()
+        self.wait()

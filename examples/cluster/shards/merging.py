@@ -1,38 +1,26 @@
-"""The replies of some shards to one line, made into the reply of all."""
+"""The answers of some shards to one line, made into those of all as they are read."""
 
 import heapq
 import sys
+from collections.abc import Iterable, Iterator
 from itertools import islice
 
-from rtfilter import Answers, QueryError, Reply
-
-from .questions import Question
-
-NO_MEANING = "S1", "no meaning over shards"
-"""The fault of a sound line that asks about a tree, of which there is one in each shard."""
+AT_ONCE = 1_000  # answers that are handed on
 
 
-def one_reply(line: str, question: Question | None, replies: list[Reply]) -> Reply:
-    """The reply to a line that one shard or more were asked."""
-    parts = [reply for reply in replies if isinstance(reply, Answers)]
-    if not parts:
-        return replies[0]  # a faulty line, or one that is skipped, is so in every shard
-    if question is None:
-        return QueryError(line, *NO_MEANING)
-    return merged(parts, question)
+def merged(parts: Iterable[Iterator[bytes]], most: int | None) -> Iterator[bytes]:
+    """Answers by score and id, the first so many of them, from parts that come in that order. All are in pieces of whole
+    lines, of which no more than one of each part is held, and one that is made."""
+    together = heapq.merge(*map(lines_of, parts), key=score_and_id)
+    # What is less than 0 is a fault, which has no answers.
+    answers = together if most is None else islice(together, max(0, min(most, sys.maxsize)))
+    while some := list(islice(answers, AT_ONCE)):
+        yield b"".join(some)
 
 
-def merged(parts: list[Answers], question: Question) -> Answers:
-    """The answers of all shards by score and id, as many as are wanted; of a count the sum."""
-    if question.is_count:
-        return Answers(b"", sum(part.total for part in parts))
-    some = [part for part in parts if part.total]
-    if len(some) <= 1:  # whose shard has cut it
-        return some[0] if some else parts[0]
-    most = None if question.limit is None else min(question.limit, sys.maxsize)
-    lines = [bytes(part).splitlines(keepends=True) for part in some]
-    kept = list(islice(heapq.merge(*lines, key=score_and_id), most))
-    return Answers(b"".join(kept), len(kept))
+def lines_of(pieces: Iterator[bytes]) -> Iterator[bytes]:
+    for piece in pieces:
+        yield from piece.splitlines(keepends=True)
 
 
 def score_and_id(answer: bytes) -> tuple[int, int]:
@@ -41,6 +29,6 @@ def score_and_id(answer: bytes) -> tuple[int, int]:
     return int(score), int(id)
 
 
-def last_score(answers: Answers) -> int:
+def last_score(answers: bytes) -> int:
     """The score of the last of them, where there are some."""
-    return int(bytes(answers).rpartition(b" ")[2])
+    return int(answers.rpartition(b" ")[2])

@@ -1,92 +1,216 @@
-"""Shards in the workers of dask.distributed, each an actor that keeps a program beside it."""
+"""Past one machine by dask.distributed, with its scheduler, its retries and its dashboard.
+
+Many questions against one table: `holding`, `meeting` and `nearest` answer a partition of a dask dataframe, so that
+
+    positions.map_partitions(over_dask.holding, Table("zones.csv"), meta=over_dask.PAIRS)
+
+has the answers as a dataframe too. Each worker loads the table when it needs it first, or asks the service of its host.
+
+A table that no program holds: `places` has its shards as futures, which dask holds, places, and makes anew on another
+worker where one was lost. A `Cluster` asks them in calls of many lines.
+"""
 
 import contextlib
 import os
-import pickle
 import subprocess
 import sys
+import threading
 import time
-from collections.abc import Iterable, Iterator, Sequence
+from collections.abc import Callable, Iterator, Sequence
+from dataclasses import dataclass, field
 from pathlib import Path
 from typing import Any
 
-from distributed import Client  # which is not typed throughout
+import pandas
+from distributed import Client, Future  # which is not typed throughout
 
 import rtfilter
-from rtfilter import Reply, Rtfilter
+from rtfilter import Covers, Ended, Rtfilter, Window
+from rtfilter.connection import Address
+from rtfilter.deadlines import ENDLESS, Deadline
+from rtfilter.pool import CHANGED, state_of
+
+from .places import Place
+from .sinks import text_of
 
 PATHS = [str(Path(module).resolve().parents[1]) for module in (__file__, rtfilter.__file__)]
 """The folders of the modules that a worker needs, for its PYTHONPATH."""
 
 GRACE = 5.0  # seconds that processes have to end by themselves
 LONGEST_START = 120  # seconds that workers have to start: some on an idle machine
+BOX = 60  # bytes of memory that a box takes
+RECORD = 48  # bytes of text that it is at most
+
+PAIRS = pandas.DataFrame({"id": pandas.Series(dtype="int64")})
+SCORES = PAIRS.assign(score=pandas.Series(dtype="object"))
+"""What the partitions of answers look like. The index is that of the positions."""
 
 
-class Actor:
-    """A program in a worker."""
-
-    def __init__(self, table: str, program: str) -> None:
-        self._boxes = Rtfilter(table, program=program)
-
-    def replies(self, lines: bytes) -> bytes:
-        """Lines and replies, pickled: dask would send each item of a list by itself, and take longer by far."""
-        return pickle.dumps(self._boxes.replies(pickle.loads(lines)))
-
-    def close(self) -> None:
-        self._boxes.close()
+# ---- a table in a worker
 
 
-class DaskShard:
-    """A shard of a cluster whose program runs in a worker."""
+@dataclass(frozen=True)
+class Table:
+    """A table that whoever has this loads when it is asked first, once in each process: a file of the worker's host, or the
+    address of a service there. A file that has changed since is refused, so that all workers answer from the same one."""
 
-    def __init__(self, actor: Any, timeout: float | None) -> None:
-        self._actor = actor
-        self._timeout = timeout
+    source: Address
+    program: str = "rtfilter"
+    header: bool = False
+    is_address: bool = False
+    state: tuple[int, ...] | None = field(default=None)  # of the file
 
-    def replies(self, lines: Iterable[str]) -> list[Reply]:
-        """Raises what a client raises, `OSError` where the worker has gone, `TimeoutError` where it takes too long."""
-        asked = pickle.dumps(list(lines))
+    @property
+    def boxes(self) -> Rtfilter:
+        """Raises `ValueError` for a file that has changed, and what `Rtfilter` does."""
+        with _loading:
+            if self not in _loaded:
+                _loaded[self] = self._opened()
+            return _loaded[self]
+
+    def _opened(self) -> Rtfilter:
+        if self.is_address:
+            return Rtfilter(address=self.source)
+        boxes = Rtfilter(self._file, program=self.program, header=self.header)
+        self._check_state()
+        return boxes
+
+    @property
+    def _file(self) -> str:
+        return str(self.source)
+
+    def _check_state(self) -> None:
+        if self.state is not None and state_of(self._file) != self.state:
+            raise ValueError(f"{self._file}: {CHANGED}")
+
+    def asked(self, lines: list[str]) -> bytes:
+        """The replies to lines, as the program writes them. A program that has ended is started anew, once."""
         try:
-            return pickle.loads(self._actor.replies(asked).result(self._timeout))  # type: ignore[no-any-return]
-        except ValueError as error:  # what dask says from the second call on
-            raise ConnectionError(str(error)) from error
+            return text_of(self.boxes.replies(lines))
+        except Ended:
+            self.boxes.reload()
+            self._check_state()
+            return text_of(self.boxes.replies(lines))
 
-    def close(self) -> None:
-        with contextlib.suppress(OSError, TimeoutError, ValueError):  # a worker that has gone took its program with it
-            self._actor.close().result(GRACE)
+    def __sizeof__(self) -> int:
+        """What it takes to have it elsewhere, so that dask has its tasks run where it is."""
+        return 0 if self.is_address else os.stat(self._file).st_size * BOX // RECORD
 
 
-def opened(client: Client, tables: Sequence[str], program: str, timeout: float | None = None) -> list[DaskShard]:
-    """A shard for each table, whose name is the one where the worker is. The workers take them in turn, in the order of
-    their names.
+_loaded: dict[Table, Rtfilter] = {}  # of this process
+_loading = threading.RLock()
 
-    Raises what `Rtfilter` does, and `OSError` where there is no worker, and leaves no program then.
+
+def table_of(file: str, program: str = "rtfilter", header: bool = False) -> Table:
+    """A table whose file is to stay as it is now. Where the workers are."""
+    return Table(file, program, header, state=state_of(file))
+
+
+# ---- many questions against one table
+
+
+def holding(positions: pandas.DataFrame, table: Table) -> pandas.DataFrame:
+    """The boxes that hold each position, which has the columns x and y."""
+    return _pairs(positions, positions[["x", "x", "y", "y"]], table, Covers)
+
+
+def meeting(windows: pandas.DataFrame, table: Table) -> pandas.DataFrame:
+    """The boxes that meet each window, which has the columns min_x, max_x, min_y and max_y."""
+    return _pairs(windows, windows[["min_x", "max_x", "min_y", "max_y"]], table, Window)
+
+
+def nearest(positions: pandas.DataFrame, table: Table, k: int) -> pandas.DataFrame:
+    """The k boxes nearest to each position."""
+    places, ids, scores = table.boxes.nearest_bulk(positions[["x", "y"]].to_numpy(), k)
+    return pandas.DataFrame({"id": ids, "score": scores.astype(object)}, index=positions.index[places])
+
+
+def _pairs(
+    frame: pandas.DataFrame, windows: pandas.DataFrame, table: Table, region: type[Covers | Window]
+) -> pandas.DataFrame:
+    places, ids = table.boxes.query_bulk(windows.to_numpy(), region=region)
+    return pandas.DataFrame({"id": ids}, index=frame.index[places])
+
+
+# ---- a table in shards
+
+
+class Remote:
+    """A shard that dask holds, asked by tasks. A reply is in memory as a whole."""
+
+    def __init__(self, client: Client, table: Future) -> None:
+        self._client = client
+        self._table = table
+        self._asked: set[Future] = set()
+        self.size = 0
+        self.is_lost = False
+        self.lines = 0
+
+    def load(self, deadline: Deadline) -> None:
+        self.size = int(self.replies_to(b"count all\n", 1, deadline).split()[-1])
+
+    def pieces_to(self, text: bytes, lines: int, deadline: Deadline = ENDLESS) -> Iterator[bytes]:
+        asked = text.decode("utf-8", "surrogateescape").split("\n")[:-1]
+        future = self._client.submit(Table.asked, self._table, asked, pure=False)
+        self._asked.add(future)
+        self.lines += lines
+        return self._told(future, deadline)
+
+    def _told(self, future: Future, deadline: Deadline) -> Iterator[bytes]:
+        try:
+            yield future.result(None if deadline.is_endless else deadline.left())
+        finally:
+            self._asked.discard(future)
+
+    def replies_to(self, text: bytes, lines: int, deadline: Deadline = ENDLESS) -> bytes:
+        return b"".join(self.pieces_to(text, lines, deadline))
+
+    def abandon(self) -> None:
+        """Cancels what is asked."""
+        for future in list(self._asked):
+            future.cancel()
+
+    def hang_up(self) -> None:
+        self.abandon()
+
+    def close(self, deadline: Deadline = ENDLESS) -> None:
+        self.abandon()
+
+
+def places(client: Client, files: Sequence[str], program: str = "rtfilter") -> list[Place]:
+    """A shard for each file, whose name is the one where the workers are. At first they are spread over the workers in the
+    order of their names; where one is lost, its shards may go to any. Raises `OSError` where there is no worker.
     """
-    known = client.scheduler_info()["workers"]  # type: ignore[no-untyped-call]
-    workers = sorted(known.items(), key=lambda worker: str(worker[1]["name"]))
+    known = client.scheduler_info()["workers"]
+    workers = [address for address, _ in sorted(known.items(), key=lambda worker: str(worker[1]["name"]))]
     if not workers:
         raise OSError("the scheduler has no workers")
-    futures = [
-        client.submit(  # type: ignore[no-untyped-call]
-            Actor, table, program, actor=True, pure=False, workers=[workers[at % len(workers)][0]]
-        )
-        for at, table in enumerate(tables)
-    ]
-    shards = [DaskShard(future.result(), timeout) for future in futures if future.exception() is None]
-    for future in futures:
-        error = future.exception()
-        if error is not None:
-            for shard in shards:
-                shard.close()
-            raise error
-    return shards
+
+    def submit(call: Callable[..., Any], at: int, *given: Any) -> Future:
+        where = [workers[at % len(workers)]]
+        return client.submit(call, *given, pure=False, workers=where, allow_other_workers=True)
+
+    # The state of its file belongs to what a shard is made of, so that one which is made anew isn't another one.
+    tables = client.gather([submit(table_of, at, file, program) for at, file in enumerate(files)])
+    return [Place(file, begun(client, submit(same, at, table))) for at, (file, table) in enumerate(zip(files, tables))]
+
+
+def same(table: Table) -> Table:
+    return table
+
+
+def begun(client: Client, table: Future) -> Callable[..., Any]:
+    return lambda *_: Remote(client, table)
+
+
+# ---- workers
 
 
 def connected(file: str) -> Client:
     """A client of the scheduler that a scheduler file tells of. Raises `OSError` where there is none."""
     if not Path(file).exists():  # which dask would wait for
         raise FileNotFoundError(f"no scheduler file {file}")
-    return Client(scheduler_file=file)  # type: ignore[no-untyped-call]
+    return Client(scheduler_file=file)
 
 
 @contextlib.contextmanager
@@ -101,7 +225,7 @@ def local_workers(count: int, folder: str) -> Iterator[Client]:
     try:
         _wait_for(file, scheduler)
         for number in range(count):
-            words = "--nworkers", "1", "--nthreads", "1", "--no-nanny", "--name", f"shard{number:04}"
+            words = "--nworkers", "1", "--nthreads", "1", "--no-nanny", "--name", f"worker{number:04}"
             processes.append(_started(folder, f"worker{number}", "dask_worker", *words, "--local-directory", folder))
         with connected(str(file)) as client:
             client.wait_for_workers(count, timeout=LONGEST_START)

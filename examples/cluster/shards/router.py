@@ -1,113 +1,81 @@
-"""Which shards a line is asked of, and its reply from theirs."""
+"""A table that shards hold together, asked as if it were in one program."""
 
-import contextlib
-from collections.abc import Iterable, Sequence
-from concurrent.futures import ThreadPoolExecutor
-from dataclasses import dataclass, field
+from collections import Counter
+from collections.abc import Callable, Iterable, Sequence
+from functools import partial
 
-from rtfilter import Answers, QueryError, Reply, RtfilterError
-from rtfilter.client import query_lines
+from rtfilter import Answers, QueryError, Reply
+from rtfilter.client import checked_timeout, query_lines
 from rtfilter.closing import Closing
+from rtfilter.deadlines import ENDLESS, Deadline, Turns
 from rtfilter.forks import Owned
 from rtfilter.transport import CLOSED
 
-from .bounds import Shard, size_and_bounds
-from .merging import last_score, one_reply
-from .questions import Question, Sides, near2, question_of
+from .connections import Connections, ShardError
+from .exchanges import Broken, Exchange
+from .places import Place
+from .routes import MOST_KEPT, Asked
+from .sinks import Gathered, Sink, Written
 
-
-class ShardError(RtfilterError):
-    """A shard that gave no replies. None of the call's lines has one then: no part of an answer is given for the whole.
-
-    `number` is its place among the shards, from 0, and `text` says what came in the place of replies; the exception
-    that it was raised from tells more.
-    """
-
-    def __init__(self, number: int, text: str) -> None:
-        super().__init__(number, text)
-        self.number = number
-        self.text = text
-
-    def __str__(self) -> str:
-        return f"shard {self.number}: {self.text}"
-
-
-@dataclass(frozen=True, slots=True)
-class Route:
-    """The shards that a line is asked of first, one or more.
-
-    Where the `limit` boxes nearest to a point are wanted, that is the nearest shard, and `later` are those that may have
-    to be asked after it, each with the square of its distance.
-    """
-
-    first: list[int]
-    later: dict[int, int] = field(default_factory=dict)
-    limit: int = 0
-
-    def still_wanted(self, told: list[Reply]) -> list[int]:
-        """The shards that may have a box among the nearest, once the nearest shard has told its own."""
-        if not self.later:
-            return []
-        (nearest,) = told
-        if not isinstance(nearest, Answers):
-            return []
-        if nearest.total < self.limit:
-            return list(self.later)
-        # Not only those that are nearer: at the same score a lower id comes first.
-        farthest = last_score(nearest)
-        return [it for it, distance in self.later.items() if distance <= farthest]
+LINES_OF_A_TURN = 1_000  # that are asked at once
 
 
 class Cluster(Owned, Closing):
-    """A table that shards hold together, none of whose ids is in two of them. Threads may share it.
+    """A table that shards hold together, none of whose ids is in two of them. Threads may share it; it answers one call at
+    a time.
 
     It is asked lines, as one program that held the whole table would be, and the replies are those of that program, but
-    for `levels` and `cost`, which are about one tree and are refused (`merging.NO_MEANING`). The shards are closed with
-    it, and where this raises an error.
+    for `levels` and `cost`, which are about one tree and are refused (`routes.NO_MEANING`). The table is what the
+    connections hold that there are while a line is answered. One that is lost is made anew before the next line, at
+    another of the shard's places, if it has one, and the shard's bounds are asked again.
+
+    `timeout` is how many seconds a call may take, that of making a cluster too; None sets no limit. Programs that were
+    started end with the cluster, and where this raises an error.
     """
 
-    def __init__(self, shards: Sequence[Shard]) -> None:
-        if not shards:
-            raise ValueError("a cluster has at least one shard")
+    def __init__(self, shards: Iterable[Sequence[Place]], *, timeout: float | None = None) -> None:
+        """Each shard is the places where it can be asked."""
         super().__init__()
-        self._shards = list(shards)
-        self._threads = ThreadPoolExecutor(len(self._shards))
-        self._is_closed = False
+        self._timeout = checked_timeout(timeout)
+        self._turns = Turns()
+        self._connections = Connections(shards)
         try:
-            known = list(self._threads.map(self._known, range(len(self._shards))))
+            self._connections.mend(self._deadline())
         except BaseException:
-            self.close()
+            self._connections.close()
             raise
-        self._size = sum(size for size, _ in known)
-        self._bounds = {number: bounds for number, (_, bounds) in enumerate(known) if bounds is not None}
 
-    def _known(self, number: int) -> tuple[int, Sides | None]:
-        """What is asked of a shard first."""
-        try:
-            return size_and_bounds(self._shards[number])
-        except Exception as error:
-            raise ShardError(number, str(error)) from error
+    def _deadline(self) -> Deadline:
+        return ENDLESS if self._timeout is None else Deadline(self._timeout)
+
+    def reconnect(self) -> None:
+        """Takes new connections to all shards, and so the tables that they have now; all of them, or none.
+
+        Raises `ShardError` where there can't be one to each, and the old ones stay.
+        """
+        self._check_process()
+        deadline = self._deadline()
+        self._turns.take(partial(self._connections.renew, deadline), deadline)
 
     def __len__(self) -> int:
         """How many boxes there are."""
-        return self._size
+        self._check_process()
+        deadline = self._deadline()
+        return self._turns.take(partial(self._size, deadline), deadline)
+
+    def _size(self, deadline: Deadline) -> int:
+        self._connections.mend(deadline)
+        return sum(held.transport.size for held in self._connections.held().values())
 
     def replies(self, lines: Iterable[str]) -> list[Reply]:
         """The reply to each query line, with faults and skipped lines as values: as `Boxes.replies` of the client.
 
-        Raises `ShardError` where a shard that has to be asked gives no replies, `ValueError` after `close`, also where that
-        comes from another thread meanwhile, and `WrongProcess` in a child of a fork.
+        Raises `ShardError` where a shard gives no replies, `ValueError` after `close`, also where that comes from another
+        thread meanwhile, and `WrongProcess` in a child of a fork.
         """
-        self._check_process()
-        if self._is_closed:
-            raise ValueError(CLOSED)
-        asked = query_lines(lines)
-        questions = [question_of(line) for line in asked]
-        routes = [self._route(at, question) for at, question in enumerate(questions)]
-        first = self._told(asked, [route.first for route in routes])
-        second = self._told(asked, [route.still_wanted(told) for route, told in zip(routes, first)])
-        both = ([*one, *two] for one, two in zip(first, second))
-        return [one_reply(*it) for it in zip(asked, questions, both)]
+        gathered = Gathered()
+        self._answer(lines, gathered)
+        return gathered.replies
 
     def ask(self, lines: Iterable[str]) -> list[Answers]:
         """The answers to each query line, none for one that is skipped. All are asked, then a fault is raised."""
@@ -118,51 +86,76 @@ class Cluster(Owned, Closing):
             found.append(Answers(b"", 0) if reply is None else reply)
         return found
 
-    def _route(self, at: int, question: Question | None) -> Route:
-        """Where a line goes. Some shard is asked in any case: it tells whether the line is at fault."""
-        holders = [] if question is None else [it for it, bounds in self._bounds.items() if question.may_accept(bounds)]
-        if question is None or not holders:
-            return Route([at % len(self._shards)])
-        if question.limit == 0:
-            return Route(holders[:1])
-        if question.point is None or question.limit is None:
-            return Route(holders)
-        later = {it: near2(question.point, self._bounds[it]) for it in holders}
-        nearest = min(later, key=later.__getitem__)
-        del later[nearest]
-        return Route([nearest], later, question.limit)
+    def write(self, lines: Iterable[str], write: Callable[[bytes], object], first: int = 1) -> int:
+        """Writes the replies as the program does, where the first is that to the line of this number, and gives how many of
+        the lines were faulty.
 
-    def _told(self, lines: list[str], shards_of: list[list[int]]) -> list[list[Reply]]:
-        """For each line the replies of its shards, which are asked side by side, each all its lines at once."""
-        places: dict[int, list[int]] = {}
-        for at, numbers in enumerate(shards_of):
-            for number in numbers:
-                places.setdefault(number, []).append(at)
-        replies: list[list[Reply]] = [[] for _ in lines]
-        batches = {number: [lines[at] for at in some] for number, some in places.items()}
-        for some, told in zip(places.values(), self._side_by_side(batches)):
-            for at, reply in zip(some, told):
-                replies[at].append(reply)
-        return replies
+        Answers are merged as they are read, so that this holds no more of them than half a megabyte for each shard, and 5
+        MB of nearest ones. Raises what `replies` does; a reply that broke off then has no last line.
+        """
+        written = Written(write, first)
+        self._answer(lines, written)
+        return written.faults
 
-    def _side_by_side(self, batches: dict[int, list[str]]) -> Iterable[list[Reply]]:
-        if len(batches) <= 1:  # which wants no thread
-            return [self._replies_of(*batch) for batch in batches.items()]
-        return list(self._threads.map(self._replies_of, *zip(*batches.items())))
-
-    def _replies_of(self, number: int, lines: list[str]) -> list[Reply]:
+    def _answer(self, lines: Iterable[str], sink: Sink) -> None:
+        self._check_process()
+        asked = query_lines(lines)
+        deadline = self._deadline()
         try:
-            return self._shards[number].replies(lines)
-        except Exception as error:
-            if self._is_closed:
-                raise ValueError(CLOSED) from error
-            raise ShardError(number, str(error)) from error
+            self._turns.take(partial(self._answer_all, asked, sink, deadline), deadline)
+        except Broken as broken:
+            if self._connections.are_ended:
+                raise ValueError(CLOSED) from broken.__cause__
+            place = self._connections.held()[broken.number].place
+            raise ShardError(broken.number, f"{place.name}: {broken.__cause__}") from broken.__cause__
+
+    def _answer_all(self, lines: list[str], sink: Sink, deadline: Deadline) -> None:
+        """Answers in turns. A question changes nothing: where a shard breaks before anything of a reply was handed on, it
+        is connected anew, at most as often as it has places, and the line and those behind it are asked again."""
+        breaks: Counter[int] = Counter()
+        while sink.done < len(lines):
+            self._connections.mend(deadline)
+            try:
+                self._answer_turn(self._turn(lines, sink.done), sink, deadline)
+            except Broken as broken:
+                breaks[broken.number] += 1
+                is_tried = breaks[broken.number] > len(self._connections.shards[broken.number])
+                if sink.has_begun or is_tried or deadline.is_over or self._connections.are_ended:
+                    raise
+
+    def _turn(self, lines: list[str], first: int) -> list[Asked]:
+        """The next lines, from the first one on: at least that, and no more than may be asked at once."""
+        held = self._connections.held().items()
+        bounds = {number: it.bounds for number, it in held if it.bounds is not None}
+        turn: list[Asked] = []
+        kept = 0
+        for at in range(first, min(first + LINES_OF_A_TURN, len(lines))):
+            asked = Asked(lines[at], bounds, at % len(held))
+            kept += asked.route.limit
+            if kept > MOST_KEPT and turn:
+                break
+            turn.append(asked)
+        return turn
+
+    def _answer_turn(self, turn: list[Asked], sink: Sink, deadline: Deadline) -> None:
+        transports = {number: held.transport for number, held in self._connections.held().items()}
+        in_two = [asked for asked in turn if asked.route.later]
+        with Exchange(transports, deadline) as nearest:
+            for asked in in_two:
+                nearest.add(asked.left, asked.line)
+            nearest.begin()
+            for asked in in_two:
+                asked.take_nearest(*nearest.streams(asked.left))
+        with Exchange(transports, deadline) as rest:
+            for asked in turn:
+                rest.add(asked.left, asked.line)
+            rest.begin()
+            for asked in turn:
+                asked.answer(rest.streams(asked.left), sink)
 
     def close(self) -> None:
         if self._is_inherited:
             return
-        self._is_closed = True
-        with contextlib.ExitStack() as stack:  # one that can't be closed leaves none of the others open
-            stack.callback(self._threads.shutdown)  # last: what a thread waits for ends with its shard
-            for shard in self._shards:
-                stack.callback(shard.close)
+        if self._turns.are_taken:
+            self._connections.end()
+        self._turns.take(self._connections.close, ENDLESS)

@@ -1,136 +1,59 @@
-"""Shards are asked as one program is: the same bytes, by each transport; what has ended is told, nothing is left."""
+"""Shards are asked as one program is: the same bytes; what has ended is told, nothing is left."""
 
 import collections
-import json
 import os
 import random
 import re
+import shutil
 import signal
 import subprocess
-import sys
-import tempfile
 import threading
-import time
+import tracemalloc
 import unittest
+import unittest.mock
 from pathlib import Path
 
-CLUSTER = Path(__file__).resolve().parents[1]
-ROOT = CLUSTER.parents[1]
-PROGRAM = os.environ["RTFILTER_PROGRAM"]
-DEBIAN = "/usr/bin/python3"  # sees Debian's packages, as another Python on the path doesn't
-PEER = Path(__file__).with_name("dask_peer.py")
-
-sys.path[:0] = [str(CLUSTER), str(ROOT / "clients/python"), str(ROOT / "tests")]
+from cluster_support import (
+    CLUSTER, PROGRAM, ROOT, Folders, decoded, one_run, opened, running, some_lines, some_short_table, some_sound_table,
+    written,
+)  # fmt: skip
 
 import random_runs
 import reading
-from shards import processes
-from shards.bounds import size_and_bounds
-from shards.cutting import TableError, cut
-from shards.lines import written
+from shards.bounds import bounds_of
+from shards.cutting import cut
+from shards.places import places_of, there
 from shards.questions import question_of
+from shards.records import TableError
 from shards.router import Cluster, ShardError
 
-from rtfilter import Ended, Rtfilter
+from rtfilter import Ended
+from rtfilter.deadlines import ENDLESS
+from rtfilter.program import Program
 
 COUNTS = 1, 2, 4, 16  # shards
 LATER = 0.3  # seconds
-LONGEST = 240  # seconds of a run of dask, which takes ten where nobody else is at work
-REFUSED = b"error %d S1 no meaning over shards\n"
 
+# A `sort` that fails when it is called for the so manieth time.
+SORT = """#!/bin/sh
+number=1
+until mkdir {log}/$number 2> /dev/null; do number=$((number + 1)); done
+[ $number != "$FAILING" ] || exit 2
+exec {sort} "$@"
+"""
 
-def some_sound_table(chance: random.Random) -> bytes:
-    """Boxes of small numbers, which have many ties."""
-    while True:
-        text: bytes = chance.choice([random_runs.some_table, random_runs.some_small_boxes])(chance)
-        if not isinstance(reading.boxes(text, False, 2**24), bytes):
-            return text
-
-
-def some_short_table(chance: random.Random) -> bytes:
-    """A few records, mostly with a fault: sides that are turned, or an id that comes again."""
-    rows = [[chance.randint(1, 4), *random_runs.box(chance)] for _ in range(chance.randint(1, 3))]
-    if chance.random() < 0.5:
-        rows[-1][chance.choice([1, 3])] += 10
-    return b"".join(b"%d,%d,%d,%d,%d\n" % tuple(row) for row in rows)
-
-
-def some_lines(chance: random.Random, count: int) -> list[bytes]:
-    """Lines that are sound or faulty, half of them sound near ones with a limit, whose answers come in two goes."""
-    return [chance.choice([random_runs.some_line, some_near_line])(chance) for _ in range(count)]
-
-
-def some_near_line(chance: random.Random) -> bytes:
-    first = [b"first", random_runs.some_limit(chance)]
-    find = [b"find", *random_runs.some_boxes(chance), b"near", *random_runs.some_point(chance)]
-    nearest = [b"nearest", first[1], *random_runs.some_point(chance)]
-    circle = [b"find", b"circle", *random_runs.some_point(chance), b"%d" % chance.randint(0, 30)]
-    return b" ".join(chance.choice([[*find, *first], nearest, [*circle, *first]]))
-
-
-def one_run(table: Path, lines: list[bytes]) -> bytes:
-    """What the program writes for lines over a table, its replies to `levels` and `cost` changed to their refusals."""
-    text = b"".join(line + b"\n" for line in lines)
-    told = subprocess.run([PROGRAM, table], input=text, capture_output=True, timeout=60).stdout
-
-    def kept(reply: re.Match[bytes]) -> bytes:
-        words = reading.Words(lines[int(reply[1]) - 1]).left
-        return REFUSED % int(reply[1]) if words[0] in (b"levels", b"cost") else reply[0]
-
-    return re.sub(rb"(?:-?\d+ \d+\n)*ok (\d+) \d+\n", kept, told)
-
-
-def decoded(lines: list[bytes]) -> list[str]:
-    return list(map(os.fsdecode, lines))
-
-
-def opened(tables: list[Path]) -> Cluster:
-    return Cluster(processes.opened(list(map(str, tables)), PROGRAM, timeout=60))
-
-
-def running(word: str | Path) -> list[int]:
-    """The processes that have a word in their command."""
-    found = []
-    for process in Path("/proc").glob("[0-9]*"):
-        try:
-            command = (process / "cmdline").read_bytes()
-        except OSError:
-            continue
-        if os.fsencode(word) in command:
-            found.append(int(process.name))
-    return found
-
-
-class Folders(unittest.TestCase):
-    """Each test has a folder. At its end no process is left that has the folder's name in its command, soon at least: a
-    program whose worker was killed ends by itself."""
-
-    def setUp(self) -> None:
-        folder = tempfile.TemporaryDirectory()
-        self.addCleanup(folder.cleanup)
-        self.folder = Path(folder.name)
-        self.addCleanup(self.nothing_is_left)
-
-    def nothing_is_left(self) -> None:
-        until = time.monotonic() + 2
-        while running(self.folder) and time.monotonic() < until:
-            time.sleep(0.02)
-        self.assertEqual(running(self.folder), [])
-
-    def table(self, text: bytes) -> Path:
-        path = self.folder / "table.csv"
-        path.write_bytes(text)
-        return path
-
-    def even_table(self, count: int, shards: int) -> tuple[Path, list[Path]]:
-        """Boxes that are spread evenly, and the shards that they are cut into."""
-        chance = random.Random(count)
-        rows = []
-        for id in range(count):
-            x, y = chance.randrange(10**6), chance.randrange(10**6)
-            rows.append(b"%d,%d,%d,%d,%d\n" % (id, x, x + chance.randrange(500), y, y + chance.randrange(500)))
-        table = self.table(b"".join(rows))
-        return table, cut(str(table), shards, str(self.folder / "parts"))
+# A program that ends in the place of an answer with the id 5.
+DYING = """#!/usr/bin/env python3
+import os, subprocess, sys
+with open({starts!r}, "a") as starts:
+    starts.write(".")
+program = subprocess.Popen([{program!r}, *sys.argv[1:]], stdout=subprocess.PIPE)
+for line in program.stdout:
+    if line.startswith(b"5 "):
+        program.kill()
+        os._exit(1)
+    os.write(1, line)
+"""
 
 
 class Cuts(Folders):
@@ -164,9 +87,46 @@ class Cuts(Folders):
         parts = cut(str(self.table(b"".join(rows))), 16, str(self.folder / "parts"))
         bounds = []
         for part in parts:
-            with Rtfilter(part, program=PROGRAM) as shard:
-                bounds.append(size_and_bounds(shard))
+            bounds.append(size_and_bounds(part))
         self.assertEqual(bounds, [(4, (x, x + 1, y, y + 1)) for x in range(0, 8, 2) for y in range(0, 8, 2)])
+
+    def test_plain_tables(self) -> None:
+        """Those that awk reads are cut as others are: with headers, layers, long ids, and at any line of its parts."""
+        chance = random.Random(9)
+        for at in range(40):
+            rows = [[chance.choice([id, -id, 2**63 - 1 - id]), *random_runs.box(chance)] for id in range(1, at + 2)]
+            text = b"".join(b"%d,%d,%d,%d,%d%b\n" % (*row, chance.choice([b"", b",7"])) for row in rows)
+            header = chance.choice([b"", b"id,a,b,c,d\n", b'"id\n",a\n', b"\n\nx\n"])
+            table = self.table(header + text.removesuffix(chance.choice([b"", b"\n"])))
+            parts = cut(str(table), 3, str(self.folder / f"plain{at}"), bool(header))
+            found = [reading.boxes(part.read_bytes(), False, 2**24) for part in parts]
+            wanted = reading.boxes(table.read_bytes(), bool(header), 2**24)
+            self.assertEqual({id: box for part in found for id, box in part.items()}, wanted)
+
+    def test_a_cut_that_was_broken_off(self) -> None:
+        """It goes on from there, whichever of its sorts has failed, and has sorted no part twice that was done."""
+        table, wanted = self.even_table(2_000, 9)
+        texts = [part.read_bytes() for part in wanted]
+        log, command = self.folder / "sorts", self.folder / "bin/sort"
+        log.mkdir()
+        command.parent.mkdir()
+        command.write_text(SORT.format(log=log, sort=shutil.which("sort")))
+        command.chmod(0o700)
+        with unittest.mock.patch.dict(os.environ, PATH=f"{command.parent}:{os.environ['PATH']}"):
+            cut(str(table), 9, str(self.folder / "unbroken"))
+            sorts = len(os.listdir(log))
+            for failing in range(1, sorts + 1):
+                shutil.rmtree(log)
+                log.mkdir()
+                folder = str(self.folder / f"broken{failing}")
+                with unittest.mock.patch.dict(os.environ, FAILING=str(failing)), self.assertRaises(OSError):
+                    cut(str(table), 9, folder)
+                with self.assertRaises(FileExistsError):
+                    cut(str(table), 8, folder)
+                parts = cut(str(table), 9, folder)
+                self.assertEqual([part.read_bytes() for part in parts], texts)
+                self.assertEqual(sorted(os.listdir(folder)), sorted(part.name for part in parts))
+                self.assertLessEqual(len(os.listdir(log)), sorts + (os.cpu_count() or 1))
 
     def test_refused(self) -> None:
         table = self.table(b"1,0,1,0,1\n")
@@ -195,8 +155,7 @@ class Bounds(Folders):
             boxes = reading.boxes(text, False, 2**24).values()
             sides = [*zip(*boxes)][:4]
             wanted = (min(sides[0]), max(sides[1]), min(sides[2]), max(sides[3])) if boxes else None
-            with Rtfilter(self.table(text), program=PROGRAM) as shard:
-                self.assertEqual(size_and_bounds(shard), (len(boxes), wanted))
+            self.assertEqual(size_and_bounds(self.table(text)), (len(boxes), wanted))
 
 
 class Questions(unittest.TestCase):
@@ -223,9 +182,11 @@ class CoProcesses(Folders):
             wanted = one_run(table, lines)
             for count in COUNTS:
                 with opened(cut(str(table), count, str(self.folder / f"parts{at}-{count}"))) as boxes:
-                    self.assertEqual(written(boxes.replies(decoded(lines)), 1), wanted)
-                    one_by_one = [reply for line in decoded(lines[:40]) for reply in boxes.replies([line])]
-                    self.assertEqual(written(one_by_one, 1), one_run(table, lines[:40]))
+                    self.assertEqual(written(boxes, lines), wanted)
+                    found: list[bytes] = []
+                    for number, line in enumerate(decoded(lines[:40]), 1):
+                        boxes.write([line], found.append, number)
+                    self.assertEqual(b"".join(found), one_run(table, lines[:40]))
 
     def test_few_shards_are_asked(self) -> None:
         """On even data `nearest` asks hardly more than one shard, and a small window too."""
@@ -234,48 +195,119 @@ class CoProcesses(Folders):
         places = [(chance.randrange(10**6), chance.randrange(10**6)) for _ in range(2_000)]
         for kind in ("nearest 5 {0} {1}", "find window {0} {2} {1} {3}", "find all near {0} {1} first 5"):
             lines = [kind.format(x, y, x + 5_000, y + 5_000) for x, y in places]
-            shards = [Counting(part, program=PROGRAM) for part in parts]
-            with Cluster(shards) as boxes:
-                before = sum(shard.asked for shard in shards)
+            with opened(parts) as boxes:
+                before = lines_asked(boxes)
                 boxes.ask(lines)
-                asked = sum(shard.asked for shard in shards) - before
+                asked = lines_asked(boxes) - before
             self.assertLessEqual(asked, 1.1 * len(lines), kind)
             self.assertGreater(asked, len(lines), kind)
 
+    def test_a_long_answer_takes_little_memory(self) -> None:
+        """Merged as it is read: 400,000 answers of four shards, within half of their 5 MB."""
+        count = 400_000
+        parts = [self.folder / f"{at}.csv" for at in range(4)]
+        for at, part in enumerate(parts):
+            part.write_text("".join(f"{id},{id % 1000},{id % 1000},0,0\n" for id in range(at, count, 4)))
+        told = 0
+
+        def take(answers: bytes) -> None:
+            nonlocal told
+            told += answers.count(b"\n")
+
+        with opened(parts) as boxes:
+            boxes.replies(["count all"])
+            tracemalloc.start()
+            boxes.write(["find all near 0 0"], take)
+            _, most = tracemalloc.get_traced_memory()
+            tracemalloc.stop()
+        self.assertEqual(told, count + 1)
+        self.assertLess(most, 5_000_000 / 2)
+
     def test_a_killed_program(self) -> None:
-        """Killed while a call waits for it; later calls tell the same."""
+        """Killed while a call waits for it: it is started anew, and the line is asked again. Where it can't be, that is told
+        with its number and its table, as it is by later calls, and whatever they ask: nobody knows what it would hold."""
         table, parts = self.even_table(4_000, 4)
         with opened(parts) as boxes:
-            (pid,) = running(parts[2])
-            os.kill(pid, signal.SIGSTOP)
-            threading.Timer(LATER, os.kill, (pid, signal.SIGKILL)).start()
-            for wait in (LATER, 0, 0):
-                begun = time.monotonic() + wait
+            self.kill_while_asked(parts[2])
+            self.assertEqual(written(boxes, [b"count all"]), b"ok 1 4000\n")
+            self.kill_while_asked(parts[2])
+            parts[2].rename(self.folder / "elsewhere")
+            for line in ("count all", "nearest 3 0 0", "count all"):
                 with self.assertRaises(ShardError) as caught:
-                    boxes.replies(["count all"])
-                self.assertLess(time.monotonic() - begun, 1)
-                self.assertEqual(caught.exception.number, 2)
+                    boxes.replies([line])
+                self.assertEqual(str(caught.exception), f"shard 2: {parts[2]}: rtfilter: cannot open table")
                 self.assertIsInstance(caught.exception.__cause__, Ended)
-            # What the others answer by themselves goes on.
-            self.assertEqual(written(boxes.replies(["nearest 3 0 0"]), 1), one_run(table, [b"nearest 3 0 0"]))
+            (self.folder / "elsewhere").rename(parts[2])
+            self.assertEqual(written(boxes, [b"nearest 3 0 0"]), one_run(table, [b"nearest 3 0 0"]))
+
+    def kill_while_asked(self, part: Path) -> None:
+        (process,) = running(part)
+        os.kill(process, signal.SIGSTOP)
+        threading.Timer(LATER, os.kill, (process, signal.SIGKILL)).start()
+
+    def test_one_that_dies_of_each_question(self) -> None:
+        """It is started anew once for each place that it has, and not for ever."""
+        table, starts = self.table(b"5,0,1,0,1\n"), self.folder / "starts"
+        dying = self.folder / "dying"
+        dying.write_text(DYING.format(starts=str(starts), program=PROGRAM))
+        dying.chmod(0o700)
+        with Cluster([places_of(f"{table},{table}", str(dying))], timeout=60) as boxes:
+            self.assertEqual(boxes.ask(["count all"])[0].total, 1)
+            with self.assertRaises(ShardError):
+                boxes.replies(["count all", "find all"])
+        self.assertEqual(starts.read_text(), "...")
+
+    def test_a_reply_that_breaks_off(self) -> None:
+        """It has no last line, and no other shard's answers stand in its place."""
+        parts = [self.folder / f"{at}.csv" for at in range(2)]
+        for at, part in enumerate(parts):
+            part.write_text("".join(f"{id},{id},{id},0,0\n" for id in range(at, 200_000, 2)))
+        found: list[bytes] = []
+
+        def take(answers: bytes) -> None:
+            if not found:
+                os.kill(running(parts[1])[0], signal.SIGKILL)
+            found.append(answers)
+
+        with opened(parts) as boxes:
+            with self.assertRaises(ShardError) as caught:
+                boxes.write(["find all"], take)
+            self.assertEqual(caught.exception.number, 1)
+            text = b"".join(found)
+            self.assertNotIn(b"ok", text)
+            self.assertEqual(text, b"".join(b"%d 0\n" % id for id in range(text.count(b"\n"))))
+            self.assertEqual(written(boxes, [b"count all"]), b"ok 1 200000\n")
+
+    def test_nobody_takes_the_replies(self) -> None:
+        _, parts = self.even_table(40_000, 4)
+        with opened(parts) as boxes:
+            with self.assertRaises(ZeroDivisionError):
+                boxes.write(["find all", "count all"], lambda answers: 1 // 0)
+            self.assertEqual(written(boxes, [b"count all"]), b"ok 1 40000\n")
 
     def test_refused(self) -> None:
         table = str(self.table(b"1,0,1,0,1\n"))
-        for tables, program, error in (
-            ([table, f"{self.folder}/none"], PROGRAM, Ended),
-            ([table, table], f"{self.folder}/none", FileNotFoundError),
-        ):
-            with self.assertRaises(error):
-                processes.opened(tables, program)
-        with self.assertRaises(ValueError):
-            Cluster([])
+        none = f"{self.folder}/none"
+        for shards, program, number, why in (
+            ([table, none], PROGRAM, 1, f"{none}: rtfilter: cannot open table"),
+            ([table, table], none, 0, f"{table}: [Errno 2] No such file or directory: '{none}'"),
+            ([f"{none},unix:{none}"], PROGRAM, 0,
+             f"{none}: rtfilter: cannot open table; {none}: [Errno 2] No such file or directory: '{none}'"),
+        ):  # fmt: skip
+            with self.assertRaises(ShardError) as caught:
+                Cluster([places_of(words, program) for words in shards])
+            self.assertEqual((caught.exception.number, caught.exception.text), (number, why))
+        for places in ([], [[]]):
+            with self.assertRaises(ValueError):
+                Cluster(places)
         for count in (1, 2):
-            with opened([Path(table)] * count) as boxes:
+            with opened([table] * count) as boxes:
                 with self.assertRaises(ValueError):
                     boxes.replies(["count all\n"])
             boxes.close()
-            with self.assertRaisesRegex(ValueError, "^the table was closed$"):
-                boxes.replies(["count all"])
+            for call in (boxes.reconnect, boxes.__len__, lambda: boxes.replies(["count all"])):
+                with self.assertRaisesRegex(ValueError, "^the table was closed$"):
+                    call()
 
     def test_another_host(self) -> None:
         """By a command that takes a host and hands its words on to a shell, as ssh does."""
@@ -284,22 +316,25 @@ class CoProcesses(Folders):
         remote.chmod(0o700)
         table = self.table(b"1,0,1,0,1\n2,7,8,7,8\n3,7,9,7,9\n")
         parts = cut(str(table), 3, str(self.folder / "it's here"))
-        tables = [str(parts[0]), *(f"host{at}:{part}" for at, part in enumerate(parts[1:]))]
-        with Cluster(processes.opened(tables, PROGRAM, [str(remote)])) as boxes:
+        places = [there(f"host{at}", str(part), PROGRAM, [str(remote)]) for at, part in enumerate(parts)]
+        with Cluster([[place] for place in places]) as boxes:
             lines = [b"find all", b"nearest 2 8 8", b"find", b"count all"]
-            self.assertEqual(written(boxes.replies(decoded(lines)), 1), one_run(table, lines))
-        self.assertEqual(sorted(Path(f"{remote}.log").read_text().split()), ["host0", "host1"])
+            self.assertEqual(written(boxes, lines), one_run(table, lines))
+        self.assertEqual(sorted(Path(f"{remote}.log").read_text().split()), ["host0", "host1", "host2"])
 
 
-class Counting(Rtfilter):
-    """Counts the lines that it is asked."""
+def size_and_bounds(table: Path) -> tuple[int, object]:
+    program = Program([PROGRAM, str(table)])
+    program.load(ENDLESS)
+    try:
+        return program.size, bounds_of(program)
+    finally:
+        program.close()
 
-    asked = 0
 
-    def replies(self, lines):  # type: ignore[no-untyped-def]
-        lines = list(lines)
-        self.asked += len(lines)
-        return super().replies(lines)
+def lines_asked(boxes: Cluster) -> int:
+    """How many lines all shards were asked."""
+    return sum(held.transport.lines for held in boxes._connections.held().values())
 
 
 class Commands(Folders):
@@ -316,7 +351,7 @@ class Commands(Folders):
 
     def test_the_page(self) -> None:
         """The session of README.md, from the top of the repository, but for the folder of the shards."""
-        (session,) = re.findall(r"^```\n(.*?)^```$", (CLUSTER / "README.md").read_text(), re.MULTILINE | re.DOTALL)
+        (session,) = re.findall(r"^```\n(\$.*?)^```$", (CLUSTER / "README.md").read_text(), re.MULTILINE | re.DOTALL)
         steps = re.split(r"^\$ ", session.replace("parts", f"{self.folder}/parts"), flags=re.MULTILINE)[1:]
         path = f"{Path(PROGRAM).parent}:{os.environ['PATH']}"
         for step in steps:
@@ -337,68 +372,6 @@ class Commands(Folders):
                 self.assertEqual(process.stdout.readline(), b"ok %d 2\n" % at)
 
     def test_a_shard_that_is_not_there(self) -> None:
-        done = subprocess.run(
-            [CLUSTER / "ask.py", "--program", PROGRAM, self.folder / "none"], capture_output=True, text=True
-        )
-        self.assertEqual((done.returncode, done.stdout, done.stderr), (3, "", "ask.py: rtfilter: cannot open table\n"))
-
-
-class Dask(Folders):
-    def setUp(self) -> None:
-        if subprocess.run([DEBIAN, "-c", "import distributed"], capture_output=True).returncode:
-            self.skipTest("python3-distributed isn't installed")
-        super().setUp()
-
-    def test_as_one_run(self) -> None:
-        """The shards of some tables in four workers; then one of these is killed."""
-        chance, runs, wanted = random.Random(7), [], []
-        for at in range(4):
-            table, lines = self.table(some_sound_table(chance)), some_lines(chance, 250)
-            queries = self.folder / f"queries{at}"
-            queries.write_bytes(b"".join(line + b"\n" for line in lines))
-            for count in COUNTS:
-                parts = cut(str(table), count, str(self.folder / f"parts{at}-{count}"))
-                told = self.folder / f"told{at}-{count}"
-                runs.append({"shards": list(map(str, parts)), "queries": str(queries), "told": str(told)})
-                wanted.append(one_run(table, lines))
-        table, parts = self.even_table(1_000, 4)
-        runs.append({**runs[-1], "shards": list(map(str, parts)), "told": str(self.folder / "told")})
-        wanted.append(one_run(table, lines))
-        asked = {"program": PROGRAM, "folder": str(self.folder), "workers": 4, "runs": runs}
-        done = subprocess.run(
-            [DEBIAN, PEER], input=json.dumps(asked), stdout=subprocess.PIPE, check=True, text=True, timeout=LONGEST
-        )
-        for run, bytes_wanted in zip(runs, wanted, strict=True):
-            self.assertEqual(Path(run["told"]).read_bytes(), bytes_wanted)
-        errors = json.loads(done.stdout)
-        self.assertEqual([(number in range(4), gone) for number, gone, _ in errors], [(True, True)] * 3)
-        self.assertLess(max(seconds for *_, seconds in errors), 1)
-
-    def test_a_killed_command(self) -> None:
-        """It can't end its workers any more: they end with it."""
-        parts = cut(str(self.table(b"1,0,1,0,1\n2,7,8,7,8\n")), 2, str(self.folder / "parts"))
-        command = [DEBIAN, CLUSTER / "ask.py", "--program", PROGRAM, "--dask", "2", *parts]
-        how = {"bufsize": 0, "stdin": subprocess.PIPE, "stdout": subprocess.PIPE}
-        for number in (signal.SIGTERM, signal.SIGKILL):
-            with subprocess.Popen(command, env={**os.environ, "TMPDIR": str(self.folder)}, **how) as process:
-                process.stdin.write(b"count all\n")
-                self.assertEqual(process.stdout.readline(), b"ok 1 2\n")
-                self.assertGreater(len(running(self.folder)), 3)
-                process.send_signal(number)
-            self.nothing_is_left()
-
-    def test_as_a_command(self) -> None:
-        """Also that nothing is left of it where a shard can't be loaded."""
-        table = self.table(b"1,0,1,0,1\n2,7,8,7,8\n")
-        parts = cut(str(table), 2, str(self.folder / "parts"))
-        none = f"{self.folder}/none"
-        for tables, status, told, error in (
-            (parts, 1, one_run(table, [b"find all", b"find"]), ""),
-            ([*parts, none], 3, b"", "ask.py: rtfilter: cannot open table\n"),
-        ):
-            done = subprocess.run(
-                [DEBIAN, CLUSTER / "ask.py", "--program", PROGRAM, "--dask", "2", *tables],
-                input=b"find all\nfind\n", capture_output=True, timeout=LONGEST,
-                env={**os.environ, "TMPDIR": str(self.folder)},
-            )  # fmt: skip
-            self.assertEqual((done.returncode, done.stdout, done.stderr.decode()), (status, told, error))
+        none = self.folder / "none"
+        done = subprocess.run([CLUSTER / "ask.py", "--program", PROGRAM, none], capture_output=True, text=True)
+        self.assertEqual((done.returncode, done.stdout, done.stderr), (3, "", f"ask.py: shard 0: {none}: rtfilter: cannot open table\n"))

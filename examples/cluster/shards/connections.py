@@ -1,0 +1,166 @@
+"""The connections by which shards are asked. Each keeps its table for as long as it lives."""
+
+import contextlib
+from collections.abc import Iterable, Sequence
+from concurrent.futures import ThreadPoolExecutor
+from dataclasses import dataclass
+
+from rtfilter import RtfilterError
+from rtfilter.deadlines import ENDLESS, Deadline
+from rtfilter.transport import CLOSED
+
+from .bounds import bounds_of
+from .places import Carrier, Place
+from .questions import Sides
+
+
+class ShardError(RtfilterError):
+    """A shard that can't be asked, or that broke off. The line that needed it, and all after it, have no reply then: no
+    part of an answer is ever given for the whole.
+
+    `number` is its place among the shards, from 0, and `text` says where it was asked, and what came in the place of
+    replies; the exception that it was raised from tells more.
+    """
+
+    def __init__(self, number: int, text: str) -> None:
+        super().__init__(number, text)
+        self.number = number
+        self.text = text
+
+    def __str__(self) -> str:
+        return f"shard {self.number}: {self.text}"
+
+
+@dataclass(frozen=True)
+class Held:
+    """A connection to a shard, and what is known of its table."""
+
+    place: Place
+    transport: Carrier
+    bounds: Sides | None
+
+
+class Shard:
+    """A part of the table: the places where it can be asked, and the connection by which it is asked now."""
+
+    def __init__(self, number: int, places: Sequence[Place]) -> None:
+        if not places:
+            raise ValueError(f"shard {number} has no place where it can be asked")
+        self.number = number
+        self._places = list(places)
+        self.held: Held | None = None
+
+    def __len__(self) -> int:
+        """How many places there are."""
+        return len(self._places)
+
+    def places(self) -> list[Place]:
+        """In the order in which they are to be tried: where the shard was asked before comes last, for there it has gone."""
+        behind = self._places.index(self.held.place) + 1 if self.held is not None else 0
+        return self._places[behind:] + self._places[:behind]
+
+    @property
+    def is_lost(self) -> bool:
+        return self.held is None or self.held.transport.is_lost
+
+
+class Connections:
+    """A connection to each shard. For one thread at a time; `end` is for any."""
+
+    def __init__(self, shards: Iterable[Sequence[Place]]) -> None:
+        """There is none yet: `mend` makes them."""
+        self.shards = [Shard(number, places) for number, places in enumerate(shards)]
+        if not self.shards:
+            raise ValueError("there is at least one shard")
+        self.are_ended = False
+        self._open: set[Carrier] = set()  # those that are on their way, too
+
+    def held(self) -> dict[int, Held]:
+        """By the numbers of the shards."""
+        return {shard.number: shard.held for shard in self.shards if shard.held is not None}
+
+    def mend(self, deadline: Deadline) -> None:
+        """Makes those anew that are lost, each at another place of its shard, if that has one, else at the same. Raises
+        `ShardError` for the first shard to which there can be none."""
+        if self.are_ended:
+            raise ValueError(CLOSED)
+        lost = [shard for shard in self.shards if shard.is_lost]
+        found = self._opened_each(lost, deadline)
+        for shard, held in zip(lost, found):
+            if isinstance(held, Held):
+                self._hold(shard, held)
+        for held in found:
+            if isinstance(held, ShardError):
+                raise held
+
+    def renew(self, deadline: Deadline) -> None:
+        """Makes all anew, or leaves all as they are and raises `ShardError`."""
+        if self.are_ended:
+            raise ValueError(CLOSED)
+        found = self._opened_each(self.shards, deadline)
+        fresh = [held for held in found if isinstance(held, Held)]
+        for error in found:
+            if isinstance(error, ShardError):
+                for held in fresh:
+                    self._give_up(held.transport)
+                raise error
+        for shard, held in zip(self.shards, fresh):
+            self._hold(shard, held)
+
+    def _hold(self, shard: Shard, held: Held) -> None:
+        before, shard.held = shard.held, held
+        if before is not None:
+            self._give_up(before.transport)
+
+    def _opened_each(self, shards: Sequence[Shard], deadline: Deadline) -> list[Held | ShardError]:
+        """New connections to some shards, side by side; of each that has none, why."""
+        if len(shards) <= 1:
+            return [self._opened(shard, deadline) for shard in shards]
+        with ThreadPoolExecutor(len(shards)) as threads:
+            return list(threads.map(self._opened, shards, [deadline] * len(shards)))
+
+    def _opened(self, shard: Shard, deadline: Deadline) -> Held | ShardError:
+        """A new connection, at the first place where there is one. Each place has its part of the time."""
+        places, faults = shard.places(), []
+        for at, place in enumerate(places):
+            part = deadline if deadline.is_endless else deadline.sooner(deadline.left() / (len(places) - at))
+            try:
+                return self._opened_at(place, part)
+            except Exception as error:
+                if self.are_ended:
+                    raise ValueError(CLOSED) from error
+                faults.append(error)
+        why = "; ".join(f"{place.name}: {error}" for place, error in zip(places, faults))
+        found = ShardError(shard.number, why)
+        found.__cause__ = faults[-1]
+        return found
+
+    def _opened_at(self, place: Place, deadline: Deadline) -> Held:
+        """A connection whose table is there, and whose bounds are known."""
+        with place.turn(deadline):
+            transport = place.begin(deadline, lambda: not self.are_ended)
+            self._open.add(transport)
+            try:
+                if self.are_ended:
+                    raise ValueError(CLOSED)
+                transport.load(deadline)
+                return Held(place, transport, bounds_of(transport, deadline))
+            except BaseException:
+                self._give_up(transport)
+                raise
+
+    def _give_up(self, transport: Carrier) -> None:
+        self._open.discard(transport)
+        transport.close(ENDLESS)
+
+    def end(self) -> None:
+        """Ends what another thread waits for: it raises `ValueError`."""
+        self.are_ended = True
+        for transport in list(self._open):
+            transport.hang_up()
+
+    def close(self) -> None:
+        self.are_ended = True
+        with contextlib.ExitStack() as stack:  # one that can't be closed leaves none of the others open
+            for transport in list(self._open):
+                stack.callback(self._give_up, transport)

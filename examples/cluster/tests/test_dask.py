@@ -1,0 +1,59 @@
+"""Shards that dask holds, and many questions against one table, with workers that are killed."""
+
+import json
+import os
+import random
+import subprocess
+
+from cluster_support import CLUSTER, DEBIAN, PROGRAM, Folders, one_run, some_lines, some_sound_table
+
+from shards.cutting import cut
+
+PEER = CLUSTER / "tests/dask_peer.py"
+COUNTS = 1, 2, 4, 16  # shards
+LONGEST = 240  # seconds of a run of dask, which takes ten where nobody else is at work
+
+
+class Dask(Folders):
+    def setUp(self) -> None:
+        if subprocess.run([DEBIAN, "-c", "import distributed, pandas"], capture_output=True).returncode:
+            self.skipTest("python3-distributed and python3-pandas: not installed")
+        super().setUp()
+
+    def test_as_one_run(self) -> None:
+        """The shards of some tables in four workers. What a worker held that is killed, another one loads anew, and nobody
+        notices; but not where the file has changed since, which is told."""
+        chance, runs, wanted = random.Random(7), [], []
+        for at in range(4):
+            table, lines = self.table(some_sound_table(chance)), some_lines(chance, 250)
+            queries = self.folder / f"queries{at}"
+            queries.write_bytes(b"".join(line + b"\n" for line in lines))
+            for count in COUNTS:
+                parts = cut(str(table), count, str(self.folder / f"parts{at}-{count}"))
+                told = str(self.folder / f"told{at}-{count}")
+                runs.append({"shards": list(map(str, parts)), "queries": str(queries), "told": told})
+                wanted.append(one_run(table, lines))
+        table, parts = self.even_table(1_000, 4)
+        runs.append({**runs[-1], "shards": list(map(str, parts)), "told": str(self.folder / "told")})
+        wanted.append(one_run(table, lines))
+        asked = {"program": PROGRAM, "folder": str(self.folder), "workers": 4, "runs": runs}
+        done = subprocess.run(
+            [DEBIAN, "-B", PEER], input=json.dumps(asked), capture_output=True, text=True, timeout=LONGEST
+        )
+        self.assertEqual(done.returncode, 0, done.stderr)
+        for run, bytes_wanted in zip(runs, wanted, strict=True):
+            with open(run["told"], "rb") as file:
+                self.assertEqual(file.read(), bytes_wanted)
+        self.assertRegex(
+            done.stdout, rf"^shard \d: ({self.folder}/parts/000\d\.csv): \1: the table has changed, or can't be read again\n$"
+        )
+
+    def test_the_trial(self) -> None:
+        """At a hundredth: answers are the same, though a worker is killed in the middle, and nothing is left."""
+        done = subprocess.run(
+            [CLUSTER / "trial.py", PROGRAM, "--hundredth"], capture_output=True, text=True, timeout=LONGEST,
+            env={**os.environ, "TMPDIR": str(self.folder)},
+        )  # fmt: skip
+        self.assertEqual(done.returncode, 0, done.stderr)
+        self.assertEqual(done.stdout.count("a worker is killed\n"), 2)
+        self.assertRegex(done.stdout, r"the same [\d,]+ answers\n(.*\n)+the same replies\n$")
