@@ -16,15 +16,9 @@ use crate::query::{Parsed, Query, QueryFault};
 use crate::words::Words;
 use arrayvec::ArrayVec;
 use rt_geo::{
-    All, Bounds, ById, Circle, Covers, Inside, Layers, Near, Order, Point, Polygon, PolygonFault,
-    Region, Smallest, Window,
+    All, Bounds, ById, Circle, Covers, FEWEST_VERTICES, Inside, Layers, MOST_VERTICES, Near, Order,
+    Point, Polygon, PolygonFault, Region, Smallest, Window,
 };
-
-/// The fewest vertices of a polygon.
-const FEWEST_VERTICES: i128 = 3;
-
-/// The most vertices of a polygon.
-const MOST_VERTICES: usize = 16;
 
 /// What a line asks, without its line feed. One carriage return at its end is dropped. It takes no memory.
 ///
@@ -317,7 +311,7 @@ fn vertex_count(words: &mut Words) -> Result<usize, QueryFault>
     ensures takes { Takes (word_as vertex_count words.old) result words.new }
     ensures most { IfOk result (λ n. n ≤ MOST_VERTICES) }
 {
-    match number_word(words, FEWEST_VERTICES, MOST_VERTICES as i128) {
+    match number_word(words, FEWEST_VERTICES as i128, MOST_VERTICES as i128) {
         Ok(value) => Ok(value.unsigned_abs() as usize),
         Err(fault) => match fault {
             QueryFault::OutOfRange => Err(QueryFault::VertexCount),
