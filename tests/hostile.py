@@ -7,10 +7,13 @@ Loading sorts the ids, the entries by id, and each level of the tree by its midd
 proportion to n log n whatever the boxes and the ids are. With 1,000,000 records a sort that takes time in proportion
 to n * n would not end within the time that is given here, nor would a search on a layer that one box has, if it looked
 at every other box, one for all boxes, if it sorted them again for each, one for half of them, if it looked at all that
-waits for each, or one for a box alone, if it passed over what an earlier query found or left behind. The last line is
-`N passed, M failed`.
+waits for each, or one for a box alone, if it passed over what an earlier query found or left behind. Nor would
+thousands of lines of every kind about one place, if for one of the kinds all boxes were looked at: for its answer, its
+cost or its fault. The last line is `N passed, M failed`.
 """
 
+import math
+import re
 import subprocess
 import sys
 import tempfile
@@ -107,6 +110,56 @@ def nearest_lines(count):
     return asked, b"".join(told)
 
 
+# Points on a grid, so far apart, and lines of every kind that each have to do with a few of them, near one place: so many
+# of each kind. To look at a million boxes takes some milliseconds, so that a kind that did would take too long by itself.
+APART = 1000
+EACH = 10_000
+PLACE = "123456 234567"
+SQUARE = "120000 127000 230000 237000"
+CORNERS = "4 120000 230000 127000 230000 127000 237000 120000 237000"
+KINDS = [
+    f"nearest 2 {PLACE}",
+    f"nearest 200 {PLACE}",
+    f"find circle {PLACE} 5000 first 2",
+    f"find circle {PLACE} 5000 smallest",
+    f"find polygon {CORNERS} first 2",
+    f"find polygon {CORNERS} near {PLACE}",
+    f"find window {SQUARE} first 2",
+    f"find window {SQUARE} on 0",
+    f"find all near {PLACE} first 2",
+    f"find inside {SQUARE} smallest first 129",
+    "find covers 123000 123000 234000 234000",
+    f"count window {SQUARE}",
+    f"count circle {PLACE} 5000",
+    f"count polygon {CORNERS} on 0",
+    "count all",
+    "levels",
+    f"cost nearest 1 {PLACE}",
+    f"cost find window {SQUARE}",
+    "cost count all",
+    "find what",
+    f"find polygon 3 {PLACE} {PLACE} {PLACE}",
+    "# nothing",
+    "",
+]
+
+
+def on_a_grid(at, count):
+    x, y = (place * APART for place in divmod(at, math.isqrt(count)))
+    return at, x, x, y, y
+
+
+def lines_of_every_kind(program, table):
+    """Lines of every kind, and their replies: what one line of the kind is told, which is tested elsewhere, each with its
+    number. Of the kinds the last two have no reply."""
+    once = answers(program, table, "".join(f"{line}\n" for line in KINDS).encode())[0] or b""
+    told = re.findall(rb"((?:-?\d+ \d+\n)*(?:ok|error) )(\d+)( .*\n)", once)
+    replies = (b"%s%d%s" % (before, at, after) for before, kind, after in told
+               for at in range((int(kind) - 1) * EACH + 1, int(kind) * EACH + 1))
+    lines = "".join(f"{line}\n" * EACH for line in KINDS)
+    return lines.encode(), b"".join(replies) if len(told) == len(KINDS) - 2 else None
+
+
 def answers(program, table, lines):
     """What the program says to lines, and the seconds; nothing where it didn't end."""
     start = time.perf_counter()
@@ -123,13 +176,16 @@ def main():
     passed = failed = 0
     with tempfile.TemporaryDirectory() as folder:
         table = str(Path(folder, "table.csv"))
-        for name, record in [*TABLES.items(), ("a layer of one box", one_of_all), ("sizes in no order", in_no_order)]:
+        others = {"a layer of one box": one_of_all, "sizes in no order": in_no_order, "every kind of line": on_a_grid}
+        for name, record in [*TABLES.items(), *others.items()]:
             least = write_table(table, record, count)
             lines, told = b"count all\nfind all first 1\n", b"ok 1 %d\n%d 0\nok 2 1\n" % (count, least)
             if record == one_of_all:
                 lines, told = rare_lines(count)
             if record == in_no_order:
                 lines, told = nearest_lines(count)
+            if record == on_a_grid:
+                lines, told = lines_of_every_kind(program, table)
             said, seconds = answers(program, table, lines)
             if said == told:
                 passed += 1
