@@ -45,7 +45,11 @@ impl Levels {
         ensures last { (level size : ℕ) → slice_get result (level + 1) ≡ Some size
             → (size ≡ 1) ↔ (level + 2 ≡ length result) }
     {
-        let mut levels = Levels::only(len);
+        let mut levels = Levels {
+            sizes: [0; MOST_LEVELS],
+            count: 0,
+        };
+        levels.push(len);
         if len == 0 {
             return levels;
         }
@@ -57,15 +61,6 @@ impl Levels {
                 return levels;
             }
         }
-    }
-
-    // One level.
-    fn only(size: u32) -> Levels
-        ensures { result ≡ size ∷ [] }
-    {
-        let mut sizes = [0; MOST_LEVELS];
-        sizes[0] = size;
-        Levels { sizes, count: 1 }
     }
 
     // One more level.

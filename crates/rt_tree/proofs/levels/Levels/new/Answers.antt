@@ -17,7 +17,7 @@ loop-size-preserved c =
     (arith, length-append c.loop-size.levels (above ∷ [])) in
     let room = room_more (length c.loop-size.levels) size above before.room before.few
     (div_ceil-halves size fanout c.requires.several) in
-    rw (c.push.ensures, c.div_ceil-size.ensures) (record {
+    rw (c.push-in-loop-size.ensures, c.div_ceil-size.ensures) (record {
       course = course_more c.loop-size.levels fanout size _ c.requires.several before.some more before.course;
       some = some;
       room = subst (λ n. above ≤ 2 ^ (25 - n)) (sym longer) room;
@@ -35,6 +35,6 @@ returns-then-size-eq1-clause-above c level below above e f =
 pub returns-then-size-eq1-clause-last : goal.returns-then-size-eq1-clause-last
 returns-then-size-eq1-clause-last c level size e =
     let sizes = returns-then-size-eq1-clause-sizes c in
-    let told = level_last c.args.len c.args.fanout (level + 1) size (length c.push.new.self) c.requires.several
+    let told = level_last c.args.len c.args.fanout (level + 1) size (length c.push-in-loop-size.new.self) c.requires.several
     (omega arith) (rw (← sizes) e) (ap length sizes) in
     ((λ one. omega (arith, told.0 one)), (λ last. told.1 (omega (arith, last))))
