@@ -29,6 +29,7 @@ TESTS = {  # those that take longest first
     "shards": ROOT / "examples/cluster/tests",
     "fence": ROOT / "examples/geofence/tests",
     "roads": ROOT / "examples/roads/tests",
+    "languages": ROOT / "examples/languages/tests",
     "package": ROOT / "packaging/tests",
     "recipes": ROOT / "tests/recipes",
 }

@@ -1,0 +1,98 @@
+"""The clients in other languages print what the program says."""
+
+import os
+import shutil
+import socket
+import subprocess
+import sys
+import tempfile
+import threading
+import unittest
+from pathlib import Path
+
+HERE = Path(__file__).resolve().parent.parent
+ROOT = HERE.parent.parent
+PROGRAM = os.environ["RTFILTER_PROGRAM"]
+LONG = 120  # seconds that a compiler and a virtual machine may take on a busy machine
+sys.path.append(str(ROOT / "clients/python"))
+
+from rtfilter.prefork import library_of
+
+LINES = ["find window 0 10 0 10", "nearest 1 -2147483648 -2147483648", "count all", "levels", "find what"]
+COMMANDS = {
+    "ask.c": ("gcc", [["gcc", "-Wall", "-Wextra", "-Werror", "-o", "ask", str(HERE / "ask.c")], ["./ask"]]),
+    "ask.go": ("go", [["go", "build", "-o", "ask-go", str(HERE / "ask.go")], ["./ask-go"]]),
+    "ask.js": ("node", [["node", str(HERE / "ask.js")]]),
+    "Ask.java": ("javac", [["java", str(HERE / "Ask.java")]]),
+    "ask.sh": ("nc", [[str(HERE / "ask.sh")]]),
+}
+
+
+class Languages(unittest.TestCase):
+    def setUp(self) -> None:
+        self.folder = self.enterContext(tempfile.TemporaryDirectory())
+        self.table = Path(self.folder, "boxes.csv")
+        self.table.write_text("1,0,10,0,10\n2,5,15,5,15\n9223372036854775807,2147483647,2147483647,2147483647,2147483647\n")
+
+    def service(self) -> str:
+        """Where a service of the table listens, until the test ends."""
+        if library_of(PROGRAM) is None:
+            self.skipTest("no C compiler, and so no library of the service")
+        path = str(Path(self.folder, "boxes.socket"))
+        words = [sys.executable, "-B", str(ROOT / "service/serve.py"), "--program", PROGRAM, "--unix", path, str(self.table)]
+        service = self.enterContext(subprocess.Popen(words, stderr=subprocess.PIPE, text=True))
+        assert service.stderr
+        draining = threading.Thread(target=service.stderr.read)
+        self.addCleanup(draining.join)
+        self.addCleanup(service.terminate)
+        while not (line := service.stderr.readline()).startswith("ready"):
+            self.assertTrue(line, "the service has ended")
+        draining.start()
+        return path
+
+    def said(self, name: str, path: str, lines: list[str]) -> "subprocess.CompletedProcess[str]":
+        """What a client prints that asks lines; it is compiled first, where it has to be."""
+        tool, (*building, asking) = COMMANDS[name]
+        if not shutil.which(tool):
+            self.skipTest(f"no {tool}")
+        environment = {**os.environ, "HOME": self.folder, "GOCACHE": str(Path(self.folder, "go")), "GO111MODULE": "off"}
+        for command in building:
+            subprocess.run(command, cwd=self.folder, env=environment, check=True, timeout=LONG)
+        words = [*asking, path, *lines]
+        return subprocess.run(words, cwd=self.folder, env=environment, capture_output=True, text=True, timeout=LONG)
+
+    def program_says(self, lines: list[str]) -> str:
+        text = "".join(f"{line}\n" for line in lines)
+        return subprocess.run([PROGRAM, self.table], input=text, capture_output=True, text=True).stdout
+
+    def test_each_prints_what_the_program_says(self) -> None:
+        path = self.service()
+        for name in COMMANDS:
+            with self.subTest(name):
+                self.assertEqual(self.said(name, path, LINES).stdout, self.program_says(LINES))
+
+    def test_each_tells_that_a_connection_has_ended(self) -> None:
+        path = str(Path(self.folder, "short.socket"))
+        with socket.socket(socket.AF_UNIX) as listener:
+            listener.bind(path)
+            listener.listen()
+
+            def answer_in_part() -> None:
+                connection, _ = listener.accept()
+                with connection:
+                    connection.recv(100)
+                    connection.sendall(b"1 0\n")
+
+            for name in COMMANDS:
+                with self.subTest(name):
+                    answering = threading.Thread(target=answer_in_part)
+                    answering.start()
+                    ended = self.said(name, path, LINES[:1])
+                    answering.join()
+                    self.assertEqual(ended.stdout, "1 0\n")
+                    self.assertIn("the connection has ended", ended.stderr)
+                    self.assertNotEqual(ended.returncode, 0)
+
+
+if __name__ == "__main__":
+    unittest.main()
