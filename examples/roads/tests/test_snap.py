@@ -75,19 +75,23 @@ class Nearest(Folder):
                 self.assertLess(math.dist(it.point, feet[it.road.id]), 1e-3)
 
     def test_what_floats_cannot_tell(self) -> None:
-        """The farther road comes first in the file, and both have the same distance in floats: one piece lies on the line from
-        (0, -1) to (2^31 - 1, 2^31 - 3), the other a little nearer."""
-        far = 2**31 - 1
-        first, second = [(far, far - 1), (0, -1)], [(far - 1, far - 3), (0, -2)]
-        place = (far // 2, far // 2 - 1)
-        squares = [least_square([it], *place) for it in (first, second)]
-        third = [(place[0] + 5, place[1] + 3), (place[0] + 5, place[1] + 9)]
-        fourth = [(place[0] + 3, place[1] - 5), (place[0] + 9, place[1] - 5)]
-        features = [road(at, it) for at, it in enumerate((first, second, third, fourth))]
-        roads = self.roads(features, Scaled(1))
-        squares += [Fraction(34), Fraction(34)]
-        (found,) = roads.nearest_each(4, [place])
-        self.assertEqual([it.road.id for it in found], sorted(range(4), key=lambda at: (squares[at], at)))
+        """Squares of distances that differ by one of 2^60 are the same in floats, and their order is exact all the same."""
+        far = 2**30
+        farther, nearer, aside = ([(far, 1), (far + 5, 7)], [(far, 0), (far + 5, 0)], [(0, far), (0, far + 5)])
+        self.assertEqual(float(far * far), float(far * far + 1))
+        for paths, roads_told, points in (
+            ([[farther], [nearer]], [1, 0], [(far, 0), (far, 1)]),
+            ([[farther, nearer]], [0], [(far, 0)]),
+            ([[nearer, farther]], [0], [(far, 0)]),
+            ([[farther], [aside], [nearer]], [1, 2, 0], [(0, far), (far, 0), (far, 1)]),
+            ([[aside, nearer]], [0], [(0, far)]),
+            ([[nearer, aside]], [0], [(far, 0)]),
+        ):
+            roads = self.roads([road(at, *it) for at, it in enumerate(paths)], Scaled(1))
+            for k in range(1, len(roads_told) + 1):
+                (found,) = roads.nearest_each(k, [(0, 0)])
+                self.assertEqual([it.road.id for it in found], roads_told[:k])
+                self.assertEqual([it.point for it in found], points[:k])
 
     def test_long_slanting_roads(self) -> None:
         """A position lies in most of their boxes, so that nearly all are asked for."""
