@@ -16,6 +16,7 @@ import unittest
 from fractions import Fraction
 from pathlib import Path
 from typing import Any
+from unittest import mock
 
 from snap_support import EXAMPLE, LONGEST, PROGRAM, ROOT, road, run, told_by_peers, words_of, write_roads
 
@@ -92,6 +93,31 @@ class Nearest(Folder):
                 (found,) = roads.nearest_each(k, [(0, 0)])
                 self.assertEqual([it.road.id for it in found], roads_told[:k])
                 self.assertEqual([it.point for it in found], points[:k])
+
+    def test_a_road_as_near_behind_a_box_as_near(self) -> None:
+        """Seven slanting roads around the place come first, the last of them 5 away; then the box of one that is farther than
+        that box, 5 away; and then one that is 5 away itself, and comes before the other in the file."""
+        beside, nearest, slanting = [(5, 3), (8, 0)], [(5, -1), (5, 1)], [(-1, 7), (11, -2)]
+        farther = [[(-at, 7 * at), (11 * at, -2 * at)] for at in range(2, 8)]
+        features = [road(at, it) for at, it in enumerate([beside, nearest, *farther, slanting])]
+        roads = self.roads(features, Scaled(1))
+        for k in (1, 2, 3):
+            (found,) = roads.nearest_each(k, [(0, 0)])
+            self.assertEqual([it.road.id for it in found], [1, 8, 0][:k])
+
+    def test_answers_are_bounded(self) -> None:
+        """So many boxes are asked for at once and no more, and all places are answered."""
+        chance = random.Random(9)
+        roads = self.roads([road(at, *some_paths(chance, 50)) for at in range(40)], Scaled(1))
+        places = [some_place(chance, 50) for _ in range(30)]
+        wanted = [*roads.nearest_each(3, places)]
+        asked: list[int] = []
+        ask = roads._boxes.ask
+        with mock.patch("roads.MOST_ANSWERS", 100), mock.patch.object(
+            roads._boxes, "ask", lambda lines: asked.append(sum(int(line.split()[1]) for line in lines)) or ask(lines)
+        ):
+            self.assertEqual([*roads.nearest_each(3, places)], wanted)
+        self.assertLessEqual(max(asked), 100)
 
     def test_long_slanting_roads(self) -> None:
         """A position lies in most of their boxes, so that nearly all are asked for."""

@@ -12,7 +12,6 @@ import subprocess
 import tempfile
 import threading
 import unittest
-from collections.abc import Callable
 from http.client import HTTPResponse
 from http.server import BaseHTTPRequestHandler, ThreadingHTTPServer
 from pathlib import Path
@@ -327,6 +326,15 @@ class Processes(unittest.TestCase):
         once.chmod(0o755)
         with self.assertRaisesRegex(RuntimeError, "^serve.py: .*6\n$"):
             Server(self.table, *self.options, program=str(once))
+
+
+class Types(unittest.TestCase):
+    def test_strictly(self) -> None:
+        wants("mypy")
+        environment = {**os.environ, "MYPYPATH": str(EXAMPLE.parent.parent / "clients/python")}
+        words = ["mypy", "--strict", "--cache-dir", os.devnull, *map(str, EXAMPLE.glob("*.py"))]
+        done = subprocess.run(words, cwd=EXAMPLE, env=environment, capture_output=True, text=True, timeout=LONGEST)
+        self.assertEqual(done.returncode, 0, done.stdout)
 
 
 class Cost(unittest.TestCase):
