@@ -1,19 +1,25 @@
 #!/usr/bin/env python3
-"""Serves a map of a table of boxes: a page, and vector tiles at /z/x/y.pbf.
+"""Serves a map of a table of boxes: a page, vector tiles at /z/x/y.pbf, and what tells others of them.
 
-usage: serve.py [--header] [--names FILE] [--layers FILE] [--listen ADDRESS] [--port PORT] [--host NAME]
-                [--idle SECONDS] [--timeout SECONDS] [--program PROGRAM] TABLE
+usage: serve.py [--header] [--names FILE] [--layers FILE] [--listen ADDRESS] [--port PORT] [--host NAME] [--url URL]
+                [--origin ORIGIN] [--max-age SECONDS] [--processes N] [--idle SECONDS] [--timeout SECONDS]
+                [--program PROGRAM] TABLE
 
 Once the table is loaded, the page's address is printed. README.md says what is served, and what is refused.
 """
 
 import argparse
 import contextlib
+import hashlib
 import json
+import os
 import re
+import socket
 import sys
 import threading
 from collections.abc import Callable
+from dataclasses import dataclass
+from functools import partial
 from http import HTTPStatus
 from http.server import BaseHTTPRequestHandler, ThreadingHTTPServer
 from pathlib import Path
@@ -23,16 +29,21 @@ from urllib.parse import parse_qsl, urlsplit
 HERE = Path(__file__).resolve().parent
 sys.path.insert(0, str(HERE.parent.parent / "clients/python"))
 
+from addresses import style, tile_json
 from mercator import DEEPEST
+from negotiation import LEAST_PACKED, is_known, packed, takes_gzip
 from table import Places, Table, names_of
 from views import Views
+from workers import Ends, run_together
 
-from rtfilter import Boxes, Disconnected, Ended, Pool, QueryError, TimedOut
+from rtfilter import Boxes, Disconnected, Ended, Pool, QueryError, Rtfilter, TimedOut
 from rtfilter.client import program_of
 from rtfilter.prefork import library_of
 
 LONGEST_TARGET = 4096  # bytes of a request's address
-MOST_CONNECTIONS = 64
+MOST_CONNECTIONS = 64  # of a process
+LEAST_ASKING = 8  # connections to the program, of each of many processes
+FORM = 2  # of what is served: another one has other tags
 
 ASSETS = {
     "/": ("page.html", "text/html"),
@@ -46,10 +57,9 @@ HEADERS = {
     "Content-Security-Policy": "default-src 'none'; script-src 'self'; style-src 'self'; connect-src 'self'; "
     "img-src data:; base-uri 'none'; form-action 'none'; frame-ancestors 'none'",
     "X-Content-Type-Options": "nosniff",
-    "Cross-Origin-Resource-Policy": "same-origin",
     "Referrer-Policy": "no-referrer",
-    "Cache-Control": "no-cache",
 }
+ANY_ORIGIN = "*"
 
 
 class Refused(Exception):
@@ -61,19 +71,31 @@ class Refused(Exception):
         self.text = text
 
 
+@dataclass(frozen=True)
+class Settings:
+    """What is told of a server beside its views."""
+
+    hosts: set[str]  # what the header Host may be
+    url: str | None  # how the server is reached, where that isn't by http and the Host
+    origins: frozenset[str]  # whose pages may read what is served
+    tag: str  # of what is served: another table has another one
+    max_age: int  # seconds for which tiles may be kept
+    idle: float  # seconds for which a connection may be silent
+
+
 class Server(ThreadingHTTPServer):
     """Answers each connection in a thread of its own, and so many at once; a further one is closed."""
 
     daemon_threads = True
-    request_queue_size = MOST_CONNECTIONS
 
-    def __init__(self, address: tuple[str, int], views: Views, names: list[str], idle: float) -> None:
-        super().__init__(address, Handler)
+    def __init__(self, listener: socket.socket, views: Views, settings: Settings) -> None:
+        super().__init__(listener.getsockname(), Handler, bind_and_activate=False)
+        self.socket.close()
+        self.socket = listener
         self.views = views
-        self.idle = idle
-        self.port = self.server_address[1]
-        self.hosts = hosts_of([*names, "localhost", "127.0.0.1", address[0]], self.port)
+        self.settings = settings
         self.failure: Exception | None = None
+        self._is_over = False
         self._free = threading.BoundedSemaphore(MOST_CONNECTIONS)
 
     def process_request(self, request: Any, client_address: Any) -> None:
@@ -89,9 +111,13 @@ class Server(ThreadingHTTPServer):
             self._free.release()
 
     def handle_error(self, request: Any, client_address: Any) -> None:
-        """Who leaves in the middle of an answer is no error."""
-        if not isinstance(sys.exception(), (ConnectionError, TimeoutError)):
+        """Who leaves in the middle of an answer is no error, and neither is the end of it all."""
+        if not (self._is_over or isinstance(sys.exception(), (ConnectionError, TimeoutError))):
             super().handle_error(request, client_address)
+
+    def shutdown(self) -> None:
+        self._is_over = True
+        super().shutdown()
 
     def fail(self, failure: Exception) -> None:
         """Ends the server: the program that it asks is gone."""
@@ -105,7 +131,7 @@ def hosts_of(names: list[str], port: int) -> set[str]:
 
 
 class Handler(BaseHTTPRequestHandler):
-    """Answers GET, one request after the other on a connection."""
+    """Answers GET and HEAD, one request after the other on a connection."""
 
     server: Server
     protocol_version = "HTTP/1.1"
@@ -114,7 +140,7 @@ class Handler(BaseHTTPRequestHandler):
 
     def setup(self) -> None:
         super().setup()
-        self.connection.settimeout(self.server.idle)
+        self.connection.settimeout(self.server.settings.idle)
 
     def parse_request(self) -> bool:
         """Whether a request is to be answered. One that isn't ends the connection: what follows may belong to it."""
@@ -128,8 +154,8 @@ class Handler(BaseHTTPRequestHandler):
         return True
 
     def check_request(self) -> None:
-        if self.command != "GET":
-            raise Refused(HTTPStatus.METHOD_NOT_ALLOWED, "GET alone is answered")
+        if self.command not in ("GET", "HEAD"):
+            raise Refused(HTTPStatus.METHOD_NOT_ALLOWED, "GET and HEAD alone are answered")
         if len(self.path) > LONGEST_TARGET:
             raise Refused(HTTPStatus.REQUEST_URI_TOO_LONG, f"an address has at most {LONGEST_TARGET} bytes")
         if self.headers.defects:
@@ -137,10 +163,35 @@ class Handler(BaseHTTPRequestHandler):
         hosts: list[str] = self.headers.get_all("Host", [])
         if len(hosts) != 1:
             raise Refused(HTTPStatus.BAD_REQUEST, "one Host is wanted")
-        if hosts[0].strip().lower() not in self.server.hosts:
+        if self.host not in self.server.settings.hosts:
             raise Refused(HTTPStatus.MISDIRECTED_REQUEST, "that Host isn't served here")
         if set(self.headers.get_all("Content-Length", [])) - {"0"} or "Transfer-Encoding" in self.headers:
             raise Refused(HTTPStatus.BAD_REQUEST, "a GET has no body")
+        if not self.is_own_page and self.allowed_origin is None:
+            raise Refused(HTTPStatus.FORBIDDEN, "pages of that origin may not read this")
+
+    @property
+    def host(self) -> str:
+        return str(self.headers["Host"]).strip().lower()
+
+    @property
+    def is_own_page(self) -> bool:
+        """Whether it is no page that asks, or one that is served under a name of this server."""
+        origin = self.headers.get("Origin")
+        return origin is None or host_of(origin) in self.server.settings.hosts
+
+    @property
+    def allowed_origin(self) -> str | None:
+        """What tells a browser that a page of another origin may read a reply."""
+        origins, origin = self.server.settings.origins, self.headers.get("Origin")
+        if ANY_ORIGIN in origins:
+            return ANY_ORIGIN
+        return origin if origin in origins else None
+
+    @property
+    def address(self) -> str:
+        """This server's own, as whoever asks reaches it."""
+        return self.server.settings.url or f"http://{self.host}/"
 
     def do_GET(self) -> None:
         try:
@@ -155,34 +206,68 @@ class Handler(BaseHTTPRequestHandler):
             self.refuse(Refused(HTTPStatus.SERVICE_UNAVAILABLE, "the program has ended"))
             self.server.fail(failure)
 
+    do_HEAD = do_GET
+
     def answer(self) -> None:
         path, query = parted(self.path)
         if path in ASSETS:
             name, kind = ASSETS[path]
             parameters(query)
-            self.reply(HTTPStatus.OK, kind, (HERE / name).read_bytes())
+            self.reply_kept(kind, (HERE / name).read_bytes)
         elif path in QUESTIONS:
-            text = json.dumps(QUESTIONS[path](self.server.views, query), ensure_ascii=False)
-            self.reply(HTTPStatus.OK, "application/json", text.encode())
+            self.reply(HTTPStatus.OK, "application/json", json_of(QUESTIONS[path](self.server.views, query)))
+        elif path in TOLD:
+            parameters(query)
+            self.reply_kept("application/json", lambda: json_of(TOLD[path](self.server.views, self.address)))
         else:
-            body = tile(self.server.views, path, query)
-            status = HTTPStatus.OK if body else HTTPStatus.NO_CONTENT
-            self.reply(status, "application/vnd.mapbox-vector-tile", body)
+            tile = tile_of(self.server.views, path, query)
+            self.reply_kept("application/vnd.mapbox-vector-tile", tile, self.server.settings.max_age)
 
-    def reply(self, status: HTTPStatus, kind: str, body: bytes) -> None:
+    def reply_kept(self, kind: str, body_of: Callable[[], bytes], max_age: int = 0) -> None:
+        """Replies with what another table alone would change. It isn't made again for whoever has it."""
+        cache = {"Cache-Control": f"public, max-age={max_age}" if max_age else "no-cache"}
+        known = self.headers.get("If-None-Match", "")
+        for tag in (self.tag(is_packed=False), self.tag(is_packed=True)):
+            if is_known(tag, known):
+                self.reply(HTTPStatus.NOT_MODIFIED, kind, b"", {**cache, "ETag": tag})
+                return
+        body = body_of()
+        status = HTTPStatus.OK if body else HTTPStatus.NO_CONTENT
+        self.reply(status, kind, body, {**cache, "ETag": self.tag(is_packed=self.is_to_pack(body))})
+
+    def tag(self, is_packed: bool) -> str:
+        """That of what is served from this table; the same in gzip's format has another one."""
+        return f'"{self.server.settings.tag}{"-gzip" if is_packed else ""}"'
+
+    def is_to_pack(self, body: bytes) -> bool:
+        return len(body) >= LEAST_PACKED and takes_gzip(", ".join(self.headers.get_all("Accept-Encoding", [])))
+
+    def reply(self, status: HTTPStatus, kind: str, body: bytes, more: dict[str, str] | None = None) -> None:
         self.request_version = self.protocol_version  # garbage is answered with a head too
-        self.send_response(status)
-        self.send_header("Content-Type", f"{kind}; charset=utf-8" if kind.startswith("text/") else kind)
-        if status != HTTPStatus.NO_CONTENT:
-            self.send_header("Content-Length", str(len(body)))
+        headers = {"Content-Type": f"{kind}; charset=utf-8" if kind.startswith("text/") else kind, "Cache-Control": "no-cache"}
+        if status == HTTPStatus.OK and self.is_to_pack(body):
+            body = packed(body)
+            headers["Content-Encoding"] = "gzip"
+        if status not in (HTTPStatus.NO_CONTENT, HTTPStatus.NOT_MODIFIED):
+            headers["Content-Length"] = str(len(body))
         if status == HTTPStatus.METHOD_NOT_ALLOWED:
-            self.send_header("Allow", "GET")
+            headers["Allow"] = "GET, HEAD"
         if self.close_connection:
-            self.send_header("Connection", "close")
-        for name, value in HEADERS.items():
+            headers["Connection"] = "close"
+        self.send_response(status)
+        for name, value in {**headers, **HEADERS, **self.headers_for_origins(), **(more or {})}.items():
             self.send_header(name, value)
         self.end_headers()
-        self.wfile.write(body)
+        if self.command != "HEAD":
+            self.wfile.write(body)
+
+    def headers_for_origins(self) -> dict[str, str]:
+        """What tells a browser which pages may read a reply."""
+        if not self.server.settings.origins:
+            return {"Cross-Origin-Resource-Policy": "same-origin", "Vary": "Accept-Encoding"}
+        allowed = self.allowed_origin
+        told = {} if allowed is None else {"Access-Control-Allow-Origin": allowed}
+        return {"Cross-Origin-Resource-Policy": "cross-origin", "Vary": "Accept-Encoding, Origin", **told}
 
     def refuse(self, refused: Refused) -> None:
         self.close_connection = True
@@ -208,6 +293,14 @@ def parted(target: str) -> tuple[str, str]:
     return parts.path, parts.query
 
 
+def host_of(origin: str) -> str | None:
+    """The host and the port of an origin; None where it has none."""
+    try:
+        return urlsplit(origin).netloc.lower() or None
+    except ValueError:
+        return None
+
+
 def parameters(query: str, *names: str) -> dict[str, str]:
     """The parameters of a query, each of these names once at most."""
     try:
@@ -221,9 +314,14 @@ def parameters(query: str, *names: str) -> dict[str, str]:
     return found
 
 
-def about(views: Views, query: str) -> dict[str, Any]:
+def json_of(value: dict[str, Any]) -> bytes:
+    return json.dumps(value, ensure_ascii=False).encode()
+
+
+def health(views: Views, query: str) -> dict[str, Any]:
+    """Whether the program answers: what it is asked costs nothing."""
     parameters(query)
-    return views.about
+    return {"boxes": views.size()}
 
 
 def view(views: Views, query: str) -> dict[str, Any]:
@@ -242,14 +340,15 @@ def ask(views: Views, query: str) -> dict[str, Any]:
     return views.ask(line)
 
 
-def tile(views: Views, path: str, query: str) -> bytes:
+def tile_of(views: Views, path: str, query: str) -> Callable[[], bytes]:
+    """What makes a tile."""
     address = TILE.fullmatch(path)
     if address is None:
         raise Refused(HTTPStatus.NOT_FOUND, "no such page")
     z, x, y = map(int, address.groups())
     if z > DEEPEST or max(x, y) >= 1 << z:
         raise Refused(HTTPStatus.NOT_FOUND, f"tiles are /z/x/y.pbf, z up to {DEEPEST}, x and y below 2^z")
-    return views.tile(z, x, y, layers_of(parameters(query, "on")))
+    return partial(views.tile, z, x, y, layers_of(parameters(query, "on")))
 
 
 def layers_of(found: dict[str, str]) -> list[int] | None:
@@ -261,7 +360,15 @@ def layers_of(found: dict[str, str]) -> list[int] | None:
     return [int(layer) for layer in found["on"].split(",")]
 
 
-QUESTIONS: dict[str, Callable[[Views, str], dict[str, Any]]] = {"/about": about, "/view": view, "/ask": ask}
+QUESTIONS: dict[str, Callable[[Views, str], dict[str, Any]]] = {"/view": view, "/ask": ask, "/health": health}
+"""What the program is asked for."""
+
+TOLD: dict[str, Callable[[Views, str], dict[str, Any]]] = {
+    "/about": lambda views, _: views.about,
+    "/tiles.json": lambda views, address: tile_json(address, views.bounds, views.layer_names, views.fields),
+    "/style.json": lambda views, address: style(address, views.layer_names),
+}
+"""What is told of the table and of this server, by its address."""
 
 
 def arguments() -> argparse.Namespace:
@@ -273,42 +380,108 @@ def arguments() -> argparse.Namespace:
     parser.add_argument("--listen", default="127.0.0.1", metavar="ADDRESS", help="where to listen (127.0.0.1)")
     parser.add_argument("--port", type=int, default=8080, help="0 is any that is free (8080)")
     parser.add_argument("--host", action="append", default=[], metavar="NAME", help="another name that this server has")
+    parser.add_argument("--url", help="of this server, with a slash at its end, as whoever is behind a proxy has it")
+    parser.add_argument("--origin", action="append", default=[], help="whose pages may read what is served; * is any")
+    parser.add_argument("--max-age", type=int, default=60, metavar="SECONDS", help="for which a tile is kept (60)")
+    parser.add_argument("--processes", type=int, default=1, metavar="N", help="that serve side by side (1)")
     parser.add_argument("--idle", type=float, default=10.0, metavar="SECONDS", help="for a silent connection (10)")
     parser.add_argument("--timeout", type=float, default=10.0, metavar="SECONDS", help="for a question (10)")
     parser.add_argument("--program", default="rtfilter", help="rtfilter, by its name or path")
-    return parser.parse_args()
+    args = parser.parse_args()
+    if args.processes < 1 or args.max_age < 0:
+        parser.error("one process or more serves, and an age is 0 or more")
+    return args
+
+
+def settings_of(args: argparse.Namespace, port: int) -> Settings:
+    """The tag is that of the files from which all is made, and of its form."""
+    files = [os.stat(file) for file in (args.table, args.names, args.layers) if file is not None]
+    made_of = FORM, args.header, args.url, [(it.st_dev, it.st_ino, it.st_size, it.st_mtime_ns) for it in files]
+    return Settings(
+        hosts=hosts_of([*args.host, "localhost", "127.0.0.1", args.listen], port),
+        url=args.url,
+        origins=frozenset(args.origin),
+        tag=hashlib.blake2b(repr(made_of).encode(), digest_size=8).hexdigest(),
+        max_age=args.max_age,
+        idle=args.idle,
+    )
 
 
 def opened(args: argparse.Namespace) -> Boxes:
     """The table, with a process for each connection, where that takes no memory for a table of its own."""
-    processes = MOST_CONNECTIONS if library_of(program_of(args.program)) else 1
+    asking = max(LEAST_ASKING, MOST_CONNECTIONS // args.processes)
+    processes = asking if library_of(program_of(args.program)) else 1
     return Pool(processes, args.table, header=args.header, program=args.program, timeout=args.timeout)
 
 
 def loaded(args: argparse.Namespace, boxes: Boxes) -> Table:
     table = Table(Places(args.table, args.header), names_of(args.names), names_of(args.layers))
-    if len(table.places) != len(boxes):
-        raise ValueError("the table has changed while it was read")
+    check_size(table, boxes)
     names = [table.layer_name(layer) for layer in table.places.layers()]
     if len(set(names)) < len(names):
         raise ValueError("two layers have the same name")
     return table
 
 
-def main() -> int:
-    args = arguments()
+def check_size(table: Table, boxes: Boxes) -> None:
+    if len(table.places) != len(boxes):
+        raise ValueError("the table has changed while it was read")
+
+
+def serve(args: argparse.Namespace, listener: socket.socket, table: Table | None, ready: Callable[[Server], None]) -> None:
+    """Answers until it is interrupted. `ready` is called once it begins. Raises why it can't go on."""
+    with opened(args) as boxes:
+        if table is None:
+            table = loaded(args, boxes)
+        check_size(table, boxes)
+        with Server(listener, Views(boxes, table), settings_of(args, listener.getsockname()[1])) as server:
+            ready(server)
+            with contextlib.suppress(KeyboardInterrupt):
+                server.serve_forever()
+            if server.failure is not None:
+                raise server.failure
+
+
+FAILURES = Ended, TimedOut, Disconnected, OSError, OverflowError, ValueError
+
+
+def work(args: argparse.Namespace, listener: socket.socket, table: Table, ends: Ends) -> int:
+    """Serves as one of many processes."""
+
+    def ready(server: Server) -> None:
+        def end() -> None:
+            os.read(ends.ending, 1)  # which returns once the other end is closed
+            server.shutdown()
+
+        threading.Thread(target=end, daemon=True).start()
+        ends.tell_ready()
+
     try:
-        with opened(args) as boxes:
-            with Server((args.listen, args.port), Views(boxes, loaded(args, boxes)), args.host, args.idle) as server:
-                print(f"http://{args.listen}:{server.port}/", flush=True)
-                with contextlib.suppress(KeyboardInterrupt):
-                    server.serve_forever()
-                if server.failure is not None:
-                    raise server.failure
-    except (Ended, TimedOut, OSError, OverflowError, ValueError) as error:
-        print(f"serve.py: {error}", file=sys.stderr)
+        serve(args, listener, table, ready)
+    except FAILURES as error:
+        ends.tell(f"serve.py: {error}")
         return 1
     return 0
+
+
+def main() -> int:
+    args = arguments()
+
+    def tell_address(_: Server | None = None) -> None:
+        print(f"http://{args.listen}:{listener.getsockname()[1]}/", flush=True)
+
+    try:
+        with socket.create_server((args.listen, args.port), backlog=MOST_CONNECTIONS * args.processes) as listener:
+            listener.setblocking(False)  # many may be told of one who connects
+            if args.processes == 1:
+                serve(args, listener, None, tell_address)
+                return 0
+            with Rtfilter(args.table, header=args.header, program=args.program, timeout=args.timeout) as boxes:
+                table = loaded(args, boxes)
+            return run_together(args.processes, partial(work, args, listener, table), tell_address)
+    except FAILURES as error:
+        print(f"serve.py: {error}", file=sys.stderr)
+        return 1
 
 
 if __name__ == "__main__":

@@ -23,21 +23,24 @@ class Places:
             for column, texts in zip(columns, [*fields, ("0",) * len(records)]):
                 column.extend(map(int, texts))
         self._ids, *self._sides, self._layers = in_order(columns)
+        ids = self._ids
+        self._has_all = len(ids) > 0 and ids[-1] - ids[0] == len(ids) - 1  # numbers from the first id to the last
 
     def __len__(self) -> int:
         return len(self._ids)
 
-    def window(self, id: int) -> Window:
-        at = bisect_left(self._ids, id)
+    def box(self, id: int) -> tuple[Window, int]:
+        """A box's sides, and its layer."""
+        at = id - self._ids[0] if self._has_all else bisect_left(self._ids, id)
         x1, x2, y1, y2 = self._sides
-        return x1[at], x2[at], y1[at], y2[at]
-
-    def layer(self, id: int) -> int:
-        return self._layers[bisect_left(self._ids, id)]
+        return (x1[at], x2[at], y1[at], y2[at]), self._layers[at]
 
     def layers(self) -> list[int]:
         """The layers that have a box, the least first."""
         return sorted(set(self._layers))
+
+    def has_id_below_zero(self) -> bool:
+        return len(self._ids) > 0 and self._ids[0] < 0
 
     def bounds(self) -> Window:
         """The least window round all boxes; a point where there is none."""

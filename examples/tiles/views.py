@@ -9,7 +9,7 @@ from mercator import Window as Sides
 from mercator import cells_of, cuts, window_of
 from table import Table
 
-from rtfilter import Boxes, QueryError, Window
+from rtfilter import All, Boxes, QueryError, Window
 from rtfilter.queries import on_words
 
 MOST_IN_VIEW = 3000  # boxes: where a view has more, it shows counts
@@ -28,9 +28,17 @@ class Views:
     def __init__(self, boxes: Boxes, table: Table) -> None:
         self._boxes = boxes
         self._table = table
+        # Finding these out looks at all boxes: it is done once.
+        self.bounds = table.places.bounds()
         layers = [{"number": layer, "name": table.layer_name(layer)} for layer in table.places.layers()]
-        self.about = {"boxes": len(boxes), "bounds": table.places.bounds(), "layers": layers, "answers": MOST_ANSWERS}
-        """What a page has to know at its start. Finding it out looks at all boxes: it is done once."""
+        self.layer_names = [table.layer_name(layer) for layer in table.places.layers()]
+        self.fields = {"name": "String"} | ({"id": "Number"} if table.places.has_id_below_zero() else {})
+        self.about = {"boxes": len(boxes), "bounds": self.bounds, "layers": layers, "answers": MOST_ANSWERS}
+        """What a page has to know at its start."""
+
+    def size(self) -> int:
+        """How many boxes the program has."""
+        return self._boxes.count(All())
 
     def view(self, window: Sides, on: list[int] | None) -> dict[str, Any]:
         """The boxes that meet a window, or how many meet each of its cells. `QueryError` where it is no window."""
@@ -50,8 +58,8 @@ class Views:
 
     def _shown(self, id: int) -> dict[str, Any]:
         """A box for a page. Its id is a text: numbers of JavaScript don't hold every id."""
-        places = self._table.places
-        shown = {"id": str(id), "box": places.window(id), "layer": places.layer(id)}
+        window, layer = self._table.places.box(id)
+        shown = {"id": str(id), "box": window, "layer": layer}
         return {**shown, "name": self._table.names[id]} if id in self._table.names else shown
 
     def ask(self, line: str) -> dict[str, Any]:
@@ -71,20 +79,24 @@ class Views:
         return {"told": reply.total, "answers": answers, "nodes": nodes}
 
     def tile(self, z: int, x: int, y: int, on: list[int] | None) -> bytes:
-        """A vector tile: a layer for each layer of boxes that meet it, or one with counts, whose name is `density`."""
+        """A vector tile: a layer for each layer of boxes that meet it, or one with counts, whose name is `density`. A feature's
+        own id is its box's; one below 0, which a tile can't hold, is a property."""
         window = window_of(z, x, y)
         if self._boxes.count(Window(*window), on=on) > MOST_IN_TILE:
             return self._density_tile(window, on)
         layers: dict[int, mvt.Layer] = {}
+        places, names = self._table.places, self._table.names
         for id in self._boxes.find(Window(*window), on=on).ids:
-            number = self._table.places.layer(id)
-            if number not in layers:
-                layers[number] = mvt.Layer(self._table.layer_name(number), window)
-            layers[number].add(self._table.places.window(id), self._properties(id))
+            box, number = places.box(id)
+            layer = layers.get(number)
+            if layer is None:
+                layer = layers[number] = mvt.Layer(self._table.layer_name(number), window)
+            name: dict[str, mvt.Value] = {"name": names[id]} if id in names else {}
+            if id >= 0:
+                layer.add(box, name, id)
+            else:
+                layer.add(box, {"id": id, **name})
         return b"".join(layers[number].encoded() for number in sorted(layers))
-
-    def _properties(self, id: int) -> dict[str, mvt.Value]:
-        return {"id": id, "name": self._table.names[id]} if id in self._table.names else {"id": id}
 
     def _density_tile(self, window: Sides, on: list[int] | None) -> bytes:
         density = mvt.Layer("density", window)

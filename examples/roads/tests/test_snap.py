@@ -16,6 +16,7 @@ import unittest
 from fractions import Fraction
 from pathlib import Path
 from typing import Any
+from unittest import mock
 
 from snap_support import EXAMPLE, LONGEST, PROGRAM, ROOT, road, run, told_by_peers, words_of, write_roads
 
@@ -75,19 +76,48 @@ class Nearest(Folder):
                 self.assertLess(math.dist(it.point, feet[it.road.id]), 1e-3)
 
     def test_what_floats_cannot_tell(self) -> None:
-        """The farther road comes first in the file, and both have the same distance in floats: one piece lies on the line from
-        (0, -1) to (2^31 - 1, 2^31 - 3), the other a little nearer."""
-        far = 2**31 - 1
-        first, second = [(far, far - 1), (0, -1)], [(far - 1, far - 3), (0, -2)]
-        place = (far // 2, far // 2 - 1)
-        squares = [least_square([it], *place) for it in (first, second)]
-        third = [(place[0] + 5, place[1] + 3), (place[0] + 5, place[1] + 9)]
-        fourth = [(place[0] + 3, place[1] - 5), (place[0] + 9, place[1] - 5)]
-        features = [road(at, it) for at, it in enumerate((first, second, third, fourth))]
+        """Squares of distances that differ by one of 2^60 are the same in floats, and their order is exact all the same."""
+        far = 2**30
+        farther, nearer, aside = ([(far, 1), (far + 5, 7)], [(far, 0), (far + 5, 0)], [(0, far), (0, far + 5)])
+        self.assertEqual(float(far * far), float(far * far + 1))
+        for paths, roads_told, points in (
+            ([[farther], [nearer]], [1, 0], [(far, 0), (far, 1)]),
+            ([[farther, nearer]], [0], [(far, 0)]),
+            ([[nearer, farther]], [0], [(far, 0)]),
+            ([[farther], [aside], [nearer]], [1, 2, 0], [(0, far), (far, 0), (far, 1)]),
+            ([[aside, nearer]], [0], [(0, far)]),
+            ([[nearer, aside]], [0], [(far, 0)]),
+        ):
+            roads = self.roads([road(at, *it) for at, it in enumerate(paths)], Scaled(1))
+            for k in range(1, len(roads_told) + 1):
+                (found,) = roads.nearest_each(k, [(0, 0)])
+                self.assertEqual([it.road.id for it in found], roads_told[:k])
+                self.assertEqual([it.point for it in found], points[:k])
+
+    def test_a_road_as_near_behind_a_box_as_near(self) -> None:
+        """Seven slanting roads around the place come first, the last of them 5 away; then the box of one that is farther than
+        that box, 5 away; and then one that is 5 away itself, and comes before the other in the file."""
+        beside, nearest, slanting = [(5, 3), (8, 0)], [(5, -1), (5, 1)], [(-1, 7), (11, -2)]
+        farther = [[(-at, 7 * at), (11 * at, -2 * at)] for at in range(2, 8)]
+        features = [road(at, it) for at, it in enumerate([beside, nearest, *farther, slanting])]
         roads = self.roads(features, Scaled(1))
-        squares += [Fraction(34), Fraction(34)]
-        (found,) = roads.nearest_each(4, [place])
-        self.assertEqual([it.road.id for it in found], sorted(range(4), key=lambda at: (squares[at], at)))
+        for k in (1, 2, 3):
+            (found,) = roads.nearest_each(k, [(0, 0)])
+            self.assertEqual([it.road.id for it in found], [1, 8, 0][:k])
+
+    def test_answers_are_bounded(self) -> None:
+        """So many boxes are asked for at once and no more, and all places are answered."""
+        chance = random.Random(9)
+        roads = self.roads([road(at, *some_paths(chance, 50)) for at in range(40)], Scaled(1))
+        places = [some_place(chance, 50) for _ in range(30)]
+        wanted = [*roads.nearest_each(3, places)]
+        asked: list[int] = []
+        ask = roads._boxes.ask
+        with mock.patch("roads.MOST_ANSWERS", 100), mock.patch.object(
+            roads._boxes, "ask", lambda lines: asked.append(sum(int(line.split()[1]) for line in lines)) or ask(lines)
+        ):
+            self.assertEqual([*roads.nearest_each(3, places)], wanted)
+        self.assertLessEqual(max(asked), 100)
 
     def test_long_slanting_roads(self) -> None:
         """A position lies in most of their boxes, so that nearly all are asked for."""

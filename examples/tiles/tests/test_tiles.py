@@ -89,12 +89,12 @@ class Tiles(Mapped):
                 continue
             features = self.features(z, x, y)
             self.assertEqual(len(features), number_told(self.table, f"count {line}"), line)
-            ids = [int(properties["id"]) for _, properties, _ in features]
+            ids = [int(properties["mvt_id"]) for _, properties, _ in features]
             self.assertEqual(sorted(ids), ids_told(self.table, f"find {line}"))
             for id, (layer, _, box) in zip(ids, features):
                 self.assertEqual(layer, layers[rows[id - 1][5]])
                 self.assert_near(box, rows[id - 1][1:5], window)
-            on = [int(properties["id"]) for _, properties, _ in self.features(z, x, y, "?on=3,5")]
+            on = [int(properties["mvt_id"]) for _, properties, _ in self.features(z, x, y, "?on=3,5")]
             self.assertEqual(sorted(on), ids_told(self.table, f"find {line} on 3,5"))
             seen += 1
         self.assertGreater(seen, 4)
@@ -138,7 +138,7 @@ class Tiles(Mapped):
         with Server(table, "--names", str(listed)) as server:
             for tile in (0, 0, 0), (DEEPEST, 1 << DEEPEST - 1, (1 << DEEPEST - 1) - 1):
                 features = self.features(*tile, server=server)
-                found = {int(properties["id"]): properties["name"] for _, properties, _ in features}
+                found = {int(it.get("mvt_id") or it["id"]): it["name"] for _, it, _ in features}
                 self.assertEqual(found, names)
                 self.assertEqual({layer for layer, _, _ in features}, {"layer 0"})
 

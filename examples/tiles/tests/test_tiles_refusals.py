@@ -31,7 +31,7 @@ class Refusals(Mapped):
 
     def test_requests_that_are_not_answered(self) -> None:
         host = b"Host: 127.0.0.1:%d\r\n" % self.server.port
-        for method in (b"POST", b"PUT", b"DELETE", b"HEAD", b"OPTIONS", b"TRACE", b"get", b"<b>"):
+        for method in (b"POST", b"PUT", b"DELETE", b"OPTIONS", b"CONNECT", b"TRACE", b"get", b"<b>"):
             self.assert_refused(method + b" / HTTP/1.1\r\n" + host + b"\r\n", 405)
         own = b"127.0.0.1:%d" % self.server.port
         for name in (

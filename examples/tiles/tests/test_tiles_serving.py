@@ -1,0 +1,449 @@
+"""What is told of tiles, caches and compression, pages of other origins, and many processes that serve side by side."""
+
+import contextlib
+import csv
+import gzip
+import json
+import os
+import re
+import select
+import signal
+import subprocess
+import tempfile
+import threading
+import unittest
+from http.client import HTTPResponse
+from http.server import BaseHTTPRequestHandler, ThreadingHTTPServer
+from pathlib import Path
+from typing import Any
+
+from chromium import Chromium
+from tiles_support import BOXES, EXAMPLE, LONGEST, Mapped, Server, hostile_map, make_map, processes_of, wants
+
+from mercator import HALF, window_of
+from negotiation import is_known, takes_gzip
+
+TILE = "/8/128/127.pbf"
+EMPTY = "/9/0/0.pbf"
+LAYERS = ["towns", "motorways", "main roads", "minor roads", "streets", "<b>buildings</b>"]
+MOST_SECONDS = 0.02  # of processor time for a tile of some 100 boxes, which takes a tenth of that
+
+
+class Serving(Mapped):
+    def asked(self, target: str, server: Server | None = None, method: str = "GET", **headers: str) -> tuple[HTTPResponse, bytes]:
+        """The reply to a request with headers, in whose names `_` stands for `-`, and its body."""
+        connection = (server or self.server).connected()
+        try:
+            connection.request(method, target, headers={name.replace("_", "-"): it for name, it in headers.items()})
+            reply = connection.getresponse()
+            return reply, reply.read()
+        finally:
+            connection.close()
+
+
+class Told(Serving):
+    def test_tile_json(self) -> None:
+        told = self.json("/tiles.json")
+        self.assertEqual(told["tilejson"], "3.0.0")
+        self.assertEqual(told["tiles"], [f"{self.server.address}{{z}}/{{x}}/{{y}}.pbf"])
+        self.assertEqual([it["id"] for it in told["vector_layers"]], [*LAYERS, "density"])
+        self.assertEqual([it["fields"] for it in told["vector_layers"]], [{"name": "String"}] * 6 + [{"count": "Number"}])
+        self.assertEqual((told["minzoom"], told["maxzoom"]), (0, 22))
+        x1, x2, y1, y2 = self.json("/about")["bounds"]
+        west, south, east, north = told["bounds"]
+        self.assertAlmostEqual(west, x1 / HALF * 180, delta=1e-6)
+        self.assertAlmostEqual(east, x2 / HALF * 180, delta=1e-6)
+        self.assertTrue(-90 < south < north < 90 and south < 0 < north)  # near the equator it is as in x, but for a part
+        self.assertAlmostEqual(north, y2 / HALF * 180, delta=1e-3 * abs(north))
+        z = told["center"][2]
+        self.assertTrue(max(x2 - x1, y2 - y1) <= 2 * 2 * HALF / 2**z < 2 * max(x2 - x1, y2 - y1) + 2)
+
+    def test_addresses_as_others_have_them(self) -> None:
+        with Server(self.table, "--host", "tiles.example.org", "--url", "https://example.org/t/") as server:
+            reply, body = self.asked("/tiles.json", server, Host="tiles.example.org")
+            self.assertEqual(json.loads(body)["tiles"], ["https://example.org/t/{z}/{x}/{y}.pbf"])
+            _, body = self.asked("/style.json", server)
+            self.assertEqual(json.loads(body)["sources"]["boxes"]["url"], "https://example.org/t/tiles.json")
+        reply, body = self.asked("/tiles.json", Host=f"LOCALHOST:{self.server.port}")
+        self.assertEqual(json.loads(body)["tiles"], [f"http://localhost:{self.server.port}/{{z}}/{{x}}/{{y}}.pbf"])
+
+    def test_gdal_reads_tiles_by_what_is_told(self) -> None:
+        """All boxes of a window at a level, from the TileJSON alone."""
+        wants("ogrinfo")
+        address = self.server.address
+        options = ["-oo", f"METADATA_FILE={address}tiles.json", "-oo", "CLIP=NO"]
+        names = subprocess.run(["ogrinfo", "-ro", f"MVT:{address}10", *options], capture_output=True, text=True, timeout=LONGEST)
+        self.assertEqual(re.findall(r"^\d+: (.*)$", names.stdout, re.MULTILINE), [*LAYERS, "density"])
+        x1, x2, y1, y2 = window_of(10, 512, 511)
+        inside = [str(it) for it in (x1 / 100 + 1, y1 / 100 + 1, x2 / 100 - 1, y2 / 100 - 1)]
+        words = ["ogrinfo", "-ro", "-al", "-q", f"MVT:{address}10", *options, "-spat", *inside]
+        done = subprocess.run(words, capture_output=True, text=True, timeout=LONGEST)
+        ids = {int(it) for it in re.findall(r"mvt_id \(Integer64\) = (\d+)", done.stdout)}
+        view = self.json(f"/view?x1={x1}&x2={x2}&y1={y1}&y2={y2}")
+        self.assertEqual(ids, {int(it["id"]) for it in view["boxes"]})
+        self.assertGreater(len(ids), 5)
+
+    def test_style(self) -> None:
+        """Each layer that tiles may have is drawn, from the source that is told."""
+        told = self.json("/style.json")
+        self.assertEqual(told["version"], 8)
+        self.assertEqual(told["sources"], {"boxes": {"type": "vector", "url": f"{self.server.address}tiles.json"}})
+        ground, *layers = told["layers"]
+        self.assertEqual(ground["type"], "background")
+        self.assertEqual({it["source-layer"] for it in layers}, {*LAYERS, "density"})
+        self.assertEqual({it["source"] for it in layers}, {"boxes"})
+        self.assertEqual(len({it["id"] for it in told["layers"]}), len(told["layers"]))
+        colours = re.search(r"COLOURS = (\[.*?\])", (EXAMPLE / "page.js").read_text())
+        assert colours is not None
+        self.assertEqual([it["paint"]["fill-color"] for it in layers[1:]], json.loads(colours[1])[:6])
+
+    def test_health(self) -> None:
+        self.assertEqual(self.json("/health"), {"boxes": BOXES})
+        with Server(self.table, "--timeout", "0.5") as server:
+            (holder,) = processes_of(server.process.pid)
+            for process in (holder, *processes_of(holder)):
+                os.kill(process, signal.SIGSTOP)
+            self.assertEqual(self.asked("/health", server)[0].status, 503)
+            for process in (holder, *processes_of(holder)):
+                with contextlib.suppress(ProcessLookupError):
+                    os.kill(process, signal.SIGCONT)
+
+
+class Caches(Serving):
+    def test_head(self) -> None:
+        """It has the headers of GET, and no body, and the connection goes on."""
+        connection = self.server.connected()
+        self.addCleanup(connection.close)
+        for target in (TILE, EMPTY, "/", "/tiles.json", "/about", "/ask?q=count+all", "/nothing", "/view"):
+            told = []
+            for method in ("GET", "HEAD"):
+                connection.request(method, target, headers={"Accept-Encoding": "gzip"})
+                reply = connection.getresponse()
+                body = reply.read()
+                told.append((reply.status, [it for it in reply.getheaders() if it[0] != "Date"]))
+            self.assertEqual(told[0], told[1], target)
+            self.assertEqual(body, b"")
+
+    def test_tags(self) -> None:
+        """What whoever asks has already isn't sent again, until the table is another one."""
+        for target in (TILE, EMPTY, "/", "/page.js", "/tiles.json", "/style.json", "/about"):
+            for encoding in ("gzip", "identity"):
+                reply, body = self.asked(target, Accept_Encoding=encoding)
+                tag = reply.headers["ETag"]
+                for known in (tag, f"W/{tag}", f'"x", {tag}', "*", f'{tag} ,"x"'):
+                    again, nothing = self.asked(target, Accept_Encoding=encoding, If_None_Match=known)
+                    self.assertEqual((again.status, nothing, again.headers["ETag"] == tag or known == "*"), (304, b"", True), known)
+                    self.assertEqual(again.headers["Cache-Control"], reply.headers["Cache-Control"])
+                for other in ('"x"', tag.replace('"', ""), tag[:-1], ""):
+                    again, body_again = self.asked(target, Accept_Encoding=encoding, If_None_Match=other)
+                    self.assertEqual((again.status, body_again), (reply.status, body), other)
+        for target in ("/view?x1=0&x2=9&y1=0&y2=9", "/ask?q=count+all", "/health", "/nothing"):
+            reply, _ = self.asked(target, If_None_Match="*")
+            self.assertIsNone(reply.headers["ETag"])
+            self.assertEqual(reply.headers["Cache-Control"], "no-cache")
+        self.assertEqual(self.asked("/5/99/0.pbf", If_None_Match="*")[0].status, 404)
+
+    def test_another_table_has_another_tag(self) -> None:
+        table = Path(self.enterContext(tempfile.TemporaryDirectory()), "boxes.csv")
+        tags = []
+        for text in ("1,0,1,0,1\n", None, "1,0,1,0,2\n"):
+            if text is not None:
+                table.write_text(text)
+            with Server(table) as server:
+                tags.append(self.asked("/0/0/0.pbf", server)[0].headers["ETag"])
+        self.assertEqual(tags[0], tags[1])
+        self.assertNotEqual(tags[1], tags[2])
+
+    def test_ages(self) -> None:
+        self.assertEqual(self.asked(TILE)[0].headers["Cache-Control"], "public, max-age=60")
+        self.assertEqual(self.asked(EMPTY)[0].headers["Cache-Control"], "public, max-age=60")
+        self.assertEqual(self.asked("/tiles.json")[0].headers["Cache-Control"], "no-cache")
+        for age, told in (("0", "no-cache"), ("86400", "public, max-age=86400")):
+            with Server(self.table, "--max-age", age) as server:
+                self.assertEqual(self.asked(TILE, server)[0].headers["Cache-Control"], told)
+
+    def test_gzip(self) -> None:
+        """The same bytes, for whoever asks for it, where they are some."""
+        for target in (TILE, "/", "/page.js", "/tiles.json", "/view?x1=-9000000&x2=9000000&y1=-9000000&y2=9000000"):
+            plain, body = self.asked(target)
+            short, packed = self.asked(target, Accept_Encoding="br, gzip;q=0.5")
+            self.assertEqual((plain.headers["Content-Encoding"], short.headers["Content-Encoding"]), (None, "gzip"))
+            self.assertEqual(gzip.decompress(packed), body)
+            self.assertLess(len(packed), len(body))
+            self.assertEqual({plain.headers["Vary"], short.headers["Vary"]}, {"Accept-Encoding"})
+            if plain.headers["ETag"]:
+                self.assertNotEqual(plain.headers["ETag"], short.headers["ETag"])
+        for target in (EMPTY, "/health", "/nothing"):
+            self.assertIsNone(self.asked(target, Accept_Encoding="gzip")[0].headers["Content-Encoding"], target)
+
+    def test_lists_of_encodings_and_tags(self) -> None:
+        for text in ("gzip", "GZip", "a, gzip ;q=0.001,b", "*", "*;q=1.0", "x-gzip", "identity;q=0, *"):
+            self.assertTrue(takes_gzip(text), text)
+        for text in ("", "identity", "gzip;q=0", "gzip;q=0.000", "*;q=0", "gzip;q=0, *", "agzip", "gzip;x=1", "gzip;q=2", "br"):
+            self.assertFalse(takes_gzip(text), text)
+        for text in ('"a"', 'W/"a"', '"b","a"', '"b" , W/"a"', "*", " * "):
+            self.assertTrue(is_known('"a"', text), text)
+        for text in ("", "a", '"b"', '"a', "'a'", '"A"', '"b"a"c"', "**"):
+            self.assertFalse(is_known('"a"', text), text)
+
+
+class Origins(Serving):
+    def test_pages_that_may_read(self) -> None:
+        """Those of this server; others where they were told. Whoever is no page may."""
+        there, elsewhere = "https://map.example.org", "http://example.org"
+        own = [f"http://127.0.0.1:{self.server.port}", "https://localhost"]
+        for options, allowed, refused in (
+            ([], [], [there, elsewhere, "null", "x", "", "http://[", own[0] + ".example.org"]),
+            (["--origin", there], [there], [elsewhere, "null", there + ".x", there + ":444", "http://map.example.org"]),
+            (["--origin", there, "--origin", "null"], [there, "null"], [elsewhere]),
+        ):
+            with Server(self.table, "--port", "0", *options) as server:
+                own[0] = f"http://127.0.0.1:{server.port}"
+                for origin in (*own, *allowed):
+                    reply, _ = self.asked(TILE, server, Origin=origin)
+                    told = origin if origin in allowed else None
+                    self.assertEqual((reply.status, reply.headers["Access-Control-Allow-Origin"]), (200, told), origin)
+                for origin in refused:
+                    reply, _ = self.asked(TILE, server, Origin=origin)
+                    self.assertEqual((reply.status, reply.headers["Access-Control-Allow-Origin"]), (403, None), origin)
+                self.assertEqual(self.asked(TILE, server)[0].status, 200)
+                self.assertEqual("Origin" in self.asked(TILE, server)[0].headers["Vary"], bool(options))
+        with Server(self.table, "--origin", "*") as server:
+            for origin in (there, "null"):
+                self.assertEqual(self.asked(TILE, server, Origin=origin)[0].headers["Access-Control-Allow-Origin"], "*")
+
+    def test_a_page_of_another_origin(self) -> None:
+        """In a browser it reads tiles where it may, and else nothing."""
+        wants("chromium")
+        browser = Chromium(400, 300)
+        self.addCleanup(browser.close)
+        with blank_pages() as port:
+            origin = f"http://127.0.0.1:{port}"
+            for options, told in ((["--origin", origin], 200), ([], "TypeError: Failed to fetch")):
+                with Server(self.table, *options) as server:
+                    browser.open(f"{origin}/")
+                    browser.until(f"location.origin === '{origin}' && document.readyState === 'complete'")
+                    asked = f"fetch('{server.address.rstrip('/')}{TILE}').then(it => it.status, String)"
+                    self.assertEqual(browser.value(asked), told)
+
+
+class Ids(Serving):
+    def test_what_a_feature_is_told_by(self) -> None:
+        """Its own id is its box's; below 0 there is none, and the property `id` has it."""
+        folder = Path(self.enterContext(tempfile.TemporaryDirectory()))
+        table, names = folder / "boxes.csv", folder / "names.csv"
+        ids = [-(2**63), -1, 0, 127, 128, 16383, 16384, 2097151, 2097152, 2**53 + 1, 2**63 - 1]
+        table.write_text("".join(f"{id},0,0,0,0\n" for id in ids))
+        names.write_text("0,zero\n-1,one less\n")
+        with Server(table, "--names", str(names)) as server:
+            _, body = self.asked("/0/0/0.pbf", server)
+            found = features_of(body)
+            self.assertEqual([it[0] if it[0] is not None else it[1]["id"] for it in found], ids)
+            self.assertEqual([it[1] for it in found], [
+                {"id": -(2**63)}, {"id": -1, "name": "one less"}, {"name": "zero"}, *({} for _ in ids[3:])
+            ])  # fmt: skip
+            fields = json.loads(self.asked("/tiles.json", server)[1])["vector_layers"][0]["fields"]
+            self.assertEqual(fields, {"name": "String", "id": "Number"})
+
+
+class Processes(unittest.TestCase):
+    def setUp(self) -> None:
+        self.folder = Path(self.enterContext(tempfile.TemporaryDirectory()))
+        self.options = ["--processes", "3", *hostile_map(self.folder)]
+        self.table = self.folder / "boxes.csv"
+
+    def test_many_at_once(self) -> None:
+        """Each reply is that of one process alone, whoever gives it, and all of them do."""
+        with Server(self.table, *self.options) as server, Server(self.table, *self.options[2:]) as alone:
+            targets = [TILE, "/ask?q=nearest+3+5+5", "/about", *(f"/10/{x}/{y}.pbf" for x in range(510, 514) for y in range(510, 514))]
+            wanted = {target: alone.get(target)[1] for target in targets}
+            faults: list[str] = []
+
+            def ask() -> None:
+                for _ in range(5):
+                    for target in targets:
+                        if server.get(target)[1] != wanted[target]:
+                            faults.append(target)
+
+            threads = [threading.Thread(target=ask) for _ in range(12)]
+            for it in threads:
+                it.start()
+            for it in threads:
+                it.join(LONGEST)
+            self.assertEqual(faults, [])
+            workers = processes_of(server.process.pid)
+            self.assertEqual(len(workers), 3)
+            self.assertTrue(all(len(processes_of(worker)) == 1 for worker in workers))
+            everyone = descendants_of(server.process.pid)
+            server.end(signal.SIGKILL)
+            self.assertTrue(all(map(is_gone, everyone)))
+
+    def test_one_that_ends(self) -> None:
+        """All end with it."""
+        for number in (signal.SIGKILL, signal.SIGSEGV):
+            server = self.enterContext(Server(self.table, *self.options))
+            everyone = descendants_of(server.process.pid)
+            os.kill(processes_of(server.process.pid)[1], number)
+            self.assertEqual(server.ended(), (number, ""))
+            self.assertTrue(all(map(is_gone, everyone)))
+
+    def test_an_interrupt(self) -> None:
+        for number, status in ((signal.SIGINT, 0), (signal.SIGTERM, -signal.SIGTERM)):
+            server = self.enterContext(Server(self.table, *self.options))
+            everyone = descendants_of(server.process.pid)
+            self.assertEqual(server.end(number), (status, ""))
+            self.assertTrue(all(map(is_gone, everyone)))
+
+    def test_a_program_that_ends(self) -> None:
+        """As with one process, it is started anew, as long as its table is the same; else all end, and one tells why."""
+        with Server(self.table, *self.options) as server:
+            for worker in processes_of(server.process.pid):
+                os.kill(processes_of(worker)[0], signal.SIGKILL)
+            statuses = {server.get("/ask?q=count+all")[0].status for _ in range(30)}
+            self.assertIn(200, statuses)
+            self.table.write_text("1,0,0,0,0\n")
+            for worker in processes_of(server.process.pid):
+                for process in (*processes_of(worker), *descendants_of(worker)):
+                    with contextlib.suppress(ProcessLookupError):
+                        os.kill(process, signal.SIGKILL)
+            with contextlib.suppress(OSError):
+                for _ in range(100):
+                    server.get("/ask?q=count+all")
+            status, errors = server.ended()
+            self.assertEqual((status, errors), (1, "serve.py: the program ended with status -9\n"))
+
+    def test_a_table_that_is_not_taken(self) -> None:
+        self.table.write_text("1,0,1,0,1\n1,0,1,0,1\n")
+        with self.assertRaisesRegex(RuntimeError, "^serve.py: rtfilter: table record 2: repeated id\n$"):
+            Server(self.table, *self.options)
+
+    def test_no_program_for_the_workers(self) -> None:
+        """What a worker can't do is told once, and all end: here the program goes away after the first look."""
+        program = self.folder / "rtfilter"
+        os.symlink(os.environ["RTFILTER_PROGRAM"], program)
+        once = self.folder / "once"
+        once.write_text(f'#!/bin/sh\n[ -e "{self.folder}/seen" ] && exit 6\ntouch "{self.folder}/seen"\nexec "{program}" "$@"\n')
+        once.chmod(0o755)
+        with self.assertRaisesRegex(RuntimeError, "^serve.py: .*6\n$"):
+            Server(self.table, *self.options, program=str(once))
+
+
+class Types(unittest.TestCase):
+    def test_strictly(self) -> None:
+        wants("mypy")
+        environment = {**os.environ, "MYPYPATH": str(EXAMPLE.parent.parent / "clients/python")}
+        words = ["mypy", "--strict", "--cache-dir", os.devnull, *map(str, EXAMPLE.glob("*.py"))]
+        done = subprocess.run(words, cwd=EXAMPLE, env=environment, capture_output=True, text=True, timeout=LONGEST)
+        self.assertEqual(done.returncode, 0, done.stdout)
+
+
+class Cost(unittest.TestCase):
+    def test_a_tile(self) -> None:
+        """Processor time of the server and the program together, compression and all."""
+        folder = Path(self.enterContext(tempfile.TemporaryDirectory()))
+        make_map(folder, 100_000)
+        with Server(folder / "boxes.csv", "--names", str(folder / "names.csv")) as server:
+            connection = server.connected()
+            self.addCleanup(connection.close)
+            with open(folder / "boxes.csv", newline="") as file:
+                places = [(int(row[1]), int(row[3])) for row in list(csv.reader(file))[::333]]
+            side = 2 * HALF / 2**15
+            begun = server.seconds()
+            for x, y in places:
+                target = f"/15/{int((x + HALF) / side)}/{int((HALF - y) / side)}.pbf"
+                connection.request("GET", target, headers={"Accept-Encoding": "gzip"})
+                self.assertEqual(len(connection.getresponse().read()) > 0, True)
+            self.assertLess((server.seconds() - begun) / len(places), MOST_SECONDS)
+
+
+def features_of(tile: bytes) -> list[tuple[int | None, dict[str, Any]]]:
+    """The own ids and the properties of the features of a tile with one layer, by the specification."""
+    ((_, layer),) = fields_of(tile)
+    keys = [it.decode() for field, it in fields_of(layer) if field == 3]
+    values = [value_of(it) for field, it in fields_of(layer) if field == 4]
+    features = []
+    for feature in (dict(fields_of(it)) for field, it in fields_of(layer) if field == 2):
+        tags = [*varints(feature.get(2, b""))]
+        features.append((feature.get(1), {keys[key]: values[value] for key, value in zip(tags[::2], tags[1::2])}))
+    return features
+
+
+def value_of(value: bytes) -> Any:
+    ((field, it),) = fields_of(value)
+    return it.decode() if field == 1 else (it >> 1) ^ -(it & 1)
+
+
+def varints(text: bytes) -> Any:
+    number = shift = 0
+    for byte in text:
+        number |= (byte & 127) << shift
+        shift += 7
+        if byte < 128:
+            yield number
+            number = shift = 0
+
+
+def fields_of(message: bytes) -> list[tuple[int, Any]]:
+    """The fields of a message of protocol buffers: numbers, and bytes."""
+    fields, at = [], 0
+
+    def number() -> int:
+        nonlocal at
+        (found,) = [*varints(message[at : at + 10])][:1]
+        while message[at] > 127:
+            at += 1
+        at += 1
+        return found
+
+    while at < len(message):
+        key = number()
+        if key & 7 == 0:
+            fields.append((key >> 3, number()))
+        else:
+            size = number()
+            fields.append((key >> 3, message[at : at + size]))
+            at += size
+    return fields
+
+
+@contextlib.contextmanager
+def blank_pages() -> Any:
+    """A server of blank pages, by its port."""
+
+    class Blank(BaseHTTPRequestHandler):
+        def do_GET(self) -> None:
+            self.send_response(200)
+            self.send_header("Content-Type", "text/html")
+            self.end_headers()
+
+        def log_message(self, *_: Any) -> None:
+            pass
+
+    with ThreadingHTTPServer(("127.0.0.1", 0), Blank) as server:
+        thread = threading.Thread(target=server.serve_forever)
+        thread.start()
+        try:
+            yield server.server_address[1]
+        finally:
+            server.shutdown()
+            thread.join()
+
+
+def descendants_of(process: int) -> list[int]:
+    return [it for child in processes_of(process) for it in (child, *descendants_of(child))]
+
+
+def is_gone(process: int) -> bool:
+    """Whether a process ends soon."""
+    try:
+        descriptor = os.pidfd_open(process)
+    except ProcessLookupError:
+        return True
+    try:
+        return bool(select.select([descriptor], [], [], LONGEST)[0])
+    finally:
+        os.close(descriptor)
+
+
+if __name__ == "__main__":
+    unittest.main()
