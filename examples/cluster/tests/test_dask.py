@@ -4,6 +4,7 @@ import json
 import os
 import random
 import subprocess
+from pathlib import Path
 
 from cluster_support import CLUSTER, DEBIAN, PROGRAM, Folders, one_run, some_lines, some_sound_table
 
@@ -42,8 +43,7 @@ class Dask(Folders):
         )
         self.assertEqual(done.returncode, 0, done.stderr)
         for run, bytes_wanted in zip(runs, wanted, strict=True):
-            with open(run["told"], "rb") as file:
-                self.assertEqual(file.read(), bytes_wanted)
+            self.assertEqual(Path(str(run["told"])).read_bytes(), bytes_wanted)
         self.assertRegex(
             done.stdout, rf"^shard \d: ({self.folder}/parts/000\d\.csv): \1: the table has changed, or can't be read again\n$"
         )
