@@ -22,7 +22,9 @@ import sys
 import tempfile
 import time
 from collections.abc import Iterator
+from multiprocessing.connection import Connection
 from pathlib import Path
+from typing import Any
 
 HERE = Path(__file__).resolve().parent
 SIDE = 1_000_000  # of the plane
@@ -72,9 +74,10 @@ def served(command: list[object], folder: Path, **environment: str) -> Iterator[
         service.wait()
 
 
-def ask(path: str, connections: int, batch: int, seconds: float, start: float, lines: list[bytes], told) -> None:
+def ask(path: str, connections: int, batch: int, seconds: float, start: float, lines: list[bytes], told: Connection) -> None:
     """Asks over so many connections until the time is over, and tells how many lines were answered."""
-    poll, askers, answered = select.epoll(), {}, 0
+    poll, answered = select.epoll(), 0
+    askers: dict[int, list[Any]] = {}
     for at in range(connections):
         asker = socket.socket(socket.AF_UNIX)
         asker.connect(path)
@@ -82,7 +85,7 @@ def ask(path: str, connections: int, batch: int, seconds: float, start: float, l
         poll.register(asker, select.EPOLLIN)
     texts = [b"".join(lines[at:at + batch]) for at in range(0, len(lines), batch)]
 
-    def send(it: list) -> None:
+    def send(it: list[Any]) -> None:
         asker, count, _ = it
         it[1:] = [count + batch, b"ok %d " % (count + batch)]
         asker.sendall(texts[count // batch % len(texts)])
@@ -111,7 +114,7 @@ def rate(path: str, connections: int, batch: int, lines: list[bytes]) -> float:
         asker = multiprocessing.Process(target=ask, args=(path, share, batch, SECONDS, start, lines, theirs))
         asker.start()
         askers.append((asker, mine))
-    total = sum(mine.recv() for _, mine in askers)
+    total = sum(int(mine.recv()) for _, mine in askers)
     for asker, _ in askers:
         asker.join()
     return total / SECONDS
@@ -133,7 +136,8 @@ def print_rates(services: dict[str, str], boxes: int) -> None:
 
 
 def kilobytes(process: int, file: str, name: str) -> int:
-    return int(re.search(rf"^{name}:\s+(\d+) kB", Path(f"/proc/{process}/{file}").read_text(), re.MULTILINE)[1])
+    (found,) = re.findall(rf"^{name}:\s+(\d+) kB", Path(f"/proc/{process}/{file}").read_text(), re.MULTILINE)
+    return int(found)
 
 
 def children(process: int) -> list[int]:

@@ -5,30 +5,27 @@
  * connects. In the child that read goes on, with the connection as standard input and output. So each connection is the
  * very program, and the table is in memory once.
  *
- * Who starts the program gives it, in the environment:
+ * Who starts the program gives it, in the environment, LISTEN_FDS=N, listening sockets, descriptors 3 to 2+N, as systemd
+ * passes them, at most 16; they are made non-blocking, for two programs may share them. Without it, or where LISTEN_PID is
+ * another process's number, the program is as it always is. And RTFILTER_PREFORK, these numbers in this order:
  *
- *   LISTEN_FDS=N            Listening sockets, descriptors 3 to 2+N, as systemd passes them, at most 16. They are made
- *                           non-blocking, for two programs may share them. Without it, or where LISTEN_PID is another
- *                           process's number, the program is as it always is.
- *   RTFILTER_CONTROL=FD     A stream socket of a pair, whose other end the starter keeps.
- *                           A byte to the program: it closes its listening sockets, writes a byte back, and ends with
- *                           status 0 after its last connection. No byte may be sent before it is ready.
- *                           The starter's end closed, by its death too: connections are killed, told and waited for,
- *                           and the program ends with status 0; during the load, by SIGIO.
- *   RTFILTER_FIRST=FD       A connected socket, which is served as one who connects is, but not counted, limited or
- *                           told. Who writes `count all` there, and shuts its own end for writing, is told that the
- *                           program is ready, and how many boxes there are. An end, or a reset, without a reply: it
- *                           isn't, and won't be.
- *   RTFILTER_LOG=FD         What standard error becomes when it begins: what is told of a load can be another file.
- *   RTFILTER_CONNECTIONS=N  The most at a time, 128 by default. The program has a descriptor open for each.
- *   RTFILTER_SILENCE=SECONDS, RTFILTER_PATIENCE=SECONDS
- *                           How long a read may wait for a line, and a write for a reader; 0, the default, is for ever.
- *                           Then the call fails, and the program ends as it does where one fails: with a line in the
- *                           log, and status 4 or 5.
- *   RTFILTER_BOARD=FD, RTFILTER_ROW=0|1
- *                           A file of 4096 bytes, `struct board`, in which two programs count connections, each in a
- *                           row of its own, and have the limit together. Where one has died, its row is for the starter
- *                           to set to 0, once it was waited for. Without it the limit is this program's alone.
+ *   control      A stream socket of a pair, whose other end the starter keeps.
+ *                A byte to the program: it closes its listening sockets, writes a byte back, and ends with status 0 after
+ *                its last connection. No byte may be sent before it is ready.
+ *                The starter's end closed, by its death too: connections are killed, told and waited for, and the program
+ *                ends with status 0; during the load, by SIGIO.
+ *   first        A connected socket, which is served as one who connects is, but not counted, limited or told. Who writes
+ *                `count all` there, and shuts its own end for writing, is told that the program is ready, and how many
+ *                boxes there are. An end, or a reset, without a reply: it isn't, and won't be.
+ *   log          What standard error becomes when it begins: what is told of a load can be another file.
+ *   board        A file of 4096 bytes, `struct board`, in which two programs count connections, and have the limit
+ *                together; below 0, the limit is this program's alone.
+ *   row          0 or 1: the row of the board in which this program counts. Where it has died, that is for the starter to
+ *                set to 0, once it was waited for.
+ *   connections  The most at a time. The program has a descriptor open for each.
+ *   silence, patience
+ *                How many seconds a read may wait for a line, and a write for a reader; 0 is for ever. Then the call fails,
+ *                and the program ends as it does where one fails: with a line in the log, and status 4 or 5.
  *
  * Standard input and output are to be /dev/null. In the log, each end of a connection is a line, and each that was
  * refused or couldn't be begun; where nobody takes the log, lines are dropped. prefork.py starts programs so.
@@ -79,26 +76,17 @@ static struct connection {
     char who[80];
 } *connections;
 
-static int limit, count; /* of connections; `count` is of this program alone */
-static uint64_t one;     /* connection, in this program's row */
-static struct timeval silence, patience;
+static struct {
+    int control, first, log, board, row, connections;
+    double silence, patience;
+} given;
+static int count;    /* of connections of this program */
+static uint64_t one; /* connection, in this program's row */
 static int is_confining;
 static struct pollfd polled[1 + MOST_LISTENERS]; /* what the starter says, and the listening sockets */
 static int listeners;
 static sigset_t mask_before, mask_of_poll;
 static struct sigaction child_before;
-
-static double number(const char *name, double otherwise)
-{
-    const char *word = getenv(name);
-    return word ? strtod(word, NULL) : otherwise;
-}
-
-static struct timeval seconds(const char *name)
-{
-    double all = number(name, 0);
-    return (struct timeval){ (time_t)all, (suseconds_t)((all - (double)(time_t)all) * 1e6) };
-}
 
 /* One line of the log, where that can be written without a wait. */
 __attribute__((format(printf, 1, 2))) static void say(const char *format, ...)
@@ -172,7 +160,7 @@ static int take_slot(void)
 {
     uint64_t seen = __atomic_load_n(&board->open, __ATOMIC_SEQ_CST);
     do
-        if ((seen >> 32) + (uint32_t)seen >= (uint64_t)limit)
+        if ((seen >> 32) + (uint32_t)seen >= (uint64_t)given.connections)
             return 0;
     while (!__atomic_compare_exchange_n(&board->open, &seen, seen + one, 0, __ATOMIC_SEQ_CST, __ATOMIC_SEQ_CST));
     return 1;
@@ -190,9 +178,9 @@ static void leave(struct connection *it)
 static void end_of(pid_t process, int status)
 {
     struct connection *it = connections;
-    while (it < connections + limit && it->process != process)
+    while (it < connections + given.connections && it->process != process)
         it++;
-    if (it == connections + limit)
+    if (it == connections + given.connections)
         return;
     struct timespec now = { 0, 0 };
     clock_gettime(CLOCK_MONOTONIC, &now);
@@ -217,7 +205,7 @@ static int wait_for_child(int options)
 
 static void end_all(void)
 {
-    for (struct connection *it = connections; it < connections + limit; it++)
+    for (struct connection *it = connections; it < connections + given.connections; it++)
         if (it->process)
             kill(it->process, SIGKILL);
     while (count > 0 && wait_for_child(0))
@@ -252,12 +240,17 @@ static void name_peer(struct connection *it, const struct sockaddr_storage *addr
     }
 }
 
+static int limit_wait(int socket, int option, double seconds)
+{
+    struct timeval most = { (time_t)seconds, (suseconds_t)((seconds - (double)(time_t)seconds) * 1e6) };
+    return setsockopt(socket, SOL_SOCKET, option, &most, sizeof most);
+}
+
 /* Begins a connection that has a slot. Whether this is its child, which has no memory of it. */
 static int begin(struct connection *it, int is_tcp)
 {
     pid_t child = -1;
-    if (setsockopt(it->socket, SOL_SOCKET, SO_RCVTIMEO, &silence, sizeof silence) ||
-        setsockopt(it->socket, SOL_SOCKET, SO_SNDTIMEO, &patience, sizeof patience) ||
+    if (limit_wait(it->socket, SO_RCVTIMEO, given.silence) || limit_wait(it->socket, SO_SNDTIMEO, given.patience) ||
         (is_tcp && (setsockopt(it->socket, IPPROTO_TCP, TCP_NODELAY, &(int){ 1 }, sizeof(int)) ||
                     setsockopt(it->socket, SOL_SOCKET, SO_KEEPALIVE, &(int){ 1 }, sizeof(int)))) ||
         (child = child_for(it->socket)) < 0) {
@@ -293,7 +286,7 @@ static enum accepted accept_from(int listener)
         }
         return NO_ROOM;
     }
-    int has_slot = count < limit && take_slot();
+    int has_slot = count < given.connections && take_slot();
     while (has_slot && it->process)
         it++;
     it = has_slot ? it : &refused;
@@ -305,7 +298,7 @@ static enum accepted accept_from(int listener)
         return begin(it, address.ss_family != AF_UNIX) ? IS_CHILD : DONE;
     __atomic_add_fetch(&board->refused, 1, __ATOMIC_SEQ_CST);
     close(connection);
-    say("connection %lu (%s): refused, there are %d connections\n", it->number, it->who, limit);
+    say("connection %lu (%s): refused, there are %d connections\n", it->number, it->who, given.connections);
     return DONE;
 }
 
@@ -328,27 +321,22 @@ static void *kept_memory(size_t size, int file)
 static void prepare(void)
 {
     struct sigaction child = { .sa_handler = wake };
-    int log = (int)number("RTFILTER_LOG", -1), file = (int)number("RTFILTER_BOARD", -1);
-    double most = number("RTFILTER_CONNECTIONS", 128);
-    if ((log >= 0 && (dup2(log, STDERR_FILENO) < 0 || close(log))) || !(most >= 1 && most <= MOST_CONNECTIONS))
+    if (dup2(given.log, STDERR_FILENO) < 0 || close(given.log))
         _exit(NOT_BEGUN);
     /* A pipe that nobody reads is to keep no connection from its end: it is opened anew, so as not to be waited for. */
-    log = fcntl(STDERR_FILENO, F_GETPIPE_SZ) > 0 ? open("/proc/self/fd/2", O_WRONLY | O_NONBLOCK) : -1;
+    int log = fcntl(STDERR_FILENO, F_GETPIPE_SZ) > 0 ? open("/proc/self/fd/2", O_WRONLY | O_NONBLOCK) : -1;
     if (log >= 0 && (dup2(log, STDERR_FILENO) < 0 || close(log)))
         _exit(NOT_BEGUN);
-    limit = (int)most;
-    connections = kept_memory((size_t)limit * sizeof *connections, -1);
-    board = file < 0 ? board : kept_memory(sizeof *board, file);
-    one = (uint64_t)1 << (number("RTFILTER_ROW", 0) == 1 ? 32 : 0);
-    silence = seconds("RTFILTER_SILENCE");
-    patience = seconds("RTFILTER_PATIENCE");
+    connections = kept_memory((size_t)given.connections * sizeof *connections, -1);
+    board = given.board < 0 ? board : kept_memory(sizeof *board, given.board);
+    one = (uint64_t)1 << (given.row ? 32 : 0);
     sigaddset(&child.sa_mask, SIGCHLD);
     if (sigprocmask(SIG_BLOCK, &child.sa_mask, &mask_before) || sigaction(SIGCHLD, &child, &child_before))
         _exit(NOT_BEGUN);
     mask_of_poll = mask_before;
     sigdelset(&mask_of_poll, SIGCHLD);
-    polled[0] = (struct pollfd){ (int)number("RTFILTER_CONTROL", -1), POLLIN, 0 };
-    if (polled[0].fd >= 0 && fcntl(polled[0].fd, F_SETFL, 0)) /* no more SIGIO: from here on it is polled */
+    polled[0] = (struct pollfd){ given.control, POLLIN, 0 };
+    if (fcntl(given.control, F_SETFL, 0)) /* no more SIGIO: from here on it is polled */
         _exit(NOT_BEGUN);
     for (int at = 1; at <= listeners; at++) {
         polled[at] = (struct pollfd){ FIRST_GIVEN + at - 1, POLLIN, 0 };
@@ -367,11 +355,10 @@ static void prepare(void)
 static void serve(void)
 {
     prepare();
-    int first = (int)number("RTFILTER_FIRST", -1), has_room = 1;
-    if (first >= 0 && child_for(first) == 0)
+    int has_room = 1;
+    if (child_for(given.first) == 0)
         return;
-    if (first >= 0)
-        close(first);
+    close(given.first);
     for (;;) {
         while (wait_for_child(WNOHANG))
             ;
@@ -393,12 +380,17 @@ static void serve(void)
 /* Before the program's main: where the starter ends during the load, the kernel ends this process by SIGIO. */
 __attribute__((constructor)) static void watch_starter(void)
 {
-    struct pollfd starter = { (int)number("RTFILTER_CONTROL", -1), POLLIN, 0 };
-    if (number("LISTEN_PID", getpid()) != getpid() || number("LISTEN_FDS", 0) > MOST_LISTENERS)
+    const char *sockets = getenv("LISTEN_FDS"), *process = getenv("LISTEN_PID"), *numbers = getenv("RTFILTER_PREFORK");
+    if (!sockets || !numbers || atoi(sockets) > MOST_LISTENERS || (process && atoi(process) != getpid()))
         return;
-    listeners = (int)number("LISTEN_FDS", 0);
-    if (starter.fd >= 0 && (fcntl(starter.fd, F_SETOWN, getpid()) || fcntl(starter.fd, F_SETFL, O_ASYNC) ||
-                            poll(&starter, 1, 0))) /* it has ended before */
+    listeners = atoi(sockets);
+    if (sscanf(numbers, "%d %d %d %d %d %d %lf %lf", &given.control, &given.first, &given.log, &given.board, &given.row,
+               &given.connections, &given.silence, &given.patience) != 8 ||
+        given.connections < 1 || given.connections > MOST_CONNECTIONS)
+        _exit(NOT_BEGUN);
+    struct pollfd starter = { given.control, POLLIN, 0 };
+    if (fcntl(starter.fd, F_SETOWN, getpid()) || fcntl(starter.fd, F_SETFL, O_ASYNC) ||
+        poll(&starter, 1, 0)) /* it has ended before */
         _exit(NOT_BEGUN);
 }
 

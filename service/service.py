@@ -176,10 +176,11 @@ class Service:
         """A program that has loaded the table. Raises `NotLoaded`, and `OSError` where none can be started."""
         args, reply, why = self._args, b"", ""
         row = 1 - self._tables[0].row if self._tables else 0
-        settings = {"CONNECTIONS": args.connections, "SILENCE": args.silence, "PATIENCE": args.patience, "ROW": row}
-        files = {"BOARD": self._board.file, "LOG": 2}
         with open(os.memfd_create("rtfilter-errors"), "rb") as errors:
-            started = prefork.start(self._command, self._library, self._listeners, errors.fileno(), settings, files)
+            started = prefork.start(
+                self._command, self._library, self._listeners, errors.fileno(), 2, args.connections,
+                silence=args.silence, patience=args.patience, board=self._board.file, row=row,
+            )  # fmt: skip
             table = Table(started, row)
             self._tables.append(table)
             with table.first, contextlib.suppress(ConnectionError):  # it hasn't read what it was asked

@@ -168,7 +168,7 @@ def measure(cases, lines):
 class Silent:
     """A shard that has one answer to everything, at once."""
 
-    size, lines, is_lost = 1, 0, False
+    size, lines, descriptor, is_abandoned = 1, 0, -1, False
 
     def __init__(self, bounds):
         self.bounds = bounds

@@ -13,6 +13,7 @@ import time
 import tomllib
 import unittest
 from pathlib import Path
+from typing import Any
 
 from support import DATA, PACKAGE, PROGRAM, ROOT
 
@@ -31,12 +32,12 @@ PROMPT = "ready> "
 LONGEST = 10  # seconds that bash may take for a line
 
 
-def run(*words: object, **options: object) -> str:
+def run(*words: object, **options: Any) -> str:
     """What a command prints. One that fails raises, with all that it said."""
     done = subprocess.run([*map(str, words)], stdout=subprocess.PIPE, stderr=subprocess.STDOUT, text=True, **options)
     if done.returncode:
         raise AssertionError(f"{words}: {done.stdout}")
-    return done.stdout
+    return str(done.stdout)
 
 
 def wants(test: unittest.TestCase, *tools: str) -> None:
@@ -50,13 +51,17 @@ class Versions(unittest.TestCase):
         project = tomllib.loads((PACKAGE / "pyproject.toml").read_text(encoding="utf-8"))["project"]
         manual = re.match(r'\.TH RTFILTER 1 \S+ "rtfilter (\S+)"', (ROOT / "docs/rtfilter.1").read_text(encoding="utf-8"))
         changes = re.search(r"^## (\S+), ", (ROOT / "CHANGELOG.md").read_text(encoding="utf-8"), re.MULTILINE)
+        assert manual and changes
         self.assertEqual([project["version"], manual[1], changes[1]], [VERSION] * 3)
 
 
 class Package(unittest.TestCase):
+    room: Path
+    package: Path
+    tree: Path
+
     @classmethod
     def setUpClass(cls) -> None:
-        cls.package = None
         if all(map(shutil.which, ("dpkg-deb", "strip", "objdump"))):
             cls.room = Path(cls.enterClassContext(tempfile.TemporaryDirectory()))
             cls.package = Path(run(sys.executable, MAKE, PROGRAM, cls.room).strip())

@@ -46,8 +46,8 @@ class Wheel(unittest.TestCase):
         later = self.folder / "later"
         later.mkdir()
         for path in (PROGRAM, LIBRARY):
-            shutil.copy(path, later)  # with other dates and modes
-            os.utime(later / Path(path).name, (0, 0))
+            shutil.copy(str(path), later)  # with other dates and modes
+            os.utime(later / Path(str(path)).name, (0, 0))
         run(MAKE, later / "rtfilter", later / LIBRARY.name, self.folder)
         self.assertEqual(self.wheel.read_bytes(), first)
 
@@ -69,6 +69,7 @@ class Wheel(unittest.TestCase):
     def test_the_quick_start(self) -> None:
         """In a plain environment, with nothing on the path."""
         found = QUICK_START.search(PAGE.read_text(encoding="utf-8"))
+        assert found
         self.assertEqual(found[1], NAME)
         self.assertLessEqual(found[2].count("\n>>> ") + found[2].count("\n... ") + 1, 5)
         binaries = self.environment()
@@ -102,7 +103,7 @@ print(rtfilter.__file__)
         for library, told in (
             (self.folder / "newer.so", "wants GLIBC_2.36"), ("/bin/bash", "wants libtinfo.so.6"),
         ):  # fmt: skip
-            done = subprocess.run([MAKE, PROGRAM, library, self.folder / "none"], capture_output=True, text=True)
+            done = subprocess.run([MAKE, PROGRAM, str(library), self.folder / "none"], capture_output=True, text=True)
             self.assertEqual((done.returncode, done.stderr), (1, f"make_wheel.py: {library} {told}\n"))
 
     def test_in_a_plain_package_there_is_no_command(self) -> None:

@@ -2,6 +2,7 @@
 
 import contextlib
 import os
+import random
 import re
 import signal
 import socket
@@ -13,6 +14,7 @@ import time
 import unittest
 from collections.abc import Callable, Iterable, Iterator
 from pathlib import Path
+from typing import Any
 
 ROOT = Path(__file__).resolve().parents[2]
 PACKAGE = ROOT / "clients/python"
@@ -24,9 +26,9 @@ LONG = 20.0  # seconds after which what is waited for doesn't come
 
 sys.path[:0] = [str(PACKAGE), str(ROOT / "tests")]
 
-import random_runs
+import random_runs as random_runs  # for others too
 
-from rtfilter.prefork import library_of
+from rtfilter.prefork import library_of as library_of
 
 
 def until(is_so: Callable[[], object], what: str) -> None:
@@ -56,19 +58,41 @@ def is_there(process: int) -> bool:
         return False
 
 
+def found(pattern: str, text: str, flags: int = 0) -> re.Match[str]:
+    """Where a text has a part that matches, as it is to have."""
+    match = re.search(pattern, text, flags)
+    if match is None:
+        raise AssertionError(f"{pattern} isn't in {text}")
+    return match
+
+
+def send(number: int, processes: Iterable[int]) -> None:
+    """Sends a signal to some processes."""
+    for process in processes:
+        os.kill(process, number)
+
+
+def put_library(folder: Path) -> None:
+    """Has the library beside a program of a test's own."""
+    library = library_of(PROGRAM)
+    assert library is not None
+    (folder / library.name).symlink_to(library)
+
+
 class Served:
     """The service over a table, on a Unix socket in a folder. To be used in a `with` statement, which ends it."""
 
     def __init__(
         self, folder: str, table: Path, *words: str, before: Iterable[str] = (), is_ready: bool = True,
-        program: str = PROGRAM, python: str = sys.executable, **options: object,
+        program: str = PROGRAM, python: str = sys.executable, **options: Any,
     ) -> None:
         """`before` are words of a command that runs it. Waits until the table is loaded, unless it isn't to be."""
         self.path = str(Path(folder, "socket"))
         self.log_file = Path(folder, "log")
         command = [*before, python, "-B", str(SERVICE), "--program", program, "--unix", self.path, *words]
         with open(self.log_file, "wb") as log:
-            self.process = subprocess.Popen([*command, str(table)], **{"stderr": log, **options})
+            options.setdefault("stderr", log)
+            self.process = subprocess.Popen([*command, str(table)], **options)
         if is_ready:
             until(lambda: "ready: " in self.log or self.process.poll() is not None, "the service")
 
@@ -90,7 +114,7 @@ class Served:
 
     def place(self, what: str = "listening") -> tuple[str, int]:
         """Where it listens on TCP."""
-        host, port = re.search(rf"{what} on \[?([\d.:]+)\]?:(\d+)\n", self.log).groups()
+        host, port = found(rf"{what} on \[?([\d.:]+)\]?:(\d+)\n", self.log).groups()
         return host, int(port)
 
     @property
@@ -134,7 +158,7 @@ class Served:
     def memory(self) -> int:
         """KiB that are resident, of the service and its programs."""
         texts = [Path(f"/proc/{process}/status").read_text() for process in [self.process.pid, *self.programs]]
-        return sum(int(re.search(r"VmRSS:\s*(\d+) kB", text)[1]) for text in texts)
+        return sum(int(found(r"VmRSS:\s*(\d+) kB", text)[1]) for text in texts)
 
     def connect(self) -> socket.socket:
         asker = socket.socket(socket.AF_UNIX)
@@ -153,7 +177,7 @@ class Served:
         return int(head.split()[1]), text
 
     def metric(self, name: str) -> float:
-        return float(re.search(rf"^{re.escape(name)} (\S+)$", self.get("/metrics")[1], re.MULTILINE)[1])
+        return float(found(rf"^{re.escape(name)} (\S+)$", self.get("/metrics")[1], re.MULTILINE)[1])
 
 
 class Case(unittest.TestCase):
@@ -164,7 +188,7 @@ class Case(unittest.TestCase):
             self.skipTest("a C compiler: not installed")
         self.folder = self.enterContext(tempfile.TemporaryDirectory())
 
-    def served(self, table: Path = BOXES, *words: str, **given: object) -> Served:
+    def served(self, table: Path = BOXES, *words: str, **given: Any) -> Served:
         return self.enterContext(Served(self.folder, table, *words, **given))
 
     def assert_well(self, service: Served) -> None:
@@ -206,13 +230,13 @@ def told_by_program(table: Path, queries: bytes) -> bytes:
     return subprocess.run([PROGRAM, table], input=queries, capture_output=True, timeout=60).stdout
 
 
-def some_queries(chance, count: int) -> bytes:
+def some_queries(chance: random.Random, count: int) -> bytes:
     """Sound and faulty lines, some skipped, some too long, the last one with its end or without."""
     lines = [random_runs.some_line(chance) for _ in range(count)]
     return b"\n".join(lines) + chance.choice([b"", b"\n"])
 
 
-def some_pieces(chance, text: bytes) -> Iterator[bytes]:
+def some_pieces(chance: random.Random, text: bytes) -> Iterator[bytes]:
     """A text in pieces of any length."""
     at = 0
     while at < len(text):

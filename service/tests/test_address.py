@@ -13,10 +13,12 @@ import threading
 import time
 import unittest
 from pathlib import Path
+from typing import Any
 
 from served import BOXES, LONG, PROGRAM, SERVICE, Case, random_runs, read_lines
 
 from rtfilter import All, Circle, Disconnected, Near, QueryError, Rtfilter, TimedOut, Window, join
+from rtfilter.connection import Address as Place
 
 PAGE = SERVICE.with_name("README.md")
 EXAMPLE = re.compile(r"^```pycon\n(.*?)^```$", re.MULTILINE | re.DOTALL)
@@ -42,7 +44,8 @@ def values_of(boxes: Rtfilter, lines: list[str]) -> list[object]:
 class Address(Case):
     def test_the_same_as_a_program(self) -> None:
         service = self.served(BOXES, "--tcp", "0")
-        for seed, address in enumerate((service.path, Path(service.path), service.tcp)):
+        addresses: list[Place] = [service.path, Path(service.path), service.tcp]
+        for seed, address in enumerate(addresses):
             chance = random.Random(seed)
             lines = [os.fsdecode(random_runs.some_line(chance)) for _ in range(300)]
             with Rtfilter(address=address, timeout=60) as boxes, Rtfilter(BOXES, program=PROGRAM) as alone:
@@ -129,7 +132,8 @@ class Address(Case):
             Rtfilter(address=path)
 
     def test_no_answer(self) -> None:
-        for family, address in ((socket.AF_UNIX, str(Path(self.folder, "silent"))), (socket.AF_INET, ("127.0.0.1", 0))):
+        places: list[tuple[int, Any]] = [(socket.AF_UNIX, f"{self.folder}/silent"), (socket.AF_INET, ("127.0.0.1", 0))]
+        for family, address in places:
             with socket.socket(family) as silent:
                 silent.bind(address)
                 silent.listen()
@@ -147,7 +151,12 @@ class Address(Case):
             begin = threading.Thread(target=lambda: asked.append(slow.accept()[0]))
             asked: list[socket.socket] = []
             begin.start()
-            threading.Thread(target=lambda: (begin.join(), asked[0].sendall(b"ok 1 5\n"))).start()
+
+            def answer_late() -> None:
+                begin.join()
+                asked[0].sendall(b"ok 1 5\n")
+
+            threading.Thread(target=answer_late).start()
             with Rtfilter(address=path, timeout=0.5) as boxes:
                 with self.assertRaises(TimedOut):
                     boxes.count(All())
@@ -159,13 +168,14 @@ class Address(Case):
 
     def test_what_cannot_be_meant(self) -> None:
         service = self.served()
-        for given in (
+        cases: list[dict[str, Any]] = [
             {},
             {"table": BOXES, "address": service.path},
             *({"address": service.path, name: value} for name, value in (
                 ("header", True), ("fanout", 2), ("max_entries", 5), ("program", PROGRAM),
             )),
-        ):
+        ]
+        for given in cases:
             with self.assertRaisesRegex(ValueError, "^either a table"):
                 Rtfilter(**given)
         boxes = Rtfilter(address=service.path)
@@ -178,13 +188,15 @@ class Address(Case):
         service = self.served(BOXES, "--tcp", "0", "--connections", "1")
         before = len(os.listdir("/proc/self/fd"))
         for at in range(20):
-            for of_both, address in enumerate((service.path, service.tcp), 1):
+            both: list[Place] = [service.path, service.tcp]
+            for of_both, address in enumerate(both, 1):
                 with Rtfilter(address=address) as boxes:
                     self.assertEqual(boxes.count(All()), 5)
                     with self.assertRaises(Disconnected):
                         Rtfilter(address=address)
                 service.logs("status=0 ", 2 * at + of_both)
-        for address in ("/no/such/socket", ("127.0.0.1", 1)):
+        nowhere: list[Place] = ["/no/such/socket", ("127.0.0.1", 1)]
+        for address in nowhere:
             with self.assertRaises(OSError):
                 Rtfilter(address=address)
         self.assertEqual(len(os.listdir("/proc/self/fd")), before)

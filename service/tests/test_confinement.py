@@ -9,7 +9,7 @@ import subprocess
 import unittest
 from pathlib import Path
 
-from served import BOXES, PROGRAM, ROOT, Case, read_lines, table_of, told_by_program, until
+from served import BOXES, PROGRAM, ROOT, Case, found, read_lines, table_of, told_by_program, until
 
 SOURCE = ROOT / "service/prefork.c"
 FLAGS = ["-std=gnu11", "-O", "-fPIC", "-shared"]
@@ -23,7 +23,7 @@ class Confinement(Case):
         folder = Path(self.folder, "build")
         folder.mkdir()
         subprocess.run(["cc", *FLAGS, *map(str, flags), "-o", folder / "rtfilter-prefork.so", SOURCE], check=True)
-        return shutil.copy(PROGRAM, folder)
+        return str(shutil.copy(PROGRAM, folder))
 
     def test_what_is_tried(self) -> None:
         """By a build that tries: the kernel ends the connection, and nothing else."""
@@ -48,10 +48,10 @@ class Confinement(Case):
             read_lines(asker, 1)
             for (process,), score, filter in ((service.connections, "1000", 2), (service.programs, "0", 0)):
                 status = Path(f"/proc/{process}/status").read_text()
-                self.assertEqual(int(re.search(r"Seccomp:\t(\d)", status)[1]), filter)
-                self.assertEqual(int(re.search(r"NoNewPrivs:\t(\d)", status)[1]), filter // 2)
+                self.assertEqual(int(found(r"Seccomp:\t(\d)", status)[1]), filter)
+                self.assertEqual(int(found(r"NoNewPrivs:\t(\d)", status)[1]), filter // 2)
                 self.assertEqual(Path(f"/proc/{process}/oom_score_adj").read_text().strip(), score)
-            blocked, caught = (re.search(rf"{name}:\t(\w+)", Path(f"/proc/{service.connections[0]}/status").read_text())[1]
+            blocked, caught = (found(rf"{name}:\t(\w+)", Path(f"/proc/{service.connections[0]}/status").read_text())[1]
                                for name in ("SigBlk", "SigCgt"))
             self.assertEqual((int(blocked, 16), int(caught, 16)), (0, 0))
 
@@ -134,10 +134,11 @@ class Source(unittest.TestCase):
     def test_by_compilers(self) -> None:
         """With all their warnings, and with gcc's search for faults."""
         tried = 0
-        for compiler, flags in (("gcc", ["-fanalyzer"]), ("clang", [])):
+        compilers: dict[str, list[str]] = {"gcc": ["-fanalyzer"], "clang": []}
+        for compiler, flags in compilers.items():
             if shutil.which(compiler):
                 tried += 1
-                words = [compiler, *FLAGS, "-Wall", "-Wextra", "-Werror", *flags, "-o", os.devnull, SOURCE]
+                words = [compiler, *FLAGS, "-Wall", "-Wextra", "-Werror", *flags, "-o", os.devnull, str(SOURCE)]
                 done = subprocess.run(words, capture_output=True, text=True)
                 self.assertEqual((done.returncode, done.stderr), (0, ""))
         if not tried:

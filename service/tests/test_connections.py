@@ -15,9 +15,9 @@ import unittest
 from pathlib import Path
 
 from served import (
-    BOXES, PROGRAM, SERVICE, SYSTEM_PYTHON, Case, Served, all_of, answers, read_lines, some_pieces, some_queries, table_of, talk,
-    told_by_program, until,
-)
+    BOXES, PROGRAM, SERVICE, SYSTEM_PYTHON, Case, Served, all_of, answers, found, read_lines, send, some_pieces,
+    some_queries, table_of, talk, told_by_program, until,
+)  # fmt: skip
 
 TOO_LONG_A_LINE = b"error %d Q1 line too long\n"
 RESET = struct.pack("2i", 1, 0)  # of SO_LINGER: a close sends a reset
@@ -116,7 +116,7 @@ class SameAsProgram(Case):
             service.logs(rf"^connection {number} \({re.escape(host)}:{port}\): status={status} seconds=\d\.\d{{3}}$")
         service.ask(b"count all")
         service.logs(rf"^connection 4 \(process {os.getpid()} of user {os.getuid()}\): status=0 seconds=")
-        asker = socket.create_connection(("::1", int(re.search(r"\[::1\]:(\d+)\n", service.log)[1])))
+        asker = socket.create_connection(("::1", int(found(r"\[::1\]:(\d+)\n", service.log)[1])))
         port = asker.getsockname()[1]
         talk(asker, [])
         service.logs(rf"^connection 5 \(\[::1\]:{port}\): status=0 ")
@@ -272,7 +272,7 @@ class Askers(Case):
                 asker.sendall(b"count all\n")
                 self.assertEqual(read_lines(asker, 1), b"ok 1 5\n")
                 if at % 3 == 0:
-                    os.kill(*service.connections, signal.SIGKILL)
+                    send(signal.SIGKILL, service.connections)
                 elif at % 3 == 1:
                     asker.sendall(b"x")
                     asker.shutdown(socket.SHUT_WR)

@@ -10,7 +10,7 @@ import time
 import unittest
 from pathlib import Path
 
-from served import BOXES, PROGRAM, Case, Served, is_there, library_of, read_lines, table_of, until
+from served import BOXES, PROGRAM, Case, Served, is_there, put_library, read_lines, send, table_of, until
 
 
 class Ends(Case):
@@ -84,7 +84,7 @@ class Ends(Case):
                 for asker in (one, two):
                     asker.sendall(b"count all\n")
                     read_lines(asker, 1)
-                os.kill(*service.programs, signal.SIGKILL)
+                send(signal.SIGKILL, service.programs)
                 self.assertEqual((one.recv(1), two.recv(1)), (b"", b""))
             self.assertEqual(service.ask(b"count all\n"), b"ok 1 5\n")
             service.logs("^the program has ended, with status -9: those who connect wait ", at)
@@ -145,7 +145,7 @@ class Ends(Case):
         table.write_bytes(BOXES.read_bytes())
         service = self.served(table)
         table.unlink()
-        os.kill(*service.programs, signal.SIGKILL)
+        send(signal.SIGKILL, service.programs)
         service.logs("^the new table isn't taken, there is none: rtfilter: cannot open table$", 4)
         begun = time.monotonic()
         service.logs("there is none", 5)
@@ -161,7 +161,7 @@ class Ends(Case):
     def test_a_program_that_is_stopped(self) -> None:
         """It doesn't stop an exchange for ever."""
         service = self.served()
-        os.kill(*service.programs, signal.SIGSTOP)
+        send(signal.SIGSTOP, service.programs)
         service.exchange()
         self.assert_well(service)
         until(lambda: len(service.programs) == 1, "the end of the old program")
@@ -194,7 +194,7 @@ class Ends(Case):
         program = Path(self.folder, "rtfilter")
         program.write_text("#!/bin/sh\necho nonsense\nexit 0\n")
         program.chmod(0o700)
-        program.with_name(library_of(PROGRAM).name).symlink_to(library_of(PROGRAM))
+        put_library(Path(self.folder))
         service = self.served(program=str(program))
         self.assertEqual(service.process.wait(10), 1)
         service.logs("^the program has ended, with status 0$")

@@ -9,9 +9,7 @@ import time
 import unittest
 from pathlib import Path
 
-from served import (
-    BOXES, PROGRAM, Case, Served, all_of, answers, library_of, read_lines, told_by_program, until,
-)
+from served import BOXES, PROGRAM, Case, Served, all_of, answers, put_library, read_lines, told_by_program, until
 
 
 class Exchanges(Case):
@@ -31,7 +29,7 @@ class Exchanges(Case):
         is lost, and nothing is left."""
         self.put("".join(f"{at},0,1,0,1\n" for at in range(100)))
         service = self.served(self.table, "--connections", "6", "--health", "0")
-        is_over, faults, finished = threading.Event(), [], []
+        is_over, faults, finished = threading.Event(), list[object](), list[int]()
         least = 0  # of tables that may be met: the last one that was exchanged for
 
         def ask() -> None:
@@ -153,7 +151,7 @@ class Exchanges(Case):
         slow = Path(self.folder, "slow")
         slow.write_text(f'#!/bin/sh\nsleep {seconds}\nexec {PROGRAM} "$@"\n')
         slow.chmod(0o700)
-        Path(self.folder, library_of(PROGRAM).name).symlink_to(library_of(PROGRAM))
+        put_library(Path(self.folder))
         return str(slow)
 
     def test_while_it_is_loaded(self) -> None:

@@ -25,7 +25,9 @@ class Health(Case):
             asker.settimeout(20)
             asker.sendall(text)
             found = b"".join(iter(lambda: asker.recv(4096), b""))
-        status, length = HEAD.match(found).groups()
+        head = HEAD.match(found)
+        assert head
+        status, length = head.groups()
         text = found.partition(b"\r\n\r\n")[2]
         self.assertEqual(len(text), int(length))
         return int(status), text
@@ -58,7 +60,7 @@ class Health(Case):
         })
         types = dict(re.findall(r"^# TYPE (\w+) (\w+)$", text, re.MULTILINE))
         self.assertEqual({name: "counter" if name.endswith("_total") else "gauge" for name in types}, types)
-        self.assertEqual(set(types), {re.match(r"\w+", name)[0] for name in values} | {"rtfilter_table_age_seconds"})
+        self.assertEqual(set(types), {re.split(r"\W", name)[0] for name in values} | {"rtfilter_table_age_seconds"})
 
     def test_while_there_is_no_table(self) -> None:
         """Before the first one is loaded, and after the program has ended; not while another one is loaded."""

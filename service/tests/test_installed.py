@@ -9,8 +9,9 @@ import socket
 import subprocess
 import unittest
 from pathlib import Path
+from typing import Any
 
-from served import BOXES, PROGRAM, ROOT, Case, read_lines, talk
+from served import BOXES, PROGRAM, ROOT, Case, found, read_lines, talk
 
 PAGE = ROOT / "service/README.md"
 UNITS = ROOT / "service/rtfilter.socket", ROOT / "service/rtfilter.service"
@@ -32,7 +33,8 @@ class Installed(Case):
         """By the system's Python, from another folder, with nothing but the system's paths."""
         path = f"{self.folder}/socket"
         words = [self.place / "bin/rtfilter-serve", "--program", self.place / "bin/rtfilter", "--unix", path, BOXES]
-        with subprocess.Popen(words, env=PLAIN, cwd="/", stderr=subprocess.PIPE, text=True) as service:
+        with subprocess.Popen([*map(str, words)], env=PLAIN, cwd="/", stderr=subprocess.PIPE, text=True) as service:
+            assert service.stderr
             self.assertEqual(service.stderr.readline(), f"listening on {path}\n")
             self.assertEqual(service.stderr.readline(), "ready: 5 boxes\n")
             with socket.socket(socket.AF_UNIX) as asker:
@@ -69,7 +71,7 @@ class Installed(Case):
         # What it says of other units is the machine's affair.
         self.assertEqual([line for line in told.splitlines() if "rtfilter" in line], [])
         told = self.analyzed("--no-pager", "security", "--offline=true", copies[1])
-        self.assertLessEqual(float(re.search(r"exposure level for rtfilter.service: ([\d.]+)", told)[1]), LEAST_EXPOSURE)
+        self.assertLessEqual(float(found(r"exposure level for rtfilter.service: ([\d.]+)", told)[1]), LEAST_EXPOSURE)
 
     def analyzed(self, *words: object) -> str:
         command = ["systemd-analyze", *map(str, words)]
@@ -85,10 +87,11 @@ class QuickStart(Case):
             Path(self.folder, name).symlink_to(ROOT / name)
         Path(self.folder, "build").symlink_to(Path(PROGRAM).parent)
         served, client, netcat = re.findall(r"^```\n\$ (.*?)^```$", PAGE.read_text(), re.MULTILINE | re.DOTALL)
-        session = re.search(r"^```pycon\n(.*?)^```$", PAGE.read_text(), re.MULTILINE | re.DOTALL)[1]
+        session = found(r"^```pycon\n(.*?)^```$", PAGE.read_text(), re.MULTILINE | re.DOTALL)[1]
         command, *told = served.splitlines()
-        words = {"shell": True, "executable": "/bin/bash", "env": PLAIN, "cwd": self.folder, "text": True}
+        words: dict[str, Any] = {"shell": True, "executable": "/bin/bash", "env": PLAIN, "cwd": self.folder, "text": True}
         with subprocess.Popen(f"exec {command}", stderr=subprocess.PIPE, **words) as service:
+            assert service.stderr
             self.assertEqual([service.stderr.readline().rstrip("\n") for _ in told], told)
             typed = "".join(f"{line[4:]}\n" for line in session.splitlines() if line.startswith((">>> ", "... "))) + "\n"
             shown = [line for line in session.splitlines() if not line.startswith((">>> ", "... "))]

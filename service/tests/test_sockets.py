@@ -84,6 +84,7 @@ class Sockets(Case):
             self.addCleanup(service.kill)
         until(lambda: sum(service.poll() is not None for service in services) == 3, "the end of three")
         (winner,) = [service for service in services if service.poll() is None]
+        assert winner.stderr
         self.assertEqual(winner.stderr.readline(), f"listening on {path}\n")
         # (the others have looked whether somebody listens, which the log tells as connections, perhaps before this)
         self.assertIn("ready: 5 boxes\n", iter(winner.stderr.readline, ""))

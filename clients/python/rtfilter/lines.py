@@ -6,6 +6,7 @@ from array import array
 from collections.abc import Iterable, Iterator
 from fractions import Fraction
 from itertools import pairwise
+from typing import Any
 
 from .answers import Answers
 from .batches import batches
@@ -16,6 +17,9 @@ from .shapes import Shapes
 
 LEAST_ASKED = 8  # boxes: nearly always there is a farther one among them
 SCANNED = 16  # where one of so many boxes was asked for, all pieces are looked at
+InFloats = tuple[Any, ...]
+"""A piece by its place, and what `in_floats` gives of it."""
+
 ROUNDED = 1e-3  # units: more than what the distance to a line in floats is wrong by, of numbers of 32 bits
 
 
@@ -69,7 +73,7 @@ class Lines(Shapes[Piece]):
             self._take(search, ((at, *in_floats(self._shapes[at])) for at in answers.ids[search.seen :]))
             search.end_round(answers)
 
-    def _take(self, search: "Search", pieces: Iterable[tuple[int, float, float, float, float, float]]) -> None:
+    def _take(self, search: "Search", pieces: Iterable[InFloats]) -> None:
         """Takes pieces, but those that are farther than what the search has: mostly the distance to a piece's line, in
         floats, tells that, in a tenth of the time of an exact distance. Those whose lines are nearest come first, so that
         of pieces in whatever order few are taken."""
@@ -84,12 +88,12 @@ class Lines(Shapes[Piece]):
                 break
             search.take(self._feature_of[at], self._shapes[at])
 
-    def _all_in_floats(self) -> Iterator[Iterable[tuple[int, float, float, float, float, float]]]:
+    def _all_in_floats(self) -> Iterator[Iterable[InFloats]]:
         """All pieces, in parts that are spread over all of them, in any order: so the best of each are soon near."""
         count = len(self._shapes)
         step = math.isqrt(count)
         for first in random.Random(step).sample(range(step), step):
-            yield zip(range(first, count, step), *(column[first::step] for column in self._columns))
+            yield zip(range(first, count, step), *[column[first::step] for column in self._columns])
 
 
 def in_floats(piece: Piece) -> tuple[float, float, float, float, float]:

@@ -9,7 +9,7 @@ import os
 import shutil
 import signal
 import socket
-from collections.abc import Mapping, Sequence
+from collections.abc import Sequence
 from pathlib import Path
 from typing import NamedTuple
 
@@ -39,13 +39,13 @@ class Started(NamedTuple):
 
 
 def start(
-    command: Sequence[str], library: Path, listeners: Sequence[socket.socket], errors: int,
-    settings: Mapping[str, object], files: Mapping[str, int],
+    command: Sequence[str], library: Path, listeners: Sequence[socket.socket], errors: int, log: int, connections: int,
+    *, silence: float = 0, patience: float = 0, board: int | None = None, row: int = 0,
 ) -> Started:
     """Starts a program over listening sockets, and doesn't wait for it. Raises `OSError` where it can't be started.
 
-    `errors` is the descriptor of its standard error. `settings` are `CONNECTIONS`, `SILENCE`, `PATIENCE` and `ROW`, and
-    `files` the descriptors of `LOG` and `BOARD`, as the library has them.
+    `errors` is the descriptor of its standard error until it serves, and `log` that from then on. The others are as the
+    library has them.
     """
     with contextlib.ExitStack() as stack, contextlib.ExitStack() as kept:
         (control, its_control), (first, its_first) = socket.socketpair(), socket.socketpair()
@@ -56,20 +56,18 @@ def start(
         first.shutdown(socket.SHUT_WR)
         preloaded = os.open(library, os.O_RDONLY)
         stack.callback(os.close, preloaded)
-        named = {"CONTROL": its_control.fileno(), "FIRST": its_first.fileno(), **files}
-        given = [*(listener.fileno() for listener in listeners), *named.values(), preloaded]
+        given = [*(listener.fileno() for listener in listeners), its_control.fileno(), its_first.fileno(), log, preloaded]
+        given += [] if board is None else [board]
         copies = []  # in nobody's place
         for descriptor in given:
             copies.append(fcntl.fcntl(descriptor, fcntl.F_DUPFD_CLOEXEC, FIRST_GIVEN + len(given)))
             stack.callback(os.close, copies[-1])
-        words = {**settings, **{name: FIRST_GIVEN + len(listeners) + at for at, name in enumerate(named)}}
-        ours = "LISTEN_", "RTFILTER_"
-        environment = {name: value for name, value in os.environ.items() if not name.startswith(ours)}
-        environment |= {f"RTFILTER_{name}": str(value) for name, value in words.items()}
-        environment["LISTEN_FDS"] = str(len(listeners))
+        at = FIRST_GIVEN + len(listeners)
+        numbers = at, at + 1, at + 2, -1 if board is None else at + 4, row, connections, silence, patience
+        environment = {name: value for name, value in os.environ.items() if not name.startswith("LISTEN_")}
+        environment |= {"LISTEN_FDS": str(len(listeners)), "RTFILTER_PREFORK": " ".join(map(str, numbers))}
         # By its descriptor: a path in this list may have neither spaces nor colons.
-        others = os.environ.get("LD_PRELOAD", "")
-        environment["LD_PRELOAD"] = f"/proc/self/fd/{FIRST_GIVEN + len(given) - 1} {others}"
+        environment["LD_PRELOAD"] = f"/proc/self/fd/{at + 3} {os.environ.get('LD_PRELOAD', '')}"
         actions = [
             (os.POSIX_SPAWN_DUP2, errors, 2),
             (os.POSIX_SPAWN_OPEN, 0, os.devnull, os.O_RDWR, 0),

@@ -57,9 +57,8 @@ class Holder(Child):
                 listener.listen(connections)
                 with open(os.devnull, "wb") as nowhere:
                     started = prefork.start(
-                        command, library, [listener], errors.fileno(),
-                        {"CONNECTIONS": connections}, {"LOG": nowhere.fileno()},
-                    )  # fmt: skip
+                        command, library, [listener], errors.fileno(), nowhere.fileno(), connections
+                    )
             except BaseException:
                 errors.close()
                 self._place.close()

@@ -57,11 +57,16 @@ class Transport(Owned, abc.ABC):
         return self._is_abandoned
 
     @property
+    def descriptor(self) -> int:
+        """While nothing is asked, there is nothing to read here but the other side's end."""
+        return self._output.fileno()
+
+    @property
     def is_lost(self) -> bool:
-        """Whether it can't be asked any more. While nothing is asked, there is nothing to read but the other side's end."""
+        """Whether it can't be asked any more, as far as is known while nothing is asked."""
         if not self._is_abandoned:
             poll = select.poll()
-            poll.register(self._output, select.POLLIN)
+            poll.register(self.descriptor, select.POLLIN)
             if not poll.poll(0):
                 return False
             self.abandon()

@@ -13,7 +13,7 @@ import geopandas
 import numpy
 import pandas
 from shapely.geometry import LineString, MultiPolygon, Point, Polygon, box
-from support import PROGRAM
+from support import PROGRAM, anything
 
 from rtfilter import All, Covers, Ended, FeatureError, Inside, Near, Pool, QueryError, Rtfilter, Window, aio, rows_from
 from rtfilter.lines import Lines
@@ -95,7 +95,7 @@ class Tables(unittest.TestCase):
             (frame.drop(columns=["max_y", "id"]), "no column id among min_x, max_x, min_y, layer"),
             (numpy.array([(1, 2)], dtype=[("id", int), ("x", int)]), "no column min_x among id, x"),
         ):
-            for opened in (Rtfilter, lambda it, **more: Pool(2, it, **more)):
+            for opened in anything(Rtfilter, lambda it, **more: Pool(2, it, **more)):
                 with self.assertRaisesRegex(TypeError, f"^the table: .*{text}"):
                     opened(table, program=PROGRAM)
 
@@ -112,14 +112,14 @@ class Tables(unittest.TestCase):
 class Bulk(unittest.TestCase):
     def each(self) -> Any:
         table = some_table(3000)
-        for opened in (Rtfilter, lambda it, **more: Pool(3, it, **more)):
+        for opened in anything(Rtfilter, lambda it, **more: Pool(3, it, **more)):
             with opened(table, program=PROGRAM, timeout=60) as boxes:
                 yield table, boxes
 
     def test_windows(self) -> None:
         windows = some_windows(2300)
         for table, boxes in self.each():
-            for region, accepts in (
+            for region, accepts in anything(
                 (Window, lambda w, b: (b[:, 1] <= w[1]) & (w[0] <= b[:, 2]) & (b[:, 3] <= w[3]) & (w[2] <= b[:, 4])),
                 (Inside, lambda w, b: (w[0] <= b[:, 1]) & (b[:, 2] <= w[1]) & (w[2] <= b[:, 3]) & (b[:, 4] <= w[3])),
                 (Covers, lambda w, b: (b[:, 1] <= w[0]) & (w[1] <= b[:, 2]) & (b[:, 3] <= w[2]) & (w[3] <= b[:, 4])),

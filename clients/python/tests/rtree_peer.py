@@ -2,17 +2,19 @@
 
 import json
 import sys
+from collections.abc import Callable
+from typing import Any
 
 from rtree import index
 
-ASKED = {
+ASKED: dict[str, Callable[[Any, Any], Any]] = {
     "intersection": lambda boxes, question: sorted(boxes.intersection(question)),
     "contains": lambda boxes, question: sorted(boxes.contains(question) or []),
     "count": lambda boxes, question: boxes.count(question),
     "nearest": lambda boxes, question: list(boxes.nearest(*question)),
 }
 
-told = []
+told: list[dict[str, Any]] = []
 for table in json.load(sys.stdin):
     boxes = index.Index(((id, sides, None) for id, sides in table["rows"]), interleaved=table["interleaved"])
     told.append({name: [ask(boxes, it) for it in table[name]] for name, ask in ASKED.items()})

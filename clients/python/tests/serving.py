@@ -34,8 +34,8 @@ class Service:
 
     def _begin(self, connection: socket.socket) -> None:
         self.connections.append(connection)
-        command = [PROGRAM, str(self.table)]
-        self.programs.append(subprocess.Popen(command, stdin=connection, stdout=connection, stderr=subprocess.DEVNULL))
+        command, ends = [PROGRAM, str(self.table)], connection.fileno()
+        self.programs.append(subprocess.Popen(command, stdin=ends, stdout=ends, stderr=subprocess.DEVNULL))
 
     def process(self) -> int:
         """The process that answers the first connection. Its answer may come before it is known here."""

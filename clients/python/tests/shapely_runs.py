@@ -14,6 +14,7 @@ def told_by_shapely(test: unittest.TestCase, **asked: Any) -> dict[str, Any]:
     """What it tells of zones, lines, points and windows. A test without it is skipped."""
     if subprocess.run([DEBIAN, "-c", "import shapely"], capture_output=True).returncode:
         test.skipTest("python3-shapely isn't installed")
-    whole = {"zones": [], "lines": [], "points": [], "windows": [], **asked}
+    whole: dict[str, Any] = {"zones": [], "lines": [], "points": [], "windows": [], **asked}
     done = subprocess.run([DEBIAN, PEER], input=json.dumps(whole).encode(), capture_output=True, check=True)
-    return json.loads(done.stdout)
+    told: dict[str, Any] = json.loads(done.stdout)
+    return told

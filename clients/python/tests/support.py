@@ -6,6 +6,7 @@ import subprocess
 import sys
 from collections.abc import Iterable, Iterator
 from pathlib import Path
+from typing import Any
 
 ROOT = Path(__file__).resolve().parents[3]
 PACKAGE = ROOT / "clients/python"
@@ -17,8 +18,8 @@ PROGRAM = os.environ["RTFILTER_PROGRAM"]
 
 sys.path[:0] = [str(PACKAGE), str(ROOT / "tests")]
 
-import random_runs
-import reading
+import random_runs as random_runs  # for others too
+import reading as reading
 
 from rtfilter import QueryError, Reply
 
@@ -57,6 +58,11 @@ def written(replies: Iterable[Reply]) -> Iterator[bytes]:
             yield b"error %d %s %s\n" % (at, reply.code.encode(), reply.text.encode())
         elif reply is not None:
             yield bytes(reply) + b"ok %d %d\n" % (at, reply.total)
+
+
+def anything(*cases: Any) -> tuple[Any, ...]:
+    """Cases of any types: also such as what is tried doesn't take, and calls of different kinds."""
+    return cases
 
 
 def open_files() -> int:

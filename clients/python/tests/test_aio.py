@@ -11,9 +11,10 @@ import time
 import unittest
 from collections.abc import Iterator
 from pathlib import Path
+from typing import Any
 
 from serving import Service
-from support import BOXES, PROGRAM, children_of, open_files, some_lines, some_rows, told_by_program, written
+from support import BOXES, PROGRAM, anything, children_of, open_files, some_lines, some_rows, told_by_program, written
 
 from rtfilter import All, Circle, Disconnected, Ended, Near, QueryError, Rtfilter, TimedOut, Window, WrongProcess, aio
 
@@ -60,10 +61,10 @@ class Questions(Case):
                     self.assertEqual(await boxes.cost("find all"), alone.cost("find all"))
                     self.assertEqual(await boxes.levels(), alone.levels())
                     self.assertEqual(await boxes.size(), 5)
-                    for error, ask in (
+                    for error, ask in anything(
                         (QueryError, lambda: boxes.find(Circle(0, 0, -1))), (QueryError, lambda: boxes.ask(["x", "count all"])),
                         (ValueError, lambda: boxes.ask(["count all\n"])), (ValueError, lambda: boxes.cost("find\nall")),
-                        (TypeError, lambda: boxes.ask("count all")), (TypeError, lambda: boxes.nearest(1, 0.5, 0)),
+                        (TypeError, lambda: boxes.ask("count all")), (TypeError, lambda: boxes.nearest(1, *anything(0.5, 0))),
                     ):  # fmt: skip
                         with self.assertRaises(error):
                             await ask()
@@ -89,11 +90,11 @@ class Questions(Case):
 
     async def test_ahead_of_threads(self) -> None:
         """By three times at least, for many at once."""
-        least = {}
+        least: dict[str, float] = {}
         with Rtfilter(BOXES, program=PROGRAM) as alone:
             async with aio.Rtfilter(BOXES, program=PROGRAM) as boxes:
                 for _ in range(5):
-                    for name, ask in (("pipelined", boxes.count), ("threads", lambda it: asyncio.to_thread(alone.count, it))):
+                    for name, ask in anything(("pipelined", boxes.count), ("threads", lambda it: asyncio.to_thread(alone.count, it))):
                         begun = time.perf_counter()
                         await asyncio.gather(*(ask(All()) for _ in range(400)))
                         least[name] = min(least.get(name, 9.0), time.perf_counter() - begun)
@@ -112,6 +113,7 @@ class Lives(Case):
         async with aio.Rtfilter(rows, program=PROGRAM) as boxes:
             wanted = [await boxes.count(Window(-at, at, -at, at)) for at in range(100)]
             for _ in range(30):
+                tasks: dict[asyncio.Task[Any], int | None]
                 tasks = {asyncio.create_task(boxes.count(Window(-at, at, -at, at))): at for at in range(100)}
                 tasks |= {asyncio.create_task(boxes.ask(["find all"] * 20)): None for _ in range(3)}
                 await asyncio.sleep(chance.choice([0, 0, 0.0005, 0.003]))
@@ -150,7 +152,7 @@ class Lives(Case):
             self.assertEqual(await boxes.count(All()), 5)
 
     async def test_what_is_refused(self) -> None:
-        for table, options, error in (
+        for table, options, error in anything(
             ("/no/such/table", {}, Ended), ([(1, 1, 0, 0, 0)], {}, Ended), ([(1, 0.5)], {}, TypeError),
             (BOXES, {"program": "/no/such/program"}, FileNotFoundError), (BOXES, {"fanout": 1}, Ended),
             (BOXES, {"program": SLEEPING, "timeout": 0.2}, TimedOut), (None, {"address": "/no/such/socket"}, FileNotFoundError),
@@ -158,7 +160,7 @@ class Lives(Case):
             with self.assertRaises(error):
                 async with aio.Rtfilter(table, **{"program": PROGRAM, **options} if table is not None else options):
                     pass
-        for given in ({}, {"table": BOXES, "address": "x"}, {"table": BOXES, "timeout": -1}):
+        for given in anything({}, {"table": BOXES, "address": "x"}, {"table": BOXES, "timeout": -1}):
             with self.assertRaises(ValueError):
                 aio.Rtfilter(**given)
         boxes = aio.Rtfilter(BOXES, program=PROGRAM)
@@ -188,7 +190,7 @@ class Lives(Case):
         for told in await asyncio.gather(*tasks, return_exceptions=True):
             self.assertIsInstance(told, ValueError)
         await boxes.close()
-        for ask in (lambda: boxes.count(All()), boxes.reload):
+        for ask in anything(lambda: boxes.count(All()), boxes.reload):
             with self.assertRaises(ValueError):
                 await ask()
 
@@ -252,7 +254,7 @@ class Lives(Case):
         async def both() -> None:
             async with boxes:
                 with self.assertRaisesRegex(RuntimeError, "the loop in which it was opened"):
-                    await asyncio.to_thread(asyncio.run, ask())
+                    await asyncio.to_thread(lambda: asyncio.run(ask()))
 
         asyncio.run(both())
         self.assertEqual(open_files(), self.before[1])

@@ -10,7 +10,7 @@ from fractions import Fraction
 from pathlib import Path
 from typing import Any
 
-from support import PROGRAM
+from support import PROGRAM, anything
 
 from rtfilter.index import Index
 
@@ -106,6 +106,8 @@ def distance2(point: Box, box: Box) -> float:
 
 
 class WholeNumbers(unittest.TestCase):
+    tables: list[dict[str, Any]]
+
     @classmethod
     def setUpClass(cls) -> None:
         chance = random.Random(1)
@@ -154,7 +156,7 @@ class Ends(unittest.TestCase):
         with Index([(1, (0, 0, 1, 1))], program=PROGRAM) as boxes:
             with self.assertRaises(ValueError):
                 boxes.nearest((0, 0, 1, 1))
-            for ask in (boxes.intersection, boxes.contains, boxes.count, boxes.nearest):
+            for ask in anything(boxes.intersection, boxes.contains, boxes.count, boxes.nearest):
                 with self.assertRaises(TypeError):
                     ask((0.5, 0.5))
         with self.assertRaises(TypeError):
@@ -177,7 +179,7 @@ class Decimals(unittest.TestCase):
         with Index(((id, box, None) for id, box in rows), scale=self.SCALE, program=PROGRAM) as boxes:
             for _ in range(60):
                 window = some_box(40)
-                wide = tuple(Fraction(side) + beside * way for side, way in zip(window, (-1, -1, 1, 1)))
+                wide: Any = tuple(Fraction(side) + beside * way for side, way in zip(window, (-1, -1, 1, 1)))
                 for found, holds in ((boxes.intersection(window), meet), (boxes.contains(window), lies_in)):
                     ids = {*found}
                     self.assertLessEqual({id for id, box in rows if holds(box, window)}, ids)

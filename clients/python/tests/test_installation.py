@@ -1,6 +1,7 @@
 """The package is installed by pip without an index, and its types are right."""
 
 import contextlib
+import glob
 import importlib.util
 import os
 import shutil
@@ -21,12 +22,12 @@ with rtfilter.Rtfilter({str(BOXES)!r}, program={PROGRAM!r}) as boxes:
 """
 
 
-def run(*words: object, **options: object) -> str:
-    """What a command prints. One that fails raises, with all that it said."""
-    environment = {**os.environ, "PYTHONDONTWRITEBYTECODE": "1", "PIP_DISABLE_PIP_VERSION_CHECK": "1"}
+def run(*words: object, cwd: str | Path | None = None, **more: str) -> str:
+    """What a command prints, with more in its environment. One that fails raises, with all that it said."""
+    environment = {**os.environ, "PYTHONDONTWRITEBYTECODE": "1", "PIP_DISABLE_PIP_VERSION_CHECK": "1", **more}
     environment.pop("PYTHONPATH", None)
     done = subprocess.run(
-        [*map(str, words)], env=environment, stdout=subprocess.PIPE, stderr=subprocess.STDOUT, text=True, **options
+        [*map(str, words)], env=environment, stdout=subprocess.PIPE, stderr=subprocess.STDOUT, text=True, cwd=cwd
     )
     if done.returncode:
         raise AssertionError(f"{words}: {done.stdout}")
@@ -70,9 +71,22 @@ class Installed(unittest.TestCase):
 
 
 class Types(unittest.TestCase):
+    """What is checked at once, and where its modules are."""
+
+    CHECKED = {
+        "clients/python:clients/python/tests:examples/cluster:tests": [
+            "clients/python/rtfilter", "clients/python/wheel_here.py", "clients/python/tests/*.py", "packaging/*.py",
+            "packaging/tests/*.py", "service/tests/*.py", "examples/cluster/ask.py", "examples/cluster/cut.py",
+        ],
+        "clients/python/rtfilter:clients/python:tests": ["service/*.py"],  # whose modules stand beside prefork.py
+    }  # fmt: skip
+
     def test_strictly(self) -> None:
         mypy = shutil.which("mypy")
         if mypy is None:
             self.skipTest("mypy isn't installed")
-        with contextlib.chdir(PACKAGE):
-            run(mypy, "--cache-dir", os.devnull, "rtfilter", "wheel_here.py", *(ROOT / "packaging").glob("*.py"))
+        with tempfile.TemporaryDirectory() as kept, contextlib.chdir(ROOT):
+            for folders, patterns in self.CHECKED.items():
+                files = [file for pattern in patterns for file in glob.glob(pattern)]
+                options = "--config-file", PACKAGE / "pyproject.toml", "--cache-dir", kept
+                run(mypy, *options, *files, MYPYPATH=folders)

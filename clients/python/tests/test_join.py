@@ -4,7 +4,7 @@ import random
 import sqlite3
 import unittest
 
-from support import PROGRAM, some_rows
+from support import PROGRAM, anything, some_rows
 
 from rtfilter import Pool, QueryError, Rtfilter, join
 from rtfilter.batches import BATCH
@@ -41,13 +41,13 @@ class Joins(unittest.TestCase):
 
     def test_of_what_is_no_row(self) -> None:
         with Pool(2, [(1, 0, 10, 0, 10)], program=PROGRAM) as boxes:
-            for bad, error in (
+            for bad, error in anything(
                 ((1, 0, 1, 0), TypeError), ((1, 0, 1, 0, 1, 2, 3), TypeError), ((1, 0, 0.5, 0, 1), TypeError),
                 ((1, 1, 0, 0, 1), QueryError),
             ):  # fmt: skip
                 with self.assertRaises(error) as raised:
                     list(join(boxes, [(1, 0, 1, 0, 1), bad]))
                 self.assertRegex(str(raised.exception), r"^rows\[1\]: " if error is TypeError else "Q7")
-            for on, error in ((64, ValueError), ([], ValueError), (True, TypeError)):
+            for on, error in anything((64, ValueError), ([], ValueError), (True, TypeError)):
                 with self.assertRaises(error):
                     list(join(boxes, [(1, 0, 1, 0, 1)], on=on))

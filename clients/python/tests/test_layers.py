@@ -7,8 +7,9 @@ import tempfile
 import unittest
 from collections.abc import Callable
 from pathlib import Path
+from typing import Any
 
-from support import BOXES, LAYERS, PROGRAM, random_runs, reading, some_rows, some_sound_table, told_by_program, written
+from support import BOXES, LAYERS, PROGRAM, anything, random_runs, reading, some_rows, some_sound_table, told_by_program, written
 
 from rtfilter import (
     All,
@@ -49,16 +50,15 @@ def some_region(chance: random.Random) -> tuple[Region, Callable[[Box], bool]]:
     x, y, reach = chance.randint(-25, 25), chance.randint(-25, 25), chance.choice([0, 3, 15, 40])
     sides = x, x + reach, y, y + reach
     vertices = [(x, y), (x + reach + 1, y), (x, y + reach + 1)]
-    return chance.choice(
-        [
-            (All(), lambda box: True),
-            (Window(*sides), lambda box: reading.meet(box, sides)),
-            (Inside(*sides), lambda box: reading.lies_in(box, sides)),
-            (Covers(x, x, y, y), lambda box: reading.lies_in((x, x, y, y), box)),
-            (Circle(x, y, reach), lambda box: reading.near2((x, y), box) <= reach**2),
-            (Polygon(vertices), lambda box: reading.shares_a_point(vertices, box)),
-        ]
-    )
+    choices: list[tuple[Region, Callable[[Box], bool]]] = [
+        (All(), lambda box: True),
+        (Window(*sides), lambda box: bool(reading.meet(box, sides))),
+        (Inside(*sides), lambda box: bool(reading.lies_in(box, sides))),
+        (Covers(x, x, y, y), lambda box: bool(reading.lies_in((x, x, y, y), box))),
+        (Circle(x, y, reach), lambda box: bool(reading.near2((x, y), box) <= reach**2)),
+        (Polygon(vertices), lambda box: bool(reading.shares_a_point(vertices, box))),
+    ]
+    return chance.choice(choices)
 
 
 def some_order(chance: random.Random, region: Region) -> tuple[Order | None, Score]:
@@ -103,7 +103,7 @@ class Reading(unittest.TestCase):
         order, score = some_order(chance, region)
         first = chance.choice([None, 0, 1, 5, 1000])
         asked = chance.choice([[3], [0], [63, 0], [0, 1, 3, 3], [7], range(64)])
-        on = chance.choice([asked, set(asked), iter(asked), asked[0] if len(asked) == 1 else tuple(asked)])
+        on: Any = chance.choice([asked, set(asked), iter(asked), asked[0] if len(asked) == 1 else tuple(asked)])
         accepted = {id: box for id, box in table.items() if accepts(box)}
         wanted = {id: box for id, box in accepted.items() if box[4] in asked}
         pairs = [(id, score) for score, id in reading.answers(wanted, accepts, score, first)]
@@ -153,11 +153,11 @@ class Lines(unittest.TestCase):
 
     def test_a_refused_list_asks_nothing(self) -> None:
         with Rtfilter(LAYERS, program=PROGRAM) as boxes:
-            for on, error in ((64, ValueError), ([], ValueError), ([3, -1], ValueError), (3.0, TypeError), ([True], TypeError)):
+            for on, error in anything((64, ValueError), ([], ValueError), ([3, -1], ValueError), (3.0, TypeError), ([True], TypeError)):
                 with self.assertRaises(error):
                     boxes.find(All(), on=on)
                 with self.assertRaises(error):
                     boxes.count(All(), on=on)
-            self.assertEqual([reply.code for reply in boxes.replies(["find all on", "count all on 64", "count all on 3,"])],
-                             ["Q4", "Q6", "Q5"])
+            faults: list[Any] = boxes.replies(["find all on", "count all on 64", "count all on 3,"])
+            self.assertEqual([fault.code for fault in faults], ["Q4", "Q6", "Q5"])
             self.assertEqual(boxes.count(All(), on=3), 2)

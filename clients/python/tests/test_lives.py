@@ -19,7 +19,7 @@ from concurrent.futures import ProcessPoolExecutor
 from pathlib import Path
 
 from serving import Service
-from support import BOXES, EXAMPLES, PACKAGE, PROGRAM, children_of, descendants_of, open_files, parent_of
+from support import BOXES, EXAMPLES, PACKAGE, PROGRAM, anything, children_of, descendants_of, open_files, parent_of
 
 sys.path.insert(0, str(EXAMPLES / "cluster"))
 from shards.places import places_of
@@ -121,7 +121,7 @@ def ask_held(_: int) -> int:
 class Forks(Case):
     def each(self) -> Iterator[Boxes]:
         with Service(self.folder / "socket") as service:
-            for opened in (
+            for opened in anything(
                 lambda: Rtfilter(BOXES, program=PROGRAM),
                 lambda: Pool(2, BOXES, program=PROGRAM),
                 lambda: Rtfilter(address=service.path),
@@ -131,7 +131,7 @@ class Forks(Case):
 
     def test_a_child_that_asks_is_told_and_the_parent_goes_on(self) -> None:
         for boxes in self.each():
-            for ask in (
+            for ask in anything(
                 lambda: boxes.count(All()), lambda: boxes.ask(["count all"] * 300), lambda: len(boxes), boxes.reload
             ):  # fmt: skip
                 told = in_child(ask)
@@ -227,7 +227,7 @@ class Drops(Case):
 
     def test_one_whose_program_is_stopped(self) -> None:
         boxes = Rtfilter(BOXES, program=PROGRAM)
-        boxes.again = boxes  # a ring, which the collector finds
+        vars(boxes)["again"] = boxes  # a ring, which the collector finds
         (process,) = programs() - self.before[0]
         stop(process)
         with self.at_once():
@@ -278,7 +278,7 @@ class Pools(Case):
     def test_one_whose_file_has_changed_is_not(self) -> None:
         """No two copies hold different tables."""
         table = self.table()
-        for change in (lambda: table.write_text("1,0,1,0,1\n"), table.unlink):
+        for change in anything(lambda: table.write_text("1,0,1,0,1\n"), table.unlink):
             with Pool(3, self.table(), program=self.alone, timeout=20) as boxes:
                 change()
                 for left in (2, 1):
@@ -391,7 +391,7 @@ class SharedPools(Case):
         self.assert_nothing_left()
 
     def test_what_is_refused(self) -> None:
-        for table, options, status in (("/no/such/table", {}, 3), ([(1, 1, 0, 0, 0)], {}, 3), (BOXES, {"fanout": 1}, 2)):
+        for table, options, status in anything(("/no/such/table", {}, 3), ([(1, 1, 0, 0, 0)], {}, 3), (BOXES, {"fanout": 1}, 2)):
             with self.assertRaises(Ended) as raised:
                 Pool(2, table, program=PROGRAM, **options)
             self.assertEqual(raised.exception.status, status)
@@ -460,7 +460,7 @@ class Deadlines(Case):
             is_over = threading.Event()
             holding = threading.Thread(target=boxes._turns.take, args=(is_over.wait, boxes._deadline()))
             holding.start()
-            for ask in (lambda: boxes.count(All()), lambda: boxes.ask(["count all"] * 10), boxes.reload):
+            for ask in anything(lambda: boxes.count(All()), lambda: boxes.ask(["count all"] * 10), boxes.reload):
                 with self.timing_out():
                     ask()
             is_over.set()
@@ -526,7 +526,7 @@ class Closes(Case):
     """From another thread, while a call waits for a program that is stopped."""
 
     def test_client_pool_and_cluster(self) -> None:
-        for opened in (
+        for opened in anything(
             lambda: Rtfilter(BOXES, program=PROGRAM),
             lambda: Rtfilter(BOXES, program=PROGRAM, timeout=60),
             lambda: Pool(2, BOXES, program=self.alone),

@@ -5,8 +5,10 @@ import random
 import tempfile
 import threading
 import unittest
+from collections.abc import Callable
 from functools import partial
 from pathlib import Path
+from typing import Any
 
 from support import BOXES, PROGRAM, open_files, some_lines, some_rows, told_by_program, written
 
@@ -65,7 +67,7 @@ class Pools(unittest.TestCase):
 class Reloads(unittest.TestCase):
     """Of one client, and of a pool of them."""
 
-    BOTH = partial(Rtfilter, program=PROGRAM), partial(Pool, 2, program=PROGRAM)
+    BOTH: tuple[Any, ...] = partial(Rtfilter, program=PROGRAM), partial(Pool, 2, program=PROGRAM)
 
     def test_the_same_file_and_others(self) -> None:
         with tempfile.TemporaryDirectory() as folder:
@@ -132,11 +134,11 @@ class Reloads(unittest.TestCase):
         self.assertEqual(open_files(), before)
 
 
-def run_at_once(calls: list) -> None:
+def run_at_once(calls: list[Callable[[], object]]) -> None:
     """Makes calls, each in a thread, and raises what one of them raises."""
     errors: list[BaseException] = []
 
-    def run(call) -> None:
+    def run(call: Callable[[], object]) -> None:
         try:
             call()
         except BaseException as error:

@@ -43,7 +43,7 @@ class Reference(unittest.TestCase):
         if subprocess.run([DEBIAN, "-c", "import sphinx"], capture_output=True).returncode:
             self.skipTest("python3-sphinx isn't installed")
         with tempfile.TemporaryDirectory() as folder:
-            sphinx = [DEBIAN, "-B", "-m", "sphinx", "-q", "-W", "-d", f"{folder}/trees", ROOT / "docs/reference", folder]
+            sphinx: list[str | Path] = [DEBIAN, "-B", "-m", "sphinx", "-q", "-W", "-d", f"{folder}/trees", ROOT / "docs/reference", folder]
             done = subprocess.run(sphinx, stdout=subprocess.PIPE, stderr=subprocess.STDOUT, text=True)
             self.assertEqual((done.returncode, done.stdout), (0, ""))
             found = {name.split(".", 1)[-1] if name.startswith(("queries.", "errors.")) else name

@@ -10,9 +10,9 @@ from functools import partial
 from pathlib import Path
 from unittest import mock
 
-from support import BOXES, PROGRAM, random_runs, reading, some_lines, some_sound_table, told_by_program, written
+from support import BOXES, PROGRAM, anything, random_runs, reading, some_lines, some_sound_table, told_by_program, written
 
-from rtfilter import All, Answers, Circle, Covers, Inside, Near, Polygon, Pool, QueryError, Rtfilter, Smallest, Window
+from rtfilter import All, Answers, Circle, Covers, Inside, Near, Polygon, Pool, QueryError, Reply, Rtfilter, Smallest, Window
 
 RUNS = 60
 
@@ -32,9 +32,9 @@ class RandomLines(unittest.TestCase):
                     met[type(reply)] += 1
         self.assertGreater(min(met.values()), RUNS, met)
 
-    def replies(self, chance: random.Random, table: Path, lines: list[str]) -> list[object]:
+    def replies(self, chance: random.Random, table: Path, lines: list[str]) -> list[Reply]:
         """The replies to lines that are asked in calls of any size, with or without an end to the time, by any pipe."""
-        found: list[object] = []
+        found: list[Reply] = []
         popen = partial(subprocess.Popen, pipesize=chance.choice([-1, 4096]))
         with mock.patch("subprocess.Popen", popen):
             boxes = Rtfilter(table, program=PROGRAM, timeout=chance.choice([None, 60]))
@@ -141,7 +141,7 @@ class Tables(unittest.TestCase):
     def test_rows(self) -> None:
         rows = [tuple(map(int, line.split(","))) for line in BOXES.read_text().splitlines()]
         with Rtfilter(BOXES, program=PROGRAM) as file:
-            for table in (rows, iter(rows), map(list, rows)):
+            for table in anything(rows, iter(rows), map(list, rows)):
                 with Rtfilter(table, program=PROGRAM) as boxes:
                     self.assertEqual(boxes.find(All(), Smallest()), file.find(All(), Smallest()))
         with Rtfilter([], program=PROGRAM) as none:

@@ -16,6 +16,7 @@ import time
 import unittest
 from collections.abc import Callable
 from pathlib import Path
+from typing import Any
 
 from serving import Service
 from support import PROGRAM, descendants_of, open_files
@@ -89,13 +90,14 @@ class Sequence:
 
     def opened(self, kind: str) -> Boxes | None:
         try:
-            return {
+            ways: dict[str, Callable[[], Boxes]] = {
                 "program": lambda: Rtfilter(self.files[1], program=self.alone, timeout=SECONDS),
                 "rows": lambda: Rtfilter(TABLES[1], program=self.alone, timeout=SECONDS),
                 "pool": lambda: Pool(2, self.files[1], program=PROGRAM, timeout=SECONDS),
                 "copies": lambda: Pool(2, self.files[1], program=self.alone, timeout=SECONDS),
                 "service": lambda: Rtfilter(address=self.service.path, timeout=SECONDS),
-            }[kind]()
+            }
+            return ways[kind]()
         except TimedOut:  # on a machine that is too busy
             return None
 
@@ -179,13 +181,14 @@ class Sequence:
         closing.join()
 
 
-def processes_of(boxes: Boxes, service: Service) -> list[int]:
+def processes_of(boxes: Any, service: Service) -> list[int]:
     """The processes behind a client or a pool, those of a service for anybody."""
     if isinstance(boxes, Pool):
         copies = boxes._copies
+        clients: list[Any] = copies.clients
         if boxes._library is None:
-            return [client._transport._process.pid for client in copies.clients]
-        holder = copies.clients[0]._shared._holder._process.pid
+            return [client._transport._process.pid for client in clients]
+        holder = clients[0]._shared._holder._process.pid
         with contextlib.suppress(OSError):
             return [holder, *map(int, Path(f"/proc/{holder}/task/{holder}/children").read_text().split())]
         return [holder]
@@ -235,4 +238,4 @@ class Sequences(unittest.TestCase):
 
 
 if __name__ == "__main__":
-    sys.exit(unittest.main())
+    unittest.main()

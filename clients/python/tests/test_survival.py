@@ -9,13 +9,14 @@ import tempfile
 import threading
 import time
 import unittest
-from collections.abc import Callable
+from collections.abc import Callable, Iterator
 from functools import partial
 from itertools import chain
 from pathlib import Path
 from unittest import mock
+from typing import Any
 
-from support import BOXES, PROGRAM, children_of, open_files, parent_of, some_lines, written
+from support import BOXES, PROGRAM, anything, children_of, open_files, parent_of, some_lines, written
 
 from rtfilter import All, Ended, Rtfilter, TimedOut
 
@@ -52,11 +53,11 @@ class Ends(unittest.TestCase):
             self.assertEqual(str(raised.exception), text)
 
     def test_faulty_options(self) -> None:
-        for options in ({"fanout": 1}, {"fanout": 65}, {"max_entries": 0}):
+        for options in anything({"fanout": 1}, {"fanout": 65}, {"max_entries": 0}):
             with self.assertRaises(Ended) as raised:
                 Rtfilter(BOXES, program=PROGRAM, **options)
             self.assert_ended(raised.exception, 2, "rtfilter: bad command line")
-        for options in ({"fanout": 2.0}, {"max_entries": "5"}):
+        for options in anything({"fanout": 2.0}, {"max_entries": "5"}):
             with self.assertRaises(TypeError):
                 Rtfilter(BOXES, program=PROGRAM, **options)
 
@@ -72,7 +73,7 @@ class Ends(unittest.TestCase):
             Rtfilter([(1, 0, 1, 0, 1)], header=True, program=PROGRAM)
 
     def test_the_place_is_told(self) -> None:
-        def rows(bad: object):
+        def rows(bad: Any) -> Iterator[Any]:
             return (bad if at == 2345 else (at, 0, 1, 0, 1) for at in range(3000))
 
         for bad, text in (
@@ -86,7 +87,7 @@ class Ends(unittest.TestCase):
         with self.assertRaises(Ended) as ended:
             Rtfilter("/no/such/table", program=PROGRAM)
         self.assertEqual(ended.exception.__notes__, ["the table is /no/such/table"])
-        for address, name in (("/no/such/socket", "/no/such/socket"), (("127.0.0.1", 1), "127.0.0.1:1")):
+        for address, name in anything(("/no/such/socket", "/no/such/socket"), (("127.0.0.1", 1), "127.0.0.1:1")):
             with self.assertRaises(OSError) as nowhere:
                 Rtfilter(address=address)
             self.assertEqual(nowhere.exception.filename, name)
@@ -97,7 +98,7 @@ class Ends(unittest.TestCase):
             self.assertEqual(len(boxes), 1500)
 
     def test_rows_that_cannot_be_made(self) -> None:
-        def rows():
+        def rows() -> Iterator[tuple[int, ...]]:
             yield 1, 0, 1, 0, 1
             raise KeyError("row 2")
 

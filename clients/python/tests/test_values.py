@@ -7,7 +7,7 @@ from array import array
 from decimal import Decimal
 from fractions import Fraction
 
-import support  # noqa: F401, which makes the package found
+from support import anything  # which makes the package found, too
 
 from rtfilter import (
     All,
@@ -56,15 +56,16 @@ class Regions(unittest.TestCase):
 
     def test_what_is_taken_for_a_whole_number_is_one(self) -> None:
         """What is checked is what is asked, compared and shown."""
+        one, two, three, four = anything(*map(Index, (1, 2, 3, 4)))
         for value, words in (
-            (Circle(Index(1), Index(2), Index(3)), "circle 1 2 3"),
-            (Near(Index(-1), Index(2)), "near -1 2"),
-            (Polygon([(Index(0), Index(0)), (Index(3), Index(0)), (Index(0), Index(3))]), "polygon 3 0 0 3 0 0 3"),
-            (Window(Index(1), Index(2), Index(3), Index(4)), "window 1 2 3 4"),
+            (Circle(one, two, three), "circle 1 2 3"),
+            (Near(four, two), "near 4 2"),
+            (Polygon([(one, one), (four, one), (one, four)]), "polygon 3 1 1 4 1 1 4"),
+            (Window(one, two, three, four), "window 1 2 3 4"),
         ):
             self.assertEqual(str(value), words)
             self.assertEqual(pickle.loads(pickle.dumps(value)), value)
-            self.assertIn("1" if words[0] in "cw" else "(0, 0)" if words[0] == "p" else "-1", repr(value))
+            self.assertNotIn("Index", repr(value))
 
     def test_equal_by_kind_and_numbers(self) -> None:
         self.assertEqual(len(WORDS), 10)
@@ -79,8 +80,8 @@ class Regions(unittest.TestCase):
             Window(1, 2, 3, 4).x1 = 5  # type: ignore[misc]
 
     def test_no_number_but_a_whole_one(self) -> None:
-        for bad in (0.5, 1.0, "1", Decimal(1), Fraction(1), None, 1j):
-            for make in (
+        for bad in anything(0.5, 1.0, "1", Decimal(1), Fraction(1), None, 1j):
+            for make in anything(
                 lambda it: Window(it, 2, 3, 4),
                 lambda it: Inside(1, it, 3, 4),
                 lambda it: Covers(1, 2, 3, it),
@@ -134,18 +135,18 @@ class LayersInWords(unittest.TestCase):
         self.assertEqual(count_line(All()), "count all")
 
     def test_what_is_no_layer(self) -> None:
-        for bad in (True, 1.0, Decimal(1), Fraction(1), "1", 1j, None):
-            for on in (bad, [bad], [0, bad], iter([63, bad])):
+        for bad in anything(True, 1.0, Decimal(1), Fraction(1), "1", 1j, None):
+            for on in anything(bad, [bad], [0, bad], iter([63, bad])):
                 if on is not None:
                     with self.assertRaises(TypeError):
                         on_words(on)
-        for on in ("3,7", b"3", bytearray(b"3"), [[3]], [b"3"], object()):
+        for on in anything("3,7", b"3", bytearray(b"3"), [[3]], [b"3"], object()):
             with self.assertRaises(TypeError):
                 on_words(on)
 
     def test_layers_that_are_none(self) -> None:
-        for bad in (-1, 64, 2**70, Whole(64)):
-            for on in (bad, [bad], [0, bad], iter([63, bad])):
+        for bad in anything(-1, 64, 2**70, Whole(64)):
+            for on in anything(bad, [bad], [0, bad], iter([63, bad])):
                 with self.assertRaisesRegex(ValueError, "^a layer is one of 0 to 63, and not "):
                     on_words(on)
         for on in ([], (), set(), range(0), iter([])):

@@ -12,7 +12,7 @@ from itertools import groupby, pairwise, product
 from pathlib import Path
 from typing import Any
 
-from support import PROGRAM
+from support import PROGRAM, anything
 from shapely_runs import told_by_shapely
 
 from rtfilter import FeatureError, QueryError
@@ -44,7 +44,8 @@ def feature(geometry: Any) -> dict[str, Any]:
 
 
 def parts(geometry: dict[str, Any]) -> list[Rings]:
-    return [geometry["coordinates"]] if geometry["type"] == "Polygon" else geometry["coordinates"]
+    coordinates: Any = geometry["coordinates"]
+    return [coordinates] if geometry["type"] == "Polygon" else list(coordinates)
 
 
 # ---- the plain reading
@@ -148,7 +149,7 @@ class Exactness(unittest.TestCase):
         """On each point of a small grid, so that points lie on corners, on sides and in line with them."""
         chance = random.Random(1)
         rings = [[some_ring(chance, 4) for _ in range(chance.randint(1, 3))] for _ in range(24)]
-        grid = list(product(range(-5, 6), repeat=2))
+        grid = [(x, y) for x in range(-5, 6) for y in range(-5, 6)]
         self.assert_as_read([polygon(*it) for it in rings], grid, [some_window(chance, 5) for _ in range(60)])
 
     def test_stars(self) -> None:
@@ -169,7 +170,8 @@ class Exactness(unittest.TestCase):
         chance = random.Random(3)
         zones = [some_zone(chance, 1000) for _ in range(150)]
         points = [(chance.randint(-1500, 1500), chance.randint(-1500, 1500)) for _ in range(150)]
-        points += [tuple(chance.choice(chance.choice(parts(it)[0]))) for it in zones]
+        corners = (chance.choice(chance.choice(parts(it)[0])) for it in zones)
+        points += [(x, y) for x, y in corners]
         windows = [some_window(chance, 1000) for _ in range(150)]
         valid = told_by_shapely(self, zones=zones)["valid"]
         zones = [zone for zone, is_valid in zip(zones, valid, strict=True) if is_valid]
@@ -276,7 +278,7 @@ class Reading(unittest.TestCase):
         with tempfile.TemporaryDirectory() as folder:
             name = Path(folder, "zones.geojson")
             name.write_text(json.dumps(whole), encoding="utf-8-sig")
-            for features, held in (
+            for features, held in anything(
                 (name, [0, 1]), (str(name), [0, 1]), (whole, [0, 1]), (whole["features"][0], [0]),
                 (iter(whole["features"]), [0, 1]), ([feature(polygon(high))], [0]), ([], []),
             ):  # fmt: skip
@@ -302,7 +304,7 @@ class Reading(unittest.TestCase):
 
     def test_what_is_no_zone(self) -> None:
         flat = [(0, 0), (5, 5), (9, 9), (0, 0)]
-        for geometry, text in (
+        for geometry, text in anything(
             (None, "no geometry"),
             ({"type": "Point", "coordinates": [0, 0]}, "the geometry is of type Point, and neither Polygon nor MultiPolygon"),
             (polygons(), "the geometry has no part"),
@@ -318,7 +320,7 @@ class Reading(unittest.TestCase):
              "('float' object cannot be interpreted as an integer)"),
             (polygon([[True, 0], *SQUARE]), "a coordinate that is no number: True"),
             (polygon([[0, 2**31], *SQUARE]), "a coordinate that is out of range: 2147483648 is 2147483648"),
-            (polygon(5), "5 in the place of a list"),
+            ({"type": "Polygon", "coordinates": [5]}, "5 in the place of a list"),
             ({"type": "Polygon"}, "None in the place of a list"),
         ):  # fmt: skip
             with self.assertRaises(FeatureError) as raised:
@@ -331,7 +333,7 @@ class Reading(unittest.TestCase):
 
     def test_decimals_that_cannot_be_scaled(self) -> None:
         thin = [(0, 0), (1, 0), (1, 0.04), (0, 0)]
-        for ring in ([(0, math.nan), *SQUARE], [(math.inf, 0), *SQUARE], [(1e30, 0), *SQUARE], thin):
+        for ring in anything([(0, math.nan), *SQUARE], [(math.inf, 0), *SQUARE], [(1e30, 0), *SQUARE], thin):
             with self.assertRaises(FeatureError):
                 Zones([feature(polygon(ring))], scale=10, program=PROGRAM)
         Zones([feature(polygon(thin))], scale=100, program=PROGRAM).close()
@@ -341,7 +343,7 @@ class Reading(unittest.TestCase):
 
     def test_questions_that_are_refused(self) -> None:
         with Zones([feature(polygon(SQUARE))], program=PROGRAM) as zones:
-            for error, ask in (
+            for error, ask in anything(
                 (TypeError, lambda: zones.holding(0.5, 0)),
                 (TypeError, lambda: zones.meeting(0, 1.0, 0, 1)),
                 (QueryError, lambda: zones.meeting(1, 0, 0, 1)),

@@ -1,7 +1,8 @@
 """The connections by which shards are asked. Each keeps its table for as long as it lives."""
 
 import contextlib
-from collections.abc import Iterable, Sequence
+import select
+from collections.abc import Collection, Iterable, Sequence
 from concurrent.futures import ThreadPoolExecutor
 from dataclasses import dataclass
 
@@ -59,9 +60,9 @@ class Shard:
         behind = self._places.index(self.held.place) + 1 if self.held is not None else 0
         return self._places[behind:] + self._places[:behind]
 
-    @property
-    def is_lost(self) -> bool:
-        return self.held is None or self.held.transport.is_lost
+    def is_lost(self, ended: Collection[int]) -> bool:
+        """Whether there is no connection, by the descriptors of those that have ended."""
+        return self.held is None or self.held.transport.is_abandoned or self.held.transport.descriptor in ended
 
 
 class Connections:
@@ -74,6 +75,7 @@ class Connections:
             raise ValueError("there is at least one shard")
         self.are_ended = False
         self._open: set[Carrier] = set()  # those that are on their way, too
+        self._poll = select.poll()  # those that are held: one look at all
 
     def held(self) -> dict[int, Held]:
         """By the numbers of the shards."""
@@ -84,7 +86,10 @@ class Connections:
         `ShardError` for the first shard to which there can be none."""
         if self.are_ended:
             raise ValueError(CLOSED)
-        lost = [shard for shard in self.shards if shard.is_lost]
+        ended = {descriptor for descriptor, _ in self._poll.poll(0)}
+        lost = [shard for shard in self.shards if shard.is_lost(ended)]
+        if not lost:
+            return
         found = self._opened_each(lost, deadline)
         for shard, held in zip(lost, found):
             if isinstance(held, Held):
@@ -110,7 +115,11 @@ class Connections:
     def _hold(self, shard: Shard, held: Held) -> None:
         before, shard.held = shard.held, held
         if before is not None:
+            if before.transport.descriptor >= 0:
+                self._poll.unregister(before.transport.descriptor)
             self._give_up(before.transport)
+        if held.transport.descriptor >= 0:
+            self._poll.register(held.transport.descriptor, select.POLLIN)
 
     def _opened_each(self, shards: Sequence[Shard], deadline: Deadline) -> list[Held | ShardError]:
         """New connections to some shards, side by side; of each that has none, why."""

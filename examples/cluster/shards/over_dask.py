@@ -142,9 +142,8 @@ class Remote:
         self._client = client
         self._table = table
         self._asked: set[Future] = set()
-        self.size = 0
-        self.is_lost = False
-        self.lines = 0
+        self.size, self.lines = 0, 0
+        self.descriptor, self.is_abandoned = -1, False  # dask has it again where it was lost
 
     def load(self, deadline: Deadline) -> None:
         self.size = int(self.replies_to(b"count all\n", 1, deadline).split()[-1])

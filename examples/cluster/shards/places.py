@@ -23,13 +23,20 @@ _starting: defaultdict[str, threading.BoundedSemaphore] = defaultdict(
 
 
 class Carrier(Protocol):
-    """What carries lines to a shard and replies back: a `Transport` of the client, say. It keeps its table while it lives."""
+    """What carries lines to a shard and replies back: a `Transport` of the client, say. It keeps its table while it lives.
+
+    It has gone where it is abandoned, or where there is something to read at its descriptor while nothing is asked; below 0,
+    there is none.
+    """
 
     size: int
     lines: int
 
     @property
-    def is_lost(self) -> bool: ...
+    def is_abandoned(self) -> bool: ...
+
+    @property
+    def descriptor(self) -> int: ...
 
     def load(self, deadline: Deadline) -> None: ...
 

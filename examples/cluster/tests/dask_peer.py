@@ -17,8 +17,9 @@ CLUSTER = Path(__file__).resolve().parents[1]
 sys.path[:0] = [str(CLUSTER), str(CLUSTER.parents[1] / "clients/python")]
 
 from shards import over_dask
+from shards.connections import ShardError
 from shards.lines import batches
-from shards.router import Cluster, ShardError
+from shards.router import Cluster
 
 LATER = 0.3  # seconds
 

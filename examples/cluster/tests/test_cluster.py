@@ -21,11 +21,12 @@ from cluster_support import (
 import random_runs
 import reading
 from shards.bounds import bounds_of
+from shards.connections import ShardError
 from shards.cutting import cut
 from shards.places import places_of, there
 from shards.questions import question_of
 from shards.records import TableError
-from shards.router import Cluster, ShardError
+from shards.router import Cluster
 
 from rtfilter import Ended
 from rtfilter.deadlines import ENDLESS
@@ -59,7 +60,8 @@ for line in program.stdout:
 class Cuts(Folders):
     def test_tables(self) -> None:
         """Each box stands in one shard as it was, shards have equal sizes, and tables have the program's faults."""
-        chance, met = random.Random(1), collections.Counter()
+        chance = random.Random(1)
+        met: collections.Counter[str] = collections.Counter()
         for at in range(160):
             text = chance.choice([random_runs.some_table, some_short_table])(chance)
             shards, header = chance.choice([1, 2, 3, 4, 7, 16]), at % 5 == 0
@@ -96,7 +98,7 @@ class Cuts(Folders):
         for at in range(40):
             rows = [[chance.choice([id, -id, 2**63 - 1 - id]), *random_runs.box(chance)] for id in range(1, at + 2)]
             text = b"".join(b"%d,%d,%d,%d,%d%b\n" % (*row, chance.choice([b"", b",7"])) for row in rows)
-            header = chance.choice([b"", b"id,a,b,c,d\n", b'"id\n",a\n', b"\n\nx\n"])
+            header: bytes = chance.choice([b"", b"id,a,b,c,d\n", b'"id\n",a\n', b"\n\nx\n"])
             table = self.table(header + text.removesuffix(chance.choice([b"", b"\n"])))
             parts = cut(str(table), 3, str(self.folder / f"plain{at}"), bool(header))
             found = [reading.boxes(part.read_bytes(), False, 2**24) for part in parts]

@@ -4,14 +4,43 @@ import json
 import os
 import random
 import subprocess
+from pathlib import Path
 
-from cluster_support import CLUSTER, DEBIAN, PROGRAM, Folders, one_run, some_lines, some_sound_table
+from cluster_support import CLUSTER, DEBIAN, PROGRAM, Folders, Service, one_run, some_lines, some_sound_table
 
 from shards.cutting import cut
 
 PEER = CLUSTER / "tests/dask_peer.py"
 COUNTS = 1, 2, 4, 16  # shards
 LONGEST = 240  # seconds of a run of dask, which takes ten where nobody else is at work
+
+FRAMES = """
+import pickle, sys
+sys.path[:0] = sys.argv[1:3]
+import numpy, pandas
+from rtfilter import Covers, Rtfilter
+from shards import over_dask
+table, program, address = sys.argv[3:]
+chance = numpy.random.default_rng(1)
+positions = pandas.DataFrame({"x": chance.integers(0, 10**6, 300), "y": chance.integers(0, 10**6, 300)}).set_index(
+    pandas.Index(range(1000, 1300)))
+windows = pandas.DataFrame({"min_x": positions.x, "max_x": positions.x + 90_000, "min_y": positions.y,
+                            "max_y": positions.y + 90_000})
+with Rtfilter(table, program=program) as boxes:
+    for kept in (over_dask.table_of(table, program), over_dask.Table(address, is_address=True)):
+        there = pickle.loads(pickle.dumps(kept))
+        assert there == kept and there.__sizeof__() == (0 if there.is_address else 500 * 60 * there.state[2] // 500 // 48)
+        for frame, ask in ((windows, over_dask.meeting), (positions, over_dask.holding)):
+            corners = frame.to_numpy() if ask is over_dask.meeting else frame[["x", "x", "y", "y"]].to_numpy()
+            region = {} if ask is over_dask.meeting else {"region": Covers}
+            places, ids = boxes.query_bulk(corners, **region)
+            found = ask(frame, there)
+            assert found.index.tolist() == frame.index[places].tolist() and found["id"].tolist() == ids.tolist()
+        places, ids, scores = boxes.nearest_bulk(positions.to_numpy(), 3)
+        found = over_dask.nearest(positions, there, 3)
+        assert found.index.tolist() == positions.index[places].tolist()
+        assert list(zip(found["id"], found["score"])) == list(zip(ids, scores))
+"""
 
 
 class Dask(Folders):
@@ -42,11 +71,19 @@ class Dask(Folders):
         )
         self.assertEqual(done.returncode, 0, done.stderr)
         for run, bytes_wanted in zip(runs, wanted, strict=True):
-            with open(run["told"], "rb") as file:
-                self.assertEqual(file.read(), bytes_wanted)
+            self.assertEqual(Path(str(run["told"])).read_bytes(), bytes_wanted)
         self.assertRegex(
             done.stdout, rf"^shard \d: ({self.folder}/parts/000\d\.csv): \1: the table has changed, or can't be read again\n$"
         )
+
+    def test_frames(self) -> None:
+        """A partition by a file and by a service, by a table that was sent to another process; its index is kept."""
+        table, _ = self.even_table(500, 1)
+        service = Service(self.folder, "socket", table)
+        self.addCleanup(service.end)
+        words = [CLUSTER, CLUSTER.parents[1] / "clients/python", table, PROGRAM, service.place.removeprefix("unix:")]
+        done = subprocess.run([DEBIAN, "-B", "-c", FRAMES, *words], capture_output=True, text=True, timeout=LONGEST)
+        self.assertEqual((done.returncode, done.stderr), (0, ""))
 
     def test_the_trial(self) -> None:
         """At a hundredth: answers are the same, though a worker is killed in the middle, and nothing is left."""

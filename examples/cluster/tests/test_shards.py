@@ -15,8 +15,9 @@ from pathlib import Path
 from cluster_support import PROGRAM, Folders, Service, Services, one_run, opened, some_lines, until, written
 
 from shards import places
+from shards.connections import ShardError
 from shards.places import there
-from shards.router import Cluster, ShardError
+from shards.router import Cluster
 
 from rtfilter import RtfilterError
 
@@ -179,7 +180,7 @@ class Sequence:
             except (RtfilterError, OSError):
                 continue  # the connection that was asked for its rows has broken
             break
-        ways = [replies_in(self.one_run(rows, lines)) for rows in itertools.product(*map(set, zip(before, after)))]
+        ways = [replies_in(self.one_run(rows, lines)) for rows in itertools.product(*({*both} for both in zip(before, after)))]
         for number in range(1, len(lines) + 1):
             self.test.assertIn(told.get(number), [way.get(number) for way in ways], lines[number - 1])
 
