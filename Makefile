@@ -76,9 +76,9 @@ test-full: build/rtfilter
 bench: build/rtfilter
 	@bench/bench.py build/rtfilter $(BOXES)
 
-# The Debian package, in build/.
-deb: build/rtfilter
-	@packaging/make_deb.py build/rtfilter build
+# The Debian packages, in build/. They want debhelper, dpkg-dev and gcc.
+deb: $(PROGRAM)
+	@packaging/make_packages.py $(PROGRAM) build
 
 # The Python wheel with the program in it, in build/. It wants a C compiler.
 wheel: $(PROGRAM) build/rtfilter-prefork.so
@@ -102,6 +102,7 @@ install: $(PROGRAM) $(PREFORK)
 ifdef PREFORK
 	install -d "$(LIBRARY)" "$(UNITS)"
 	install -m 644 $(PREFORK) $(SERVICE) "$(LIBRARY)"
+	install -D -m 644 docs/rtfilter-serve.1 "$(SHARE)/man/man1/rtfilter-serve.1"
 	chmod 755 "$(LIBRARY)/serve.py"
 	ln -sf ../lib/rtfilter/serve.py "$(DESTDIR)$(PREFIX)/bin/rtfilter-serve"
 	for unit in rtfilter.service rtfilter.socket; do \
@@ -109,7 +110,8 @@ ifdef PREFORK
 endif
 
 uninstall:
-	rm -f "$(DESTDIR)$(PREFIX)/bin/rtfilter" "$(SHARE)/man/man1/rtfilter.1" "$(COMPLETION)"
+	rm -f "$(DESTDIR)$(PREFIX)/bin/rtfilter" "$(COMPLETION)"
+	rm -f "$(SHARE)/man/man1/rtfilter.1" "$(SHARE)/man/man1/rtfilter-serve.1"
 	rm -f "$(DESTDIR)$(PREFIX)/bin/rtfilter-serve" "$(UNITS)/rtfilter.service" "$(UNITS)/rtfilter.socket"
 	rm -rf "$(LIBRARY)"
 

@@ -23,6 +23,7 @@ import prefork
 from listening import given_listeners, name_of, tcp_listener, unix_listener
 from service import NO_SERVICE, SIGNALS, Service, log
 
+VERSION = "0.2.0"
 LOOPBACK = "127.0.0.1"
 MOST_CONNECTIONS = 1 << 20  # as prefork.c has it
 LONGEST = 1e8  # seconds, three years
@@ -95,6 +96,7 @@ def parser_of_words() -> argparse.ArgumentParser:
     add("--load-timeout", metavar="SECONDS", type=seconds, default=300.0, help="that a load may take (300)")
     add("--nice", metavar="N", type=int, default=0, help="the niceness of all of it")
     add("--program", default="rtfilter", help="the program, where it isn't on the path")
+    add("--version", action="version", version=f"%(prog)s {VERSION}", help="print the version")
     add("-H", "--header", action="store_true", help="as the program's option")
     add("--fanout", type=int, help="as the program's option")
     add("--max-entries", type=int, help="as the program's option")

@@ -1,4 +1,4 @@
-"""The Debian package is the same each time it is made, and can be installed, run, completed and removed."""
+"""The Debian packages are the same each time they are made, and can be installed, run, completed and removed."""
 
 import gzip
 import os
@@ -17,17 +17,28 @@ from typing import Any
 
 from support import DATA, PACKAGE, PROGRAM, ROOT
 
-MAKE = ROOT / "packaging/make_deb.py"
+MAKE = ROOT / "packaging/make_packages.py"
 VERSION = (ROOT / "VERSION").read_text(encoding="utf-8").strip()
-FILES = {
-    "usr/bin/rtfilter": 0o755,
-    "usr/share/bash-completion/completions/rtfilter": 0o644,
-    "usr/share/doc/rtfilter/changelog.Debian.gz": 0o644,
-    "usr/share/doc/rtfilter/copyright": 0o644,
-    "usr/share/man/man1/rtfilter.1.gz": 0o644,
+TOOLS = "dpkg-buildpackage", "dh", "gcc", "objdump"
+MODULES = {f"usr/lib/rtfilter/{name}.py": 0o644 for name in ("health", "listening", "prefork", "service")}
+FILES = {  # beside each package's own documents
+    "rtfilter": {
+        "usr/bin/rtfilter": 0o755,
+        "usr/lib/rtfilter/rtfilter-prefork.so": 0o644,
+        "usr/share/bash-completion/completions/rtfilter": 0o644,
+        "usr/share/man/man1/rtfilter.1.gz": 0o644,
+    },
+    "rtfilter-service": {
+        "etc/default/rtfilter-service": 0o644,
+        "usr/bin/rtfilter-serve": 0o755,
+        "usr/lib/rtfilter/serve.py": 0o755,
+        **MODULES,
+        "usr/share/man/man1/rtfilter-serve.1.gz": 0o644,
+    },
 }
-FIRST_UPLOAD = "initial-upload-closes-no-bugs"  # the one warning that is fine
-LIBRARY = "Package: libc6\nStatus: install ok installed\nVersion: {}\nArchitecture: amd64\nMaintainer: none\nDescription: none\n"
+# lintian may say nothing else than that the debug symbols are names alone: the toolchain writes no line numbers.
+FINE = ("debug-file-with-no-debug-symbols",)
+THERE = "Package: {}\nStatus: install ok installed\nVersion: {}\nArchitecture: amd64\nMaintainer: none\nDescription: none\n"
 PROMPT = "ready> "
 LONGEST = 10  # seconds that bash may take for a line
 
@@ -40,6 +51,12 @@ def run(*words: object, **options: Any) -> str:
     return str(done.stdout)
 
 
+def found(pattern: str, text: str) -> re.Match[str]:
+    it = re.search(pattern, text)
+    assert it, f"{pattern} isn't in {text[:1000]!r}"
+    return it
+
+
 def wants(test: unittest.TestCase, *tools: str) -> None:
     missing = [tool for tool in tools if shutil.which(tool) is None]
     if missing:
@@ -49,63 +66,77 @@ def wants(test: unittest.TestCase, *tools: str) -> None:
 class Versions(unittest.TestCase):
     def test_all_name_the_same(self) -> None:
         project = tomllib.loads((PACKAGE / "pyproject.toml").read_text(encoding="utf-8"))["project"]
-        manual = re.match(r'\.TH RTFILTER 1 \S+ "rtfilter (\S+)"', (ROOT / "docs/rtfilter.1").read_text(encoding="utf-8"))
-        changes = re.search(r"^## (\S+), ", (ROOT / "CHANGELOG.md").read_text(encoding="utf-8"), re.MULTILINE)
-        assert manual and changes
-        self.assertEqual([project["version"], manual[1], changes[1]], [VERSION] * 3)
+        manuals = [found(r'^\.TH \S+ 1 \S+ "rtfilter (\S+)"', (ROOT / f"docs/{it}.1").read_text())[1] for it in ("rtfilter", "rtfilter-serve")]
+        changes = found(r"(?m)^## (\S+), ", (ROOT / "CHANGELOG.md").read_text(encoding="utf-8"))[1]
+        wheels = {it for page in ("docs/python-client.md", "clients/python/README.md")
+                  for it in re.findall(r"rtfilter-([\d.]+)-py3", (ROOT / page).read_text(encoding="utf-8"))}
+        served = run(sys.executable, "-B", ROOT / "service/serve.py", "--version").split()[-1]
+        self.assertEqual([project["version"], *manuals, changes, *wheels, served], [VERSION] * 6)
 
 
-class Package(unittest.TestCase):
+class Packages(unittest.TestCase):
     room: Path
-    package: Path
-    tree: Path
+    packages: dict[str, Path]
 
     @classmethod
     def setUpClass(cls) -> None:
-        if all(map(shutil.which, ("dpkg-deb", "strip", "objdump"))):
+        if all(map(shutil.which, TOOLS)):
             cls.room = Path(cls.enterClassContext(tempfile.TemporaryDirectory()))
-            cls.package = Path(run(sys.executable, MAKE, PROGRAM, cls.room).strip())
-            cls.tree = cls.room / "tree"
-            run("dpkg-deb", "--extract", cls.package, cls.tree)
+            made = run(sys.executable, MAKE, PROGRAM, cls.room).split()
+            cls.packages = {Path(name).name.split("_")[0]: Path(name) for name in made}
+            for name, package in cls.packages.items():
+                run("dpkg-deb", "--extract", package, cls.room / name)
 
     def setUp(self) -> None:
-        wants(self, "dpkg-deb", "strip", "objdump")
+        wants(self, *TOOLS)
 
-    def test_it_is_the_same_each_time(self) -> None:
+    def test_they_are_the_same_each_time(self) -> None:
         """From another folder, at another time, with another mask, where the program has another date."""
         with tempfile.TemporaryDirectory() as folder:
             program = shutil.copyfile(PROGRAM, Path(folder, "program"))
-            name = run(sys.executable, MAKE, program, folder, cwd=folder, umask=0o077).strip()
-            self.assertEqual(Path(name).name, f"rtfilter_{VERSION}-1_amd64.deb")
-            self.assertEqual(Path(name).read_bytes(), self.package.read_bytes())
+            made = run(sys.executable, MAKE, program, folder, cwd=folder, umask=0o077).split()
+            names = ("python3-rtfilter", "rtfilter-dbgsym", "rtfilter-service", "rtfilter")
+            kinds = ("all", "amd64", "all", "amd64")
+            self.assertEqual([Path(name).name for name in made], [f"{it}_{VERSION}-1_{kind}.deb" for it, kind in zip(names, kinds)])
+            for name in made:
+                self.assertEqual(Path(name).read_bytes(), (self.room / Path(name).name).read_bytes(), name)
 
-    def test_what_it_holds(self) -> None:
-        found = {path.relative_to(self.tree).as_posix(): path for path in self.tree.rglob("*") if path.is_file()}
-        self.assertEqual({name: path.stat().st_mode & 0o7777 for name, path in found.items()}, FILES)
-        listed = run("dpkg-deb", "--contents", self.package)
-        self.assertEqual({line.split()[1] for line in listed.splitlines()}, {"root/root"})
-        self.assertIn("no symbols", run("objdump", "--syms", found["usr/bin/rtfilter"]))
-        manual = gzip.decompress(found["usr/share/man/man1/rtfilter.1.gz"].read_bytes())
-        self.assertEqual(manual, (ROOT / "docs/rtfilter.1").read_bytes())
-        changes = gzip.decompress(found["usr/share/doc/rtfilter/changelog.Debian.gz"].read_bytes()).decode()
+    def held(self, name: str) -> dict[str, int]:
+        """The files of a package, and their modes."""
+        tree = self.room / name
+        return {path.relative_to(tree).as_posix(): path.stat().st_mode & 0o7777 for path in tree.rglob("*") if path.is_file()}
+
+    def test_what_they_hold(self) -> None:
+        for name, files in FILES.items():
+            documents = {it: mode for it, mode in self.held(name).items() if it.startswith("usr/share/doc/")}
+            units = {it: mode for it, mode in self.held(name).items() if "systemd" in it}
+            self.assertEqual(self.held(name), files | documents | units)
+            self.assertEqual({Path(it).name for it in units}, {"rtfilter.service", "rtfilter.socket"} if "service" in name else set())
+            self.assertLessEqual({f"usr/share/doc/{name}/{it}" for it in ("changelog.Debian.gz", "copyright")}, documents.keys())
+        modules = {f"usr/lib/python3/dist-packages/rtfilter/{it.name}" for it in (PACKAGE / "rtfilter").iterdir() if it.is_file()}
+        self.assertEqual({it for it in self.held("python3-rtfilter") if "dist-packages" in it}, modules)
+        for package in self.packages.values():
+            listed = run("dpkg-deb", "--contents", package)
+            self.assertEqual({line.split()[1] for line in listed.splitlines()}, {"root/root"})
+        tree = self.room / "rtfilter"
+        self.assertIn("no symbols", run("objdump", "--syms", tree / "usr/bin/rtfilter"))
+        for command in ("rtfilter", "rtfilter-serve"):
+            package = self.room / (command if command == "rtfilter" else "rtfilter-service")
+            manual = gzip.decompress((package / f"usr/share/man/man1/{command}.1.gz").read_bytes())
+            self.assertEqual(manual, (ROOT / f"docs/{command}.1").read_bytes())
+        changes = gzip.decompress((tree / "usr/share/doc/rtfilter/changelog.Debian.gz").read_bytes()).decode()
         self.assertTrue(changes.startswith(f"rtfilter ({VERSION}-1) "), changes)
-        sums = self.room / "sums"
-        run("dpkg-deb", "--control", self.package, sums)
-        self.assertEqual(len(run("md5sum", "--check", sums / "md5sums", cwd=self.tree).splitlines()), len(FILES))
 
-    def test_what_it_depends_on(self) -> None:
-        """As Debian's own tool has it."""
-        wants(self, "dpkg-shlibdeps")
-        with tempfile.TemporaryDirectory() as folder:
-            Path(folder, "debian").mkdir()
-            Path(folder, "debian/control").write_text("Source: rtfilter\n\nPackage: rtfilter\nArchitecture: amd64\n")
-            wanted = run("dpkg-shlibdeps", "-O", self.tree / "usr/bin/rtfilter", cwd=folder).splitlines()[-1]
-        self.assertEqual(f"shlibs:Depends={run('dpkg-deb', '--field', self.package, 'Depends').strip()}", wanted)
+    def test_debug_symbols(self) -> None:
+        """They belong to the program, and name its functions."""
+        identity = found(r"Build ID: (\w\w)(\w+)", run("readelf", "--notes", self.room / "rtfilter/usr/bin/rtfilter"))
+        symbols = self.room / "rtfilter-dbgsym/usr/lib/debug/.build-id" / identity[1] / f"{identity[2]}.debug"
+        self.assertIn("rt_filter", run("objdump", "--syms", symbols))
 
     def test_by_lintian(self) -> None:
         wants(self, "lintian")
-        told = run("lintian", "--allow-root", "--fail-on", "error", self.package).splitlines()
-        self.assertEqual([line for line in told if FIRST_UPLOAD not in line], [])
+        told = run("lintian", "--allow-root", "--fail-on", "error", *self.packages.values()).splitlines()
+        self.assertEqual([line for line in told if not any(tag in line for tag in FINE)], [])
 
     def test_installed_and_removed(self) -> None:
         """In a folder that stands for the system, which has the library in a version that is old enough, or not."""
@@ -117,19 +148,47 @@ class Package(unittest.TestCase):
                 data = Path(system, "var/lib/dpkg")
                 (data / "info").mkdir(parents=True)
                 (data / "updates").mkdir()
-                (data / "status").write_text(LIBRARY.format(library))
+                (data / "status").write_text("\n".join(THERE.format(*it) for it in (("libc6", library), ("python3", "3.11.2-1"))))
                 dpkg = [*as_root, "env", f"PATH={path}", "dpkg", f"--root={system}", f"--log={os.devnull}"]
                 if not is_enough:
                     with self.assertRaisesRegex(AssertionError, "dependency problems"):
-                        run(*dpkg, "--install", self.package)
+                        run(*dpkg, "--install", self.packages["rtfilter"])
                     continue
-                run(*dpkg, "--install", self.package)
+                both = self.packages["rtfilter"], self.packages["python3-rtfilter"]
+                run(*dpkg, "--install", *both)
                 told = run(Path(system, "usr/bin/rtfilter"), DATA / "boxes.csv", DATA / "queries.txt")
                 self.assertEqual(told, (DATA / "answers.txt").read_text())
-                run(*dpkg, "--verify", "rtfilter")
-                run(*dpkg, "--purge", "rtfilter")
+                asked = f"import rtfilter; print(rtfilter.Rtfilter('{DATA / 'boxes.csv'}').count(rtfilter.All()))"
+                words = {"PYTHONPATH": f"{system}/usr/lib/python3/dist-packages", "PATH": f"{system}/usr/bin:{path}"}
+                self.assertEqual(run("/usr/bin/python3", "-B", "-c", asked, env=words), "5\n")
+                run(*dpkg, "--verify", "rtfilter", "python3-rtfilter")
+                run(*dpkg, "--purge", "rtfilter", "python3-rtfilter")
                 left = [path for path in Path(system).rglob("*") if path.is_file() and data not in path.parents]
                 self.assertEqual(left, [])
+
+    def test_the_service_of_systemd(self) -> None:
+        """Its user and the folder of its table are made; what it is told in /etc/default are words of its command."""
+        wants(self, "systemd-analyze")
+        tree, control = self.room / "rtfilter-service", self.room / "control"
+        run("dpkg-deb", "--control", self.packages["rtfilter-service"], control)
+        self.assertEqual((control / "conffiles").read_text(), "/etc/default/rtfilter-service\n")
+        with tempfile.TemporaryDirectory() as folder:
+            for tool in ("adduser", "deb-systemd-helper", "deb-systemd-invoke", "systemctl"):
+                Path(folder, tool).write_text(f'#!/bin/sh\necho "{tool} $*" >> "{folder}/told"\ncase $* in *was-enabled*) exit 1 ;; esac\n')
+                Path(folder, tool).chmod(0o755)
+            run("sh", control / "postinst", "configure", env={"PATH": f"{folder}:{os.environ['PATH']}"})
+            told = Path(folder, "told").read_text()
+            self.assertIn("adduser --quiet --system --group --home /var/lib/rtfilter", told)
+            self.assertNotRegex(told, "deb-systemd-invoke (start|restart)|deb-systemd-helper enable")
+            for unit in (tree / "lib/systemd/system").iterdir():
+                Path(folder, unit.name).write_text(unit.read_text().replace("/usr/bin/rtfilter-serve", str(tree / "usr/bin/rtfilter-serve")))
+            said = run("systemd-analyze", "--man=no", "--recursive-errors=no", "verify", *Path(folder).glob("rtfilter.s*"))
+            self.assertEqual([line for line in said.splitlines() if "rtfilter" in line], [])
+        unit = (tree / "lib/systemd/system/rtfilter.service").read_text()
+        self.assertIn("\nExecStart=/usr/bin/rtfilter-serve --program /usr/bin/rtfilter $OPTIONS ${TABLE}\n", unit)
+        self.assertIn("\nEnvironmentFile=-/etc/default/rtfilter-service\n", unit)
+        defaults = (tree / "etc/default/rtfilter-service").read_text()
+        self.assertEqual(re.findall(r"^(\w+)=", defaults, re.MULTILINE), ["TABLE", "OPTIONS"])
 
 
 class Completion(unittest.TestCase):

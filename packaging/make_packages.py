@@ -1,0 +1,98 @@
+#!/usr/bin/env python3
+"""Makes the Debian packages of the built program, by debhelper.
+
+usage: packaging/make_packages.py PROGRAM FOLDER
+
+Writes them to the folder and prints their names: `rtfilter` with the program and the library of the service, its debug
+symbols, `python3-rtfilter` and `rtfilter-service`. The version is that of VERSION, the changes and their dates are those
+of CHANGELOG.md. The same files make the same bytes. It wants debhelper, dpkg-dev and gcc of Debian 12.
+"""
+
+import argparse
+import datetime
+import email.utils
+import os
+import re
+import shutil
+import subprocess
+import sys
+import tempfile
+import textwrap
+from pathlib import Path
+
+ROOT = Path(__file__).resolve().parent.parent
+MAINTAINER = "The maintainers of rtfilter <maintainers@rtfilter.invalid>"  # as debian/control has it
+REVISION = "1"  # of the packages of one version
+WIDTH = 76  # of the changes
+
+# What packages are made of, beside the program.
+SOURCES = [
+    "Makefile", "crates.txt", "docs/rtfilter.1", "docs/rtfilter-serve.1", "packaging/rtfilter.bash", "service/README.md",
+    "service/prefork.c", "service/serve.py", "service/service.py", "service/listening.py", "service/health.py",
+    "service/rtfilter.service", "service/rtfilter.socket", "clients/python/rtfilter",
+]
+RELEASE = re.compile(r"^## (\S+), (\d{4}-\d\d-\d\d)\n\n((?:- .*\n|  .*\n)+)", re.MULTILINE)
+
+
+def releases() -> list[tuple[str, datetime.datetime, list[str]]]:
+    """The versions in CHANGELOG.md, the newest first: each with its date and its changes."""
+    found = []
+    for version, date, changes in RELEASE.findall((ROOT / "CHANGELOG.md").read_text(encoding="utf-8")):
+        midnight = datetime.datetime.fromisoformat(date).replace(tzinfo=datetime.UTC)
+        found.append((version, midnight, [" ".join(it.split()) for it in changes[2:].split("\n- ")]))
+    return found
+
+
+def changelog() -> str:
+    """The changes as Debian writes them."""
+    entries = []
+    for version, date, changes in releases():
+        lines = [f"rtfilter ({version}-{REVISION}) unstable; urgency=medium", ""]
+        lines += [textwrap.fill(change, WIDTH, initial_indent="  * ", subsequent_indent="    ") for change in changes]
+        lines += ["", f" -- {MAINTAINER}  {email.utils.format_datetime(date)}", ""]
+        entries.append("\n".join(lines))
+    return "\n".join(entries)
+
+
+def place(source: Path, target: Path) -> None:
+    """Copies a file or a folder, with modes that don't depend on who checked it out."""
+    target.parent.mkdir(parents=True, exist_ok=True)
+    if source.is_dir():
+        shutil.copytree(source, target, ignore=shutil.ignore_patterns("__pycache__"))
+    else:
+        shutil.copy(source, target)
+    for path in (target, *target.rglob("*")):
+        path.chmod(0o755 if path.is_dir() or os.access(path, os.X_OK) else 0o644)
+
+
+def main() -> None:
+    parser = argparse.ArgumentParser(description=__doc__.splitlines()[0])
+    parser.add_argument("program", type=Path)
+    parser.add_argument("folder", type=Path)
+    args = parser.parse_args()
+    version = (ROOT / "VERSION").read_text(encoding="utf-8").strip()
+    newest, date, _ = releases()[0]
+    if version != newest:
+        sys.exit(f"make_packages: VERSION is {version}, and CHANGELOG.md begins with {newest}")
+    os.umask(0o022)
+    with tempfile.TemporaryDirectory() as room:
+        tree = Path(room, f"rtfilter-{version}")
+        for name in SOURCES:
+            place(ROOT / name, tree / name)
+        place(args.program, tree / "rtfilter")
+        (tree / "rtfilter").chmod(0o755)
+        place(ROOT / "packaging/debian", tree / "debian")
+        (tree / "debian/changelog").write_text(changelog(), encoding="utf-8")
+        environment = {**os.environ, "SOURCE_DATE_EPOCH": str(int(date.timestamp())), "MAKEFLAGS": "", "LC_ALL": "C.UTF-8"}
+        done = subprocess.run(
+            ["dpkg-buildpackage", "--no-sign", "--build=binary", "--no-check-builddeps"], cwd=tree, env=environment,
+            stdout=subprocess.PIPE, stderr=subprocess.STDOUT, text=True,
+        )
+        if done.returncode:
+            sys.exit(f"make_packages: {done.stdout}")
+        for package in sorted(Path(room).glob("*.deb")):
+            print(shutil.copy(package, args.folder))
+
+
+if __name__ == "__main__":
+    main()
