@@ -30,6 +30,7 @@ SOURCES = [
     "Makefile", "crates.txt", "docs/rtfilter.1", "docs/rtfilter-serve.1", "packaging/rtfilter.bash", "service/README.md",
     "service/prefork.c", "service/serve.py", "service/service.py", "service/listening.py", "service/health.py",
     "service/rtfilter.service", "service/rtfilter.socket", "clients/python/rtfilter",
+    *(f"examples/{name}" for name in ("common", "data", "geofence", "languages", "roads", "tiles")),
 ]
 RELEASE = re.compile(r"^## (\S+), (\d{4}-\d\d-\d\d)\n\n((?:- .*\n|  .*\n)+)", re.MULTILINE)
 
@@ -58,7 +59,7 @@ def place(source: Path, target: Path) -> None:
     """Copies a file or a folder, with modes that don't depend on who checked it out."""
     target.parent.mkdir(parents=True, exist_ok=True)
     if source.is_dir():
-        shutil.copytree(source, target, ignore=shutil.ignore_patterns("__pycache__"))
+        shutil.copytree(source, target, ignore=shutil.ignore_patterns("__pycache__", "tests"))
     else:
         shutil.copy(source, target)
     for path in (target, *target.rglob("*")):

@@ -36,6 +36,11 @@ FILES = {  # beside each package's own documents
         "usr/share/man/man1/rtfilter-serve.1.gz": 0o644,
     },
 }
+# The programs of python3-rtfilter, each with its page beside it.
+PROGRAMS = (
+    "geofence/fence.py", "geofence/measure.py", "languages/ask.sh", "roads/measure.py", "roads/snap.py", "tiles/make_map.py",
+    "tiles/measure.py", "tiles/serve.py",
+)
 # lintian may say nothing else than that the debug symbols are names alone: the toolchain writes no line numbers.
 FINE = ("debug-file-with-no-debug-symbols",)
 THERE = "Package: {}\nStatus: install ok installed\nVersion: {}\nArchitecture: amd64\nMaintainer: none\nDescription: none\n"
@@ -115,6 +120,8 @@ class Packages(unittest.TestCase):
             self.assertLessEqual({f"usr/share/doc/{name}/{it}" for it in ("changelog.Debian.gz", "copyright")}, documents.keys())
         modules = {f"usr/lib/python3/dist-packages/rtfilter/{it.name}" for it in (PACKAGE / "rtfilter").iterdir() if it.is_file()}
         self.assertEqual({it for it in self.held("python3-rtfilter") if "dist-packages" in it}, modules)
+        programs = {f"usr/share/rtfilter/examples/{it}" for it in PROGRAMS}
+        self.assertEqual({it for it, mode in self.held("python3-rtfilter").items() if mode == 0o755}, programs)
         for package in self.packages.values():
             listed = run("dpkg-deb", "--contents", package)
             self.assertEqual({line.split()[1] for line in listed.splitlines()}, {"root/root"})
@@ -161,6 +168,14 @@ class Packages(unittest.TestCase):
                 asked = f"import rtfilter; print(rtfilter.Rtfilter('{DATA / 'boxes.csv'}').count(rtfilter.All()))"
                 words = {"PYTHONPATH": f"{system}/usr/lib/python3/dist-packages", "PATH": f"{system}/usr/bin:{path}"}
                 self.assertEqual(run("/usr/bin/python3", "-B", "-c", asked, env=words), "5\n")
+                words["PYTHONDONTWRITEBYTECODE"] = "1"
+                examples = Path(system, "usr/share/rtfilter/examples")
+                for name, told_of in (("geofence/fence.py", "enter"), ("roads/snap.py", "nearest")):
+                    lines = "it,16.38,48.19,1\n" if "fence" in name else "it,16.35,48.2105\n"
+                    asked = [examples / name, examples / "data" / ("zones.geojson" if "fence" in name else "roads.geojson")]
+                    self.assertIn(f'"{told_of}"', run("/usr/bin/python3", *asked, env=words, input=lines))
+                run("/usr/bin/python3", examples / "tiles/make_map.py", f"{system}/map", "--boxes", "1000", env=words)
+                shutil.rmtree(f"{system}/map")
                 run(*dpkg, "--verify", "rtfilter", "python3-rtfilter")
                 run(*dpkg, "--purge", "rtfilter", "python3-rtfilter")
                 left = [path for path in Path(system).rglob("*") if path.is_file() and data not in path.parents]
