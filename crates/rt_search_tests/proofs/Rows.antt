@@ -6,7 +6,7 @@ use Rattle.rt_tree.specs.Packed.{Packed}
 use Rattle.rt_tree.specs.Packing.{pack_of}
 use Rattle.rt_search.specs.Answers.{answers}
 use Rattle.rt_search.specs.Work.{opened_by_search}
-use Rattle.rt_search_tests.specs.Uneven.{uneven_accepts, uneven_score, uneven_verdict}
+use Rattle.rt_search_tests.specs.Uneven.{uneven}
 
 abbrev entry : ℕ → Rect → Entry
 entry id bounds = record { id = pos id; bounds = bounds; layer = 0 }
@@ -24,8 +24,8 @@ five_boxes =
 abbrev tree : Packed
 tree = pack_of 2 five_boxes
 
-uneven_answers : answers tree.entries uneven_accepts uneven_score (Some 2) ≡ (pos 1, 10) ∷ (pos 2, 10) ∷ []
+uneven_answers : answers tree.entries uneven (Some 2) ≡ (pos 1, 10) ∷ (pos 2, 10) ∷ []
 uneven_answers = refl
 
-uneven_opened : opened_by_search uneven_accepts uneven_score uneven_verdict tree (Some 1) ≡ 6
+uneven_opened : opened_by_search uneven tree (Some 1) ≡ 6
 uneven_opened = refl
