@@ -22,8 +22,8 @@ class Stream:
         self._input, self._output = input, output
 
     def serve(self) -> None:
-        """Answers each read before the next one, until the input ends or a signal comes that ends it. Raises `OSError` where
-        a read or a write fails."""
+        """Answers each read before the next one, until the input ends or a signal comes that ends it. Raises `OSError`
+        where a read or a write fails."""
         cutter = Cutter()
         while self._is_ready(self._input, select.POLLIN):
             piece = os.read(self._input, READ)
@@ -32,8 +32,8 @@ class Stream:
                 return
 
     def _write(self, answered: bytes) -> bool:
-        """Whether all was written before a signal came that ends it. No write waits, and has a signal wait: a pipe that can be
-        written to takes PIPE_BUF bytes."""
+        """Whether all was written before a signal came that ends it. No write waits, and has a signal wait: a pipe that can
+        be written to takes PIPE_BUF bytes."""
         unsent = memoryview(answered)
         while unsent and self._is_ready(self._output, select.POLLOUT):
             unsent = unsent[os.write(self._output, unsent[: select.PIPE_BUF]) :]

@@ -4,8 +4,8 @@
 usage: fence.py [--unix PATH] [--layer PROPERTY] [--on LAYERS] [--devices N] [--resume EVENTS] [--mode MODE]
                 [--connections N] [--patience SECONDS] [--timeout SECONDS] [--program PROGRAM] ZONES
 
-Positions are lines DEVICE,LONGITUDE,LATITUDE,TIME on standard input, or from all who connect to PATH; what is told of them
-are lines of JSON. README.md says which.
+Positions are lines DEVICE,LONGITUDE,LATITUDE,TIME on standard input, or from all who connect to PATH; what is told of
+them are lines of JSON. README.md says which.
 """
 
 import argparse

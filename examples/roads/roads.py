@@ -16,7 +16,7 @@ from rtfilter.geojson import line_of, parts_of, whole_by
 from rtfilter.plane import Piece, Place, sides_of
 from rtfilter.queries import nearest_line
 
-BOXES_OF_ROAD = 8  # that are asked for at first, for each road: of nine searches in ten there is a farther one among them
+BOXES_OF_ROAD = 8  # that are asked for at first, for each road: in nine searches of ten the last one is farther
 MORE = 4  # times as many are asked for, where that wasn't so
 AT_ONCE = 8  # pieces, between two looks whether a search is over
 MOST_ANSWERS = 1 << 20  # that are asked for at once
@@ -36,8 +36,8 @@ class Road:
 
 
 class Foot(NamedTuple):
-    """The point of a piece that is nearest to a place: `above` / `below` is the square of its distance, and `squared` the float
-    nearest to that. So floats that differ have the order of the squares."""
+    """The point of a piece that is nearest to a place: `above` / `below` is the square of its distance, and `squared` the
+    float nearest to that. So floats that differ have the order of the squares."""
 
     squared: float
     above: int
@@ -107,8 +107,8 @@ class Roads(Closing):
             yield from zip(some, self._asked([search.query for search in some]))
 
     def _asked(self, lines: list[str]) -> list[Answers]:
-        """The answers to lines. A program that has ended, or doesn't answer, is started anew and asked once more: a question
-        changes nothing."""
+        """The answers to lines. A program that has ended, or doesn't answer, is started anew and asked once more: a
+        question changes nothing."""
         try:
             return self._boxes.ask(lines)
         except (Ended, TimedOut):

@@ -3,8 +3,8 @@
 
 usage: snap.py [--nearest K] [--scale UNITS] [--columns X,Y] [--timeout SECONDS] [--program PROGRAM] ROADS [POSITIONS]
 
-Without POSITIONS, lines NAME,LONGITUDE,LATITUDE are read from standard input and answered by lines of JSON. POSITIONS is a
-CSV file with a header, whose records are written again with what is told of them. README.md says more.
+Without POSITIONS, lines NAME,LONGITUDE,LATITUDE are read from standard input and answered by lines of JSON. POSITIONS is
+a CSV file with a header, whose records are written again with what is told of them. README.md says more.
 """
 
 import argparse

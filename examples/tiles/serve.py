@@ -244,7 +244,8 @@ class Handler(BaseHTTPRequestHandler):
 
     def reply(self, status: HTTPStatus, kind: str, body: bytes, more: dict[str, str] | None = None) -> None:
         self.request_version = self.protocol_version  # garbage is answered with a head too
-        headers = {"Content-Type": f"{kind}; charset=utf-8" if kind.startswith("text/") else kind, "Cache-Control": "no-cache"}
+        kind = f"{kind}; charset=utf-8" if kind.startswith("text/") else kind
+        headers = {"Content-Type": kind, "Cache-Control": "no-cache"}
         if status == HTTPStatus.OK and self.is_to_pack(body):
             body = packed(body)
             headers["Content-Encoding"] = "gzip"
@@ -428,7 +429,9 @@ def check_size(table: Table, boxes: Boxes) -> None:
         raise ValueError("the table has changed while it was read")
 
 
-def serve(args: argparse.Namespace, listener: socket.socket, table: Table | None, ready: Callable[[Server], None]) -> None:
+def serve(
+    args: argparse.Namespace, listener: socket.socket, table: Table | None, ready: Callable[[Server], None]
+) -> None:
     """Answers until it is interrupted. `ready` is called once it begins. Raises why it can't go on."""
     with opened(args) as boxes:
         if table is None:
