@@ -3,6 +3,7 @@
 import os
 import random
 import resource
+import select
 import signal
 import socket
 import subprocess
@@ -262,8 +263,9 @@ class Sockets(Lives):
         first, second, third = (self.connected() for _ in range(3))
         third.send("c,1,1,1")
         for it in (first, second, first):
-            it.send("a,1,1,1", "x")
-            self.assertEqual(it.events.some(1)[0]["event"] in ("enter", "refused"), True)
+            it.send("x")
+            self.assertEqual(it.events.some(1)[0]["event"], "refused")
+        self.assertEqual(select.select([third.socket], [], [], 0)[0], [])
         first.socket.close()
         self.assertEqual(brief(third.events.some(1)), [("c", "enter", "park")])
 

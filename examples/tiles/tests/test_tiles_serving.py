@@ -144,15 +144,18 @@ class Caches(Serving):
         self.assertEqual(self.asked("/5/99/0.pbf", If_None_Match="*")[0].status, 404)
 
     def test_another_table_has_another_tag(self) -> None:
-        table = Path(self.enterContext(tempfile.TemporaryDirectory()), "boxes.csv")
+        folder = Path(self.enterContext(tempfile.TemporaryDirectory()))
+        one, same, other, names = (folder / it for it in ("one", "same", "other", "names"))
+        one.write_text("1,0,1,0,1\n")
+        same.write_text("1,0,1,0,1\n")
+        other.write_text("1,0,1,0,2\n")
+        names.write_text("1,x\n")
         tags = []
-        for text in ("1,0,1,0,1\n", None, "1,0,1,0,2\n"):
-            if text is not None:
-                table.write_text(text)
-            with Server(table) as server:
+        for words in ([one], [same], [other], [one, "--names", str(names)], [one, "--url", "https://example.org/"]):
+            with Server(*words) as server:
                 tags.append(self.asked("/0/0/0.pbf", server)[0].headers["ETag"])
         self.assertEqual(tags[0], tags[1])
-        self.assertNotEqual(tags[1], tags[2])
+        self.assertEqual(len(set(tags)), 4)
 
     def test_ages(self) -> None:
         self.assertEqual(self.asked(TILE)[0].headers["Cache-Control"], "public, max-age=60")
@@ -207,6 +210,7 @@ class Origins(Serving):
                     reply, _ = self.asked(TILE, server, Origin=origin)
                     self.assertEqual((reply.status, reply.headers["Access-Control-Allow-Origin"]), (403, None), origin)
                 self.assertEqual(self.asked(TILE, server)[0].status, 200)
+                self.assertTrue(server.told(b"<x> y z\r\n\r\n").startswith(b"HTTP/1.1 400 "))
                 self.assertEqual("Origin" in self.asked(TILE, server)[0].headers["Vary"], bool(options))
         with Server(self.table, "--origin", "*") as server:
             for origin in (there, "null"):
