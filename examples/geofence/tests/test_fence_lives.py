@@ -174,8 +174,10 @@ class Ends(Lives):
         fence.process.stdout = open(os.devnull)
 
     def test_an_end_while_nobody_reads_events(self) -> None:
-        """A signal ends it all the same, and its program with it."""
+        """A signal ends it all the same, and its program with it, unless it is ignored from the start."""
         for number in (signal.SIGTERM, signal.SIGINT):
+            if signal.getsignal(number) == signal.SIG_IGN:
+                continue
             fence = self.running()
             program = fence.program()
             assert fence.process.stdin is not None

@@ -238,13 +238,13 @@ class Ids(Serving):
         table, names = folder / "boxes.csv", folder / "names.csv"
         ids = [-(2**63), -1, 0, 127, 128, 16383, 16384, 2097151, 2097152, 2**53 + 1, 2**63 - 1]
         table.write_text("".join(f"{id},0,0,0,0\n" for id in ids))
-        names.write_text("0,zero\n-1,one less\n")
+        names.write_text(f"0,zero\n-1,one less\n127,{'long' * 1000}\n")
         with Server(table, "--names", str(names)) as server:
             _, body = self.asked("/0/0/0.pbf", server)
             found = features_of(body)
             self.assertEqual([it[0] if it[0] is not None else it[1]["id"] for it in found], ids)
             self.assertEqual([it[1] for it in found], [
-                {"id": -(2**63)}, {"id": -1, "name": "one less"}, {"name": "zero"}, *({} for _ in ids[3:])
+                {"id": -(2**63)}, {"id": -1, "name": "one less"}, {"name": "zero"}, {"name": "long" * 1000}, *({} for _ in ids[4:])
             ])  # fmt: skip
             fields = json.loads(self.asked("/tiles.json", server)[1])["vector_layers"][0]["fields"]
             self.assertEqual(fields, {"name": "String", "id": "Number"})
@@ -253,7 +253,7 @@ class Ids(Serving):
 class Processes(unittest.TestCase):
     def setUp(self) -> None:
         self.folder = Path(self.enterContext(tempfile.TemporaryDirectory()))
-        self.options = ["--processes", "3", *hostile_map(self.folder)]
+        self.options = ["--processes", "3", *hostile_map(self.folder), "--timeout", "60"]
         self.table = self.folder / "boxes.csv"
 
     def test_many_at_once(self) -> None:
@@ -292,7 +292,10 @@ class Processes(unittest.TestCase):
             self.assertTrue(all(map(is_gone, everyone)))
 
     def test_an_interrupt(self) -> None:
-        for number, status in ((signal.SIGINT, 0), (signal.SIGTERM, -signal.SIGTERM)):
+        ends = [(signal.SIGTERM, -signal.SIGTERM), (signal.SIGINT, 0)]
+        if signal.getsignal(signal.SIGINT) == signal.SIG_IGN:  # as in the background of a shell's script
+            ends.pop()
+        for number, status in ends:
             server = self.enterContext(Server(self.table, *self.options))
             everyone = descendants_of(server.process.pid)
             self.assertEqual(server.end(number), (status, ""))
