@@ -2,6 +2,7 @@
 
 import os
 import select
+import sys
 from collections.abc import Callable
 
 from cutting import Cutter
@@ -11,6 +12,14 @@ READ = 1 << 16  # bytes at once
 
 Answer = Callable[[int, list[bytes]], bytes]
 """What is answered to lines, of which the first has this number."""
+
+
+def standard_ends() -> tuple[int, int]:
+    """The descriptors of standard input and output. Raises `ValueError` where one was closed, whose number another file may
+    have by now."""
+    if None in (sys.stdin, sys.stdout):
+        raise ValueError("standard input or standard output is closed")
+    return sys.stdin.fileno(), sys.stdout.fileno()
 
 
 class Stream:

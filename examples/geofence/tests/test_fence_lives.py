@@ -7,12 +7,13 @@ import select
 import signal
 import socket
 import subprocess
+import sys
 import tempfile
 import threading
 import unittest
 from pathlib import Path
 
-from fence_support import LONGEST, Connected, Running, brief, children_of, feature, is_gone, square, write_zones
+from fence_support import EXAMPLE, LONGEST, PROGRAM, Connected, Running, brief, children_of, feature, is_gone, square, write_zones
 
 PARK, LAKE = feature("park", square(0, 0, 10)), feature("lake", square(20, 0, 10))
 WIDER = feature("park", square(0, 0, 15), name="Park", layer="green")
@@ -188,6 +189,13 @@ class Ends(Lives):
             fence.signal(number)
             self.assertEqual(fence.process.wait(LONGEST), 0)
             self.assertTrue(is_gone(program))
+
+    def test_a_closed_end(self) -> None:
+        for closed in ("<&-", ">&-"):
+            words = [sys.executable, "-B", str(EXAMPLE / "fence.py"), "--program", PROGRAM, str(self.zones)]
+            done = subprocess.run(["sh", "-c", f'exec "$@" {closed}', "sh", *words], stderr=subprocess.PIPE, timeout=LONGEST)
+            self.assertEqual(done.returncode, 1)
+            self.assertEqual(done.stderr.splitlines()[1:], [b"fence.py: standard input or standard output is closed"])
 
     def test_no_program(self) -> None:
         fence = self.enterContext(Running(self.zones, "--program", "/no/such/program"))

@@ -294,6 +294,15 @@ class Program(Folder):
                 told = process.stderr.read().decode().splitlines()
                 self.assertEqual((process.wait(LONGEST), told[1:]), (1, ["snap.py: [Errno 32] Broken pipe"]))
 
+    def test_a_closed_end(self) -> None:
+        records = self.folder / "records.csv"
+        records.write_text("x,y\n1,1\n")
+        for closed, options in (("<&-", []), (">&-", []), (">&-", [records])):
+            words = ["sh", "-c", f'exec "$@" {closed}', "sh", *words_of("--scale", 1, self.file, *options)]
+            done = subprocess.run(words, stderr=subprocess.PIPE, timeout=LONGEST)
+            self.assertEqual(done.returncode, 1)
+            self.assertEqual(done.stderr.splitlines()[1:], [b"snap.py: standard input or standard output is closed"])
+
     def test_roads_that_are_not_taken(self) -> None:
         for features, told in (
             ([road(1, [(0, 0), (0, 0.2)])], "features[0]: a line whose positions, in whole numbers, are one"),
