@@ -88,7 +88,7 @@ class Roads(Closing):
     def nearest_each(self, k: int, places: Sequence[Place]) -> Iterator[list[Found]]:
         """The k roads nearest to each place, the nearest first, and of roads that are as near the first in the file. Where
         there are fewer all come."""
-        searches = [Search(k, x, y) for x, y in places]
+        searches = [Search(k, x, y, len(self._pieces) + 1) for x, y in places]
         waiting = searches
         while waiting:
             for search, answers in self._answered(waiting):
@@ -126,11 +126,13 @@ class Search:
     A box is at most as far as its piece. So once a box is farther than the k-th road, no piece that is left matters.
     """
 
-    def __init__(self, k: int, x: int, y: int) -> None:
+    def __init__(self, k: int, x: int, y: int, most: int) -> None:
+        """`most` is more than there are boxes."""
         self.x, self.y = x, y
-        self.asked = BOXES_OF_ROAD * k
+        self.asked = min(BOXES_OF_ROAD * k, most)  # boxes
         self.is_over = False
         self._k = k
+        self._most = most
         self._seen = 0  # boxes
         self._feet: dict[int, Foot] = {}  # the nearest of each road
 
@@ -152,7 +154,7 @@ class Search:
                 return
         self._seen = len(ids)
         self.is_over = self._seen < self.asked
-        self.asked *= MORE
+        self.asked = min(MORE * self.asked, self._most)
 
     def _take(self, number: int, piece: Piece, road: int) -> None:
         above, below = square_of(piece, self.x, self.y)

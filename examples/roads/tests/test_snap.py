@@ -216,7 +216,7 @@ class Program(Folder):
         ]  # fmt: skip
         text = b"a,55,2\n\n# c\n" + b"".join(line + b"\n" for line in faulty) + b'"b, c",5,6'
         text = text.replace(b"b, c", b"b c")
-        done = run("--scale", 1, "--nearest", 5, self.file, lines=text)
+        done = run("--scale", 1, "--nearest", 10**12, self.file, lines=text)
         self.assertEqual((done.returncode, done.stderr), (0, b"snap.py: roads: 2\n"))
         told = [json.loads(line) for line in done.stdout.splitlines()]
         self.assertEqual([it["line"] for it in told], [1, *range(4, 5 + len(faulty))])
