@@ -17,7 +17,7 @@ class Cutter:
         self._next = 1
 
     def cut(self, piece: bytes) -> tuple[int, list[bytes]]:
-        """The lines that end in a piece, which begins where the one before ended, and the number of the first of them."""
+        """The lines that end in a piece, which begins where the one before ended. The first of them has the number."""
         *lines, part = (self._part + piece).split(b"\n")
         # That a line is too long is all that is told of it: no more is kept of one that doesn't end.
         self._part = part[: LONGEST_LINE + 1]

@@ -1,6 +1,7 @@
 """Features of a file of GeoJSON, with what they are called."""
 
 import json
+import math
 from typing import Any, Union
 
 from rtfilter import FeatureError
@@ -24,9 +25,14 @@ def features_of(file: str) -> list[Feature]:
 def id_of(feature: Feature, number: int) -> Union[str, int, float]:
     """A feature's id; where it has none its place among the features."""
     id = feature.get("id", number)
-    if isinstance(id, bool) or not isinstance(id, (str, int, float)):
+    if isinstance(id, bool) or not isinstance(id, (str, int, float)) or is_no_number(id):
         raise FeatureError(number, f"an id that is neither a text nor a number: {id!r:.50}")
     return id
+
+
+def is_no_number(id: Union[str, int, float]) -> bool:
+    """Whether it is one of those that Python reads in JSON, and others don't."""
+    return isinstance(id, float) and not math.isfinite(id)
 
 
 def name_of(feature: Feature) -> str | None:

@@ -21,7 +21,9 @@ class Signals:
             os.set_blocking(end, False)
         signal.set_wakeup_fd(writing, warn_on_full_buffer=False)
         for number in ENDS if again is None else {*ENDS, AGAIN}:
-            signal.signal(number, lambda number, _: self._come.add(number))
+            # What is ignored from the start stays so, as an interrupt in the background of a shell's script.
+            if number == AGAIN or signal.getsignal(number) != signal.SIG_IGN:
+                signal.signal(number, lambda number, _: self._come.add(number))
 
     def fileno(self) -> int:
         return self._reading

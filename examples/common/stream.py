@@ -2,6 +2,7 @@
 
 import os
 import select
+import sys
 from collections.abc import Callable
 
 from cutting import Cutter
@@ -13,6 +14,14 @@ Answer = Callable[[int, list[bytes]], bytes]
 """What is answered to lines, of which the first has this number."""
 
 
+def standard_ends() -> tuple[int, int]:
+    """The descriptors of standard input and output. Raises `ValueError` where one was closed, whose number another file may
+    have by now."""
+    if None in (sys.stdin, sys.stdout):
+        raise ValueError("standard input or standard output is closed")
+    return sys.stdin.fileno(), sys.stdout.fileno()
+
+
 class Stream:
     """An input and an output."""
 
@@ -22,8 +31,8 @@ class Stream:
         self._input, self._output = input, output
 
     def serve(self) -> None:
-        """Answers each read before the next one, until the input ends or a signal comes that ends it. Raises `OSError` where
-        a read or a write fails."""
+        """Answers each read before the next one, until the input ends or a signal comes that ends it. Raises `OSError`
+        where a read or a write fails."""
         cutter = Cutter()
         while self._is_ready(self._input, select.POLLIN):
             piece = os.read(self._input, READ)
@@ -32,8 +41,8 @@ class Stream:
                 return
 
     def _write(self, answered: bytes) -> bool:
-        """Whether all was written before a signal came that ends it. No write waits, and has a signal wait: a pipe that can be
-        written to takes PIPE_BUF bytes."""
+        """Whether all was written before a signal came that ends it. No write waits, and has a signal wait: a pipe that can
+        be written to takes PIPE_BUF bytes."""
         unsent = memoryview(answered)
         while unsent and self._is_ready(self._output, select.POLLOUT):
             unsent = unsent[os.write(self._output, unsent[: select.PIPE_BUF]) :]

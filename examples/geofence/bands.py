@@ -11,8 +11,8 @@ from rtfilter.plane import Path
 CUTS = 2  # of each side by the borders of bands, at most on average: so the bands of long sides are few
 MOST_IN_BAND = 16  # sides, on average: where there would be more, the runs of an outline pass over more of them
 
-# A side, from its lower end to its upper one, as x, y, x, y. Those of a band lie beside each other: among many zones each is
-# looked at seldom, and tuples would take ten times the memory.
+# A side, from its lower end to its upper one, as x, y, x, y. Those of a band lie beside each other: among many zones each
+# is looked at seldom, and tuples would take ten times the memory.
 SIDE = struct.Struct("<4i")
 
 
@@ -40,15 +40,15 @@ class Bands:
             if ay <= y <= by:
                 left = (bx - ax) * (y - ay) - (by - ay) * (x - ax)
                 if left > 0:
-                    is_odd ^= y < by  # a side holds its lower end alone, so that a ray through a corner crosses one or two
+                    is_odd ^= y < by  # of its ends a side holds the lower one: a ray through a corner crosses one or two
                 elif left == 0 and (ay < by or min(ax, bx) <= x <= max(ax, bx)):
                     return True
         return is_odd
 
 
 def held_by(rings: Sequence[Path]) -> Union[Bands, Outline]:
-    """What tells which points rings hold. Bands take a quarter of the time, but where many long sides lie beside each other,
-    as those of a comb."""
+    """What tells which points rings hold. Bands take a quarter of the time, but where many long sides lie beside each
+    other, as those of a comb."""
     sides = sum(len(ring) - 1 for ring in rings)
     rise = sum(abs(by - ay) for ring in rings for (_, ay), (_, by) in pairwise(ring))
     ys = [y for ring in rings for _, y in ring]

@@ -62,8 +62,8 @@ class Connection:
 
 
 class Connections:
-    """All who connect. So many are served at once, and others wait; one that takes nothing of what it is told for `patience`
-    seconds is closed."""
+    """All who connect. So many are served at once, and others wait; one that takes nothing of what it is told for
+    `patience` seconds is closed."""
 
     def __init__(self, fence: Fence, signals: Signals, listener: socket.socket, most: int, patience: float) -> None:
         self._fence = fence
@@ -73,6 +73,7 @@ class Connections:
         self._patience = patience
         self._selector = selectors.DefaultSelector()
         self._served: set[Connection] = set()
+        self._waiting: set[Connection] = set()  # those of them to whom something is left to be sent
         self._paused_until = 0.0
 
     def serve(self) -> None:
@@ -123,16 +124,14 @@ class Connections:
             return
         if connection.has_ended:
             self._close(connection)
-        else:
+        elif connection.is_waiting != (connection in self._waiting):
+            self._waiting ^= {connection}
             event = selectors.EVENT_WRITE if connection.is_waiting else selectors.EVENT_READ
             self._selector.modify(connection, event)
 
-    def _waiting(self) -> list[Connection]:
-        return [connection for connection in self._served if connection.is_waiting]
-
     def _longest_wait(self) -> float | None:
         """Seconds until something has to be done, whatever comes."""
-        ends = [connection.since + self._patience for connection in self._waiting()]
+        ends = [connection.since + self._patience for connection in self._waiting]
         now = time.monotonic()
         if self._paused_until > now:
             ends.append(self._paused_until)
@@ -140,11 +139,12 @@ class Connections:
 
     def _end_slow(self) -> None:
         now = time.monotonic()
-        for connection in self._waiting():
+        for connection in [*self._waiting]:
             if connection.since + self._patience <= now:
                 self._close(connection)
 
     def _close(self, connection: Connection) -> None:
         self._selector.unregister(connection)
         self._served.discard(connection)
+        self._waiting.discard(connection)
         connection.close()

@@ -48,8 +48,8 @@ class Devices:
         self._held.append(held)
 
     def resume(self, lines: Iterable[str]) -> int:
-        """Takes from events that were told before when each device was last told of, and which zones held it then. Gives how
-        many lines are no events, as one that was cut off."""
+        """Takes from events that were told before when each device was last told of, and which zones held it then. Gives
+        how many lines are no events, as one that was cut off."""
         same: dict[Any, Any] = {}  # so that what is equal is kept once
         strays = 0
         for line in lines:
@@ -69,8 +69,8 @@ class Devices:
 
 
 def change_of(line: str) -> tuple[bytes, float, bool, Zone] | None:
-    """The device, the moment, whether it is in a zone from then on, and the zone, of an event of one that is entered or left;
-    what else is told is passed over as `None`."""
+    """The device, the moment, whether it is in a zone from then on, and the zone, where one is entered or left; `None` for
+    what else is told."""
     try:
         told = json.loads(line)
         is_in = {"enter": True, "leave": False}[told["event"]]

@@ -19,7 +19,7 @@ class Fence:
         self._exchange = exchange
 
     def told_of(self, first: int, lines: list[bytes]) -> bytes:
-        """The lines that are told of lines that were read at once, in their order. The first of them has this number."""
+        """What is told of lines that were read at once, in their order. The first of them has this number."""
         self._exchange_zones()
         positions, refusals = positions_of(first, lines)
         told = [(refusal.line, refusal_line(refusal)) for refusal in refusals]
@@ -53,9 +53,10 @@ def event_lines(position: Position, before: Held, held: Held) -> Iterator[str]:
     if changes:
         line, device, _, _, _, _, text = position
         longitude, latitude, time = numbers_of(text)
-        ends = f'"device": {json.dumps(device.decode())}, "longitude": {longitude}, "latitude": {latitude}, "time": {time}}}\n'
+        where = f'"longitude": {longitude}, "latitude": {latitude}, "time": {time}'
+        told = f'"device": {json.dumps(device.decode())}, {where}}}\n'
         for event, zone in changes:
-            yield f'{{"line": {line}, "event": "{event}", {zone.members}, {ends}'
+            yield f'{{"line": {line}, "event": "{event}", {zone.members}, {told}'
 
 
 def refusal_line(refusal: Refusal) -> str:

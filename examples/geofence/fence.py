@@ -4,8 +4,8 @@
 usage: fence.py [--unix PATH] [--layer PROPERTY] [--on LAYERS] [--devices N] [--resume EVENTS] [--mode MODE]
                 [--connections N] [--patience SECONDS] [--timeout SECONDS] [--program PROGRAM] ZONES
 
-Positions are lines DEVICE,LONGITUDE,LATITUDE,TIME on standard input, or from all who connect to PATH; what is told of them
-are lines of JSON. README.md says which.
+Positions are lines DEVICE,LONGITUDE,LATITUDE,TIME on standard input, or from all who connect to PATH; what is told of
+them are lines of JSON. README.md says which.
 """
 
 import argparse
@@ -25,7 +25,7 @@ from exchange import Exchange
 from fences import Fences
 from listening import unix_listener
 from signals import Signals
-from stream import Stream
+from stream import Stream, standard_ends
 
 from rtfilter import RtfilterError
 
@@ -65,7 +65,7 @@ def resumed(file: str | None, most: int) -> Devices:
 
 def serve(args: argparse.Namespace, fence: Fence, signals: Signals) -> None:
     if args.unix is None:
-        Stream(fence.told_of, signals, sys.stdin.fileno(), sys.stdout.fileno()).serve()
+        Stream(fence.told_of, signals, *standard_ends()).serve()
         return
     most = min(args.connections, resource.getrlimit(resource.RLIMIT_NOFILE)[0] - OTHER_FILES)
     with unix_listener(args.unix, args.mode) as listener:

@@ -5,20 +5,23 @@ from dataclasses import dataclass, field
 from functools import cached_property, lru_cache
 from typing import Union
 
-from bands import Bands, held_by
+from bands import held_by
 from features import Feature, features_of, id_of, members, name_of
 from positions import SCALE, Position
 
 from rtfilter import Answers, Ended, FeatureError, Row, Rtfilter, TimedOut
 from rtfilter.closing import Closing
 from rtfilter.geojson import parts_of, rings_of, whole_by
-from rtfilter.outlines import Outline
 from rtfilter.plane import Path, sides_of
 from rtfilter.queries import on_words
 
 MOST_LAYERS = 64
 NOTHING = "find all first 0"  # the line of a position whose layers have no zone
-KEPT = 1 << 16  # lists of layers, and of zones, that are made once
+
+# What is made once and kept, and how much of it: layers that positions name, candidates by the answer that tells them, and
+# zones that hold positions. An answer that is longer is seldom the same.
+KEPT_LAYERS, KEPT_ANSWERS, KEPT_ZONES = 1 << 10, 1 << 14, 1 << 14
+LONGEST_KEPT = 256  # bytes of an answer
 
 
 @dataclass(frozen=True)
@@ -37,7 +40,6 @@ class Zone:
 
 Held = tuple[Zone, ...]
 """The zones that hold a position, in the order of their file."""
-
 
 Candidate = tuple[int, Callable[[int, int], bool]]
 """A part whose box holds a position, and what tells whether it does itself."""
@@ -63,39 +65,43 @@ class Fences(Closing):
             raise ValueError(f"zones of {len(layers)} layers, and not of {MOST_LAYERS} or fewer")
         self._numbers = {name: number for number, name in enumerate(layers)}
         self._on = on.encode()
-        self._parts: list[tuple[Zone, Union[Bands, Outline]]] = []
-        self._rows: list[Row] = []  # the id of a part's box is its place among the parts
+        # The id of a part's box is its place in these.
+        self._zone_of: list[Zone] = []
+        self._parts: list[Candidate] = []
+        self._rows: list[Row] = []
         for number, rings in parts_of(features, "Polygon", rings_of, whole_by(SCALE)):
             self._add(self.zones[number], rings)
-        self._words_of = lru_cache(KEPT)(self._words)
-        self._parts_of = lru_cache(KEPT)(self._candidates)
-        self._zones_of = lru_cache(KEPT)(self._zones)
+        self._words_of = lru_cache(KEPT_LAYERS)(self._words)
+        self._kept_candidates = lru_cache(KEPT_ANSWERS)(self._candidates)
+        self._zones_of = lru_cache(KEPT_ZONES)(self._zones)
         self._program, self._timeout = program, timeout
         self._boxes = self._started()
 
     def _add(self, zone: Zone, rings: list[Path]) -> None:
-        sides = sides_of([place for ring in rings for place in ring])
-        self._rows.append((len(self._parts), *sides, self._numbers[zone.layer]))
-        self._parts.append((zone, held_by(rings)))
+        part, sides = len(self._parts), sides_of([place for ring in rings for place in ring])
+        self._rows.append((part, *sides, self._numbers[zone.layer]))
+        self._parts.append((part, held_by(rings).holds))
+        self._zone_of.append(zone)
 
     def _started(self) -> Rtfilter:
         return Rtfilter(self._rows, program=self._program, timeout=self._timeout)
 
     def holding_each(self, positions: Sequence[Position]) -> list[Held]:
-        """The zones that hold each position. Where they are those of another one it is mostly the same tuple."""
+        """The zones that hold each position. Where they are those of another position it is mostly the same tuple."""
         lines = []
         for _, _, x, y, _, layers, _ in positions:
             words = self._words_of(layers or self._on)
             lines.append(NOTHING if words is None else f"find covers {x} {x} {y} {y}{words}")
         held_each: list[Held] = []
         for (_, _, x, y, _, _, _), answers in zip(positions, self._asked(lines)):
-            parts = self._parts_of(bytes(answers))
+            text = bytes(answers)
+            parts = self._kept_candidates(text) if len(text) <= LONGEST_KEPT else self._candidates(text)
             held_each.append(self._zones_of(tuple([part for part, holds in parts if holds(x, y)])) if parts else ())
         return held_each
 
     def _asked(self, lines: list[str]) -> list[Answers]:
-        """The answers to lines. A program that has ended, or doesn't answer, is started anew and asked once more: a question
-        changes nothing."""
+        """The answers to lines. A program that has ended, or doesn't answer, is started anew and asked once more: a
+        question changes nothing."""
         try:
             return self._boxes.ask(lines)
         except (Ended, TimedOut):
@@ -112,18 +118,19 @@ class Fences(Closing):
         return on_words(numbers) if numbers else None
 
     def _candidates(self, answers: bytes) -> list[Candidate]:
-        """The parts whose boxes are told. Many positions have the same: of a city's zones some thousands are told in all."""
-        return [(int(id), self._parts[int(id)][1].holds) for id in answers.split()[::2]]
+        """The parts whose boxes are told."""
+        return [self._parts[int(id)] for id in answers.split()[::2]]
 
     def _zones(self, parts: tuple[int, ...]) -> Held:
-        return tuple(dict.fromkeys(self._parts[part][0] for part in parts))
+        return tuple(dict.fromkeys(self._zone_of[part] for part in parts))
 
     def close(self) -> None:
         """Ends the program, and lets go of the outlines, which may be many."""
         self._boxes.close()
         self._words_of.cache_clear()
-        self._parts_of.cache_clear()
+        self._kept_candidates.cache_clear()
         self._zones_of.cache_clear()
+        self._zone_of.clear()
         self._parts.clear()
         self._rows.clear()
 

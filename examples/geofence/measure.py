@@ -58,8 +58,8 @@ def positions(chance: random.Random, devices: int, count: int) -> Iterator[bytes
 
 
 def run(words: list[str], lines: Path) -> tuple[float, int, int]:
-    """Processor seconds of a fence and its program over some lines, the greatest memory of the larger one, in bytes, and how
-    many lines were told."""
+    """Processor seconds of a fence and its program over some lines, the greatest memory of the larger one, in bytes, and
+    how many lines were told."""
     before = resource.getrusage(resource.RUSAGE_CHILDREN)
     with open(lines, "rb") as file, subprocess.Popen(words, stdin=file, stdout=subprocess.PIPE) as process:
         assert process.stdout is not None

@@ -22,8 +22,8 @@ NO_DEVICE = f"a device of more than {LONGEST_DEVICE} bytes, or not of UTF-8"
 NO_PLACE = "a longitude that isn't -180 to 180, a latitude that isn't -90 to 90, or a time beyond all"
 
 Position = tuple[int, bytes, int, int, float, bytes, bytes]
-"""The number of a line, its device, x and y in whole units, the moment, the layers, and the line itself. A class would take a
-tenth of all the time."""
+"""The number of a line, its device, x and y in whole units, the moment, the layers, and the line itself. A class would
+take a tenth of all the time."""
 
 
 class Refusal(NamedTuple):

@@ -5,11 +5,11 @@ from abc import ABC, abstractmethod
 from typing import NamedTuple
 
 LEAST, GREATEST = -(2**31), 2**31 - 1  # of a table's coordinates
-ROUNDED = 3 * math.sqrt(0.5)  # units: position, road and nearest point are each off by half a unit on x and on y at most
+ROUNDED = 3 * math.sqrt(0.5)  # units: position, road and nearest point are each off by half a unit at most, on x and y
 
 
 class Far(NamedTuple):
-    """How far it is from a position to the point told of a road. The road is no nearer, and no farther, than by the error."""
+    """How far it is from a position to the point told of a road. The road is nearer, or farther, by the error at most."""
 
     distance: float
     error: float
@@ -71,15 +71,15 @@ class WebMercator(Plane):
 
     def whole(self, x: float, y: float) -> tuple[int, int]:
         if not (-180 <= x <= 180 and -MOST_LATITUDE <= y <= MOST_LATITUDE):
-            raise ValueError(f"a longitude that isn't -180 to 180, or a latitude that isn't -{MOST_LATITUDE} to {MOST_LATITUDE}")
+            raise ValueError(NO_PLACE)
         return round(math.radians(x) * UNITS), round(math.asinh(math.tan(math.radians(y))) * UNITS)
 
     def back(self, x: float, y: float) -> tuple[float, float]:
         return math.degrees(x / UNITS), math.degrees(math.atan(math.sinh(y / UNITS)))
 
     def far(self, position: tuple[float, float], point: tuple[float, float]) -> Far:
-        """The plane stretches lengths, and more to the north than to the east, in the ratio of two radii: so the nearest in
-        the plane may be a little farther on the ground than the nearest there."""
+        """The plane stretches lengths to the north more than those to the east, in the ratio of two radii, and all of them
+        more where it is farther from the equator: so the nearest in the plane may be a little farther than another one."""
         metres = on_ground(position, point)
         longitude, latitude = position
         turn = metres / LEAST_RADIUS  # no place that is as near lies farther to the north or the south
@@ -97,6 +97,7 @@ LEAST_RADIUS = RADIUS * (1 - SQUARED)  # of a meridian, at the equator
 UNITS_OF_METRE = 100
 UNITS = UNITS_OF_METRE * RADIUS  # whole units of a radian
 MOST_LATITUDE = 85.0511287  # where the plane is a square
+NO_PLACE = f"a longitude that isn't -180 to 180, or a latitude that isn't -{MOST_LATITUDE} to {MOST_LATITUDE}"
 
 
 def across(latitude: float) -> float:
@@ -110,8 +111,8 @@ def along(latitude: float) -> float:
 
 
 def on_ground(one: tuple[float, float], other: tuple[float, float]) -> float:
-    """The distance of two places in metres along the ellipsoid, by Lambert's formula: within a hundred-thousandth, where they
-    don't lie opposite each other."""
+    """The distance of two places in metres along the ellipsoid, by Lambert's formula: within a hundred-thousandth, where
+    they don't lie opposite each other."""
     (west, south), (east, north) = one, other
     first, second = (math.atan((1 - FLATTENING) * math.tan(math.radians(it))) for it in (south, north))
     mean, half, turn = (first + second) / 2, (second - first) / 2, math.radians(east - west) / 2

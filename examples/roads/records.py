@@ -16,8 +16,8 @@ class Records:
     """A CSV file with a header, and what is told of its records."""
 
     def __init__(self, file: TextIO, columns: tuple[str, str], snapping: Snapping, tell: Callable[[str], None]) -> None:
-        """The coordinates are in these columns. Records that are passed over are told of. Raises `ValueError` where the header
-        doesn't have each column once."""
+        """The coordinates are in these columns. Records that are passed over are told of. Raises `ValueError` where the
+        header doesn't have each column once."""
         self._snapping = snapping
         self._tell = tell
         self._reader = csv.reader(file)

@@ -16,7 +16,7 @@ from rtfilter.geojson import line_of, parts_of, whole_by
 from rtfilter.plane import Piece, Place, sides_of
 from rtfilter.queries import nearest_line
 
-BOXES_OF_ROAD = 8  # that are asked for at first, for each road: of nine searches in ten there is a farther one among them
+BOXES_OF_ROAD = 8  # that are asked for at first, for each road: in nine searches of ten the last one is farther
 MORE = 4  # times as many are asked for, where that wasn't so
 AT_ONCE = 8  # pieces, between two looks whether a search is over
 MOST_ANSWERS = 1 << 20  # that are asked for at once
@@ -36,8 +36,8 @@ class Road:
 
 
 class Foot(NamedTuple):
-    """The point of a piece that is nearest to a place: `above` / `below` is the square of its distance, and `squared` the float
-    nearest to that. So floats that differ have the order of the squares."""
+    """The point of a piece that is nearest to a place: `above` / `below` is the square of its distance, and `squared` the
+    float nearest to that. So floats that differ have the order of the squares."""
 
     squared: float
     above: int
@@ -88,7 +88,7 @@ class Roads(Closing):
     def nearest_each(self, k: int, places: Sequence[Place]) -> Iterator[list[Found]]:
         """The k roads nearest to each place, the nearest first, and of roads that are as near the first in the file. Where
         there are fewer all come."""
-        searches = [Search(k, x, y) for x, y in places]
+        searches = [Search(k, x, y, len(self._pieces) + 1) for x, y in places]
         waiting = searches
         while waiting:
             for search, answers in self._answered(waiting):
@@ -107,8 +107,8 @@ class Roads(Closing):
             yield from zip(some, self._asked([search.query for search in some]))
 
     def _asked(self, lines: list[str]) -> list[Answers]:
-        """The answers to lines. A program that has ended, or doesn't answer, is started anew and asked once more: a question
-        changes nothing."""
+        """The answers to lines. A program that has ended, or doesn't answer, is started anew and asked once more: a
+        question changes nothing."""
         try:
             return self._boxes.ask(lines)
         except (Ended, TimedOut):
@@ -126,11 +126,13 @@ class Search:
     A box is at most as far as its piece. So once a box is farther than the k-th road, no piece that is left matters.
     """
 
-    def __init__(self, k: int, x: int, y: int) -> None:
+    def __init__(self, k: int, x: int, y: int, most: int) -> None:
+        """`most` is more than there are boxes."""
         self.x, self.y = x, y
-        self.asked = BOXES_OF_ROAD * k
+        self.asked = min(BOXES_OF_ROAD * k, most)  # boxes
         self.is_over = False
         self._k = k
+        self._most = most
         self._seen = 0  # boxes
         self._feet: dict[int, Foot] = {}  # the nearest of each road
 
@@ -152,7 +154,7 @@ class Search:
                 return
         self._seen = len(ids)
         self.is_over = self._seen < self.asked
-        self.asked *= MORE
+        self.asked = min(MORE * self.asked, self._most)
 
     def _take(self, number: int, piece: Piece, road: int) -> None:
         above, below = square_of(piece, self.x, self.y)

@@ -3,8 +3,8 @@
 
 usage: snap.py [--nearest K] [--scale UNITS] [--columns X,Y] [--timeout SECONDS] [--program PROGRAM] ROADS [POSITIONS]
 
-Without POSITIONS, lines NAME,LONGITUDE,LATITUDE are read from standard input and answered by lines of JSON. POSITIONS is a
-CSV file with a header, whose records are written again with what is told of them. README.md says more.
+Without POSITIONS, lines NAME,LONGITUDE,LATITUDE are read from standard input and answered by lines of JSON. POSITIONS is
+a CSV file with a header, whose records are written again with what is told of them. README.md says more.
 """
 
 import argparse
@@ -21,7 +21,7 @@ from records import Records
 from roads import Roads
 from signals import Signals
 from snapping import Snapping
-from stream import Stream
+from stream import Stream, standard_ends
 
 from rtfilter import RtfilterError
 
@@ -58,7 +58,7 @@ def write_records(args: argparse.Namespace, snapping: Snapping) -> bool:
     """Whether each record of the file was taken. Raises `OSError` where they can't be read or written."""
     with open(args.positions, encoding="utf-8-sig", newline="") as file:
         records = Records(file, columns_of(args), snapping, tell)
-        with open(sys.stdout.fileno(), "w", encoding="utf-8", newline="", closefd=False) as output:
+        with open(standard_ends()[1], "w", encoding="utf-8", newline="", closefd=False) as output:
             writer = csv.writer(output, lineterminator="\n")
             writer.writerow(records.header)
             for batch in records.batches():
@@ -76,7 +76,7 @@ def main() -> int:
             snapping = Snapping(roads, plane, args.nearest)
             if args.positions is not None:
                 return int(not write_records(args, snapping))
-            Stream(snapping.told_of, Signals(), sys.stdin.fileno(), sys.stdout.fileno()).serve()
+            Stream(snapping.told_of, Signals(), *standard_ends()).serve()
     except (RtfilterError, OSError, ValueError, RecursionError, csv.Error) as error:
         tell(str(error))
         return 1

@@ -55,7 +55,7 @@ class Snapping:
             yield [Snapped(it.road, *point, self.plane.far((x, y), point)) for it, point in zip(found, points)]
 
     def told_of(self, first: int, lines: list[bytes]) -> bytes:
-        """The lines that are told of lines that were read at once, in their order. The first of them has this number."""
+        """What is told of lines that were read at once, in their order. The first of them has this number."""
         told: dict[int, str] = {}
         names: list[tuple[int, str]] = []
         positions: list[Position] = []

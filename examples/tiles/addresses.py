@@ -11,8 +11,8 @@ LAND, DENSE = "#f6f3ec", "#1c488c"
 
 
 def tile_json(address: str, bounds: Window, layers: list[str], fields: dict[str, str]) -> dict[str, Any]:
-    """Where tiles are, in TileJSON 3.0. `address` is that of the server, with a slash at its end; each layer of boxes has these
-    fields."""
+    """Where tiles are, in TileJSON 3.0. `address` is that of the server, with a slash at its end; each layer of boxes has
+    these fields."""
     x1, x2, y1, y2 = bounds
     west, east, south, north = longitude(x1), longitude(x2), latitude(y1), latitude(y2)
     return {

@@ -3,8 +3,8 @@
 
 usage: measure.py [--boxes N] [--levels Z,Z] [--tiles N] [--processes N] [--clients N] [--gzip] [--program PROGRAM]
 
-Tiles are those of boxes at random, over a map that make_map.py makes. Clients are processes beside the server, each with a
-connection: what they take isn't counted, but takes the time of cores.
+Tiles are those of boxes at random, over a map that make_map.py makes. Clients are processes beside the server, each with
+a connection: what they take isn't counted, but takes the time of cores.
 """
 
 import argparse
@@ -80,9 +80,10 @@ def main() -> None:
             headers = {"Accept-Encoding": "gzip" if args.gzip else "identity"}
             with ProcessPoolExecutor(args.clients) as clients:
                 parts = [tiles[at :: args.clients] for at in range(args.clients)]
-                before, begun = seconds_of(server.pid), time.monotonic()
+                begun, before = time.monotonic(), seconds_of(server.pid)
                 size = sum(clients.map(partial(ask, port, headers), parts))
-                taken, seconds = time.monotonic() - begun, seconds_of(server.pid) - before
+                taken = time.monotonic() - begun
+                seconds = seconds_of(server.pid) - before
             server.terminate()
     print(f"{args.tiles / taken:,.0f} tiles a second, {seconds / args.tiles * 1e3:.2f} ms of processor time each, ", end="")
     print(f"{size / args.tiles / 1000:.1f} kB each")

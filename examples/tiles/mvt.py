@@ -4,7 +4,6 @@ from mercator import Window
 
 EXTENT = 4096  # units of a tile's side
 BUFFER = 64  # units beside the tile, where what is cut off ends
-LAST = EXTENT + BUFFER
 POLYGON = 3
 MOVE_TO, LINE_TO, CLOSE_PATH = 1, 2, 7
 
@@ -117,11 +116,9 @@ class Layer:
 
 
 def clipped(low: int, high: int) -> tuple[int, int]:
-    """Where a side begins and how long it is: cut off at the buffer, and at least a unit long."""
+    """Where a side begins and how long it is: cut off at the buffer, and at least a unit long. It meets the tile."""
     if low < -BUFFER:
         low = -BUFFER
-    elif low >= LAST:
-        low = LAST - 1
-    if high > LAST:
-        high = LAST
+    if high > EXTENT + BUFFER:
+        high = EXTENT + BUFFER
     return low, high - low if high > low else 1

@@ -21,6 +21,7 @@ from collections.abc import Callable
 from dataclasses import dataclass
 from functools import partial
 from http import HTTPStatus
+from http.client import HTTPMessage
 from http.server import BaseHTTPRequestHandler, ThreadingHTTPServer
 from pathlib import Path
 from typing import Any
@@ -43,7 +44,6 @@ from rtfilter.prefork import library_of
 LONGEST_TARGET = 4096  # bytes of a request's address
 MOST_CONNECTIONS = 64  # of a process
 LEAST_ASKING = 8  # connections to the program, of each of many processes
-FORM = 2  # of what is served: another one has other tags
 
 ASSETS = {
     "/": ("page.html", "text/html"),
@@ -78,7 +78,7 @@ class Settings:
     hosts: set[str]  # what the header Host may be
     url: str | None  # how the server is reached, where that isn't by http and the Host
     origins: frozenset[str]  # whose pages may read what is served
-    tag: str  # of what is served: another table has another one
+    tag: str  # of what is served: what is made by other files has another one
     max_age: int  # seconds for which tiles may be kept
     idle: float  # seconds for which a connection may be silent
 
@@ -140,6 +140,7 @@ class Handler(BaseHTTPRequestHandler):
 
     def setup(self) -> None:
         super().setup()
+        self.headers = HTTPMessage()  # those of what is no request
         self.connection.settimeout(self.server.settings.idle)
 
     def parse_request(self) -> bool:
@@ -236,7 +237,7 @@ class Handler(BaseHTTPRequestHandler):
         self.reply(status, kind, body, {**cache, "ETag": self.tag(is_packed=self.is_to_pack(body))})
 
     def tag(self, is_packed: bool) -> str:
-        """That of what is served from this table; the same in gzip's format has another one."""
+        """That of what is served; the same in gzip's format has another one."""
         return f'"{self.server.settings.tag}{"-gzip" if is_packed else ""}"'
 
     def is_to_pack(self, body: bytes) -> bool:
@@ -244,7 +245,8 @@ class Handler(BaseHTTPRequestHandler):
 
     def reply(self, status: HTTPStatus, kind: str, body: bytes, more: dict[str, str] | None = None) -> None:
         self.request_version = self.protocol_version  # garbage is answered with a head too
-        headers = {"Content-Type": f"{kind}; charset=utf-8" if kind.startswith("text/") else kind, "Cache-Control": "no-cache"}
+        kind = f"{kind}; charset=utf-8" if kind.startswith("text/") else kind
+        headers = {"Content-Type": kind, "Cache-Control": "no-cache"}
         if status == HTTPStatus.OK and self.is_to_pack(body):
             body = packed(body)
             headers["Content-Encoding"] = "gzip"
@@ -394,17 +396,24 @@ def arguments() -> argparse.Namespace:
 
 
 def settings_of(args: argparse.Namespace, port: int) -> Settings:
-    """The tag is that of the files from which all is made, and of its form."""
-    files = [os.stat(file) for file in (args.table, args.names, args.layers) if file is not None]
-    made_of = FORM, args.header, args.url, [(it.st_dev, it.st_ino, it.st_size, it.st_mtime_ns) for it in files]
     return Settings(
         hosts=hosts_of([*args.host, "localhost", "127.0.0.1", args.listen], port),
         url=args.url,
         origins=frozenset(args.origin),
-        tag=hashlib.blake2b(repr(made_of).encode(), digest_size=8).hexdigest(),
+        tag=tag_of(args),
         max_age=args.max_age,
         idle=args.idle,
     )
+
+
+def tag_of(args: argparse.Namespace) -> str:
+    """What tells by which files all is made that is served: those that are named, and the server's own."""
+    made_by = hashlib.blake2b(f"{args.header} {args.url}".encode(), digest_size=8)
+    for name in (args.table, args.names, args.layers, *sorted(HERE.glob("*.*"))):
+        if name is not None:
+            with open(name, "rb") as file:
+                made_by.update(hashlib.file_digest(file, "blake2b").digest())
+    return made_by.hexdigest()
 
 
 def opened(args: argparse.Namespace) -> Boxes:
@@ -428,7 +437,9 @@ def check_size(table: Table, boxes: Boxes) -> None:
         raise ValueError("the table has changed while it was read")
 
 
-def serve(args: argparse.Namespace, listener: socket.socket, table: Table | None, ready: Callable[[Server], None]) -> None:
+def serve(
+    args: argparse.Namespace, listener: socket.socket, table: Table | None, ready: Callable[[Server], None]
+) -> None:
     """Answers until it is interrupted. `ready` is called once it begins. Raises why it can't go on."""
     with opened(args) as boxes:
         if table is None:

@@ -79,8 +79,10 @@ class Views:
         return {"told": reply.total, "answers": answers, "nodes": nodes}
 
     def tile(self, z: int, x: int, y: int, on: list[int] | None) -> bytes:
-        """A vector tile: a layer for each layer of boxes that meet it, or one with counts, whose name is `density`. A feature's
-        own id is its box's; one below 0, which a tile can't hold, is a property."""
+        """A vector tile: a layer for each layer of boxes that meet it, or one with counts, whose name is `density`.
+
+        A feature's own id is its box's; one below 0, which a tile can't hold, is a property.
+        """
         window = window_of(z, x, y)
         if self._boxes.count(Window(*window), on=on) > MOST_IN_TILE:
             return self._density_tile(window, on)

@@ -15,7 +15,7 @@ GRACE = 10.0  # seconds that workers have to end once one of them has
 
 @dataclass(frozen=True)
 class Ends:
-    """What a worker has of two pipes: one to tell that it is ready, or why it ends, and one whose end tells it to end too."""
+    """What a worker has of two pipes: to tell that it is ready, or why it ends, and one whose end tells it to end too."""
 
     telling: int
     ending: int
@@ -32,8 +32,9 @@ Work = Callable[[Ends], int]
 
 
 def run_together(count: int, work: Work, when_ready: Callable[[], None]) -> int:
-    """Starts so many workers, and calls `when_ready` once all of them are. Where one ends all do, and where this process ends,
-    by whatever signal. Gives the status of the worker that ended first, and writes what was told first on standard error.
+    """Starts so many workers, and calls `when_ready` once all of them are. Where one ends all do, and where this process
+    ends, by whatever signal. Gives the status of the worker that ended first, and writes what was told first on standard
+    error.
 
     There are to be no threads yet, since they don't live on in a fork.
     """
@@ -61,7 +62,7 @@ def run_together(count: int, work: Work, when_ready: Callable[[], None]) -> int:
 
 
 def status_of(watching: int, worker: int) -> int:
-    """The status of a worker, which was told to end and is killed where it doesn't; the number of a signal that ended it."""
+    """The status of a worker, which is killed where it doesn't end; the number of a signal that ended it."""
     if not select.select([watching], [], [], GRACE)[0]:
         os.kill(worker, signal.SIGKILL)
     os.close(watching)

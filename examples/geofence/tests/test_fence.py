@@ -139,6 +139,7 @@ class Events(Folder):
             (twice, "two zones have the same id"),
             (layers, "zones of 65 layers, and not of 64 or fewer"),
             ([feature(True, square(0, 0, 1))], "features[0]: an id that is neither a text nor a number: True"),
+            ([feature(float("nan"), square(0, 0, 1))], "features[0]: an id that is neither a text nor a number: nan"),
             ([feature(1, square(0, 0, 1), layer=[1])], "features[0]: a layer that is neither a text nor a whole number: [1]"),
             ([feature(1, [[0, 0], [1, 1], [0, 0]])], "features[0]: a ring of 3 positions, and not 4 or more"),
             ([5], "features[0]: no feature"),

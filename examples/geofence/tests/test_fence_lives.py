@@ -3,15 +3,17 @@
 import os
 import random
 import resource
+import select
 import signal
 import socket
 import subprocess
+import sys
 import tempfile
 import threading
 import unittest
 from pathlib import Path
 
-from fence_support import LONGEST, Connected, Running, brief, children_of, feature, is_gone, square, write_zones
+from fence_support import EXAMPLE, LONGEST, PROGRAM, Connected, Running, brief, children_of, feature, is_gone, square, write_zones
 
 PARK, LAKE = feature("park", square(0, 0, 10)), feature("lake", square(20, 0, 10))
 WIDER = feature("park", square(0, 0, 15), name="Park", layer="green")
@@ -173,8 +175,10 @@ class Ends(Lives):
         fence.process.stdout = open(os.devnull)
 
     def test_an_end_while_nobody_reads_events(self) -> None:
-        """A signal ends it all the same, and its program with it."""
+        """A signal ends it all the same, and its program with it, unless it is ignored from the start."""
         for number in (signal.SIGTERM, signal.SIGINT):
+            if signal.getsignal(number) == signal.SIG_IGN:
+                continue
             fence = self.running()
             program = fence.program()
             assert fence.process.stdin is not None
@@ -185,6 +189,13 @@ class Ends(Lives):
             fence.signal(number)
             self.assertEqual(fence.process.wait(LONGEST), 0)
             self.assertTrue(is_gone(program))
+
+    def test_a_closed_end(self) -> None:
+        for closed in ("<&-", ">&-"):
+            words = [sys.executable, "-B", str(EXAMPLE / "fence.py"), "--program", PROGRAM, str(self.zones)]
+            done = subprocess.run(["sh", "-c", f'exec "$@" {closed}', "sh", *words], stderr=subprocess.PIPE, timeout=LONGEST)
+            self.assertEqual(done.returncode, 1)
+            self.assertEqual(done.stderr.splitlines()[1:], [b"fence.py: standard input or standard output is closed"])
 
     def test_no_program(self) -> None:
         fence = self.enterContext(Running(self.zones, "--program", "/no/such/program"))
@@ -262,8 +273,9 @@ class Sockets(Lives):
         first, second, third = (self.connected() for _ in range(3))
         third.send("c,1,1,1")
         for it in (first, second, first):
-            it.send("a,1,1,1", "x")
-            self.assertEqual(it.events.some(1)[0]["event"] in ("enter", "refused"), True)
+            it.send("x")
+            self.assertEqual(it.events.some(1)[0]["event"], "refused")
+        self.assertEqual(select.select([third.socket], [], [], 0)[0], [])
         first.socket.close()
         self.assertEqual(brief(third.events.some(1)), [("c", "enter", "park")])
 

@@ -216,7 +216,7 @@ class Program(Folder):
         ]  # fmt: skip
         text = b"a,55,2\n\n# c\n" + b"".join(line + b"\n" for line in faulty) + b'"b, c",5,6'
         text = text.replace(b"b, c", b"b c")
-        done = run("--scale", 1, "--nearest", 5, self.file, lines=text)
+        done = run("--scale", 1, "--nearest", 10**12, self.file, lines=text)
         self.assertEqual((done.returncode, done.stderr), (0, b"snap.py: roads: 2\n"))
         told = [json.loads(line) for line in done.stdout.splitlines()]
         self.assertEqual([it["line"] for it in told], [1, *range(4, 5 + len(faulty))])
@@ -293,6 +293,15 @@ class Program(Folder):
                 process.stdout.close()
                 told = process.stderr.read().decode().splitlines()
                 self.assertEqual((process.wait(LONGEST), told[1:]), (1, ["snap.py: [Errno 32] Broken pipe"]))
+
+    def test_a_closed_end(self) -> None:
+        records = self.folder / "records.csv"
+        records.write_text("x,y\n1,1\n")
+        for closed, options in (("<&-", []), (">&-", []), (">&-", [records])):
+            words = ["sh", "-c", f'exec "$@" {closed}', "sh", *words_of("--scale", 1, self.file, *options)]
+            done = subprocess.run(words, stderr=subprocess.PIPE, timeout=LONGEST)
+            self.assertEqual(done.returncode, 1)
+            self.assertEqual(done.stderr.splitlines()[1:], [b"snap.py: standard input or standard output is closed"])
 
     def test_roads_that_are_not_taken(self) -> None:
         for features, told in (
