@@ -110,6 +110,19 @@ class Addresses(Services):
             for service in services:
                 self.assertIn(f"{service.place[5:]}: ", str(caught.exception))
 
+    def test_the_first_place_is_asked_where_it_can_be(self) -> None:
+        services = [self.service(name, self.points(f"{name}.csv", [(id, id)])) for id, name in enumerate("ab", 1)]
+        with opened([",".join(service.place for service in services)]) as boxes:
+            for _ in range(2):
+                self.assertEqual(written(boxes, [b"find all"]), b"1 0\nok 1 1\n")
+                boxes.reconnect()
+            services[0].end()
+            self.assertEqual(written(boxes, [b"find all"]), b"2 0\nok 1 1\n")
+            services[0].start()
+            self.assertEqual(written(boxes, [b"find all"]), b"2 0\nok 1 1\n")
+            boxes.reconnect()
+            self.assertEqual(written(boxes, [b"find all"]), b"1 0\nok 1 1\n")
+
     def test_a_place_that_is_silent(self) -> None:
         """It has its part of the time, and the other the rest."""
         service = self.service("a", self.points("a.csv", [(1, 10)]))
