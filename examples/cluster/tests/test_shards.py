@@ -14,7 +14,6 @@ from pathlib import Path
 
 from cluster_support import PROGRAM, Folders, Service, Services, one_run, opened, some_lines, until, written
 
-from shards import places
 from shards.connections import ShardError
 from shards.places import there
 from shards.router import Cluster
@@ -23,7 +22,7 @@ from rtfilter import RtfilterError
 
 SEQUENCES, STEPS = 6, 25
 SSHD = "/usr/sbin/sshd"
-MOST_STARTING = places.STARTED_AT_ONCE + 1  # who haven't logged in yet: one of before may still be counted
+MOST_STARTING = 6  # who haven't logged in yet, of whom one or two may have by now
 
 SSHD_CONFIG = """
 ListenAddress 127.0.0.1
@@ -65,11 +64,12 @@ class Addresses(Services):
         service = self.service("a", self.points("a.csv", [(1, 10)]), "--drain", "0")
         here = self.points("b.csv", [(2, 100)])
         with opened([service.place, here]) as boxes:
-            self.assertEqual(written(boxes, [b"count window 500 600 0 10"]), b"ok 1 0\n")
+            line = b"find window 90 600 0 0"
+            self.assertEqual(written(boxes, [line]), b"2 0\nok 1 1\n")
             self.points("a.csv", [(3, 500)])
             service.exchange()
             service.until("signal=9")
-            self.assertEqual(written(boxes, [b"count window 500 600 0 10", b"count all"]), b"ok 1 1\nok 2 2\n")
+            self.assertEqual(written(boxes, [line, b"count all"]), b"2 0\n3 0\nok 1 2\nok 2 2\n")
 
     def test_reconnect_takes_all_or_none(self) -> None:
         services = [self.service(name, self.points(f"{name}.csv", [(id, id)])) for id, name in enumerate("ab", 1)]
