@@ -9,13 +9,14 @@ import signal
 import socket
 import subprocess
 import threading
+import unittest
 from collections.abc import Iterable, Iterator
 from pathlib import Path
 
 from cluster_support import PROGRAM, Folders, Service, Services, one_run, opened, some_lines, until, written
 
 from shards.connections import ShardError
-from shards.places import there
+from shards.places import place_of, places_of, there
 from shards.router import Cluster
 
 from rtfilter import RtfilterError
@@ -43,6 +44,20 @@ Host *
   UserKnownHostsFile /dev/null
   LogLevel ERROR
 """
+
+
+class Words(unittest.TestCase):
+    def test_each_kind_of_place(self) -> None:
+        """What a word is taken for is what its name says, and whether a program is started on another host for it."""
+        for word, name, host in (
+            ("parts/0000.csv", "parts/0000.csv", None), ("./a:b.csv", "./a:b.csv", None), (":x", ":x", None),
+            ("there:parts/0.csv", "there:parts/0.csv", "there"), ("me@there:/a:b", "me@there:/a:b", "me@there"),
+            ("there:7878", "there:7878", None), ("[::1]:7878", "::1:7878", None), ("unix:/a:7", "/a:7", None),
+        ):  # fmt: skip
+            place = place_of(word, PROGRAM)
+            self.assertEqual((place.name, place.host), (name, host), word)
+        both = places_of("one:7878,two:7878", PROGRAM)
+        self.assertEqual([place.name for place in both], ["one:7878", "two:7878"])
 
 
 class Addresses(Services):
