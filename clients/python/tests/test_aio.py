@@ -94,7 +94,7 @@ class Questions(Case):
         least: dict[str, float] = {}
         with Rtfilter(BOXES, program=PROGRAM) as alone:
             async with aio.Rtfilter(BOXES, program=PROGRAM) as boxes:
-                for _ in range(5):
+                for _ in range(15):  # of which the least counts, on a machine with other work
                     in_threads = partial(asyncio.to_thread, alone.count)
                     for name, ask in anything(("pipelined", boxes.count), ("threads", in_threads)):
                         begun = time.perf_counter()
