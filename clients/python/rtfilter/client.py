@@ -129,7 +129,7 @@ class Rtfilter(Boxes):
         if "\n" in line:
             raise ValueError(LINE_FEED.format(line))
         text = f"{line}\n".encode("utf-8", "surrogateescape")
-        deadline = self._deadline()
+        deadline = ENDLESS if self._timeout is None else Deadline(self._timeout)
         return cut_one(self._turns.take(lambda: self._open(deadline).reply_to(text, deadline), deadline), line)
 
     def _open(self, deadline: Deadline) -> Transport:

@@ -17,7 +17,7 @@ from .transport import Text, Transport
 
 LONGEST_ERROR = 1 << 12  # bytes of standard error that are told
 GRACE = 2.0  # seconds that the program has to end by itself
-PAUSES = 0.0005, 0.05  # seconds between two looks whether it has ended, the first and the longest
+PAUSES = 0.0005, 0.05  # seconds between two looks whether it has ended, the shortest and the longest
 
 class Process(Protocol):
     """A process that was started here: its number, and once it was taken its status."""
@@ -69,16 +69,14 @@ class Child(Transport):
         return Ended(status, told.decode(errors="replace").strip() or self._why)
 
     def _end(self, grace: float) -> int:
-        """The status with which it ends by itself, in so many seconds, or else is killed."""
-        until = time.monotonic() + grace
-        first, longest = PAUSES
-        pause = first
+        """The status with which it ends by itself, in so many seconds, or else is killed. That is known later by a quarter of
+        the time that it took, at most."""
+        begun, (shortest, longest) = time.monotonic(), PAUSES
         while (status := status_of(self._process)) is None:
-            left = until - time.monotonic()
-            if left <= 0:
+            waited = time.monotonic() - begun
+            if waited >= grace:
                 self._end_at_once()
-            pause = min(2 * pause, longest, left) if left > first else first
-            time.sleep(pause)
+            time.sleep(max(shortest, min(waited / 4, longest, grace - waited)))
         return status
 
     def _end_at_once(self) -> None:

@@ -182,10 +182,10 @@ def _layer(number: int) -> int:
 
 def find_line(region: Region, order: Order | None, first: int | None, on: Layers | None = None) -> str:
     """A query for boxes. A circle's boxes come by distance where no order is named, and can't come by id: ValueError."""
-    if isinstance(order, ById) and isinstance(region, Circle):
-        raise ValueError("the boxes of a circle come by a score: its own, Near or Smallest")
-    line = f"find {region!s}{on_words(on)}"
+    line = f"find {region!s}" if on is None else f"find {region!s}{on_words(on)}"
     if order is not None:
+        if isinstance(order, ById) and isinstance(region, Circle):
+            raise ValueError("the boxes of a circle come by a score: its own, Near or Smallest")
         line = f"{line} {order!s}"
     return line if first is None else f"{line} first {index(first):d}"
 
@@ -197,4 +197,4 @@ def count_line(region: Region, on: Layers | None = None) -> str:
 
 def nearest_line(k: int, x: int, y: int) -> str:
     """A query for the k boxes nearest to a point."""
-    return f"nearest {index(k):d} {index(x):d} {index(y):d}"
+    return "nearest %d %d %d" % (index(k), index(x), index(y))

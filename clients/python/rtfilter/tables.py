@@ -58,8 +58,7 @@ def _numbers(rows: list[Row], first: int) -> list[Row]:
     """Rows that can be gone through twice; the first of them has this place."""
     found: list[Row] = []
     try:
-        for row in rows:
-            found.append(tuple(row))
+        found.extend(map(tuple, rows))  # which keeps those before a fault
     except TypeError as error:
         raise TypeError(f"rows[{first + len(found)}]: {error}") from None
     return found

@@ -10,6 +10,7 @@ import tempfile
 import time
 import unittest
 from collections.abc import Iterator
+from functools import partial
 from pathlib import Path
 from typing import Any
 
@@ -93,8 +94,9 @@ class Questions(Case):
         least: dict[str, float] = {}
         with Rtfilter(BOXES, program=PROGRAM) as alone:
             async with aio.Rtfilter(BOXES, program=PROGRAM) as boxes:
-                for _ in range(5):
-                    for name, ask in anything(("pipelined", boxes.count), ("threads", lambda it: asyncio.to_thread(alone.count, it))):
+                for _ in range(15):  # of which the least counts, on a machine with other work
+                    in_threads = partial(asyncio.to_thread, alone.count)
+                    for name, ask in anything(("pipelined", boxes.count), ("threads", in_threads)):
                         begun = time.perf_counter()
                         await asyncio.gather(*(ask(All()) for _ in range(400)))
                         least[name] = min(least.get(name, 9.0), time.perf_counter() - begun)

@@ -9,7 +9,9 @@ from collections.abc import Callable
 from pathlib import Path
 from typing import Any
 
-from support import BOXES, LAYERS, PROGRAM, anything, random_runs, reading, some_rows, some_sound_table, told_by_program, written
+from support import (
+    BOXES, LAYERS, PROGRAM, anything, random_runs, reading, some_rows, some_sound_table, told_by_program, written,
+)  # fmt: skip
 
 from rtfilter import (
     All,

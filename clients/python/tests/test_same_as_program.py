@@ -10,9 +10,13 @@ from functools import partial
 from pathlib import Path
 from unittest import mock
 
-from support import BOXES, PROGRAM, anything, random_runs, reading, some_lines, some_sound_table, told_by_program, written
+from support import (
+    BOXES, PROGRAM, anything, random_runs, reading, some_lines, some_sound_table, told_by_program, written,
+)  # fmt: skip
 
-from rtfilter import All, Answers, Circle, Covers, Inside, Near, Polygon, Pool, QueryError, Reply, Rtfilter, Smallest, Window
+from rtfilter import (
+    All, Answers, Circle, Covers, Inside, Near, Polygon, Pool, QueryError, Reply, Rtfilter, Smallest, Window,
+)  # fmt: skip
 
 RUNS = 60
 

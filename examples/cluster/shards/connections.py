@@ -48,17 +48,13 @@ class Shard:
         if not places:
             raise ValueError(f"shard {number} has no place where it can be asked")
         self.number = number
-        self._places = list(places)
+        self.places = list(places)
         self.held: Held | None = None
 
-    def __len__(self) -> int:
-        """How many places there are."""
-        return len(self._places)
-
-    def places(self) -> list[Place]:
-        """In the order in which they are to be tried: where the shard was asked before comes last, for there it has gone."""
-        behind = self._places.index(self.held.place) + 1 if self.held is not None else 0
-        return self._places[behind:] + self._places[:behind]
+    def others_first(self) -> list[Place]:
+        """The places, that where the shard was asked until now at the end, for there it has gone."""
+        behind = self.places.index(self.held.place) + 1 if self.held is not None else 0
+        return self.places[behind:] + self.places[:behind]
 
     def is_lost(self, ended: Collection[int]) -> bool:
         """Whether there is no connection, by the descriptors of those that have ended."""
@@ -90,7 +86,7 @@ class Connections:
         lost = [shard for shard in self.shards if shard.is_lost(ended)]
         if not lost:
             return
-        found = self._opened_each(lost, deadline)
+        found = self._opened_each(lost, [shard.others_first() for shard in lost], deadline)
         for shard, held in zip(lost, found):
             if isinstance(held, Held):
                 self._hold(shard, held)
@@ -102,7 +98,7 @@ class Connections:
         """Makes all anew, or leaves all as they are and raises `ShardError`."""
         if self.are_ended:
             raise ValueError(CLOSED)
-        found = self._opened_each(self.shards, deadline)
+        found = self._opened_each(self.shards, [shard.places for shard in self.shards], deadline)
         fresh = [held for held in found if isinstance(held, Held)]
         for error in found:
             if isinstance(error, ShardError):
@@ -121,16 +117,18 @@ class Connections:
         if held.transport.descriptor >= 0:
             self._poll.register(held.transport.descriptor, select.POLLIN)
 
-    def _opened_each(self, shards: Sequence[Shard], deadline: Deadline) -> list[Held | ShardError]:
+    def _opened_each(
+        self, shards: Sequence[Shard], places: Sequence[list[Place]], deadline: Deadline
+    ) -> list[Held | ShardError]:
         """New connections to some shards, side by side; of each that has none, why."""
-        if len(shards) <= 1:
-            return [self._opened(shard, deadline) for shard in shards]
+        if len(shards) == 1:
+            return [self._opened(shards[0], places[0], deadline)]
         with ThreadPoolExecutor(len(shards)) as threads:
-            return list(threads.map(self._opened, shards, [deadline] * len(shards)))
+            return list(threads.map(self._opened, shards, places, [deadline] * len(shards)))
 
-    def _opened(self, shard: Shard, deadline: Deadline) -> Held | ShardError:
+    def _opened(self, shard: Shard, places: list[Place], deadline: Deadline) -> Held | ShardError:
         """A new connection, at the first place where there is one. Each place has its part of the time."""
-        places, faults = shard.places(), []
+        faults = []
         for at, place in enumerate(places):
             part = deadline if deadline.is_endless else deadline.sooner(deadline.left() / (len(places) - at))
             try:

@@ -1,5 +1,5 @@
-"""A table cut into shards by sort-tile-recursive slices: sorted by the middles of boxes on x and cut into slices, each
-of which is sorted by y and cut.
+"""A table cut into shards by sort-tile-recursive slices: sorted by where boxes begin on x and cut into slices, each of
+which is sorted by y and cut.
 
 `sort` of coreutils does the work, over parts of the table side by side, so that a table may be larger than memory; the folder
 of the shards takes up to four times the table's bytes meanwhile. `mawk` checks plain records, of which nearly all tables are;
@@ -26,22 +26,22 @@ from .records import TableError, boxes_in
 MOST_ENTRIES = 16777216  # that one program holds
 PART = 1 << 28  # bytes of a table that are sorted at once, at most
 PLAN = "cut.json"
-BY_X = "-k1,1n", "-k3,3n"
-BY_Y = "-k2,2n", "-k3,3n"
+BY_X = "-k2,2n", "-k1,1n"
+BY_Y = "-k4,4n", "-k1,1n"
 BY_ID = "-k1,1n", "-k2,2n"
 
 NOT_PLAIN = 3
-# Each plain record makes a line `X,Y,RECORD`, by which they are sorted, and its id a line for another command. Ids that awk's
-# numbers don't hold are left to Python, and so is whatever else is no plain record.
+# Hands plain records on, and their ids to another command. Ids that awk's numbers don't hold are left to Python, and so is
+# whatever else is no plain record.
 PLAIN = r"""
-BEGIN { FS = ","; CONVFMT = "%.0f"; least = -2147483648; most = 2147483647; ids = ENVIRON["SORT_IDS"] }
+BEGIN { FS = ","; least = -2147483648; most = 2147483647; ids = ENVIRON["SORT_IDS"] }
 /[^0-9,-]|[0-9]-|-[,-]|-$|,,|^,|,$/ || NF < 5 || NF > 6 { exit 3 }
 {
   x1 = $2 + 0; x2 = $3 + 0; y1 = $4 + 0; y2 = $5 + 0
   if (x1 > x2 || y1 > y2 || x1 < least || x2 > most || y1 < least || y2 > most) exit 3
   if (length($1) > 18 && ($1 > 9.2e18 || $1 < -9.2e18)) exit 3
   if (NF == 6 && ($6 < 0 || $6 > 63)) exit 3
-  print (x1 + x2) "," (y1 + y2) "," $0
+  print
   print $1 | ids
 }
 """
@@ -189,14 +189,13 @@ class Cut:
     def _checked_part(self) -> Path:
         """The table in one part, sorted by x, as Python reads it. Raises its first fault."""
         part = self._folder / "part"
-        ids, keyed = part.with_suffix(".ids"), part.with_suffix(".keyed")
+        ids, records = part.with_suffix(".ids"), part.with_suffix(".records")
         faults = []
-        with open(self._table, encoding="latin-1", newline="") as file, open(ids, "wb") as by_id, open(keyed, "wb") as by_x:
+        with open(self._table, encoding="latin-1", newline="") as file, open(ids, "wb") as by_id, open(records, "wb") as by_x:
             try:
-                for at, (id, min_x, max_x, min_y, max_y, layer) in boxes_in(file, self._header):
-                    by_id.write(b"%d,%d\n" % (id, at))
-                    record = b"%d,%d,%d,%d,%d,%d" % (id, min_x, max_x, min_y, max_y, layer)
-                    by_x.write(b"%d,%d,%b\n" % (min_x + max_x, min_y + max_y, record))
+                for at, numbers in boxes_in(file, self._header):
+                    by_id.write(b"%d,%d\n" % (numbers[0], at))
+                    by_x.write(b"%d,%d,%d,%d,%d,%d\n" % tuple(numbers))
             except TableError as fault:
                 faults.append(fault)
         with Pipeline(sort(self._folder, *BY_ID, ids)) as pipeline:
@@ -204,7 +203,7 @@ class Cut:
         pipeline.check()
         if first is not None:
             raise first
-        with Pipeline([*sort(self._folder, *BY_X, keyed), "-o", str(part)]) as pipeline:
+        with Pipeline([*sort(self._folder, *BY_X, records), "-o", str(part)]) as pipeline:
             pass
         pipeline.check()
         return part
@@ -215,7 +214,7 @@ class Cut:
         """The shards of a slice, whose lines are sorted by y."""
         if not name.exists():
             return
-        with Pipeline(sort(self._folder, *BY_Y, name), ["cut", "-d,", "-f3-"]) as pipeline:
+        with Pipeline(sort(self._folder, *BY_Y, name)) as pipeline:
             for shard, size in zip(shards, self._sizes(boxes, shards)):
                 with whole(shard) as file:
                     file.writelines(islice(pipeline.output, size))

@@ -119,7 +119,7 @@ class Cluster(Owned, Closing):
                 self._answer_turn(self._turn(lines, sink.done), sink, deadline)
             except Broken as broken:
                 breaks[broken.number] += 1
-                is_tried = breaks[broken.number] > len(self._connections.shards[broken.number])
+                is_tried = breaks[broken.number] > len(self._connections.shards[broken.number].places)
                 if sink.has_begun or is_tried or deadline.is_over or self._connections.are_ended:
                     raise
 

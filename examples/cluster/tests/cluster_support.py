@@ -145,9 +145,16 @@ class Service:
         self.start()
 
     def start(self) -> None:
-        with open(self._log, "wb") as log:
-            self.process = subprocess.Popen(self._command, stderr=log)
-        self.until("ready: ")
+        """Also where one that was killed is still there for a moment, and has the address."""
+        end = time.monotonic() + LONG
+        while True:
+            with open(self._log, "wb") as log:
+                self.process = subprocess.Popen(self._command, stderr=log)
+            self.until("ready: ")
+            if self.process.poll() is None:
+                return
+            if time.monotonic() > end:
+                raise AssertionError(self._log.read_text())
 
     def until(self, text: str, count: int = 1) -> None:
         """Waits until the log has a text so often."""

@@ -9,21 +9,21 @@ import signal
 import socket
 import subprocess
 import threading
+import unittest
 from collections.abc import Iterable, Iterator
 from pathlib import Path
 
 from cluster_support import PROGRAM, Folders, Service, Services, one_run, opened, some_lines, until, written
 
-from shards import places
 from shards.connections import ShardError
-from shards.places import there
+from shards.places import place_of, places_of, there
 from shards.router import Cluster
 
 from rtfilter import RtfilterError
 
 SEQUENCES, STEPS = 6, 25
 SSHD = "/usr/sbin/sshd"
-MOST_STARTING = places.STARTED_AT_ONCE + 1  # who haven't logged in yet: one of before may still be counted
+MOST_STARTING = 6  # who haven't logged in yet, of whom one or two may have by now
 
 SSHD_CONFIG = """
 ListenAddress 127.0.0.1
@@ -46,6 +46,20 @@ Host *
 """
 
 
+class Words(unittest.TestCase):
+    def test_each_kind_of_place(self) -> None:
+        """What a word is taken for is what its name says, and whether a program is started on another host for it."""
+        for word, name, host in (
+            ("parts/0000.csv", "parts/0000.csv", None), ("./a:b.csv", "./a:b.csv", None), (":x", ":x", None),
+            ("there:parts/0.csv", "there:parts/0.csv", "there"), ("me@there:/a:b", "me@there:/a:b", "me@there"),
+            ("there:7878", "there:7878", None), ("[::1]:7878", "::1:7878", None), ("unix:/a:7", "/a:7", None),
+        ):  # fmt: skip
+            place = place_of(word, PROGRAM)
+            self.assertEqual((place.name, place.host), (name, host), word)
+        both = places_of("one:7878,two:7878", PROGRAM)
+        self.assertEqual([place.name for place in both], ["one:7878", "two:7878"])
+
+
 class Addresses(Services):
     def test_a_table_that_has_changed(self) -> None:
         """A connection keeps its table. Whoever connects anew asks the new one, within its own bounds."""
@@ -65,11 +79,12 @@ class Addresses(Services):
         service = self.service("a", self.points("a.csv", [(1, 10)]), "--drain", "0")
         here = self.points("b.csv", [(2, 100)])
         with opened([service.place, here]) as boxes:
-            self.assertEqual(written(boxes, [b"count window 500 600 0 10"]), b"ok 1 0\n")
+            line = b"find window 90 600 0 0"
+            self.assertEqual(written(boxes, [line]), b"2 0\nok 1 1\n")
             self.points("a.csv", [(3, 500)])
             service.exchange()
             service.until("signal=9")
-            self.assertEqual(written(boxes, [b"count window 500 600 0 10", b"count all"]), b"ok 1 1\nok 2 2\n")
+            self.assertEqual(written(boxes, [line, b"count all"]), b"2 0\n3 0\nok 1 2\nok 2 2\n")
 
     def test_reconnect_takes_all_or_none(self) -> None:
         services = [self.service(name, self.points(f"{name}.csv", [(id, id)])) for id, name in enumerate("ab", 1)]
@@ -109,6 +124,19 @@ class Addresses(Services):
                 boxes.replies(["count all"])
             for service in services:
                 self.assertIn(f"{service.place[5:]}: ", str(caught.exception))
+
+    def test_the_first_place_is_asked_where_it_can_be(self) -> None:
+        services = [self.service(name, self.points(f"{name}.csv", [(id, id)])) for id, name in enumerate("ab", 1)]
+        with opened([",".join(service.place for service in services)]) as boxes:
+            for _ in range(2):
+                self.assertEqual(written(boxes, [b"find all"]), b"1 0\nok 1 1\n")
+                boxes.reconnect()
+            services[0].end()
+            self.assertEqual(written(boxes, [b"find all"]), b"2 0\nok 1 1\n")
+            services[0].start()
+            self.assertEqual(written(boxes, [b"find all"]), b"2 0\nok 1 1\n")
+            boxes.reconnect()
+            self.assertEqual(written(boxes, [b"find all"]), b"1 0\nok 1 1\n")
 
     def test_a_place_that_is_silent(self) -> None:
         """It has its part of the time, and the other the rest."""
