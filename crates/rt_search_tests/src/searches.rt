@@ -77,7 +77,7 @@ fn expect_unscored<G: Geometry>(
     limit: Option<u64>,
     want: &Want<'_>,
 )
-    requires { IsUnscored (G.verdict geometry.now) }
+    requires { IsUnscored (G.meaning geometry.now) }
 {
     expect_search(rt, alloc, tree, geometry, limit, want);
     let frontier = Frontier::new(alloc, tree.len()).expect(rt, "there is memory");
