@@ -56,6 +56,7 @@ class Exchanges(Lives):
         self.assertEqual(brief(fence.events.some(3)), wanted)
         self.assertTrue(is_gone(program))
         self.assertEqual(len(children_of(fence.process.pid)), 1)
+        self.assertEqual(fence.ended(), (0, []))  # and nothing was loaded once more
 
     def test_zones_that_are_not_taken(self) -> None:
         """Those of before stay, and a later exchange is made."""
