@@ -328,7 +328,8 @@ class WantOfRoom(Case):
         if not all(it.stat().st_mode & 1 for it in SERVICE.parents):
             self.skipTest("a checkout that others may read: not there")
         os.chmod(self.folder, 0o777)
-        before = ["prlimit", "--nproc=6", "setpriv", "--reuid=61234", "--regid=61234", "--clear-groups"]
+        user = 60_000 + os.getpid() % 5_000  # whom no other run of this test has, since they'd be counted together
+        before = ["prlimit", "--nproc=6", "setpriv", f"--reuid={user}", f"--regid={user}", "--clear-groups"]
         service = self.served(BOXES, before=before, python=SYSTEM_PYTHON)
         with contextlib.ExitStack() as stack:
             askers = [stack.enter_context(service.connect()) for _ in range(3)]  # beside two threads of the service, and its program
