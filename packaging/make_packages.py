@@ -25,9 +25,12 @@ MAINTAINER = "The maintainers of rtfilter <maintainers@rtfilter.invalid>"  # as 
 REVISION = "1"  # of the packages of one version
 WIDTH = 76  # of the changes
 
+# The pages for users, as docs/README.md has them.
+PAGES = [f"{name}.md" for name in ("SCALING", "python-client", "query-language", "recipes", "table-format", "usage")]
+
 # What packages are made of, beside the program.
 SOURCES = [
-    "Makefile", "crates.txt", "docs/rtfilter.1", "docs/rtfilter-serve.1", "packaging/rtfilter.bash", "service/README.md",
+    "Makefile", "README.md", "crates.txt", *(f"docs/{name}" for name in PAGES), "docs/pictures", "docs/rtfilter.1", "docs/rtfilter-serve.1", "packaging/rtfilter.bash", "service/README.md",
     "service/prefork.c", "service/serve.py", "service/service.py", "service/listening.py", "service/health.py",
     "service/rtfilter.service", "service/rtfilter.socket", "clients/python/rtfilter",
     *(f"examples/{name}" for name in ("common", "data", "geofence", "languages", "roads", "tiles")),
@@ -64,6 +67,8 @@ def place(source: Path, target: Path) -> None:
         shutil.copy(source, target)
     for path in (target, *target.rglob("*")):
         path.chmod(0o755 if path.is_dir() or os.access(path, os.X_OK) else 0o644)
+        if path.suffix == ".py":  # Debian's own Python, whichever is first on the path
+            path.write_bytes(path.read_bytes().replace(b"#!/usr/bin/env python3\n", b"#!/usr/bin/python3\n", 1))
 
 
 def main() -> None:

@@ -19,7 +19,7 @@ from concurrent.futures import ProcessPoolExecutor
 from pathlib import Path
 
 from serving import Service
-from support import BOXES, EXAMPLES, PACKAGE, PROGRAM, anything, children_of, descendants_of, open_files, parent_of
+from support import BOXES, EXAMPLES, LAYERS, PACKAGE, PROGRAM, anything, children_of, descendants_of, open_files, parent_of
 
 sys.path.insert(0, str(EXAMPLES / "cluster"))
 from shards.places import places_of
@@ -530,7 +530,7 @@ class Closes(Case):
             lambda: Rtfilter(BOXES, program=PROGRAM),
             lambda: Rtfilter(BOXES, program=PROGRAM, timeout=60),
             lambda: Pool(2, BOXES, program=self.alone),
-            lambda: Cluster([places_of(str(BOXES), PROGRAM), places_of(str(EXAMPLES / "layers.csv"), PROGRAM)]),
+            lambda: Cluster([places_of(str(BOXES), PROGRAM), places_of(str(LAYERS), PROGRAM)]),
         ):
             boxes = opened()
             for process in programs() - self.before[0]:
