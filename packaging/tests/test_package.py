@@ -172,8 +172,8 @@ class Packages(unittest.TestCase):
                 examples = Path(system, "usr/share/rtfilter/examples")
                 for name, told_of in (("geofence/fence.py", "enter"), ("roads/snap.py", "nearest")):
                     lines = "it,16.38,48.19,1\n" if "fence" in name else "it,16.35,48.2105\n"
-                    asked = [examples / name, examples / "data" / ("zones.geojson" if "fence" in name else "roads.geojson")]
-                    self.assertIn(f'"{told_of}"', run("/usr/bin/python3", *asked, env=words, input=lines))
+                    file = examples / "data" / ("zones.geojson" if "fence" in name else "roads.geojson")
+                    self.assertIn(f'"{told_of}"', run("/usr/bin/python3", examples / name, file, env=words, input=lines))
                 run("/usr/bin/python3", examples / "tiles/make_map.py", f"{system}/map", "--boxes", "1000", env=words)
                 shutil.rmtree(f"{system}/map")
                 run(*dpkg, "--verify", "rtfilter", "python3-rtfilter")
@@ -199,9 +199,9 @@ class Packages(unittest.TestCase):
                 Path(folder, unit.name).write_text(unit.read_text().replace("/usr/bin/rtfilter-serve", str(tree / "usr/bin/rtfilter-serve")))
             said = run("systemd-analyze", "--man=no", "--recursive-errors=no", "verify", *Path(folder).glob("rtfilter.s*"))
             self.assertEqual([line for line in said.splitlines() if "rtfilter" in line], [])
-        unit = (tree / "lib/systemd/system/rtfilter.service").read_text()
-        self.assertIn("\nExecStart=/usr/bin/rtfilter-serve --program /usr/bin/rtfilter $OPTIONS ${TABLE}\n", unit)
-        self.assertIn("\nEnvironmentFile=-/etc/default/rtfilter-service\n", unit)
+        text = (tree / "lib/systemd/system/rtfilter.service").read_text()
+        self.assertIn("\nExecStart=/usr/bin/rtfilter-serve --program /usr/bin/rtfilter $OPTIONS ${TABLE}\n", text)
+        self.assertIn("\nEnvironmentFile=-/etc/default/rtfilter-service\n", text)
         defaults = (tree / "etc/default/rtfilter-service").read_text()
         self.assertEqual(re.findall(r"^(\w+)=", defaults, re.MULTILINE), ["TABLE", "OPTIONS"])
 
