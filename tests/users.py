@@ -3,8 +3,9 @@
 
 usage: tests/users.py PROGRAM [--need-all] [--only NAME]..
 
-They try a copy of it, beside what a service loads into it where there is a C compiler. The tests are those of the folders TESTS, or of those that are named. One that wants what isn't installed here is skipped
-and named; with --need-all it has failed. The last line is `N passed, M failed`.
+They try a copy of it, beside what a service loads into it where there is a C compiler. The tests are those of the folders
+TESTS, or of those that are named. One that wants what isn't installed here is skipped and named; with --need-all it has
+failed. The last line is `N passed, M failed`.
 """
 
 import argparse
