@@ -9,12 +9,15 @@ use Rattle.rt_geo.specs.Lemmas.Layers.{disjoint-only, has-all}
 use Rattle.rt_geo.specs.OnLayers.{on_layers_accepts}
 use Rattle.rt_geo.specs.declared.entry.Entry.{Entry}
 use Rattle.rt_geo.specs.declared.layers.Layers.{Layers}
-use Rattle.rt_geo.specs.Orders.{by_id, order_score}
+use Rattle.rt_geo.specs.Regions.{region_accepts}
+use Rattle.rt_geo.specs.Orders.{order_score}
+use Rattle.rt_geo.specs.declared.order.Order.{Order}
+use Rattle.rt_text.specs.declared.query.BoxQuery.{BoxQuery}
 use Rattle.rt_text.specs.ReplyLines.{ok_line}
-use Rattle.rt_filter.specs.Replies.{find_reply}
+use Rattle.rt_filter.specs.Replies.{find_reply, meaning_of, report_of}
 use Rattle.rt_filter.specs.Reports.{report_on, scanned}
-use Rattle.rt_filter.specs.declared.query.Report.{Report}
-use Rattle.rt_filter.specs.declared.query.Report.TheVariants.{Answers, Count}
+use Rattle.rt_text.specs.declared.query.Report.{Report}
+use Rattle.rt_text.specs.declared.query.Report.TheVariants.{Answers, Count}
 use Rattle.rt_tree.specs.Sorting.{limited, sorted}
 use Rattle.rt_search.specs.Answers.{accepted, answer_cmp, answer_of, answers}
 
@@ -58,10 +61,17 @@ module _ (accepts : Extent → Bool) (score : Extent → ℕ) where
     answers-all limit = ap (λ found. limited limit (sorted answer_cmp (map (answer_of plain) found))) accepted-all
 
 module _ (accepts : Extent → Bool) (entries : List Entry) (few : All HasLayer entries) (layers : Layers)
-    (all : layers ≡ all_layers) (line : ℕ) where
+    (all : layers ≡ all_layers) (line : ℕ) (order : Order) where
   pub report_on-all : (report : Report)
-      → report_on entries (on_layers_accepts accepts layers) line report ≡ report_on entries accepts line report
-  report_on-all (Answers order limit) =
+      → report_on entries (on_layers_accepts accepts layers) line order report ≡ report_on entries accepts line order report
+  report_on-all (Answers limit) =
       ap (find_reply line) (answers-all accepts (order_score order) entries few layers all limit)
   report_on-all Count =
-      ap (λ found. ok_line line (length found)) (accepted-all accepts (order_score by_id) entries few layers all)
+      ap (λ found. ok_line line (length found)) (accepted-all accepts (order_score order) entries few layers all)
+
+-- the report on the boxes that a query asks for
+pub report_on-asked : (entries : List Entry) (line : ℕ) (asked : BoxQuery) (report : Report)
+    → report_on entries (on_layers_accepts (region_accepts asked.region) asked.layers) line asked.order report
+    ≡ report_of entries line (meaning_of asked) report
+report_on-asked entries line asked (Answers limit) = refl
+report_on-asked entries line asked Count = refl

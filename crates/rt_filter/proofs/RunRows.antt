@@ -8,7 +8,8 @@ use Rattle.rt_geo.specs.Orders.{near}
 use Rattle.rt_geo.specs.declared.order.Order.TheVariants.{ById}
 use Rattle.rt_geo.specs.declared.region.Region.TheVariants.{All, Circle}
 use Rattle.rt_text.proofs.Rows.{boxes, boxes_entries, boxes_load, line}
-use Rattle.rt_text.specs.declared.query.Query.TheVariants.{Find}
+use Rattle.rt_text.specs.declared.query.Query.TheVariants.{Boxes}
+use Rattle.rt_text.specs.declared.query.Report.TheVariants.{Answers}
 use Rattle.rt_text.specs.declared.tables.TableFault.TheVariants as fault
 use Rattle.rt_search.specs.Answers.{answers}
 use Rattle.rt_filter.specs.Faults.{run_fault_line}
@@ -30,7 +31,7 @@ row_ended = refl
 -- ---- answers
 
 -- unequal scores, a tie that goes by id, and a limit
-row_nearest : answers boxes_entries (meaning_of (All (record {})) all_layers (near (record { x = pos 12; y = pos 12 }))) (Some 3)
+row_nearest : answers boxes_entries (meaning_of (record { region = All (record {}); layers = all_layers; order = near (record { x = pos 12; y = pos 12 }); report = Answers (Some 3) })) (Some 3)
     ≡ (pos 2, 0) ∷ (pos 5, 0) ∷ (pos 1, 8) ∷ []
 row_nearest = refl
 
@@ -52,7 +53,7 @@ unfolding digits
 row_circle = refl
 
 -- a circle's boxes by id, which no line asks for
-row_circle_by_id : query_reply (record { entries = boxes_entries; fanout = 2 }) 7 (Find (Circle (record { centre = record { x = pos 0; y = pos 0 }; radius = 2 })) (ById (record {})) None all_layers) ≡ line (codes "1 0") ++ line (codes "4 0") ++ line (codes "ok 7 2")
+row_circle_by_id : query_reply (record { entries = boxes_entries; fanout = 2 }) 7 (Boxes (record { region = Circle (record { centre = record { x = pos 0; y = pos 0 }; radius = 2 }); layers = all_layers; order = ById (record {}); report = Answers None })) ≡ line (codes "1 0") ++ line (codes "4 0") ++ line (codes "ok 7 2")
 unfolding digits
 row_circle_by_id = refl
 

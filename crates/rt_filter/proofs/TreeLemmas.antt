@@ -6,10 +6,7 @@ use Rattle.std.specs.List.Sorted.{IsPermutation}
 use Rattle.std.specs.Ordering.{int_eq}
 use Rattle.std.proofs.lemmas.List.Sorted.{IsPermutation-sym, length_permutation}
 use Rattle.rt_geo.specs.Laws.{Meaning}
-use Rattle.rt_geo.specs.Orders.{by_id}
 use Rattle.rt_geo.specs.declared.entry.Entry.{Entry}
-use Rattle.rt_geo.specs.declared.layers.Layers.{Layers}
-use Rattle.rt_geo.specs.declared.region.Region.{Region}
 use Rattle.rt_tree.specs.Packing.{pack_of}
 use Rattle.rt_tree.proofs.PackSound.{entries-IsPermutation}
 use Rattle.rt_tree.proofs.Repacked.{pack_of-IsPermutation}
@@ -18,13 +15,16 @@ use Rattle.rt_tree.specs.Levels.{level_sizes}
 use Rattle.rt_tree.specs.Packed.{IsSound, Packed}
 use Rattle.rt_tree.specs.Sorting.{limited}
 use Rattle.rt_text.specs.ReplyLines.{ok_line}
+use Rattle.rt_text.specs.declared.query.BoxQuery.{BoxQuery}
 use Rattle.rt_text.specs.declared.query.Parsed.{Parsed}
 use Rattle.rt_text.specs.declared.query.Parsed.TheVariants as parsed
 use Rattle.rt_text.specs.declared.query.Query.{Query}
-use Rattle.rt_text.specs.declared.query.Query.TheVariants.{CostCount, CostFind, Count, Find, Levels}
+use Rattle.rt_text.specs.declared.query.Query.TheVariants.{Boxes, Cost, Levels}
+use Rattle.rt_text.specs.declared.query.Report.{Report}
+use Rattle.rt_text.specs.declared.query.Report.TheVariants.{Answers, Count}
 use Rattle.rt_search.specs.Answers.{answers}
-use Rattle.rt_search.specs.Work.{opened_by_count, opened_by_search}
-use Rattle.rt_filter.specs.Replies.{Loaded, find_reply, judged_line, levels_reply, meaning_of, output, query_reply, reply, tree_of}
+use Rattle.rt_filter.specs.Replies.{Loaded, find_reply, judged_line, levels_reply, meaning_of, opened_for, output, query_reply}
+use Rattle.rt_filter.specs.Replies.{reply, report_of, tree_of}
 use Rattle.rt_filter.specs.Stages.{loaded_tree}
 use Rattle.rt_search.proofs.Answering.{accepted-IsPermutation, among-IsPermutation}
 
@@ -46,16 +46,17 @@ module _ (fanout : ℕ) (xs ys : List Entry) (distinct : IsDistinct int_eq (ids_
   same_tree : tree_of first ≡ tree_of other
   same_tree = sym (pack_of-IsPermutation fanout ys xs distinct (IsPermutation-sym xs ys moved))
 
+  report_same : (line : ℕ) (meaning : Meaning) (report : Report)
+      → report_of xs line meaning report ≡ report_of ys line meaning report
+  report_same line meaning (Answers limit) =
+      ap (find_reply line) (answers-IsPermutation xs ys meaning limit moved)
+  report_same line meaning Count =
+      ap (ok_line line) (sym (length_permutation _ _ (accepted-IsPermutation meaning xs ys moved)))
+
   query_same : (line : ℕ) (query : Query) → query_reply first line query ≡ query_reply other line query
-  query_same line (Find region order limit layers) = ap (find_reply line)
-      (answers-IsPermutation xs ys (meaning_of region layers order) limit moved)
-  query_same line (Count region layers) = ap (ok_line line) (sym (length_permutation _ _
-      (accepted-IsPermutation (meaning_of region layers by_id) xs ys moved)))
+  query_same line (Boxes asked) = report_same line (meaning_of asked) asked.report
+  query_same line (Cost asked) = ap (λ tree. ok_line line (opened_for tree (meaning_of asked) asked.report)) same_tree
   query_same line Levels = ap (λ n. levels_reply line (level_sizes n fanout)) (sym (length_permutation xs ys moved))
-  query_same line (CostFind region order limit layers) =
-      ap (λ tree. ok_line line (opened_by_search (meaning_of region layers order) tree limit)) same_tree
-  query_same line (CostCount region layers) =
-      ap (λ tree. ok_line line (opened_by_count (meaning_of region layers by_id) tree)) same_tree
 
   reply_same : (line : ℕ) (parsed : Parsed) → reply first line parsed ≡ reply other line parsed
   reply_same line parsed.Skip = refl
@@ -85,11 +86,11 @@ module _ (tree : Packed) (loaded : Loaded) (sound : IsSound tree) (packed : tree
       output-IsPermutation loaded.fanout loaded.entries tree.entries sound.table.distinct moved lines
       ∙ ap (λ fanout. output (record { entries = tree.entries; fanout = fanout }) lines) (sym fanout_same)
 
--- ---- what a count costs
+-- ---- what a report costs
 
--- how many nodes a count opens of a tree is its cost line's answer
-pub count_cost : (tree : Packed) (line opened : ℕ) (region : Region) (layers : Layers)
-    → tree ≡ pack_of tree.fanout tree.entries → opened ≡ opened_by_count (meaning_of region layers by_id) tree
-    → ok_line line opened ≡ query_reply (loaded_tree tree) line (CostCount region layers)
-count_cost tree line opened region layers packed is =
-    ap (ok_line line) (is ∙ ap (opened_by_count (meaning_of region layers by_id)) packed)
+-- how many nodes are opened of the tree is its cost line's answer
+pub cost_same : (tree : Packed) (line opened : ℕ) (asked : BoxQuery) → tree ≡ pack_of tree.fanout tree.entries
+    → opened ≡ opened_for tree (meaning_of asked) asked.report
+    → ok_line line opened ≡ query_reply (loaded_tree tree) line (Cost asked)
+cost_same tree line opened asked packed is =
+    ap (ok_line line) (is ∙ ap (λ tree. opened_for tree (meaning_of asked) asked.report) packed)

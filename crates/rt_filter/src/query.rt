@@ -4,32 +4,22 @@
 //! on some layers the region is matched for each box, and of a cost both are.
 
 ghost use Rattle.std.specs.Prelude.{◌≡◌, ◌-◌, ◌<◌, ◌≤◌, ◌^◌, IfOk, length, true};
-ghost use Rattle.rt_geo.specs.OnLayers.{on_layers_accepts};
 ghost use Rattle.rt_geo.specs.Regions.{region_accepts};
 ghost use Rattle.rt_tree.specs.Levels.{level_sizes};
 ghost use Rattle.rt_text.specs.ReplyLines.{ok_line};
 ghost use Rattle.rt_search.specs.Answers.{answers};
 ghost use Rattle.rt_search.specs.Work.{IsUnscored};
 ghost use Rattle.rt_filter.specs.Pushes.{Pushed};
-ghost use Rattle.rt_filter.specs.Replies.{find_reply, levels_reply, query_reply};
-ghost use Rattle.rt_filter.specs.Reports.{cost_query, report_on};
+ghost use Rattle.rt_filter.specs.Replies.{find_reply, levels_reply, opened_for, query_reply};
+ghost use Rattle.rt_filter.specs.Reports.{report_on};
 ghost use Rattle.rt_filter.specs.Stages.{loaded_tree};
 
 use crate::reply::{push_line, push_search};
 use rt_device::{Sink, WriteFault};
-use rt_geo::{ById, Counted, Disc, Geometry, Guided, Layers, OnLayers, Order, Region, Shape};
+use rt_geo::{ById, Counted, Disc, Geometry, Guided, OnLayers, Order, Region, Shape};
 use rt_search::{Frontier, FullSearch, Search, cost, count};
-use rt_text::{Query, level_line, ok_line};
+use rt_text::{BoxQuery, Query, Report, level_line, ok_line};
 use rt_tree::Tree;
-
-// What is reported of the boxes that a query accepts.
-#[derive(Clone, Copy)]
-enum Report {
-    // A line for each in this order, of the first so many where there is a limit, and then their number.
-    Answers { order: Order, limit: Option<u64> },
-    // Their number.
-    Count,
-}
 
 /// Pushes the reply to a query.
 pub(crate) fn push_reply<K: Sink>(
@@ -46,33 +36,11 @@ pub(crate) fn push_reply<K: Sink>(
     ensures capacity { IfOk result (λ left. left.capacity ≡ frontier.capacity) }
 {
     match query {
-        Query::Find {
-            region,
-            order,
-            limit,
-            layers,
-        } => {
-            let report = Report::Answers { order, limit };
-            push_report(tree, frontier, line, region, layers, report, sink)
-        }
-        Query::Count { region, layers } => {
-            push_report(tree, frontier, line, region, layers, Report::Count, sink)
-        }
+        Query::Boxes(asked) => push_report(tree, frontier, line, asked, sink),
+        Query::Cost(asked) => push_cost(tree, frontier, line, asked, sink),
         Query::Levels => {
             push_levels(tree, line, sink)?;
             Ok(frontier)
-        }
-        Query::CostFind {
-            region,
-            order,
-            limit,
-            layers,
-        } => {
-            let report = Report::Answers { order, limit };
-            push_cost(tree, frontier, line, region, layers, report, sink)
-        }
-        Query::CostCount { region, layers } => {
-            push_cost(tree, frontier, line, region, layers, Report::Count, sink)
         }
     }
 }
@@ -91,30 +59,37 @@ fn push_levels<K: Sink>(tree: &Tree, line: u128, sink: &mut K) -> Result<(), Wri
     push_line(&ok_line(line, u64::from(count)), sink)
 }
 
-// Pushes the report on the boxes of a region that are on these layers. Inlined, so that the kind of report is known.
+// Pushes the report on boxes.
 #[inline(always)]
 fn push_report<K: Sink>(
     tree: &Tree,
     frontier: Frontier,
     line: u128,
-    shape: Region,
-    layers: Layers,
-    report: Report,
+    asked: BoxQuery,
     sink: &mut K,
 ) -> Result<Frontier, WriteFault>
     requires room { length tree.now.entries ≤ frontier.capacity }
     requires count { K.failed sink.old < 2 ^ 64 - 1 }
     ensures pushed { Pushed K.written K.failed sink.old sink.new result
-        (report_on tree.now.entries (on_layers_accepts (region_accepts shape) layers) line report) }
+        (query_reply (loaded_tree tree.now) line (Query.Boxes asked)) }
     ensures capacity { IfOk result (λ left. left.capacity ≡ frontier.capacity) }
 {
     // (called, so that it is known which layers the entries have)
     let _most = tree.len();
+    let BoxQuery {
+        region,
+        layers,
+        order,
+        report,
+    } = asked;
     if layers.bits() == u64::MAX {
-        return push_in_region(tree, frontier, line, shape, report, sink);
+        return push_in_region(tree, frontier, line, region, order, report, sink);
     }
-    let shape = OnLayers { shape, layers };
-    push_in_shape(tree, frontier, line, shape, report, sink)
+    let shape = OnLayers {
+        shape: region,
+        layers,
+    };
+    push_in_shape(tree, frontier, line, shape, order, report, sink)
 }
 
 // The same on all layers, which are those of all entries: none is checked. A polygon is prepared where it can be, and a
@@ -125,31 +100,32 @@ fn push_in_region<K: Sink>(
     frontier: Frontier,
     line: u128,
     region: Region,
+    order: Order,
     report: Report,
     sink: &mut K,
 ) -> Result<Frontier, WriteFault>
     requires room { length tree.now.entries ≤ frontier.capacity }
     requires count { K.failed sink.old < 2 ^ 64 - 1 }
     ensures pushed { Pushed K.written K.failed sink.old sink.new result
-        (report_on tree.now.entries (region_accepts region) line report) }
+        (report_on tree.now.entries (region_accepts region) line order report) }
     ensures capacity { IfOk result (λ left. left.capacity ≡ frontier.capacity) }
 {
     match region {
-        Region::All(shape) => push_in_shape(tree, frontier, line, shape, report, sink),
-        Region::Window(shape) => push_in_shape(tree, frontier, line, shape, report, sink),
-        Region::Inside(shape) => push_in_shape(tree, frontier, line, shape, report, sink),
-        Region::Covers(shape) => push_in_shape(tree, frontier, line, shape, report, sink),
+        Region::All(shape) => push_in_shape(tree, frontier, line, shape, order, report, sink),
+        Region::Window(shape) => push_in_shape(tree, frontier, line, shape, order, report, sink),
+        Region::Inside(shape) => push_in_shape(tree, frontier, line, shape, order, report, sink),
+        Region::Covers(shape) => push_in_shape(tree, frontier, line, shape, order, report, sink),
         Region::Circle(circle) => {
-            if let Report::Answers { order, limit } = report {
+            if let Report::Answers { limit } = report {
                 if let Some(disc) = Disc::from_parts(&circle, &order) {
                     return find(tree, frontier, line, disc, false, limit, sink);
                 }
             }
-            push_in_shape(tree, frontier, line, circle, report, sink)
+            push_in_shape(tree, frontier, line, circle, order, report, sink)
         }
         Region::Polygon(polygon) => match polygon.prepare() {
-            Some(prepared) => push_in_shape(tree, frontier, line, prepared, report, sink),
-            None => push_in_shape(tree, frontier, line, polygon, report, sink),
+            Some(prepared) => push_in_shape(tree, frontier, line, prepared, order, report, sink),
+            None => push_in_shape(tree, frontier, line, polygon, order, report, sink),
         },
     }
 }
@@ -161,17 +137,18 @@ fn push_in_shape<S: Shape + Drop, K: Sink>(
     frontier: Frontier,
     line: u128,
     shape: S,
+    order: Order,
     report: Report,
     sink: &mut K,
 ) -> Result<Frontier, WriteFault>
     requires room { length tree.now.entries ≤ frontier.capacity }
     requires count { K.failed sink.old < 2 ^ 64 - 1 }
     ensures pushed { Pushed K.written K.failed sink.old sink.new result
-        (report_on tree.now.entries (S.accepts shape) line report) }
+        (report_on tree.now.entries (S.accepts shape) line order report) }
     ensures capacity { IfOk result (λ left. left.capacity ≡ frontier.capacity) }
 {
-    let (order, limit) = match report {
-        Report::Answers { order, limit } => (order, limit),
+    let limit = match report {
+        Report::Answers { limit } => limit,
         Report::Count => return push_count(tree, frontier, line, shape, sink),
     };
     match order {
@@ -201,8 +178,8 @@ fn push_count<S: Shape + Drop, K: Sink>(
 ) -> Result<Frontier, WriteFault>
     requires room { length tree.now.entries ≤ frontier.capacity }
     requires count { K.failed sink.old < 2 ^ 64 - 1 }
-    ensures pushed { Pushed K.written K.failed sink.old sink.new result
-        (report_on tree.now.entries (S.accepts shape) line Report.Count) }
+    ensures pushed { (order : Order) → Pushed K.written K.failed sink.old sink.new result
+        (report_on tree.now.entries (S.accepts shape) line order Report.Count) }
     ensures capacity { IfOk result (λ left. left.capacity ≡ frontier.capacity) }
 {
     let geometry = Guided { shape, rank: ById };
@@ -244,38 +221,54 @@ fn find<G: Geometry + Drop, K: Sink>(
     }
 }
 
-// Pushes how many nodes a report on the boxes of a region that are on these layers opens.
+// Pushes how many nodes a report on boxes opens.
 fn push_cost<K: Sink>(
     tree: &Tree,
     frontier: Frontier,
     line: u128,
-    shape: Region,
-    layers: Layers,
-    report: Report,
+    asked: BoxQuery,
     sink: &mut K,
 ) -> Result<Frontier, WriteFault>
     requires room { length tree.now.entries ≤ frontier.capacity }
     requires count { K.failed sink.old < 2 ^ 64 - 1 }
     ensures pushed { Pushed K.written K.failed sink.old sink.new result
-        (query_reply (loaded_tree tree.now) line (cost_query shape layers report)) }
+        (query_reply (loaded_tree tree.now) line (Query.Cost asked)) }
     ensures capacity { IfOk result (λ left. left.capacity ≡ frontier.capacity) }
 {
     // (called, so that it is known that the tree is the packed one of its own entries)
     let _most = tree.len();
+    let BoxQuery {
+        region: shape,
+        layers,
+        order: rank,
+        report,
+    } = asked;
     let shape = OnLayers { shape, layers };
+    let geometry = Guided { shape, rank };
+    let (opened, frontier) = opened_for(tree, frontier, Counted::new(&geometry), report);
+    push_line(&ok_line(line, opened), sink)?;
+    Ok(frontier)
+}
+
+// How many nodes are opened for a report, and the frontier.
+fn opened_for<G: Geometry>(
+    tree: &Tree,
+    frontier: Frontier,
+    counted: Counted<'_, G>,
+    report: Report,
+) -> (u64, Frontier)
+    requires room { length tree.now.entries ≤ frontier.capacity }
+    requires asked { counted.asked ≡ 0 }
+    ensures opened { result.0 ≡ opened_for tree.now (G.meaning counted.entry.geometry) report }
+    ensures capacity { result.1.capacity ≡ frontier.capacity }
+{
     match report {
-        Report::Answers { order, limit } => {
-            let geometry = Guided { shape, rank: order };
-            let (opened, frontier) = cost(tree, frontier, Counted::new(&geometry), limit);
-            push_line(&ok_line(line, opened), sink)?;
-            Ok(frontier)
-        }
+        Report::Answers { limit } => cost(tree, frontier, counted, limit),
         Report::Count => {
-            let geometry = Guided { shape, rank: ById };
             let mut frontier = frontier;
-            let counted = count(tree, &mut frontier, &mut Counted::new(&geometry));
-            push_line(&ok_line(line, counted.opened), sink)?;
-            Ok(frontier)
+            let mut counted = counted;
+            let found = count(tree, &mut frontier, &mut counted);
+            (found.opened, frontier)
         }
     }
 }

@@ -19,12 +19,14 @@ use Rattle.rt_geo.specs.declared.shapes.Circle.{Circle as Disc}
 use Rattle.rt_text.specs.Numbers.{fault_as, number_in}
 use Rattle.rt_text.specs.Steps.{◌>>=◌, map_fault, map_value}
 use Rattle.rt_text.specs.Words.{words}
+use Rattle.rt_text.specs.declared.query.BoxQuery.{BoxQuery}
 use Rattle.rt_text.specs.declared.query.Parsed.{Parsed}
 use Rattle.rt_text.specs.declared.query.Parsed.TheVariants as parsed
 use Rattle.rt_text.specs.declared.query.Query.{Query}
-use Rattle.rt_text.specs.declared.query.Query.TheVariants.{CostCount, CostFind, Count, Find, Levels}
+use Rattle.rt_text.specs.declared.query.Query.TheVariants.{Boxes, Cost, Levels}
 use Rattle.rt_text.specs.declared.query.QueryFault.{QueryFault}
 use Rattle.rt_text.specs.declared.query.QueryFault.TheVariants as fault
+use Rattle.rt_text.specs.declared.query.Report.TheVariants.{Answers, Count}
 
 -- what was read, and the words that are left after it
 abbrev pub Taken : Type 0 → Type 0
@@ -163,42 +165,39 @@ limit words =
 
 -- ---- queries
 
--- a query after which no word is left
-abbrev pub finished : Query → List (List ℕ) → Result Query QueryFault
-finished query [] = Ok query
-finished query (word ∷ more) = Err fault.StrayWord
+-- no word is left
+abbrev pub finished : List (List ℕ) → Result (Unit {0}) QueryFault
+finished [] = Ok (record {})
+finished (word ∷ more) = Err fault.StrayWord
 
 -- the words after `find`: a region, its layers, an order, a limit
-abbrev pub find : List (List ℕ) → Result Query QueryFault
+abbrev pub find : List (List ℕ) → Result BoxQuery QueryFault
 find words = do
   found ← region words
   on ← on_list found.1
   ordered ← order found.0 on.1
   limited ← limit ordered.1
-  finished (Find found.0 ordered.0 limited.0 on.0) limited.1
+  end ← finished limited.1
+  Ok (record { region = found.0; layers = on.0; order = ordered.0; report = Answers limited.0 })
 
 -- the words after `nearest`: K X Y, K of 64 bits, which is `find all near X Y first K`
-abbrev pub nearest : List (List ℕ) → Result Query QueryFault
+abbrev pub nearest : List (List ℕ) → Result BoxQuery QueryFault
 nearest words = do
   limited ← word_as (natural (2 ^ 64 - 1)) words
   centre ← point limited.1
-  finished (Find (All (record {})) (near centre.0) (Some limited.0) all_layers) centre.1
+  end ← finished centre.1
+  Ok (record { region = All (record {}); layers = all_layers; order = near centre.0; report = Answers (Some limited.0) })
 
 -- the words after `count`: a region, its layers
-abbrev pub count : List (List ℕ) → Result Query QueryFault
+abbrev pub count : List (List ℕ) → Result BoxQuery QueryFault
 count words = do
   found ← region words
   on ← on_list found.1
-  finished (Count found.0 on.0) on.1
+  end ← finished on.1
+  Ok (record { region = found.0; layers = on.0; order = by_id; report = Count })
 
--- the query that asks what a find or a count costs, in place of its answer; any other stays as it is
-abbrev pub cost_of : Query → Query
-cost_of (Find found ordered limited on) = CostFind found ordered limited on
-cost_of (Count found on) = CostCount found on
-cost_of other = other
-
--- a query for boxes or their number, by its first word
-abbrev pub box_query : List (List ℕ) → Result Query QueryFault
+-- a query for boxes, by its first word
+abbrev pub box_query : List (List ℕ) → Result BoxQuery QueryFault
 box_query [] = Err fault.MissingWord
 box_query (verb ∷ more) =
     if bytes_eq verb (codes "find") then find more
@@ -206,12 +205,12 @@ box_query (verb ∷ more) =
     else if bytes_eq verb (codes "count") then count more
     else Err fault.UnknownVerb
 
--- a query by its first word; after `cost` stands one for boxes or their number, whose cost is asked and whose faults stay
+-- a query by its first word; after `cost` stands one for boxes, whose cost is asked and whose faults stay
 abbrev pub query : (verb : List ℕ) → (more : List (List ℕ)) → Result Query QueryFault
 query verb more =
-    if bytes_eq verb (codes "levels") then finished Levels more
-    else if bytes_eq verb (codes "cost") then map_value cost_of (box_query more)
-    else box_query (verb ∷ more)
+    if bytes_eq verb (codes "levels") then map_value (λ end. Levels) (finished more)
+    else if bytes_eq verb (codes "cost") then map_value Cost (box_query more)
+    else map_value Boxes (box_query (verb ∷ more))
 
 -- ---- lines
 

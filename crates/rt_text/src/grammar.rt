@@ -7,12 +7,11 @@ ghost use Rattle.std.specs.Prelude.{◌≡◌, ◌≤◌, ◌≤ℤ◌, ◌∷�
 ghost use Rattle.std.specs.List.{starts_with};
 ghost use Rattle.std.specs.Str.Lines.{strip_carriage_return};
 ghost use Rattle.rt_text.specs.Numbers.{fault_as, number_text};
-ghost use Rattle.rt_text.specs.Steps.{map_value};
 ghost use Rattle.rt_geo.specs.Layers.{most_layer};
-ghost use Rattle.rt_text.specs.Queries.{Takes, box_query, circle, coordinate, cost_of, count, find, finished, layers_of, limit, natural, nearest, number, on_list, order, point, points, polygon, query, query_of, region, sides, usual_order, vertex_count, word_as};
+ghost use Rattle.rt_text.specs.Queries.{Takes, box_query, circle, coordinate, count, find, finished, layers_of, limit, natural, nearest, number, on_list, order, point, points, polygon, query, query_of, region, sides, usual_order, vertex_count, word_as};
 
 use crate::numbers::{NumberFault, number};
-use crate::query::{Parsed, Query, QueryFault};
+use crate::query::{BoxQuery, Parsed, Query, QueryFault, Report};
 use crate::words::Words;
 use arrayvec::ArrayVec;
 use rt_geo::{
@@ -60,24 +59,42 @@ fn is_comment(word: &[u8]) -> bool
 fn query(verb: &[u8], words: &mut Words) -> Result<Query, QueryFault>
     ensures { result ≡ query verb.now words.old }
 {
+    if verb == b"levels".as_slice() {
+        finished(words)?;
+        Ok(Query::Levels)
+    } else if verb == b"cost".as_slice() {
+        Ok(Query::Cost(costed(words)?))
+    } else {
+        Ok(Query::Boxes(box_query(verb, words)?))
+    }
+}
+
+// Kept out of line: only lines with `cost` have need of it.
+#[inline(never)]
+fn costed(words: &mut Words) -> Result<BoxQuery, QueryFault>
+    ensures { result ≡ box_query words.old }
+{
+    let verb = next_word(words)?;
+    box_query(verb, words)
+}
+
+#[inline(always)]
+fn box_query(verb: &[u8], words: &mut Words) -> Result<BoxQuery, QueryFault>
+    ensures { result ≡ box_query (verb.now ∷ words.old) }
+{
     if verb == b"find".as_slice() {
         find(words)
     } else if verb == b"nearest".as_slice() {
         nearest(words)
     } else if verb == b"count".as_slice() {
         count(words)
-    } else if verb == b"levels".as_slice() {
-        finished(words)?;
-        Ok(Query::Levels)
-    } else if verb == b"cost".as_slice() {
-        cost(words)
     } else {
         Err(QueryFault::UnknownVerb)
     }
 }
 
 #[inline(always)]
-fn find(words: &mut Words) -> Result<Query, QueryFault>
+fn find(words: &mut Words) -> Result<BoxQuery, QueryFault>
     ensures { result ≡ find words.old }
 {
     let region = region(words)?;
@@ -85,81 +102,48 @@ fn find(words: &mut Words) -> Result<Query, QueryFault>
     let order = order(&region, words)?;
     let limit = limit(words)?;
     finished(words)?;
-    Ok(Query::Find {
+    Ok(BoxQuery {
         region,
-        order,
-        limit,
         layers,
+        order,
+        report: Report::Answers { limit },
     })
 }
 
 #[inline(always)]
-fn nearest(words: &mut Words) -> Result<Query, QueryFault>
+fn nearest(words: &mut Words) -> Result<BoxQuery, QueryFault>
     ensures { result ≡ nearest words.old }
 {
     let limit = natural_word(words, u64::MAX)?;
     let centre = point(words)?;
     finished(words)?;
-    Ok(Query::Find {
+    Ok(BoxQuery {
         region: Region::All(All),
-        order: Order::Near(Near(centre)),
-        limit: Some(limit),
         layers: Layers::all(),
+        order: Order::Near(Near(centre)),
+        report: Report::Answers { limit: Some(limit) },
     })
 }
 
 #[inline(always)]
-fn count(words: &mut Words) -> Result<Query, QueryFault>
+fn count(words: &mut Words) -> Result<BoxQuery, QueryFault>
     ensures { result ≡ count words.old }
 {
     let region = region(words)?;
     let layers = on_list(words)?;
     finished(words)?;
-    Ok(Query::Count { region, layers })
+    Ok(BoxQuery {
+        region,
+        layers,
+        order: Order::ById(ById),
+        report: Report::Count,
+    })
 }
 
-// Kept out of line: only lines with `cost` have need of it.
-#[inline(never)]
-fn cost(words: &mut Words) -> Result<Query, QueryFault>
-    ensures { result ≡ map_value cost_of (box_query words.old) }
-{
-    let verb = next_word(words)?;
-    if verb == b"find".as_slice() {
-        Ok(cost_of(find(words)?))
-    } else if verb == b"nearest".as_slice() {
-        Ok(cost_of(nearest(words)?))
-    } else if verb == b"count".as_slice() {
-        Ok(cost_of(count(words)?))
-    } else {
-        Err(QueryFault::UnknownVerb)
-    }
-}
-
-fn cost_of(query: Query) -> Query
-    ensures { result ≡ cost_of query }
-{
-    match query {
-        Query::Find {
-            region,
-            order,
-            limit,
-            layers,
-        } => Query::CostFind {
-            region,
-            order,
-            limit,
-            layers,
-        },
-        Query::Count { region, layers } => Query::CostCount { region, layers },
-        other => other,
-    }
-}
-
-// Whether a query may end here, whatever it asks. It isn't passed through, as it is large.
+// Whether no word is left.
 #[inline(always)]
 fn finished(words: &Words) -> Result<(), QueryFault>
-    ensures ok { OnOk result ((query : Query) → finished query words.now ≡ Ok query) }
-    ensures fault { IfErr result (λ cause. (query : Query) → finished query words.now ≡ Err cause) }
+    ensures { result ≡ finished words.now }
 {
     if words.is_empty() {
         Ok(())

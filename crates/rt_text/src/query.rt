@@ -2,36 +2,34 @@
 
 use rt_geo::{Layers, Order, Region};
 
+/// What is reported of boxes.
+#[derive(Clone, Copy, Debug, PartialEq, Eq)]
+pub enum Report {
+    /// A line for each, in order, of the first so many where there is a limit, and then their number.
+    Answers { limit: Option<u64> },
+    /// Their number.
+    Count,
+}
+
+/// A query for boxes: the report on those on the layers that the region accepts. Their number is the same in any order.
+#[derive(Debug, PartialEq, Eq, Drop)]
+pub struct BoxQuery {
+    pub region: Region,
+    pub layers: Layers,
+    pub order: Order,
+    pub report: Report,
+}
+
 /// A query.
 #[derive(Debug, PartialEq, Eq, Drop)]
 pub enum Query {
-    /// The boxes on the layers that the region accepts, in order, the first so many where there is a limit.
-    Find {
-        region: Region,
-        order: Order,
-        limit: Option<u64>,
-        layers: Layers,
-    },
-    /// How many boxes on the layers the region accepts.
-    Count {
-        region: Region,
-        layers: Layers,
-    },
+    /// The report on boxes.
+    Boxes(BoxQuery),
+    /// How many nodes that report opens: answers up to a limit those up to the last answer where the limit is reached,
+    /// else all that the search opens.
+    Cost(BoxQuery),
     /// How many entries or nodes stand on each level of the tree.
     Levels,
-    /// How many nodes a search for what [`Query::Find`] asks opens: up to the last answer where the limit is reached,
-    /// else to its end.
-    CostFind {
-        region: Region,
-        order: Order,
-        limit: Option<u64>,
-        layers: Layers,
-    },
-    /// How many nodes a count of what [`Query::Count`] asks opens.
-    CostCount {
-        region: Region,
-        layers: Layers,
-    },
 }
 
 /// What is wrong with a query line: the first fault from left to right.

@@ -5,7 +5,7 @@ use rt_geo::{
     All, Bounds, ById, Circle, Covers, Inside, Layers, Near, Order, Point, Polygon, Region,
     Smallest, Window,
 };
-use rt_text::{Parsed, Query, QueryFault, parse};
+use rt_text::{BoxQuery, Parsed, Query, QueryFault, Report, parse};
 use std::process::Abort;
 use std::test::Fail;
 
@@ -199,12 +199,12 @@ fn find(region: Region, order: Order, limit: Option<u64>) -> Parsed {
 
 // What `find` asks with this region, order, limit and layers.
 fn find_on(region: Region, order: Order, limit: Option<u64>, layers: Layers) -> Parsed {
-    Parsed::Query(Query::Find {
+    Parsed::Query(Query::Boxes(BoxQuery {
         region,
-        order,
-        limit,
         layers,
-    })
+        order,
+        report: Report::Answers { limit },
+    }))
 }
 
 #[test]
@@ -305,15 +305,22 @@ fn orders_and_limits(rt: HostRuntime) {
     );
 }
 
+// What `count` asks with this region and layers.
+fn counted(region: Region, layers: Layers) -> BoxQuery {
+    BoxQuery {
+        region,
+        layers,
+        order: Order::ById(ById),
+        report: Report::Count,
+    }
+}
+
 #[test]
 fn counts_and_levels(rt: HostRuntime) {
     expect_parsed(
         &rt,
         b"count all",
-        Parsed::Query(Query::Count {
-            region: Region::All(All),
-            layers: Layers::new(u64::MAX),
-        }),
+        Parsed::Query(Query::Boxes(counted(Region::All(All), Layers::new(u64::MAX)))),
     );
     expect_parsed(&rt, b"levels\r", Parsed::Query(Query::Levels));
 }
@@ -349,10 +356,7 @@ fn lists_of_layers(rt: HostRuntime) -> Result<(), Fail> {
         expect_parsed(
             &rt,
             &line,
-            Parsed::Query(Query::Count {
-                region: Region::All(All),
-                layers: Layers::new(*bits),
-            }),
+            Parsed::Query(Query::Boxes(counted(Region::All(All), Layers::new(*bits)))),
         );
     }
     Ok(())
@@ -403,12 +407,12 @@ fn layers_of_a_find(rt: HostRuntime) {
 
 // What `cost find` asks with this region, order, limit and layers.
 fn cost_find(region: Region, order: Order, limit: Option<u64>, layers: Layers) -> Parsed {
-    Parsed::Query(Query::CostFind {
+    Parsed::Query(Query::Cost(BoxQuery {
         region,
-        order,
-        limit,
         layers,
-    })
+        order,
+        report: Report::Answers { limit },
+    }))
 }
 
 #[test]
@@ -501,26 +505,20 @@ fn costs_of_counts(rt: HostRuntime) -> Result<(), Fail> {
     expect_parsed(
         &rt,
         b"cost count all",
-        Parsed::Query(Query::CostCount {
-            region: Region::All(All),
-            layers: Layers::new(u64::MAX),
-        }),
+        Parsed::Query(Query::Cost(counted(Region::All(All), Layers::new(u64::MAX)))),
     );
     expect_parsed(
         &rt,
         b"cost \tcount all on 1\r",
-        Parsed::Query(Query::CostCount {
-            region: Region::All(All),
-            layers: Layers::of(1),
-        }),
+        Parsed::Query(Query::Cost(counted(Region::All(All), Layers::of(1)))),
     );
     expect_parsed(
         &rt,
         b"cost count window 0 10 0 10",
-        Parsed::Query(Query::CostCount {
-            region: Region::Window(Window(Bounds::new(0, 10, 0, 10).ok_or("sides")?)),
-            layers: Layers::new(u64::MAX),
-        }),
+        Parsed::Query(Query::Cost(counted(
+            Region::Window(Window(Bounds::new(0, 10, 0, 10).ok_or("sides")?)),
+            Layers::new(u64::MAX),
+        ))),
     );
     Ok(())
 }

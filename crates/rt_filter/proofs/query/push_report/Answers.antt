@@ -1,10 +1,18 @@
+use Rattle.std.proofs.Common.{◌∙◌, sym}
 use Rattle.rt_geo.specs.Regions.{region_accepts}
-use Rattle.rt_filter.proofs.LayerLemmas.{all_from, report_on-all}
+use Rattle.rt_filter.proofs.LayerLemmas.{all_from, report_on-all, report_on-asked}
 use Rattle.rt_filter.proofs.query.push_report.Goals as goal
 
-pub returns-then-bits-eq18446744073709551615-clause-pushed :
-    goal.returns-then-bits-eq18446744073709551615-clause-pushed
-returns-then-bits-eq18446744073709551615-clause-pushed g c =
-    let all = all_from c.args.layers c.bits.result c.bits.ensures c.if-bits-eq18446744073709551615.true in
-    rw (report_on-all (region_accepts c.args.shape) c.args.tree.now.entries c.len-most.ensures.sound.table.layers
-    c.args.layers all c.args.line c.args.report) c.push_in_region.ensures.pushed
+pub returns-then-bits-clause-pushed : goal.returns-then-bits-clause-pushed
+returns-then-bits-clause-pushed g c =
+    let asked = c.args.asked in
+    let all = all_from asked.layers c.bits.result c.bits.ensures c.if-bits.true in
+    let entries = c.args.tree.now.entries in
+    rw (sym (report_on-asked entries c.args.line asked asked.report)
+    ∙ report_on-all (region_accepts asked.region) entries c.len-most.ensures.sound.table.layers asked.layers all
+    c.args.line asked.order asked.report) c.push_in_region.ensures.pushed
+
+pub returns-clause-pushed : goal.returns-clause-pushed
+returns-clause-pushed g c =
+    rw (sym (report_on-asked c.args.tree.now.entries c.args.line c.args.asked c.args.asked.report))
+    c.push_in_shape.ensures.pushed
