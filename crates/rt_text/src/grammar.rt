@@ -199,15 +199,9 @@ fn layer_part(part: &[u8]) -> Result<u8, QueryFault>
 fn order(found: &Region, words: &mut Words) -> Result<Order, QueryFault>
     ensures { Takes (order found.now words.old) result words.new }
 {
-    let mut ahead = words.ahead();
-    let Some(word) = ahead.next() else {
-        return Ok(usual_order(found));
-    };
-    if word == b"near".as_slice() {
-        *words = ahead;
+    if words.takes(b"near") {
         Ok(Order::Near(Near(point(words)?)))
-    } else if word == b"smallest".as_slice() {
-        *words = ahead;
+    } else if words.takes(b"smallest") {
         Ok(Order::Smallest(Smallest))
     } else {
         Ok(usual_order(found))

@@ -57,13 +57,6 @@ impl<'a> Words<'a> {
         self.rest.is_empty() || first_word(self.rest).is_none()
     }
 
-    /// The same words, to look ahead.
-    pub(crate) fn ahead(&self) -> Words<'a>
-        ensures { result ≡ self.now }
-    {
-        Words { rest: self.rest }
-    }
-
     /// Whether a word stands next, which is then read.
     #[inline(always)]
     pub(crate) fn takes(&mut self, word: &[u8]) -> bool
