@@ -83,6 +83,6 @@ pub fn count<G: Geometry>(
     frontier.clear(None);
     let mut tally = Tally { accepted: 0 };
     let opened = walk(tree, &mut tally, counted);
-    let Tally { accepted } = tally;
+    let accepted = tally.accepted;
     Count { accepted, opened }
 }

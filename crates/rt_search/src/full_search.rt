@@ -14,6 +14,7 @@ use std::marker::Model;
 ///
 /// It is seen as what is searched, the answers still to come, the nodes opened and the checks made, and the capacity of
 /// its frontier.
+#[derive(Drop)]
 pub struct FullSearch<'a, G: Geometry> {
     tree: &'a Tree,
     frontier: Frontier,
@@ -97,12 +98,6 @@ impl<'a, G: Geometry> FullSearch<'a, G> {
         ensures geometry { result.1.geometry ≡ self.entry.geometry }
         ensures asked { result.1.asked ≡ self.entry.asked }
     {
-        let FullSearch {
-            tree: _,
-            frontier,
-            counted,
-            opened: _,
-        } = self;
-        (frontier, counted)
+        (self.frontier, self.counted)
     }
 }

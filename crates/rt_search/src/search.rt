@@ -50,6 +50,7 @@ fn pull<G: Geometry>(
 ///
 /// It is seen as what is searched, the limit, the answers still to come and how many were given, the nodes opened and
 /// the checks made so far, and the capacity of its frontier.
+#[derive(Drop)]
 pub struct Search<'a, G: Geometry> {
     tree: &'a Tree,
     frontier: Frontier,
@@ -204,14 +205,6 @@ impl<'a, G: Geometry> Search<'a, G> {
         ensures geometry { result.1.geometry ≡ self.entry.geometry }
         ensures asked { result.1.asked ≡ self.entry.asked }
     {
-        let Search {
-            tree: _,
-            frontier,
-            counted,
-            limit: _,
-            given: _,
-            opened: _,
-        } = self;
-        (frontier, counted)
+        (self.frontier, self.counted)
     }
 }
