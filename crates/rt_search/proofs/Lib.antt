@@ -8,6 +8,7 @@ pub mod Giving
 pub mod Heaps
 pub mod Joined
 pub mod Limits
+pub mod Marked
 pub mod Merging
 pub mod OrderedLists
 pub mod Orders

@@ -4,6 +4,7 @@ pub mod Joining
 pub mod Kept
 pub mod Lemmas
 pub mod Limits
+pub mod Marking
 pub mod Pooling
 pub mod Progress
 pub mod Remaining

@@ -26,6 +26,7 @@ mod full_search;
 mod hits;
 mod item;
 mod keys;
+mod marks;
 mod opening;
 mod pool;
 mod queue;
