@@ -510,6 +510,69 @@ fn full_searches_and_counts_ask_about_each_child_once(rt: HostRuntime) {
     expect_eq(&rt, window.shown(), want);
 }
 
+/// Ids, in no order and then in order: those that lie close together are put in order by marks, and others sorted.
+static IDS: [([i64; 5], [i64; 5]); 7] = [
+    ([5, 3, 4, 1, 2], [1, 2, 3, 4, 5]),
+    ([1, 0, -2, 2, -1], [-2, -1, 0, 1, 2]),
+    ([9, 7, 5, 8, 10], [5, 7, 8, 9, 10]),
+    (
+        [
+            i64::MAX,
+            i64::MAX - 4,
+            i64::MAX - 1,
+            i64::MAX - 3,
+            i64::MAX - 2,
+        ],
+        [
+            i64::MAX - 4,
+            i64::MAX - 3,
+            i64::MAX - 2,
+            i64::MAX - 1,
+            i64::MAX,
+        ],
+    ),
+    (
+        [
+            i64::MIN + 2,
+            i64::MIN,
+            i64::MIN + 4,
+            i64::MIN + 1,
+            i64::MIN + 3,
+        ],
+        [
+            i64::MIN,
+            i64::MIN + 1,
+            i64::MIN + 2,
+            i64::MIN + 3,
+            i64::MIN + 4,
+        ],
+    ),
+    (
+        [i64::MAX, 0, i64::MIN, 1, -1],
+        [i64::MIN, -1, 0, 1, i64::MAX],
+    ),
+    ([1_000_000, 3, 1, 2, 0], [0, 1, 2, 3, 1_000_000]),
+];
+
+#[test]
+fn full_searches_give_ids_in_order(rt: HostRuntime) {
+    for (ids, in_order) in &IDS {
+        let mut table = Table::empty(rt.alloc());
+        for id in ids {
+            push(&rt, &mut table, *id, boxed(&rt, [0, 0, 0, 0]));
+        }
+        let tree = Tree::pack(rt.alloc(), table, 2).expect(&rt, "there is memory");
+        let frontier = Frontier::new(rt.alloc(), tree.len()).expect(&rt, "there is memory");
+        let all = all_by_id();
+        let mut search = FullSearch::start(&tree, frontier, Counted::new(&all));
+        for id in in_order {
+            expect_eq(&rt, search.next(), Some((*id, 0)));
+        }
+        expect_eq(&rt, search.next(), None);
+        let _end = search.finish();
+    }
+}
+
 // The same of a search in whose order no node has a score: all is asked before the first answer, whatever the limit.
 #[test]
 fn unscored_searches_ask_about_each_child_once(rt: HostRuntime) {
