@@ -1,5 +1,6 @@
 """What a fence does while it runs: zones are exchanged, many are connected, processes and readers end or are slow."""
 
+import errno
 import os
 import random
 import resource
@@ -10,14 +11,17 @@ import subprocess
 import sys
 import tempfile
 import threading
+import time
 import unittest
 from pathlib import Path
 
-from fence_support import EXAMPLE, LONGEST, PROGRAM, Connected, Running, brief, children_of, feature, is_gone, square, write_zones
+from fence_support import EXAMPLE, LONGEST, Connected, Running, brief, feature, square, write_zones
+
+from common_support import PROGRAM, children_of, is_gone
 
 PARK, LAKE = feature("park", square(0, 0, 10)), feature("lake", square(20, 0, 10))
 WIDER = feature("park", square(0, 0, 15), name="Park", layer="green")
-BEYOND = "fence.py: features[0]: no geometry; the zones are those of before"
+BEYOND = "features[0]: no geometry; the zones are those of before"
 
 
 class Lives(unittest.TestCase):
@@ -63,10 +67,14 @@ class Exchanges(Lives):
         fence = self.running()
         write_zones(self.zones, [{"type": "Feature", "properties": {}, "geometry": None}])
         fence.signal(signal.SIGHUP)
-        self.assertEqual(fence.errors.next(), BEYOND)
+        self.assertEqual(fence.errors.next(), f"fence.py: {self.zones}: {BEYOND}")
         self.zones.unlink()
         fence.signal(signal.SIGHUP)
         self.assertIn("No such file", fence.errors.next())
+        self.zones.write_text('{"type": "FeatureCollection", "features": [')
+        fence.signal(signal.SIGHUP)
+        told = f"fence.py: {self.zones}: Expecting value: line 1 column 44 (char 43); the zones are those of before"
+        self.assertEqual(fence.errors.next(), told)
         fence.send("a,1,1,1")
         self.assertEqual(brief(fence.events.some(1)), [("a", "enter", "park")])
         self.exchange(fence, LAKE)
@@ -137,6 +145,30 @@ class Exchanges(Lives):
 
 
 class Ends(Lives):
+    def test_an_end_while_zones_are_loaded(self) -> None:
+        """Whatever the load waits for: here for somebody who writes more of the file."""
+        self.zones.unlink()
+        os.mkfifo(self.zones)
+        for number in (signal.SIGTERM, signal.SIGINT):
+            if signal.getsignal(number) == signal.SIG_IGN:
+                continue
+            fence = self.enterContext(Running(self.zones))
+            writing = self.opened_for_writing(self.zones)
+            fence.signal(number)
+            self.assertEqual(fence.ended(), (0, []))
+            os.close(writing)
+
+    def opened_for_writing(self, pipe: Path) -> int:
+        """The end of a named pipe, once another process reads from it."""
+        until = time.monotonic() + LONGEST
+        while True:
+            try:
+                return os.open(pipe, os.O_WRONLY | os.O_NONBLOCK)
+            except OSError as error:
+                if error.errno != errno.ENXIO or time.monotonic() > until:
+                    raise
+                time.sleep(0.01)
+
     def test_what_is_lost_when_it_is_killed(self) -> None:
         """Where devices were and when, and no more: their first positions are entries again, older ones too. Whoever kept the
         events goes on from them, but for positions since the last event of a device."""
