@@ -85,8 +85,9 @@ def main() -> None:
                 taken = time.monotonic() - begun
                 seconds = seconds_of(server.pid) - before
             server.terminate()
-    print(f"{args.tiles / taken:,.0f} tiles a second, {seconds / args.tiles * 1e3:.2f} ms of processor time each, ", end="")
-    print(f"{sum(seconds_of_clients) / args.tiles * 1e3:.2f} more of the clients; {sum(sizes) / args.tiles / 1000:.1f} kB each")
+    served, asked, size = (it / args.tiles for it in (seconds, sum(seconds_of_clients), sum(sizes)))
+    print(f"{args.tiles / taken:,.0f} tiles a second, {served * 1e3:.2f} ms of processor time each, ", end="")
+    print(f"{asked * 1e3:.2f} more of the clients; {size / 1000:.1f} kB each")
 
 
 if __name__ == "__main__":

@@ -64,8 +64,8 @@ def command(kind: int, times: int) -> bytes:
 ID, WHOLE = varint(1 << 3), varint(6 << 3)
 ID_PAIRS = [ID + pair for pair in PAIRS]
 
-# A rectangle is told in five parts, each of which is made once: a move to its first corner, along x and along y, and three
-# steps from there. What begins or ends below 0 stands at its own index too.
+# A rectangle is told in five parts, each of which is made once: a move to its first corner, along x and along y, and
+# three steps from there. What begins below 0 stands at its own index too.
 MOVES = [command(MOVE_TO, 1) + zigzag(left) for left in [*range(LONGEST + 1), *range(-BUFFER, 0)]]
 STEPS = [zigzag(step) for step in [*range(LONGEST + 1), *range(-BUFFER, 0)]]
 ACROSS = [command(LINE_TO, 3) + STEPS[wide] + 2 * STEPS[0] for wide in range(LONGEST + 1)]
@@ -119,11 +119,12 @@ class Layer:
         self._values: dict[Value, int] = {}
 
     def tags(self, properties: dict[str, Value]) -> bytes:
-        """Properties as they stand in a feature: the place of each key among the keys, and of its value among the values."""
+        """Properties as a feature has them: the place of each key among the keys, and of its value among the values."""
+        places = []
         for key, value in properties.items():
-            self._keys.setdefault(key, len(self._keys))
-            self._values.setdefault(value, len(self._values))
-        return bytes_field(2, b"".join([varint(self._keys[key]) + varint(self._values[it]) for key, it in properties.items()]))
+            places.append(varint(self._keys.setdefault(key, len(self._keys))))
+            places.append(varint(self._values.setdefault(value, len(self._values))))
+        return bytes_field(2, b"".join(places))
 
     def encoded(self) -> bytes:
         """The layer as a field of its tile: a tile is its layers, one behind the other."""

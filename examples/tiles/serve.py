@@ -276,7 +276,8 @@ class Handler(BaseHTTPRequestHandler):
             headers["Allow"] = "GET, HEAD"
         if self.close_connection:
             headers["Connection"] = "close"
-        head = head_of(status, {"Date": self.date_time_string(), **headers, **HEADERS, **self.headers_for_origins(), **(more or {})})
+        headers |= {"Date": self.date_time_string(), **HEADERS, **self.headers_for_origins(), **(more or {})}
+        head = head_of(status, headers)
         self.wfile.write(head if self.command == "HEAD" else head + body)  # at once: whoever asks wakes up once
 
     def headers_for_origins(self) -> dict[str, str]:

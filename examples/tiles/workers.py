@@ -16,8 +16,8 @@ GRACE = 10.0  # seconds that workers have to end once one of them has
 
 @dataclass(frozen=True)
 class Ends:
-    """What a worker has of two pipes: to tell that it is ready, or why it ends, and one whose end tells it to end too; and
-    memory that all of them share, where each tells in a byte of its own how much it has to do."""
+    """What a worker has of two pipes: to tell that it is ready, or why it ends, and one whose end tells it to end too;
+    and memory that all of them share, where each tells in a byte of its own how much it has to do."""
 
     telling: int
     ending: int
