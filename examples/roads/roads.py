@@ -201,30 +201,36 @@ def projected(feature: Feature, number: int, plane: Plane) -> Feature:
     geometry = feature.get("geometry")
     if not isinstance(geometry, dict):
         return feature
-    kind: Any = geometry.get("type")
-    coordinates: Any = geometry.get("coordinates")
+    kind, coordinates = geometry.get("type"), geometry.get("coordinates")
     try:
         if kind == "LineString":
-            coordinates = path_in(plane, coordinates)
-        elif kind == "MultiLineString":
-            coordinates = [path_in(plane, positions) for positions in coordinates]
-    except (TypeError, ValueError, OverflowError) as fault:
+            coordinates = path_in(plane, coordinates, "coordinates")
+        elif kind == "MultiLineString" and isinstance(coordinates, list):
+            coordinates = [path_in(plane, it, f"coordinates[{at}]") for at, it in enumerate(coordinates)]
+    except ValueError as fault:
         raise FeatureError(number, str(fault)) from None
     return {"type": kind, "coordinates": coordinates}
 
 
-def path_in(plane: Plane, positions: Any) -> list[Place]:
+def path_in(plane: Plane, positions: Any, name: str) -> Any:
+    """The places of a line's positions, which are called so."""
+    if not isinstance(positions, list):
+        return positions
     path = []
     for at, position in enumerate(positions):
         try:
-            x, y, *_ = position
-            path.append(plane.whole(number_of(x), number_of(y)))
-        except (TypeError, ValueError, OverflowError) as fault:
-            raise ValueError(f"coordinates[{at}]: {fault}") from None
+            if not isinstance(position, list) or len(position) < 2:
+                raise ValueError(f"{position!r:.50} in the place of two numbers")
+            path.append(plane.whole(number_of(position[0]), number_of(position[1])))
+        except ValueError as fault:
+            raise ValueError(f"{name}[{at}]: {fault}") from None
     return path
 
 
 def number_of(coordinate: Any) -> float:
     if isinstance(coordinate, bool) or not isinstance(coordinate, (int, float)):
         raise ValueError(f"a coordinate that is no number: {coordinate!r:.50}")
-    return coordinate
+    try:
+        return float(coordinate)
+    except OverflowError:
+        raise ValueError(f"a coordinate that is beyond floats: {coordinate!r:.50}") from None

@@ -88,7 +88,7 @@ def names_of(file_name: str | None) -> dict[int, str]:
         records = csv.reader(file)
         try:
             return {int(number): name for number, name in filter(None, records)}
-        except ValueError:
+        except (ValueError, csv.Error):
             raise ValueError(f"{file_name}, line {records.line_num}: a number and a name are wanted") from None
 
 

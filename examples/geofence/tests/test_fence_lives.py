@@ -190,6 +190,21 @@ class Ends(Lives):
         wanted = [("a", "refused", older), ("a", "leave", "park"), ("b", "refused", older), ("b", "enter", "lake")]
         self.assertEqual(brief(more.events.some(4)), wanted)
 
+    def test_lines_that_are_no_events(self) -> None:
+        """They are passed over and counted, whatever they are."""
+        event = '{"event": "enter", "zone": "park", "device": "a", "time": 5}'
+        strays = [
+            "", "x", "[" * 100_000, "5", "null", "{}", '{"event": "refused", "why": "x"}', event.replace("5", "1" + "0" * 400),
+            event.replace("5", "NaN"), event.replace("5", '"x"'), event.replace('"park"', "[1]"), event.replace('"a"', "7"),
+            event.replace('"enter"', "[]"), event.replace('"a"', r'"\ud800"'), "\x00\ufffd",
+        ]  # fmt: skip
+        log = self.folder / "events"
+        log.write_text("".join(f"{line}\n" for line in [*strays, event]))
+        fence = self.enterContext(Running(self.zones, "--resume", str(log)))
+        self.assertEqual(fence.errors.next(), f"fence.py: devices: 1; lines that are no events: {len(strays)}")
+        fence.started().send("a,50,1,6")
+        self.assertEqual(brief(fence.events.some(1)), [("a", "leave", "park")])
+
     def test_the_program_is_killed(self) -> None:
         fence = self.running()
         for number in range(3):
