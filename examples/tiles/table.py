@@ -43,7 +43,9 @@ class Places:
             return
         order = sorted(range(len(ids)), key=ids.__getitem__)
         self._ids = array("q", map(ids.__getitem__, order))
-        self._boxes = bytearray().join([boxes[BOX.size * at : BOX.size * (at + 1)] for at in order])
+        self._boxes = bytearray()
+        for at in order:
+            self._boxes += boxes[BOX.size * at : BOX.size * (at + 1)]
 
     def __len__(self) -> int:
         return len(self._ids)
