@@ -6,7 +6,7 @@ from array import array
 from bisect import bisect_left
 from collections.abc import Iterable, Iterator
 from itertools import islice, repeat, zip_longest
-from typing import NamedTuple
+from typing import Any, NamedTuple
 
 from mercator import Window
 
@@ -54,7 +54,8 @@ class Places:
         """The boxes of some ids."""
         first = self._first
         places = [bisect_left(self._ids, id) for id in ids] if first is None else [id - first for id in ids]
-        return map(BOX.unpack_from, repeat(self._boxes), [BOX.size * place for place in places])
+        unpacked: Any = BOX.unpack_from  # of which types alone don't tell that it gives five numbers
+        return map(unpacked, repeat(self._boxes), [BOX.size * place for place in places])
 
     def layers(self) -> list[int]:
         """The layers that have a box, the least first."""

@@ -16,6 +16,7 @@ from pathlib import Path
 
 from cluster_support import PROGRAM, Folders, Service, Services, one_run, opened, some_lines, until, written
 
+from common_support import anything, children_of
 from shards.connections import ShardError
 from shards.places import place_of, places_of, there
 from shards.router import Cluster
@@ -150,7 +151,8 @@ class Addresses(Services):
         """What was told of it has no end and the error names the place; the other place answers the next line, whole."""
         service = self.service("a", self.points("a.csv", ((id, id) for id in range(100_000))))
         whole = b"".join(b"%d 0\n" % id for id in range(100_000)) + b"ok 1 100000\n"
-        for ask in (lambda boxes, take: boxes.write(["count all", "find all"], take), lambda boxes, _: boxes.ask(["find all"])):
+        lines = ["count all", "find all"]
+        for ask in anything(lambda boxes, take: boxes.write(lines, take), lambda boxes, _: boxes.ask(lines[1:])):
             with broken_off(service.place[5:], 500_000) as place, opened([f"{place},{service.place}"]) as boxes:
                 found: list[bytes] = []
                 with self.assertRaises(ShardError) as caught:
@@ -358,13 +360,3 @@ def can_connect(port: int) -> bool:
     with contextlib.suppress(ConnectionRefusedError), socket.create_connection(("127.0.0.1", port)):
         return True
     return False
-
-
-def children_of(process: int) -> list[int]:
-    """The processes that a process has started."""
-    found = []
-    for stat in Path("/proc").glob("[0-9]*/stat"):
-        with contextlib.suppress(OSError):
-            fields = stat.read_text().rpartition(")")[2].split()
-            found += [int(stat.parent.name)] * (int(fields[1]) == process and fields[0] != "Z")
-    return found

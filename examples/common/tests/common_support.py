@@ -7,6 +7,7 @@ import sys
 import tempfile
 import unittest
 from pathlib import Path
+from typing import Any
 
 ROOT = Path(__file__).resolve().parents[3]
 PROGRAM = os.environ["RTFILTER_PROGRAM"]
@@ -15,6 +16,11 @@ SOON = 60.0  # seconds, on a busy machine
 sys.path.append(str(ROOT / "tests"))
 
 import pages
+
+
+def anything(*cases: Any) -> tuple[Any, ...]:
+    """Cases of any types."""
+    return cases
 
 
 def children_of(process: int) -> list[int]:

@@ -52,8 +52,8 @@ class Running:
 
     def __init__(self, zones: Path, *options: str) -> None:
         words = [sys.executable, "-B", str(EXAMPLE / "fence.py"), "--program", PROGRAM, *options, str(zones)]
-        pipes = {"stdin": subprocess.PIPE, "stdout": subprocess.PIPE, "stderr": subprocess.PIPE}
-        self.process = subprocess.Popen(words, bufsize=0, **pipes)
+        pipe = subprocess.PIPE
+        self.process = subprocess.Popen(words, bufsize=0, stdin=pipe, stdout=pipe, stderr=pipe)
         assert self.process.stdin and self.process.stdout and self.process.stderr
         self._input = self.process.stdin
         self.events, self.errors = Lines(self.process.stdout.fileno()), Lines(self.process.stderr.fileno())

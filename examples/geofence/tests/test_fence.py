@@ -15,7 +15,7 @@ from typing import Any
 
 from fence_support import EXAMPLE, LONGEST, ROOT, Running, brief, feature, square, write_zones
 
-from common_support import PROGRAM, Printed
+from common_support import PROGRAM, Printed, anything
 
 from bands import Bands, held_by
 from cutting import LONGEST_LINE, Cutter
@@ -46,7 +46,7 @@ class Folder(unittest.TestCase):
     def told(self, lines: bytes, *options: str) -> list[Any]:
         """The events of a run over lines."""
         words = [sys.executable, "-B", EXAMPLE / "fence.py", "--program", PROGRAM, *options, self.zones]
-        done = subprocess.run(words, input=lines, capture_output=True, timeout=LONGEST)
+        done = subprocess.run([*map(str, words)], input=lines, capture_output=True, timeout=LONGEST)
         self.assertEqual(done.returncode, 0, done.stderr)
         return [json.loads(line) for line in done.stdout.splitlines()]
 
@@ -139,6 +139,7 @@ class Events(Folder):
     def test_each_read_is_answered_before_the_next(self) -> None:
         """Whoever sends lines has their events before anything more is sent, and no part of a line is taken for a line."""
         with Running(self.zones) as fence:
+            assert fence.process.stdin is not None
             for number in range(100):
                 fence.send(*(f"{number}-{at},1,1,1" for at in range(5)))
                 self.assertEqual([it["device"] for it in fence.events.some(5)], [f"{number}-{at}" for at in range(5)])
@@ -152,7 +153,7 @@ class Events(Folder):
     def test_zones_that_are_not_taken(self) -> None:
         twice = [feature(1, square(0, 0, 1)), feature(1, square(5, 0, 1))]
         layers = [feature(number, square(number, 0, 1), layer=number) for number in range(65)]
-        for features, told in (
+        for features, told in anything(
             (twice, "features[1]: its id is that of features[0]: 1"),
             (layers, "zones of 65 layers, and not of 64 or fewer"),
             ([feature(True, square(0, 0, 1))], "features[0]: an id that is neither a text nor a number: True"),
@@ -196,7 +197,10 @@ class Random(Folder):
         self.assertTrue(all(told["valid"]))
         features = [{"type": "Feature", "id": f"z{at}", "properties": {}, "geometry": it} for at, it in enumerate(zones)]
         write_zones(self.zones, features)
-        lines, wanted, held, last = [], [], {}, {}
+        lines: list[str] = []
+        wanted: list[tuple[int, str, str | None]] = []
+        held: dict[str, list[int]] = {}
+        last: dict[str, int] = {}
         for line, ((x, y), holding) in enumerate(zip(places, told["holding"]), 1):
             device, moment = f"d{chance.randrange(200)}", chance.randrange(5) + line // 10
             lines.append(f"{device},{degrees(x)},{degrees(y)},{moment}\n")
@@ -260,7 +264,7 @@ class Costs(Folder):
         words = [sys.executable, "-B", EXAMPLE / "measure.py", "--program", PROGRAM, "--positions", "60000", "--runs", "1"]
         done = subprocess.run([*map(str, words)], capture_output=True, text=True, check=True, timeout=LONGEST)
         each = re.search(r"a position ([0-9.]+) us", done.stdout)
-        self.assertIsNotNone(each, done.stdout)
+        assert each is not None, done.stdout
         self.assertLess(float(each[1]), MOST_MICROSECONDS)
 
 

@@ -14,6 +14,7 @@ import threading
 import time
 import unittest
 from pathlib import Path
+from typing import Any
 
 from fence_support import EXAMPLE, LONGEST, Connected, Running, brief, feature, square, write_zones
 
@@ -43,7 +44,7 @@ class Lives(unittest.TestCase):
 
 
 class Exchanges(Lives):
-    def exchange(self, fence: Running, *features: dict) -> None:
+    def exchange(self, fence: Running, *features: dict[str, Any]) -> None:
         write_zones(self.zones, features)
         fence.signal(signal.SIGHUP)
         self.assertEqual(fence.errors.next(), f"fence.py: zones: {len(features)}")
@@ -85,16 +86,14 @@ class Exchanges(Lives):
         """Each position is answered by the zones of before or of after: nothing is told twice, and nothing is lost."""
         fence = self.running()
         stop = threading.Event()
-        told: list[tuple] = []
+        told: list[tuple[Any, ...]] = []
 
         def ask() -> None:
             chance, inside = random.Random(8), False
             for moment in range(1, 1_000_000):
                 x = chance.choice([1, 12, 50])
                 fence.send(f"a,{x},1,{moment}", "marker")  # which is refused: all is told up to there
-                for event in iter(lambda: fence.events.some(1)[0], None):
-                    if event["event"] == "refused":
-                        break
+                while (event := fence.events.some(1)[0])["event"] != "refused":
                     told.append((x, event["event"], inside))
                     inside = event["event"] == "enter"
                 if stop.is_set():
@@ -220,7 +219,7 @@ class Ends(Lives):
         fence.send("a,1,1,1")
         status, errors = fence.ended()
         self.assertEqual((status, errors), (1, ["fence.py: [Errno 32] Broken pipe"]))
-        fence.process.stdout = open(os.devnull)
+        fence.process.stdout = open(os.devnull, "rb")
 
     def test_an_end_while_nobody_reads_events(self) -> None:
         """A signal ends it all the same, and its program with it, unless it is ignored from the start."""

@@ -25,10 +25,11 @@ def told_by_peers(test: unittest.TestCase, **asked: Any) -> dict[str, Any]:
         test.skipTest("python3-shapely or python3-pyproj isn't installed")
     text = json.dumps({"lines": [], "points": [], "pairs": [], **asked})
     done = subprocess.run([DEBIAN, HERE / "snap_peer.py"], input=text, capture_output=True, text=True, check=True)
-    return json.loads(done.stdout)
+    told: dict[str, Any] = json.loads(done.stdout)
+    return told
 
 
-def road(id: Any, *paths: list[tuple[float, float]], **properties: Any) -> dict[str, Any]:
+def road(id: Any, *paths: Any, **properties: Any) -> dict[str, Any]:
     geometry: dict[str, Any] = {"type": "LineString", "coordinates": paths[0]}
     if len(paths) > 1:
         geometry = {"type": "MultiLineString", "coordinates": paths}

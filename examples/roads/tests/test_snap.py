@@ -19,7 +19,7 @@ from unittest import mock
 
 from snap_support import EXAMPLE, LONGEST, road, run, told_by_peers, words_of, write_roads
 
-from common_support import PROGRAM, Printed, children_of
+from common_support import PROGRAM, Printed, anything, children_of
 
 from planes import MOST_LATITUDE, Scaled, WebMercator, on_ground_from
 from roads import Roads
@@ -111,13 +111,11 @@ class Nearest(Folder):
         roads = self.roads([road(at, *some_paths(chance, 50)) for at in range(40)], Scaled(1))
         places = [some_place(chance, 50) for _ in range(30)]
         wanted = [*roads.nearest_each(3, places)]
-        asked: list[int] = []
-        ask = roads._boxes.ask
-        with mock.patch("roads.MOST_ANSWERS", 100), mock.patch.object(
-            roads._boxes, "ask", lambda lines: asked.append(sum(int(line.split()[1]) for line in lines)) or ask(lines)
-        ):
+        with mock.patch("roads.MOST_ANSWERS", 100), mock.patch.object(roads._boxes, "ask", wraps=roads._boxes.ask) as ask:
             self.assertEqual([*roads.nearest_each(3, places)], wanted)
-        self.assertLessEqual(max(asked), 100)
+        for (lines,), _ in ask.call_args_list:
+            self.assertLessEqual(sum(int(line.split()[1]) for line in lines), 100)
+        self.assertGreater(ask.call_count, 1)
 
     def test_long_slanting_roads(self) -> None:
         """A position lies in most of their boxes, so that nearly all are asked for."""
@@ -182,7 +180,7 @@ class OnTheGround(Folder):
         """At 60 degrees north a degree to the east is half of one to the north."""
         features = [road("north", [(9, 60.012), (11, 60.012)]), road("east", [(10.02, 59), (10.02, 61)])]
         write_roads(self.file, features)
-        for options, first in ((["--scale", 1e7], "north"), ([], "east")):
+        for options, first in anything((["--scale", 1e7], "north"), ([], "east")):
             done = run(*options, self.file, lines=b"a,10,60\n")
             self.assertEqual(json.loads(done.stdout)["nearest"][0]["road"], first)
 
@@ -239,8 +237,8 @@ class Program(Folder):
         ])  # fmt: skip
 
     def test_each_read_is_answered_before_the_next(self) -> None:
-        pipes = {"stdin": subprocess.PIPE, "stdout": subprocess.PIPE, "stderr": subprocess.DEVNULL}
-        with subprocess.Popen(words_of("--scale", 1, self.file), bufsize=0, **pipes) as process:
+        pipe, words = subprocess.PIPE, words_of("--scale", 1, self.file)
+        with subprocess.Popen(words, bufsize=0, stdin=pipe, stdout=pipe, stderr=subprocess.DEVNULL) as process:
             assert process.stdin and process.stdout
             for number in range(100):
                 process.stdin.write(b"%d,1,1\n%d,2,2\npart" % (number, number))
@@ -304,7 +302,7 @@ class Program(Folder):
     def test_who_reads_leaves(self) -> None:
         records = self.folder / "records.csv"
         records.write_text("x,y\n" + "1,1\n" * 50_000)
-        for options, text in (([records], b""), ([], b"a,1,1\n" * 50_000)):
+        for options, text in anything(([records], b""), ([], b"a,1,1\n" * 50_000)):
             lines = self.folder / "lines"
             lines.write_bytes(text)
             with open(lines, "rb") as file, subprocess.Popen(
@@ -319,7 +317,7 @@ class Program(Folder):
     def test_a_closed_end(self) -> None:
         records = self.folder / "records.csv"
         records.write_text("x,y\n1,1\n")
-        for closed, options in (("<&-", []), (">&-", []), (">&-", [records])):
+        for closed, options in anything(("<&-", []), (">&-", []), (">&-", [records])):
             words = ["sh", "-c", f'exec "$@" {closed}', "sh", *words_of("--scale", 1, self.file, *options)]
             done = subprocess.run(words, stderr=subprocess.PIPE, timeout=LONGEST)
             self.assertEqual(done.returncode, 1)

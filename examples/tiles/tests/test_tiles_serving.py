@@ -12,7 +12,7 @@ import subprocess
 import tempfile
 import threading
 import unittest
-from collections.abc import Callable
+from collections.abc import Callable, Iterator
 from http.client import HTTPResponse
 from http.server import BaseHTTPRequestHandler, ThreadingHTTPServer
 from pathlib import Path
@@ -20,9 +20,9 @@ from typing import Any
 
 from chromium import Chromium
 from style_rules import faults_of
-from tiles_support import BOXES, Mapped, Server, hostile_map, make_map
+from tiles_support import BOXES, EXAMPLE, LONGEST, Mapped, Server, hostile_map, make_map, wants
 
-from common_support import children_of, descendants_of, is_gone
+from common_support import anything, children_of, descendants_of, is_gone
 
 from mercator import HALF, window_of
 from negotiation import is_known, takes_gzip
@@ -214,7 +214,7 @@ class Caches(Serving):
         other.write_text("1,0,1,0,2\n")
         names.write_text("1,x\n")
         tags = []
-        for words in ([one], [same], [other], [one, "--names", str(names)], [one, "--url", "https://example.org/"]):
+        for words in anything([one], [same], [other], [one, "--names", str(names)], [one, "--url", "https://example.org/"]):
             with Server(*words) as server:
                 tags.append(self.asked("/0/0/0.pbf", server)[0].headers["ETag"])
         self.assertEqual(tags[0], tags[1])
@@ -258,7 +258,7 @@ class Origins(Serving):
         """Those of this server; others where they were told. Whoever is no page may."""
         there, elsewhere = "https://map.example.org", "http://example.org"
         own = [f"http://127.0.0.1:{self.server.port}", "https://localhost"]
-        for options, allowed, refused in (
+        for options, allowed, refused in anything(
             ([], [], [there, elsewhere, "null", "x", "", "http://[", own[0] + ".example.org"]),
             (["--origin", there], [there], [elsewhere, "null", there + ".x", there + ":444", "http://map.example.org"]),
             (["--origin", there, "--origin", "null"], [there, "null"], [elsewhere]),
@@ -286,7 +286,7 @@ class Origins(Serving):
         self.addCleanup(browser.close)
         with blank_pages() as port:
             origin = f"http://127.0.0.1:{port}"
-            for options, told in ((["--origin", origin], 200), ([], "TypeError: Failed to fetch")):
+            for options, told in anything((["--origin", origin], 200), ([], "TypeError: Failed to fetch")):
                 with Server(self.table, *options) as server:
                     browser.open(f"{origin}/")
                     browser.until(f"location.origin === '{origin}' && document.readyState === 'complete'")
@@ -448,7 +448,7 @@ def value_of(value: bytes) -> Any:
     return it.decode() if field == 1 else (it >> 1) ^ -(it & 1)
 
 
-def varints(text: bytes) -> Any:
+def varints(text: bytes) -> Iterator[int]:
     number = shift = 0
     for byte in text:
         number |= (byte & 127) << shift
@@ -460,11 +460,12 @@ def varints(text: bytes) -> Any:
 
 def fields_of(message: bytes) -> list[tuple[int, Any]]:
     """The fields of a message of protocol buffers: numbers, and bytes."""
-    fields, at = [], 0
+    fields: list[tuple[int, Any]] = []
+    at = 0
 
     def number() -> int:
         nonlocal at
-        (found,) = [*varints(message[at : at + 10])][:1]
+        found = next(varints(message[at : at + 10]))
         while message[at] > 127:
             at += 1
         at += 1

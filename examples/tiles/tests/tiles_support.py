@@ -136,6 +136,9 @@ def hostile_map(folder: Path) -> list[str]:
 class Mapped(unittest.TestCase):
     """A map and its server."""
 
+    table: Path
+    server: Server
+
     @classmethod
     def setUpClass(cls) -> None:
         folder = Path(cls.enterClassContext(tempfile.TemporaryDirectory()))
@@ -143,7 +146,8 @@ class Mapped(unittest.TestCase):
         cls.table = folder / "boxes.csv"
         cls.server = cls.enterClassContext(Server(cls.table, *options))
 
-    def json(self, target: str) -> dict:
+    def json(self, target: str) -> dict[str, Any]:
         reply, body = self.server.get(target)
         self.assertEqual((reply.status, reply.headers["Content-Type"]), (200, "application/json"), body)
-        return json.loads(body)
+        found: dict[str, Any] = json.loads(body)
+        return found
