@@ -17,7 +17,7 @@ PAINT = {
     "fill": {"fill-color": "color", "fill-outline-color": "color", "fill-opacity": "part", "fill-antialias": "truth"},
 }
 COLOUR = re.compile("#([0-9a-fA-F]{3}|[0-9a-fA-F]{6})")
-NUMBERS = {"ln": 1, "+": None}  # expressions of numbers, and of how many
+COMPARED = "<", "<=", ">", ">=", "==", "!="
 
 
 def faults_of(style: dict[str, Any], tile_json: dict[str, Any]) -> list[str]:
@@ -48,15 +48,15 @@ def _of_layers(style: dict[str, Any], tile_json: dict[str, Any]) -> Iterator[str
             yield f"{at}: what it draws"
         if kind == "background" and {"source", "source-layer"} & layer.keys():
             yield f"{at}: a background draws nothing else"
+        if not _is_filter(layer.get("filter", ["all"])):
+            yield f"{at}: filter"
         for name, value in layer.get("paint", {}).items():
             if name not in PAINT[kind] or not _is(PAINT[kind][name], value):
                 yield f"{at}: {name}"
 
 
 def _is(wanted: str, value: Any) -> bool:
-    """Whether a value of a paint property, which may be an expression, is of a kind."""
-    if isinstance(value, list):
-        return wanted == "part" and _is_interpolation(value)
+    """Whether a value of a paint property is of a kind."""
     if wanted == "color":
         return isinstance(value, str) and COLOUR.fullmatch(value) is not None
     if wanted == "truth":
@@ -68,22 +68,14 @@ def _is_number(value: Any) -> bool:
     return isinstance(value, (int, float)) and not isinstance(value, bool)
 
 
-def _is_interpolation(value: list[Any]) -> bool:
-    """Whether it is an interpolation of parts, whose stops rise."""
-    if value[:2] != ["interpolate", ["linear"]] or len(value) < 5 or len(value) % 2 == 0:
+def _is_filter(value: Any) -> bool:
+    """Whether it is an expression that compares properties with numbers."""
+    if not isinstance(value, list) or not value:
         return False
-    stops = value[3::2]
-    rise = all(map(_is_number, stops)) and all(one < other for one, other in zip(stops, stops[1:]))
-    return rise and _is_of_numbers(value[2]) and all(_is("part", it) for it in value[4::2])
-
-
-def _is_of_numbers(value: Any) -> bool:
-    """Whether it is a number, or an expression that gives one where the property does."""
-    if not isinstance(value, list):
-        return _is_number(value)
-    if value[:1] == ["get"]:
-        return len(value) == 2 and isinstance(value[1], str)
-    return value[0] in NUMBERS and NUMBERS[value[0]] in (None, len(value) - 1) and all(map(_is_of_numbers, value[1:]))
+    if value[0] == "all":
+        return all(map(_is_filter, value[1:]))
+    compares = value[0] in COMPARED and len(value) == 3 and _is_number(value[2])
+    return compares and value[1][:1] == ["get"] and [*map(type, value[1])] == [str, str]
 
 
 def _of_tile_json(told: dict[str, Any]) -> Iterator[str]:

@@ -97,9 +97,12 @@ class Told(Serving):
         self.assertEqual({it["source-layer"] for it in layers}, {*LAYERS, "density"})
         self.assertEqual({it["source"] for it in layers}, {"boxes"})
         self.assertEqual(len({it["id"] for it in told["layers"]}), len(told["layers"]))
+        shades = [it["paint"]["fill-opacity"] for it in layers if it["source-layer"] == "density"]
+        self.assertEqual(shades, sorted({*shades}))
         colours = re.search(r"COLOURS = (\[.*?\])", (EXAMPLE / "page.js").read_text())
         assert colours is not None
-        self.assertEqual([it["paint"]["fill-color"] for it in layers[1:]], json.loads(colours[1])[:6])
+        drawn = [it["paint"]["fill-color"] for it in layers if it["source-layer"] != "density"]
+        self.assertEqual(drawn, json.loads(colours[1])[:6])
 
     def test_style_by_the_rules(self) -> None:
         """Those of the style specification and of TileJSON, which refuse what is broken."""
@@ -109,10 +112,11 @@ class Told(Serving):
             ("the style's members", lambda style, _: style.update(version=7)),
             ("source boxes", lambda style, _: style["sources"]["boxes"].update(type="geojson")),
             ("ids of layers", lambda style, _: style["layers"].append(style["layers"][1])),
-            ("layer fill of towns: what it draws", lambda style, _: style["layers"][2].update({"source-layer": "town"})),
-            ("layer fill of towns: fill-color", lambda style, _: style["layers"][2]["paint"].update({"fill-color": "#12"})),
-            ("layer fill of towns: line-width", lambda style, _: style["layers"][2]["paint"].update({"line-width": 1})),
-            ("layer fill of density: fill-opacity", lambda style, _: style["layers"][1]["paint"]["fill-opacity"].append(12)),
+            ("layer fill of towns: what it draws", lambda style, _: style["layers"][7].update({"source-layer": "town"})),
+            ("layer fill of towns: fill-color", lambda style, _: style["layers"][7]["paint"].update({"fill-color": "#12"})),
+            ("layer fill of towns: line-width", lambda style, _: style["layers"][7]["paint"].update({"line-width": 1})),
+            ("layer fill of density from 1: fill-opacity", lambda style, _: style["layers"][1]["paint"].update({"fill-opacity": 2})),
+            ("layer fill of density from 4: filter", lambda style, _: style["layers"][2]["filter"].append(["<", "count", 1])),
             ("layer land: a background draws nothing else", lambda style, _: style["layers"][0].update(source="boxes")),
             ("vector_layers", lambda _, told: told["vector_layers"][0].pop("fields")),
             ("levels, bounds or center", lambda _, told: told["center"].__setitem__(2, 23)),
