@@ -9,9 +9,12 @@ LEAST, GREATEST = -(2**31), 2**31 - 1  # of a table's coordinates
 ROUNDED = 3 * math.sqrt(0.5)  # units: position, road and nearest point are each off by half a unit at most, on x and y
 
 
-class Far(NamedTuple):
-    """How far it is from a position to the point told of a road. The road is nearer, or farther, by the error at most."""
+class Near(NamedTuple):
+    """The point told of a road by its coordinates, and how far it is from a position. The road is nearer, or farther, by
+    the error at most."""
 
+    x: float
+    y: float
     distance: float
     error: float
 
@@ -25,10 +28,11 @@ class Plane(ABC):
     digits: tuple[int, int, int, int]
     """How many of each are told behind the point."""
 
-    def told(self, x: float, y: float, far: Far) -> tuple[float, float, float, float]:
+    def told(self, near: Near) -> tuple[float, float, float, float]:
         """What is told of a point, by these names, before it is rounded. The error is that of the rounded distance."""
+        x, y, distance, error = near
         units = 10 ** self.digits[3]
-        return x, y, far.distance, math.ceil(far.error * units + 0.5) / units
+        return x, y, distance, math.ceil(error * units + 0.5) / units
 
     @abstractmethod
     def whole(self, x: float, y: float) -> tuple[int, int]:
@@ -39,8 +43,8 @@ class Plane(ABC):
         """The coordinates of a point of the plane."""
 
     @abstractmethod
-    def distances(self, x: float, y: float) -> Callable[[float, float], Far]:
-        """What tells how far it is from a place to another one, the nearest of a road, by their coordinates."""
+    def near(self, x: float, y: float) -> Callable[[float, float], Near]:
+        """What tells how far it is from a place, by its coordinates, to a point of the plane, the nearest of a road."""
 
 
 class Scaled(Plane):
@@ -65,8 +69,12 @@ class Scaled(Plane):
     def back(self, x: float, y: float) -> tuple[float, float]:
         return x / self._scale, y / self._scale
 
-    def distances(self, x: float, y: float) -> Callable[[float, float], Far]:
-        return lambda east, north: Far(math.hypot(east - x, north - y), ROUNDED / self._scale)
+    def near(self, x: float, y: float) -> Callable[[float, float], Near]:
+        def near(across: float, up: float) -> Near:
+            east, north = self.back(across, up)
+            return Near(east, north, math.hypot(east - x, north - y), ROUNDED / self._scale)
+
+        return near
 
 
 class WebMercator(Plane):
@@ -85,22 +93,26 @@ class WebMercator(Plane):
     def back(self, x: float, y: float) -> tuple[float, float]:
         return math.degrees(x / UNITS), math.degrees(math.atan(math.sinh(y / UNITS)))
 
-    def distances(self, x: float, y: float) -> Callable[[float, float], Far]:
+    def near(self, x: float, y: float) -> Callable[[float, float], Near]:
         """The plane stretches lengths to the north more than those to the east, in the ratio of two radii, and all of them
         more where it is farther from the equator: so the nearest in the plane may be a little farther than another one."""
-        on_ground, latitude, from_edge = on_ground_from(x, y), math.radians(abs(y)), math.radians(180 - abs(x))
+        longitude, latitude = math.radians(x), math.radians(y)
+        from_equator, from_edge = abs(latitude), math.pi - abs(longitude)
+        on_ground = on_ground_from(longitude, math.tan(latitude))
 
-        def far(east: float, north: float) -> Far:
-            metres = on_ground(east, north)
+        def near(across: float, up: float) -> Near:
+            east, slope = across / UNITS, math.sinh(up / UNITS)
+            metres = on_ground(east, slope)
             turn = metres / LEAST_RADIUS  # no place that is as near lies farther to the north or the south
-            high = latitude + turn
-            if high >= NORTHERN_EDGE or turn >= from_edge * (cosine := math.cos(high)):
-                return Far(metres, metres)  # roads that are nearer may lie beyond the plane's edge
-            cosine_of_low = math.cos(max(0.0, latitude - turn))
-            least, most = cosine * along(cosine), cosine_of_low * across(cosine_of_low)
-            return Far(metres, metres * (1 - least / most) + ROUNDED / UNITS_OF_METRE * most / RADIUS)
+            error, high = metres, from_equator + turn
+            # Roads that are nearer may lie beyond the plane's edge, else.
+            if high < NORTHERN_EDGE and turn < from_edge * (cosine := math.cos(high)):
+                cosine_of_low = math.cos(max(0.0, from_equator - turn))
+                least, most = cosine * along(cosine), cosine_of_low * along_parallel(cosine_of_low)
+                error = metres * (1 - least / most) + ROUNDED / UNITS_OF_METRE * most / RADIUS
+            return Near(math.degrees(east), math.degrees(math.atan(slope)), metres, error)
 
-        return far
+        return near
 
 
 RADIUS = 6378137.0  # metres: of the equator, and of the sphere that Web Mercator takes the earth for
@@ -113,7 +125,7 @@ MOST_LATITUDE = 85.0511287  # where the plane is a square
 NORTHERN_EDGE = math.radians(MOST_LATITUDE)
 
 
-def across(cosine: float) -> float:
+def along_parallel(cosine: float) -> float:
     """The radius of curvature from west to east, in metres, by the cosine of a latitude."""
     return RADIUS / math.sqrt(1 - SQUARED * (1 - cosine * cosine))
 
@@ -123,28 +135,28 @@ def along(cosine: float) -> float:
     return LEAST_RADIUS / math.pow(1 - SQUARED * (1 - cosine * cosine), 1.5)
 
 
-def on_ground_from(west: float, south: float) -> Callable[[float, float], float]:
-    """What tells the distance of a place from this one, in metres along the ellipsoid, by Lambert's formula: within a
-    hundred-thousandth, where they don't lie opposite each other."""
-    first = on_sphere(south)
+def on_ground_from(longitude: float, slope: float) -> Callable[[float, float], float]:
+    """What tells the distance of a place from this one, each by its longitude in radians and the tangent of its latitude,
+    in metres along the ellipsoid, by Lambert's formula: within a hundred-thousandth, where they don't lie opposite."""
+    first = on_sphere(slope)
     cosine = math.cos(first)
 
-    def metres(east: float, north: float) -> float:
-        second = on_sphere(north)
-        mean, half, turn = (first + second) / 2, (second - first) / 2, math.radians(east - west) / 2
-        across_half = math.sin(half) ** 2
-        near = across_half + cosine * math.cos(second) * math.sin(turn) ** 2
+    def metres(east: float, other_slope: float) -> float:
+        second = on_sphere(other_slope)
+        mean, half, turn = (first + second) / 2, (second - first) / 2, (east - longitude) / 2
+        square_of_half = math.sin(half) ** 2
+        near = square_of_half + cosine * math.cos(second) * math.sin(turn) ** 2
         if not 0 < near < 1:
             return math.pi * RADIUS * (near >= 1)
         angle = 2 * math.asin(math.sqrt(near))
-        sine, northern = math.sin(angle), math.sin(mean) ** 2
-        lift = (angle - sine) * northern * (1 - across_half) / (1 - near)
-        drop = (angle + sine) * (1 - northern) * across_half / near
+        sine, square_of_mean = math.sin(angle), math.sin(mean) ** 2
+        lift = (angle - sine) * square_of_mean * (1 - square_of_half) / (1 - near)
+        drop = (angle + sine) * (1 - square_of_mean) * square_of_half / near
         return RADIUS * (angle - FLATTENING / 2 * (lift + drop))
 
     return metres
 
 
-def on_sphere(latitude: float) -> float:
-    """The reduced latitude, in radians: that of the place on a sphere round the ellipsoid."""
-    return math.atan((1 - FLATTENING) * math.tan(math.radians(latitude)))
+def on_sphere(slope: float) -> float:
+    """The reduced latitude, in radians, by the tangent of a latitude: that of its place on a sphere round the ellipsoid."""
+    return math.atan((1 - FLATTENING) * slope)

@@ -40,7 +40,7 @@ class Records:
         while batch := list(islice(remaining, AT_ONCE)):
             snapped_each = self._snapping.snapped_each([position for _, position in batch])
             yield [
-                [*record, str(rank), str(it.road.id), it.road.name or "", *self._snapping.numbers_of(it)]
+                [*record, str(rank), str(it[0].id), it[0].name or "", *self._snapping.numbers_of(it)]
                 for (record, _), snapped in zip(batch, snapped_each)
                 for rank, it in enumerate(snapped, 1)
             ]

@@ -6,7 +6,7 @@ from collections.abc import Iterator, Sequence
 from typing import NamedTuple
 
 from cutting import LONGEST_LINE, NAME, NUMBER, fault_of, is_skipped
-from planes import Far, Plane
+from planes import Near, Plane
 from roads import Road, Roads
 
 from rtfilter.plane import Place
@@ -23,13 +23,8 @@ class Position(NamedTuple):
     place: Place
 
 
-class Snapped(NamedTuple):
-    """A road near a position, the coordinates of its nearest point, and how far it is."""
-
-    road: Road
-    x: float
-    y: float
-    far: Far
+Snapped = tuple[Road, Near]
+"""A road near a position, and its nearest point."""
 
 
 class Snapping:
@@ -52,8 +47,8 @@ class Snapping:
         """The roads nearest to each position, by their distances in the plane."""
         found_each = self._roads.nearest_each(self._k, [position.place for position in positions])
         for (x, y, _), found in zip(positions, found_each):
-            far, points = self.plane.distances(x, y), [self.plane.back(*it.point) for it in found]
-            yield [Snapped(it.road, east, north, far(east, north)) for it, (east, north) in zip(found, points)]
+            near = self.plane.near(x, y)
+            yield [(road, near(*point)) for road, _, point in found]
 
     def told_of(self, first: int, lines: list[bytes]) -> bytes:
         """What is told of lines that were read at once, in their order. The first of them has this number."""
@@ -87,9 +82,9 @@ class Snapping:
 
     def numbers_of(self, snapped: Snapped) -> list[str]:
         """What is told of a road in numbers, in the order of the plane's names."""
-        told = self.plane.told(snapped.x, snapped.y, snapped.far)
-        return [form % number for form, number in zip(self._forms, told)]
+        return [form % number for form, number in zip(self._forms, self.plane.told(snapped[1]))]
 
     def object_of(self, snapped: Snapped) -> str:
         """A road near a position, as an object of JSON."""
-        return self._object % (snapped.road.members, *self.plane.told(snapped.x, snapped.y, snapped.far))
+        road, near = snapped
+        return self._object % (road.members, *self.plane.told(near))

@@ -24,11 +24,14 @@ def anything(*cases: Any) -> tuple[Any, ...]:
 
 
 def children_of(process: int) -> list[int]:
-    """The processes that another one has started, in any of its threads, the one that was started last at the end."""
-    found: list[int] = []
-    with contextlib.suppress(OSError):  # it has ended, or a thread of it has
-        for children in Path(f"/proc/{process}/task").glob("*/children"):
-            found += map(int, children.read_text().split())
+    """The processes that another one has started and that haven't ended, the one that was started last at the end."""
+    found = []
+    for stat in Path("/proc").glob("[0-9]*/stat"):
+        with contextlib.suppress(OSError):  # it has ended meanwhile
+            # Behind the name, which is in brackets and may hold anything: from the third field of proc(5)'s stat on.
+            fields = stat.read_text().rpartition(")")[2].split()
+            if int(fields[1]) == process and fields[0] != "Z":
+                found.append(int(stat.parent.name))
     return sorted(found)
 
 

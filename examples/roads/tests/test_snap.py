@@ -146,9 +146,9 @@ class OnTheGround(Folder):
             x, y, reach = chance.uniform(-170, 170), chance.uniform(-84, 84), 10 ** chance.uniform(-7, 1.5)
             pairs.append(((x, y), (x + chance.uniform(-reach, reach), min(84, max(-84, y + chance.uniform(-reach, reach))))))
         for pair, metres in zip(pairs, told_by_peers(self, pairs=pairs)["metres"]):
-            self.assertLess(abs(on_ground_from(*pair[0])(*pair[1]) - metres), 2e-5 * metres + 1e-6, pair)
-        self.assertEqual(on_ground_from(5, 5)(5, 5), 0)
-        self.assertAlmostEqual(on_ground_from(0, 0)(180, 0) / 20_003_931, 1, delta=0.01)
+            self.assertLess(abs(on_ground(*pair) - metres), 2e-5 * metres + 1e-6, pair)
+        self.assertEqual(on_ground((5, 5), (5, 5)), 0)
+        self.assertAlmostEqual(on_ground((0, 0), (180, 0)) / 20_003_931, 1, delta=0.01)
 
     def test_errors(self) -> None:
         """Of the nearest road no point is nearer on the ground than the error says, by geodesics to many points of it."""
@@ -162,7 +162,7 @@ class OnTheGround(Folder):
         pairs, seen = [], []
         for (position, ends), feature in zip(asked, features):
             snapping = Snapping(self.roads([feature], plane), plane, 1)
-            ((snapped,),) = snapping.snapped_each([snapping.position(*position)])
+            (((_, snapped),),) = snapping.snapped_each([snapping.position(*position)])
             on_road = points_of(plane, ends)
             seen.append((snapped, len(on_road)))
             pairs += [(position, (snapped.x, snapped.y)), *((position, it) for it in on_road)]
@@ -170,10 +170,10 @@ class OnTheGround(Folder):
         tight = 0
         for snapped, count in seen:
             to_foot, least = next(metres), min(next(metres) for _ in range(count))
-            self.assertLess(abs(to_foot - snapped.far.distance), 2e-5 * to_foot + 1e-3)
-            self.assertLess(snapped.far.distance - snapped.far.error, least + 1e-6)
-            self.assertLess(to_foot, least * 1.5 + 0.03 + snapped.far.error)
-            tight += snapped.far.error < 0.01 * snapped.far.distance + 0.03
+            self.assertLess(abs(to_foot - snapped.distance), 2e-5 * to_foot + 1e-3)
+            self.assertLess(snapped.distance - snapped.error, least + 1e-6)
+            self.assertLess(to_foot, least * 1.5 + 0.03 + snapped.error)
+            tight += snapped.error < 0.01 * snapped.distance + 0.03
         self.assertGreater(tight, 80)
 
     def test_degrees_order_wrongly(self) -> None:
@@ -193,8 +193,8 @@ class OnTheGround(Folder):
             with self.assertRaises(ValueError):
                 plane.whole(*position)
         for position, point in (((179.9, 10), (179.0, 10)), ((0, 84), (0, 82)), ((-179.9, -10), (-179, -10))):
-            far = plane.distances(*position)(*point)
-            self.assertEqual(far.error, far.distance)
+            near = plane.near(*position)(*plane.whole(*point))
+            self.assertEqual(near.error, near.distance)
         for x, y in ((0, 0), (12345678, -1234567890), (-2003750834, 2003750820)):
             self.assertEqual(plane.whole(*plane.back(x, y)), (x, y))
 
@@ -363,6 +363,12 @@ class Program(Folder):
 class Page(Printed):
     def test_examples(self) -> None:
         self.assert_printed(EXAMPLE / "README.md")
+
+
+def on_ground(one: tuple[float, float], other: tuple[float, float]) -> float:
+    """The distance of two places, in degrees, in metres."""
+    (west, south), (east, north) = (map(math.radians, place) for place in (one, other))
+    return on_ground_from(west, math.tan(south))(east, math.tan(north))
 
 
 def some_place(chance: random.Random, high: int) -> tuple[int, int]:
