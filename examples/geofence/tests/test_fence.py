@@ -182,6 +182,11 @@ class Events(Folder):
             self.assertEqual(fence.ended(), (1, [f"fence.py: {self.zones}: {told}"]))
 
 
+class Page(Printed):
+    def test_examples(self) -> None:
+        self.assert_printed(EXAMPLE / "README.md")
+
+
 class Random(Folder):
     def test_as_shapely(self) -> None:
         """All events of devices that jump about zones with holes, and of several parts, also onto their sides and corners.
@@ -266,11 +271,6 @@ class Costs(Folder):
         each = re.search(r"a position ([0-9.]+) us", done.stdout)
         assert each is not None, done.stdout
         self.assertLess(float(each[1]), MOST_MICROSECONDS)
-
-
-class Page(Printed):
-    def test_examples(self) -> None:
-        self.assert_printed(EXAMPLE / "README.md")
 
 
 def numbered(cut: list[tuple[int, list[bytes]]]) -> list[tuple[int, bytes]]:
