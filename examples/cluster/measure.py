@@ -22,7 +22,10 @@ import sys
 import tempfile
 import time
 import unittest.mock
+from collections.abc import Callable, Iterator, Sequence
+from functools import partial
 from pathlib import Path
+from typing import TypeVar, Union
 
 sys.dont_write_bytecode = True
 HERE = Path(__file__).resolve().parent
@@ -32,15 +35,20 @@ from shards import connections
 from shards.cutting import cut
 from shards.merging import merged
 from shards.places import Place, here, service, there
+from shards.questions import Sides
 from shards.router import Cluster
 from shards.sinks import text_of
 
-from rtfilter import Pool, Rtfilter
+from rtfilter import Boxes, Pool, Reply, Rtfilter
+from rtfilter.deadlines import Deadline
 
 try:
     from shards import over_dask
 except ImportError:
-    over_dask = None
+    over_dask = None  # type: ignore[assignment]
+
+Asked = Union[Boxes, Cluster]
+Result = TypeVar("Result")
 
 RUNS = 9
 COPIES = 2, 4
@@ -49,22 +57,22 @@ LINES, BATCH, SINGLE = 2_000, 1_000, 100
 SIDE, LARGEST = 10**9, 10**5
 
 
-def write_table(chance, count, name):
+def write_table(chance: random.Random, count: int, name: str) -> None:
     with open(name, "w") as file:
         for id in range(count):
             x, y = chance.randrange(SIDE), chance.randrange(SIDE)
             file.write(f"{id},{x},{x + chance.randrange(LARGEST)},{y},{y + chance.randrange(LARGEST)}\n")
 
 
-def kinds(chance, boxes):
+def kinds(chance: random.Random, boxes: int) -> dict[str, list[str]]:
     """Lines of each kind, by what the kind is called."""
 
-    def windows(hits):
+    def windows(hits: int) -> Iterator[str]:
         reach = int(SIDE * (hits / boxes) ** 0.5)
         for x, y in points(SIDE - reach):
             yield f"window {x} {x + reach} {y} {y + reach}"
 
-    def points(side):
+    def points(side: int) -> list[tuple[int, int]]:
         return [(chance.randrange(side), chance.randrange(side)) for _ in range(LINES)]
 
     return {
@@ -75,13 +83,13 @@ def kinds(chance, boxes):
     }
 
 
-def timed(call):
+def timed(call: Callable[[], Result]) -> tuple[float, Result]:
     begun = time.perf_counter()
     result = call()
     return time.perf_counter() - begun, result
 
 
-def most_resident(name):
+def most_resident(name: str) -> int:
     """The most memory, in MiB, that the processes with a name in their command have held, each by itself."""
     found = []
     for status in Path("/proc").glob("[0-9]*/status"):
@@ -92,11 +100,13 @@ def most_resident(name):
     return max(found)
 
 
-def opened(stack, program, table, folder, ssh):
+def opened(
+    stack: contextlib.ExitStack, program: str, table: str, folder: str, ssh: list[str] | None
+) -> dict[str, Asked]:
     """The cases by name. What it takes to make them is told."""
     seconds, alone = timed(lambda: stack.enter_context(Rtfilter(table, program=program)))
     print(f"one program: loaded in {seconds:.2f} s, at most {most_resident(table)} MiB")
-    cases = {"one program": alone}
+    cases: dict[str, Asked] = {"one program": alone}
     for count in COPIES:
         cases[f"a pool of {count}"] = stack.enter_context(Pool(count, table, program=program))
     for count in BESIDE:
@@ -120,7 +130,7 @@ def opened(stack, program, table, folder, ssh):
     return cases
 
 
-def parts(table, folder, count):
+def parts(table: str, folder: str, count: int) -> list[str]:
     """The names of a table's shards, which are cut once."""
     name = Path(folder, f"parts{count}")
     if not name.exists():
@@ -129,31 +139,32 @@ def parts(table, folder, count):
     return sorted(map(str, name.glob("*.csv")))
 
 
-def connected(stack, shards):
+def connected(stack: contextlib.ExitStack, shards: Sequence[Sequence[Place]]) -> Cluster:
     seconds, boxes = timed(lambda: stack.enter_context(Cluster(shards)))
     print(f"{len(shards)} shards: connected, and bounds asked, in {seconds:.2f} s")
     return boxes
 
 
-def served(stack, program, table):
+def served(stack: contextlib.ExitStack, program: str, table: str) -> str:
     """The address of a service that holds a table."""
-    command = [HERE.parents[1] / "service/serve.py", "--program", program, "--unix", f"{table}.socket", table]
+    command = [str(HERE.parents[1] / "service/serve.py"), "--program", program, "--unix", f"{table}.socket", table]
     process = stack.enter_context(subprocess.Popen(command, stderr=subprocess.PIPE, text=True))
     stack.callback(process.terminate)
+    assert process.stderr is not None
     while not process.stderr.readline().startswith("ready"):
         if process.poll() is not None:
             raise SystemExit(f"no service over {table}")
     return f"{table}.socket"
 
 
-def told(boxes, lines, at_once):
+def told(boxes: Asked, lines: list[str], at_once: int) -> list[Reply]:
     return [reply for at in range(0, len(lines), at_once) for reply in boxes.replies(lines[at:at + at_once])]
 
 
-def measure(cases, lines):
+def measure(cases: dict[str, Asked], lines: list[str]) -> dict[str, list[float]]:
     """The seconds of each case for its lines one by one, and in batches."""
     least = {name: [float("inf")] * 2 for name in cases}
-    wanted = None
+    wanted: bytes | None = None
     for _ in range(RUNS):
         for name, boxes in cases.items():
             for way, (some, at_once) in enumerate(((lines[:SINGLE], 1), (lines, BATCH))):
@@ -170,34 +181,47 @@ class Silent:
 
     size, lines, descriptor, is_abandoned = 1, 0, -1, False
 
-    def __init__(self, bounds):
+    def __init__(self, bounds: Sides) -> None:
         self.bounds = bounds
 
-    def load(self, deadline):
+    def load(self, deadline: Deadline) -> None:
         pass
 
-    def pieces_to(self, text, lines, deadline):
+    def pieces_to(self, text: bytes, lines: int, deadline: Deadline) -> Iterator[bytes]:
         return iter([b"1 0\nok 1 1\n" * lines])
 
-    def close(self, deadline):
+    def replies_to(self, text: bytes, lines: int, deadline: Deadline) -> bytes:
+        return b"".join(self.pieces_to(text, lines, deadline))
+
+    def abandon(self) -> None:
+        pass
+
+    def hang_up(self) -> None:
+        pass
+
+    def close(self, deadline: Deadline) -> None:
         pass
 
 
-def tiles(count):
+def tiles(count: int) -> Iterator[list[Place]]:
     """Shards that lie side by side in rows, for a router that is told their bounds and needn't ask."""
     across = int(count**0.5)
     step = SIDE // across
     for x in range(0, step * across, step):
         for y in range(0, step * across, step):
             silent = Silent((x, x + step, y, y + step))
-            yield [Place("silent", lambda *_, silent=silent: silent)]
+            yield [Place("silent", partial(always, silent))]
 
 
-def least_of(call, times):
+def always(silent: Silent, *_: object) -> Silent:
+    return silent
+
+
+def least_of(call: Callable[[], object], times: int) -> float:
     return min(timed(lambda: [call() for _ in range(times)])[0] for _ in range(RUNS)) / times
 
 
-def measure_router(chance):
+def measure_router(chance: random.Random) -> None:
     """The router alone, over shards that cost nothing, and the merge alone."""
     print("\n| the router alone | us |\n|---|---|")
     points = [(chance.randrange(SIDE), chance.randrange(SIDE)) for _ in range(BATCH)]
@@ -216,12 +240,12 @@ def measure_router(chance):
         print(f"| an answer merged of {count} shards | {1e6 * seconds / told:.1f} |")
 
 
-def some_answers(chance, count):
+def some_answers(chance: random.Random, count: int) -> bytes:
     rows = sorted((chance.randrange(10**12), chance.randrange(10**9)) for _ in range(count))
     return b"".join(b"%d %d\n" % (id, score) for score, id in rows)
 
 
-def main():
+def main() -> None:
     parser = argparse.ArgumentParser()
     parser.add_argument("program")
     parser.add_argument("--boxes", type=int, default=1_000_000)

@@ -1,4 +1,7 @@
-"""Lines of what is read piece by piece."""
+"""Lines of what is read piece by piece, and what is wrong with one whose fields are others than are wanted."""
+
+import re
+from collections.abc import Sequence
 
 LONGEST_LINE = 4096  # bytes
 
@@ -32,3 +35,30 @@ class Cutter:
 def is_skipped(line: bytes) -> bool:
     """Whether a line is blank, or a comment."""
     return line.strip()[:1] in b"#"
+
+
+FIRST = re.compile(rb'"[^"]*"(?=,|$)|[^,]*')
+WANTED_NAME, WANTED_NUMBER = re.compile(NAME), re.compile(NUMBER)
+
+
+def fault_of(line: bytes, names: Sequence[str], more: str | None = None) -> str:
+    """Why a line isn't a name and numbers with commas between them, and perhaps one more field, which are called so."""
+    if len(line) > LONGEST_LINE:
+        return f"a line of more than {LONGEST_LINE} bytes"
+    fields = fields_of(line.removesuffix(b"\r"))
+    if not len(names) <= len(fields) <= len(names) + (more is not None):
+        forms = [",".join(names), *([",".join([*names, more])] if more is not None else [])]
+        return f"not {' or '.join(forms)}: the number of fields is {len(fields)}"
+    for at, (name, field) in enumerate(zip(names, fields), 1):
+        wanted, kind = (WANTED_NAME, "name") if at == 1 else (WANTED_NUMBER, "number")
+        if wanted.fullmatch(field) is None:
+            return f"field {at}, {name}, is no {kind}: {field.decode(errors='replace')!r:.50}"
+    return f"field {len(fields)}, {more}, has a double quote"
+
+
+def fields_of(line: bytes) -> list[bytes]:
+    """The fields of a line: the first may be in quotes, and have commas then."""
+    first = FIRST.match(line)
+    assert first is not None
+    rest = line[first.end() :]
+    return [first[0], *(rest[1:].split(b",") if rest else [])]

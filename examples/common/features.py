@@ -1,12 +1,25 @@
 """Features of a file of GeoJSON, with what they are called."""
 
+import contextlib
 import json
 import math
+from collections.abc import Iterator
 from typing import Any, Union
 
 from rtfilter import FeatureError
 
 Feature = dict[str, Any]
+
+
+@contextlib.contextmanager
+def named(file: str) -> Iterator[None]:
+    """Has what is wrong with a file told with its name."""
+    try:
+        yield
+    except RecursionError:
+        raise ValueError(f"{file}: lists in lists, too deep to be read") from None
+    except ValueError as error:
+        raise ValueError(f"{file}: {error}") from error
 
 
 def features_of(file: str) -> list[Feature]:

@@ -13,9 +13,11 @@ class Signals:
     """Tells by a descriptor that a signal has come: it is looked at between two pieces of work, and breaks none off."""
 
     def __init__(self, again: Callable[[], None] | None = None) -> None:
-        """`again` is called where `is_end` finds that it is wanted. Without it the signal for it is left as it is."""
+        """`again` is called where `is_end` finds that it is wanted. Without it the signal for it is left as it is.
+        Until `hold`, a signal that ends the program breaks off whatever it does: it raises `SystemExit`, with status 0."""
         self._again = again
         self._come: set[int] = set()
+        self._is_held = False
         self._reading, writing = os.pipe()
         for end in (self._reading, writing):
             os.set_blocking(end, False)
@@ -23,7 +25,17 @@ class Signals:
         for number in ENDS if again is None else {*ENDS, AGAIN}:
             # What is ignored from the start stays so, as an interrupt in the background of a shell's script.
             if number == AGAIN or signal.getsignal(number) != signal.SIG_IGN:
-                signal.signal(number, lambda number, _: self._come.add(number))
+                signal.signal(number, self._take)
+
+    def _take(self, number: int, _: object) -> None:
+        self._come.add(number)
+        if number in ENDS and not self._is_held:
+            raise SystemExit(0)
+
+    def hold(self) -> "Signals":
+        """Itself. From now on what ends the program is told by `is_end` alone."""
+        self._is_held = True
+        return self
 
     def fileno(self) -> int:
         return self._reading

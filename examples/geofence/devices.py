@@ -1,6 +1,7 @@
 """When each device was last heard of, and which zones held it then: some 150 bytes a device."""
 
 import json
+import math
 from array import array
 from collections.abc import Iterable
 from typing import Any
@@ -75,6 +76,8 @@ def change_of(line: str) -> tuple[bytes, float, bool, Zone] | None:
         told = json.loads(line)
         is_in = {"enter": True, "leave": False}[told["event"]]
         zone = Zone(told["zone"], told.get("name"), told.get("layer"))
-        return told["device"].encode(), float(told["time"]), is_in, zone
-    except (ValueError, KeyError, TypeError, AttributeError):
+        device, moment = told["device"].encode(), float(told["time"])
+        hash(zone)  # as that of a list, which no zone is told by, can't be made
+    except (ValueError, KeyError, TypeError, AttributeError, OverflowError, RecursionError):
         return None
+    return (device, moment, is_in, zone) if math.isfinite(moment) else None

@@ -45,7 +45,10 @@ def arguments() -> argparse.Namespace:
     parser.add_argument("--resume", metavar="EVENTS", help="goes on from what was told before, a file of events")
     parser.add_argument("--timeout", type=float, default=30.0, metavar="SECONDS", help="for the program (30)")
     parser.add_argument("--program", default="rtfilter", help="rtfilter, by its name or path")
-    return parser.parse_args()
+    args = parser.parse_args()
+    if min(args.devices, args.connections) < 1:
+        parser.error("one device and one connection or more are known")
+    return args
 
 
 def tell(text: str) -> None:
@@ -83,8 +86,8 @@ def main() -> int:
         fences = load()
         tell(f"zones: {len(fences.zones)}")
         with contextlib.closing(Fence(fences, devices, exchange)) as fence:
-            serve(args, fence, signals)
-    except (RtfilterError, Refused, OSError, ValueError, RecursionError) as error:
+            serve(args, fence, signals.hold())
+    except (RtfilterError, Refused, OSError, ValueError) as error:
         tell(str(error))
         return 1
     return 0

@@ -6,10 +6,11 @@ from functools import cached_property, lru_cache
 from typing import Union
 
 from bands import held_by
-from features import Feature, features_of, id_of, members, name_of
+from features import Feature, features_of, id_of, members, name_of, named
 from positions import SCALE, Position
+from restarts import Restarted
 
-from rtfilter import Answers, Ended, FeatureError, Row, Rtfilter, TimedOut
+from rtfilter import FeatureError, Row
 from rtfilter.closing import Closing
 from rtfilter.geojson import parts_of, rings_of, whole_by
 from rtfilter.plane import Path, sides_of
@@ -56,35 +57,40 @@ class Fences(Closing):
     """
 
     def __init__(self, file: str, layer: str, on: str, program: str, timeout: float | None) -> None:
-        features = features_of(file)
-        self.zones = [zone_of(feature, number, layer) for number, feature in enumerate(features)]
-        if len(set(self.zones)) < len(self.zones):
-            raise ValueError("two zones have the same id")
-        layers = dict.fromkeys(zone.layer for zone in self.zones)
-        if len(layers) > MOST_LAYERS:
-            raise ValueError(f"zones of {len(layers)} layers, and not of {MOST_LAYERS} or fewer")
-        self._numbers = {name: number for number, name in enumerate(layers)}
+        self.zones: list[Zone] = []
+        self._numbers: dict[str | None, int] = {}
         self._on = on.encode()
         # The id of a part's box is its place in these.
         self._zone_of: list[Zone] = []
         self._parts: list[Candidate] = []
         self._rows: list[Row] = []
-        for number, rings in parts_of(features, "Polygon", rings_of, whole_by(SCALE)):
-            self._add(self.zones[number], rings)
+        with named(file):
+            self._read(features_of(file), layer)
         self._words_of = lru_cache(KEPT_LAYERS)(self._words)
         self._kept_candidates = lru_cache(KEPT_ANSWERS)(self._candidates)
         self._zones_of = lru_cache(KEPT_ZONES)(self._zones)
-        self._program, self._timeout = program, timeout
-        self._boxes = self._started()
+        self._boxes = Restarted(lambda: self._rows, program, timeout)
+
+    def _read(self, features: list[Feature], layer: str) -> None:
+        """Takes zones from features. A property of these has their layer."""
+        places: dict[Zone, int] = {}
+        for number, feature in enumerate(features):
+            zone = zone_of(feature, number, layer)
+            if places.setdefault(zone, number) != number:
+                raise FeatureError(number, f"its id is that of features[{places[zone]}]: {zone.id!r:.50}")
+        self.zones += places
+        layers = dict.fromkeys(zone.layer for zone in self.zones)
+        if len(layers) > MOST_LAYERS:
+            raise ValueError(f"zones of {len(layers)} layers, and not of {MOST_LAYERS} or fewer")
+        self._numbers.update({name: number for number, name in enumerate(layers)})
+        for number, rings in parts_of(features, "Polygon", rings_of, whole_by(SCALE)):
+            self._add(self.zones[number], rings)
 
     def _add(self, zone: Zone, rings: list[Path]) -> None:
         part, sides = len(self._parts), sides_of([place for ring in rings for place in ring])
         self._rows.append((part, *sides, self._numbers[zone.layer]))
         self._parts.append((part, held_by(rings).holds))
         self._zone_of.append(zone)
-
-    def _started(self) -> Rtfilter:
-        return Rtfilter(self._rows, program=self._program, timeout=self._timeout)
 
     def holding_each(self, positions: Sequence[Position]) -> list[Held]:
         """The zones that hold each position. Where they are those of another position it is mostly the same tuple."""
@@ -93,21 +99,11 @@ class Fences(Closing):
             words = self._words_of(layers or self._on)
             lines.append(NOTHING if words is None else f"find covers {x} {x} {y} {y}{words}")
         held_each: list[Held] = []
-        for (_, _, x, y, _, _, _), answers in zip(positions, self._asked(lines)):
+        for (_, _, x, y, _, _, _), answers in zip(positions, self._boxes.ask(lines)):
             text = bytes(answers)
             parts = self._kept_candidates(text) if len(text) <= LONGEST_KEPT else self._candidates(text)
             held_each.append(self._zones_of(tuple([part for part, holds in parts if holds(x, y)])) if parts else ())
         return held_each
-
-    def _asked(self, lines: list[str]) -> list[Answers]:
-        """The answers to lines. A program that has ended, or doesn't answer, is started anew and asked once more: a
-        question changes nothing."""
-        try:
-            return self._boxes.ask(lines)
-        except (Ended, TimedOut):
-            self._boxes.close()
-            self._boxes = self._started()
-            return self._boxes.ask(lines)
 
     def _words(self, layers: bytes) -> str | None:
         """What a query says of layers that are named; None where none of them has a zone."""

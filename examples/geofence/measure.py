@@ -6,18 +6,19 @@ usage: measure.py [--positions N] [--zones N] [--corners N] [--devices N] [--pro
 Devices drive about among zones of random form, each so wide that a position lies in one box round a zone on average.
 """
 
-import argparse
 import json
 import math
 import random
-import resource
-import subprocess
 import sys
 import tempfile
 from collections.abc import Iterator
 from pathlib import Path
 
 HERE = Path(__file__).resolve().parent
+sys.path.append(str(HERE.parent / "common"))
+
+from measuring import cost_of, parser_of
+
 WEST, SOUTH, SIDE = 16.0, 48.0, 1.0  # degrees
 STEP = 0.002  # degrees, between two positions of a device
 Ring = list[list[float]]
@@ -57,26 +58,12 @@ def positions(chance: random.Random, devices: int, count: int) -> Iterator[bytes
         yield b"vehicle-%06d,%.6f,%.6f,%d\n" % (device, x, y, 1_700_000_000 + at)
 
 
-def run(words: list[str], lines: Path) -> tuple[float, int, int]:
-    """Processor seconds of a fence and its program over some lines, the greatest memory of the larger one, in bytes, and
-    how many lines were told."""
-    before = resource.getrusage(resource.RUSAGE_CHILDREN)
-    with open(lines, "rb") as file, subprocess.Popen(words, stdin=file, stdout=subprocess.PIPE) as process:
-        assert process.stdout is not None
-        told = sum(1 for _ in process.stdout)
-    after = resource.getrusage(resource.RUSAGE_CHILDREN)
-    seconds = after.ru_utime + after.ru_stime - before.ru_utime - before.ru_stime
-    return seconds, after.ru_maxrss * 1024, told
-
-
 def main() -> None:
-    parser = argparse.ArgumentParser(description="Measures a fence.")
+    parser = parser_of("Measures a fence.")
     parser.add_argument("--positions", type=int, default=400_000)
     parser.add_argument("--zones", type=int, default=2000)
     parser.add_argument("--corners", type=int, default=50)
     parser.add_argument("--devices", type=int, default=10_000)
-    parser.add_argument("--runs", type=int, default=5, help="of which the fastest counts: others may use the machine")
-    parser.add_argument("--program", default="rtfilter")
     args = parser.parse_args()
     chance = random.Random(1)
     with tempfile.TemporaryDirectory() as name:
@@ -87,8 +74,8 @@ def main() -> None:
             file.writelines(positions(chance, args.devices, args.positions))
         none.touch()
         words = [sys.executable, str(HERE / "fence.py"), "--program", args.program, str(zones)]
-        load = min(run(words, none)[0] for _ in range(args.runs))
-        runs = [run(words, lines) for _ in range(args.runs)]
+        load = min(cost_of(words, none).seconds for _ in range(args.runs))
+        runs = [cost_of(words, lines) for _ in range(args.runs)]
     seconds, memory, told = min(runs)
     each = (seconds - load) / args.positions
     print(f"load {load:.2f} s; a position {each * 1e6:.1f} us, {1 / each:,.0f} a second of a core; ", end="")

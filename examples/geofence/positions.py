@@ -1,10 +1,11 @@
 """Positions of devices, a line each: DEVICE,LONGITUDE,LATITUDE,TIME and perhaps the layers that matter to it."""
 
 import re
+import sys
 from math import inf
 from typing import NamedTuple
 
-from cutting import LONGEST_LINE, NAME, NUMBER, is_skipped
+from cutting import LONGEST_LINE, NAME, NUMBER, fault_of, is_skipped
 
 from rtfilter.geojson import whole_by
 
@@ -16,10 +17,9 @@ LONGEST_DEVICE = 64  # bytes
 LINE = re.compile(rb",".join([NAME, NUMBER, NUMBER, NUMBER]) + rb'(?:,([^",\n]*))?\r?')
 """A device, in quotes or not, a longitude, a latitude, a time, and layers."""
 
-TOO_LONG = f"a line of more than {LONGEST_LINE} bytes"
-NO_POSITION = "neither DEVICE,LONGITUDE,LATITUDE,TIME nor DEVICE,LONGITUDE,LATITUDE,TIME,LAYERS"
-NO_DEVICE = f"a device of more than {LONGEST_DEVICE} bytes, or not of UTF-8"
-NO_PLACE = "a longitude that isn't -180 to 180, a latitude that isn't -90 to 90, or a time beyond all"
+NAMES = "DEVICE", "LONGITUDE", "LATITUDE", "TIME"
+MORE = "LAYERS"
+RANGES = (-180, 180), (-90, 90), (-sys.float_info.max, sys.float_info.max)  # of the numbers
 
 Position = tuple[int, bytes, int, int, float, bytes, bytes]
 """The number of a line, its device, x and y in whole units, the moment, the layers, and the line itself. A class would
@@ -42,17 +42,25 @@ def positions_of(first: int, lines: list[bytes]) -> tuple[list[Position], list[R
         match = LINE.fullmatch(text)
         if match is None or len(text) > LONGEST_LINE:
             if not is_skipped(text):
-                refusals.append(Refusal(line, NO_POSITION if len(text) <= LONGEST_LINE else TOO_LONG))
+                refusals.append(Refusal(line, fault_of(text, NAMES, MORE)))
             continue
         quoted, plain, longitude, latitude, time, layers = match.groups(b"")
         device, east, north, moment = plain or quoted, float(longitude), float(latitude), float(time)
         if len(device) > LONGEST_DEVICE or not (device.isascii() or is_text(device)):
-            refusals.append(Refusal(line, NO_DEVICE))
+            refusals.append(Refusal(line, f"field 1, DEVICE, has more than {LONGEST_DEVICE} bytes, or isn't UTF-8"))
         elif not (-180 <= east <= 180 and -90 <= north <= 90 and -inf < moment < inf):
-            refusals.append(Refusal(line, NO_PLACE, device))
+            refusals.append(Refusal(line, out_of_range(longitude, latitude, time), device))
         else:
             positions.append((line, device, whole(east), whole(north), moment, layers, text))
     return positions, refusals
+
+
+def out_of_range(*numbers: bytes) -> str:
+    """Which of the numbers of a position is the first that is out of its range."""
+    for at, (number, (least, greatest)) in enumerate(zip(numbers, RANGES)):
+        if not least <= float(number) <= greatest:
+            return f"field {at + 2}, {NAMES[at + 1]}, isn't {least} to {greatest}: {number.decode():.50}"
+    raise AssertionError(numbers)
 
 
 def numbers_of(text: bytes) -> tuple[str, str, str]:

@@ -6,18 +6,19 @@ usage: measure.py [--positions N] [--roads N] [--corners N] [--nearest K] [--run
 Roads wind about a square of 60 km, with a corner each 100 metres or so; positions are anywhere in it.
 """
 
-import argparse
 import json
 import math
 import random
-import resource
-import subprocess
 import sys
 import tempfile
 from pathlib import Path
 from typing import Any
 
 HERE = Path(__file__).resolve().parent
+sys.path.append(str(HERE.parent / "common"))
+
+from measuring import cost_of, parser_of
+
 WEST, SOUTH, SIDE = 16.0, 48.0, 0.8  # degrees
 STEP = 0.0013  # degrees, between two corners
 
@@ -35,24 +36,12 @@ def road(chance: random.Random, number: int, corners: int) -> dict[str, Any]:
     return {"type": "Feature", "id": number, "properties": {"name": f"road {number}"}, "geometry": geometry}
 
 
-def run(words: list[str], lines: Path) -> tuple[float, int]:
-    """Processor seconds of a run over some lines, and how many bytes were told."""
-    before = resource.getrusage(resource.RUSAGE_CHILDREN)
-    with open(lines, "rb") as file, subprocess.Popen(words, stdin=file, stdout=subprocess.PIPE) as process:
-        assert process.stdout is not None
-        told = sum(map(len, process.stdout))
-    after = resource.getrusage(resource.RUSAGE_CHILDREN)
-    return after.ru_utime + after.ru_stime - before.ru_utime - before.ru_stime, told
-
-
 def main() -> None:
-    parser = argparse.ArgumentParser(description="Measures snapping.")
+    parser = parser_of("Measures snapping.")
     parser.add_argument("--positions", type=int, default=50_000)
     parser.add_argument("--roads", type=int, default=5000)
     parser.add_argument("--corners", type=int, default=21, help="of each road: one more than its pieces")
     parser.add_argument("--nearest", type=int, default=1)
-    parser.add_argument("--runs", type=int, default=5, help="of which the fastest counts: others may use the machine")
-    parser.add_argument("--program", default="rtfilter")
     args = parser.parse_args()
     chance = random.Random(1)
     with tempfile.TemporaryDirectory() as name:
@@ -66,9 +55,9 @@ def main() -> None:
         records.write_text("id,longitude,latitude\n" + "".join(fields))
         none.touch()
         words = [sys.executable, str(HERE / "snap.py"), "--program", args.program, "--nearest", str(args.nearest)]
-        load = min(run([*words, str(roads)], none)[0] for _ in range(args.runs))
-        of_lines = min(run([*words, str(roads)], lines)[0] for _ in range(args.runs))
-        of_records = min(run([*words, str(roads), str(records)], none)[0] for _ in range(args.runs))
+        load = min(cost_of([*words, str(roads)], none).seconds for _ in range(args.runs))
+        of_lines = min(cost_of([*words, str(roads)], lines).seconds for _ in range(args.runs))
+        of_records = min(cost_of([*words, str(roads), str(records)], none).seconds for _ in range(args.runs))
     print(f"load {load:.2f} s of {args.roads * (args.corners - 1)} pieces")
     for kind, seconds in (("line", of_lines), ("record", of_records)):
         each = (seconds - load) / args.positions

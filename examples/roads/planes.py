@@ -2,15 +2,19 @@
 
 import math
 from abc import ABC, abstractmethod
+from collections.abc import Callable
 from typing import NamedTuple
 
 LEAST, GREATEST = -(2**31), 2**31 - 1  # of a table's coordinates
 ROUNDED = 3 * math.sqrt(0.5)  # units: position, road and nearest point are each off by half a unit at most, on x and y
 
 
-class Far(NamedTuple):
-    """How far it is from a position to the point told of a road. The road is nearer, or farther, by the error at most."""
+class Near(NamedTuple):
+    """The point told of a road by its coordinates, and how far it is from a position. The road is nearer, or farther, by
+    the error at most."""
 
+    x: float
+    y: float
     distance: float
     error: float
 
@@ -21,14 +25,14 @@ class Plane(ABC):
     names: tuple[str, str, str, str]
     """What two coordinates, a distance and its error are called."""
 
-    digits: tuple[int, int]
-    """How many are told behind the point, of coordinates and of distances."""
+    digits: tuple[int, int, int, int]
+    """How many of each are told behind the point."""
 
-    def rounded(self, x: float, y: float, far: Far) -> tuple[float, float, float, float]:
-        """What is told of a point. The error is that of the rounded distance."""
-        of_coordinates, of_distances = self.digits
-        error = math.ceil(far.error * 10**of_distances + 0.5) / 10**of_distances
-        return round(x, of_coordinates), round(y, of_coordinates), round(far.distance, of_distances), error
+    def told(self, near: Near) -> tuple[float, float, float, float]:
+        """What is told of a point, by these names, before it is rounded. The error is that of the rounded distance."""
+        x, y, distance, error = near
+        units = 10 ** self.digits[3]
+        return x, y, distance, math.ceil(error * units + 0.5) / units
 
     @abstractmethod
     def whole(self, x: float, y: float) -> tuple[int, int]:
@@ -39,8 +43,8 @@ class Plane(ABC):
         """The coordinates of a point of the plane."""
 
     @abstractmethod
-    def far(self, position: tuple[float, float], point: tuple[float, float]) -> Far:
-        """How far it is between two places, told by their coordinates, where the second is the nearest of a road."""
+    def near(self, x: float, y: float) -> Callable[[float, float], Near]:
+        """What tells how far it is from a place, by its coordinates, to a point of the plane, the nearest of a road."""
 
 
 class Scaled(Plane):
@@ -51,43 +55,64 @@ class Scaled(Plane):
     def __init__(self, scale: float) -> None:
         self._scale = scale
         digits = max(0, math.ceil(math.log10(scale))) + 1
-        self.digits = digits, digits
+        self.digits = digits, digits, digits, digits
 
     def whole(self, x: float, y: float) -> tuple[int, int]:
-        return _checked(round(x * self._scale), round(y * self._scale))
+        return self._whole("x", x), self._whole("y", y)
+
+    def _whole(self, name: str, coordinate: float) -> int:
+        units = coordinate * self._scale
+        if not LEAST - 0.5 <= units < GREATEST + 0.5:
+            raise ValueError(f"{name} {coordinate!r:.50} is out of the range of 32 bits, times {self._scale}")
+        return round(units)
 
     def back(self, x: float, y: float) -> tuple[float, float]:
         return x / self._scale, y / self._scale
 
-    def far(self, position: tuple[float, float], point: tuple[float, float]) -> Far:
-        return Far(math.dist(position, point), ROUNDED / self._scale)
+    def near(self, x: float, y: float) -> Callable[[float, float], Near]:
+        def near(across: float, up: float) -> Near:
+            east, north = self.back(across, up)
+            return Near(east, north, math.hypot(east - x, north - y), ROUNDED / self._scale)
+
+        return near
 
 
 class WebMercator(Plane):
     """Degrees of longitude and latitude (WGS 84), in centimetres of Web Mercator (EPSG:3857), and metres on the ground."""
 
     names = "longitude", "latitude", "metres", "error"
-    digits = 7, 3
+    digits = 7, 7, 3, 3
 
     def whole(self, x: float, y: float) -> tuple[int, int]:
-        if not (-180 <= x <= 180 and -MOST_LATITUDE <= y <= MOST_LATITUDE):
-            raise ValueError(NO_PLACE)
+        if not -180 <= x <= 180:
+            raise ValueError(f"longitude {x!r:.50} isn't -180 to 180")
+        if not -MOST_LATITUDE <= y <= MOST_LATITUDE:
+            raise ValueError(f"latitude {y!r:.50} isn't -{MOST_LATITUDE} to {MOST_LATITUDE}")
         return round(math.radians(x) * UNITS), round(math.asinh(math.tan(math.radians(y))) * UNITS)
 
     def back(self, x: float, y: float) -> tuple[float, float]:
         return math.degrees(x / UNITS), math.degrees(math.atan(math.sinh(y / UNITS)))
 
-    def far(self, position: tuple[float, float], point: tuple[float, float]) -> Far:
+    def near(self, x: float, y: float) -> Callable[[float, float], Near]:
         """The plane stretches lengths to the north more than those to the east, in the ratio of two radii, and all of them
         more where it is farther from the equator: so the nearest in the plane may be a little farther than another one."""
-        metres = on_ground(position, point)
-        longitude, latitude = position
-        turn = metres / LEAST_RADIUS  # no place that is as near lies farther to the north or the south
-        low, high = max(0.0, math.radians(abs(latitude)) - turn), math.radians(abs(latitude)) + turn
-        if high >= math.radians(MOST_LATITUDE) or abs(longitude) + math.degrees(turn / math.cos(high)) >= 180:
-            return Far(metres, metres)  # roads that are nearer may lie beyond the plane's edge
-        least, most = math.cos(high) * along(high), math.cos(low) * across(low)
-        return Far(metres, metres * (1 - least / most) + ROUNDED / UNITS_OF_METRE * most / RADIUS)
+        longitude, latitude = math.radians(x), math.radians(y)
+        from_equator, from_edge = abs(latitude), math.pi - abs(longitude)
+        on_ground = on_ground_from(longitude, math.tan(latitude))
+
+        def near(across: float, up: float) -> Near:
+            east, slope = across / UNITS, math.sinh(up / UNITS)
+            metres = on_ground(east, slope)
+            turn = metres / LEAST_RADIUS  # no place that is as near lies farther to the north or the south
+            error, high = metres, from_equator + turn
+            # Roads that are nearer may lie beyond the plane's edge, else.
+            if high < NORTHERN_EDGE and turn < from_edge * (cosine := math.cos(high)):
+                cosine_of_low = math.cos(max(0.0, from_equator - turn))
+                least, most = cosine * along(cosine), cosine_of_low * along_parallel(cosine_of_low)
+                error = metres * (1 - least / most) + ROUNDED / UNITS_OF_METRE * most / RADIUS
+            return Near(math.degrees(east), math.degrees(math.atan(slope)), metres, error)
+
+        return near
 
 
 RADIUS = 6378137.0  # metres: of the equator, and of the sphere that Web Mercator takes the earth for
@@ -97,35 +122,41 @@ LEAST_RADIUS = RADIUS * (1 - SQUARED)  # of a meridian, at the equator
 UNITS_OF_METRE = 100
 UNITS = UNITS_OF_METRE * RADIUS  # whole units of a radian
 MOST_LATITUDE = 85.0511287  # where the plane is a square
-NO_PLACE = f"a longitude that isn't -180 to 180, or a latitude that isn't -{MOST_LATITUDE} to {MOST_LATITUDE}"
+NORTHERN_EDGE = math.radians(MOST_LATITUDE)
 
 
-def across(latitude: float) -> float:
-    """The radius of curvature from west to east, in metres."""
-    return RADIUS / math.sqrt(1 - SQUARED * math.sin(latitude) ** 2)
+def along_parallel(cosine: float) -> float:
+    """The radius of curvature from west to east, in metres, by the cosine of a latitude."""
+    return RADIUS / math.sqrt(1 - SQUARED * (1 - cosine * cosine))
 
 
-def along(latitude: float) -> float:
-    """The radius of curvature from south to north, in metres."""
-    return LEAST_RADIUS / math.pow(1 - SQUARED * math.sin(latitude) ** 2, 1.5)
+def along(cosine: float) -> float:
+    """The radius of curvature from south to north."""
+    return LEAST_RADIUS / math.pow(1 - SQUARED * (1 - cosine * cosine), 1.5)
 
 
-def on_ground(one: tuple[float, float], other: tuple[float, float]) -> float:
-    """The distance of two places in metres along the ellipsoid, by Lambert's formula: within a hundred-thousandth, where
-    they don't lie opposite each other."""
-    (west, south), (east, north) = one, other
-    first, second = (math.atan((1 - FLATTENING) * math.tan(math.radians(it))) for it in (south, north))
-    mean, half, turn = (first + second) / 2, (second - first) / 2, math.radians(east - west) / 2
-    near = math.sin(half) ** 2 + math.cos(first) * math.cos(second) * math.sin(turn) ** 2
-    if not 0 < near < 1:
-        return math.pi * RADIUS * (near >= 1)
-    angle = 2 * math.asin(math.sqrt(near))
-    lift = (angle - math.sin(angle)) * (math.sin(mean) * math.cos(half)) ** 2 / (1 - near)
-    drop = (angle + math.sin(angle)) * (math.cos(mean) * math.sin(half)) ** 2 / near
-    return RADIUS * (angle - FLATTENING / 2 * (lift + drop))
+def on_ground_from(longitude: float, slope: float) -> Callable[[float, float], float]:
+    """What tells the distance of a place from this one, each by its longitude in radians and the tangent of its latitude,
+    in metres along the ellipsoid, by Lambert's formula: within a hundred-thousandth, where they don't lie opposite."""
+    first = on_sphere(slope)
+    cosine = math.cos(first)
+
+    def metres(east: float, other_slope: float) -> float:
+        second = on_sphere(other_slope)
+        mean, half, turn = (first + second) / 2, (second - first) / 2, (east - longitude) / 2
+        square_of_half = math.sin(half) ** 2
+        near = square_of_half + cosine * math.cos(second) * math.sin(turn) ** 2
+        if not 0 < near < 1:
+            return math.pi * RADIUS * (near >= 1)
+        angle = 2 * math.asin(math.sqrt(near))
+        sine, square_of_mean = math.sin(angle), math.sin(mean) ** 2
+        lift = (angle - sine) * square_of_mean * (1 - square_of_half) / (1 - near)
+        drop = (angle + sine) * (1 - square_of_mean) * square_of_half / near
+        return RADIUS * (angle - FLATTENING / 2 * (lift + drop))
+
+    return metres
 
 
-def _checked(x: int, y: int) -> tuple[int, int]:
-    if not (LEAST <= min(x, y) and max(x, y) <= GREATEST):
-        raise ValueError("a coordinate that is out of the range of 32 bits")
-    return x, y
+def on_sphere(slope: float) -> float:
+    """The reduced latitude, in radians, by the tangent of a latitude: that of its place on a sphere round the ellipsoid."""
+    return math.atan((1 - FLATTENING) * slope)

@@ -16,12 +16,13 @@ class Records:
     """A CSV file with a header, and what is told of its records."""
 
     def __init__(self, file: TextIO, columns: tuple[str, str], snapping: Snapping, tell: Callable[[str], None]) -> None:
-        """The coordinates are in these columns. Records that are passed over are told of. Raises `ValueError` where the
-        header doesn't have each column once."""
+        """The coordinates are in these columns. Records that are passed over are told of, by their lines. Raises
+        `ValueError` where the header doesn't have each column once."""
         self._snapping = snapping
         self._tell = tell
         self._reader = csv.reader(file)
-        self._names: Record = next(self._reader, [])
+        self._records = self._read()
+        self._names: Record = next(self._records, [])
         for column in columns:
             if self._names.count(column) != 1:
                 raise ValueError(f"{self._names.count(column)} columns are called {column}, and not one")
@@ -39,20 +40,33 @@ class Records:
         while batch := list(islice(remaining, AT_ONCE)):
             snapped_each = self._snapping.snapped_each([position for _, position in batch])
             yield [
-                [*record, str(rank), str(it.road.id), it.road.name or "", *map(str, self._snapping.rounded(it))]
+                [*record, str(rank), str(it[0].id), it[0].name or "", *self._snapping.numbers_of(it)]
                 for (record, _), snapped in zip(batch, snapped_each)
                 for rank, it in enumerate(snapped, 1)
             ]
 
+    def _read(self) -> Iterator[Record]:
+        try:
+            yield from self._reader
+        except csv.Error as error:
+            raise ValueError(f"line {self._reader.line_num}: {error}") from None
+
     def _positions(self) -> Iterator[tuple[Record, Position]]:
         """The records that tell a position. Empty lines are no records."""
-        for record in filter(None, self._reader):
+        for record in filter(None, self._records):
             try:
                 if len(record) != len(self._names):
-                    raise ValueError(f"{len(record)} fields, and not {len(self._names)}")
-                position = self._snapping.position(float(record[self._x]), float(record[self._y]))
+                    raise ValueError(f"the number of fields is {len(record)}, and not {len(self._names)}")
+                position = self._snapping.position(self._number(record, self._x), self._number(record, self._y))
             except ValueError as why:
                 self._tell(f"line {self._reader.line_num}: {why}")
                 self.are_sound = False
                 continue
             yield record, position
+
+    def _number(self, record: Record, column: int) -> float:
+        word = record[column]
+        try:
+            return float("" if "_" in word else word)  # which Python would pass over
+        except ValueError:
+            raise ValueError(f"{self._names[column]} is no number: {word!r:.50}") from None

@@ -1,5 +1,6 @@
 """The roads nearest to places of a plane, exactly in its whole units, and their nearest points."""
 
+import math
 from collections.abc import Iterator, Sequence
 from dataclasses import dataclass
 from fractions import Fraction
@@ -7,10 +8,11 @@ from functools import cached_property
 from itertools import islice, pairwise
 from typing import Any, NamedTuple, Union
 
-from features import Feature, features_of, id_of, members, name_of
+from features import Feature, features_of, id_of, members, name_of, named
 from planes import Plane
+from restarts import Restarted
 
-from rtfilter import Answers, Ended, FeatureError, Row, Rtfilter, TimedOut
+from rtfilter import Answers, FeatureError, Row
 from rtfilter.closing import Closing
 from rtfilter.geojson import line_of, parts_of, whole_by
 from rtfilter.plane import Piece, Place, sides_of
@@ -18,7 +20,7 @@ from rtfilter.queries import nearest_line
 
 BOXES_OF_ROAD = 8  # that are asked for at first, for each road: in nine searches of ten the last one is farther
 MORE = 4  # times as many are asked for, where that wasn't so
-AT_ONCE = 8  # pieces, between two looks whether a search is over
+MARGIN = 1 + 2**-50  # times a float: more than what it was rounded from
 MOST_ANSWERS = 1 << 20  # that are asked for at once
 
 
@@ -67,20 +69,23 @@ class Roads(Closing):
     """
 
     def __init__(self, file: str, plane: Plane, program: str, timeout: float | None) -> None:
-        features = features_of(file)
-        self._roads = [Road(id_of(feature, number), name_of(feature)) for number, feature in enumerate(features)]
+        self._roads: list[Road] = []
         self._road_of: list[int] = []
         self._pieces: list[Piece] = []  # the id of a piece's box is its place here
+        with named(file):
+            self._read(features_of(file), plane)
+        self._boxes = Restarted(self._rows, program, timeout)
+
+    def _read(self, features: list[Feature], plane: Plane) -> None:
+        """Takes roads from features."""
+        self._roads += [Road(id_of(feature, number), name_of(feature)) for number, feature in enumerate(features)]
         in_plane = [projected(feature, number, plane) for number, feature in enumerate(features)]
         for number, path in parts_of(in_plane, "LineString", line_of, whole_by(None)):
             self._pieces += pairwise(path)
             self._road_of += [number] * (len(path) - 1)
-        self._program, self._timeout = program, timeout
-        self._boxes = self._started()
 
-    def _started(self) -> Rtfilter:
-        rows = ((at, *sides_of(piece)) for at, piece in enumerate(self._pieces))
-        return Rtfilter(rows, program=self._program, timeout=self._timeout)
+    def _rows(self) -> Iterator[Row]:
+        return ((at, *sides_of(piece)) for at, piece in enumerate(self._pieces))
 
     def __len__(self) -> int:
         return len(self._roads)
@@ -104,17 +109,7 @@ class Roads(Closing):
         """What searches have asked for, which is as much for each; so many at once that their answers are bounded."""
         remaining = iter(searches)
         while some := list(islice(remaining, max(1, MOST_ANSWERS // searches[0].asked))):
-            yield from zip(some, self._asked([search.query for search in some]))
-
-    def _asked(self, lines: list[str]) -> list[Answers]:
-        """The answers to lines. A program that has ended, or doesn't answer, is started anew and asked once more: a
-        question changes nothing."""
-        try:
-            return self._boxes.ask(lines)
-        except (Ended, TimedOut):
-            self._boxes.close()
-            self._boxes = self._started()
-            return self._boxes.ask(lines)
+            yield from zip(some, self._boxes.ask([search.query for search in some]))
 
     def close(self) -> None:
         self._boxes.close()
@@ -123,7 +118,8 @@ class Roads(Closing):
 class Search:
     """The search for the k roads nearest to a place, over pieces in the order of their boxes' distances.
 
-    A box is at most as far as its piece. So once a box is farther than the k-th road, no piece that is left matters.
+    A box is at most as far as its piece. So a piece whose box is farther than what was found of its road isn't looked at,
+    and once a box is farther than the k-th road, no piece that is left matters.
     """
 
     def __init__(self, k: int, x: int, y: int, most: int) -> None:
@@ -135,6 +131,7 @@ class Search:
         self._most = most
         self._seen = 0  # boxes
         self._feet: dict[int, Foot] = {}  # the nearest of each road
+        self._reach = math.inf  # no square of the k-th road's distance is greater
 
     @property
     def query(self) -> str:
@@ -142,34 +139,31 @@ class Search:
         return nearest_line(self.asked, self.x, self.y)
 
     def take(self, answers: Answers, pieces: list[Piece], road_of: list[int]) -> None:
-        """Takes the pieces whose boxes were found, some at once, until none that is left matters."""
-        words = bytes(answers).split()
-        ids, scores = words[::2], words[1::2]
-        for at in range(self._seen, len(ids), AT_ONCE):
-            some = ids[at : at + AT_ONCE]
-            for piece in map(int, some):
-                self._take(piece, pieces[piece], road_of[piece])
-            if self._is_beyond(int(scores[at + len(some) - 1])):
+        """Takes the pieces whose boxes were found until none that is left matters."""
+        words = bytes(answers).split()[2 * self._seen :]
+        for piece, score in zip(map(int, words[::2]), map(int, words[1::2])):
+            if score > self._reach:
                 self.is_over = True
                 return
-        self._seen = len(ids)
+            road = road_of[piece]
+            known = self._feet.get(road)
+            if known is None or score <= known.squared * MARGIN:
+                self._take(piece, pieces[piece], road, known)
+        self._seen += len(words) // 2
         self.is_over = self._seen < self.asked
         self.asked = min(MORE * self.asked, self._most)
 
-    def _take(self, number: int, piece: Piece, road: int) -> None:
+    def _take(self, number: int, piece: Piece, road: int, known: Foot | None) -> None:
+        """Takes the point of a piece, where no nearer one is known of its road."""
         above, below = square_of(piece, self.x, self.y)
-        squared, known = above / below, self._feet.get(road)
-        if known is None or squared <= known.squared:
-            foot = Foot(squared, above, below, number)
-            if known is None or foot.is_nearer(known):
-                self._feet[road] = foot
-
-    def _is_beyond(self, score: int) -> bool:
-        """Whether the square of a distance is greater than that of the k-th road: mostly floats tell that it isn't."""
-        if len(self._feet) < self._k or score <= sorted([foot.squared for foot in self._feet.values()])[self._k - 1]:
-            return False
-        _, last = self.nearest[-1]
-        return score * last.below > last.above
+        squared = above / below
+        if known is not None and squared > known.squared:
+            return
+        foot = Foot(squared, above, below, number)
+        if known is None or foot.is_nearer(known):
+            self._feet[road] = foot
+            if len(self._feet) >= self._k:
+                self._reach = sorted([foot.squared for foot in self._feet.values()])[self._k - 1] * MARGIN
 
     @property
     def nearest(self) -> list[tuple[int, Foot]]:
@@ -207,23 +201,36 @@ def projected(feature: Feature, number: int, plane: Plane) -> Feature:
     geometry = feature.get("geometry")
     if not isinstance(geometry, dict):
         return feature
-    kind: Any = geometry.get("type")
-    coordinates: Any = geometry.get("coordinates")
+    kind, coordinates = geometry.get("type"), geometry.get("coordinates")
     try:
         if kind == "LineString":
-            coordinates = path_in(plane, coordinates)
-        elif kind == "MultiLineString":
-            coordinates = [path_in(plane, positions) for positions in coordinates]
-    except (TypeError, ValueError, OverflowError) as fault:
+            coordinates = path_in(plane, coordinates, "coordinates")
+        elif kind == "MultiLineString" and isinstance(coordinates, list):
+            coordinates = [path_in(plane, it, f"coordinates[{at}]") for at, it in enumerate(coordinates)]
+    except ValueError as fault:
         raise FeatureError(number, str(fault)) from None
     return {"type": kind, "coordinates": coordinates}
 
 
-def path_in(plane: Plane, positions: Any) -> list[Place]:
-    return [plane.whole(number_of(x), number_of(y)) for x, y, *_ in positions]
+def path_in(plane: Plane, positions: Any, name: str) -> Any:
+    """The places of a line's positions, which are called so."""
+    if not isinstance(positions, list):
+        return positions
+    path = []
+    for at, position in enumerate(positions):
+        try:
+            if not isinstance(position, list) or len(position) < 2:
+                raise ValueError(f"{position!r:.50} in the place of two numbers")
+            path.append(plane.whole(number_of(position[0]), number_of(position[1])))
+        except ValueError as fault:
+            raise ValueError(f"{name}[{at}]: {fault}") from None
+    return path
 
 
 def number_of(coordinate: Any) -> float:
     if isinstance(coordinate, bool) or not isinstance(coordinate, (int, float)):
         raise ValueError(f"a coordinate that is no number: {coordinate!r:.50}")
-    return coordinate
+    try:
+        return float(coordinate)
+    except OverflowError:
+        raise ValueError(f"a coordinate that is beyond floats: {coordinate!r:.50}") from None

@@ -16,6 +16,7 @@ from pathlib import Path
 HERE = Path(__file__).resolve().parent
 sys.path[:0] = [str(HERE.parent.parent / folder) for folder in ("clients/python", "examples/common")]
 
+from features import named
 from planes import Plane, Scaled, WebMercator
 from records import Records
 from roads import Roads
@@ -24,6 +25,8 @@ from snapping import Snapping
 from stream import Stream, standard_ends
 
 from rtfilter import RtfilterError
+
+INTERRUPTED = 130  # the status, as shells have it
 
 
 def arguments() -> argparse.Namespace:
@@ -38,8 +41,8 @@ def arguments() -> argparse.Namespace:
     args = parser.parse_args()
     if args.nearest < 1:
         parser.error("one road or more is told")
-    if args.scale is not None and not 0 < args.scale < float("inf"):
-        parser.error("a scale is above 0")
+    if args.scale is not None and not 1e-9 <= args.scale <= 1e9:
+        parser.error("a scale is 1e-9 to 1e9")
     return args
 
 
@@ -56,9 +59,10 @@ def columns_of(args: argparse.Namespace) -> tuple[str, str]:
 
 def write_records(args: argparse.Namespace, snapping: Snapping) -> bool:
     """Whether each record of the file was taken. Raises `OSError` where they can't be read or written."""
-    with open(args.positions, encoding="utf-8-sig", newline="") as file:
-        records = Records(file, columns_of(args), snapping, tell)
-        with open(standard_ends()[1], "w", encoding="utf-8", newline="", closefd=False) as output:
+    _, output_end = standard_ends()
+    with named(args.positions), open(args.positions, encoding="utf-8-sig", newline="") as file:
+        records = Records(file, columns_of(args), snapping, lambda why: tell(f"{args.positions}, {why}"))
+        with open(output_end, "w", encoding="utf-8", newline="", closefd=False) as output:
             writer = csv.writer(output, lineterminator="\n")
             writer.writerow(records.header)
             for batch in records.batches():
@@ -76,10 +80,12 @@ def main() -> int:
             snapping = Snapping(roads, plane, args.nearest)
             if args.positions is not None:
                 return int(not write_records(args, snapping))
-            Stream(snapping.told_of, Signals(), *standard_ends()).serve()
-    except (RtfilterError, OSError, ValueError, RecursionError, csv.Error) as error:
+            Stream(snapping.told_of, Signals().hold(), *standard_ends()).serve()
+    except (RtfilterError, OSError, ValueError) as error:
         tell(str(error))
         return 1
+    except KeyboardInterrupt:
+        return INTERRUPTED
     return 0
 
 

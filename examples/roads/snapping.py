@@ -5,8 +5,8 @@ import re
 from collections.abc import Iterator, Sequence
 from typing import NamedTuple
 
-from cutting import LONGEST_LINE, NAME, NUMBER, is_skipped
-from planes import Far, Plane
+from cutting import LONGEST_LINE, NAME, NUMBER, fault_of, is_skipped
+from planes import Near, Plane
 from roads import Road, Roads
 
 from rtfilter.plane import Place
@@ -23,13 +23,8 @@ class Position(NamedTuple):
     place: Place
 
 
-class Snapped(NamedTuple):
-    """A road near a position, the coordinates of its nearest point, and how far it is."""
-
-    road: Road
-    x: float
-    y: float
-    far: Far
+Snapped = tuple[Road, Near]
+"""A road near a position, and its nearest point."""
 
 
 class Snapping:
@@ -39,20 +34,21 @@ class Snapping:
         self._roads = roads
         self._k = k
         self.plane = plane
+        self._names = "NAME", plane.names[0].upper(), plane.names[1].upper()  # of a line's fields
+        self._forms = [f"%.{digits}f" for digits in plane.digits]
+        named = ", ".join([f'"{name}": {form}' for name, form in zip(plane.names, self._forms)])
+        self._object = f"{{%s, {named}}}"
 
     def position(self, x: float, y: float) -> Position:
         """Raises `ValueError` for what isn't in the plane."""
-        try:
-            return Position(x, y, self.plane.whole(x, y))
-        except OverflowError as error:
-            raise ValueError(str(error)) from None
+        return Position(x, y, self.plane.whole(x, y))
 
     def snapped_each(self, positions: Sequence[Position]) -> Iterator[list[Snapped]]:
         """The roads nearest to each position, by their distances in the plane."""
         found_each = self._roads.nearest_each(self._k, [position.place for position in positions])
         for (x, y, _), found in zip(positions, found_each):
-            points = [self.plane.back(*it.point) for it in found]
-            yield [Snapped(it.road, *point, self.plane.far((x, y), point)) for it, point in zip(found, points)]
+            near = self.plane.near(x, y)
+            yield [(road, near(*point)) for road, _, point in found]
 
     def told_of(self, first: int, lines: list[bytes]) -> bytes:
         """What is told of lines that were read at once, in their order. The first of them has this number."""
@@ -63,7 +59,7 @@ class Snapping:
             if is_skipped(text):
                 continue
             try:
-                name, x, y = fields_of(text)
+                name, x, y = self._fields(text)
                 positions.append(self.position(x, y))
                 names.append((line, name))
             except ValueError as why:
@@ -73,25 +69,22 @@ class Snapping:
             told[line] = f'{{"line": {line}, "name": {json.dumps(name)}, "nearest": [{nearest}]}}\n'
         return "".join([told[line] for line in sorted(told)]).encode()
 
-    def rounded(self, snapped: Snapped) -> tuple[float, float, float, float]:
+    def _fields(self, line: bytes) -> tuple[str, float, float]:
+        """The name and the coordinates of a line. Raises `ValueError` for another one."""
+        match = LINE.fullmatch(line)
+        if match is None or len(line) > LONGEST_LINE:
+            raise ValueError(fault_of(line, self._names))
+        quoted, plain, x, y = match.groups(b"")
+        try:
+            return (quoted or plain).decode(), float(x), float(y)
+        except UnicodeDecodeError:
+            raise ValueError("field 1, NAME, isn't UTF-8") from None
+
+    def numbers_of(self, snapped: Snapped) -> list[str]:
         """What is told of a road in numbers, in the order of the plane's names."""
-        return self.plane.rounded(snapped.x, snapped.y, snapped.far)
+        return [form % number for form, number in zip(self._forms, self.plane.told(snapped[1]))]
 
     def object_of(self, snapped: Snapped) -> str:
         """A road near a position, as an object of JSON."""
-        numbers = zip(self.plane.names, self.rounded(snapped))
-        return ", ".join([f"{{{snapped.road.members}", *[f'"{name}": {number}' for name, number in numbers]]) + "}"
-
-
-def fields_of(line: bytes) -> tuple[str, float, float]:
-    """The name and the coordinates of a line. Raises `ValueError` for another one."""
-    match = LINE.fullmatch(line)
-    if len(line) > LONGEST_LINE:
-        raise ValueError(f"a line of more than {LONGEST_LINE} bytes")
-    if match is None:
-        raise ValueError("not NAME,X,Y")
-    quoted, plain, x, y = match.groups(b"")
-    try:
-        return (quoted or plain).decode(), float(x), float(y)
-    except UnicodeDecodeError:
-        raise ValueError("a name that isn't of UTF-8") from None
+        road, near = snapped
+        return self._object % (road.members, *self.plane.told(near))

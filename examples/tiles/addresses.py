@@ -1,6 +1,7 @@
 """What tells other programs where the tiles are and how to draw them: TileJSON 3.0, and a style for MapLibre."""
 
 import math
+from itertools import pairwise
 from typing import Any
 
 from mercator import DEEPEST, HALF, Window
@@ -8,6 +9,7 @@ from mercator import DEEPEST, HALF, Window
 TILES = "{z}/{x}/{y}.pbf"
 COLOURS = ["#b08d57", "#c8324b", "#e0782a", "#8a7f3c", "#888888", "#4a76b5", "#3c8d6e", "#8a5fae"]  # those of page.js
 LAND, DENSE = "#f6f3ec", "#1c488c"
+SHADES = [(1, 0.15), (4, 0.28), (16, 0.41), (64, 0.54), (256, 0.67), (1024, 0.8)]  # from these counts on
 
 
 def tile_json(address: str, bounds: Window, layers: list[str], fields: dict[str, str]) -> dict[str, Any]:
@@ -32,12 +34,15 @@ def tile_json(address: str, bounds: Window, layers: list[str], fields: dict[str,
 
 
 def style(address: str, layers: list[str]) -> dict[str, Any]:
-    """A style for MapLibre (version 8): each layer in a colour, and cells by their counts."""
-    shade = ["interpolate", ["linear"], ["ln", ["+", 1, ["get", "count"]]], 0, 0.05, 12, 0.9]
-    drawn: list[dict[str, Any]] = [
-        {"id": "land", "type": "background", "paint": {"background-color": LAND}},
-        fill("density", "density", {"fill-color": DENSE, "fill-opacity": shade}),
-    ]
+    """A style for MapLibre (version 8): each layer in a colour, and cells in shades by their counts."""
+    drawn: list[dict[str, Any]] = [{"id": "land", "type": "background", "paint": {"background-color": LAND}}]
+    # A layer for each shade: other programs that take a style pass over expressions of what a feature has.
+    for (least, shade), (above, _) in pairwise([*SHADES, (None, None)]):
+        counts: list[Any] = ["all", [">=", ["get", "count"], least]]
+        if above is not None:
+            counts.append(["<", ["get", "count"], above])
+        paint = {"fill-color": DENSE, "fill-opacity": shade}
+        drawn.append({**fill(f"density from {least}", "density", paint), "filter": counts})
     for at, layer in enumerate(layers):
         colour = COLOURS[at % len(COLOURS)]
         drawn.append(fill(layer, layer, {"fill-color": colour, "fill-opacity": 0.3, "fill-outline-color": colour}))

@@ -4,7 +4,7 @@
 usage: measure.py [--boxes N] [--levels Z,Z] [--tiles N] [--processes N] [--clients N] [--gzip] [--program PROGRAM]
 
 Tiles are those of boxes at random, over a map that make_map.py makes. Clients are processes beside the server, each with
-a connection: what they take isn't counted, but takes the time of cores.
+a connection: their processor time is told by itself, and takes that of the same cores.
 """
 
 import argparse
@@ -39,14 +39,14 @@ def some_tiles(table: Path, levels: list[int], count: int) -> list[Tile]:
     return found
 
 
-def ask(port: int, headers: dict[str, str], tiles: list[Tile]) -> int:
-    """Asks for tiles on one connection, and gives how many bytes they have."""
-    connection, size = HTTPConnection("127.0.0.1", port), 0
+def ask(port: int, headers: dict[str, str], tiles: list[Tile]) -> tuple[int, float]:
+    """Asks for tiles on one connection. Gives how many bytes they have, and what processor time that took here."""
+    connection, size, begun = HTTPConnection("127.0.0.1", port), 0, time.process_time()
     for tile in tiles:
         connection.request("GET", "/%d/%d/%d.pbf" % tile, headers=headers)
         size += len(connection.getresponse().read())
     connection.close()
-    return size
+    return size, time.process_time() - begun
 
 
 def seconds_of(process: int) -> float:
@@ -81,12 +81,13 @@ def main() -> None:
             with ProcessPoolExecutor(args.clients) as clients:
                 parts = [tiles[at :: args.clients] for at in range(args.clients)]
                 begun, before = time.monotonic(), seconds_of(server.pid)
-                size = sum(clients.map(partial(ask, port, headers), parts))
+                sizes, seconds_of_clients = zip(*clients.map(partial(ask, port, headers), parts))
                 taken = time.monotonic() - begun
                 seconds = seconds_of(server.pid) - before
             server.terminate()
-    print(f"{args.tiles / taken:,.0f} tiles a second, {seconds / args.tiles * 1e3:.2f} ms of processor time each, ", end="")
-    print(f"{size / args.tiles / 1000:.1f} kB each")
+    served, asked, size = (it / args.tiles for it in (seconds, sum(seconds_of_clients), sum(sizes)))
+    print(f"{args.tiles / taken:,.0f} tiles a second, {served * 1e3:.2f} ms of processor time each, ", end="")
+    print(f"{asked * 1e3:.2f} more of the clients; {size / 1000:.1f} kB each")
 
 
 if __name__ == "__main__":

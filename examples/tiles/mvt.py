@@ -1,9 +1,13 @@
 """Vector tiles of boxes as the Mapbox Vector Tile specification 2.1 writes them: protocol buffers, made by hand."""
 
+from collections.abc import Iterable, Iterator
+
 from mercator import Window
+from table import Box
 
 EXTENT = 4096  # units of a tile's side
 BUFFER = 64  # units beside the tile, where what is cut off ends
+LONGEST = EXTENT + 2 * BUFFER  # side of what is drawn
 POLYGON = 3
 MOVE_TO, LINE_TO, CLOSE_PATH = 1, 2, 7
 
@@ -12,19 +16,25 @@ Value = int | str
 
 def varint(number: int) -> bytes:
     """A whole number from 0, seven bits a byte, the lowest first."""
-    if 1 << 14 <= number < 1 << 21:  # as most ids are: in a third of the time
-        return bytes((number & 127 | 128, number >> 7 & 127 | 128, number >> 14))
-    parts = bytearray()
-    while number > 127:
-        parts.append(number & 127 | 128)
-        number >>= 7
-    parts.append(number)
-    return bytes(parts)
+    if number < len(VARINTS):
+        return VARINTS[number]
+    return PAIRS[number & TWO_SEVENS] + varint(number >> 14)
+
+
+def two_at_most(number: int) -> bytes:
+    """A number of 14 bits at most."""
+    return bytes((number,)) if number < 128 else bytes((number & 127 | 128, number >> 7))
 
 
 def zigzag(number: int) -> bytes:
     """A number with a sign: 0, -1, 1, -2, .. as 0, 1, 2, 3, .."""
     return varint(2 * number if number >= 0 else -2 * number - 1)
+
+
+# A table has most numbers of a tile, and the others are made of two and two of their bytes.
+TWO_SEVENS = (1 << 14) - 1
+VARINTS = [two_at_most(number) for number in range(TWO_SEVENS + 1)]
+PAIRS = [bytes((number & 127 | 128, number >> 7 | 128)) for number in range(TWO_SEVENS + 1)]
 
 
 def number_field(field: int, number: int) -> bytes:
@@ -37,12 +47,7 @@ def head(field: int) -> bytes:
 
 
 def bytes_field(field: int, content: bytes) -> bytes:
-    return delimited(head(field), content)
-
-
-def delimited(head: bytes, content: bytes) -> bytes:
-    size = len(content)
-    return head + (LENGTHS[size] if size < len(LENGTHS) else varint(size)) + content
+    return head(field) + varint(len(content)) + content
 
 
 def encoded_value(value: Value) -> bytes:
@@ -56,69 +61,76 @@ def command(kind: int, times: int) -> bytes:
     return varint(kind | times << 3)
 
 
-# What most of a tile is made of, made once. Steps from corner to corner are each at their own index, also below 0.
-LENGTHS = [varint(length) for length in range(1 << 10)]
-FEATURE, TAGS, GEOMETRY, VALUE = head(2), head(2), head(4), head(4)
-LONGEST_STEP = EXTENT + 2 * BUFFER
-STEPS = [zigzag(step) for step in [*range(LONGEST_STEP + 1), *range(-LONGEST_STEP, 0)]]
-MOVE, LINES, CLOSE = command(MOVE_TO, 1), command(LINE_TO, 3), command(CLOSE_PATH, 1)
-DOWN, BACK = STEPS[0] + STEPS[0], STEPS[0] + CLOSE  # between the steps along x and those along y
-KIND = number_field(3, POLYGON)
 ID, WHOLE = varint(1 << 3), varint(6 << 3)
+ID_PAIRS = [ID + pair for pair in PAIRS]
+
+# A rectangle is told in five parts, each of which is made once: a move to its first corner, along x and along y, and
+# three steps from there. What begins below 0 stands at its own index too.
+MOVES = [command(MOVE_TO, 1) + zigzag(left) for left in [*range(LONGEST + 1), *range(-BUFFER, 0)]]
+STEPS = [zigzag(step) for step in [*range(LONGEST + 1), *range(-BUFFER, 0)]]
+ACROSS = [command(LINE_TO, 3) + STEPS[wide] + 2 * STEPS[0] for wide in range(LONGEST + 1)]
+BACK = [zigzag(-wide) + STEPS[0] + command(CLOSE_PATH, 1) for wide in range(LONGEST + 1)]
+
+# What stands before a rectangle, and before a feature's own id and tags, by the lengths of what follows.
+SHAPES = [number_field(3, POLYGON) + head(4) + varint(size) for size in range(128)]
+FEATURES = [head(2) + varint(size + len(SHAPES[0])) for size in range(1 << 10)]
+
+
+def id_fields(ids: Iterable[int]) -> Iterator[bytes]:
+    """Features' own ids: nothing for one below 0, which a feature can't have."""
+    for id in ids:
+        yield ID_PAIRS[id & TWO_SEVENS] + VARINTS[id >> 14] if 1 << 14 <= id < 1 << 28 else id_field(id)
+
+
+def id_field(id: int) -> bytes:
+    return ID + varint(id) if id >= 0 else b""
+
+
+def rectangles(window: Window, boxes: Iterable[Box], owns: Iterable[bytes]) -> Iterator[bytes]:
+    """A feature for each box, with its own id and tags before its form.
+
+    A box shares a point with the tile's window. It is cut off a little outside of the tile, and has at least a unit of
+    breadth and height, so that a point is seen too.
+    """
+    west, east, _, north = window
+    length = east + 1 - west
+    # An edge is nearest to the unit whose middle is half a unit before it.
+    left_end, top_end = west * EXTENT - length // 2, north * EXTENT + length // 2
+    first, last = -BUFFER, EXTENT + BUFFER
+    for own, (x1, x2, y1, y2, _) in zip(owns, boxes):
+        left, right = (x1 * EXTENT - left_end) // length, (x2 * EXTENT - left_end) // length
+        top, bottom = (top_end - y2 * EXTENT) // length, (top_end - y1 * EXTENT) // length
+        if left < first or top < first or right > last or bottom > last:
+            left, right, top, bottom = max(left, first), min(right, last), max(top, first), min(bottom, last)
+        wide = right - left or 1
+        # The corners from the north west, clockwise as the map is seen; y grows to the south in a tile.
+        ring = b"".join((MOVES[left], STEPS[top], ACROSS[wide], STEPS[bottom - top or 1], BACK[wide]))
+        size = len(ring)
+        yield b"".join((FEATURES[len(own) + size], own, SHAPES[size], ring))
 
 
 class Layer:
-    """A layer of a tile: rectangles with properties."""
+    """A layer of a tile: features with properties."""
 
-    def __init__(self, name: str, window: Window) -> None:
+    def __init__(self, name: str) -> None:
         self._name = name
-        self._x1, x2, _, self._y2 = window
-        self._scale = EXTENT / (x2 + 1 - self._x1)
-        self._features: list[bytes] = []
-        self._keys: dict[str, bytes] = {}  # each with its place, as tags have it
-        self._values: dict[Value, bytes] = {}
+        self.features: list[bytes] = []
+        self._keys: dict[str, int] = {}  # each with its place
+        self._values: dict[Value, int] = {}
 
-    def add(self, box: Window, properties: dict[str, Value], id: int | None = None) -> None:
-        """A box that shares a point with the tile's window. It is cut off a little outside of the tile, and has at
-        least a unit of breadth and height, so that a point is seen too. A feature's own id is 0 or more."""
-        feature = KIND + delimited(GEOMETRY, self._ring(box))
-        if properties:
-            feature = delimited(TAGS, b"".join([self._tag(*it) for it in properties.items()])) + feature
-        if id is not None:
-            feature = ID + varint(id) + feature
-        self._features.append(delimited(FEATURE, feature))
-
-    def _tag(self, key: str, value: Value) -> bytes:
-        """A key's place among the keys, and a value's among the values."""
-        place_of_key, place_of_value = self._keys.get(key), self._values.get(value)
-        if place_of_key is None:
-            place_of_key = self._keys[key] = varint(len(self._keys))
-        if place_of_value is None:
-            place_of_value = self._values[value] = varint(len(self._values))
-        return place_of_key + place_of_value
-
-    def _ring(self, box: Window) -> bytes:
-        """The corners from the north west, clockwise as the map is seen; y grows to the south in a tile."""
-        x1, x2, y1, y2 = box
-        west, north, scale = self._x1, self._y2, self._scale
-        left, wide = clipped(round((x1 - west) * scale), round((x2 - west) * scale))
-        top, high = clipped(round((north - y2) * scale), round((north - y1) * scale))
-        return b"".join((MOVE, STEPS[left], STEPS[top], LINES, STEPS[wide], DOWN, STEPS[high], STEPS[-wide], BACK))
+    def tags(self, properties: dict[str, Value]) -> bytes:
+        """Properties as a feature has them: the place of each key among the keys, and of its value among the values."""
+        places = []
+        for key, value in properties.items():
+            places.append(varint(self._keys.setdefault(key, len(self._keys))))
+            places.append(varint(self._values.setdefault(value, len(self._values))))
+        return bytes_field(2, b"".join(places))
 
     def encoded(self) -> bytes:
         """The layer as a field of its tile: a tile is its layers, one behind the other."""
         parts = [number_field(15, 2), bytes_field(1, self._name.encode())]
-        parts += self._features
+        parts += self.features
         parts += [bytes_field(3, key.encode()) for key in self._keys]
-        parts += [delimited(VALUE, encoded_value(value)) for value in self._values]
+        parts += [bytes_field(4, encoded_value(value)) for value in self._values]
         parts.append(number_field(5, EXTENT))
         return bytes_field(3, b"".join(parts))
-
-
-def clipped(low: int, high: int) -> tuple[int, int]:
-    """Where a side begins and how long it is: cut off at the buffer, and at least a unit long. It meets the tile."""
-    if low < -BUFFER:
-        low = -BUFFER
-    if high > EXTENT + BUFFER:
-        high = EXTENT + BUFFER
-    return low, high - low if high > low else 1

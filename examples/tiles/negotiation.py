@@ -2,14 +2,17 @@
 
 import gzip
 import re
+from functools import lru_cache
 
 LEAST_PACKED = 256  # bytes: fewer aren't worth it
+KEPT = 64  # lists of encodings: a browser sends the same one each time
 LEVEL = 4  # of gzip: a level more takes longer than it saves
 
 CODING = re.compile(r"\s*([!#$%&'*+.^_`|~0-9A-Za-z-]+)\s*(?:;\s*[qQ]=([01](?:\.[0-9]{0,3})?)\s*)?")
 TAG = re.compile(r'(?:W/)?("[^"]*")')
 
 
+@lru_cache(KEPT)
 def takes_gzip(accepted: str) -> bool:
     """Whether a list of encodings, as Accept-Encoding has it, takes gzip: by its name, or by `*` where it isn't named."""
     weights: dict[str, float] = {}

@@ -17,6 +17,7 @@ import re
 import socket
 import sys
 import threading
+import time
 from collections.abc import Callable
 from dataclasses import dataclass
 from functools import partial
@@ -43,6 +44,7 @@ from rtfilter.prefork import library_of
 
 LONGEST_TARGET = 4096  # bytes of a request's address
 MOST_CONNECTIONS = 64  # of a process
+LEFT_TO_OTHERS = 0.002  # seconds that a connection waits for a process with fewer of them
 LEAST_ASKING = 8  # connections to the program, of each of many processes
 
 ASSETS = {
@@ -54,6 +56,7 @@ TILE = re.compile(r"/(0|[1-9][0-9]?)/(0|[1-9][0-9]{0,6})/(0|[1-9][0-9]{0,6})\.pb
 NUMBER = re.compile(r"-?[0-9]{1,10}")
 LAYERS = re.compile(r"[0-9]{1,2}(,[0-9]{1,2}){0,63}")
 HEADERS = {
+    "Server": "rtfilter-tiles",
     "Content-Security-Policy": "default-src 'none'; script-src 'self'; style-src 'self'; connect-src 'self'; "
     "img-src data:; base-uri 'none'; form-action 'none'; frame-ancestors 'none'",
     "X-Content-Type-Options": "nosniff",
@@ -88,7 +91,8 @@ class Server(ThreadingHTTPServer):
 
     daemon_threads = True
 
-    def __init__(self, listener: socket.socket, views: Views, settings: Settings) -> None:
+    def __init__(self, listener: socket.socket, views: Views, settings: Settings, ends: Ends | None) -> None:
+        """`ends` is what one of many processes has, all of which listen."""
         super().__init__(listener.getsockname(), Handler, bind_and_activate=False)
         self.socket.close()
         self.socket = listener
@@ -96,19 +100,36 @@ class Server(ThreadingHTTPServer):
         self.settings = settings
         self.failure: Exception | None = None
         self._is_over = False
-        self._free = threading.BoundedSemaphore(MOST_CONNECTIONS)
+        self._ends = ends
+        self._connections = 0
+        self._lock = threading.Lock()  # of their number
+
+    def get_request(self) -> Any:
+        """A connection. Of many processes one that has fewer of them takes it first."""
+        if self._ends is not None and self._ends.is_busier():
+            time.sleep(LEFT_TO_OTHERS)
+        return super().get_request()
 
     def process_request(self, request: Any, client_address: Any) -> None:
-        if self._free.acquire(blocking=False):
+        if self._count(1) <= MOST_CONNECTIONS:
             super().process_request(request, client_address)
         else:
+            self._count(-1)
             self.shutdown_request(request)
 
     def process_request_thread(self, request: Any, client_address: Any) -> None:
         try:
             super().process_request_thread(request, client_address)
         finally:
-            self._free.release()
+            self._count(-1)
+
+    def _count(self, more: int) -> int:
+        """How many connections there are, now that there are more, or fewer."""
+        with self._lock:
+            self._connections += more
+            if self._ends is not None:
+                self._ends.tell_load(self._connections)
+            return self._connections
 
     def handle_error(self, request: Any, client_address: Any) -> None:
         """Who leaves in the middle of an answer is no error, and neither is the end of it all."""
@@ -135,7 +156,6 @@ class Handler(BaseHTTPRequestHandler):
 
     server: Server
     protocol_version = "HTTP/1.1"
-    server_version, sys_version = "rtfilter-tiles", ""
     disable_nagle_algorithm = True
 
     def setup(self) -> None:
@@ -227,7 +247,7 @@ class Handler(BaseHTTPRequestHandler):
     def reply_kept(self, kind: str, body_of: Callable[[], bytes], max_age: int = 0) -> None:
         """Replies with what another table alone would change. It isn't made again for whoever has it."""
         cache = {"Cache-Control": f"public, max-age={max_age}" if max_age else "no-cache"}
-        known = self.headers.get("If-None-Match", "")
+        known = ", ".join(self.headers.get_all("If-None-Match", []))
         for tag in (self.tag(is_packed=False), self.tag(is_packed=True)):
             if is_known(tag, known):
                 self.reply(HTTPStatus.NOT_MODIFIED, kind, b"", {**cache, "ETag": tag})
@@ -256,12 +276,9 @@ class Handler(BaseHTTPRequestHandler):
             headers["Allow"] = "GET, HEAD"
         if self.close_connection:
             headers["Connection"] = "close"
-        self.send_response(status)
-        for name, value in {**headers, **HEADERS, **self.headers_for_origins(), **(more or {})}.items():
-            self.send_header(name, value)
-        self.end_headers()
-        if self.command != "HEAD":
-            self.wfile.write(body)
+        headers |= {"Date": self.date_time_string(), **HEADERS, **self.headers_for_origins(), **(more or {})}
+        head = head_of(status, headers)
+        self.wfile.write(head if self.command == "HEAD" else head + body)  # at once: whoever asks wakes up once
 
     def headers_for_origins(self) -> dict[str, str]:
         """What tells a browser which pages may read a reply."""
@@ -282,6 +299,12 @@ class Handler(BaseHTTPRequestHandler):
 
     def log_message(self, format: str, *args: Any) -> None:
         """Nothing is logged."""
+
+
+def head_of(status: HTTPStatus, headers: dict[str, str]) -> bytes:
+    """What stands before the body of a reply."""
+    lines = [f"{Handler.protocol_version} {status.value} {status.phrase}", *map(": ".join, headers.items())]
+    return "\r\n".join([*lines, "", ""]).encode("latin-1")
 
 
 def parted(target: str) -> tuple[str, str]:
@@ -438,14 +461,18 @@ def check_size(table: Table, boxes: Boxes) -> None:
 
 
 def serve(
-    args: argparse.Namespace, listener: socket.socket, table: Table | None, ready: Callable[[Server], None]
+    args: argparse.Namespace,
+    listener: socket.socket,
+    table: Table | None,
+    ready: Callable[[Server], None],
+    ends: Ends | None = None,
 ) -> None:
     """Answers until it is interrupted. `ready` is called once it begins. Raises why it can't go on."""
     with opened(args) as boxes:
         if table is None:
             table = loaded(args, boxes)
         check_size(table, boxes)
-        with Server(listener, Views(boxes, table), settings_of(args, listener.getsockname()[1])) as server:
+        with Server(listener, Views(boxes, table), settings_of(args, listener.getsockname()[1]), ends) as server:
             ready(server)
             with contextlib.suppress(KeyboardInterrupt):
                 server.serve_forever()
@@ -468,7 +495,7 @@ def work(args: argparse.Namespace, listener: socket.socket, table: Table, ends: 
         ends.tell_ready()
 
     try:
-        serve(args, listener, table, ready)
+        serve(args, listener, table, ready, ends)
     except FAILURES as error:
         ends.tell(f"serve.py: {error}")
         return 1

@@ -2,6 +2,7 @@
 
 import math
 import re
+from collections.abc import Sequence
 from typing import Any
 
 import mvt
@@ -29,9 +30,10 @@ class Views:
         self._boxes = boxes
         self._table = table
         # Finding these out looks at all boxes: it is done once.
-        self.bounds = table.places.bounds()
-        layers = [{"number": layer, "name": table.layer_name(layer)} for layer in table.places.layers()]
-        self.layer_names = [table.layer_name(layer) for layer in table.places.layers()]
+        self.bounds = table.places.bounds
+        self._layers = {number: table.layer_name(number) for number in table.places.layers()}
+        self.layer_names = [*self._layers.values()]
+        layers = [{"number": number, "name": name} for number, name in self._layers.items()]
         self.fields = {"name": "String"} | ({"id": "Number"} if table.places.has_id_below_zero() else {})
         self.about = {"boxes": len(boxes), "bounds": self.bounds, "layers": layers, "answers": MOST_ANSWERS}
         """What a page has to know at its start."""
@@ -44,8 +46,7 @@ class Views:
         """The boxes that meet a window, or how many meet each of its cells. `QueryError` where it is no window."""
         count = self._boxes.count(Window(*window), on=on)
         if count <= MOST_IN_VIEW:
-            ids = self._boxes.find(Window(*window), on=on).ids
-            return {"count": count, "boxes": [self._shown(id) for id in ids]}
+            return {"count": count, "boxes": self._shown(self._boxes.find(Window(*window), on=on).ids)}
         columns, rows = grid_of(window)
         across, along = cuts(*window[:2], columns), cuts(*window[2:], rows)
         return {"count": count, "across": across, "along": along, "counts": self._counts(cells_of(across, along), on)}
@@ -56,11 +57,13 @@ class Views:
         lines = ["count window %d %d %d %d" % cell + layers for cell in cells]
         return [answers.total for answers in self._boxes.ask(lines)]
 
-    def _shown(self, id: int) -> dict[str, Any]:
-        """A box for a page. Its id is a text: numbers of JavaScript don't hold every id."""
-        window, layer = self._table.places.box(id)
-        shown = {"id": str(id), "box": window, "layer": layer}
-        return {**shown, "name": self._table.names[id]} if id in self._table.names else shown
+    def _shown(self, ids: Sequence[int]) -> list[dict[str, Any]]:
+        """Boxes for a page. Their ids are texts: numbers of JavaScript don't hold every id."""
+        names = self._table.names
+        shown: list[dict[str, Any]] = []
+        for id, (*sides, layer) in zip(ids, self._table.places.boxes(ids)):
+            shown.append({"id": str(id), "box": sides, "layer": layer, **({"name": names[id]} if id in names else {})})
+        return shown
 
     def ask(self, line: str) -> dict[str, Any]:
         """What the program answers to a line, and how many nodes the query opens. Scores are texts, as ids are."""
@@ -72,9 +75,9 @@ class Views:
             return {"fault": f"{reply.code} {reply.text}"}
         if reply is None:
             return {"fault": "a line that is blank, or a comment, is not answered"}
-        answers = [{"id": str(id), "score": str(score)} for id, score in reply]
+        answers: list[dict[str, Any]] = [{"id": str(id), "score": str(score)} for id, score in reply]
         if line.split()[0] in WITH_BOXES:
-            answers = [{**self._shown(int(answer["id"])), **answer} for answer in answers]
+            answers = [{**shown, **answer} for shown, answer in zip(self._shown(reply.ids), answers)]
         nodes = None if cost is None or isinstance(cost, QueryError) else cost.total
         return {"told": reply.total, "answers": answers, "nodes": nodes}
 
@@ -86,26 +89,30 @@ class Views:
         window = window_of(z, x, y)
         if self._boxes.count(Window(*window), on=on) > MOST_IN_TILE:
             return self._density_tile(window, on)
-        layers: dict[int, mvt.Layer] = {}
-        places, names = self._table.places, self._table.names
-        for id in self._boxes.find(Window(*window), on=on).ids:
-            box, number = places.box(id)
-            layer = layers.get(number)
-            if layer is None:
-                layer = layers[number] = mvt.Layer(self._table.layer_name(number), window)
-            name: dict[str, mvt.Value] = {"name": names[id]} if id in names else {}
-            if id >= 0:
-                layer.add(box, name, id)
-            else:
-                layer.add(box, {"id": id, **name})
-        return b"".join(layers[number].encoded() for number in sorted(layers))
+        ids = self._boxes.find(Window(*window), on=on).ids
+        boxes = [*self._table.places.boxes(ids)]
+        layers = {number: mvt.Layer(name) for number, name in self._layers.items()}
+        owns = [*mvt.id_fields(ids)]
+        for at, id in enumerate(ids):
+            if id in self._table.names or id < 0:
+                owns[at] += layers[boxes[at][-1]].tags(self._properties(id))
+        for (_, _, _, _, number), feature in zip(boxes, mvt.rectangles(window, boxes, owns)):
+            layers[number].features.append(feature)
+        return b"".join([layer.encoded() for layer in layers.values() if layer.features])
+
+    def _properties(self, id: int) -> dict[str, mvt.Value]:
+        """What a feature has beside its own id."""
+        found: dict[str, mvt.Value] = {} if id >= 0 else {"id": id}
+        if id in self._table.names:
+            found["name"] = self._table.names[id]
+        return found
 
     def _density_tile(self, window: Sides, on: list[int] | None) -> bytes:
-        density = mvt.Layer("density", window)
+        density = mvt.Layer("density")
         cells = cells_of(cuts(*window[:2], TILE_CELLS), cuts(*window[2:], TILE_CELLS))
-        for cell, count in zip(cells, self._counts(cells, on)):
-            if count:
-                density.add(cell, {"count": count})
+        counted = [(cell, count) for cell, count in zip(cells, self._counts(cells, on)) if count]
+        owns = [density.tags({"count": count}) for _, count in counted]
+        density.features += mvt.rectangles(window, [(*cell, 0) for cell, _ in counted], owns)
         return density.encoded()
 
 

@@ -1,6 +1,7 @@
 """Processes that do the same work, and end together."""
 
 import contextlib
+import mmap
 import os
 import select
 import signal
@@ -15,16 +16,27 @@ GRACE = 10.0  # seconds that workers have to end once one of them has
 
 @dataclass(frozen=True)
 class Ends:
-    """What a worker has of two pipes: to tell that it is ready, or why it ends, and one whose end tells it to end too."""
+    """What a worker has of two pipes: to tell that it is ready, or why it ends, and one whose end tells it to end too;
+    and memory that all of them share, where each tells in a byte of its own how much it has to do."""
 
     telling: int
     ending: int
+    loads: mmap.mmap
+    place: int
 
     def tell_ready(self) -> None:
         os.write(self.telling, READY)
 
     def tell(self, text: str) -> None:
         os.write(self.telling, text.replace("\n", " ").encode(errors="replace")[:LONGEST_TOLD] + b"\n")
+
+    def tell_load(self, load: int) -> None:
+        """Up to 255."""
+        self.loads[self.place] = load
+
+    def is_busier(self) -> bool:
+        """Whether another worker has less to do."""
+        return self.loads[self.place] > min(self.loads[:])
 
 
 Work = Callable[[Ends], int]
@@ -40,7 +52,8 @@ def run_together(count: int, work: Work, when_ready: Callable[[], None]) -> int:
     """
     reading, telling = os.pipe()
     ending, holding = os.pipe()
-    workers = [forked(work, Ends(telling, ending), (reading, holding)) for _ in range(count)]
+    loads = mmap.mmap(-1, count)
+    workers = [forked(work, Ends(telling, ending, loads, place), (reading, holding)) for place in range(count)]
     os.close(telling)
     os.close(ending)
     watched = {os.pidfd_open(worker): worker for worker in workers}

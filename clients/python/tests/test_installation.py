@@ -76,9 +76,20 @@ class Types(unittest.TestCase):
     CHECKED = {
         "clients/python:clients/python/tests:examples/cluster:tests": [
             "clients/python/rtfilter", "clients/python/wheel_here.py", "clients/python/tests/*.py", "packaging/*.py",
-            "packaging/tests/*.py", "service/tests/*.py", "examples/cluster/ask.py", "examples/cluster/cut.py",
+            "packaging/tests/*.py", "service/tests/*.py", "examples/languages/tests/*.py",
         ],
         "clients/python/rtfilter:clients/python:tests": ["service/*.py"],  # whose modules stand beside prefork.py
+        # Examples by themselves: modules of two may have one name.
+        "clients/python:clients/python/tests:tests:service:examples/common:examples/common/tests:examples/geofence": [
+            "examples/common/*.py", "examples/common/tests/*.py", "examples/geofence/*.py", "examples/geofence/tests/*.py",
+        ],
+        "clients/python:clients/python/tests:tests:examples/common:examples/common/tests:examples/roads": [
+            "examples/roads/*.py", "examples/roads/tests/*.py",
+        ],
+        "clients/python:tests:examples/common/tests:examples/tiles": ["examples/tiles/*.py", "examples/tiles/tests/*.py"],
+        "clients/python:tests:examples/common/tests:examples/cluster": [
+            "examples/cluster/*.py", "examples/cluster/shards/*.py", "examples/cluster/tests/*.py",
+        ],
     }  # fmt: skip
 
     def test_strictly(self) -> None:

@@ -15,6 +15,7 @@ from .places import Carrier, Place
 from .questions import Sides
 
 
+@dataclass(eq=False)
 class ShardError(RtfilterError):
     """A shard that can't be asked, or that broke off. The line that needed it, and all after it, have no reply then: no
     part of an answer is ever given for the whole.
@@ -23,10 +24,8 @@ class ShardError(RtfilterError):
     replies; the exception that it was raised from tells more.
     """
 
-    def __init__(self, number: int, text: str) -> None:
-        super().__init__(number, text)
-        self.number = number
-        self.text = text
+    number: int
+    text: str
 
     def __str__(self) -> str:
         return f"shard {self.number}: {self.text}"

@@ -4,6 +4,7 @@ import csv
 import math
 import re
 from collections.abc import Iterator
+from dataclasses import dataclass
 from typing import IO
 
 IDS = -(2**63), 2**63 - 1
@@ -14,13 +15,12 @@ DIGITS = 20  # no number in range has more, but for leading zeros
 NUMBER = re.compile(r"([+-]?)0*([0-9]+)")
 
 
+@dataclass(eq=False)
 class TableError(Exception):
     """A table that no program would take. `record` is the number of its first faulty record, from 1."""
 
-    def __init__(self, record: int, text: str) -> None:
-        super().__init__(record, text)
-        self.record = record
-        self.text = text
+    record: int
+    text: str
 
     def __str__(self) -> str:
         return f"table record {self.record}: {self.text}"

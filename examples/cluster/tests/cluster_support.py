@@ -17,7 +17,8 @@ ROOT = CLUSTER.parents[1]
 PROGRAM = os.environ["RTFILTER_PROGRAM"]
 DEBIAN = "/usr/bin/python3"  # sees Debian's packages, as another Python on the path doesn't
 
-sys.path[:0] = [str(CLUSTER), str(ROOT / "clients/python"), str(ROOT / "tests")]
+FOLDERS = "clients/python", "examples/common/tests", "tests"
+sys.path[:0] = [str(CLUSTER), *(str(ROOT / folder) for folder in FOLDERS)]
 
 import random_runs
 import reading

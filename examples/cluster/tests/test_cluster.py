@@ -20,6 +20,7 @@ from cluster_support import (
 
 import random_runs
 import reading
+from common_support import anything
 from shards.bounds import bounds_of
 from shards.connections import ShardError
 from shards.cutting import cut
@@ -140,7 +141,7 @@ class Cuts(Folders):
 
     def test_as_a_command(self) -> None:
         table = self.table(b"id,x,x,y,y\n1,0,1,0,1\n2,0,1,0,1\n")
-        for words, status, told in (
+        for words, status, told in anything(
             (["--header"], 0, (f"{self.folder}/parts/0000.csv\n{self.folder}/parts/0001.csv\n", "")),
             ([], 3, ("", "cut.py: table record 1: field 1 is not a number\n")),
         ):
@@ -299,7 +300,7 @@ class CoProcesses(Folders):
             with self.assertRaises(ShardError) as caught:
                 Cluster([places_of(words, program) for words in shards])
             self.assertEqual((caught.exception.number, caught.exception.text), (number, why))
-        for places in ([], [[]]):
+        for places in anything([], [[]]):
             with self.assertRaises(ValueError):
                 Cluster(places)
         for count in (1, 2):
@@ -307,7 +308,7 @@ class CoProcesses(Folders):
                 with self.assertRaises(ValueError):
                     boxes.replies(["count all\n"])
             boxes.close()
-            for call in (boxes.reconnect, boxes.__len__, lambda: boxes.replies(["count all"])):
+            for call in anything(boxes.reconnect, boxes.__len__, lambda: boxes.replies(["count all"])):
                 with self.assertRaisesRegex(ValueError, "^the table was closed$"):
                     call()
 
@@ -346,7 +347,7 @@ class Commands(Folders):
         chance = random.Random(6)
         table = self.table(some_sound_table(chance))
         parts = cut(str(table), 4, str(self.folder / "parts"))
-        for lines, status in (([], 0), ([b"find all"], 0), ([b"", b"# x"], 0), (some_lines(chance, 5_000), 1)):
+        for lines, status in anything(([], 0), ([b"find all"], 0), ([b"", b"# x"], 0), (some_lines(chance, 5_000), 1)):
             text = b"\n".join(lines)
             done = subprocess.run([CLUSTER / "ask.py", "--program", PROGRAM, *parts], input=text, capture_output=True)
             self.assertEqual((done.returncode, done.stdout, done.stderr), (status, one_run(table, lines), b""))
@@ -366,7 +367,7 @@ class Commands(Folders):
 
     def test_each_line_at_once(self) -> None:
         parts = cut(str(self.table(b"1,0,1,0,1\n2,7,8,7,8\n")), 2, str(self.folder / "parts"))
-        command = [CLUSTER / "ask.py", "--program", PROGRAM, *parts]
+        command = [str(CLUSTER / "ask.py"), "--program", PROGRAM, *map(str, parts)]
         with subprocess.Popen(command, bufsize=0, stdin=subprocess.PIPE, stdout=subprocess.PIPE) as process:
             assert process.stdin is not None and process.stdout is not None
             for at in range(1, 4):

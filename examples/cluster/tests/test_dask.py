@@ -82,7 +82,7 @@ class Dask(Folders):
         service = Service(self.folder, "socket", table)
         self.addCleanup(service.end)
         words = [CLUSTER, CLUSTER.parents[1] / "clients/python", table, PROGRAM, service.place.removeprefix("unix:")]
-        done = subprocess.run([DEBIAN, "-B", "-c", FRAMES, *words], capture_output=True, text=True, timeout=LONGEST)
+        done = subprocess.run([DEBIAN, "-B", "-c", FRAMES, *map(str, words)], capture_output=True, text=True, timeout=LONGEST)
         self.assertEqual((done.returncode, done.stderr), (0, ""))
 
     def test_the_trial(self) -> None:

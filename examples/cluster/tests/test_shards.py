@@ -5,6 +5,7 @@ import itertools
 import os
 import random
 import re
+import select
 import signal
 import socket
 import subprocess
@@ -15,6 +16,7 @@ from pathlib import Path
 
 from cluster_support import PROGRAM, Folders, Service, Services, one_run, opened, some_lines, until, written
 
+from common_support import anything, children_of
 from shards.connections import ShardError
 from shards.places import place_of, places_of, there
 from shards.router import Cluster
@@ -145,12 +147,51 @@ class Addresses(Services):
             with opened([f"127.0.0.1:{silent.getsockname()[1]},{service.place}"], timeout=2) as boxes:
                 self.assertEqual(written(boxes, [b"count all"]), b"ok 1 1\n")
 
+    def test_a_place_that_goes_in_the_middle_of_an_answer(self) -> None:
+        """What was told of it has no end and the error names the place; the other place answers the next line, whole."""
+        service = self.service("a", self.points("a.csv", ((id, id) for id in range(100_000))))
+        whole = b"".join(b"%d 0\n" % id for id in range(100_000)) + b"ok 1 100000\n"
+        lines = ["count all", "find all"]
+        for ask in anything(lambda boxes, take: boxes.write(lines, take), lambda boxes, _: boxes.ask(lines[1:])):
+            with broken_off(service.place[5:], 500_000) as place, opened([f"{place},{service.place}"]) as boxes:
+                found: list[bytes] = []
+                with self.assertRaises(ShardError) as caught:
+                    ask(boxes, found.append)
+                self.assertTrue(str(caught.exception).startswith(f"shard 0: {place}: "), caught.exception)
+                rows = b"".join(found).splitlines()[1:]
+                self.assertEqual(rows, whole.splitlines()[: len(rows)])
+                self.assertEqual(written(boxes, [b"find all"]), whole)
+
     def test_random_sequences(self) -> None:
         """Questions, exchanges, reconnections, and shards that are killed and started, each with two addresses: an answer is
         that of one program over the tables that the connections have, or an error names the shard."""
         for seed in range(SEQUENCES):
             with self.subTest(seed), contextlib.ExitStack() as stack:
                 Sequence(self, random.Random(seed), stack).run()
+
+
+@contextlib.contextmanager
+def broken_off(path: str, most: int) -> Iterator[str]:
+    """A place that hands on what a service at a path tells to the first who connects, so many bytes of it; then it is gone."""
+    with socket.create_server(("127.0.0.1", 0)) as listener:
+
+        def hand_on() -> None:
+            with listener.accept()[0] as near, socket.socket(socket.AF_UNIX) as far:
+                listener.close()
+                far.connect(path)
+                left = most
+                while left:
+                    for ready in select.select([near, far], [], [])[0]:
+                        piece = ready.recv(left if ready is far else 1 << 16)
+                        if not piece:
+                            return
+                        (near if ready is far else far).sendall(piece)
+                        left -= len(piece) * (ready is far)
+
+        thread = threading.Thread(target=hand_on)
+        thread.start()
+        yield "127.0.0.1:%d" % listener.getsockname()[1]
+        thread.join()
 
 
 class Sequence:
@@ -301,18 +342,21 @@ class Hosts(Folders):
                 Cluster(shards, timeout=60)
             self.assertEqual(str(caught.exception), f"shard 7: onehost:{parts[7]}: rtfilter: cannot open table")
 
+    def test_a_host_that_refuses(self) -> None:
+        """What ssh tells is told, with the shard and the host: where nobody listens, and where sshd lets nobody in."""
+        _, parts = self.even_table(100, 2)
+        with self.sshd() as remote:
+            shards = [[there("onehost", str(parts[0]), PROGRAM, remote)], [there("other", str(parts[1]), PROGRAM, remote)]]
+            (self.folder / "user_key.pub").write_text("")
+            with self.assertRaises(ShardError) as caught:
+                Cluster(shards, timeout=60)
+            self.assertRegex(str(caught.exception), f"^shard 0: onehost:{parts[0]}: .*Permission denied")
+        with self.assertRaises(ShardError) as caught:
+            Cluster(shards[1:], timeout=60)
+        self.assertRegex(str(caught.exception), f"^shard 0: other:{parts[1]}: .*Connection refused")
+
 
 def can_connect(port: int) -> bool:
     with contextlib.suppress(ConnectionRefusedError), socket.create_connection(("127.0.0.1", port)):
         return True
     return False
-
-
-def children_of(process: int) -> list[int]:
-    """The processes that a process has started."""
-    found = []
-    for stat in Path("/proc").glob("[0-9]*/stat"):
-        with contextlib.suppress(OSError):
-            fields = stat.read_text().rpartition(")")[2].split()
-            found += [int(stat.parent.name)] * (int(fields[1]) == process and fields[0] != "Z")
-    return found

@@ -15,10 +15,12 @@ from typing import Any
 HERE = Path(__file__).resolve().parent
 EXAMPLE = HERE.parent
 ROOT = EXAMPLE.parent.parent
-PROGRAM = os.environ["RTFILTER_PROGRAM"]
 LONGEST = 60.0  # seconds that anything may take, on a busy machine
 
-sys.path += [str(EXAMPLE), *(str(ROOT / folder) for folder in ("examples/common", "clients/python/tests", "clients/python", "tests"))]
+FOLDERS = "examples/common", "examples/common/tests", "clients/python/tests", "clients/python", "tests"
+sys.path += [str(EXAMPLE), *(str(ROOT / folder) for folder in FOLDERS)]
+
+from common_support import PROGRAM, children_of
 
 
 class Lines:
@@ -50,8 +52,8 @@ class Running:
 
     def __init__(self, zones: Path, *options: str) -> None:
         words = [sys.executable, "-B", str(EXAMPLE / "fence.py"), "--program", PROGRAM, *options, str(zones)]
-        pipes = {"stdin": subprocess.PIPE, "stdout": subprocess.PIPE, "stderr": subprocess.PIPE}
-        self.process = subprocess.Popen(words, bufsize=0, **pipes)
+        pipe = subprocess.PIPE
+        self.process = subprocess.Popen(words, bufsize=0, stdin=pipe, stdout=pipe, stderr=pipe)
         assert self.process.stdin and self.process.stdout and self.process.stderr
         self._input = self.process.stdin
         self.events, self.errors = Lines(self.process.stdout.fileno()), Lines(self.process.stderr.fileno())
@@ -108,22 +110,6 @@ class Connected:
 
     def __exit__(self, *_: Any) -> None:
         self.socket.close()
-
-
-def children_of(process: int) -> list[int]:
-    return [int(it) for it in Path(f"/proc/{process}/task/{process}/children").read_text().split()]
-
-
-def is_gone(process: int) -> bool:
-    """Whether a process that others have started ends soon."""
-    try:
-        descriptor = os.pidfd_open(process)
-    except ProcessLookupError:
-        return True
-    try:
-        return bool(select.select([descriptor], [], [], LONGEST)[0])
-    finally:
-        os.close(descriptor)
 
 
 def feature(id: Any, *rings: list[list[float]], **properties: Any) -> dict[str, Any]:

@@ -1,6 +1,5 @@
 """Events are those that a plain reading of zones and positions gives, and what is no position is told."""
 
-import contextlib
 import json
 import math
 import os
@@ -14,9 +13,10 @@ from fractions import Fraction
 from pathlib import Path
 from typing import Any
 
-from fence_support import EXAMPLE, LONGEST, PROGRAM, ROOT, Running, brief, feature, square, write_zones
+from fence_support import EXAMPLE, LONGEST, ROOT, Running, brief, feature, square, write_zones
 
-import pages
+from common_support import PROGRAM, Printed, anything
+
 from bands import Bands, held_by
 from cutting import LONGEST_LINE, Cutter
 from positions import whole
@@ -46,7 +46,7 @@ class Folder(unittest.TestCase):
     def told(self, lines: bytes, *options: str) -> list[Any]:
         """The events of a run over lines."""
         words = [sys.executable, "-B", EXAMPLE / "fence.py", "--program", PROGRAM, *options, self.zones]
-        done = subprocess.run(words, input=lines, capture_output=True, timeout=LONGEST)
+        done = subprocess.run([*map(str, words)], input=lines, capture_output=True, timeout=LONGEST)
         self.assertEqual(done.returncode, 0, done.stderr)
         return [json.loads(line) for line in done.stdout.splitlines()]
 
@@ -98,20 +98,37 @@ class Events(Folder):
         self.assertEqual([it["line"] for it in events], [1, 2, 3, 4, 5, 6])
 
     def test_lines_that_are_no_positions(self) -> None:
-        """Each is told by its number, and nothing else is; lines that are blank and comments are counted."""
-        sound = b'd,1,1,1\n\n# d,1,1,1\n \t\r\n"a b",1,1,1\r\n\xc3\xa9,1.5e0,1,1\n'
-        faulty = [
-            b"d", b"d,1,1", b"d,1,1,1,x,x", b",1,1,1", b'"",1,1,1', b'"d,1,1,1', b'd",1,1,1', b"d,1,1,", b"d,x,1,1",
-            b"d,+1,1,1", b"d,01,1,1", b"d,.5,1,1", b"d,1.,1,1", b"d,nan,1,1", b"d,1,1,inf", b"d,0x1,1,1", b"d, 1,1,1",
-            b"d,1_0,1,1", b"d,1,1,1\r\r", b"\xff,1,1,1", b"x" * 65 + b",1,1,1", b"d,180.0000001,1,1", b"d,1,-90.1,1",
-            b"d,1,1,1e999", b"d,1,1,-1e999", b"x" * 5000, b"d,1,1," + b"1" * 4091, b"d,1,1,1," + b"x" * 100_000,
-        ]  # fmt: skip
+        """Each is told by its number, with the field and the word, and nothing else is; lines that are blank and comments are
+        counted."""
+        sound = b'd,1,1,1\n\n# d,1,1,1\n \t\r\n"a, b",1,1,1\r\n\xc3\xa9,1.5e0,1,1\n'
+        form = "not DEVICE,LONGITUDE,LATITUDE,TIME or DEVICE,LONGITUDE,LATITUDE,TIME,LAYERS: the number of fields is"
+        device, time = "field 1, DEVICE, is no name:", "field 4, TIME, is no number:"
+        longitude = "field 2, LONGITUDE, is no number:"
+        most = "-1.7976931348623157e+308 to 1.7976931348623157e+308"
+        faulty = {
+            b"d": f"{form} 1", b"d,1,1": f"{form} 3", b"d,1,1,1,x,x": f"{form} 6", b",1,1,1": f"{device} ''",
+            b'"",1,1,1': f"{device} '\"\"'", b'"d,1,1,1': f"{device} '\"d'", b'd",1,1,1': f"{device} 'd\"'",
+            b"d,1,1,": f"{time} ''", b"d,x,1,1": f"{longitude} 'x'", b"d,+1,1,1": f"{longitude} '+1'",
+            b"d,01,1,1": f"{longitude} '01'", b"d,.5,1,1": f"{longitude} '.5'", b"d,1.,1,1": f"{longitude} '1.'",
+            b'"d, e",1,y,1': "field 3, LATITUDE, is no number: 'y'", b"d,nan,1,1": f"{longitude} 'nan'",
+            b"d,1,1,inf": f"{time} 'inf'", b"d,0x1,1,1": f"{longitude} '0x1'", b"d, 1,1,1": f"{longitude} ' 1'",
+            b"d,1_0,1,1": f"{longitude} '1_0'", b"d,1,1,1\r\r": f"{time} '1\\r'",
+            b"d,1,1,\xff": f"{time} '\ufffd'", b'd,1,1,1,"x"': "field 5, LAYERS, has a double quote",
+            b"\xff,1,1,1": "field 1, DEVICE, has more than 64 bytes, or isn't UTF-8",
+            b"x" * 65 + b",1,1,1": "field 1, DEVICE, has more than 64 bytes, or isn't UTF-8",
+            b"d,180.0000001,1,1": "field 2, LONGITUDE, isn't -180 to 180: 180.0000001",
+            b"d,1e400,91,1": "field 2, LONGITUDE, isn't -180 to 180: 1e400",
+            b"d,1,-90.1,1": "field 3, LATITUDE, isn't -90 to 90: -90.1",
+            b"d,1,1,1e999": f"field 4, TIME, isn't {most}: 1e999", b"d,1,1,-1e400": f"field 4, TIME, isn't {most}: -1e400",
+            b"x" * 5000: "a line of more than 4096 bytes", b"d,1,1," + b"1" * 4091: "a line of more than 4096 bytes",
+            b"d,1,1,1," + b"x" * 100_000: "a line of more than 4096 bytes",
+        }  # fmt: skip
         events = self.told(sound + b"".join(line + b"\n" for line in faulty) + b"last,1,1,1")
-        self.assertEqual([it["device"] for it in events[:3]], ["d", "a b", "\u00e9"])
+        self.assertEqual([it["device"] for it in events[:3]], ["d", "a, b", "\u00e9"])
         self.assertEqual([it["line"] for it in events], [1, 5, 6, *range(7, 7 + len(faulty) + 1)])
         refused = events[3:-1]
         self.assertEqual({it["event"] for it in refused}, {"refused"})
-        self.assertEqual([it["why"].split()[0] for it in refused], ["neither"] * 19 + ["a"] * 9)
+        self.assertEqual([it["why"] for it in refused], [*faulty.values()])
         self.assertEqual(brief(events[-1:]), [("last", "enter", "park")])
 
     def test_one_device_more_than_are_known(self) -> None:
@@ -122,6 +139,7 @@ class Events(Folder):
     def test_each_read_is_answered_before_the_next(self) -> None:
         """Whoever sends lines has their events before anything more is sent, and no part of a line is taken for a line."""
         with Running(self.zones) as fence:
+            assert fence.process.stdin is not None
             for number in range(100):
                 fence.send(*(f"{number}-{at},1,1,1" for at in range(5)))
                 self.assertEqual([it["device"] for it in fence.events.some(5)], [f"{number}-{at}" for at in range(5)])
@@ -135,23 +153,38 @@ class Events(Folder):
     def test_zones_that_are_not_taken(self) -> None:
         twice = [feature(1, square(0, 0, 1)), feature(1, square(5, 0, 1))]
         layers = [feature(number, square(number, 0, 1), layer=number) for number in range(65)]
-        for features, told in (
-            (twice, "two zones have the same id"),
+        for features, told in anything(
+            (twice, "features[1]: its id is that of features[0]: 1"),
             (layers, "zones of 65 layers, and not of 64 or fewer"),
             ([feature(True, square(0, 0, 1))], "features[0]: an id that is neither a text nor a number: True"),
             ([feature(float("nan"), square(0, 0, 1))], "features[0]: an id that is neither a text nor a number: nan"),
             ([feature(1, square(0, 0, 1), layer=[1])], "features[0]: a layer that is neither a text nor a whole number: [1]"),
             ([feature(1, [[0, 0], [1, 1], [0, 0]])], "features[0]: a ring of 3 positions, and not 4 or more"),
+            ([feature(1, [*square(0, 0, 1), [0, float("nan")]])],
+             "features[0]: a coordinate that can't be made whole: nan (cannot convert NaN to integer ratio)"),
             ([5], "features[0]: no feature"),
-        ):
+        ):  # fmt: skip
             write_zones(self.zones, features)
-            with Running(self.zones) as fence:
-                self.assertEqual(fence.ended(), (1, [f"fence.py: {told}"]))
-        for text in ("[" * 100_000, "{}", "x"):
-            self.zones.write_text(text)
-            with Running(self.zones) as fence:
-                status, errors = fence.ended()
-                self.assertEqual((status, len(errors)), (1, 1))
+            self.assert_told(told)
+        for text, told in (
+            (b"[" * 100_000, "lists in lists, too deep to be read"),
+            (b"{}", "no FeatureCollection"),
+            (b"x", "Expecting value: line 1 column 1 (char 0)"),
+            (b'{"features": [1,]}\n', "Expecting value: line 1 column 17 (char 16)"),
+            (b'"\xff"', "'utf-8' codec can't decode byte 0xff in position 1: invalid start byte"),
+        ):
+            self.zones.write_bytes(text)
+            self.assert_told(told)
+
+    def assert_told(self, told: str) -> None:
+        """The file of zones isn't taken, and this is why."""
+        with Running(self.zones) as fence:
+            self.assertEqual(fence.ended(), (1, [f"fence.py: {self.zones}: {told}"]))
+
+
+class Page(Printed):
+    def test_examples(self) -> None:
+        self.assert_printed(EXAMPLE / "README.md")
 
 
 class Random(Folder):
@@ -169,7 +202,10 @@ class Random(Folder):
         self.assertTrue(all(told["valid"]))
         features = [{"type": "Feature", "id": f"z{at}", "properties": {}, "geometry": it} for at, it in enumerate(zones)]
         write_zones(self.zones, features)
-        lines, wanted, held, last = [], [], {}, {}
+        lines: list[str] = []
+        wanted: list[tuple[int, str, str | None]] = []
+        held: dict[str, list[int]] = {}
+        last: dict[str, int] = {}
         for line, ((x, y), holding) in enumerate(zip(places, told["holding"]), 1):
             device, moment = f"d{chance.randrange(200)}", chance.randrange(5) + line // 10
             lines.append(f"{device},{degrees(x)},{degrees(y)},{moment}\n")
@@ -233,28 +269,8 @@ class Costs(Folder):
         words = [sys.executable, "-B", EXAMPLE / "measure.py", "--program", PROGRAM, "--positions", "60000", "--runs", "1"]
         done = subprocess.run([*map(str, words)], capture_output=True, text=True, check=True, timeout=LONGEST)
         each = re.search(r"a position ([0-9.]+) us", done.stdout)
-        self.assertIsNotNone(each, done.stdout)
+        assert each is not None, done.stdout
         self.assertLess(float(each[1]), MOST_MICROSECONDS)
-
-
-class Page(unittest.TestCase):
-    def test_examples(self) -> None:
-        """Each shows what it prints, in a checkout with the program on the path."""
-        path = Path(self.enterContext(tempfile.TemporaryDirectory()))
-        (path / "rtfilter").symlink_to(PROGRAM)
-        examples = [*pages.sessions((EXAMPLE / "README.md").read_text(encoding="utf-8"))]
-        self.assertGreater(len(examples), 1)
-        for command, shown in examples:
-            self.assertEqual(pages.printed(command, ROOT, path), shown, command)
-
-    def test_types(self) -> None:
-        if subprocess.run(["which", "mypy"], capture_output=True).returncode:
-            self.skipTest("mypy isn't installed")
-        environment = {**os.environ, "MYPYPATH": os.pathsep.join(str(ROOT / it) for it in ("clients/python", "service", "examples/common"))}
-        with contextlib.chdir(EXAMPLE):
-            words = ["mypy", "--strict", "--cache-dir", os.devnull, *map(str, [*EXAMPLE.glob("*.py"), *EXAMPLE.parent.glob("common/*.py")])]
-            done = subprocess.run(words, env=environment, capture_output=True, text=True, timeout=LONGEST)
-        self.assertEqual(done.returncode, 0, done.stdout)
 
 
 def numbered(cut: list[tuple[int, list[bytes]]]) -> list[tuple[int, bytes]]:

@@ -1,5 +1,6 @@
 """What a fence does while it runs: zones are exchanged, many are connected, processes and readers end or are slow."""
 
+import errno
 import os
 import random
 import resource
@@ -10,14 +11,18 @@ import subprocess
 import sys
 import tempfile
 import threading
+import time
 import unittest
 from pathlib import Path
+from typing import Any
 
-from fence_support import EXAMPLE, LONGEST, PROGRAM, Connected, Running, brief, children_of, feature, is_gone, square, write_zones
+from fence_support import EXAMPLE, LONGEST, Connected, Running, brief, feature, square, write_zones
+
+from common_support import PROGRAM, children_of, is_gone
 
 PARK, LAKE = feature("park", square(0, 0, 10)), feature("lake", square(20, 0, 10))
 WIDER = feature("park", square(0, 0, 15), name="Park", layer="green")
-BEYOND = "fence.py: features[0]: no geometry; the zones are those of before"
+BEYOND = "features[0]: no geometry; the zones are those of before"
 
 
 class Lives(unittest.TestCase):
@@ -39,7 +44,7 @@ class Lives(unittest.TestCase):
 
 
 class Exchanges(Lives):
-    def exchange(self, fence: Running, *features: dict) -> None:
+    def exchange(self, fence: Running, *features: dict[str, Any]) -> None:
         write_zones(self.zones, features)
         fence.signal(signal.SIGHUP)
         self.assertEqual(fence.errors.next(), f"fence.py: zones: {len(features)}")
@@ -63,10 +68,14 @@ class Exchanges(Lives):
         fence = self.running()
         write_zones(self.zones, [{"type": "Feature", "properties": {}, "geometry": None}])
         fence.signal(signal.SIGHUP)
-        self.assertEqual(fence.errors.next(), BEYOND)
+        self.assertEqual(fence.errors.next(), f"fence.py: {self.zones}: {BEYOND}")
         self.zones.unlink()
         fence.signal(signal.SIGHUP)
         self.assertIn("No such file", fence.errors.next())
+        self.zones.write_text('{"type": "FeatureCollection", "features": [')
+        fence.signal(signal.SIGHUP)
+        told = f"fence.py: {self.zones}: Expecting value: line 1 column 44 (char 43); the zones are those of before"
+        self.assertEqual(fence.errors.next(), told)
         fence.send("a,1,1,1")
         self.assertEqual(brief(fence.events.some(1)), [("a", "enter", "park")])
         self.exchange(fence, LAKE)
@@ -77,16 +86,14 @@ class Exchanges(Lives):
         """Each position is answered by the zones of before or of after: nothing is told twice, and nothing is lost."""
         fence = self.running()
         stop = threading.Event()
-        told: list[tuple] = []
+        told: list[tuple[Any, ...]] = []
 
         def ask() -> None:
             chance, inside = random.Random(8), False
             for moment in range(1, 1_000_000):
                 x = chance.choice([1, 12, 50])
                 fence.send(f"a,{x},1,{moment}", "marker")  # which is refused: all is told up to there
-                for event in iter(lambda: fence.events.some(1)[0], None):
-                    if event["event"] == "refused":
-                        break
+                while (event := fence.events.some(1)[0])["event"] != "refused":
                     told.append((x, event["event"], inside))
                     inside = event["event"] == "enter"
                 if stop.is_set():
@@ -137,6 +144,30 @@ class Exchanges(Lives):
 
 
 class Ends(Lives):
+    def test_an_end_while_zones_are_loaded(self) -> None:
+        """Whatever the load waits for: here for somebody who writes more of the file."""
+        self.zones.unlink()
+        os.mkfifo(self.zones)
+        for number in (signal.SIGTERM, signal.SIGINT):
+            if signal.getsignal(number) == signal.SIG_IGN:
+                continue
+            fence = self.enterContext(Running(self.zones))
+            writing = self.opened_for_writing(self.zones)
+            fence.signal(number)
+            self.assertEqual(fence.ended(), (0, []))
+            os.close(writing)
+
+    def opened_for_writing(self, pipe: Path) -> int:
+        """The end of a named pipe, once another process reads from it."""
+        until = time.monotonic() + LONGEST
+        while True:
+            try:
+                return os.open(pipe, os.O_WRONLY | os.O_NONBLOCK)
+            except OSError as error:
+                if error.errno != errno.ENXIO or time.monotonic() > until:
+                    raise
+                time.sleep(0.01)
+
     def test_what_is_lost_when_it_is_killed(self) -> None:
         """Where devices were and when, and no more: their first positions are entries again, older ones too. Whoever kept the
         events goes on from them, but for positions since the last event of a device."""
@@ -158,6 +189,21 @@ class Ends(Lives):
         wanted = [("a", "refused", older), ("a", "leave", "park"), ("b", "refused", older), ("b", "enter", "lake")]
         self.assertEqual(brief(more.events.some(4)), wanted)
 
+    def test_lines_that_are_no_events(self) -> None:
+        """They are passed over and counted, whatever they are."""
+        event = '{"event": "enter", "zone": "park", "device": "a", "time": 5}'
+        strays = [
+            "", "x", "[" * 100_000, "5", "null", "{}", '{"event": "refused", "why": "x"}', event.replace("5", "1" + "0" * 400),
+            event.replace("5", "NaN"), event.replace("5", '"x"'), event.replace('"park"', "[1]"), event.replace('"a"', "7"),
+            event.replace('"enter"', "[]"), event.replace('"a"', r'"\ud800"'), "\x00\ufffd",
+        ]  # fmt: skip
+        log = self.folder / "events"
+        log.write_text("".join(f"{line}\n" for line in [*strays, event]))
+        fence = self.enterContext(Running(self.zones, "--resume", str(log)))
+        self.assertEqual(fence.errors.next(), f"fence.py: devices: 1; lines that are no events: {len(strays)}")
+        fence.started().send("a,50,1,6")
+        self.assertEqual(brief(fence.events.some(1)), [("a", "leave", "park")])
+
     def test_the_program_is_killed(self) -> None:
         fence = self.running()
         for number in range(3):
@@ -173,7 +219,7 @@ class Ends(Lives):
         fence.send("a,1,1,1")
         status, errors = fence.ended()
         self.assertEqual((status, errors), (1, ["fence.py: [Errno 32] Broken pipe"]))
-        fence.process.stdout = open(os.devnull)
+        fence.process.stdout = open(os.devnull, "rb")
 
     def test_an_end_while_nobody_reads_events(self) -> None:
         """A signal ends it all the same, and its program with it, unless it is ignored from the start."""

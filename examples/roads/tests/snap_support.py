@@ -1,7 +1,6 @@
 """What the tests of snapping share."""
 
 import json
-import os
 import subprocess
 import sys
 import unittest
@@ -11,11 +10,13 @@ from typing import Any
 HERE = Path(__file__).resolve().parent
 EXAMPLE = HERE.parent
 ROOT = EXAMPLE.parent.parent
-PROGRAM = os.environ["RTFILTER_PROGRAM"]
 DEBIAN = "/usr/bin/python3"  # sees Debian's packages, as another Python on the path doesn't
 LONGEST = 120.0  # seconds that anything may take, on a busy machine
 
-sys.path += [str(EXAMPLE), *(str(ROOT / it) for it in ("examples/common", "clients/python/tests", "clients/python", "tests"))]
+FOLDERS = "examples/common", "examples/common/tests", "clients/python/tests", "clients/python", "tests"
+sys.path += [str(EXAMPLE), *(str(ROOT / folder) for folder in FOLDERS)]
+
+from common_support import PROGRAM
 
 
 def told_by_peers(test: unittest.TestCase, **asked: Any) -> dict[str, Any]:
@@ -24,10 +25,11 @@ def told_by_peers(test: unittest.TestCase, **asked: Any) -> dict[str, Any]:
         test.skipTest("python3-shapely or python3-pyproj isn't installed")
     text = json.dumps({"lines": [], "points": [], "pairs": [], **asked})
     done = subprocess.run([DEBIAN, HERE / "snap_peer.py"], input=text, capture_output=True, text=True, check=True)
-    return json.loads(done.stdout)
+    told: dict[str, Any] = json.loads(done.stdout)
+    return told
 
 
-def road(id: Any, *paths: list[tuple[float, float]], **properties: Any) -> dict[str, Any]:
+def road(id: Any, *paths: Any, **properties: Any) -> dict[str, Any]:
     geometry: dict[str, Any] = {"type": "LineString", "coordinates": paths[0]}
     if len(paths) > 1:
         geometry = {"type": "MultiLineString", "coordinates": paths}

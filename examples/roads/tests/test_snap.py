@@ -1,6 +1,5 @@
 """Roads are those that are nearest in the plane, exactly, and how far they are is right on the ground."""
 
-import contextlib
 import csv
 import io
 import json
@@ -18,10 +17,11 @@ from pathlib import Path
 from typing import Any
 from unittest import mock
 
-from snap_support import EXAMPLE, LONGEST, PROGRAM, ROOT, road, run, told_by_peers, words_of, write_roads
+from snap_support import EXAMPLE, LONGEST, road, run, told_by_peers, words_of, write_roads
 
-import pages
-from planes import MOST_LATITUDE, Scaled, WebMercator, on_ground
+from common_support import PROGRAM, Printed, anything, children_of
+
+from planes import MOST_LATITUDE, Scaled, WebMercator, on_ground_from
 from roads import Roads
 from snapping import Snapping
 
@@ -111,13 +111,11 @@ class Nearest(Folder):
         roads = self.roads([road(at, *some_paths(chance, 50)) for at in range(40)], Scaled(1))
         places = [some_place(chance, 50) for _ in range(30)]
         wanted = [*roads.nearest_each(3, places)]
-        asked: list[int] = []
-        ask = roads._boxes.ask
-        with mock.patch("roads.MOST_ANSWERS", 100), mock.patch.object(
-            roads._boxes, "ask", lambda lines: asked.append(sum(int(line.split()[1]) for line in lines)) or ask(lines)
-        ):
+        with mock.patch("roads.MOST_ANSWERS", 100), mock.patch.object(roads._boxes, "ask", wraps=roads._boxes.ask) as ask:
             self.assertEqual([*roads.nearest_each(3, places)], wanted)
-        self.assertLessEqual(max(asked), 100)
+        for (lines,), _ in ask.call_args_list:
+            self.assertLessEqual(sum(int(line.split()[1]) for line in lines), 100)
+        self.assertGreater(ask.call_count, 1)
 
     def test_long_slanting_roads(self) -> None:
         """A position lies in most of their boxes, so that nearly all are asked for."""
@@ -133,8 +131,7 @@ class Nearest(Folder):
     def test_the_program_is_killed(self) -> None:
         roads = self.roads([road("a", [(0, 0), (1, 1)])], Scaled(1))
         for _ in range(3):
-            children = Path(f"/proc/self/task/{os.getpid()}/children").read_text().split()
-            for process in map(int, children):
+            for process in children_of(os.getpid()):
                 if Path(f"/proc/{process}/comm").read_text() == f"{Path(PROGRAM).name}\n":
                     os.kill(process, signal.SIGKILL)
             self.assertEqual([it.road.id for it in next(roads.nearest_each(1, [(5, 5)]))], ["a"])
@@ -165,7 +162,7 @@ class OnTheGround(Folder):
         pairs, seen = [], []
         for (position, ends), feature in zip(asked, features):
             snapping = Snapping(self.roads([feature], plane), plane, 1)
-            ((snapped,),) = snapping.snapped_each([snapping.position(*position)])
+            (((_, snapped),),) = snapping.snapped_each([snapping.position(*position)])
             on_road = points_of(plane, ends)
             seen.append((snapped, len(on_road)))
             pairs += [(position, (snapped.x, snapped.y)), *((position, it) for it in on_road)]
@@ -173,17 +170,17 @@ class OnTheGround(Folder):
         tight = 0
         for snapped, count in seen:
             to_foot, least = next(metres), min(next(metres) for _ in range(count))
-            self.assertLess(abs(to_foot - snapped.far.distance), 2e-5 * to_foot + 1e-3)
-            self.assertLess(snapped.far.distance - snapped.far.error, least + 1e-6)
-            self.assertLess(to_foot, least * 1.5 + 0.03 + snapped.far.error)
-            tight += snapped.far.error < 0.01 * snapped.far.distance + 0.03
+            self.assertLess(abs(to_foot - snapped.distance), 2e-5 * to_foot + 1e-3)
+            self.assertLess(snapped.distance - snapped.error, least + 1e-6)
+            self.assertLess(to_foot, least * 1.5 + 0.03 + snapped.error)
+            tight += snapped.error < 0.01 * snapped.distance + 0.03
         self.assertGreater(tight, 80)
 
     def test_degrees_order_wrongly(self) -> None:
         """At 60 degrees north a degree to the east is half of one to the north."""
         features = [road("north", [(9, 60.012), (11, 60.012)]), road("east", [(10.02, 59), (10.02, 61)])]
         write_roads(self.file, features)
-        for options, first in ((["--scale", 1e7], "north"), ([], "east")):
+        for options, first in anything((["--scale", 1e7], "north"), ([], "east")):
             done = run(*options, self.file, lines=b"a,10,60\n")
             self.assertEqual(json.loads(done.stdout)["nearest"][0]["road"], first)
 
@@ -196,8 +193,8 @@ class OnTheGround(Folder):
             with self.assertRaises(ValueError):
                 plane.whole(*position)
         for position, point in (((179.9, 10), (179.0, 10)), ((0, 84), (0, 82)), ((-179.9, -10), (-179, -10))):
-            far = plane.far(position, point)
-            self.assertEqual(far.error, far.distance)
+            near = plane.near(*position)(*plane.whole(*point))
+            self.assertEqual(near.error, near.distance)
         for x, y in ((0, 0), (12345678, -1234567890), (-2003750834, 2003750820)):
             self.assertEqual(plane.whole(*plane.back(x, y)), (x, y))
 
@@ -210,12 +207,16 @@ class Program(Folder):
 
     def test_lines(self) -> None:
         """Each is answered, or told why not, in its order; lines that are blank and comments are counted."""
-        faulty = [
-            b"x", b"a,1", b"a,1,2,3", b",1,2", b"a,1,x", b"a,01,2", b"a,nan,2", b"\xff,1,2", b"a,1e999,2", b"a,3e9,2",
-            b"x" * 5000, b'"a,1,2',
-        ]  # fmt: skip
+        form, north = "not NAME,X,Y: the number of fields is", "field 3, Y, is no number:"
+        faulty = {
+            b"x": f"{form} 1", b"a,1": f"{form} 2", b"a,1,2,3": f"{form} 4", b",1,2": "field 1, NAME, is no name: ''",
+            b"a,1,x": f"{north} 'x'", b"a,01,2": "field 2, X, is no number: '01'", b'"a, b",1,': f"{north} ''",
+            b"a,nan,2": "field 2, X, is no number: 'nan'", b"\xff,1,2": "field 1, NAME, isn't UTF-8",
+            b"a,1e400,2": "x inf is out of the range of 32 bits, times 1.0",
+            b"a,2,-3e9": "y -3000000000.0 is out of the range of 32 bits, times 1.0",
+            b"x" * 5000: "a line of more than 4096 bytes", b'"a,1,2': "field 1, NAME, is no name: '\"a'",
+        }  # fmt: skip
         text = b"a,55,2\n\n# c\n" + b"".join(line + b"\n" for line in faulty) + b'"b, c",5,6'
-        text = text.replace(b"b, c", b"b c")
         done = run("--scale", 1, "--nearest", 10**12, self.file, lines=text)
         self.assertEqual((done.returncode, done.stderr), (0, b"snap.py: roads: 2\n"))
         told = [json.loads(line) for line in done.stdout.splitlines()]
@@ -224,12 +225,20 @@ class Program(Folder):
         near = {"x": 55.0, "y": 3.0, "distance": 1.0, "error": 2.2}
         far = {"x": 55.0, "y": 0.0, "distance": 2.0, "error": 2.2}
         self.assertEqual(told[0]["nearest"], [{"road": "x", **near}, {"road": 7, "name": "Lane", **far}])
-        self.assertTrue(all("refused" in it for it in told[1:-1]), told)
-        self.assertEqual((told[-1]["name"], [it["road"] for it in told[-1]["nearest"]]), ("b c", ["x", 7]))
+        self.assertEqual([it["refused"] for it in told[1:-1]], [*faulty.values()])
+        self.assertEqual((told[-1]["name"], [it["road"] for it in told[-1]["nearest"]]), ("b, c", ["x", 7]))
+
+    def test_places_that_are_not_in_the_plane(self) -> None:
+        write_roads(self.file, [road(1, [(0, 0), (1, 1)])])
+        done = run(self.file, lines=b"a,180.1,0\na,0,-85.06\na,1e400,0\n")
+        self.assertEqual([json.loads(line)["refused"] for line in done.stdout.splitlines()], [
+            "longitude 180.1 isn't -180 to 180", "latitude -85.06 isn't -85.0511287 to 85.0511287",
+            "longitude inf isn't -180 to 180",
+        ])  # fmt: skip
 
     def test_each_read_is_answered_before_the_next(self) -> None:
-        pipes = {"stdin": subprocess.PIPE, "stdout": subprocess.PIPE, "stderr": subprocess.DEVNULL}
-        with subprocess.Popen(words_of("--scale", 1, self.file), bufsize=0, **pipes) as process:
+        pipe, words = subprocess.PIPE, words_of("--scale", 1, self.file)
+        with subprocess.Popen(words, bufsize=0, stdin=pipe, stdout=pipe, stderr=subprocess.DEVNULL) as process:
             assert process.stdin and process.stdout
             for number in range(100):
                 process.stdin.write(b"%d,1,1\n%d,2,2\npart" % (number, number))
@@ -268,21 +277,32 @@ class Program(Folder):
     def test_records_that_are_faulty(self) -> None:
         """They are told by their lines, the others are written, and the status says so."""
         records = self.folder / "records.csv"
-        records.write_text("name,east,north\na,1,1\n\nb,x,1\nc,1\nd,1,1,1\ne,1e10,1\nf,,1\ng,nan,1\nh,2,2\n")
+        records.write_text("name,east,north\na,1,1\n\nb,x,1\nc,1\nd,1,1,1\ne,1e10,1\nf,,1\ng,nan,1\nh,2,1_0\ni,2,2\n")
         done = run("--scale", 1, "--columns", "east,north", self.file, records)
         self.assertEqual(done.returncode, 1)
-        self.assertEqual([line[:1] for line in done.stdout.decode().splitlines()], ["n", "a", "h"])
-        told = re.findall(r"snap.py: line (\d+): ", done.stderr.decode())
-        self.assertEqual(told, ["4", "5", "6", "7", "8", "9"])
-        for columns, why in (("x,y", "0 columns are called x"), ("east", "0 columns are called ,")):
+        self.assertEqual([line[:1] for line in done.stdout.decode().splitlines()], ["n", "a", "i"])
+        self.assertEqual(done.stderr.decode().splitlines()[1:], [f"snap.py: {records}, line {why}" for why in (
+            "4: east is no number: 'x'", "5: the number of fields is 2, and not 3", "6: the number of fields is 4, and not 3",
+            "7: x 10000000000.0 is out of the range of 32 bits, times 1.0", "8: east is no number: ''",
+            "9: x nan is out of the range of 32 bits, times 1.0", "10: north is no number: '1_0'",
+        )])  # fmt: skip
+        for columns, why in (("x,y", "0 columns are called x, and not one"), ("east", "0 columns are called , and not one")):
             done = run("--scale", 1, "--columns", columns, self.file, records)
             self.assertEqual((done.returncode, done.stdout), (1, b""))
-            self.assertIn(why, done.stderr.decode())
+            self.assertEqual(done.stderr.decode().splitlines()[1:], [f"snap.py: {records}: {why}"])
+        for text, why in (
+            (b"x,y\n1,1\n\xff,1\n", "'utf-8' codec can't decode byte 0xff in position 8: invalid start byte"),
+            (b'x,y\n1,"' + b"1" * 200_000, "line 2: field larger than field limit (131072)"),
+        ):
+            records.write_bytes(text)
+            done = run("--scale", 1, self.file, records)
+            self.assertEqual(done.stderr.decode().splitlines()[1:], [f"snap.py: {records}: {why}"])
+            self.assertEqual(done.returncode, 1)
 
     def test_who_reads_leaves(self) -> None:
         records = self.folder / "records.csv"
         records.write_text("x,y\n" + "1,1\n" * 50_000)
-        for options, text in (([records], b""), ([], b"a,1,1\n" * 50_000)):
+        for options, text in anything(([records], b""), ([], b"a,1,1\n" * 50_000)):
             lines = self.folder / "lines"
             lines.write_bytes(text)
             with open(lines, "rb") as file, subprocess.Popen(
@@ -297,7 +317,7 @@ class Program(Folder):
     def test_a_closed_end(self) -> None:
         records = self.folder / "records.csv"
         records.write_text("x,y\n1,1\n")
-        for closed, options in (("<&-", []), (">&-", []), (">&-", [records])):
+        for closed, options in anything(("<&-", []), (">&-", []), (">&-", [records])):
             words = ["sh", "-c", f'exec "$@" {closed}', "sh", *words_of("--scale", 1, self.file, *options)]
             done = subprocess.run(words, stderr=subprocess.PIPE, timeout=LONGEST)
             self.assertEqual(done.returncode, 1)
@@ -307,16 +327,26 @@ class Program(Folder):
         for features, told in (
             ([road(1, [(0, 0), (0, 0.2)])], "features[0]: a line whose positions, in whole numbers, are one"),
             ([road(1, [(0, 0)])], "features[0]: a line of fewer than two positions"),
-            ([road(1, [(0, 0), (3e9, 0)])], "features[0]: a coordinate that is out of the range of 32 bits"),
-            ([road(1, [(0, 0), ("1", 0)])], "features[0]: a coordinate that is no number: '1'"),
-            ([road(1, [(0, 0), (True, 0)])], "features[0]: a coordinate that is no number: True"),
+            ([road(1, [(0, 0), (3e9, 0)])], "features[0]: coordinates[1]: x 3000000000.0 is out of the range of 32 bits, times 1.0"),
+            ([road(1, [(0, 0), ("1", 0)])], "features[0]: coordinates[1]: a coordinate that is no number: '1'"),
+            ([road(1, [(0, 0), (True, 0)])], "features[0]: coordinates[1]: a coordinate that is no number: True"),
+            ([road(1, [(0, 0), (1,)])], "features[0]: coordinates[1]: [1] in the place of two numbers"),
+            ([road(1, [(0, 0), "ab"])], "features[0]: coordinates[1]: 'ab' in the place of two numbers"),
+            ([road(1, [(0, 0), (1, 0)]), road(2, [(0, 0), (1, 0)], [(5, 5), (5, float("nan"))])],
+             "features[1]: coordinates[1][1]: y nan is out of the range of 32 bits, times 1.0"),
+            ([road(1, None)], "features[0]: None in the place of a list"),
+            ([road(1, [(0, 0), (1, 0)], None)], "features[0]: None in the place of a list"),
+            ([road(1, [(10**400, 0), (1, 0)])], f"features[0]: coordinates[0]: a coordinate that is beyond floats: {10**400!r:.50}"),
             ([{"type": "Feature", "geometry": None, "properties": {}}], "features[0]: no geometry"),
             ([{"type": "Feature", "geometry": {"type": "Point", "coordinates": [0, 0]}, "properties": {}}],
              "features[0]: the geometry is of type Point, and neither LineString nor MultiLineString"),
         ):  # fmt: skip
             write_roads(self.file, features)
             done = run("--scale", 1, self.file)
-            self.assertEqual((done.returncode, done.stderr.decode()), (1, f"snap.py: {told}\n"))
+            self.assertEqual((done.returncode, done.stderr.decode()), (1, f"snap.py: {self.file}: {told}\n"))
+        self.file.write_text("{")
+        told = "Expecting property name enclosed in double quotes: line 1 column 2 (char 1)"
+        self.assertEqual(run(self.file).stderr.decode(), f"snap.py: {self.file}: {told}\n")
         write_roads(self.file, [])
         done = run(self.file, lines=b"a,1,1\n")
         self.assertEqual(json.loads(done.stdout), {"line": 1, "name": "a", "nearest": []})
@@ -330,24 +360,15 @@ class Program(Folder):
             self.assertLess(float(each[1]), MOST_MICROSECONDS)
 
 
-class Page(unittest.TestCase):
+class Page(Printed):
     def test_examples(self) -> None:
-        """Each shows what it prints, in a checkout with the program on the path."""
-        path = Path(self.enterContext(tempfile.TemporaryDirectory()))
-        (path / "rtfilter").symlink_to(PROGRAM)
-        examples = [*pages.sessions((EXAMPLE / "README.md").read_text(encoding="utf-8"))]
-        self.assertGreater(len(examples), 1)
-        for command, shown in examples:
-            self.assertEqual(pages.printed(command, ROOT, path), shown, command)
+        self.assert_printed(EXAMPLE / "README.md")
 
-    def test_types(self) -> None:
-        if subprocess.run(["which", "mypy"], capture_output=True).returncode:
-            self.skipTest("mypy isn't installed")
-        environment = {**os.environ, "MYPYPATH": os.pathsep.join(str(ROOT / it) for it in ("clients/python", "examples/common"))}
-        with contextlib.chdir(EXAMPLE):
-            words = ["mypy", "--strict", "--cache-dir", os.devnull, *map(str, EXAMPLE.glob("*.py"))]
-            done = subprocess.run(words, env=environment, capture_output=True, text=True, timeout=LONGEST)
-        self.assertEqual(done.returncode, 0, done.stdout)
+
+def on_ground(one: tuple[float, float], other: tuple[float, float]) -> float:
+    """The distance of two places, in degrees, in metres."""
+    (west, south), (east, north) = (map(math.radians, place) for place in (one, other))
+    return on_ground_from(west, math.tan(south))(east, math.tan(north))
 
 
 def some_place(chance: random.Random, high: int) -> tuple[int, int]:

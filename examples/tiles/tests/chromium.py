@@ -47,7 +47,7 @@ class Chromium:
         words = ["chromium", *FLAGS, f"--user-data-dir={self._home}", f"--window-size={wide},{high}"]
         if os.geteuid() == 0:
             words.append("--no-sandbox")  # as root it ends at once otherwise
-        actions = [(os.POSIX_SPAWN_OPEN, file, "/dev/null", os.O_RDWR, 0) for file in (0, 1, 2)]
+        actions: list[Any] = [(os.POSIX_SPAWN_OPEN, file, "/dev/null", os.O_RDWR, 0) for file in (0, 1, 2)]
         actions += [(os.POSIX_SPAWN_DUP2, end, file) for end, file in zip(ends, (3, 4))]
         self._process = os.posix_spawnp("chromium", [*words, "about:blank"], os.environ, file_actions=actions)
         for file in (its_input, its_output, *ends):
@@ -67,7 +67,8 @@ class Chromium:
             if told.get("id") == self._number:
                 if "error" in told:
                     raise RuntimeError(f"{method}: {told['error']}")
-                return told["result"]
+                result: dict[str, Any] = told["result"]
+                return result
 
     def _message(self, method: str) -> dict[str, Any]:
         """The next message, an answer or an event; each ends with a null byte."""
@@ -79,7 +80,8 @@ class Chromium:
                 raise RuntimeError(f"{method}: chromium has ended")
             self._left += piece
         text, self._left = self._left.split(b"\0", 1)
-        return json.loads(text)
+        message: dict[str, Any] = json.loads(text)
+        return message
 
     def value(self, expression: str) -> Any:
         """The value of an expression of JavaScript in the page."""

@@ -45,6 +45,8 @@ class TileAddresses(unittest.TestCase):
 class Tiles(Mapped):
     """Tiles, read by GDAL."""
 
+    folder: str
+
     @classmethod
     def setUpClass(cls) -> None:
         wants("ogrinfo")
@@ -115,8 +117,8 @@ class Tiles(Mapped):
         self.assertGreater(len(full), 1)
         for z, x, y in full:
             across, along = (cuts(*interval, 32) for interval in (window_of(z, x, y)[:2], window_of(z, x, y)[2:]))
-            counts = told(self.table, ["count window %d %d %d %d" % cell for cell in cells_of(across, along)])
-            wanted = [count for reply in counts if (count := int(reply[0].split()[2]))]
+            replies = told(self.table, ["count window %d %d %d %d" % cell for cell in cells_of(across, along)])
+            wanted = [count for reply in replies if (count := int(reply[0].split()[2]))]
             features = self.features(z, x, y)
             self.assertEqual([int(properties["count"]) for _, properties, _ in features], wanted)
             self.assertEqual({layer for layer, _, _ in features}, {"density"})

@@ -10,6 +10,8 @@ from tiles_support import BOXES, HOSTILE_LAYER, HOSTILE_NAME, Mapped, ids_told, 
 
 
 class Page(Mapped):
+    browser: Chromium
+
     @classmethod
     def setUpClass(cls) -> None:
         wants("chromium")
@@ -27,7 +29,8 @@ class Page(Mapped):
 
     def texts(self, *ids: str) -> list[str]:
         """What elements show, at one moment."""
-        return self.browser.value(f"{json.dumps(ids)}.map(id => document.getElementById(id).textContent)")
+        found: list[str] = self.browser.value(f"{json.dumps(ids)}.map(id => document.getElementById(id).textContent)")
+        return found
 
     def text(self, id: str) -> str:
         return self.texts(id)[0]
@@ -63,7 +66,7 @@ class Page(Mapped):
 
     def assert_answer(self, begins: str) -> list[str]:
         """The answer that is shown is the program's, and isn't empty. Gives the words of its line."""
-        line = self.browser.until("document.getElementById('line').value")
+        line: str = self.browser.until("document.getElementById('line').value")
         self.browser.until(f"document.getElementById('told').dataset.line === {json.dumps(line)}")
         self.assertTrue(line.startswith(begins), line)
         cells = "[...row.cells].slice(0, 2).map(cell => cell.textContent).join(' ')"

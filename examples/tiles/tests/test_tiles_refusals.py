@@ -13,7 +13,9 @@ import unittest
 from pathlib import Path
 from urllib.parse import quote
 
-from tiles_support import BOXES, LONGEST, Mapped, Server, processes_of, told
+from tiles_support import BOXES, LONGEST, Mapped, Server, told
+
+from common_support import children_of
 
 import random_runs
 
@@ -64,6 +66,8 @@ class Refusals(Mapped):
             "/nothing", "/serve.py", "/../serve.py", "/%2e%2e/serve.py", "/page.js/", "/0/0/0", "/00/0/0.pbf",
             "/-1/0/0.pbf", "/0/1/0.pbf", "/0/0/1.pbf", "/5/32/0.pbf", "/5/0/32.pbf", "/23/0/0.pbf", "/99/0/0.pbf",
             "/1/1/99999999.pbf", "//127.0.0.1/view", "/1/0/+1.pbf", "/1/0/1.pbf.gz", "/1/0/\u0661.pbf",
+            "/%30/0/0.pbf", "/0%2f0/0.pbf", "/0/0/0.pbf%20", "/22/4194304/0.pbf", "/22/0/4194304.pbf", "/22/-1/0.pbf", "/-0/0/0.pbf",
+            "/4294967296/0/0.pbf", "/0/0/0.pbf;x",
         ):  # fmt: skip
             reply, _ = self.server.get(quote(target, safe="/%+"))
             self.assertEqual(reply.status, 404, target)
@@ -196,7 +200,7 @@ class Tables(unittest.TestCase):
                 send(signal.SIGKILL, server.program())
                 self.wait_for_answer(server)
             table.write_text("1,0,1,0,1\n2,0,1,0,1\n")
-            processes = [server.program(), *processes_of(server.program())]
+            processes = [server.program(), *children_of(server.program())]
             send(signal.SIGKILL, *processes)
             self.assertEqual(server.get("/ask?q=count+all")[0].status, 503)
             status, errors = server.ended()
@@ -213,7 +217,7 @@ class Tables(unittest.TestCase):
         table = Path(self.enterContext(tempfile.TemporaryDirectory()), "boxes.csv")
         table.write_text("1,0,1,0,1\n")
         with Server(table, "--timeout", "1") as server:
-            processes = processes_of(server.program())
+            processes = children_of(server.program())
             if not processes:
                 self.skipTest("there is no C compiler")
             send(signal.SIGSTOP, processes[-1])

@@ -12,13 +12,17 @@ import subprocess
 import tempfile
 import threading
 import unittest
+from collections.abc import Callable, Iterator
 from http.client import HTTPResponse
 from http.server import BaseHTTPRequestHandler, ThreadingHTTPServer
 from pathlib import Path
 from typing import Any
 
 from chromium import Chromium
-from tiles_support import BOXES, EXAMPLE, LONGEST, Mapped, Server, hostile_map, make_map, processes_of, wants
+from style_rules import faults_of
+from tiles_support import BOXES, EXAMPLE, LONGEST, Mapped, Server, hostile_map, make_map, wants
+
+from common_support import anything, children_of, descendants_of, is_gone
 
 from mercator import HALF, window_of
 from negotiation import is_known, takes_gzip
@@ -93,18 +97,43 @@ class Told(Serving):
         self.assertEqual({it["source-layer"] for it in layers}, {*LAYERS, "density"})
         self.assertEqual({it["source"] for it in layers}, {"boxes"})
         self.assertEqual(len({it["id"] for it in told["layers"]}), len(told["layers"]))
+        shades = [it["paint"]["fill-opacity"] for it in layers if it["source-layer"] == "density"]
+        self.assertEqual(shades, sorted({*shades}))
         colours = re.search(r"COLOURS = (\[.*?\])", (EXAMPLE / "page.js").read_text())
         assert colours is not None
-        self.assertEqual([it["paint"]["fill-color"] for it in layers[1:]], json.loads(colours[1])[:6])
+        drawn = [it["paint"]["fill-color"] for it in layers if it["source-layer"] != "density"]
+        self.assertEqual(drawn, json.loads(colours[1])[:6])
+
+    def test_style_by_the_rules(self) -> None:
+        """Those of the style specification and of TileJSON, which refuse what is broken."""
+        style, told = self.json("/style.json"), self.json("/tiles.json")
+        self.assertEqual(faults_of(style, told), [])
+        breaks: list[tuple[str, Callable[[dict[str, Any], dict[str, Any]], Any]]] = [
+            ("the style's members", lambda style, _: style.update(version=7)),
+            ("source boxes", lambda style, _: style["sources"]["boxes"].update(type="geojson")),
+            ("ids of layers", lambda style, _: style["layers"].append(style["layers"][1])),
+            ("layer fill of towns: what it draws", lambda style, _: style["layers"][7].update({"source-layer": "town"})),
+            ("layer fill of towns: fill-color", lambda style, _: style["layers"][7]["paint"].update({"fill-color": "#12"})),
+            ("layer fill of towns: line-width", lambda style, _: style["layers"][7]["paint"].update({"line-width": 1})),
+            ("layer fill of density from 1: fill-opacity", lambda style, _: style["layers"][1]["paint"].update({"fill-opacity": 2})),
+            ("layer fill of density from 4: filter", lambda style, _: style["layers"][2]["filter"].append(["<", "count", 1])),
+            ("layer land: a background draws nothing else", lambda style, _: style["layers"][0].update(source="boxes")),
+            ("vector_layers", lambda _, told: told["vector_layers"][0].pop("fields")),
+            ("levels, bounds or center", lambda _, told: told["center"].__setitem__(2, 23)),
+        ]
+        for fault, breaking in breaks:
+            broken = json.loads(json.dumps([style, told]))
+            breaking(*broken)
+            self.assertEqual(faults_of(*broken), [fault])
 
     def test_health(self) -> None:
         self.assertEqual(self.json("/health"), {"boxes": BOXES})
         with Server(self.table, "--timeout", "0.5") as server:
-            (holder,) = processes_of(server.process.pid)
-            for process in (holder, *processes_of(holder)):
+            (holder,) = children_of(server.process.pid)
+            for process in (holder, *children_of(holder)):
                 os.kill(process, signal.SIGSTOP)
             self.assertEqual(self.asked("/health", server)[0].status, 503)
-            for process in (holder, *processes_of(holder)):
+            for process in (holder, *children_of(holder)):
                 with contextlib.suppress(ProcessLookupError):
                     os.kill(process, signal.SIGCONT)
 
@@ -143,6 +172,44 @@ class Caches(Serving):
             self.assertEqual(reply.headers["Cache-Control"], "no-cache")
         self.assertEqual(self.asked("/5/99/0.pbf", If_None_Match="*")[0].status, 404)
 
+    def test_head_of_what_is_known(self) -> None:
+        """304 to lists of tags and to `*`, on one line or on two; the headers of GET, no body, and the connection goes on."""
+        connection = self.server.connected()
+        self.addCleanup(connection.close)
+        tag = self.asked(TILE)[0].headers["ETag"]
+        packed = self.asked(TILE, Accept_Encoding="gzip")[0].headers["ETag"]
+        for known, status in (
+            (["*"], 304), ([f'"x", {tag}, "y"'], 304), ([f"W/{packed}"], 304), (['"x"', tag], 304), (['"x"', '"y"'], 200),
+            ([tag[:-1]], 200), ([], 200),
+        ):  # fmt: skip
+            told = []
+            for method in ("GET", "HEAD"):
+                connection.putrequest(method, TILE)
+                for it in known:
+                    connection.putheader("If-None-Match", it)
+                connection.endheaders()
+                reply = connection.getresponse()
+                body = reply.read()
+                told.append((reply.status, [it for it in reply.getheaders() if it[0] != "Date"]))
+            self.assertEqual((told[0], told[1][0], body), (told[1], status, b""), known)
+
+    def test_encodings_that_are_refused(self) -> None:
+        """By a weight of 0, on any line."""
+        for lines, wanted in (
+            (["gzip;q=0"], None), (["*;q=0"], None), (["gzip;q=0, *"], None), (["br", "gzip"], "gzip"), (["gzip;q=0.000", "br"], None),
+            (["identity;q=0, gzip;q=0.1"], "gzip"), (["gzip; q=1.0"], "gzip"), (["gzip;q=abc"], None),
+        ):  # fmt: skip
+            connection = self.server.connected()
+            self.addCleanup(connection.close)
+            connection.putrequest("GET", TILE, skip_accept_encoding=True)
+            for line in lines:
+                connection.putheader("Accept-Encoding", line)
+            connection.endheaders()
+            reply = connection.getresponse()
+            body = reply.read()
+            self.assertEqual(reply.headers["Content-Encoding"], wanted, lines)
+            self.assertEqual(len(body), int(reply.headers["Content-Length"]))
+
     def test_another_table_has_another_tag(self) -> None:
         folder = Path(self.enterContext(tempfile.TemporaryDirectory()))
         one, same, other, names = (folder / it for it in ("one", "same", "other", "names"))
@@ -151,7 +218,7 @@ class Caches(Serving):
         other.write_text("1,0,1,0,2\n")
         names.write_text("1,x\n")
         tags = []
-        for words in ([one], [same], [other], [one, "--names", str(names)], [one, "--url", "https://example.org/"]):
+        for words in anything([one], [same], [other], [one, "--names", str(names)], [one, "--url", "https://example.org/"]):
             with Server(*words) as server:
                 tags.append(self.asked("/0/0/0.pbf", server)[0].headers["ETag"])
         self.assertEqual(tags[0], tags[1])
@@ -195,7 +262,7 @@ class Origins(Serving):
         """Those of this server; others where they were told. Whoever is no page may."""
         there, elsewhere = "https://map.example.org", "http://example.org"
         own = [f"http://127.0.0.1:{self.server.port}", "https://localhost"]
-        for options, allowed, refused in (
+        for options, allowed, refused in anything(
             ([], [], [there, elsewhere, "null", "x", "", "http://[", own[0] + ".example.org"]),
             (["--origin", there], [there], [elsewhere, "null", there + ".x", there + ":444", "http://map.example.org"]),
             (["--origin", there, "--origin", "null"], [there, "null"], [elsewhere]),
@@ -223,7 +290,7 @@ class Origins(Serving):
         self.addCleanup(browser.close)
         with blank_pages() as port:
             origin = f"http://127.0.0.1:{port}"
-            for options, told in ((["--origin", origin], 200), ([], "TypeError: Failed to fetch")):
+            for options, told in anything((["--origin", origin], 200), ([], "TypeError: Failed to fetch")):
                 with Server(self.table, *options) as server:
                     browser.open(f"{origin}/")
                     browser.until(f"location.origin === '{origin}' && document.readyState === 'complete'")
@@ -275,19 +342,33 @@ class Processes(unittest.TestCase):
             for it in threads:
                 it.join(LONGEST)
             self.assertEqual(faults, [])
-            workers = processes_of(server.process.pid)
+            workers = children_of(server.process.pid)
             self.assertEqual(len(workers), 3)
-            self.assertTrue(all(len(processes_of(worker)) == 1 for worker in workers))
+            self.assertTrue(all(len(children_of(worker)) == 1 for worker in workers))
             everyone = descendants_of(server.process.pid)
             server.end(signal.SIGKILL)
             self.assertTrue(all(map(is_gone, everyone)))
+
+    def test_connections_are_shared_out(self) -> None:
+        """Each process has about as many as another: a thread for each of them."""
+        with Server(self.table, *self.options) as server:
+            workers = children_of(server.process.pid)
+            before = [threads_of(worker) for worker in workers]
+            for _ in range(9):
+                connection = server.connected()
+                self.addCleanup(connection.close)
+                connection.request("GET", "/health")
+                self.assertEqual(connection.getresponse().status, 200)
+            taken = [threads_of(worker) - alone for worker, alone in zip(workers, before)]
+            self.assertEqual(sum(taken), 9)
+            self.assertLessEqual(max(taken), 4, taken)
 
     def test_one_that_ends(self) -> None:
         """All end with it."""
         for number in (signal.SIGKILL, signal.SIGSEGV):
             server = self.enterContext(Server(self.table, *self.options))
             everyone = descendants_of(server.process.pid)
-            os.kill(processes_of(server.process.pid)[1], number)
+            os.kill(children_of(server.process.pid)[1], number)
             self.assertEqual(server.ended(), (number, ""))
             self.assertTrue(all(map(is_gone, everyone)))
 
@@ -304,13 +385,13 @@ class Processes(unittest.TestCase):
     def test_a_program_that_ends(self) -> None:
         """As with one process, it is started anew, as long as its table is the same; else all end, and one tells why."""
         with Server(self.table, *self.options) as server:
-            for worker in processes_of(server.process.pid):
-                os.kill(processes_of(worker)[0], signal.SIGKILL)
+            for worker in children_of(server.process.pid):
+                os.kill(children_of(worker)[0], signal.SIGKILL)
             statuses = {server.get("/ask?q=count+all")[0].status for _ in range(30)}
             self.assertIn(200, statuses)
             self.table.write_text("1,0,0,0,0\n")
-            for worker in processes_of(server.process.pid):
-                for process in (*processes_of(worker), *descendants_of(worker)):
+            for worker in children_of(server.process.pid):
+                for process in (*children_of(worker), *descendants_of(worker)):
                     with contextlib.suppress(ProcessLookupError):
                         os.kill(process, signal.SIGKILL)
             with contextlib.suppress(OSError):
@@ -333,15 +414,6 @@ class Processes(unittest.TestCase):
         once.chmod(0o755)
         with self.assertRaisesRegex(RuntimeError, "^serve.py: .*6\n$"):
             Server(self.table, *self.options, program=str(once))
-
-
-class Types(unittest.TestCase):
-    def test_strictly(self) -> None:
-        wants("mypy")
-        environment = {**os.environ, "MYPYPATH": str(EXAMPLE.parent.parent / "clients/python")}
-        words = ["mypy", "--strict", "--cache-dir", os.devnull, *map(str, EXAMPLE.glob("*.py"))]
-        done = subprocess.run(words, cwd=EXAMPLE, env=environment, capture_output=True, text=True, timeout=LONGEST)
-        self.assertEqual(done.returncode, 0, done.stdout)
 
 
 class Cost(unittest.TestCase):
@@ -380,7 +452,7 @@ def value_of(value: bytes) -> Any:
     return it.decode() if field == 1 else (it >> 1) ^ -(it & 1)
 
 
-def varints(text: bytes) -> Any:
+def varints(text: bytes) -> Iterator[int]:
     number = shift = 0
     for byte in text:
         number |= (byte & 127) << shift
@@ -392,11 +464,12 @@ def varints(text: bytes) -> Any:
 
 def fields_of(message: bytes) -> list[tuple[int, Any]]:
     """The fields of a message of protocol buffers: numbers, and bytes."""
-    fields, at = [], 0
+    fields: list[tuple[int, Any]] = []
+    at = 0
 
     def number() -> int:
         nonlocal at
-        (found,) = [*varints(message[at : at + 10])][:1]
+        found = next(varints(message[at : at + 10]))
         while message[at] > 127:
             at += 1
         at += 1
@@ -411,6 +484,10 @@ def fields_of(message: bytes) -> list[tuple[int, Any]]:
             fields.append((key >> 3, message[at : at + size]))
             at += size
     return fields
+
+
+def threads_of(process: int) -> int:
+    return len(os.listdir(f"/proc/{process}/task"))
 
 
 @contextlib.contextmanager
@@ -434,22 +511,6 @@ def blank_pages() -> Any:
         finally:
             server.shutdown()
             thread.join()
-
-
-def descendants_of(process: int) -> list[int]:
-    return [it for child in processes_of(process) for it in (child, *descendants_of(child))]
-
-
-def is_gone(process: int) -> bool:
-    """Whether a process ends soon."""
-    try:
-        descriptor = os.pidfd_open(process)
-    except ProcessLookupError:
-        return True
-    try:
-        return bool(select.select([descriptor], [], [], LONGEST)[0])
-    finally:
-        os.close(descriptor)
 
 
 if __name__ == "__main__":

@@ -16,13 +16,14 @@ from typing import Any
 
 HERE = Path(__file__).resolve().parent
 EXAMPLE = HERE.parent
-PROGRAM = os.environ["RTFILTER_PROGRAM"]
 LONGEST = 30  # seconds that an answer may take
 BOXES = 30_000
 HOSTILE_NAME = '<img src=x onerror="throw 1"><script>throw 2</script>'
 HOSTILE_LAYER = "<b>buildings</b>"
 
-sys.path += [str(EXAMPLE), str(EXAMPLE.parent.parent / "tests")]
+sys.path += [str(EXAMPLE), *(str(EXAMPLE.parent.parent / it) for it in ("examples/common/tests", "tests"))]
+
+from common_support import PROGRAM, children_of
 
 
 def make_map(folder: Path, boxes: int, seed: int = 1) -> None:
@@ -85,15 +86,12 @@ class Server:
 
     def program(self) -> int:
         """The process that holds the table."""
-        for stat in Path("/proc").glob("[0-9]*/stat"):
-            if parent_of(stat) == self.process.pid:
-                return int(stat.parent.name)
-        raise LookupError("the server has no process beside it")
+        return children_of(self.process.pid)[0]
 
     def seconds(self) -> float:
         """Processor time so far, of the server, the program, and its processes."""
         holder = self.program()
-        return sum(map(seconds_of, (self.process.pid, holder, *processes_of(holder))))
+        return sum(map(seconds_of, (self.process.pid, holder, *children_of(holder))))
 
     def end(self, number: int = signal.SIGTERM) -> tuple[int, str]:
         """Its exit status and what it has written on standard error."""
@@ -112,26 +110,9 @@ class Server:
             self.end()
 
 
-def fields_of(stat: Path) -> list[str]:
-    """The fields of proc(5)'s stat behind the name, which is in brackets and may hold anything: from the third on."""
-    return stat.read_text().rpartition(")")[2].split()
-
-
-def parent_of(stat: Path) -> int | None:
-    try:
-        return int(fields_of(stat)[1])
-    except OSError:  # it has ended meanwhile
-        return None
-
-
-def processes_of(process: int) -> list[int]:
-    """The processes that a process has started, the one that was started last behind the others."""
-    stats = [stat for stat in Path("/proc").glob("[0-9]*/stat") if parent_of(stat) == process]
-    return sorted(int(stat.parent.name) for stat in stats)
-
-
 def seconds_of(process: int) -> float:
-    fields = fields_of(Path(f"/proc/{process}/stat"))
+    # Behind the name, which is in brackets and may hold anything: from the third field of proc(5)'s stat on.
+    fields = Path(f"/proc/{process}/stat").read_text().rpartition(")")[2].split()
     return (int(fields[11]) + int(fields[12])) / os.sysconf("SC_CLK_TCK")
 
 
@@ -155,6 +136,9 @@ def hostile_map(folder: Path) -> list[str]:
 class Mapped(unittest.TestCase):
     """A map and its server."""
 
+    table: Path
+    server: Server
+
     @classmethod
     def setUpClass(cls) -> None:
         folder = Path(cls.enterClassContext(tempfile.TemporaryDirectory()))
@@ -162,7 +146,8 @@ class Mapped(unittest.TestCase):
         cls.table = folder / "boxes.csv"
         cls.server = cls.enterClassContext(Server(cls.table, *options))
 
-    def json(self, target: str) -> dict:
+    def json(self, target: str) -> dict[str, Any]:
         reply, body = self.server.get(target)
         self.assertEqual((reply.status, reply.headers["Content-Type"]), (200, "application/json"), body)
-        return json.loads(body)
+        found: dict[str, Any] = json.loads(body)
+        return found

@@ -1,0 +1,64 @@
+"""What tests of examples share: processes that others have started, and the examples of a page."""
+
+import contextlib
+import os
+import select
+import sys
+import tempfile
+import unittest
+from pathlib import Path
+from typing import Any
+
+ROOT = Path(__file__).resolve().parents[3]
+PROGRAM = os.environ["RTFILTER_PROGRAM"]
+SOON = 60.0  # seconds, on a busy machine
+
+sys.path.append(str(ROOT / "tests"))
+
+import pages
+
+
+def anything(*cases: Any) -> tuple[Any, ...]:
+    """Cases of any types."""
+    return cases
+
+
+def children_of(process: int) -> list[int]:
+    """The processes that another one has started and that haven't ended, the one that was started last at the end."""
+    found = []
+    for stat in Path("/proc").glob("[0-9]*/stat"):
+        with contextlib.suppress(OSError):  # it has ended meanwhile
+            # Behind the name, which is in brackets and may hold anything: from the third field of proc(5)'s stat on.
+            fields = stat.read_text().rpartition(")")[2].split()
+            if int(fields[1]) == process and fields[0] != "Z":
+                found.append(int(stat.parent.name))
+    return sorted(found)
+
+
+def descendants_of(process: int) -> list[int]:
+    return [it for child in children_of(process) for it in (child, *descendants_of(child))]
+
+
+def is_gone(process: int) -> bool:
+    """Whether a process that others have started ends soon."""
+    try:
+        descriptor = os.pidfd_open(process)
+    except ProcessLookupError:
+        return True
+    try:
+        return bool(select.select([descriptor], [], [], SOON)[0])
+    finally:
+        os.close(descriptor)
+
+
+class Printed(unittest.TestCase):
+    """The examples of a page."""
+
+    def assert_printed(self, page: Path) -> None:
+        """Each shows what it prints, in a checkout with the program on the path."""
+        path = Path(self.enterContext(tempfile.TemporaryDirectory()))
+        (path / "rtfilter").symlink_to(PROGRAM)
+        examples = [*pages.sessions(page.read_text(encoding="utf-8"))]
+        self.assertGreater(len(examples), 1)
+        for command, shown in examples:
+            self.assertEqual(pages.printed(command, ROOT, path), shown, command)
