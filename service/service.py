@@ -25,7 +25,7 @@ from listening import peer_of
 PAUSE, BETWEEN_COMPLAINTS = 0.1, 10.0  # seconds before another try to accept, and before that is told again
 FIRST_PAUSE, LONGEST_PAUSE = 0.1, 10.0  # seconds before a program is started anew
 GRACE = 2.0  # seconds that a program has to take what it was given
-MOST_SENT = 16  # connections that a program may have to take yet: others wait where they have connected
+MOST_SENT = 4  # connections that a program may have to take yet: others wait where they have connected
 RESERVED = 100  # descriptors that connections leave to loads and to health, or half of all where there are few
 LONGEST_ERROR = 1 << 12  # bytes of what a program tells of a load
 NO_SERVICE = 1
@@ -101,6 +101,7 @@ class Service:
         self._counts = Counter(connections=0, connections_total=0, connections_refused_total=0)
         descriptors, _ = resource.getrlimit(resource.RLIMIT_NOFILE)
         self._room = descriptors - min(RESERVED, descriptors // 2)  # for connections
+        self._complained = -BETWEEN_COMPLAINTS
         self._pause = FIRST_PAUSE
         self._draining: asyncio.Task[None] | None = None
 
@@ -110,14 +111,16 @@ class Service:
         loop.set_exception_handler(lambda _, it: log(f"rtfilter-serve: {it['message']}: {it.get('exception')}"))
         if health is not None:
             await Health(self._metrics).serve(health)
-        accepting = [loop.create_task(self._accept(listener)) for listener in self._listeners]
+        for listener in self._listeners:
+            listener.setblocking(False)
+            if listener.family != socket.AF_UNIX:  # who connects has these from it
+                listener.setsockopt(socket.IPPROTO_TCP, socket.TCP_NODELAY, 1)
+                listener.setsockopt(socket.SOL_SOCKET, socket.SO_KEEPALIVE, 1)
         keeping = loop.create_task(self._keep())
         acts = dict(zip(SIGNALS, (self._ask, keeping.cancel, keeping.cancel)))
         threading.Thread(target=heed, args=(loop, acts), daemon=True).start()
         await asyncio.wait([keeping])
         notify("STOPPING=1")
-        for task in accepting:
-            task.cancel()
         self._table = None
         await asyncio.gather(*map(self._end, self._tables))
         for connection in self._waiting:
@@ -133,6 +136,7 @@ class Service:
     def _notice(self) -> None:
         """Has those who wait for something look again."""
         self._hand_over()
+        self._listen()
         self._changed.set()
         self._changed.clear()
 
@@ -185,10 +189,11 @@ class Service:
         with open(os.memfd_create("rtfilter-errors"), "rb") as errors:
             table = Table(prefork.start(self._command, self._library, errors.fileno(), 2))
             self._tables.append(table)
-            loop.add_reader(table.control, self._heed, table)
+            loop.add_reader(table.control, self._hear, table)
             with table.first, contextlib.suppress(ConnectionError):  # it hasn't read what it was asked
-                try:
-                    reply = await asyncio.wait_for(loop.sock_recv(table.first, 100), self._args.load_timeout)
+                try:  # not by wait_for, which may lose that it is cancelled
+                    async with asyncio.timeout(self._args.load_timeout):
+                        reply = await loop.sock_recv(table.first, 100)
                 except TimeoutError:
                     why = f"it wasn't loaded in {self._args.load_timeout:g} seconds"
             if found := re.fullmatch(rb"ok 1 (\d+)\n", reply):
@@ -214,24 +219,24 @@ class Service:
             os.killpg(table.process.pid, signal.SIGKILL)
             await self._until(lambda: table not in self._tables)
 
-    def _heed(self, table: Table) -> None:
-        """Takes a report of a program, or leave of it: as `prefork.c` has it, of connections in their order."""
-        try:
-            report = table.control.recv(prefork.REPORT.size)
-        except ConnectionResetError:  # which comes before what there still is to read
-            return
-        process, status = prefork.REPORT.unpack(report) if report else (None, 0)
-        if process is None:
-            self._take_leave(table)
-        elif process == prefork.TAKEN:
+    def _hear(self, table: Table) -> None:
+        """Takes what a program tells of its connections, in their order, as `prefork.c` has it; or leave of the program."""
+        with contextlib.suppress(BlockingIOError, ConnectionResetError):  # a reset comes before what there is to read
+            while report := table.control.recv(prefork.REPORT.size):
+                self._take_report(table, *prefork.REPORT.unpack(report))
+            return self._take_leave(table)
+        if self._waiting or table is not self._table:  # else nobody waits for this
+            self._notice()
+
+    def _take_report(self, table: Table, process: int, status: int) -> None:
+        if process == prefork.TAKEN:
             table.connections[0] = table.sent.popleft()
         elif status == prefork.BEGUN:
             table.connections[process] = table.connections.pop(0)
         elif process < 0:
-            self._leave(table.connections.pop(0), f"not begun: {os.strerror(status)}")
+            self._close(table.connections.pop(0), f"not begun: {os.strerror(status)}")
         else:
             self._tell_end(table.connections.pop(process, None), status)
-        self._notice()
 
     def _take_leave(self, table: Table) -> None:
         """Of a program that has ended, and of its connections. Those that it hasn't taken wait for another one."""
@@ -249,29 +254,31 @@ class Service:
             log(f"the program has ended, with status {status}: those who connect wait until another is loaded")
             if time.monotonic() - table.loaded > LONGEST_PAUSE:
                 self._pause = FIRST_PAUSE
+        self._notice()
 
-    async def _accept(self, listener: socket.socket) -> None:
-        """Takes who connects, one after another, while there is a table that takes them."""
-        loop, complained = asyncio.get_running_loop(), -BETWEEN_COMPLAINTS
-        listener.setblocking(False)
-        if listener.family != socket.AF_UNIX:  # who connects has these from it
-            listener.setsockopt(socket.IPPROTO_TCP, socket.TCP_NODELAY, 1)
-            listener.setsockopt(socket.SOL_SOCKET, socket.SO_KEEPALIVE, 1)
-        while True:
-            await self._until(lambda: self._table and not self._waiting)
-            pause = 0.0  # for others to be heard
-            try:
-                if self._counts["connections"] >= self._room:
-                    raise OSError(errno.EMFILE, os.strerror(errno.EMFILE))
-                self._begin(*await loop.sock_accept(listener))
-            except ConnectionAbortedError:  # who connected has left
-                pass
-            except OSError as error:
-                pause = PAUSE
-                if time.monotonic() >= complained + BETWEEN_COMPLAINTS:
-                    complained = time.monotonic()
-                    log(f"no connection accepted: {error.strerror}")
-            await asyncio.sleep(pause)
+    def _listen(self) -> None:
+        """Hears who connects where there is a table that takes them at once: else they wait where they have connected."""
+        loop = asyncio.get_running_loop()
+        for listener in self._listeners:
+            if self._table and not self._waiting:
+                loop.add_reader(listener, self._accept, listener)
+            else:
+                loop.remove_reader(listener)
+
+    def _accept(self, listener: socket.socket) -> None:
+        """Takes one who connects. Where there is no room for it that is told now and then, and tried again after a pause."""
+        try:
+            if self._counts["connections"] >= self._room:
+                raise OSError(errno.EMFILE, os.strerror(errno.EMFILE))
+            self._begin(*listener.accept())
+        except (BlockingIOError, ConnectionAbortedError):  # who connected has left
+            pass
+        except OSError as error:
+            asyncio.get_running_loop().remove_reader(listener)
+            asyncio.get_running_loop().call_later(PAUSE, self._listen)
+            if time.monotonic() >= self._complained + BETWEEN_COMPLAINTS:
+                self._complained = time.monotonic()
+                log(f"no connection accepted: {error.strerror}")
 
     def _begin(self, found: socket.socket, address: object) -> None:
         """Has a connection wait for a table, if there may be one more."""
@@ -279,12 +286,13 @@ class Service:
         connection = Connection(self._counts["connections_total"], found, peer_of(found, address), time.monotonic())
         if self._counts["connections"] > self._args.connections:
             self._counts["connections_refused_total"] += 1
-            return self._leave(connection, f"refused, there are {self._args.connections} connections")
-        found.setblocking(True)
+            return self._close(connection, f"refused, there are {self._args.connections} connections")
         for option, most in self._limits:
             found.setsockopt(socket.SOL_SOCKET, option, most)
         self._waiting.append(connection)
         self._hand_over()
+        if self._waiting:
+            self._listen()  # no more
 
     def _hand_over(self) -> None:
         """Gives those who wait to the table, as many as it takes for now: each report is a reason to look again."""
@@ -294,15 +302,15 @@ class Service:
                 self._table.sent.append(self._waiting.popleft())
 
     def _tell_end(self, connection: Connection | None, status: int) -> None:
-        """Of a process, with the status that it was waited for with."""
+        """Of a connection's process, which has ended with such a status."""
         code = os.waitstatus_to_exitcode(status)
         kind, code = ("status", code) if code >= 0 else ("signal", -code)
         if connection:
             self._counts[f'connections_ended_total{{{kind}="{code}"}}'] += 1
-            self._leave(connection, f"{kind}={code} seconds={time.monotonic() - connection.begun:.3f}")
+            self._close(connection, f"{kind}={code} seconds={time.monotonic() - connection.begun:.3f}")
 
-    def _leave(self, connection: Connection | None, how: str) -> None:
-        """Has a place for another connection."""
+    def _close(self, connection: Connection | None, how: str) -> None:
+        """Closes a connection, whose place another one may have then, and tells why."""
         if connection:
             self._counts["connections"] -= 1
             connection.socket.close()
