@@ -8,8 +8,8 @@
  * Who starts the program gives it as standard input one end of a pair of sockets (SOCK_SEQPACKET), and keeps the other:
  * where standard input is something else, the program is as it always is.
  *
- *   A byte with a connected socket (SCM_RIGHTS), to the program: a connection. The first may be there before the program
- *   is, and is served when the table stands; no other is to be sent before something was told.
+ *   A byte with a connected socket (SCM_RIGHTS), to the program: a connection. The first is to be there before the program
+ *   is, and is served when the table stands; no other is to be sent before that one is answered.
  *
  *   `struct report`, from the program: of each connection, in their order, that it is taken, and then that it is begun, or
  *   why it isn't; and the end of each that was begun. Where the starter shuts its end for reading, nothing is told.
