@@ -8,16 +8,17 @@
  * Who starts the program gives it as standard input one end of a pair of sockets (SOCK_SEQPACKET), and keeps the other:
  * where standard input is something else, the program is as it always is.
  *
- *   A byte with a connected socket (SCM_RIGHTS), to the program: a connection. The first is to be there before the program
- *   is, and is served when the table stands; no other is to be sent before that one is answered.
+ *   A byte with a connected socket (SCM_RIGHTS), to the program: a connection. The first is to be there before the
+ *   program is, and is served when the table stands; no other is to be sent before that one is answered.
  *
- *   `struct report`, from the program: of each connection, in their order, that it is taken, and then that it is begun, or
- *   why it isn't; and the end of each that was begun. Where the starter shuts its end for reading, nothing is told.
+ *   `struct report`, from the program: of each connection, in their order, that it is begun, or why it isn't; and the
+ *   end of each that was begun. Nothing is read from one before it is told to be begun, so that it may be given to
+ *   another program where this one ends before. Where the starter shuts its end for reading, nothing is told.
  *
  *   The starter's end closed, by its death too: the kernel ends the program, with its connections.
  *
- * Standard output is the log: it becomes standard error when the program begins, for what is told of a load can be another
- * file. The program leads its group of processes, which are killed with it. prefork.py starts programs so.
+ * Standard output is the log: it becomes standard error when the program begins, for what is told of a load can be
+ * another file. The program leads its group of processes, which are killed with it. prefork.py starts programs so.
  */
 #define _GNU_SOURCE
 #include <errno.h>
@@ -31,6 +32,7 @@
 #include <stdint.h>
 #include <stdio.h>
 #include <string.h>
+#include <sys/eventfd.h>
 #include <sys/prctl.h>
 #include <sys/signalfd.h>
 #include <sys/socket.h>
@@ -45,8 +47,8 @@
 enum { CONTROL = STDIN_FILENO, LOG = STDOUT_FILENO };
 enum { NOT_BEGUN = 71 }; /* the status of a process whose set-up has failed: EX_OSERR */
 
-/* What the starter is told: 0 when the next connection is taken; then the number of its process and BEGUN, or NONE and an
- * error; and at its end the number again, with the status that waitpid gives. */
+/* What the starter is told: of the next connection the number of its process and BEGUN, or NONE and an error; and at
+ * its end the number again, with the status that waitpid gives. */
 struct report {
     int process, status;
 };
@@ -83,16 +85,18 @@ static int confine(void)
     return !prctl(PR_SET_NO_NEW_PRIVS, 1, 0, 0, 0) && !prctl(PR_SET_SECCOMP, SECCOMP_MODE_FILTER, &program);
 }
 
-/* Makes this child the program for one connection. */
-static void become(int connection, pid_t parent)
+/* Makes this child the program for one connection, once that is told. */
+static void become(int connection, int told, pid_t parent)
 {
+    eventfd_t count;
     int score = open("/proc/self/oom_score_adj", O_WRONLY | O_CLOEXEC);
     /* Short of memory, the kernel is to take a connection, and not the table. */
     if (score < 0 || write(score, "1000", 4) < 0)
         dprintf(STDERR_FILENO, "a connection's oom_score_adj: %m\n");
-    if (prctl(PR_SET_PDEATHSIG, SIGKILL) || getppid() != parent || dup2(connection, STDIN_FILENO) < 0 ||
-        dup2(connection, STDOUT_FILENO) < 0 || close_range(STDERR_FILENO + 1, ~0U, 0) ||
-        sigprocmask(SIG_SETMASK, &no_signals, NULL) || (is_confining && !confine()))
+    if (prctl(PR_SET_PDEATHSIG, SIGKILL) || getppid() != parent || eventfd_read(told, &count) ||
+        dup2(connection, STDIN_FILENO) < 0 || dup2(connection, STDOUT_FILENO) < 0 ||
+        close_range(STDERR_FILENO + 1, ~0U, 0) || sigprocmask(SIG_SETMASK, &no_signals, NULL) ||
+        (is_confining && !confine()))
         _exit(NOT_BEGUN);
 }
 
@@ -116,18 +120,22 @@ static int begin(void)
         char room[CMSG_SPACE(sizeof connection)];
     } extra;
     struct iovec text = { &byte, 1 };
-    struct msghdr message = { .msg_iov = &text, .msg_iovlen = 1, .msg_control = &extra, .msg_controllen = sizeof extra };
+    struct msghdr message = {
+        .msg_iov = &text, .msg_iovlen = 1, .msg_control = &extra, .msg_controllen = sizeof extra,
+    };
     if (recvmsg(CONTROL, &message, MSG_CMSG_CLOEXEC) != 1)
         return 0; /* there is none yet, or no starter, as poll tells */
-    tell(0, 0);
     if (message.msg_controllen >= CMSG_LEN(sizeof connection)) /* else there was no room for another descriptor */
         memcpy(&connection, CMSG_DATA(&extra.head), sizeof connection);
-    pid_t parent = getpid(), child = connection == NONE ? NONE : fork();
+    int told = eventfd(0, EFD_CLOEXEC);
+    pid_t parent = getpid(), child = connection == NONE || told < 0 ? NONE : fork();
     if (child == 0) {
-        become(connection, parent);
+        become(connection, told, parent);
         return 1;
     }
     tell(child, child > 0 ? BEGUN : connection == NONE ? EMFILE : errno);
+    if (told >= 0 && (eventfd_write(told, 1) || close(told)))
+        _exit(NOT_BEGUN);
     if (connection != NONE)
         close(connection);
     return 0;

@@ -56,8 +56,8 @@ def main(words: Sequence[str]) -> int:
 
 
 def prepare(nice: int) -> None:
-    """Standard files are open, or what is opened next would be taken for them; a pipe that nobody reads keeps no process
-    from its end; signals wait for who heeds them, whatever was ignored before; there are descriptors for connections."""
+    """Standard files are open, or what is opened next would be taken for them; a log that nobody reads keeps no process
+    from its end; signals wait for who heeds them, whatever was ignored; there are descriptors for connections."""
     while (descriptor := os.open(os.devnull, os.O_RDWR)) <= 2:
         pass
     os.close(descriptor)

@@ -1,4 +1,4 @@
-"""The programs of a service: one that is given who connects, and for a while another, which loads or has its last ones."""
+"""The programs of a service: one that is given who connects, and for a while another, which loads or is left."""
 
 import asyncio
 import contextlib
@@ -24,8 +24,8 @@ from listening import peer_of
 
 PAUSE, BETWEEN_COMPLAINTS = 0.1, 10.0  # seconds before another try to accept, and before that is told again
 FIRST_PAUSE, LONGEST_PAUSE = 0.1, 10.0  # seconds before a program is started anew
-GRACE = 2.0  # seconds that a program has to take what it was given
-MOST_SENT = 4  # connections that a program may have to take yet: others wait where they have connected
+GRACE = 2.0  # seconds that a program has to begin what it was given
+MOST_SENT = 4  # connections that a program may have to begin yet: others wait where they have connected
 RESERVED = 100  # descriptors that connections leave to loads and to health, or half of all where there are few
 LONGEST_ERROR = 1 << 12  # bytes of what a program tells of a load
 NO_SERVICE = 1
@@ -79,8 +79,8 @@ class Table:
     def __init__(self, started: prefork.Started) -> None:
         self.process, self.control, self.first = started
         self.size, self.loaded = 0, 0.0  # boxes, and when
-        self.sent = deque[Connection | None]([None])  # what it has yet to take; the first is nobody's
-        self.connections: dict[int, Connection | None] = {}  # by their processes; at 0 the one that it begins
+        self.sent = deque[Connection | None]([None])  # what it has yet to begin; the first is nobody's
+        self.connections: dict[int, Connection | None] = {}  # by their processes
         self.first.setblocking(False)
 
 
@@ -128,7 +128,9 @@ class Service:
         return 0 if keeping.cancelled() else keeping.result()
 
     def _ask(self) -> None:
-        if len(self._tables) > 1 and not self._is_asked:
+        if self._is_asked:  # as after most signals of a storm, which are to cost little
+            return
+        if len(self._tables) > 1:
             log("the exchange waits until another one is over")
         self._is_asked = True
         self._notice()
@@ -148,8 +150,8 @@ class Service:
                     await self._changed.wait()
 
     async def _keep(self) -> int:
-        """Loads the table, and anew when asked to, or where its program has ended: after a pause that grows, and ends when
-        asked to."""
+        """Loads the table, and anew when asked to, or where its program has ended, after a pause that grows unless that has
+        run for a while. Who asks for another table ends the pause."""
         try:
             self._answer_from(await self._load(), "ready")
         except (NotLoaded, OSError) as error:
@@ -205,7 +207,7 @@ class Service:
         raise NotLoaded(why or told or f"the program has ended, with status {status}", status)
 
     async def _drain(self, old: Table) -> None:
-        """Leaves a table to its connections for a while. A program that doesn't take those that it was given is ended."""
+        """Leaves a table to its connections for a while. A program that doesn't begin what it was given is ended."""
         await self._until(lambda: not old.sent, GRACE)
         if not old.sent:
             await self._until(lambda: not old.connections, self._args.drain)
@@ -220,7 +222,7 @@ class Service:
             await self._until(lambda: table not in self._tables)
 
     def _hear(self, table: Table) -> None:
-        """Takes what a program tells of its connections, in their order, as `prefork.c` has it; or leave of the program."""
+        """Takes what a program tells of its connections, as `prefork.c` has it, or leave of the program."""
         with contextlib.suppress(BlockingIOError, ConnectionResetError):  # a reset comes before what there is to read
             while report := table.control.recv(prefork.REPORT.size):
                 self._take_report(table, *prefork.REPORT.unpack(report))
@@ -229,17 +231,15 @@ class Service:
             self._notice()
 
     def _take_report(self, table: Table, process: int, status: int) -> None:
-        if process == prefork.TAKEN:
-            table.connections[0] = table.sent.popleft()
+        if process < 0:
+            self._close(table.sent.popleft(), f"not begun: {os.strerror(status)}")
         elif status == prefork.BEGUN:
-            table.connections[process] = table.connections.pop(0)
-        elif process < 0:
-            self._close(table.connections.pop(0), f"not begun: {os.strerror(status)}")
+            table.connections[process] = table.sent.popleft()
         else:
             self._tell_end(table.connections.pop(process, None), status)
 
     def _take_leave(self, table: Table) -> None:
-        """Of a program that has ended, and of its connections. Those that it hasn't taken wait for another one."""
+        """Of a program that has ended, and of its connections. Those that it hasn't begun wait for another one."""
         asyncio.get_running_loop().remove_reader(table.control)
         table.control.close()
         os.killpg(table.process.pid, signal.SIGKILL)
@@ -257,7 +257,7 @@ class Service:
         self._notice()
 
     def _listen(self) -> None:
-        """Hears who connects where there is a table that takes them at once: else they wait where they have connected."""
+        """Hears who connects where there is a table that takes them at once: else they wait where they are."""
         loop = asyncio.get_running_loop()
         for listener in self._listeners:
             if self._table and not self._waiting:
@@ -266,7 +266,7 @@ class Service:
                 loop.remove_reader(listener)
 
     def _accept(self, listener: socket.socket) -> None:
-        """Takes one who connects. Where there is no room for it that is told now and then, and tried again after a pause."""
+        """Takes one who connects. Want of room is told now and then, and it is tried again after a pause."""
         try:
             if self._counts["connections"] >= self._room:
                 raise OSError(errno.EMFILE, os.strerror(errno.EMFILE))

@@ -17,7 +17,7 @@ from typing import NamedTuple
 LIBRARY = "rtfilter-prefork.so"
 SIZE = b"count all\n"  # what a program is asked first
 REPORT = struct.Struct("ii")  # the number of a process, and its status
-TAKEN, BEGUN = 0, -1  # in place of the one, and of the other
+BEGUN = -1  # in place of a status
 FIRST_FREE = 3  # descriptor: those below are standard files, even where they are closed here
 
 
