@@ -383,7 +383,8 @@ class SharedPools(Case):
 
     def test_a_program_that_is_stopped(self) -> None:
         """Each call ends in time, however many connections wait for the program, and is answered once it goes on."""
-        with Pool(2, self.table, program=PROGRAM, timeout=0.01) as boxes:
+        with Pool(2, self.table, program=PROGRAM, timeout=20) as boxes:
+            boxes._timeout = 0.01  # now that it is loaded
             holder = self.holder()
             for process in (holder, *children_of(holder)):
                 stop(process)
