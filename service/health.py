@@ -2,48 +2,20 @@
 
 import asyncio
 import contextlib
-import mmap
-import os
+import itertools
 import socket
 from collections.abc import Callable, Mapping
 
 PATIENCE = 5.0  # seconds for one who asks
 MOST_AT_ONCE = 64  # who ask; of more, those who came first are left
-READY = "rtfilter_ready 1"
-ROWS, STATUSES, OF_SIGNALS = 2, 256, 128  # of `struct board` in prefork.c
-
-
-class Board:
-    """Counts of connections, written by programs."""
-
-    def __init__(self) -> None:
-        self.file = os.memfd_create("rtfilter-board")
-        os.ftruncate(self.file, mmap.PAGESIZE)
-        page = memoryview(mmap.mmap(self.file, mmap.PAGESIZE))
-        self.rows, self._numbers = page.cast("I")[:ROWS], page.cast("Q")  # a number is written in one go
-
-    def lines(self) -> list[str]:
-        """For Prometheus."""
-        accepted, refused, *ended = self._numbers[1:3 + STATUSES]
-        labels = [f'{{status="{at}"}}' for at in range(OF_SIGNALS)] + [f'{{signal="{at}"}}' for at in range(OF_SIGNALS)]
-        return [
-            *metric("connections", "gauge", {"": sum(self.rows)}),
-            *metric("connections_total", "counter", {"": accepted}),
-            *metric("connections_refused_total", "counter", {"": refused}),
-            *metric("connections_ended_total", "counter", {label: it for label, it in zip(labels, ended) if it}),
-        ]
-
-
-def metric(name: str, kind: str, values: Mapping[str, float]) -> list[str]:
-    """A metric, with a value for each of its labels."""
-    return [f"# TYPE rtfilter_{name} {kind}", *(f"rtfilter_{name}{label} {value}" for label, value in values.items())]
 
 
 class Health:
     """Answers over HTTP/1.0, whoever asks for a few seconds at most."""
 
-    def __init__(self, lines: Callable[[], list[str]]) -> None:
-        self._lines = lines  # the metrics, of which `READY` is one where a table stands
+    def __init__(self, metrics: Callable[[], Mapping[str, float]]) -> None:
+        """`metrics` gives values by names and labels, those of one name together; `ready` is one."""
+        self._metrics = metrics
         self._asking: list[asyncio.StreamWriter] = []
 
     async def serve(self, listener: socket.socket) -> None:
@@ -63,11 +35,21 @@ class Health:
                 await writer.drain()
 
     def _reply(self, request: list[bytes]) -> bytes:
+        metrics = self._metrics()
         if request[:2] == [b"GET", b"/health"]:
-            status, text = ("200 OK", "ready") if READY in self._lines() else ("503 Service Unavailable", "not ready")
+            status, text = ("200 OK", "ready\n") if metrics["ready"] else ("503 Service Unavailable", "not ready\n")
         elif request[:2] == [b"GET", b"/metrics"]:
-            status, text = "200 OK", "\n".join(self._lines())
+            status, text = "200 OK", shown(metrics)
         else:
-            status, text = "404 Not Found", "GET /health or /metrics"
+            status, text = "404 Not Found", "GET /health or /metrics\n"
         kind = "text/plain; version=0.0.4; charset=utf-8"
-        return f"HTTP/1.0 {status}\r\nContent-Type: {kind}\r\nContent-Length: {len(text) + 1}\r\n\r\n{text}\n".encode()
+        return f"HTTP/1.0 {status}\r\nContent-Type: {kind}\r\nContent-Length: {len(text)}\r\n\r\n{text}".encode()
+
+
+def shown(metrics: Mapping[str, float]) -> str:
+    """In Prometheus' text format."""
+    lines = ""
+    for name, samples in itertools.groupby(metrics, lambda sample: sample.partition("{")[0]):
+        lines += f"# TYPE rtfilter_{name} {'counter' if name.endswith('_total') else 'gauge'}\n"
+        lines += "".join(f"rtfilter_{sample} {metrics[sample]}\n" for sample in samples)
+    return lines

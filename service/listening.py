@@ -5,7 +5,9 @@ import fcntl
 import os
 import socket
 import stat
+import struct
 from collections.abc import Iterator
+from typing import Any
 
 FIRST_GIVEN = 3  # the first descriptor that systemd passes
 BACKLOG = 4096  # as many as Linux lets wait, by default
@@ -69,9 +71,17 @@ def given_listeners() -> list[socket.socket]:
     return [socket.socket(fileno=FIRST_GIVEN + at) for at in range(int(count) * (process == str(os.getpid())))]
 
 
-def name_of(listener: socket.socket) -> str:
-    """Where a socket listens, in words."""
-    where = listener.getsockname()
-    if listener.family == socket.AF_UNIX:
-        return str(where)
-    return f"[{where[0]}]:{where[1]}" if listener.family == socket.AF_INET6 else f"{where[0]}:{where[1]}"
+def name_of(address: Any) -> str:
+    """A socket's address, in words."""
+    if isinstance(address, str):
+        return address
+    host, port, *_ = address
+    return f"[{host}]:{port}" if ":" in host else f"{host}:{port}"
+
+
+def peer_of(connection: socket.socket, address: object) -> str:
+    """Who has connected, in words."""
+    if connection.family != socket.AF_UNIX:
+        return name_of(address)
+    process, user, _ = struct.unpack("iII", connection.getsockopt(socket.SOL_SOCKET, socket.SO_PEERCRED, 12))
+    return f"process {process} of user {user}"

@@ -11,10 +11,12 @@ import os
 import resource
 import signal
 import socket
+import stat
 import sys
 from collections.abc import Callable, Sequence
 from functools import partial
 from pathlib import Path
+from typing import Any
 
 # Where the service is installed, prefork.py stands beside this; in a checkout it is the client's.
 sys.path.append(str(Path(__file__).resolve().parent.parent / "clients/python/rtfilter"))
@@ -43,21 +45,27 @@ def main(words: Sequence[str]) -> int:
             if library is None:
                 raise FileNotFoundError(f"no program {args.program}, or no {prefork.LIBRARY} with it")
             for listener in listeners:
-                log(f"listening on {name_of(listener)}")
+                log(f"listening on {name_of(listener.getsockname())}")
             if health:
-                log(f"health on {name_of(health)}")
-            return asyncio.run(Service(args, command(args), library, listeners).run(health))
+                log(f"health on {name_of(health.getsockname())}")
+            command = [args.program, *args.options, "--", args.table]
+            return asyncio.run(Service(args, command, library, listeners).run(health))
     except OSError as error:
         log(f"rtfilter-serve: {error}")
     return NO_SERVICE
 
 
 def prepare(nice: int) -> None:
-    """Standard files are open, or what is opened next would be taken for them; signals wait for who heeds them, whatever
-    was ignored before; there are descriptors for connections."""
+    """Standard files are open, or what is opened next would be taken for them; a log that nobody reads keeps no process
+    from its end; signals wait for who heeds them, whatever was ignored; there are descriptors for connections."""
     while (descriptor := os.open(os.devnull, os.O_RDWR)) <= 2:
         pass
     os.close(descriptor)
+    with contextlib.suppress(OSError):  # a pipe that is another user's
+        if stat.S_ISFIFO(os.fstat(2).st_mode):
+            anew = os.open("/proc/self/fd/2", os.O_WRONLY | os.O_NONBLOCK)
+            os.dup2(anew, 2)
+            os.close(anew)
     signal.signal(signal.SIGCHLD, signal.SIG_DFL)
     signal.pthread_sigmask(signal.SIG_SETMASK, SIGNALS)
     _, most = resource.getrlimit(resource.RLIMIT_NOFILE)
@@ -70,15 +78,6 @@ def opened(args: argparse.Namespace, stack: contextlib.ExitStack) -> list[socket
     listeners = [stack.enter_context(listener) for listener in given_listeners()]
     listeners += [stack.enter_context(unix_listener(path, args.mode)) for path in args.unix]
     return listeners + [stack.enter_context(tcp_listener(*place)) for place in args.tcp]
-
-
-def command(args: argparse.Namespace) -> list[str]:
-    """The program with its options and its table."""
-    words = [args.program, *["--header"] * args.header]
-    for name in ("fanout", "max_entries"):
-        if (value := getattr(args, name)) is not None:
-            words += [f"--{name.replace('_', '-')}", str(value)]
-    return [*words, "--", args.table]
 
 
 def parser_of_words() -> argparse.ArgumentParser:
@@ -97,9 +96,10 @@ def parser_of_words() -> argparse.ArgumentParser:
     add("--nice", metavar="N", type=int, default=0, help="the niceness of all of it")
     add("--program", default="rtfilter", help="the program, where it isn't on the path")
     add("--version", action="version", version=f"%(prog)s {VERSION}", help="print the version")
-    add("-H", "--header", action="store_true", help="as the program's option")
-    add("--fanout", type=int, help="as the program's option")
-    add("--max-entries", type=int, help="as the program's option")
+    own: dict[str, Any] = {"dest": "options", "default": [], "help": "as the program's option"}
+    add("-H", "--header", action="append_const", const="--header", **own)
+    for name in ("--fanout", "--max-entries"):
+        add(name, metavar="N", action="append", type=f"{name}={{}}".format, **own)
     return parser
 
 

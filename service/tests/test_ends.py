@@ -1,6 +1,7 @@
 """Who ends, and what is left then."""
 
 import os
+import random
 import re
 import signal
 import socket
@@ -59,6 +60,17 @@ class Ends(Case):
                 service.signal(number)
                 self.assertEqual(service.process.wait(10), status)
                 until(lambda: not any(map(is_there, processes)), "the end of all processes")
+
+    def test_an_end_at_any_moment(self) -> None:
+        """Of exchanges: the signal is heeded."""
+        chance = random.Random(1)
+        for _ in range(15):
+            service = self.served()
+            for _ in range(2):
+                service.signal(signal.SIGHUP)
+                time.sleep(chance.uniform(0, 0.012))
+            service.signal(signal.SIGTERM)
+            self.assertEqual(service.process.wait(10), 0)
 
     def test_kill_of_the_service(self) -> None:
         """All end with it, and the path is free for another one."""

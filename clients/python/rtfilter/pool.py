@@ -17,7 +17,7 @@ from .errors import Disconnected, Ended
 from .prefork import library_of
 from .program import GRACE
 from .replies import Reply
-from .shared import LEAST_CONNECTIONS, Holder, Shared, Sharer
+from .shared import Holder, Shared, Sharer
 from .tables import Table, again, file_of, named
 from .transport import CLOSED, Loads
 
@@ -203,10 +203,8 @@ class Pool(Boxes):
 
     def _shared(self, loads: Loads, name: str, is_unchanged: Callable[[], bool], library: Path) -> Copies:
         """Copies that are one table in memory, each asked by a process of its own."""
-        connections = max(LEAST_CONNECTIONS, 4 * self._n)
-
         def start(deadline: Deadline) -> Holder:
-            return loads.ready(Holder([*self._words, "--", name], library, connections), deadline)
+            return loads.ready(Holder([*self._words, "--", name], library), deadline)
 
         shared = Shared(start, is_unchanged, self._deadline())
         clients: list[Rtfilter] = []

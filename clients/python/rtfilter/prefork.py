@@ -7,16 +7,18 @@ import contextlib
 import fcntl
 import os
 import shutil
-import signal
 import socket
+import struct
+import subprocess
 from collections.abc import Sequence
 from pathlib import Path
 from typing import NamedTuple
 
 LIBRARY = "rtfilter-prefork.so"
-FIRST_GIVEN = 3  # the first listening socket's descriptor, as systemd has it
 SIZE = b"count all\n"  # what a program is asked first
-DEFAULTS = signal.valid_signals() - {signal.SIGKILL, signal.SIGSTOP}
+REPORT = struct.Struct("ii")  # the number of a process, and its status
+BEGUN = -1  # in place of a status
+FIRST_FREE = 3  # descriptor: those below are standard files, even where they are closed here
 
 
 def library_of(program: "str | os.PathLike[str]") -> Path | None:
@@ -33,49 +35,37 @@ def library_of(program: "str | os.PathLike[str]") -> Path | None:
 class Started(NamedTuple):
     """A program that loads its table, and then serves. Closing `control` ends it, with its connections."""
 
-    process: int  # to be waited for; it leads a group of processes
-    control: socket.socket  # a byte has it accept no more; when it doesn't, a byte comes back
+    process: subprocess.Popen[bytes]  # which leads a group of processes
+    control: socket.socket  # non-blocking: `give` gives it connections, and it tells reports
     first: socket.socket  # `ok 1 SIZE` comes here once it serves; an end without that, where it never will
 
 
-def start(
-    command: Sequence[str], library: Path, listeners: Sequence[socket.socket], errors: int, log: int, connections: int,
-    *, silence: float = 0, patience: float = 0, board: int | None = None, row: int = 0,
-) -> Started:
-    """Starts a program over listening sockets, and doesn't wait for it. Raises `OSError` where it can't be started.
+def give(control: socket.socket, connection: socket.socket) -> None:
+    """Hands a connection over. Raises `BlockingIOError` where the program has enough to take, and `ConnectionError` where it
+    has ended."""
+    socket.send_fds(control, [b"."], [connection.fileno()])
 
-    `errors` is the descriptor of its standard error until it serves, and `log` that from then on. The others are as the
-    library has them.
+
+def start(command: Sequence[str], library: Path, errors: int, log: int) -> Started:
+    """Starts a program, and doesn't wait for it. Raises `OSError` where it can't be started.
+
+    `errors` is the descriptor of its standard error until it serves, and `log` that from then on.
     """
-    with contextlib.ExitStack() as stack, contextlib.ExitStack() as kept:
-        (control, its_control), (first, its_first) = socket.socketpair(), socket.socketpair()
-        for mine, its in ((control, its_control), (first, its_first)):
-            kept.enter_context(mine)
-            stack.enter_context(its)
+    control, its_control = socket.socketpair(socket.AF_UNIX, socket.SOCK_SEQPACKET)
+    first, its_first = socket.socketpair()
+    with contextlib.ExitStack() as kept, its_control, its_first:
+        kept.enter_context(control)
+        kept.enter_context(first)
         first.sendall(SIZE)
         first.shutdown(socket.SHUT_WR)
-        preloaded = os.open(library, os.O_RDONLY)
-        stack.callback(os.close, preloaded)
-        given = [*(listener.fileno() for listener in listeners), its_control.fileno(), its_first.fileno(), log, preloaded]
-        given += [] if board is None else [board]
-        copies = []  # in nobody's place
-        for descriptor in given:
-            copies.append(fcntl.fcntl(descriptor, fcntl.F_DUPFD_CLOEXEC, FIRST_GIVEN + len(given)))
-            stack.callback(os.close, copies[-1])
-        at = FIRST_GIVEN + len(listeners)
-        numbers = at, at + 1, at + 2, -1 if board is None else at + 4, row, connections, silence, patience
-        environment = {name: value for name, value in os.environ.items() if not name.startswith("LISTEN_")}
-        environment |= {"LISTEN_FDS": str(len(listeners)), "RTFILTER_PREFORK": " ".join(map(str, numbers))}
-        # By its descriptor: a path in this list may have neither spaces nor colons.
-        environment["LD_PRELOAD"] = f"/proc/self/fd/{at + 3} {os.environ.get('LD_PRELOAD', '')}"
-        actions = [
-            (os.POSIX_SPAWN_DUP2, errors, 2),
-            (os.POSIX_SPAWN_OPEN, 0, os.devnull, os.O_RDWR, 0),
-            (os.POSIX_SPAWN_OPEN, 1, os.devnull, os.O_RDWR, 0),
-            *((os.POSIX_SPAWN_DUP2, copy, FIRST_GIVEN + at) for at, copy in enumerate(copies)),
-        ]
-        process = os.posix_spawnp(
-            command[0], [*command], environment, file_actions=actions, setpgroup=0, setsigmask=(), setsigdef=DEFAULTS
-        )
+        control.setblocking(False)
+        give(control, its_first)
+        with open(library) as file, open(fcntl.fcntl(file, fcntl.F_DUPFD_CLOEXEC, FIRST_FREE)) as preloaded:
+            # By its descriptor: a path in this list may have neither spaces nor colons.
+            paths = f"/proc/self/fd/{preloaded.fileno()} {os.environ.get('LD_PRELOAD', '')}"
+            process = subprocess.Popen(
+                command, bufsize=0, stdin=its_control.fileno(), stdout=log, stderr=errors,
+                pass_fds=[preloaded.fileno()], process_group=0, env={**os.environ, "LD_PRELOAD": paths},
+            )  # fmt: skip
         kept.pop_all()
     return Started(process, control, first)

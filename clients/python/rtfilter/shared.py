@@ -1,73 +1,43 @@
 """A table that is in memory once, for clients that each have a process of their own."""
 
+import contextlib
 import os
 import socket
 import tempfile
+import time
+import weakref
 from collections.abc import Callable, Sequence
-from dataclasses import dataclass
 from functools import partial
 from pathlib import Path
 
 from . import prefork
 from .client import Rtfilter
-from .connection import Connection
+from .connection import Connection, hang_up
 from .deadlines import Deadline, Turns
+from .errors import Disconnected
 from .forks import STARTING
 from .program import Child
-from .transport import Loads, Text
+from .transport import CLOSED, Loads, Text, Transport
 
-LEAST_CONNECTIONS = 128  # that may be there at once: one that was given up may live until its question is answered
-
-
-@dataclass
-class Spawned:
-    """A process that was started by its number alone."""
-
-    pid: int
-    returncode: int | None = None
-
-
-class Descriptor:
-    """A descriptor of a file that is never read."""
-
-    def __init__(self, number: int) -> None:
-        self._number = number
-
-    def fileno(self) -> int:
-        return self._number
-
-    def close(self) -> None:
-        number, self._number = self._number, -1
-        if number >= 0:
-            os.close(number)
+PAUSE = 0.05  # seconds before a program that takes no more connections is tried again
 
 
 class Holder(Child):
-    """A program that holds a table, and forks for each connection. The end of `input` ends it, and all of them.
+    """A program that holds a table, and forks for each connection. The end of `input` ends it, and all of them."""
 
-    It listens on a socket that has no name any more when this returns, so that nobody else connects and nothing is left:
-    `address` reaches it from this process.
-    """
-
-    def __init__(self, command: Sequence[str], library: Path, connections: int) -> None:
+    def __init__(self, command: Sequence[str], library: Path) -> None:
         """Starts the process, which loads from then on: `load` waits for it."""
-        with STARTING, socket.socket(socket.AF_UNIX) as listener:
-            errors, self._place = tempfile.TemporaryFile(buffering=0), place_of(listener)
+        with STARTING:
+            errors = tempfile.TemporaryFile(buffering=0)
             try:
-                listener.listen(connections)
                 with open(os.devnull, "wb") as nowhere:
-                    started = prefork.start(
-                        command, library, [listener], errors.fileno(), nowhere.fileno(), connections
-                    )
+                    started = prefork.start(command, library, errors.fileno(), nowhere.fileno())
             except BaseException:
                 errors.close()
-                self._place.close()
                 raise
-            super().__init__(Spawned(started.process), started.control, started.first, errors, [self._place])
-
-    @property
-    def address(self) -> str:
-        return f"/proc/self/fd/{self._place.fileno()}"
+            super().__init__(started.process, started.control, started.first, errors)
+        self._control = started.control
+        self._control.shutdown(socket.SHUT_RD)  # nobody wants its reports, and it is to wait for nobody
 
     def load(self, deadline: Deadline) -> None:
         """The size was asked for by who started it."""
@@ -78,16 +48,31 @@ class Holder(Child):
             self.close(deadline)
             raise
 
+    def connected(self) -> socket.socket:
+        """A socket whose other end the program is given. Raises what `give` does."""
+        mine, its = socket.socketpair()
+        with contextlib.ExitStack() as kept, its:
+            kept.enter_context(mine)
+            prefork.give(self._control, its)
+            kept.pop_all()
+        return mine
+
     def _write(self, text: Text) -> int:
         return 0  # it takes no lines by itself
 
 
-def place_of(listener: socket.socket) -> Descriptor:
-    """Binds a socket to a name that is taken away again, and gives the place that it had."""
-    with tempfile.TemporaryDirectory(prefix="rtfilter-") as folder:
-        path = f"{folder}/socket"
-        listener.bind(path)
-        return Descriptor(os.open(path, os.O_PATH | os.O_CLOEXEC))
+class Branch(Connection):
+    """A connection to such a program."""
+
+    def __init__(self, holder: Holder) -> None:
+        with STARTING:  # a child of a fork would keep the program's end open
+            self._socket = holder.connected()
+            self._reader = self._socket.dup()
+            self._drop = weakref.finalize(self, hang_up, self._socket, self._reader)
+            Transport.__init__(self, self._socket, self._reader)
+
+    def _ended(self) -> Disconnected:
+        return Disconnected("the program that holds the table closed the connection")
 
 
 class Shared:
@@ -108,9 +93,18 @@ class Shared:
         while True:
             holder = self._turns.take(partial(self._living, deadline), deadline)
             try:
-                return Connection(holder.address, deadline, is_wanted)
-            except ConnectionRefusedError:  # it has just ended
+                return Branch(holder)
+            except BlockingIOError:
+                if not is_wanted():
+                    raise ValueError(CLOSED)
+                if deadline.is_over:
+                    raise deadline.error()
+                time.sleep(min(PAUSE, deadline.left()))
+            except ConnectionError:  # it has just ended
                 holder.abandon()
+            except OSError:
+                if not holder.is_closed:  # by another call, which has found it ended
+                    raise
 
     def _living(self, deadline: Deadline) -> Holder:
         if self._holder.has_ended:

@@ -381,6 +381,58 @@ class SharedPools(Case):
             self.assertEqual([it.total for it in boxes.ask(["count all"] * 1000)], [5] * 1000)
         self.assert_nothing_left()
 
+    def test_a_program_that_is_stopped(self) -> None:
+        """Each call ends in time, however many connections wait for the program, and is answered once it goes on."""
+        with Pool(2, self.table, program=PROGRAM, timeout=20) as boxes:
+            boxes._timeout = 0.01  # now that it is loaded
+            holder = self.holder()
+            for process in (holder, *children_of(holder)):
+                stop(process)
+            for _ in range(400):  # more than its socket holds
+                with self.at_once(), self.assertRaises(TimedOut):
+                    boxes.count(All())
+            os.kill(holder, signal.SIGCONT)
+
+            def is_answered() -> bool:
+                with contextlib.suppress(TimedOut):
+                    return boxes.count(All()) == 5
+                return False
+
+            self.wait_for(is_answered)
+            self.assertEqual(self.holder(), holder)
+        self.assert_nothing_left()
+
+    def test_a_child_of_a_fork_keeps_no_connection(self) -> None:
+        """The end of a process is seen here, whatever was forked while connections were made."""
+        children = list[int]()
+        with Pool(2, self.table, program=PROGRAM, timeout=20) as boxes:
+            holder, is_over = self.holder(), threading.Event()
+
+            def fork() -> None:
+                while not is_over.is_set():
+                    child = os.fork()
+                    if child == 0:
+                        signal.pause()
+                    children.append(child)
+                    time.sleep(0.005)
+
+            thread = threading.Thread(target=fork)
+            thread.start()
+            try:
+                for _ in range(20):
+                    for process in children_of(holder):
+                        with contextlib.suppress(ProcessLookupError):  # its connection has ended
+                            os.kill(process, signal.SIGKILL)
+                    with self.at_once():
+                        self.assertEqual([it.total for it in boxes.ask(["count all"] * 300)], [5] * 300)
+            finally:
+                is_over.set()
+                thread.join()
+                for child in children:
+                    os.kill(child, signal.SIGKILL)
+                    os.waitpid(child, 0)
+        self.assert_nothing_left()
+
     def test_the_table_after_a_reload(self) -> None:
         """Each call that begins after it is answered from the new table, on each connection."""
         with Pool(4, self.table, program=PROGRAM, timeout=20) as boxes:

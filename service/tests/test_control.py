@@ -1,0 +1,112 @@
+"""What the service and its program tell each other: neither waits for the other for ever, and no connection is lost."""
+
+import contextlib
+import os
+import signal
+import socket
+import time
+import unittest
+
+from served import BOXES, Case, Served, is_there, read_lines, send, table_of, until
+
+MANY = 300  # more than a program is given at once, and more reports than its socket holds
+
+
+class Control(Case):
+    def opened(self, service: Served, count: int, text: bytes = b"count all\n") -> list[socket.socket]:
+        """Connections that have asked."""
+        askers = [self.enterContext(service.connect()) for _ in range(count)]
+        for asker in askers:
+            asker.sendall(text)
+        return askers
+
+    def assert_answered(self, askers: list[socket.socket], boxes: int = 5) -> None:
+        for asker in askers:
+            self.assertEqual(read_lines(asker, 1), b"ok 1 %d\n" % boxes)
+
+    def test_a_program_that_is_stopped_for_a_while(self) -> None:
+        """Who connects waits."""
+        service = self.served(BOXES, "--connections", str(MANY))
+        send(signal.SIGSTOP, service.programs)
+        askers = self.opened(service, MANY)
+        time.sleep(0.3)
+        self.assertEqual(service.connections, [])
+        send(signal.SIGCONT, service.programs)
+        self.assert_answered(askers)
+        self.assertNotIn("refused", service.log)
+
+    def test_a_program_that_takes_nothing_and_ends(self) -> None:
+        """What it was given, and hasn't taken, is another one's."""
+        service = self.served(BOXES, "--connections", "100")
+        send(signal.SIGSTOP, service.programs)
+        askers = self.opened(service, 100)
+        time.sleep(0.3)
+        send(signal.SIGKILL, service.programs)
+        self.assert_answered(askers)
+        service.logs("^ready again")
+        self.assertNotIn("signal=", service.log)
+
+    def test_a_program_that_takes_nothing_and_is_exchanged(self) -> None:
+        """Its connections are kept no longer than it takes to see that."""
+        table = table_of(self.folder, "table", 0, 5)
+        service = self.served(table, "--connections", "100")
+        send(signal.SIGSTOP, service.programs)
+        askers = self.opened(service, 100)
+        time.sleep(0.3)
+        table_of(self.folder, "table", 0, 7)
+        service.exchange()
+        self.assert_answered(askers, 7)
+        until(lambda: len(service.programs) == 1, "the end of the old program")
+
+    def test_kills_at_any_moment_lose_no_connection_that_waits(self) -> None:
+        """Of the program, while many connect: each is answered wholly, or was begun and has ended."""
+        service = self.served(BOXES, "--connections", "100", "--health", "0")
+        for _ in range(5):
+            askers = self.opened(service, 60)
+            send(signal.SIGKILL, service.programs[:1])
+            for asker in askers:
+                with contextlib.suppress(ConnectionResetError):
+                    reply = read_lines(asker, 1)
+                    self.assertIn(reply, (b"", b"ok 1 5\n"))
+                asker.close()
+        until(lambda: service.get("/health")[0] == 200 and not service.metric("rtfilter_connections"), "the end of all")
+        self.assertEqual(service.metric("rtfilter_connections_total"), 300)
+        self.assertEqual(len(service.logs(r"^connection \d+ \(.*\): (status|signal)=", 300)), 300)
+
+    def test_ends_while_the_service_is_stopped(self) -> None:
+        """More than the program can tell at once: all are told afterwards, and places are free."""
+        service = self.served(BOXES, "--connections", str(MANY))
+        askers = self.opened(service, MANY)
+        self.assert_answered(askers)
+        service.signal(signal.SIGSTOP)
+        for at, asker in enumerate(askers):
+            if at % 3:
+                asker.shutdown(socket.SHUT_WR)
+        send(signal.SIGKILL, service.connections[::3])
+        time.sleep(0.5)
+        service.signal(signal.SIGCONT)
+        for asker in askers:
+            asker.close()
+        self.assertEqual(len(service.logs(r"^connection \d+ \(.*\): (status=0|signal=9) ", MANY)), MANY)
+        self.assert_answered(self.opened(service, MANY))
+        self.assertNotIn("refused", service.log)
+
+    def test_nobody_is_left_without_service_and_program(self) -> None:
+        """Whichever is killed first, and whatever it was doing."""
+        for before, first, second in (
+            ((), 0, 1), ((), 1, 0), ((0,), 1, 0), ((1,), 0, 1), ((0, 1), 0, 1), ((0, 1), 1, 0),
+        ):
+            with self.subTest(stopped=before, first=first):
+                service = self.served()
+                self.assert_answered(self.opened(service, 3))
+                processes = service.processes
+                for at in before:
+                    os.kill(processes[at], signal.SIGSTOP)
+                for at in (first, second):
+                    os.kill(processes[at], signal.SIGKILL)
+                service.process.wait(10)
+                until(lambda: not any(map(is_there, processes)), "the end of all processes")
+
+
+if __name__ == "__main__":
+    unittest.main()
