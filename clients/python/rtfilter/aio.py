@@ -15,14 +15,13 @@ from typing import TYPE_CHECKING, Any, NamedTuple, Self, TypeVar
 
 from . import arrays
 from .answers import Answers
-from .boxes import NO_ANSWERS
 from .client import ANSWERED, LINE_FEED, PROGRAM, Command, checked_timeout, command, query_lines
 from .connection import Address, Connection
 from .deadlines import ENDLESS
-from .errors import QueryError, TimedOut
+from .errors import TimedOut
 from .program import Program
 from .queries import All, Covers, Inside, Layers, Order, Region, Window, count_line, find_line, nearest_line, on_words
-from .replies import Reply, cut, cut_one, may_be_skipped
+from .replies import Reply, all_answers, answers_of, cut, cut_one, may_be_skipped
 from .tables import Table, again, file_of, named
 from .transport import CLOSED, PIECE, Loads, Transport
 
@@ -269,12 +268,7 @@ class Rtfilter:
 
     async def ask(self, lines: Iterable[str]) -> list[Answers]:
         """As `rtfilter.Boxes.ask`."""
-        found = []
-        for reply in await self.replies(lines):
-            if isinstance(reply, QueryError):
-                raise reply
-            found.append(NO_ANSWERS if reply is None else reply)
-        return found
+        return all_answers(await self.replies(lines))
 
     async def find(
         self, region: Region, order: Order | None = None, first: int | None = None, *, on: Layers | None = None
@@ -303,7 +297,7 @@ class Rtfilter:
     ) -> "tuple[Wholes, Wholes]":
         """As `rtfilter.Boxes.query_bulk`."""
         rows = arrays.whole_rows(windows, "windows", arrays.SIDES)
-        counts, answers = await self._bulk(f"find {region._word} %d %d %d %d{on_words(on)}", rows)
+        counts, answers = await self._bulk(f"find {region._form}{on_words(on)}", rows)
         return arrays.places_of(counts), arrays.ids_of(answers)
 
     async def nearest_bulk(self, points: Any, k: int) -> "tuple[Wholes, Wholes, NDArray[Any]]":
@@ -328,7 +322,7 @@ class Rtfilter:
         if "\n" in line:
             raise ValueError(LINE_FEED.format(line))
         _, reply = await self._told(f"{line}\n".encode("utf-8", "surrogateescape"), 1)
-        return cut_one(reply, line)
+        return answers_of(cut_one(reply), line)
 
     async def size(self) -> int:
         """How many boxes there are."""
