@@ -1,6 +1,7 @@
 """A table that one program holds, beside this process or behind a service."""
 
 import os
+from collections import deque
 from collections.abc import Iterable, Iterator, Sequence
 from functools import partial
 from operator import index
@@ -118,8 +119,14 @@ class Rtfilter(Boxes):
         return transport.lines + 1, transport.replies_to(text, lines, deadline)
 
     def _texts(self, texts: Iterable[tuple[str, int]], deadline: Deadline) -> Iterator[bytes]:
-        for text, lines in texts:
-            yield self._text((text, lines), deadline)
+        replies = self._turns.take(partial(self._all_told, texts, deadline), deadline)
+        while replies:
+            yield replies.popleft()
+
+    def _all_told(self, texts: Iterable[tuple[str, int]], deadline: Deadline) -> deque[bytes]:
+        """The replies to each text, of one table: in one turn, and of one connection."""
+        transport = self._open(deadline)
+        return deque(transport.replies_to(text.encode(), lines, deadline) for text, lines in texts)
 
     def _text(self, text: tuple[str, int], deadline: Deadline) -> bytes:
         """The replies to a text of so many lines, of which all are answered."""

@@ -291,7 +291,7 @@ class Geometries(unittest.TestCase):
             file = Path(folder, "file")
             good = json.dumps(SQUARE.__geo_interface__)
             for text, told in ((f"{good}\n{{\n", "text 2: "), (f"{good}\n{good[:-1]}\n", "text 2: "), ("{\n\n}", "neither a"),
-                               (f"\x1e{good}\n\x1e{{}}\n", "text 3: neither a"), ("", "Expecting value")):  # fmt: skip
+                               (f"\x1e{good}\n\x1e{{}}\n", "text 2: neither a"), ("", "Expecting value")):  # fmt: skip
                 file.write_text(text)
                 with self.assertRaisesRegex(ValueError, f"^{told}"):
                     Zones(file, scale=1, program=PROGRAM)

@@ -26,7 +26,7 @@ from rtfilter import (
     Window,
 )
 from rtfilter.queries import count_line, find_line, nearest_line, on_words
-from rtfilter.replies import cut, may_be_skipped
+from rtfilter.replies import all_answers, cut, may_be_skipped
 
 WORDS = {
     All(): "all",
@@ -238,6 +238,11 @@ class Cutting(unittest.TestCase):
         text = b"1 0\n2 5\nok 7 2\nok 8 3\n1 0\nok 9 1\n"
         found = cut(text, ["find all", "count all", "find all"], 7)
         self.assertEqual(found, [Answers(b"1 0\n2 5\n", 2), Answers(b"", 3), Answers(b"1 0\n", 1)])
+
+    def test_a_skipped_line_has_answers_of_its_own(self) -> None:
+        first, second = all_answers([None, None])
+        first.ids.append(7)
+        self.assertEqual((list(second.ids), second.total), ([], 0))
 
     def test_which_lines_may_be_skipped(self) -> None:
         for line in ("", " ", "\t", "\r", " \t\r", "#", " # find all", "\t#\r"):
