@@ -77,12 +77,13 @@ def _array(rows: list[Any]) -> "NDArray[Any]":
 
 def _columns(value: Any, name: str, wanted: Sequence[str], optional: Sequence[str]) -> Iterator[Any]:
     """The columns with these names: capital letters and `_` make no difference."""
-    names = value.columns if is_frame(value) else value.dtype.names
-    known = {str(it).replace("_", "").lower(): it for it in names}
+    names = list(value.columns if is_frame(value) else value.dtype.names)
     for column in (*wanted, *optional):
-        key = known.get(column.replace("_", ""))
-        if key is not None:
-            yield value[key]
+        found = [it for it in names if str(it).replace("_", "").lower() == column.replace("_", "")]
+        if len(found) > 1:
+            raise TypeError(f"{name}: columns {' and '.join(map(str, found))} are both {column}")
+        if found:
+            yield value[found[0]]
         elif column in wanted:
             raise TypeError(f"{name}: no column {column} among {', '.join(map(str, names))}")
 

@@ -13,7 +13,6 @@ from .answers import Answers
 from .boxes import Boxes
 from .connection import Address, Connection
 from .deadlines import ENDLESS, Deadline, Turns
-from .errors import Ended, TimedOut
 from .program import Program
 from .replies import OneReply, Reply, answers_of, cut, may_be_skipped
 from .tables import File, Table, again, file_of, named
@@ -85,12 +84,7 @@ class Rtfilter(Boxes):
         """A program with a table, and until when the call may wait. To make rows is no wait."""
         with named(table, self._header) as name:
             deadline = self._deadline()
-            try:
-                return self._loads.ready(Program([*self._words, "--", name]), deadline), deadline
-            except (Ended, TimedOut) as error:
-                if file_of(table) is not None:
-                    error.add_note(f"the table is {name}")
-                raise
+            return self._loads.ready(Program([*self._words, "--", name]), deadline), deadline
 
     def _connected(self) -> tuple[Transport, Deadline]:
         deadline = self._deadline()

@@ -193,6 +193,13 @@ def find_line(region: Region, order: Order | None, first: int | None, on: Layers
     return line if first is None else f"{line} first {index(first):d}"
 
 
+def find_form(region: type[Window | Inside | Covers], on: Layers | None) -> str:
+    """A query for the boxes that one of many windows accepts, with a place for each of its four numbers."""
+    if not (isinstance(region, type) and issubclass(region, (Window, Inside, Covers))):
+        raise TypeError(f"many windows are asked for as Window, Inside or Covers, and not as {region!r:.50}")
+    return f"find {region._form}{on_words(on)}"
+
+
 def count_line(region: Region, on: Layers | None = None) -> str:
     """A query for the number of boxes."""
     return f"count {region}{on_words(on)}"

@@ -20,7 +20,7 @@ from typing import Any
 
 from support import BOXES, PROGRAM, anything, children_of, open_files, parent_of, some_lines, written
 
-from rtfilter import All, Ended, QueryError, Rtfilter, TimedOut
+from rtfilter import All, Ended, Pool, QueryError, Rtfilter, TimedOut
 
 SMALL_PIPES = mock.patch("subprocess.Popen", partial(subprocess.Popen, pipesize=4096))
 
@@ -86,9 +86,11 @@ class Ends(unittest.TestCase):
             with self.assertRaises(TypeError) as raised:
                 Rtfilter(rows(bad), program=PROGRAM)
             self.assertEqual(str(raised.exception), f"rows[2345]: {text}")
-        with self.assertRaises(Ended) as ended:
-            Rtfilter("/no/such/table", program=PROGRAM)
-        self.assertEqual(ended.exception.__notes__, ["the table is /no/such/table"])
+        for opened in anything(Rtfilter, lambda *its, **more: Pool(2, *its, **more)):
+            for program in anything(PROGRAM, [PROGRAM]):
+                with self.assertRaises(Ended) as ended:
+                    opened("/no/such/table", program=program)
+                self.assertEqual(ended.exception.__notes__, ["the table is /no/such/table"])
         for address, name in anything(("/no/such/socket", "/no/such/socket"), (("127.0.0.1", 1), "127.0.0.1:1")):
             with self.assertRaises(OSError) as nowhere:
                 Rtfilter(address=address)

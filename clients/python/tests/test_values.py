@@ -25,7 +25,8 @@ from rtfilter import (
     TimedOut,
     Window,
 )
-from rtfilter.queries import count_line, find_line, nearest_line, on_words
+from rtfilter.arrays import POINT, _columns
+from rtfilter.queries import count_line, find_form, find_line, nearest_line, on_words
 from rtfilter.replies import all_answers, cut, may_be_skipped
 
 WORDS = {
@@ -152,6 +153,27 @@ class LayersInWords(unittest.TestCase):
         for on in ([], (), set(), range(0), iter([])):
             with self.assertRaisesRegex(ValueError, "^no layer is named"):
                 on_words(on)
+
+
+class Forms(unittest.TestCase):
+    """Of many windows at once, and of frames, as far as they need no numpy."""
+
+    def test_of_windows(self) -> None:
+        self.assertEqual(find_form(Inside, None) % (1, 2, 3, 4), find_line(Inside(1, 2, 3, 4), None, None))
+        self.assertEqual(find_form(Covers, [3, 7]), "find covers %d %d %d %d on 3,7")
+        for region in anything(Circle, Window(0, 1, 0, 1), "window", None):
+            with self.assertRaisesRegex(TypeError, "^many windows are asked for as Window, Inside or Covers, and not as "):
+                find_form(region, None)
+
+    def test_of_columns(self) -> None:
+        class Frame(dict[str, int]):
+            columns = property(dict.keys)
+            itertuples = None
+
+        self.assertEqual(list(_columns(Frame(Y=2, other=5, x=1), "points", POINT, ())), [1, 2])
+        for frame, text in ((Frame(x=1, X=2, y=3), "columns x and X are both x"), (Frame(x=1), "no column y among x")):
+            with self.assertRaisesRegex(TypeError, f"^points: {text}$"):
+                list(_columns(frame, "points", POINT, ()))
 
 
 class AnswersAsValues(unittest.TestCase):
