@@ -33,11 +33,11 @@ class Rtfilter(Boxes):
     """A table of boxes that the program `rtfilter` holds, as a process beside this one or behind a service.
 
     `table` is the name of a CSV file, or rows, whose numbers are id, min_x, max_x, min_y, max_y and, for a box that isn't of
-    layer 0, its layer, 0 to 63. `program` is the program's name or path, or the words of a command that runs it; by default
-    the one in this package, if it has one, else `rtfilter` on the path. With `header`, the first record of a file is one. `fanout` (2 to 64) and `max_entries`
-    (1 to 16777216) are the program's options. `timeout` is how many seconds each call may wait, for the program, for the
-    calls of other threads and for a connection, all together, the load here too; None sets no limit, and neither does
-    infinity.
+    layer 0, its layer, 0 to 63. With `header`, the first record of a file is one. `fanout` (2 to 64) and `max_entries` (1 to
+    16777216) are the program's options. `program` is the program's name or path, or the words of a command that runs it; by
+    default the one in this package, if it has one, else `rtfilter` on the path. `timeout` is how many seconds each call may
+    wait, for the program, for the calls of other threads and for a connection, all together, the load here too; None sets
+    no limit, and neither does infinity.
 
     In place of these, `address` is where a service listens that holds a table: the path of a Unix socket, or a host and
     a port. A connection keeps its table; one that was lost is made anew by the next question, and by `reload`.
