@@ -50,7 +50,8 @@ class Tables(unittest.TestCase):
         mixed = numpy.array([tuple(row) for row in ROWS], dtype=[*zip(NAMES, ["u8", "i4", "i4", "i2", "i8", "u1"])])
         turned = fields[["max_y", "layer", "id", "min_y", "max_x", "min_x"]]
         for table in (array, array.astype("i4"), array.astype("u8"), array.astype(object), fields, mixed, turned,
-                      numpy.asfortranarray(array), array[::-1]):  # fmt: skip
+                      numpy.asfortranarray(array), array[::-1], numpy.repeat(array, 3, axis=0)[1::3], array.astype(">i4"),
+                      numpy.broadcast_to(array, array.shape)):  # fmt: skip
             self.assertEqual(told(table), wanted)
         self.assertEqual(told(array[:, :5]), [(id, 0) for id, *_ in ROWS])
 
@@ -59,7 +60,8 @@ class Tables(unittest.TestCase):
         named = frame.rename(columns={"min_x": "minX", "max_x": "MAXX", "id": "ID"})
         wanted = told(ROWS)
         for table in (frame, frame[[*reversed(NAMES)]], named, frame.assign(name="x"), frame.astype("Int64"),
-                      frame.set_index("layer", drop=False), frame.astype({"id": "uint64"})):  # fmt: skip
+                      frame.set_index("layer", drop=False), frame.astype({"id": "uint64"}),
+                      frame.set_index(["id", "layer"], drop=False)):  # fmt: skip
             self.assertEqual(told(table), wanted)
         self.assertEqual(told(frame.drop(columns="layer")), [(id, 0) for id, *_ in ROWS])
 
@@ -93,6 +95,8 @@ class Tables(unittest.TestCase):
             (holed, "numbers are whole, and not float64"),
             (missing, "NAType"),
             (frame.drop(columns=["max_y", "id"]), "no column id among min_x, max_x, min_y, layer"),
+            (frame.set_axis(pandas.MultiIndex.from_product([["box"], NAMES]), axis=1), "no column id among"),
+            (frame.assign(MaxX=0), "columns max_x and MaxX are both max_x"),
             (numpy.array([(1, 2)], dtype=[("id", int), ("x", int)]), "no column min_x among id, x"),
         ):
             for opened in anything(Rtfilter, lambda it, **more: Pool(2, it, **more)):
@@ -137,7 +141,8 @@ class Bulk(unittest.TestCase):
         for _, boxes in self.each():
             wanted = [it.tolist() for it in boxes.query_bulk(windows)]
             for asked in (windows.tolist(), map(tuple, windows), frame, frame[[*reversed(NAMES[1:5])]], windows.astype("i2"),
-                          windows.astype(object), numpy.asfortranarray(windows), windows.astype("i8")[:, ::1]):  # fmt: skip
+                          windows.astype(object), numpy.asfortranarray(windows), windows.astype("i8")[:, ::1],
+                          windows.astype(">i8"), numpy.repeat(windows, 2, axis=1)[:, ::2]):  # fmt: skip
                 self.assertEqual([it.tolist() for it in boxes.query_bulk(asked)], wanted)
             for asked in ([], numpy.empty((0, 4), int), frame[:0], iter([])):
                 self.assertEqual([it.tolist() for it in boxes.query_bulk(asked)], [[], []])
