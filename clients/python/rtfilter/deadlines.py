@@ -46,7 +46,8 @@ ENDLESS = Deadline(None)
 
 
 class Turns:
-    """One call at a time. Who waits for its turn waits until its deadline.
+    """One call at a time. Who waits for its turn waits until its deadline. `taker` is the thread whose turn it is, set and
+    unset by it with `lock` held.
 
     No exception of a signal's handler leaves a turn taken, at whatever moment it comes.
     """

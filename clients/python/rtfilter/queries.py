@@ -53,7 +53,7 @@ class _Sides:
         return self._form % (self.x1, self.x2, self.y1, self.y2)
 
 
-_keep_x1, _keep_x2, _keep_y1, _keep_y2 = (vars(_Sides)[name].__set__ for name in _Sides.__slots__)
+_keep_x1, _keep_x2, _keep_y1, _keep_y2 = (vars(_Sides)[name].__set__ for name in ("x1", "x2", "y1", "y2"))
 
 
 class Window(_Sides):

@@ -149,15 +149,12 @@ class Transport(Owned, abc.ABC):
 
     def reply_to(self, line: bytes, deadline: Deadline = ENDLESS) -> OneReply:
         """The reply to one line, which is answered: its answers, what its last line tells behind the line's number, and
-        whether that is a fault. Raises what `replies_to` does.
-
-        The line is mostly sent at once, and one read has its reply; then this takes a third of the time beside the
-        program's.
-        """
+        whether that is a fault. Raises what `replies_to` does."""
         if not self._is_usable:
             self._check_open()
         try:
             self.lines += 1
+            # The line is mostly sent at once, and one read has its reply.
             sent = self._write(line)
             reply = self._read(deadline) if sent == len(line) else b""
             if reply.endswith(b"\n"):

@@ -263,12 +263,16 @@ class Forks(Case):
             self.assertEqual(told, {5})
 
     def test_a_child_that_drops_it(self) -> None:
-        for boxes in [Rtfilter(BOXES, program=PROGRAM), Pool(2, BOXES, program=PROGRAM)]:
-            kept = {"boxes": boxes}
-            del boxes
-            in_child(lambda: kept.clear() or gc.collect())
-            with kept["boxes"]:
-                self.assertEqual(kept["boxes"].count(All()), 5)
+        for opened in anything(Rtfilter, lambda *its, **more: Pool(2, *its, **more)):
+            kept = [opened(BOXES, program=PROGRAM)]
+
+            def drop() -> None:
+                kept.clear()
+                gc.collect()
+
+            in_child(drop)
+            self.assertEqual(kept[0].count(All()), 5)
+            kept[0].close()
 
     def test_a_child_that_ends_as_python_ends(self) -> None:
         """What Python does at its end there is nothing for the parent's program."""
