@@ -677,12 +677,12 @@ class Closes(Case):
     def test_each_wait_of_a_call(self) -> None:
         for timeout in (None, 60):
             for ask in anything(
-                lambda: boxes.find(All()), lambda: boxes.levels(), lambda: boxes.reload(BOXES),
-                lambda: boxes.ask(["count all".ljust(1000)] * 1000),
+                lambda it: it.find(All()), lambda it: it.levels(), lambda it: it.reload(BOXES),
+                lambda it: it.ask(["count all".ljust(1000)] * 1000),
             ):  # fmt: skip
                 boxes = Rtfilter(BOXES, program=PROGRAM, timeout=timeout)
                 stop(boxes._transport._process.pid)  # type: ignore[attr-defined]
-                with self.under_way(lambda: boxes.count(All())) as first, self.under_way(ask) as second:
+                with self.under_way(lambda: boxes.count(All())) as first, self.under_way(lambda: ask(boxes)) as second:
                     closing = [threading.Thread(target=boxes.close) for _ in range(3)]
                     with self.at_once():
                         for thread in closing:
