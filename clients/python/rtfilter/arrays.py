@@ -51,7 +51,9 @@ def whole_rows(value: Any, name: str, wanted: Sequence[str], optional: Sequence[
     import numpy
 
     if is_frame(value) or (is_array(value) and value.dtype.names):
-        columns = [whole(numpy.asarray(column), name) for column in _columns(value, name, wanted, optional)]
+        columns = [whole(numpy.asanyarray(column), name) for column in _columns(value, name, wanted, optional)]
+        if any(it.ndim != 1 for it in columns):
+            raise TypeError(f"{name}: a column has one number for each row, and not some")
         # Of numbers with a sign and without, numpy would make floats.
         kind = numpy.result_type(*columns)
         return numpy.stack([it.astype(kind if kind.kind in "iu" else object) for it in columns], axis=1)
@@ -92,6 +94,8 @@ def whole(array: "NDArray[Any]", name: str) -> "NDArray[Any]":
     """An array whose numbers are whole. Floats are refused, 1.0 too, and never rounded."""
     import numpy
 
+    if numpy.ma.is_masked(array):
+        raise TypeError(f"{name}: a number is masked")
     if array.dtype.kind == "O":
         try:
             return numpy.array([index(it) for it in array.flat], dtype=object).reshape(array.shape)

@@ -97,6 +97,9 @@ class Tables(unittest.TestCase):
             (frame.drop(columns=["max_y", "id"]), "no column id among min_x, max_x, min_y, layer"),
             (frame.set_axis(pandas.MultiIndex.from_product([["box"], NAMES]), axis=1), "no column id among"),
             (frame.assign(MaxX=0), "columns max_x and MaxX are both max_x"),
+            (numpy.zeros(3, [("id", int, 2), *((it, int) for it in NAMES[1:5])]), "a column has one number for each row"),
+            (numpy.ma.masked_equal(numpy.array(ROWS), 10), "a number is masked"),
+            (numpy.ma.array(numpy.array(ROWS, [(name, int) for name in NAMES]), mask=[0, 1, 0]), "a number is masked"),
             (numpy.array([(1, 2)], dtype=[("id", int), ("x", int)]), "no column min_x among id, x"),
         ):
             for opened in anything(Rtfilter, lambda it, **more: Pool(2, it, **more)):
