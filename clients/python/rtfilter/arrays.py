@@ -94,7 +94,7 @@ def whole(array: "NDArray[Any]", name: str) -> "NDArray[Any]":
     """An array whose numbers are whole. Floats are refused, 1.0 too, and never rounded."""
     import numpy
 
-    if numpy.ma.is_masked(array):
+    if isinstance(array, numpy.ma.MaskedArray) and array.mask.any():
         raise TypeError(f"{name}: a number is masked")
     if array.dtype.kind == "O":
         try:

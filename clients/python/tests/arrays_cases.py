@@ -21,6 +21,7 @@ from rtfilter.zones import Zones
 
 ROWS = [(7, 0, 10, 0, 10, 3), (8, 5, 15, 5, 15, 0), (9, 20, 30, 0, 10, 63)]
 NAMES = "id", "min_x", "max_x", "min_y", "max_y", "layer"
+masked: Any = numpy.ma  # whose functions have no types
 SQUARE = Polygon([(0, 0), (10, 0), (10, 10), (0, 10)], [[(2, 2), (2, 8), (8, 8), (8, 2)]])
 FAR = box(20, 20, 30, 30)
 
@@ -98,8 +99,8 @@ class Tables(unittest.TestCase):
             (frame.set_axis(pandas.MultiIndex.from_product([["box"], NAMES]), axis=1), "no column id among"),
             (frame.assign(MaxX=0), "columns max_x and MaxX are both max_x"),
             (numpy.zeros(3, [("id", int, 2), *((it, int) for it in NAMES[1:5])]), "a column has one number for each row"),
-            (numpy.ma.masked_equal(numpy.array(ROWS), 10), "a number is masked"),
-            (numpy.ma.array(numpy.array(ROWS, [(name, int) for name in NAMES]), mask=[0, 1, 0]), "a number is masked"),
+            (masked.masked_equal(numpy.array(ROWS), 10), "a number is masked"),
+            (masked.array(numpy.array(ROWS, [(name, int) for name in NAMES]), mask=[0, 1, 0]), "a number is masked"),
             (numpy.array([(1, 2)], dtype=[("id", int), ("x", int)]), "no column min_x among id, x"),
         ):
             for opened in anything(Rtfilter, lambda it, **more: Pool(2, it, **more)):
