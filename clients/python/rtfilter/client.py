@@ -142,7 +142,7 @@ class Rtfilter(Boxes):
                 turns.refuse()
             turns.taker = get_ident()
             try:
-                reply = self._reply_to(text, ENDLESS)
+                reply = self._open(ENDLESS).reply_to(text, ENDLESS)
             finally:
                 turns.taker = None
         return answers_of(reply, line)
