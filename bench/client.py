@@ -5,9 +5,12 @@ usage: bench/client.py PROGRAM [--boxes N] [--beside FOLDER]
 
 Prints the tables of docs/python-client.md. Time is that of the wall, the least of some runs in which the cases take turns,
 so that a noisy moment meets all of them; ids are made into numbers unless it says bytes. Each case is told in time and as
-how many times that of its column's first row. FOLDER is a checkout with another client, of another time say, which takes
-turns too: `git archive 82b8986 clients/python | tar -x -C FOLDER`. Who has no rtree is told so. Answers are compared; it is
-no part of the gate.
+how many times that of its column's first row. Who has no rtree is told so. Answers are compared; it is no part of the gate.
+
+FOLDER is a checkout with another client, of another time say: `git archive 82b8986 clients/python | tar -x -C FOLDER`. It
+takes turns too, before this one in every other run, and a table tells how many times its time each case of this one took:
+the median of many runs, and in brackets the quartiles, between which half of them lie. Over one processor (`taskset -c 0`)
+these differ least from run to run, since it makes a difference otherwise on which ones the two processes happen to be.
 """
 
 import argparse
@@ -15,6 +18,7 @@ import importlib
 import os
 import random
 import sqlite3
+import statistics
 import subprocess
 import sys
 import tempfile
@@ -35,12 +39,15 @@ except ImportError:
     rtree = None
 
 LOADS, RUNS = 5, 25  # of each case
+PAIRS, LONG_PAIRS = 60, 15  # of runs of two clients, and of those that take longer
+LONG = 0.02  # seconds
 QUERIES = 500
 BATCH = 1_000
 LINES = 50_000  # for the program on a file
 SIDE, LARGEST = 1_000_000, 1_000
 HITS, NEAREST = 20, 10
 LOAD, NO_LINE = "to load", "program, no line"
+OURS, BESIDE = "client", "client beside"
 ONE_BY_ONE = "one by one; the load of a file"
 AT_ONCE = f"{QUERIES} in one call"
 IN_SQL = "SELECT id FROM box WHERE max_x >= ? AND min_x <= ? AND max_y >= ? AND min_y <= ?"
@@ -172,6 +179,12 @@ def in_lines(clients, program, table, path, lines):
         yield f"{it.name}, calls of {BATCH:,}, `Answers`", lambda it=it: of_answers(it.client, lines)
 
 
+def seconds_of(run):
+    begun = time.perf_counter()
+    run()
+    return time.perf_counter() - begun
+
+
 def measured(groups):
     """The least seconds of each case of each group."""
     least = {}
@@ -180,11 +193,26 @@ def measured(groups):
             if group == LOAD and turn >= LOADS:
                 continue
             for name, run in cases:
-                begun = time.perf_counter()
-                run()
-                took = time.perf_counter() - begun
+                took = seconds_of(run)
                 least[group, name] = min(took, least.get((group, name), took))
     return least
+
+
+def tell_pairs(groups):
+    """How many times the time of another client each case took, both run one after the other."""
+    print("\n| times the client beside | median (quartiles) |\n|---|---|")
+    for group, cases in groups.items():
+        runs = dict(cases)
+        for name, run in cases:
+            beside = runs.get(name.replace(OURS, BESIDE, 1))
+            if beside and name.startswith(f"{OURS},"):
+                ratios = []
+                for turn in range(PAIRS if seconds_of(run) < LONG else LONG_PAIRS):
+                    first, second = (run, beside) if turn % 2 else (beside, run)
+                    ratio = seconds_of(first) / seconds_of(second)
+                    ratios.append(ratio if turn % 2 else 1 / ratio)
+                low, median, high = statistics.quantiles(ratios, n=4)
+                print(f"| {group}: {name} | {median:.3f} ({low:.3f} to {high:.3f}) |")
 
 
 def tell(corner, groups, least, counts):
@@ -233,9 +261,9 @@ def main():
     with tempfile.TemporaryDirectory() as room:
         table = Path(room, "boxes.csv")
         table.write_text("".join("%d,%d,%d,%d,%d\n" % row for row in rows))
-        clients = [Clients("client", rtfilter, program, table, rows)]
+        clients = [Clients(OURS, rtfilter, program, table, rows)]
         if args.beside:
-            clients.append(Clients("client beside", package_in(args.beside), program, table, rows))
+            clients.append(Clients(BESIDE, package_in(args.beside), program, table, rows))
         base, theirs = in_sqlite(rows), in_rtree(rows) if rtree else None
         peers = in_peers(rows, base, theirs, windows, points)
         calls = {
@@ -254,6 +282,8 @@ def main():
         least = measured(calls | batched)
         tell("", calls, least, dict(zip(calls, [1, QUERIES, QUERIES])))
         tell("a line", batched, least, dict.fromkeys(batched, LINES))
+        if args.beside:
+            tell_pairs(calls | batched)
         for it in clients:
             it.close()
     if not rtree:

@@ -15,14 +15,14 @@ from typing import TYPE_CHECKING, Any, NamedTuple, Self, TypeVar
 
 from . import arrays
 from .answers import Answers
-from .boxes import NO_ANSWERS
 from .client import ANSWERED, LINE_FEED, PROGRAM, Command, checked_timeout, command, query_lines
 from .connection import Address, Connection
 from .deadlines import ENDLESS
-from .errors import QueryError, TimedOut
+from .errors import TimedOut
 from .program import Program
-from .queries import All, Covers, Inside, Layers, Order, Region, Window, count_line, find_line, nearest_line, on_words
-from .replies import Reply, cut, cut_one, may_be_skipped
+from .queries import All, Covers, Inside, Layers, Order, Region, Window
+from .queries import count_line, find_form, find_line, nearest_line
+from .replies import Reply, all_answers, answers_of, cut, cut_one, may_be_skipped
 from .tables import Table, again, file_of, named
 from .transport import CLOSED, PIECE, Loads, Transport
 
@@ -32,6 +32,7 @@ if TYPE_CHECKING:
     from .arrays import Wholes
 
 LONGEST_LAST_LINE = 100  # bytes
+NOT_OPEN = "the table is open inside `async with`, and not before"
 
 Given = TypeVar("Given")
 
@@ -250,7 +251,7 @@ class Rtfilter:
 
     async def _asked(self, text: bytes, lines: int) -> tuple[int, bytes]:
         if self._is_closed or self._pipeline is None:
-            raise ValueError(CLOSED)
+            raise ValueError(CLOSED if self._is_closed else NOT_OPEN)
         if self._address is not None and self._pipeline.has_ended:
             async with self._connecting:
                 if self._pipeline.has_ended and not self._is_closed:
@@ -269,12 +270,7 @@ class Rtfilter:
 
     async def ask(self, lines: Iterable[str]) -> list[Answers]:
         """As `rtfilter.Boxes.ask`."""
-        found = []
-        for reply in await self.replies(lines):
-            if isinstance(reply, QueryError):
-                raise reply
-            found.append(NO_ANSWERS if reply is None else reply)
-        return found
+        return all_answers(await self.replies(lines))
 
     async def find(
         self, region: Region, order: Order | None = None, first: int | None = None, *, on: Layers | None = None
@@ -303,7 +299,7 @@ class Rtfilter:
     ) -> "tuple[Wholes, Wholes]":
         """As `rtfilter.Boxes.query_bulk`."""
         rows = arrays.whole_rows(windows, "windows", arrays.SIDES)
-        counts, answers = await self._bulk(f"find {region._word} %d %d %d %d{on_words(on)}", rows)
+        counts, answers = await self._bulk(find_form(region, on), rows)
         return arrays.places_of(counts), arrays.ids_of(answers)
 
     async def nearest_bulk(self, points: Any, k: int) -> "tuple[Wholes, Wholes, NDArray[Any]]":
@@ -328,7 +324,7 @@ class Rtfilter:
         if "\n" in line:
             raise ValueError(LINE_FEED.format(line))
         _, reply = await self._told(f"{line}\n".encode("utf-8", "surrogateescape"), 1)
-        return cut_one(reply, line)
+        return answers_of(cut_one(reply), line)
 
     async def size(self) -> int:
         """How many boxes there are."""
@@ -337,7 +333,7 @@ class Rtfilter:
     async def reload(self, table: Table | None = None) -> None:
         """As `rtfilter.Boxes.reload`; by address, as `rtfilter.Rtfilter.reload`."""
         if self._is_closed or self._pipeline is None:
-            raise ValueError(CLOSED)
+            raise ValueError(CLOSED if self._is_closed else NOT_OPEN)
         if self._address is not None and table is not None:
             raise ValueError("the table behind an address is the service's")
         if self._address is None:

@@ -51,7 +51,9 @@ def whole_rows(value: Any, name: str, wanted: Sequence[str], optional: Sequence[
     import numpy
 
     if is_frame(value) or (is_array(value) and value.dtype.names):
-        columns = [whole(numpy.asarray(column), name) for column in _columns(value, name, wanted, optional)]
+        columns = [whole(numpy.asanyarray(column), name) for column in _columns(value, name, wanted, optional)]
+        if any(it.ndim != 1 for it in columns):
+            raise TypeError(f"{name}: a column has one number for each row, and not some")
         # Of numbers with a sign and without, numpy would make floats.
         kind = numpy.result_type(*columns)
         return numpy.stack([it.astype(kind if kind.kind in "iu" else object) for it in columns], axis=1)
@@ -77,12 +79,13 @@ def _array(rows: list[Any]) -> "NDArray[Any]":
 
 def _columns(value: Any, name: str, wanted: Sequence[str], optional: Sequence[str]) -> Iterator[Any]:
     """The columns with these names: capital letters and `_` make no difference."""
-    names = value.columns if is_frame(value) else value.dtype.names
-    known = {str(it).replace("_", "").lower(): it for it in names}
+    names = list(value.columns if is_frame(value) else value.dtype.names)
     for column in (*wanted, *optional):
-        key = known.get(column.replace("_", ""))
-        if key is not None:
-            yield value[key]
+        found = [it for it in names if str(it).replace("_", "").lower() == column.replace("_", "")]
+        if len(found) > 1:
+            raise TypeError(f"{name}: columns {' and '.join(map(str, found))} are both {column}")
+        if found:
+            yield value[found[0]]
         elif column in wanted:
             raise TypeError(f"{name}: no column {column} among {', '.join(map(str, names))}")
 
@@ -91,6 +94,8 @@ def whole(array: "NDArray[Any]", name: str) -> "NDArray[Any]":
     """An array whose numbers are whole. Floats are refused, 1.0 too, and never rounded."""
     import numpy
 
+    if isinstance(array, numpy.ma.MaskedArray) and array.mask.any():
+        raise TypeError(f"{name}: a number is masked")
     if array.dtype.kind == "O":
         try:
             return numpy.array([index(it) for it in array.flat], dtype=object).reshape(array.shape)

@@ -10,18 +10,15 @@ from . import arrays
 from .answers import Answers
 from .closing import Closing
 from .deadlines import Deadline
-from .errors import QueryError
 from .forks import Owned
-from .queries import Covers, Inside, Layers, Order, Region, Window, count_line, find_line, nearest_line, on_words
-from .replies import Reply
+from .queries import Covers, Inside, Layers, Order, Region, Window, count_line, find_form, find_line, nearest_line
+from .replies import Reply, all_answers
 from .tables import Table
 
 if TYPE_CHECKING:
     from numpy.typing import NDArray
 
     from .arrays import Wholes
-
-NO_ANSWERS = Answers(b"", 0)
 
 
 class Boxes(Owned, Closing):
@@ -55,12 +52,7 @@ class Boxes(Owned, Closing):
 
     def ask(self, lines: Iterable[str]) -> list[Answers]:
         """The answers to each query line, none for a line that is skipped. All are asked, then the first fault is raised."""
-        found = []
-        for reply in self.replies(lines):
-            if isinstance(reply, QueryError):
-                raise reply
-            found.append(NO_ANSWERS if reply is None else reply)
-        return found
+        return all_answers(self.replies(lines))
 
     def find(
         self, region: Region, order: Order | None = None, first: int | None = None, *, on: Layers | None = None
@@ -85,11 +77,11 @@ class Boxes(Owned, Closing):
         the columns min_x, max_x, min_y and max_y, or anything that has such rows. Pairs come by place and then id. `region`
         says what a window accepts, as in `find`, and so does `on`.
 
-        Raises `TypeError` for numbers that aren't whole and for another shape, `QueryError`, with a note of the place, for
+        Raises `TypeError` for numbers that aren't whole, another shape and another region, `QueryError`, with a note of the place, for
         the first window that is none, and `ImportError` without numpy.
         """
         rows = arrays.whole_rows(windows, "windows", arrays.SIDES)
-        counts, answers = self._bulk(f"find {region._word} %d %d %d %d{on_words(on)}", rows)
+        counts, answers = self._bulk(find_form(region, on), rows)
         return arrays.places_of(counts), arrays.ids_of(answers)
 
     def nearest_bulk(self, points: Any, k: int) -> "tuple[Wholes, Wholes, NDArray[Any]]":

@@ -1,9 +1,11 @@
 """A table that one program holds, beside this process or behind a service."""
 
 import os
+from collections import deque
 from collections.abc import Iterable, Iterator, Sequence
 from functools import partial
 from operator import index
+from threading import get_ident
 from typing import Union
 
 from . import bundled
@@ -11,9 +13,8 @@ from .answers import Answers
 from .boxes import Boxes
 from .connection import Address, Connection
 from .deadlines import ENDLESS, Deadline, Turns
-from .errors import Ended, TimedOut
 from .program import Program
-from .replies import Reply, cut, cut_one, may_be_skipped
+from .replies import OneReply, Reply, answers_of, cut, may_be_skipped
 from .tables import File, Table, again, file_of, named
 from .transport import CLOSED, Loads, Transport
 
@@ -32,11 +33,11 @@ class Rtfilter(Boxes):
     """A table of boxes that the program `rtfilter` holds, as a process beside this one or behind a service.
 
     `table` is the name of a CSV file, or rows, whose numbers are id, min_x, max_x, min_y, max_y and, for a box that isn't of
-    layer 0, its layer, 0 to 63. `program` is the program's name or path, or the words of a command that runs it; by default
-    the one in this package, if it has one, else `rtfilter` on the path. With `header`, the first record of a file is one. `fanout` (2 to 64) and `max_entries`
-    (1 to 16777216) are the program's options. `timeout` is how many seconds each call may wait, for the program, for the
-    calls of other threads and for a connection, all together, the load here too; None sets no limit, and neither does
-    infinity.
+    layer 0, its layer, 0 to 63. With `header`, the first record of a file is one. `fanout` (2 to 64) and `max_entries` (1 to
+    16777216) are the program's options. `program` is the program's name or path, or the words of a command that runs it; by
+    default the one in this package, if it has one, else `rtfilter` on the path. `timeout` is how many seconds each call may
+    wait, for the program, for the calls of other threads and for a connection, all together, the load here too; None sets
+    no limit, and neither does infinity.
 
     In place of these, `address` is where a service listens that holds a table: the path of a Unix socket, or a host and
     a port. A connection keeps its table; one that was lost is made anew by the next question, and by `reload`.
@@ -83,12 +84,7 @@ class Rtfilter(Boxes):
         """A program with a table, and until when the call may wait. To make rows is no wait."""
         with named(table, self._header) as name:
             deadline = self._deadline()
-            try:
-                return self._loads.ready(Program([*self._words, "--", name]), deadline), deadline
-            except (Ended, TimedOut) as error:
-                if file_of(table) is not None:
-                    error.add_note(f"the table is {name}")
-                raise
+            return self._loads.ready(Program([*self._words, "--", name]), deadline), deadline
 
     def _connected(self) -> tuple[Transport, Deadline]:
         deadline = self._deadline()
@@ -103,6 +99,7 @@ class Rtfilter(Boxes):
         return self._replies(query_lines(lines), self._deadline())
 
     def _replies(self, asked: list[str], deadline: Deadline) -> list[Reply]:
+        """The replies to lines, of which none has a line feed."""
         if not asked:
             return []
         sent = [*asked, ANSWERED] if may_be_skipped(asked[-1]) else asked
@@ -116,8 +113,14 @@ class Rtfilter(Boxes):
         return transport.lines + 1, transport.replies_to(text, lines, deadline)
 
     def _texts(self, texts: Iterable[tuple[str, int]], deadline: Deadline) -> Iterator[bytes]:
-        for text, lines in texts:
-            yield self._text((text, lines), deadline)
+        replies = self._turns.take(partial(self._all_told, texts, deadline), deadline)
+        while replies:
+            yield replies.popleft()
+
+    def _all_told(self, texts: Iterable[tuple[str, int]], deadline: Deadline) -> deque[bytes]:
+        """The replies to each text, of one table: in one turn, and of one connection."""
+        transport = self._open(deadline)
+        return deque(transport.replies_to(text.encode(), lines, deadline) for text, lines in texts)
 
     def _text(self, text: tuple[str, int], deadline: Deadline) -> bytes:
         """The replies to a text of so many lines, of which all are answered."""
@@ -129,8 +132,23 @@ class Rtfilter(Boxes):
         if "\n" in line:
             raise ValueError(LINE_FEED.format(line))
         text = f"{line}\n".encode("utf-8", "surrogateescape")
-        deadline = ENDLESS if self._timeout is None else Deadline(self._timeout)
-        return cut_one(self._turns.take(lambda: self._open(deadline).reply_to(text, deadline), deadline), line)
+        if self._timeout is not None:
+            deadline = Deadline(self._timeout)
+            return answers_of(self._turns.take(partial(self._reply_to, text, deadline), deadline), line)
+        # What `Turns.take` does, written out, since a question is mostly asked by itself and without a timeout.
+        turns = self._turns
+        with turns.lock:
+            if turns.taker is not None:
+                turns.refuse()
+            turns.taker = get_ident()
+            try:
+                reply = self._open(ENDLESS).reply_to(text, ENDLESS)
+            finally:
+                turns.taker = None
+        return answers_of(reply, line)
+
+    def _reply_to(self, line: bytes, deadline: Deadline) -> OneReply:
+        return self._open(deadline).reply_to(line, deadline)
 
     def _open(self, deadline: Deadline) -> Transport:
         """What is asked now. Only who has its turn may use it."""
@@ -227,7 +245,6 @@ def query_lines(lines: Iterable[str]) -> list[str]:
     if isinstance(lines, str):
         raise TypeError("many lines are wanted, and not one text")
     found = list(lines)
-    for line in found:
-        if "\n" in line:
-            raise ValueError(LINE_FEED.format(line))
+    if "\n" in "".join(found):  # which takes half the time of a look at each
+        raise ValueError(LINE_FEED.format(next(line for line in found if "\n" in line)))
     return found

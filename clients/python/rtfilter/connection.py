@@ -43,7 +43,12 @@ class Connection(Transport):
         return self._socket.fileno() < 0
 
     def _write(self, text: Text) -> int:
-        return self._socket.send(text, socket.MSG_DONTWAIT)
+        try:
+            return self._socket.send(text, socket.MSG_DONTWAIT)
+        except BlockingIOError:
+            return 0
+        except ConnectionError:
+            return len(text)
 
     def _ended(self) -> Disconnected:
         return Disconnected(f"the service at {self._name} closed the connection")
@@ -60,7 +65,7 @@ class Connection(Transport):
         self._socket.close()
 
     def close(self, deadline: Deadline = ENDLESS) -> None:
-        self._is_usable = False
+        self._let_go()
         self._drop()
 
 

@@ -2,10 +2,10 @@
 
 import math
 import threading
-import time
 from collections.abc import Callable
 from threading import get_ident
-from typing import TypeVar
+from time import monotonic
+from typing import NoReturn, TypeVar
 
 from .errors import TimedOut
 
@@ -21,16 +21,17 @@ class Deadline:
 
     def __init__(self, seconds: float | None) -> None:
         self._seconds = math.inf if seconds is None else seconds
-        self._until = time.monotonic() + self._seconds
+        self._until = monotonic() + self._seconds
         self.is_endless = self._until == math.inf
 
     def left(self) -> float:
         """How many seconds may be waited for at once."""
-        return max(0.0, min(self._until - time.monotonic(), LONGEST_WAIT))
+        left = self._until - monotonic()
+        return left if 0.0 < left < LONGEST_WAIT else max(0.0, min(left, LONGEST_WAIT))
 
     @property
     def is_over(self) -> bool:
-        return time.monotonic() >= self._until
+        return monotonic() >= self._until
 
     def error(self) -> TimedOut:
         return TimedOut(self._seconds)
@@ -45,43 +46,48 @@ ENDLESS = Deadline(None)
 
 
 class Turns:
-    """One call at a time. Who waits for its turn waits until its deadline.
+    """One call at a time. Who waits for its turn waits until its deadline. `taker` is the thread whose turn it is, set and
+    unset by it with `lock` held.
 
     No exception of a signal's handler leaves a turn taken, at whatever moment it comes.
     """
 
     def __init__(self) -> None:
-        # This kind of lock alone tells who doesn't hold it that it doesn't.
-        self._lock = threading.RLock()
-        self._taker: int | None = None
+        # This kind of lock alone tells who doesn't hold it that it doesn't. Who holds it gets it again.
+        self.lock = threading.RLock()
+        self.taker: int | None = None
 
     @property
     def are_taken(self) -> bool:
         """Whether a call is under way."""
-        return self._taker is not None
+        return self.taker is not None
+
+    def refuse(self) -> NoReturn:
+        """Who takes a turn has it already."""
+        raise RuntimeError("asked in the middle of a call by the same thread, as by the handler of a signal")
 
     def take(self, ask: Callable[[], Given], deadline: Deadline) -> Given:
         """What a call gives that is made in turn."""
         me = get_ident()
-        if self._taker == me:
-            raise RuntimeError("asked in the middle of a call by the same thread, as by the handler of a signal")
+        if self.taker == me:
+            self.refuse()
         if deadline.is_endless:
-            with self._lock:
-                self._taker = me
+            with self.lock:
+                self.taker = me
                 try:
                     return ask()
                 finally:
-                    self._taker = None
+                    self.taker = None
         is_over = False
         try:
             try:
-                if not (self._lock.acquire(blocking=False) or self._lock.acquire(timeout=deadline.left())):
+                if not (self.lock.acquire(blocking=False) or self.lock.acquire(timeout=deadline.left())):
                     raise deadline.error()
-                self._taker = me
+                self.taker = me
                 try:
                     return ask()
                 finally:
-                    self._taker = None
+                    self.taker = None
             finally:
                 self._release()
                 is_over = True
@@ -92,6 +98,6 @@ class Turns:
 
     def _release(self) -> None:
         try:
-            self._lock.release()
+            self.lock.release()
         except RuntimeError:  # where it isn't held
             pass

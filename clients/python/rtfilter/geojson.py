@@ -102,25 +102,35 @@ def _collected(features: Any) -> Iterable[Any]:
 def _texts_of(text: str) -> Iterable[Any]:
     """The features of a text: one of GeoJSON, or a sequence of such texts, each with a record separator before it (RFC 8142)
     or on a line of its own."""
-    if SEPARATOR not in text:
-        try:
-            return _collected(json.loads(text))
-        except json.JSONDecodeError as error:
-            lines = text.splitlines()
-            if len(lines) < 2:
-                raise
-            first = error
-    else:
-        lines = text.split(SEPARATOR)
-        first = None
+    if SEPARATOR in text:
+        before, *texts = text.split(SEPARATOR)
+        return _features_of([before, *texts] if before.strip() else texts)
+    try:
+        return _collected(json.loads(text))
+    except json.JSONDecodeError:
+        lines = text.split("\n")  # `splitlines` would cut at characters that a text may have
+        if not _is_json(next(filter(str.strip, lines), "")):  # it was meant as one text
+            raise
+    return _features_of(lines)
+
+
+def _is_json(text: str) -> bool:
+    try:
+        json.loads(text)
+    except json.JSONDecodeError:
+        return False
+    return True
+
+
+def _features_of(texts: list[str]) -> list[Any]:
+    """The features of texts, some of which may be blank. Raises `ValueError` with the number of one that is none."""
     found: list[Any] = []
-    for number, line in enumerate(lines, 1):
-        if line.strip():
+    for number, text in enumerate(texts, 1):
+        if text.strip():
             try:
-                found += _collected(json.loads(line))
+                found += _collected(json.loads(text))
             except ValueError as error:
-                # Where not even the first line is a text by itself, the file was meant as one.
-                raise (first or error) if not found else ValueError(f"text {number}: {error}") from None
+                raise ValueError(f"text {number}: {error}") from None
     return found
 
 

@@ -21,8 +21,10 @@ class Index(Closing):
 
     Without `scale`, coordinates are whole numbers of 32 bits, and others raise `TypeError`. With it they may be decimals,
     which are multiplied by it: boxes and windows are then widened to whole units, so that no answer is lost, and one may
-    be there that lies less than two units beside. `program` and `timeout` are those of `Rtfilter`, and so is what is
-    raised.
+    be there that lies less than two units beside. `program` and `timeout` are those of `Rtfilter`.
+
+    Raises what `Rtfilter` does, `TypeError` or `ValueError` with the place, from 0, of an item that is no box, and
+    `ValueError` for a scale that isn't above 0.
     """
 
     def __init__(
@@ -34,6 +36,8 @@ class Index(Closing):
         program: Command = "rtfilter",
         timeout: float | None = None,
     ) -> None:
+        if scale is not None and not scale > 0:
+            raise ValueError("a scale is above 0")
         self.interleaved = interleaved
         self._scale = scale
         self._hull: Sides = (math.inf, -math.inf, math.inf, -math.inf)
@@ -41,19 +45,26 @@ class Index(Closing):
 
     def _rows(self, stream: Iterable[Sequence[Any]]) -> Iterator[Row]:
         """The rows of a table, whose hull is gathered as they go by."""
+        has_scale = self._scale is not None
         least_x, greatest_x, least_y, greatest_y = self._hull
-        for id, coordinates, *_ in stream:
-            sides = min_x, max_x, min_y, max_y = self._sides(coordinates)
-            # Comparisons take a third of the time of `min` and `max`.
-            if min_x < least_x:
-                least_x = min_x
-            if max_x > greatest_x:
-                greatest_x = max_x
-            if min_y < least_y:
-                least_y = min_y
-            if max_y > greatest_y:
-                greatest_y = max_y
-            yield (id, *self._widened(sides))
+        for number, item in enumerate(stream):
+            try:
+                id, coordinates, *_ = item
+                sides = min_x, max_x, min_y, max_y = self._sides(coordinates)
+                # Comparisons take a third of the time of `min` and `max`.
+                if min_x < least_x:
+                    least_x = min_x
+                if max_x > greatest_x:
+                    greatest_x = max_x
+                if min_y < least_y:
+                    least_y = min_y
+                if max_y > greatest_y:
+                    greatest_y = max_y
+                whole: Any = self._widened(sides) if has_scale else sides
+            except (TypeError, ValueError, OverflowError) as error:
+                kind = TypeError if isinstance(error, TypeError) else ValueError
+                raise kind(f"stream[{number}]: {error}") from None
+            yield (id, *whole)
         self._hull = least_x, greatest_x, least_y, greatest_y
 
     def _sides(self, coordinates: Sequence[float]) -> Sides:

@@ -92,7 +92,7 @@ class Child(Transport):
 
     def close(self, deadline: Deadline = ENDLESS) -> None:
         """Ends the process, by ending its input. Its status tells nothing new: 1 is that of a faulty line."""
-        self._is_usable = False
+        self._let_go()
         *ends, errors = self._files
         for end in ends:
             end.close()
@@ -126,7 +126,12 @@ class Program(Child):
         os.set_blocking(process.stdin.fileno(), False)
 
     def _write(self, text: Text) -> int:
-        return os.write(self._input.fileno(), text)
+        try:
+            return os.write(self._input_number, text)
+        except BlockingIOError:
+            return 0
+        except ConnectionError:
+            return len(text)
 
 
 def status_of(process: Process) -> int | None:

@@ -1,13 +1,16 @@
 """The text of many replies, cut into the reply to each line."""
 
 import re
-from typing import Union
+from typing import Union, cast
 
 from .answers import Answers
 from .errors import QueryError
 
 Reply = Union[Answers, QueryError, None]
 """What one line is answered: None where it is blank or a comment, which the program skips."""
+
+OneReply = tuple[bytes, bytes, bool]
+"""The answers to one line, what the last line of its reply tells behind the line's number, and whether that is a fault."""
 
 # A reply's last line. No answer before it holds a letter.
 OK_LINE = re.compile(rb"ok \d+ (\d+)\n")
@@ -19,12 +22,12 @@ def may_be_skipped(line: str) -> bool:
     return line.strip(" \t\r")[:1] in ("", "#")
 
 
-def cut(text: bytes | bytearray, lines: list[str], first: int) -> list[Reply]:
+def cut(text: bytes, lines: list[str], first: int) -> list[Reply]:
     """The reply to each of these lines, of which the first has this number."""
-    # Where no line is faulty or skipped, which is so mostly, this takes half the time.
+    # Where no line is faulty or skipped, which is so mostly, this takes a third of the time.
     parts = OK_LINE.split(text)
     if len(parts) == 2 * len(lines) + 1:
-        return [Answers(answers, int(told)) for answers, told in zip(parts[0::2], parts[1::2])]
+        return list(map(Answers, parts[0::2], parts[1::2]))
     return _cut_by_number(text, lines, first)
 
 
@@ -42,10 +45,29 @@ def _cut_by_number(text: bytes | bytearray, lines: list[str], first: int) -> lis
     return replies
 
 
-def cut_one(text: bytes, line: str) -> Answers:
-    """The reply to one line, which is answered: what `cut` gives, in a third of the time. Raises the fault."""
-    end = text.rfind(b"\n", 0, -1) + 1
-    if text.startswith(b"ok", end):
-        return Answers(text[:end], int(text[text.rfind(b" ") + 1:]))
-    _, _, code, text_of_code = text.decode().rstrip("\n").split(" ", 3)
-    raise QueryError(line, code, text_of_code)
+def all_answers(replies: list[Reply]) -> list[Answers]:
+    """The answers of replies, none for a line that is skipped. Raises the first fault."""
+    if {*map(type, replies)} == {Answers}:  # mostly, and told in a third of the time of a look at each
+        return cast("list[Answers]", replies)
+    found = []
+    for reply in replies:
+        if isinstance(reply, QueryError):
+            raise reply
+        found.append(Answers(b"", 0) if reply is None else reply)
+    return found
+
+
+def cut_one(text: bytes) -> OneReply:
+    """The reply to one line, which is answered, in its parts."""
+    last = text.rfind(b"\n", 0, -1) + 1
+    word, _, told = text[last:].split(b" ", 2)
+    return text[:last], told, word == b"error"
+
+
+def answers_of(reply: OneReply, line: str) -> Answers:
+    """The answers to one line. Raises the fault."""
+    answers, told, is_faulty = reply
+    if is_faulty:
+        code, _, text_of_code = told.decode().rstrip("\n").partition(" ")
+        raise QueryError(line, code, text_of_code)
+    return Answers(answers, told)

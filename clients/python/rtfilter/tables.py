@@ -9,6 +9,7 @@ from operator import index
 from typing import Any, Union
 
 from .arrays import AT_ONCE, rows_of
+from .errors import Ended, TimedOut
 
 Row = Sequence[int]
 """A box: id, min_x, max_x, min_y, max_y, and its layer where that isn't 0, each a whole number."""
@@ -31,10 +32,17 @@ def named(table: Table, header: bool) -> Iterator[str]:
 
     Rows go to a file of their own, in the folder for temporary files, before any program is started: whatever making them
     raises is raised here, and more than one program may read them. A row that isn't five or six whole numbers raises
-    `TypeError`, and rows with a header `ValueError`; whether the numbers make a box is the program's to judge.
+    `TypeError`, and rows with a header `ValueError`; whether the numbers make a box is the program's to judge. Where the
+    program refuses a file, or takes too long, a note tells which one it is.
     """
     if isinstance(table, (str, os.PathLike)):
-        yield os.fspath(table)
+        try:
+            yield os.fspath(table)
+        except (Ended, TimedOut) as error:
+            note = f"the table is {os.fspath(table)}"
+            if note not in getattr(error, "__notes__", ()):
+                error.add_note(note)
+            raise
         return
     if header:
         raise ValueError("rows have no header")

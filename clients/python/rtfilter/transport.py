@@ -9,6 +9,7 @@ from typing import Protocol, TypeVar, Union
 from .deadlines import ENDLESS, Deadline
 from .errors import RtfilterError, TimedOut
 from .forks import Owned
+from .replies import OneReply, cut_one
 
 PIECE = 1 << 16  # bytes of a read: what a pipe holds
 CLOSED = "the table was closed"
@@ -34,6 +35,10 @@ class Transport(Owned, abc.ABC):
         self.lines = 0
         self.size = 0
         self._input, self._output = input, output
+        # Numbers, and an object that is made once, take less time in each call.
+        self._input_number, self._output_number = input.fileno(), output.fileno()
+        self._readable = select.poll()
+        self._readable.register(output, select.POLLIN)
         self._is_usable = True  # until it is abandoned, closed or left to the parent
         self._is_abandoned = False
         self._is_closing = False
@@ -65,9 +70,7 @@ class Transport(Owned, abc.ABC):
     def is_lost(self) -> bool:
         """Whether it can't be asked any more, as far as is known while nothing is asked."""
         if not self._is_abandoned:
-            poll = select.poll()
-            poll.register(self.descriptor, select.POLLIN)
-            if not poll.poll(0):
+            if not self._readable.poll(0):
                 return False
             self.abandon()
         return True
@@ -95,7 +98,8 @@ class Transport(Owned, abc.ABC):
 
     @abc.abstractmethod
     def _write(self, text: Text) -> int:
-        """How many bytes were taken without a wait."""
+        """How many bytes were taken without a wait: none where there is no room, and all where the other side has ended,
+        as the end of its output tells."""
 
     @abc.abstractmethod
     def _ended(self) -> RtfilterError:
@@ -108,7 +112,14 @@ class Transport(Owned, abc.ABC):
         this was closed. Whatever is raised, it is abandoned: replies that are still to come would be taken for those to
         later lines.
         """
-        return b"".join(self.pieces_to(text, lines, deadline))
+        if not self._is_usable:
+            self._check_open()
+        try:
+            self.lines += lines
+            return b"".join(self._exchanged(memoryview(text), deadline))
+        except BaseException as error:
+            self._abandon_for(error)
+            raise
 
     def pieces_to(self, text: bytes, lines: int, deadline: Deadline = ENDLESS) -> Iterator[bytes]:
         """The same in pieces of whole lines, each as soon as it is there. What is taken without a wait is sent when this
@@ -123,31 +134,46 @@ class Transport(Owned, abc.ABC):
             raise
 
     def _pieces(self, unsent: Text, deadline: Deadline) -> Iterator[bytes]:
+        part = b""  # of a line whose end isn't there yet
         try:
-            yield from self._exchanged(unsent, deadline)
+            for piece in self._exchanged(unsent, deadline):
+                end = piece.rfind(b"\n") + 1
+                if end:
+                    yield part + piece[:end]
+                    part = piece[end:]
+                else:
+                    part += piece
         except BaseException as error:
             self._abandon_for(error)
             raise
 
-    def reply_to(self, line: bytes, deadline: Deadline = ENDLESS) -> bytes:
-        """The same for one line, which is answered. It is mostly sent at once, and one read has its reply; then this takes
-        a third of the time beside the program's."""
+    def reply_to(self, line: bytes, deadline: Deadline = ENDLESS) -> OneReply:
+        """The reply to one line, which is answered: its answers, what its last line tells behind the line's number, and
+        whether that is a fault. Raises what `replies_to` does."""
         if not self._is_usable:
             self._check_open()
         try:
             self.lines += 1
-            unsent = self._send(line)
-            reply = b"" if unsent else self._read(deadline)
-            if reply.startswith(b"ok %d " % self.lines, reply.rfind(b"\n", 0, -1) + 1) and reply.endswith(b"\n"):
-                return reply
-            return b"".join(self._exchanged(unsent, deadline, reply))
+            # The line is mostly sent at once, and one read has its reply.
+            sent = self._write(line)
+            reply = self._read(deadline) if sent == len(line) else b""
+            if reply.endswith(b"\n"):
+                answers, found, told = reply.rpartition(b"ok %d " % self.lines)  # no answer has a letter
+                if found:
+                    return answers, told, False
+            return cut_one(b"".join(self._exchanged(line[sent:], deadline, reply)))
         except BaseException as error:
             self._abandon_for(error)
             raise
 
     def _leave_to_parent(self) -> None:
         super()._leave_to_parent()
+        self._let_go()
+
+    def _let_go(self) -> None:
+        """Comes before its files are closed: their numbers may be those of others then."""
         self._is_usable = False
+        self._input_number = self._output_number = -1
 
     def _check_open(self) -> None:
         """Raises why it can't be asked."""
@@ -158,44 +184,40 @@ class Transport(Owned, abc.ABC):
             raise self._ended()
 
     def _abandon_for(self, error: BaseException) -> None:
-        """What met another call is told later ones; that the other side has ended they find themselves."""
+        """What met another call is told later ones; that the other side has ended they find themselves. In a child of a
+        fork in the middle of a call, as by the handler of a signal, the call ends with `WrongProcess`."""
+        if isinstance(error, Exception):
+            self._check_process()
         is_met = isinstance(error, TimedOut) or not isinstance(error, RtfilterError)
         self.abandon(f"ended because of an earlier call: {str(error) or type(error).__name__}" if is_met else "")
 
     def _exchanged(self, unsent: Text, deadline: Deadline, piece: bytes = b"") -> Iterator[bytes]:
         """Writes and reads by turns, so that neither side waits for ever for the other to read; a piece may have been read
-        before. The pieces of whole lines."""
-        last_lines = b"ok %d " % self.lines, b"error %d " % self.lines
-        part = b""
+        before. The pieces as they come, up to the end of the reply to the last line."""
+        ends = b"ok %d " % self.lines, b"error %d " % self.lines
+        line = b""  # the last one that was read, or what is there of it
         while True:
-            end = piece.rfind(b"\n") + 1
-            if end:
-                whole, part = part + piece[:end], piece[end:]
-                yield whole
-                if whole.startswith(last_lines, whole.rfind(b"\n", 0, -1) + 1):
+            if piece:
+                yield piece
+                begin = piece.rfind(b"\n", 0, -1) + 1
+                line = piece[begin:] if begin or line.endswith(b"\n") else line + piece
+                if line.endswith(b"\n") and line.startswith(ends):
                     return
-            else:
-                part += piece
             unsent = self._send(unsent)
-            piece = self._read(deadline) if not unsent or self._is_readable(deadline, is_sending=True) else b""
+            piece = self._read(deadline) if not unsent or self._is_readable(deadline) else b""
 
     def _send(self, unsent: Text) -> Text:
         """What is left to send once the other side has taken what it takes without a wait."""
-        if not unsent:
-            return unsent
-        try:
-            return unsent[self._write(unsent):]
-        except BlockingIOError:
-            return unsent
-        except ConnectionError:  # it has ended, as the end of its output tells
-            return unsent[:0]
+        return unsent[self._write(unsent):] if unsent else unsent
 
     def _read(self, deadline: Deadline) -> bytes:
         """Some bytes, once they are there: one or more."""
         if not deadline.is_endless:  # else the read itself may wait
-            self._is_readable(deadline, is_sending=False)
+            while not self._readable.poll(deadline.left() * 1000):
+                if deadline.is_over:
+                    raise deadline.error()
         try:
-            piece = os.read(self._output.fileno(), PIECE)
+            piece = os.read(self._output_number, PIECE)
         except ConnectionError:  # a socket that was closed with bytes unread
             piece = b""
         if self._is_closing:
@@ -204,12 +226,11 @@ class Transport(Owned, abc.ABC):
             raise self._ended()
         return piece
 
-    def _is_readable(self, deadline: Deadline, is_sending: bool) -> bool:
-        """Waits until something can be read, or sent where something is left; whether something can be read."""
+    def _is_readable(self, deadline: Deadline) -> bool:
+        """Waits until something can be read or sent; whether something can be read."""
         poll = select.poll()
         poll.register(self._output, select.POLLIN)
-        if is_sending:
-            poll.register(self._input, select.POLLOUT)
+        poll.register(self._input, select.POLLOUT)
         while not (ready := dict(poll.poll(None if deadline.is_endless else deadline.left() * 1000))):
             if deadline.is_over:
                 raise deadline.error()

@@ -21,6 +21,7 @@ from rtfilter.zones import Zones
 
 ROWS = [(7, 0, 10, 0, 10, 3), (8, 5, 15, 5, 15, 0), (9, 20, 30, 0, 10, 63)]
 NAMES = "id", "min_x", "max_x", "min_y", "max_y", "layer"
+masked: Any = numpy.ma  # whose functions have no types
 SQUARE = Polygon([(0, 0), (10, 0), (10, 10), (0, 10)], [[(2, 2), (2, 8), (8, 8), (8, 2)]])
 FAR = box(20, 20, 30, 30)
 
@@ -50,7 +51,8 @@ class Tables(unittest.TestCase):
         mixed = numpy.array([tuple(row) for row in ROWS], dtype=[*zip(NAMES, ["u8", "i4", "i4", "i2", "i8", "u1"])])
         turned = fields[["max_y", "layer", "id", "min_y", "max_x", "min_x"]]
         for table in (array, array.astype("i4"), array.astype("u8"), array.astype(object), fields, mixed, turned,
-                      numpy.asfortranarray(array), array[::-1]):  # fmt: skip
+                      numpy.asfortranarray(array), array[::-1], numpy.repeat(array, 3, axis=0)[1::3], array.astype(">i4"),
+                      numpy.broadcast_to(array, array.shape)):  # fmt: skip
             self.assertEqual(told(table), wanted)
         self.assertEqual(told(array[:, :5]), [(id, 0) for id, *_ in ROWS])
 
@@ -59,7 +61,8 @@ class Tables(unittest.TestCase):
         named = frame.rename(columns={"min_x": "minX", "max_x": "MAXX", "id": "ID"})
         wanted = told(ROWS)
         for table in (frame, frame[[*reversed(NAMES)]], named, frame.assign(name="x"), frame.astype("Int64"),
-                      frame.set_index("layer", drop=False), frame.astype({"id": "uint64"})):  # fmt: skip
+                      frame.set_index("layer", drop=False), frame.astype({"id": "uint64"}),
+                      frame.set_index(["id", "layer"], drop=False)):  # fmt: skip
             self.assertEqual(told(table), wanted)
         self.assertEqual(told(frame.drop(columns="layer")), [(id, 0) for id, *_ in ROWS])
 
@@ -93,6 +96,11 @@ class Tables(unittest.TestCase):
             (holed, "numbers are whole, and not float64"),
             (missing, "NAType"),
             (frame.drop(columns=["max_y", "id"]), "no column id among min_x, max_x, min_y, layer"),
+            (frame.set_axis(pandas.MultiIndex.from_product([["box"], NAMES]), axis=1), "no column id among"),
+            (frame.assign(MaxX=0), "columns max_x and MaxX are both max_x"),
+            (numpy.zeros(3, [("id", int, 2), *((it, int) for it in NAMES[1:5])]), "a column has one number for each row"),
+            (masked.masked_equal(numpy.array(ROWS), 10), "a number is masked"),
+            (masked.array(numpy.array(ROWS, [(name, int) for name in NAMES]), mask=[0, 1, 0]), "a number is masked"),
             (numpy.array([(1, 2)], dtype=[("id", int), ("x", int)]), "no column min_x among id, x"),
         ):
             for opened in anything(Rtfilter, lambda it, **more: Pool(2, it, **more)):
@@ -137,7 +145,8 @@ class Bulk(unittest.TestCase):
         for _, boxes in self.each():
             wanted = [it.tolist() for it in boxes.query_bulk(windows)]
             for asked in (windows.tolist(), map(tuple, windows), frame, frame[[*reversed(NAMES[1:5])]], windows.astype("i2"),
-                          windows.astype(object), numpy.asfortranarray(windows), windows.astype("i8")[:, ::1]):  # fmt: skip
+                          windows.astype(object), numpy.asfortranarray(windows), windows.astype("i8")[:, ::1],
+                          windows.astype(">i8"), numpy.repeat(windows, 2, axis=1)[:, ::2]):  # fmt: skip
                 self.assertEqual([it.tolist() for it in boxes.query_bulk(asked)], wanted)
             for asked in ([], numpy.empty((0, 4), int), frame[:0], iter([])):
                 self.assertEqual([it.tolist() for it in boxes.query_bulk(asked)], [[], []])
@@ -291,7 +300,7 @@ class Geometries(unittest.TestCase):
             file = Path(folder, "file")
             good = json.dumps(SQUARE.__geo_interface__)
             for text, told in ((f"{good}\n{{\n", "text 2: "), (f"{good}\n{good[:-1]}\n", "text 2: "), ("{\n\n}", "neither a"),
-                               (f"\x1e{good}\n\x1e{{}}\n", "text 3: neither a"), ("", "Expecting value")):  # fmt: skip
+                               (f"\x1e{good}\n\x1e{{}}\n", "text 2: neither a"), ("", "Expecting value")):  # fmt: skip
                 file.write_text(text)
                 with self.assertRaisesRegex(ValueError, f"^{told}"):
                     Zones(file, scale=1, program=PROGRAM)

@@ -165,9 +165,12 @@ class Lives(Case):
         for given in anything({}, {"table": BOXES, "address": "x"}, {"table": BOXES, "timeout": -1}):
             with self.assertRaises(ValueError):
                 aio.Rtfilter(**given)
-        boxes = aio.Rtfilter(BOXES, program=PROGRAM)
-        with self.assertRaises(ValueError):
+        boxes = aio.Rtfilter("/no/such/table", program=PROGRAM)
+        with self.assertRaisesRegex(ValueError, "^the table is open inside `async with`"):
             await boxes.count(All())
+        with self.assertRaises(Ended) as ended:
+            await boxes.__aenter__()
+        self.assertEqual(ended.exception.__notes__, ["the table is /no/such/table"])
 
     async def test_a_load_that_is_cancelled(self) -> None:
         never = self.folder / "never"

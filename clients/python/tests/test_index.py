@@ -161,6 +161,15 @@ class Ends(unittest.TestCase):
                     ask((0.5, 0.5))
         with self.assertRaises(TypeError):
             Index([(1, (0, 0, 1.0, 1))], program=PROGRAM)
+        for item, scale, error in anything(
+            ((2, (0, 0, 1)), None, ValueError), ((2,), None, ValueError), (5, None, TypeError), ((2, ("a", 0, 1, 1)), None, TypeError),
+            ((2, (0, 0, math.inf, 1)), 10, ValueError), ((2, (0, math.nan)), 10, ValueError), ((2, ("a", "b")), 10, TypeError),
+        ):  # fmt: skip
+            with self.assertRaisesRegex(error, r"^stream\[1\]: "):
+                Index([(1, (0, 0, 1, 1)), item], scale=scale, program=PROGRAM)
+        for scale in (0, -1, math.nan):
+            with self.assertRaisesRegex(ValueError, "^a scale is above 0$"):
+                Index([(1, (0, 0, 1, 1))], scale=scale, program=PROGRAM)
 
 
 class Decimals(unittest.TestCase):

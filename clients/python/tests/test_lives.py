@@ -17,6 +17,7 @@ import unittest
 from collections.abc import Callable, Iterator
 from concurrent.futures import ProcessPoolExecutor
 from pathlib import Path
+from typing import Any
 
 from serving import Service
 from support import BOXES, EXAMPLES, LAYERS, PACKAGE, PROGRAM, anything, children_of, descendants_of, open_files, parent_of
@@ -49,6 +50,13 @@ def in_child(act: Callable[[], object]) -> subprocess.CompletedProcess[bytes] | 
         given = pickle.loads(file.read())
     os.waitpid(child, 0)
     return given
+
+
+def given_or_raised(ask: Callable[[], object]) -> object:
+    try:
+        return ask()
+    except Exception as error:
+        return error
 
 
 @contextlib.contextmanager
@@ -192,6 +200,79 @@ class Forks(Case):
             self.assertEqual(held.count(All()), 5)
             with self.assertRaisesRegex(TypeError, "belongs to the process that made it"):
                 pickle.dumps(held)
+
+    def test_a_fork_in_the_middle_of_a_call(self) -> None:
+        """As by the handler of a signal: where the child goes on with the call it is told, and the parent is answered."""
+        reader, writer = os.pipe()
+        is_child = False
+
+        def fork(*_: object) -> None:
+            nonlocal is_child
+            is_child = os.fork() == 0
+            if not is_child:
+                os.kill(process, signal.SIGCONT)
+
+        self.addCleanup(signal.signal, signal.SIGALRM, signal.signal(signal.SIGALRM, fork))
+        for timeout in (None, 60):
+            with Rtfilter(BOXES, program=PROGRAM, timeout=timeout) as boxes:
+                (process,) = programs() - self.before[0]
+                for ask, wanted in anything((lambda: boxes.count(All()), 5), (lambda: boxes.ask(["count all"])[0].total, 5)):
+                    stop(process)
+                    signal.setitimer(signal.ITIMER_REAL, 0.1)
+                    told = given_or_raised(ask)
+                    if is_child:
+                        os.write(writer, type(told).__name__.encode())
+                        os._exit(0)
+                    os.wait()
+                    self.assertEqual((os.read(reader, 100), told, boxes.count(All())), (b"WrongProcess", wanted, 5))
+
+    def test_forks_in_what_a_call_is_given(self) -> None:
+        with Rtfilter(BOXES, program=PROGRAM) as boxes:
+            told = []
+
+            def forking(*items: Any) -> Iterator[Any]:
+                for item in items:
+                    told.append(type(in_child(lambda: boxes.count(All()))))
+                    yield item
+
+            self.assertEqual([it.total for it in boxes.ask(forking("count all", "count all"))], [5, 5])
+            with Rtfilter(forking((1, 0, 1, 0, 1)), program=PROGRAM) as other:
+                self.assertEqual(other.count(All()), 1)
+            self.assertEqual((told, boxes.count(All())), ([WrongProcess] * 3, 5))
+
+    def test_while_threads_ask(self) -> None:
+        """None of them is held up or gets another answer, and each child is told at once."""
+        for boxes in self.each():
+            is_over = threading.Event()
+            told: set[Any] = set()
+
+            def ask() -> None:
+                while not is_over.is_set():
+                    told.add(given_or_raised(lambda: boxes.ask(["count all"] * 150)[-1].total))
+
+            threads = [threading.Thread(target=ask) for _ in range(3)]
+            for thread in threads:
+                thread.start()
+            for _ in range(10):
+                with self.at_once(2):
+                    self.assertIsInstance(in_child(lambda: boxes.count(All())), WrongProcess)
+                    in_child(boxes.close)
+            is_over.set()
+            for thread in threads:
+                thread.join()
+            self.assertEqual(told, {5})
+
+    def test_a_child_that_drops_it(self) -> None:
+        for opened in anything(Rtfilter, lambda *its, **more: Pool(2, *its, **more)):
+            kept = [opened(BOXES, program=PROGRAM)]
+
+            def drop() -> None:
+                kept.clear()
+                gc.collect()
+
+            in_child(drop)
+            self.assertEqual(kept[0].count(All()), 5)
+            kept[0].close()
 
     def test_a_child_that_ends_as_python_ends(self) -> None:
         """What Python does at its end there is nothing for the parent's program."""
@@ -542,6 +623,44 @@ class Deadlines(Case):
             with self.assertRaisesRegex(Ended, r"^ended because of an earlier call: no answer in 0\.4 s$"):
                 boxes.count(All())
 
+    def test_a_turn_and_an_answer(self) -> None:
+        """Both are waited for, and there is one deadline."""
+        with Rtfilter(BOXES, program=PROGRAM, timeout=self.SECONDS) as boxes:
+            holding = threading.Thread(target=boxes._turns.take, args=(lambda: time.sleep(0.3), boxes._deadline()))
+            holding.start()
+            time.sleep(0.05)
+            stop(boxes._transport._process.pid)  # type: ignore[attr-defined]
+            with self.timing_out():
+                boxes.count(All())
+            holding.join()
+
+    def test_each_wait_of_a_call(self) -> None:
+        never = self.folder / "never"
+        os.mkfifo(never)
+        for ask in anything(
+            lambda boxes: boxes.find(All()), lambda boxes: boxes.ask(["count all"] * 9), lambda boxes: boxes.levels(),
+            lambda boxes: boxes.ask(["count all".ljust(1000)] * 1000),
+        ):  # fmt: skip
+            with Rtfilter(BOXES, program=PROGRAM, timeout=self.SECONDS) as boxes:
+                with self.timing_out():
+                    boxes.reload(never)
+                stop(boxes._transport._process.pid)  # type: ignore[attr-defined]
+                with self.timing_out():
+                    ask(boxes)
+        for opened in anything(Rtfilter, lambda *its, **more: Pool(2, *its, **more)):
+            for program in anything(PROGRAM, [PROGRAM]):
+                with self.timing_out():
+                    opened(never, program=program, timeout=self.SECONDS)
+        self.assert_nothing_left()
+
+    def test_to_make_rows_is_no_wait(self) -> None:
+        def rows() -> Iterator[tuple[int, ...]]:
+            time.sleep(self.SECONDS + 0.1)
+            yield 1, 0, 1, 0, 1
+
+        with Rtfilter(rows(), program=PROGRAM, timeout=self.SECONDS) as boxes:
+            self.assertEqual(boxes.count(All()), 1)
+
     def test_a_free_copy(self) -> None:
         with Pool(1, [(1, 0, 1, 0, 1)], program=PROGRAM, timeout=self.SECONDS) as boxes:
             client = boxes._copies._free.pop()
@@ -565,6 +684,19 @@ class Deadlines(Case):
                         listener.accept()[0].close()
                 self.assertIsInstance(raised[0], Disconnected)
                 self.assertLess(time.monotonic() - begun, 5)
+        self.assert_nothing_left()
+
+    def test_a_lost_connection_and_a_full_backlog(self) -> None:
+        with Service(self.folder / "socket") as service:
+            boxes = Rtfilter(address=service.path, timeout=self.SECONDS)
+        with socket.socket(socket.AF_UNIX) as listener, socket.socket(socket.AF_UNIX) as first:
+            listener.bind(str(service.path))
+            listener.listen(0)
+            first.connect(str(service.path))
+            for ask in anything(lambda: boxes.count(All()), lambda: len(boxes), boxes.reload):
+                with self.timing_out():
+                    ask()
+        boxes.close()
         self.assert_nothing_left()
 
     def test_a_service_that_says_nothing(self) -> None:
@@ -592,6 +724,24 @@ class Closes(Case):
             self.assertIsInstance(raised[0], ValueError)
             self.assertEqual(str(raised[0]), "the table was closed")
             boxes.close()
+        self.assert_nothing_left()
+
+    def test_each_wait_of_a_call(self) -> None:
+        for timeout in (None, 60):
+            for ask in anything(
+                lambda it: it.find(All()), lambda it: it.levels(), lambda it: it.reload(BOXES),
+                lambda it: it.ask(["count all".ljust(1000)] * 1000),
+            ):  # fmt: skip
+                boxes = Rtfilter(BOXES, program=PROGRAM, timeout=timeout)
+                stop(boxes._transport._process.pid)  # type: ignore[attr-defined]
+                with self.under_way(lambda: boxes.count(All())) as first, self.under_way(lambda: ask(boxes)) as second:
+                    closing = [threading.Thread(target=boxes.close) for _ in range(3)]
+                    with self.at_once():
+                        for thread in closing:
+                            thread.start()
+                        for thread in closing:
+                            thread.join()
+                self.assertEqual([str(error) for error in first + second], ["the table was closed"] * 2)
         self.assert_nothing_left()
 
     def test_shared_pool(self) -> None:

@@ -120,6 +120,11 @@ class Reloads(unittest.TestCase):
                 while not is_over.is_set():
                     told.append({answers.total for answers in boxes.ask(["count all"] * 400)})
 
+            def ask_in_texts() -> None:  # as `query_bulk` does
+                while not is_over.is_set():
+                    replies = boxes._texts([("count all\n" * 100, 100)] * 6, boxes._deadline())
+                    told.append({int(line.split()[2]) for reply in replies for line in reply.splitlines()})
+
             def reload() -> None:
                 try:
                     for at in range(20):
@@ -128,7 +133,7 @@ class Reloads(unittest.TestCase):
                     is_over.set()
 
             with opened(tables[0]) as boxes:
-                run_at_once([ask, ask, ask, reload])
+                run_at_once([ask, ask, ask_in_texts, ask_in_texts, reload])
             self.assertEqual({len(some) for some in told}, {1})
             self.assertEqual(set().union(*told), {300, 200})
         self.assertEqual(open_files(), before)

@@ -1,9 +1,11 @@
 """Whatever goes wrong is told, nothing waits for ever, and nothing is left open."""
 
+import contextlib
 import os
 import pickle
 import random
 import signal
+import socket
 import subprocess
 import tempfile
 import threading
@@ -18,7 +20,7 @@ from typing import Any
 
 from support import BOXES, PROGRAM, anything, children_of, open_files, parent_of, some_lines, written
 
-from rtfilter import All, Ended, Rtfilter, TimedOut
+from rtfilter import All, Ended, Pool, QueryError, Rtfilter, TimedOut
 
 SMALL_PIPES = mock.patch("subprocess.Popen", partial(subprocess.Popen, pipesize=4096))
 
@@ -84,9 +86,11 @@ class Ends(unittest.TestCase):
             with self.assertRaises(TypeError) as raised:
                 Rtfilter(rows(bad), program=PROGRAM)
             self.assertEqual(str(raised.exception), f"rows[2345]: {text}")
-        with self.assertRaises(Ended) as ended:
-            Rtfilter("/no/such/table", program=PROGRAM)
-        self.assertEqual(ended.exception.__notes__, ["the table is /no/such/table"])
+        for opened in anything(Rtfilter, lambda *its, **more: Pool(2, *its, **more)):
+            for program in anything(PROGRAM, [PROGRAM]):
+                with self.assertRaises(Ended) as ended:
+                    opened("/no/such/table", program=program)
+                self.assertEqual(ended.exception.__notes__, ["the table is /no/such/table"])
         for address, name in anything(("/no/such/socket", "/no/such/socket"), (("127.0.0.1", 1), "127.0.0.1:1")):
             with self.assertRaises(OSError) as nowhere:
                 Rtfilter(address=address)
@@ -272,6 +276,45 @@ class Times(unittest.TestCase):
                         boxes.reload()
             finally:
                 signal.signal(signal.SIGALRM, before)
+
+
+class Pieces(unittest.TestCase):
+    """Replies of which each byte comes by itself, as over a slow network."""
+
+    def setUp(self) -> None:
+        self.listener = socket.create_server(("127.0.0.1", 0))
+        self.thread = threading.Thread(target=self.serve)
+        self.thread.start()
+
+    def tearDown(self) -> None:
+        self.listener.shutdown(socket.SHUT_RDWR)
+        self.listener.close()
+        self.thread.join()
+
+    def serve(self) -> None:
+        with contextlib.suppress(OSError):
+            while True:
+                connection, _ = self.listener.accept()
+                connection.setsockopt(socket.IPPROTO_TCP, socket.TCP_NODELAY, 1)
+                with connection, connection.makefile("rb") as lines:
+                    for number, line in enumerate(lines, 1):
+                        for byte in self.reply(number, line.strip()):
+                            connection.sendall(bytes([byte]))
+
+    def reply(self, number: int, line: bytes) -> bytes:
+        told = {b"": b"", b"count all": b"ok %d 5\n" % number, b"find all": b"1 0\n22 3\nok %d 2\n" % number}
+        return told.get(line, b"error %d Q2 unknown verb\n" % number)
+
+    def test_one_by_one_and_together(self) -> None:
+        for timeout in (None, 60):
+            with Rtfilter(address=self.listener.getsockname(), timeout=timeout) as boxes:
+                for _ in range(5):
+                    self.assertEqual((boxes.count(All()), list(boxes.find(All()))), (5, [(1, 0), (22, 3)]))
+                    with self.assertRaisesRegex(QueryError, "^Q2 unknown verb: cost x$"):
+                        boxes.cost("x")
+                    for lines in (["find all", "", "x", "count all", ""], ["count all", "x"], ["find all"] * 9):
+                        told = [self.reply(at, line.encode()) for at, line in enumerate(lines, 1)]
+                        self.assertEqual(b"".join(written(boxes.replies(lines))), b"".join(told))
 
 
 class Crowds(unittest.TestCase):

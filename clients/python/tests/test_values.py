@@ -25,8 +25,9 @@ from rtfilter import (
     TimedOut,
     Window,
 )
-from rtfilter.queries import count_line, find_line, nearest_line, on_words
-from rtfilter.replies import cut, may_be_skipped
+from rtfilter.arrays import POINT, _columns
+from rtfilter.queries import count_line, find_form, find_line, nearest_line, on_words
+from rtfilter.replies import all_answers, cut, may_be_skipped
 
 WORDS = {
     All(): "all",
@@ -154,6 +155,27 @@ class LayersInWords(unittest.TestCase):
                 on_words(on)
 
 
+class Forms(unittest.TestCase):
+    """Of many windows at once, and of frames, as far as they need no numpy."""
+
+    def test_of_windows(self) -> None:
+        self.assertEqual(find_form(Inside, None) % (1, 2, 3, 4), find_line(Inside(1, 2, 3, 4), None, None))
+        self.assertEqual(find_form(Covers, [3, 7]), "find covers %d %d %d %d on 3,7")
+        for region in anything(Circle, Window(0, 1, 0, 1), "window", None):
+            with self.assertRaisesRegex(TypeError, "^many windows are asked for as Window, Inside or Covers, and not as "):
+                find_form(region, None)
+
+    def test_of_columns(self) -> None:
+        class Frame(dict[str, int]):
+            columns = property(dict.keys)
+            itertuples = None
+
+        self.assertEqual(list(_columns(Frame(Y=2, other=5, x=1), "points", POINT, ())), [1, 2])
+        for frame, text in ((Frame(x=1, X=2, y=3), "columns x and X are both x"), (Frame(x=1), "no column y among x")):
+            with self.assertRaisesRegex(TypeError, f"^points: {text}$"):
+                list(_columns(frame, "points", POINT, ()))
+
+
 class AnswersAsValues(unittest.TestCase):
     LINES = b"-9223372036854775808 0\n9223372036854775807 36893488130239234050\n"
 
@@ -238,6 +260,11 @@ class Cutting(unittest.TestCase):
         text = b"1 0\n2 5\nok 7 2\nok 8 3\n1 0\nok 9 1\n"
         found = cut(text, ["find all", "count all", "find all"], 7)
         self.assertEqual(found, [Answers(b"1 0\n2 5\n", 2), Answers(b"", 3), Answers(b"1 0\n", 1)])
+
+    def test_a_skipped_line_has_answers_of_its_own(self) -> None:
+        first, second = all_answers([None, None])
+        first.ids.append(7)
+        self.assertEqual((list(second.ids), second.total), ([], 0))
 
     def test_which_lines_may_be_skipped(self) -> None:
         for line in ("", " ", "\t", "\r", " \t\r", "#", " # find all", "\t#\r"):

@@ -145,6 +145,21 @@ class Exactness(unittest.TestCase):
         self.assertTrue(any(holding) and not all(map(len, holding)))
         self.assertTrue(any(meeting) and not all(map(len, meeting)))
 
+    def test_holes_that_touch(self) -> None:
+        """Each other at a corner or along a side, the outer ring so too, or that go out of it."""
+        outer = [(4 * x, 4 * y) for x, y in SQUARE]
+        diamond = [(0, 20), (10, 10), (20, 20), (10, 30), (0, 20)]
+        zones = [
+            polygon(outer, *holes)
+            for holes in (
+                (HOLE, [(x + 6, y + 6) for x, y in HOLE]), (HOLE, [(x + 6, y) for x, y in HOLE]), (diamond,),
+                ([(x - 2, y) for x, y in HOLE],), ([(x + 35, y) for x, y in HOLE],), (outer,),
+            )  # fmt: skip
+        ]
+        points = list(product(range(-1, 46), range(-1, 33)))
+        windows = [(x, x + 1, y, y + side) for x, y in points[::7] for side in (0, 2)]
+        self.assert_as_read(zones, points, windows)
+
     def test_rings_of_any_form(self) -> None:
         """On each point of a small grid, so that points lie on corners, on sides and in line with them."""
         chance = random.Random(1)
@@ -289,6 +304,28 @@ class Reading(unittest.TestCase):
                 Zones(what, program=PROGRAM)
         with self.assertRaises(FileNotFoundError):
             Zones("/no/such/file", program=PROGRAM)
+
+    def test_of_many_texts(self) -> None:
+        """Each on a line, or behind a record separator; the number of one that is none is told."""
+        one, two = (json.dumps(feature(polygon(ring))) for ring in (SQUARE, HOLE))
+        named = json.dumps({**feature(polygon(SQUARE)), "properties": {"name": "a\u2028b\u0085c"}}, ensure_ascii=False)
+        neither = "text 2: neither a FeatureCollection nor "
+        with tempfile.TemporaryDirectory() as folder:
+            file = Path(folder, "file")
+            for text, told in anything(
+                (f"{one}\n{two}\n", 2), (f"\n{one}\r\n \r\n{two}\r\n", 2), (f"{named}\n{one}", 2), (named, 1),
+                (f"\x1e{one}\n\x1e{two}\n", 2), (f"\x1e{one}\x1e\x1e{two}", 2), (f"{one}\n\x1e{two}\n", 2),
+                (f"\x1e{one}\n\x1e{two[:40]}\n", "text 2: "), (f"\x1e{one[:40]}\n\x1e{two}\n", "text 1: "),
+                (f"\x1e{one}{two}\n", "text 1: "), (f"\x1e{one}\n\x1e[1]\n", neither), (f"{one}\n{two[:-1]}\n", "text 2: "),
+                (f"{one}\nnull\n", neither), (json.dumps(json.loads(one), indent=1)[:-3], "Expecting"), ("\n \n", "Expecting"),
+            ):  # fmt: skip
+                file.write_text(text, encoding="utf-8")
+                if isinstance(told, int):
+                    with Zones(file, program=PROGRAM) as zones:
+                        self.assertEqual(len(zones), told)
+                else:
+                    with self.assertRaisesRegex(ValueError, f"^{told}"):
+                        Zones(file, program=PROGRAM)
 
     def test_one_rounding(self) -> None:
         chance = random.Random(4)
