@@ -17,7 +17,7 @@ from .transport import Text, Transport
 
 LONGEST_ERROR = 1 << 12  # bytes of standard error that are told
 GRACE = 2.0  # seconds that the program has to end by itself
-PAUSES = 0.0005, 0.05  # seconds between two looks whether it has ended, the shortest and the longest
+PAUSES = 0.0001, 0.05  # seconds between two looks whether it has ended, the shortest and the longest
 
 class Process(Protocol):
     """A process that was started here: its number, and once it was taken its status."""
