@@ -81,11 +81,14 @@ class Pipeline:
         first = self.transport.lines + 1
         self.transport.lines += lines
         self._unsent += text
-        if not self._is_sending:
-            self._is_sending = True
-            self._loop.call_soon(self._send)
+        is_alone = not self._calls
         call = Call(self.transport.lines, self._loop.create_future())
         self._calls.append(call)
+        if is_alone:
+            self._send()
+        elif not self._is_sending:
+            self._is_sending = True
+            self._loop.call_soon(self._send)
         return first, await call.told
 
     def _send(self) -> None:
@@ -247,7 +250,8 @@ class Rtfilter:
             return loads.ready(Program([*self._words, "--", name]), ENDLESS)
 
     async def _told(self, text: bytes, lines: int) -> tuple[int, bytes]:
-        return await self._in_time(self._asked(text, lines))
+        asked = self._asked(text, lines)
+        return await (asked if self._timeout is None else self._in_time(asked))
 
     async def _asked(self, text: bytes, lines: int) -> tuple[int, bytes]:
         if self._is_closed or self._pipeline is None:
