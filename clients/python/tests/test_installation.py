@@ -76,28 +76,36 @@ class Types(unittest.TestCase):
     CHECKED = {
         "clients/python:clients/python/tests:examples/cluster:tests": [
             "clients/python/rtfilter", "clients/python/wheel_here.py", "clients/python/tests/*.py", "packaging/*.py",
-            "packaging/tests/*.py", "service/tests/*.py", "examples/languages/tests/*.py",
+            "packaging/tests/*.py", "service/tests/*.py",
         ],
         "clients/python/rtfilter:clients/python:tests": ["service/*.py"],  # whose modules stand beside prefork.py
-        # Examples by themselves: modules of two may have one name.
+    }  # fmt: skip
+    EXAMPLES = {  # by themselves: modules of two may have one name
         "clients/python:clients/python/tests:tests:service:examples/common:examples/common/tests:examples/geofence": [
             "examples/common/*.py", "examples/common/tests/*.py", "examples/geofence/*.py", "examples/geofence/tests/*.py",
         ],
         "clients/python:clients/python/tests:tests:examples/common:examples/common/tests:examples/roads": [
             "examples/roads/*.py", "examples/roads/tests/*.py",
         ],
-        "clients/python:tests:examples/common/tests:examples/tiles": ["examples/tiles/*.py", "examples/tiles/tests/*.py"],
+        "clients/python:tests:examples/common/tests:examples/tiles": [
+            "examples/tiles/*.py", "examples/tiles/tests/*.py", "examples/languages/tests/*.py",
+        ],
         "clients/python:tests:examples/common/tests:examples/cluster": [
             "examples/cluster/*.py", "examples/cluster/shards/*.py", "examples/cluster/tests/*.py",
         ],
     }  # fmt: skip
 
     def test_strictly(self) -> None:
+        self.check(self.CHECKED, PACKAGE / "pyproject.toml")
+
+    def test_examples_strictly(self) -> None:
+        self.check(self.EXAMPLES, ROOT / "examples/mypy.ini")
+
+    def check(self, checked: dict[str, list[str]], config: Path) -> None:
         mypy = shutil.which("mypy")
         if mypy is None:
             self.skipTest("mypy isn't installed")
         with tempfile.TemporaryDirectory() as kept, contextlib.chdir(ROOT):
-            for folders, patterns in self.CHECKED.items():
+            for folders, patterns in checked.items():
                 files = [file for pattern in patterns for file in glob.glob(pattern)]
-                options = "--config-file", PACKAGE / "pyproject.toml", "--cache-dir", kept
-                run(mypy, *options, *files, MYPYPATH=folders)
+                run(mypy, "--config-file", config, "--cache-dir", kept, *files, MYPYPATH=folders)
