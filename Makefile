@@ -72,9 +72,9 @@ test-users: all
 test-full: build/rtfilter
 	@tests/sizes.py build/rtfilter --full
 
-# What loading costs, and what a query line costs. BOXES: how many there are.
-bench: build/rtfilter
-	@bench/bench.py build/rtfilter $(BOXES)
+# What loads and lines cost, beside other indexes, in some minutes: tables, and pictures in build/bench.
+bench: all
+	@bench/bench.py build/rtfilter
 
 # The Debian packages, in build/. They want debhelper, dpkg-dev and gcc.
 deb: $(PROGRAM)

@@ -1,167 +1,186 @@
 #!/usr/bin/env python3
-"""Measures a built program: what loading a table costs, and what a query line costs beyond that.
+"""Measures a built program beside index libraries behind the same text, and draws what it found.
 
-usage: bench/bench.py PROGRAM [BOXES]
+usage: bench/bench.py PROGRAM [--only PART]..
 
-Time is that of the processor, the least of some runs in which the cases take turns, so that a noisy moment meets all of
-them. A load is a run without queries; what queries cost is what a run takes beyond that, with so many lines that it can
-be told. Memory is the most that the process held. It compares nothing, and is no part of the gate.
+What bench/peers holds is compiled into build/peers with g++: Boost.Geometry, GEOS, libspatialindex, SQLite's R*Tree,
+and a scan without an index. Debian's packages for them are libboost-dev, libgeos++-dev, libspatialindex-dev and
+libsqlite3-dev; who isn't there is passed over and told, and so are instructions without valgrind, and copies without a
+C compiler. Each gives rtfilter's answers, byte for byte, or this fails. The parts:
+
+- growth: loads, memory and lines over the number of boxes
+- lines: every verb, region, order and limit
+- tables: boxes that lie otherwise, and what of that makes searches slow
+- ids: what the order of ids does to a load
+- instructions: of a record and of lines, by valgrind
+- elsewhere: few queries over a big table, and boxes that change, beside SQLite's
+- copies: copies of a table, and connections
+
+Time is that of the processor, but for copies that of the wall. All of it takes some minutes on four cores, wants
+nothing else to run, and is no part of the gate. The figures are written into build/bench.json, from which
+bench/report.py makes tables and pictures.
 """
 
-import os
-import random
+import argparse
+import json
 import sys
 import tempfile
+import time
+from concurrent.futures import ProcessPoolExecutor
 from pathlib import Path
 
-RUNS = 5
-ENOUGH_SECONDS = 0.2
-MOST_LINES = 4**9
-LOW, HIGH = -(2**31), 2**31 - 1
-LARGEST_SIDE = 1000
-HITS = 20
+sys.dont_write_bytecode = True
+
+import kinds
+import timing
+from copies import copies
+from counting import instructions
+from elsewhere import elsewhere
+from machine import machine, sentence
+from programs import OURS, SCAN, all_programs, that_differ
+from report import RESULTS, report
+from tables import IDS, TABLES, write_table
+
+SIZES = 1000, 10_000, 100_000, 1_000_000
+BOXES = 100_000
+GROWN = kinds.WINDOW, kinds.NEAREST, kinds.QUARTER, kinds.ALL
+COMPARED = 5  # lines of each kind
+PACKED = OURS, "Boost.Geometry", "GEOS"  # whose load depends on the order of ids, or is fast enough to be seen beside
+IDS_BOXES = 1_000_000
 
 
-def mixed(at):
-    """A number of 64 bits for each number, no two the same, in no order (the finalizer of splitmix64)."""
-    for shift, factor in ((30, 0xBF58476D1CE4E5B9), (27, 0x94D049BB133111EB), (31, 1)):
-        at = (at ^ at >> shift) * factor % 2**64
-    return at - 2**63
+def rounded(it):
+    """Figures with four digits, which is more than they are worth."""
+    if isinstance(it, dict):
+        return {name: rounded(value) for name, value in it.items()}
+    if isinstance(it, list):
+        return [rounded(value) for value in it]
+    return float(f"{it:.4g}") if isinstance(it, float) else it
 
 
-# The id of the record at a place. No list of them is kept: the system counts this process's memory as its child's.
-ORDERS = {
-    "in random order": mixed,
-    "rising": lambda at: at,
-    "falling": lambda at: -at,
-    "rising and falling by turns": lambda at: at if at % 2 else -at,
-}
+def save(found):
+    RESULTS.parent.mkdir(exist_ok=True)
+    RESULTS.write_text(json.dumps(rounded(found), indent=1) + "\n")
 
 
-def write_table(path, ids):
-    chance = random.Random(2)
-    with open(path, "w") as table:
-        for id in ids:
-            x, y = (chance.randint(LOW, HIGH - LARGEST_SIDE) for _ in range(2))
-            right, top = (side + chance.randint(0, LARGEST_SIDE) for side in (x, y))
-            table.write(f"{id},{x},{right},{y},{top}\n")
+class Bench:
+    """The programs, the folder of tables, and in which tables answers differ."""
+
+    def __init__(self, program, folder):
+        self.program, self.folder = program, Path(folder)
+        self.programs, self.passed_over = all_programs(program)
+        self.differences = []
+
+    def table(self, name, boxes, order="shuffled"):
+        """The path of a table, written where it isn't there."""
+        path = Path(self.folder, f"{name}-{boxes}-{order}.csv".replace(" ", "-"))
+        return str(path) if path.exists() else write_table(path, name, boxes, order)
+
+    def write_tables(self):
+        """Writes the tables that take long side by side."""
+        wanted = [("even", IDS_BOXES, order) for order in IDS] + [(name, BOXES, "shuffled") for name in TABLES]
+        with ProcessPoolExecutor() as pool:
+            list(pool.map(self.table, *zip(*wanted)))
+
+    def without_scan(self):
+        return {name: path for name, path in self.programs.items() if name != SCAN}
+
+    def compare(self, title, table, lines, programs):
+        """Notes which programs answer some lines of each kind otherwise than rtfilter."""
+        path = self.folder / "compared"
+        path.write_text("".join(f"{line}\n" for line in lines if not kinds.is_of_the_tree(line)))
+        different = that_differ(programs, table, path)
+        self.differences += [f"{name}: {title}" for name in different]
+        for name in different:
+            print(f"FAILED: {name} answers otherwise: {title}", flush=True)
+
+    def costs(self, sessions, texts):
+        """The seconds of a line of each kind, in the sessions that know it."""
+        return {
+            kind: timing.costs(timing.only_ours(sessions) if kinds.is_of_the_tree(lines[0]) else sessions, lines)
+            for kind, lines in texts.items()
+        }
+
+    def asked(self, name, boxes, makes, programs):
+        """What a table of shuffled ids costs: the load, the memory, and lines of each kind."""
+        table, asker = self.table(name, boxes), kinds.Asker(name, boxes)
+        texts = {kind: kinds.lines_of(make, asker) for kind, make in makes.items()}
+        some = [line for lines in texts.values() for line in lines[:COMPARED]]
+        self.compare(f"{name}, {boxes:,} boxes", table, some, programs)
+        load, sessions = timing.loads(programs, table)
+        loaded = {program: session.memory() for program, session in sessions.items()}
+        lines = self.costs(sessions, texts)
+        return {"load": load, "loaded": loaded, "lines": lines, "memory": timing.ended(sessions)}
+
+    # ---- the parts
+
+    def growth(self):
+        makes = {kind: kinds.MAIN[kind] for kind in GROWN}
+        return {boxes: self.asked("even", boxes, makes, self.programs) for boxes in SIZES}
+
+    def lines(self):
+        every = dict(kinds.every_kind()) | {("main", kind, "find"): make for kind, make in kinds.MAIN.items()}
+        found = self.asked("even", BOXES, every, self.without_scan())
+        rows = [{"group": group, "row": row, "column": column, "seconds": seconds}
+                for (group, row, column), seconds in found.pop("lines").items()]
+        return {"boxes": BOXES, "rows": rows} | found
+
+    def tables(self):
+        makes = {name: kinds.OF_EACH | kinds.OF_SOME.get(name, {}) for name in TABLES}
+        found = {name: self.asked(name, BOXES, makes[name], self.without_scan()) for name in TABLES}
+        return {"boxes": BOXES, "tables": found}
+
+    def ids(self):
+        programs = {name: self.programs[name] for name in PACKED if name in self.programs}
+        rows = {}
+        for order in IDS:
+            load, sessions = timing.loads(programs, self.table("even", IDS_BOXES, order))
+            loaded = {name: session.memory() for name, session in sessions.items()}
+            rows[order] = {"load": load, "loaded": loaded, "find all": timing.costs(sessions, ["find all"])}
+            timing.ended(sessions)
+        return {"boxes": IDS_BOXES, "rows": rows}
+
+    def instructions(self):
+        found = instructions(self.programs, self.folder)
+        if not found:
+            self.passed_over["instructions"] = "there is no valgrind"
+        return found
+
+    def elsewhere(self):
+        return elsewhere(self.programs, self.folder)
+
+    def copies(self):
+        found = copies(self.programs[OURS], self.folder)
+        if not found:
+            self.passed_over["copies"] = "there is no build/rtfilter-prefork.so, which wants a C compiler"
+        return found
 
 
-# ---- query lines
-
-
-def around(x, y, reach):
-    """A window that reaches so far from a point, as far as the plane goes."""
-    low_x, low_y = max(LOW, x - reach), max(LOW, y - reach)
-    return f"{low_x} {min(HIGH, x + reach)} {low_y} {min(HIGH, y + reach)}"
-
-
-def octagon(x, y, reach):
-    """A polygon of eight corners round a point, each within so far of it on either axis."""
-    cut = reach // 2
-    right = [(cut, -reach), (reach, -cut), (reach, cut), (cut, reach)]
-    left = [(-across, -up) for across, up in right]
-    return " ".join(f"{min(HIGH, max(LOW, x + across))} {min(HIGH, max(LOW, y + up))}" for across, up in right + left)
-
-
-def inner(chance, reach):
-    """A point that is so far from the ends of the plane."""
-    return chance.randint(LOW + reach, HIGH - reach), chance.randint(LOW + reach, HIGH - reach)
-
-
-# A line of each kind; `reach` is half the side of a square of about HITS boxes.
-LINES = {
-    f"find window, about {HITS} boxes": lambda chance, reach: "find window " + around(*inner(chance, reach), reach),
-    f"find circle, about {HITS} boxes": lambda chance, reach: "find circle {} {} {}".format(
-        *inner(chance, 2 * reach), int(reach * 1.13)
-    ),
-    f"find polygon, about {HITS} boxes": lambda chance, reach: "find polygon 8 "
-    + octagon(*inner(chance, 2 * reach), int(reach * 1.07)),
-    "nearest 10": lambda chance, reach: "nearest 10 {} {}".format(*inner(chance, 0)),
-    "count window, a quarter of the plane": lambda chance, reach: "count window "
-    + around(*inner(chance, 2**30), 2**30),
-    "find all": lambda chance, reach: "find all",
-}
-
-
-def write_queries(path, lines, line, boxes):
-    chance = random.Random(3)
-    reach = min(2**29, int(2**31 * (HITS / boxes) ** 0.5))
-    with open(path, "w") as queries:
-        for _ in range(lines):
-            queries.write(line(chance, reach) + "\n")
-
-
-# ---- runs
-
-
-def run(words):
-    """The seconds of the processor, and the most memory in bytes."""
-    nothing = [
-        (os.POSIX_SPAWN_OPEN, 0, "/dev/null", os.O_RDONLY, 0),
-        (os.POSIX_SPAWN_OPEN, 1, "/dev/null", os.O_WRONLY, 0),
-    ]
-    child = os.posix_spawn(words[0], words, os.environ, file_actions=nothing)
-    _, status, usage = os.wait4(child, 0)
-    if status:
-        raise SystemExit(f"{' '.join(words)} ended with {status}")
-    return usage.ru_utime + usage.ru_stime, usage.ru_maxrss * 1024
-
-
-def by_turns(cases):
-    """The least time of each case, and the most memory."""
-    runs = {name: [] for name in cases}
-    for _ in range(RUNS):
-        for name, words in cases.items():
-            runs[name].append(run(words))
-    return {
-        name: (min(seconds), max(memory))
-        for name, (seconds, memory) in ((name, zip(*measured)) for name, measured in runs.items())
-    }
-
-
-def measure_loads(program, folder, boxes):
-    cases = {}
-    for order, id_at in ORDERS.items():
-        table = str(Path(folder, f"{len(cases)}.csv"))
-        write_table(table, map(id_at, range(boxes)))
-        cases[order] = [program, table]
-    print(f"| ids of {boxes:,} boxes | load | memory of the whole process |\n|---|---|---|")
-    for order, (seconds, memory) in by_turns(cases).items():
-        print(f"| {order} | {seconds:.2f} s | {memory / 1e6:.0f} MB |")
-
-
-def enough_lines(words, line, boxes, load):
-    """Writes as many query lines as take a while, and tells how many those are."""
-    lines = 1
-    while True:
-        write_queries(words[-1], lines, line, boxes)
-        if lines >= MOST_LINES or run(words)[0] - load > ENOUGH_SECONDS:
-            return lines
-        lines *= 4
-
-
-def measure_queries(program, folder, boxes):
-    table, nothing = str(Path(folder, "0.csv")), "a run without queries"
-    cases, counts = {nothing: [program, table]}, {}
-    load = min(run(cases[nothing])[0] for _ in range(RUNS))
-    for name, line in LINES.items():
-        words = [program, table, str(Path(folder, f"{len(cases)}.queries"))]
-        counts[name], cases[name] = enough_lines(words, line, boxes, load), words
-    costs = by_turns(cases)
-    print(f"\n| line, over {boxes:,} boxes | time of one |\n|---|---|")
-    for name, lines in counts.items():
-        beyond = max(0.0, costs[name][0] - costs[nothing][0])
-        print(f"| {name} | {beyond / lines * 1e6:,.1f} µs |")
+PARTS = "growth", "lines", "tables", "ids", "instructions", "elsewhere", "copies"
 
 
 def main():
-    program = str(Path(sys.argv[1]).resolve())
-    boxes = int(sys.argv[2]) if len(sys.argv) > 2 else 1_000_000
+    parser = argparse.ArgumentParser(description=__doc__, formatter_class=argparse.RawDescriptionHelpFormatter)
+    parser.add_argument("program")
+    parser.add_argument("--only", action="append", choices=PARTS)
+    args = parser.parse_args()
+    found = json.loads(RESULTS.read_text()) if args.only and RESULTS.exists() else {}
+    found["machine"] = machine()
+    print(sentence(found["machine"]), flush=True)
     with tempfile.TemporaryDirectory() as folder:
-        measure_loads(program, folder, boxes)
-        measure_queries(program, folder, boxes)
+        bench = Bench(args.program, folder)
+        if not args.only:
+            bench.write_tables()
+        for part in args.only or PARTS:
+            begun = time.monotonic()
+            found[part] = getattr(bench, part)()
+            print(f"{part}: {time.monotonic() - begun:.0f} s", flush=True)
+            save(found | {"passed over": bench.passed_over, "differences": bench.differences})
+        for name, reason in bench.passed_over.items():
+            print(f"passed over: {name}: {reason}", flush=True)
+    report()
+    return int(bool(bench.differences))
 
 
 if __name__ == "__main__":
-    main()
+    sys.exit(main())

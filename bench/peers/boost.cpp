@@ -30,25 +30,29 @@ class Boost {
 public:
     explicit Boost(const Table &table) : table(table), tree(values(table)) {}
 
-    template <class Visit> void window(const Box &around, Visit visit) const {
-        tree.query(rtree::intersects(rectangle(around)),
-                   boost::make_function_output_iterator([&](const Value &value) { visit(value.second); }));
+    template <class Visit> void search(const Query &q, Visit visit) const {
+        auto each = boost::make_function_output_iterator([&](const Value &value) { visit(value.second); });
+        if (q.region == Query::Covers) tree.query(rtree::covers(rectangle(q.around)), each);
+        else tree.query(rtree::intersects(rectangle(q.around)), each);
     }
 
     // It measures distances in floating point: so more are asked for until all others are surely farther than the last.
-    std::vector<Hit> nearest(const Query &q) const {
-        Corner centre(static_cast<double>(q.centre.x), static_cast<double>(q.centre.y));
+    void nearest(const Query &q, std::vector<Hit> &hits) const {
+        Corner centre(static_cast<double>(q.place.x), static_cast<double>(q.place.y));
+        auto fits = rtree::satisfies([&](const Value &value) { return accepts(q, table, value.second); });
         for (uint64_t wanted = q.limit + 4;; wanted *= 2) {
-            std::vector<Hit> hits;
-            tree.query(rtree::nearest(centre, static_cast<unsigned>(std::min<uint64_t>(wanted, tree.size()))),
+            hits.clear();
+            wanted = std::min<uint64_t>(wanted, tree.size());
+            if (wanted == 0) return;
+            tree.query(rtree::nearest(centre, static_cast<unsigned>(wanted)) && fits,
                        boost::make_function_output_iterator([&](const Value &value) {
-                           hits.push_back({near2(q.centre, table.boxes[value.second]), table.ids[value.second]});
+                           hits.push_back({near2(q.place, table.boxes[value.second]), table.ids[value.second]});
                        }));
-            if (hits.size() == tree.size()) return hits;
+            if (hits.size() < wanted || wanted == tree.size() || q.limit == 0) return;
             std::vector<u128> scores;
             for (const Hit &hit : hits) scores.push_back(hit.score);
             std::sort(scores.begin(), scores.end());
-            if (q.limit == 0 || scores.back() - (scores.back() >> 40) > scores[q.limit - 1]) return hits;
+            if (scores.back() - (scores.back() >> 40) > scores[q.limit - 1]) return;
         }
     }
 };

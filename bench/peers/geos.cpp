@@ -1,4 +1,5 @@
-// GEOS's STR-packed tree with 16 children a node, which the C++ header names as unstable. It has no search for the nearest.
+// GEOS's STR-packed tree with 16 children a node, which the C++ header names as unstable. It has no search for the nearest:
+// a window grows until enough boxes lie within its half width.
 #include "peer.hpp"
 #include <cmath>
 #include <geos/geom/Envelope.h>
@@ -9,10 +10,14 @@ class Geos {
 
     const Table &table;
     mutable geos::index::strtree::TemplateSTRtree<uint32_t> tree;
-    int64_t reach;
+    int64_t reach;  // half the side of a square of about ten boxes, where they are spread evenly
 
     static Envelope envelope(const Box &b) {
-        return Envelope(static_cast<double>(b.min_x), static_cast<double>(b.max_x), static_cast<double>(b.min_y), static_cast<double>(b.max_y));
+        return Envelope(static_cast<double>(b.min_x), static_cast<double>(b.max_x),
+                        static_cast<double>(b.min_y), static_cast<double>(b.max_y));
+    }
+    template <class Visit> void window(const Box &around, Visit visit) const {
+        tree.query(envelope(around), [&](uint32_t at) { visit(at); });
     }
 
 public:
@@ -23,15 +28,22 @@ public:
             all.expandToInclude(envelope(table.boxes[at]));
         }
         tree.build();
-        // a square of about ten boxes, where they are spread evenly
         reach = static_cast<int64_t>(std::sqrt(10 * all.getArea() / static_cast<double>(table.boxes.size() + 1)) / 2) + 1;
     }
 
-    template <class Visit> void window(const Box &around, Visit visit) const {
-        tree.query(envelope(around), [&](uint32_t at) { visit(at); });
-    }
+    template <class Visit> void search(const Query &q, Visit visit) const { window(q.around, visit); }
 
-    std::vector<Hit> nearest(const Query &q) const { return nearest_by_windows(*this, table, q, reach); }
+    void nearest(const Query &q, std::vector<Hit> &hits) const {
+        for (int64_t half = reach; hits.size() < q.limit; half *= 2) {
+            hits.clear();
+            u128 half2 = static_cast<u128>(half) * static_cast<u128>(half);
+            window(box_around(q.place, half), [&](size_t at) {
+                u128 score = near2(q.place, table.boxes[at]);
+                if (score <= half2 && accepts(q, table, at)) hits.push_back({score, table.ids[at]});
+            });
+            if (half > INT64_C(1) << 33) return;  // no box of the plane is farther
+        }
+    }
 };
 
 int main(int argc, char **argv) { return answer<Geos>(argc, argv); }

@@ -1,8 +1,10 @@
 // What the peers share: the table and the query lines, exact predicates, the answers as text, and the main loop.
 //
-// A peer is an index library behind the same text as rtfilter, for bench/compare.py. It has a class with a constructor over
-// the boxes, `window`, which calls a function with the number of each box that meets a window, and perhaps `nearest` of its
-// own. Text at fault ends it: the workloads hold none.
+// A peer is an index library behind the same text as rtfilter, for bench/bench.py: `peer TABLE` answers the query lines of
+// standard input, those that are complete after each read. It has a class with a constructor over the table, `search`, which
+// calls a function with the place of each box that the region of a query may accept, and `nearest`, which finds the boxes
+// nearest to a point, as many as are wanted or more. Text at fault ends it: the workloads hold none. Neither `cost` nor
+// `levels` is known, which are about rtfilter's own tree.
 #pragma once
 #include <algorithm>
 #include <charconv>
@@ -10,10 +12,12 @@
 #include <cstdio>
 #include <cstdlib>
 #include <cstring>
-#include <fstream>
+#include <fcntl.h>
+#include <functional>
 #include <iterator>
 #include <string>
 #include <string_view>
+#include <unistd.h>
 #include <vector>
 
 using u128 = unsigned __int128;
@@ -28,10 +32,17 @@ struct Hit { u128 score; int64_t id; };
     std::exit(3);
 }
 
-inline std::string text_of(const char *path) {
-    std::ifstream file(path, std::ios::binary);
-    if (!file) fail("cannot open a file");
-    return {std::istreambuf_iterator<char>(file), {}};
+// Takes the lines of a file one by one, and calls `pause` before each read but the first.
+template <class Take, class Pause> void read_lines(int file, Take take, Pause pause) {
+    std::string text, piece(1 << 18, 0);
+    for (ssize_t got; (got = read(file, piece.data(), piece.size())) > 0; pause()) {
+        text.append(piece, 0, static_cast<size_t>(got));
+        size_t start = 0;
+        for (size_t end; (end = text.find('\n', start)) != std::string::npos; start = end + 1)
+            take(std::string_view(text).substr(start, end - start));
+        text.erase(0, start);
+    }
+    if (!text.empty()) fail("a last line without an end");
 }
 
 // A text that is read from its front.
@@ -47,8 +58,13 @@ struct Reader {
         at = rest;
         return value;
     }
+    bool next(char c) {
+        if (at == end || *at != c) return false;
+        at++;
+        return true;
+    }
     void pass(char c) {
-        if (at == end || *at++ != c) fail("another byte is wanted");
+        if (!next(c)) fail("another byte is wanted");
     }
     int64_t next_number() { pass(' '); return number(); }
     bool word(std::string_view word) {
@@ -58,24 +74,32 @@ struct Reader {
         return fits;
     }
     bool next_word(std::string_view name) {
-        if (at == end || *at != ' ') return false;
-        at++;
+        if (!next(' ')) return false;
         bool fits = word(name);
         if (!fits) at--;
         return fits;
     }
 };
 
-struct Table { std::vector<int64_t> ids; std::vector<Box> boxes; };
+struct Table {
+    std::vector<int64_t> ids;
+    std::vector<Box> boxes;
+    std::vector<uint8_t> layers;
+};
 
-inline Table table_of(std::string_view text) {
+inline Table table_of(const char *path) {
+    int file = open(path, O_RDONLY);
+    if (file < 0) fail("cannot open the table");
     Table table;
-    for (Reader row(text); row.at != row.end; row.pass('\n')) {
+    read_lines(file, [&](std::string_view line) {
+        Reader row(line);
         table.ids.push_back(row.number());
         int32_t sides[4];
         for (int32_t &side : sides) row.pass(','), side = static_cast<int32_t>(row.number());
         table.boxes.push_back({sides[0], sides[1], sides[2], sides[3]});
-    }
+        table.layers.push_back(row.next(',') ? static_cast<uint8_t>(row.number()) : 0);
+    }, [] {});
+    close(file);
     std::vector<int64_t> sorted = table.ids;
     std::sort(sorted.begin(), sorted.end());
     if (std::adjacent_find(sorted.begin(), sorted.end()) != sorted.end()) fail("a repeated id");
@@ -84,14 +108,22 @@ inline Table table_of(std::string_view text) {
 
 // ---- queries
 
+constexpr Box plane{INT32_MIN, INT32_MAX, INT32_MIN, INT32_MAX};
+constexpr uint64_t endless = UINT64_MAX;
+
 struct Query {
-    enum { Window, Circle, Polygon } region = Window;
-    Box around;                   // each box that is accepted meets it
-    Point centre;                 // of a circle, and of an order by distance
-    int64_t radius;
+    enum { All, Window, Inside, Covers, Circle, Polygon } region = All;
+    enum { ById, Near, Smallest } order = ById;
+    Box around = plane;           // each box that is accepted meets it
+    Point centre{};               // of a circle
+    int64_t radius = 0;
     std::vector<Point> vertices;  // counterclockwise
-    bool counts = false, is_near = false, is_nearest = false;
-    uint64_t limit = UINT64_MAX;
+    uint64_t layers = endless;    // a bit for each
+    Point place{};                // to which boxes are near
+    uint64_t limit = endless;
+    bool counts = false;
+
+    bool is_nearest() const { return region == All && order == Near && limit != endless; }
 };
 
 inline int32_t coordinate(int64_t value) {
@@ -100,44 +132,65 @@ inline int32_t coordinate(int64_t value) {
 inline Box box_around(Point p, int64_t reach) {
     return {coordinate(p.x - reach), coordinate(p.x + reach), coordinate(p.y - reach), coordinate(p.y + reach)};
 }
-constexpr Box plane{INT32_MIN, INT32_MAX, INT32_MIN, INT32_MAX};
 
 inline Point next_point(Reader &line) {
     int64_t x = line.next_number();
     return {x, line.next_number()};
 }
+inline Box next_box(Reader &line) {
+    int32_t sides[4];
+    for (int32_t &side : sides) side = static_cast<int32_t>(line.next_number());
+    return {sides[0], sides[1], sides[2], sides[3]};
+}
+
+inline void read_polygon(Reader &line, Query &q) {
+    q.region = Query::Polygon;
+    q.vertices.resize(static_cast<size_t>(line.next_number()));
+    for (Point &vertex : q.vertices) vertex = next_point(line);
+    auto by_x = [](Point a, Point b) { return a.x < b.x; };
+    auto by_y = [](Point a, Point b) { return a.y < b.y; };
+    auto [west, east] = std::minmax_element(q.vertices.begin(), q.vertices.end(), by_x);
+    auto [south, north] = std::minmax_element(q.vertices.begin(), q.vertices.end(), by_y);
+    q.around = {coordinate(west->x), coordinate(east->x), coordinate(south->y), coordinate(north->y)};
+}
+
+inline void read_circle(Reader &line, Query &q) {
+    q.region = Query::Circle;
+    q.centre = q.place = next_point(line);
+    q.radius = line.next_number();
+    q.order = Query::Near;
+    q.around = box_around(q.centre, q.radius);
+}
+
+inline void read_region(Reader &line, Query &q) {
+    if (line.next_word("window")) q.region = Query::Window, q.around = next_box(line);
+    else if (line.next_word("inside")) q.region = Query::Inside, q.around = next_box(line);
+    else if (line.next_word("covers")) q.region = Query::Covers, q.around = next_box(line);
+    else if (line.next_word("circle")) read_circle(line, q);
+    else if (line.next_word("polygon")) read_polygon(line, q);
+    else if (!line.next_word("all")) fail("an unknown region");
+    if (line.next_word("on")) {
+        q.layers = 0;
+        line.pass(' ');
+        do q.layers |= uint64_t{1} << line.number();
+        while (line.next(','));
+    }
+}
 
 inline Query query_of(std::string_view text) {
     Query q;
     Reader line(text);
-    q.around = plane;
     if (line.word("nearest")) {
         q.limit = static_cast<uint64_t>(line.next_number());
-        q.centre = next_point(line);
-        q.is_near = q.is_nearest = true;
-        return q;
-    }
-    q.counts = line.word("count");
-    if (!q.counts && !line.word("find")) fail("an unknown verb");
-    if (line.next_word("circle")) {
-        q.region = Query::Circle;
-        q.centre = next_point(line);
-        q.radius = line.next_number();
-        q.is_near = true;
-        q.around = box_around(q.centre, q.radius);
-    } else if (line.next_word("polygon")) {
-        q.region = Query::Polygon;
-        q.vertices.resize(static_cast<size_t>(line.next_number()));
-        for (Point &vertex : q.vertices) vertex = next_point(line);
-        auto [west, east] = std::minmax_element(q.vertices.begin(), q.vertices.end(), [](Point a, Point b) { return a.x < b.x; });
-        auto [south, north] = std::minmax_element(q.vertices.begin(), q.vertices.end(), [](Point a, Point b) { return a.y < b.y; });
-        q.around = {coordinate(west->x), coordinate(east->x), coordinate(south->y), coordinate(north->y)};
-    } else if (line.next_word("window")) {
-        int32_t sides[4];
-        for (int32_t &side : sides) side = static_cast<int32_t>(line.next_number());
-        q.around = {sides[0], sides[1], sides[2], sides[3]};
-    } else if (!line.next_word("all")) {
-        fail("an unknown region");
+        q.order = Query::Near;
+        q.place = next_point(line);
+    } else {
+        q.counts = line.word("count");
+        if (!q.counts && !line.word("find")) fail("an unknown verb");
+        read_region(line, q);
+        if (line.next_word("near")) q.order = Query::Near, q.place = next_point(line);
+        else if (line.next_word("smallest")) q.order = Query::Smallest;
+        if (line.next_word("first")) q.limit = static_cast<uint64_t>(line.next_number());
     }
     if (line.at != line.end) fail("a stray word");
     return q;
@@ -153,19 +206,34 @@ inline u128 near2(Point p, const Box &b) {
 inline bool overlaps(const Box &a, const Box &b) {
     return a.min_x <= b.max_x && b.min_x <= a.max_x && a.min_y <= b.max_y && b.min_y <= a.max_y;
 }
+inline bool is_inside(const Box &a, const Box &b) {
+    return b.min_x <= a.min_x && a.max_x <= b.max_x && b.min_y <= a.min_y && a.max_y <= b.max_y;
+}
+inline u128 score_of(const Query &q, const Box &b) {
+    if (q.order == Query::Near) return near2(q.place, b);
+    return static_cast<u128>(int64_t{b.max_x} - b.min_x) * static_cast<u128>(int64_t{b.max_y} - b.min_y);
+}
 
-// Whether a box that meets `around` is accepted.
-inline bool accepts(const Query &q, const Box &b) {
-    if (q.region == Query::Window) return true;
-    if (q.region == Query::Circle) return near2(q.centre, b) <= static_cast<u128>(q.radius) * static_cast<u128>(q.radius);
-    Point from = q.vertices.back();
-    for (Point to : q.vertices) {
+// Whether a box that meets the polygon's bounding box meets the polygon.
+inline bool meets_polygon(const std::vector<Point> &vertices, const Box &b) {
+    Point from = vertices.back();
+    for (Point to : vertices) {
         // the corner that lies farthest to the left of the edge
         int64_t x = to.y >= from.y ? b.min_x : b.max_x, y = to.x >= from.x ? b.max_y : b.min_y;
         if (static_cast<i128>(to.x - from.x) * (y - from.y) < static_cast<i128>(to.y - from.y) * (x - from.x)) return false;
         from = to;
     }
     return true;
+}
+
+// Whether a box that meets `around` is accepted.
+inline bool accepts(const Query &q, const Table &table, size_t at) {
+    const Box &b = table.boxes[at];
+    if (!(q.layers >> table.layers[at] & 1)) return false;
+    if (q.region == Query::Inside) return is_inside(b, q.around);
+    if (q.region == Query::Covers) return is_inside(q.around, b);
+    if (q.region == Query::Circle) return near2(q.centre, b) <= static_cast<u128>(q.radius) * static_cast<u128>(q.radius);
+    return q.region != Query::Polygon || meets_polygon(q.vertices, b);
 }
 
 // ---- answers
@@ -182,55 +250,72 @@ inline void print(std::string &out, int64_t number) {
     out.append(digits, std::to_chars(digits, std::end(digits), number).ptr);
 }
 
-// An index without a search of its own for the nearest: a window grows until enough boxes lie within its half width.
-template <class Index> std::vector<Hit> nearest_by_windows(const Index &index, const Table &table, const Query &q, int64_t reach) {
-    std::vector<Hit> hits;
-    for (;; reach *= 2) {
-        hits.clear();
-        u128 reach2 = static_cast<u128>(reach) * static_cast<u128>(reach);
-        index.window(box_around(q.centre, reach), [&](size_t at) {
-            u128 score = near2(q.centre, table.boxes[at]);
-            if (score <= reach2) hits.push_back({score, table.ids[at]});
-        });
-        if (hits.size() >= std::min<uint64_t>(q.limit, table.ids.size())) return hits;
-    }
+template <class Item, class Less> void sort_first(std::vector<Item> &items, size_t count, Less less) {
+    auto end = items.begin() + static_cast<std::ptrdiff_t>(count);
+    if (end != items.end()) std::nth_element(items.begin(), end, items.end(), less);
+    std::sort(items.begin(), end, less);
 }
 
-template <class Index> int answer(int argc, char **argv) {
-    if (argc != 3) fail("usage: peer TABLE QUERIES");
-    Table table = table_of(text_of(argv[1]));
-    Index index(table);
-    std::string queries = text_of(argv[2]), out;
+// What a line is told. Where answers come by id, ids alone are sorted.
+template <class Index> class Answers {
+    const Table &table;
+    const Index &index;
     int64_t number = 0;
-    for (size_t start = 0; start < queries.size();) {
-        size_t end = queries.find('\n', start);
-        Query q = query_of(std::string_view(queries).substr(start, end - start));
-        start = end + 1;
-        uint64_t found = 0;
-        if (q.counts) {
-            index.window(q.around, [&](size_t at) { found += accepts(q, table.boxes[at]); });
-        } else {
-            std::vector<Hit> hits;
-            if (q.is_nearest) hits = index.nearest(q);
-            else index.window(q.around, [&](size_t at) {
-                const Box &b = table.boxes[at];
-                if (accepts(q, b)) hits.push_back({q.is_near ? near2(q.centre, b) : 0, table.ids[at]});
-            });
-            std::sort(hits.begin(), hits.end(), [](const Hit &a, const Hit &b) {
-                return a.score < b.score || (a.score == b.score && a.id < b.id);
-            });
-            found = std::min<uint64_t>(hits.size(), q.limit);
-            for (size_t at = 0; at < found; at++) {
-                print(out, hits[at].id), out += ' ';
-                print(out, hits[at].score), out += '\n';
-            }
-        }
-        out += "ok ", print(out, ++number), out += ' ';
-        print(out, static_cast<int64_t>(found)), out += '\n';
-        if (out.size() > 65536 || start >= queries.size()) {
-            if (std::fwrite(out.data(), 1, out.size(), stdout) != out.size()) fail("cannot write");
-            out.clear();
-        }
+    std::vector<int64_t> ids;
+    std::vector<Hit> hits;
+    std::string out;
+
+    size_t count(const Query &q) const {
+        size_t found = 0;
+        index.search(q, [&](size_t at) { found += accepts(q, table, at); });
+        return found;
     }
+    size_t by_id(const Query &q) {
+        ids.clear();
+        index.search(q, [&](size_t at) { if (accepts(q, table, at)) ids.push_back(table.ids[at]); });
+        size_t found = std::min<uint64_t>(ids.size(), q.limit);
+        sort_first(ids, found, std::less<>());
+        for (size_t at = 0; at < found; at++) print(out, ids[at]), out += " 0\n";
+        return found;
+    }
+    size_t by_score(const Query &q) {
+        hits.clear();
+        if (q.is_nearest()) index.nearest(q, hits);
+        else index.search(q, [&](size_t at) {
+            if (accepts(q, table, at)) hits.push_back({score_of(q, table.boxes[at]), table.ids[at]});
+        });
+        size_t found = std::min<uint64_t>(hits.size(), q.limit);
+        sort_first(hits, found, [](const Hit &a, const Hit &b) {
+            return a.score < b.score || (a.score == b.score && a.id < b.id);
+        });
+        for (size_t at = 0; at < found; at++) print(out, hits[at].id), out += ' ', print(out, hits[at].score), out += '\n';
+        return found;
+    }
+
+public:
+    Answers(const Table &table, const Index &index) : table(table), index(index) {}
+
+    void add(std::string_view line) {
+        Query q = query_of(line);
+        size_t found = q.counts ? count(q) : q.order == Query::ById ? by_id(q) : by_score(q);
+        out += "ok ", print(out, ++number), out += ' ', print(out, static_cast<int64_t>(found)), out += '\n';
+        if (out.size() > 65536) flush();
+    }
+    void flush() {
+        for (size_t at = 0; at < out.size();) {
+            ssize_t written = write(1, out.data() + at, out.size() - at);
+            if (written < 0) fail("cannot write");
+            at += static_cast<size_t>(written);
+        }
+        out.clear();
+    }
+};
+
+template <class Index> int answer(int argc, char **argv) {
+    if (argc != 2) fail("usage: peer TABLE < QUERIES");
+    Table table = table_of(argv[1]);
+    Index index(table);
+    Answers<Index> answers(table, index);
+    read_lines(0, [&](std::string_view line) { answers.add(line); }, [&] { answers.flush(); });
     return 0;
 }
