@@ -11,7 +11,7 @@ from collections import deque
 from collections.abc import Awaitable, Iterable
 from operator import index
 from types import TracebackType
-from typing import TYPE_CHECKING, Any, NamedTuple, Self, TypeVar
+from typing import TYPE_CHECKING, Any, Self, TypeVar
 
 from . import arrays
 from .answers import Answers
@@ -36,12 +36,12 @@ NOT_OPEN = "the table is open inside `async with`, and not before"
 
 Given = TypeVar("Given")
 
+Told = tuple[int, bytes]
+"""The number of the first of some lines, and the replies to them."""
 
-class Call(NamedTuple):
-    """Lines that are on their way: the number of the last of them, and who waits for their replies."""
 
-    last: int
-    told: "asyncio.Future[bytes]"
+Call = tuple[int, int, "asyncio.Future[Told]"]
+"""Lines that are on their way: the numbers of the first and the last of them, and who waits for their replies."""
 
 
 class Pipeline:
@@ -71,8 +71,8 @@ class Pipeline:
             return True
         return not self._calls and self.transport.is_lost
 
-    async def told(self, text: bytes, lines: int) -> tuple[int, bytes]:
-        """The number of the first of some lines, of which the last one is answered, and the replies to them."""
+    def told(self, text: bytes, lines: int) -> "asyncio.Future[Told]":
+        """What some lines are told, of which the last one is answered."""
         self.transport._check_process()
         if asyncio.get_running_loop() is not self._loop:
             raise RuntimeError("it belongs to the loop in which it was opened")
@@ -80,32 +80,36 @@ class Pipeline:
             raise self._error
         first = self.transport.lines + 1
         self.transport.lines += lines
-        self._unsent += text
-        is_alone = not self._calls
-        call = Call(self.transport.lines, self._loop.create_future())
-        self._calls.append(call)
-        if is_alone:
-            self._send()
-        elif not self._is_sending:
-            self._is_sending = True
-            self._loop.call_soon(self._send)
-        return first, await call.told
+        told: "asyncio.Future[Told]" = self._loop.create_future()
+        if not self._calls:  # then nothing is left to be sent, and nothing read
+            text = text[self._sent(text) :]
+        self._calls.append((first, self.transport.lines, told))
+        if text:
+            self._unsent += text
+            if not self._is_sending:
+                self._is_sending = True
+                self._loop.call_soon(self._send)
+        return told
 
     def _send(self) -> None:
         self._is_sending = False
         if self._error is not None:
             return
-        try:
-            del self._unsent[: self.transport._write(bytes(self._unsent))]
-        except BlockingIOError:
-            pass
-        except OSError:  # it has ended, as the end of its output tells
-            self._unsent.clear()
+        del self._unsent[: self._sent(bytes(self._unsent))]
         if self._unsent and not self._is_held_up:
             self._loop.add_writer(self._input, self._send)
         elif self._is_held_up and not self._unsent:
             self._loop.remove_writer(self._input)
         self._is_held_up = bool(self._unsent)
+
+    def _sent(self, text: bytes) -> int:
+        """How many bytes of a text are taken without a wait."""
+        try:
+            return self.transport._write(text)
+        except BlockingIOError:
+            return 0
+        except OSError:  # it has ended, as the end of its output tells
+            return len(text)
 
     def _receive(self) -> None:
         try:
@@ -118,19 +122,31 @@ class Pipeline:
             self._leave()
             self._ending = self._loop.create_task(self._end())
             return
+        if not self._received and self._is_all(piece):
+            self._give(piece)
+            return
         self._received += piece
         begun = 0
         while self._calls and (end := self._end_of_replies(begun)):
-            call = self._calls.popleft()
-            if not call.told.done():  # cancelled
-                call.told.set_result(bytes(self._received[begun:end]))
+            self._give(bytes(self._received[begun:end]))
             begun = self._searched = end
         del self._received[:begun]
         self._searched = max(0, len(self._received) - LONGEST_LAST_LINE)
 
+    def _is_all(self, piece: bytes) -> bool:
+        """Whether a piece is all the replies to the one call that waits, as mostly where one task asks."""
+        begun = piece.rfind(b"\n", 0, -1) + 1
+        return len(self._calls) == 1 and piece.endswith(b"\n") and piece.startswith(b"ok %d " % self._calls[0][1], begun)
+
+    def _give(self, replies: bytes) -> None:
+        """Gives the first call its replies."""
+        first, _, told = self._calls.popleft()
+        if not told.done():  # cancelled
+            told.set_result((first, replies))
+
     def _end_of_replies(self, begun: int) -> int:
         """Where the replies to the first call end, which begin there; 0 where that isn't there yet."""
-        number = self._calls[0].last
+        number = self._calls[0][1]
         for word in (b"ok %d ", b"error %d "):  # no answer has a letter
             at = self._received.find(word % number, max(begun, self._searched))
             if at >= 0:
@@ -151,14 +167,14 @@ class Pipeline:
         if self._error is None:
             self._error = error
             self._leave()
-        for call in self._calls:
-            if not call.told.done():
-                call.told.set_exception(self._error)
+        for _, _, told in self._calls:
+            if not told.done():
+                told.set_exception(self._error)
         self._calls.clear()
 
     async def finish(self) -> None:
         """Ends it once all its calls are over."""
-        waiting = [call.told for call in self._calls]
+        waiting = [told for _, _, told in self._calls]
         if waiting:
             await asyncio.wait(waiting)
         await self.close()
@@ -205,7 +221,7 @@ class Rtfilter:
         self._pipeline: Pipeline | None = None
         self._leaving: set[Pipeline] = set()  # those of tables before, which still have calls
         self._connecting = asyncio.Lock()
-        self._loads = Loads()
+        self._coming: set[Loads] = set()  # of those that are being opened
         self._is_closed = False
 
     async def __aenter__(self) -> Self:
@@ -233,15 +249,21 @@ class Rtfilter:
 
     async def _opened(self, table: Table | None) -> Pipeline:
         """A connection whose table is there. The wait for it is a thread's, which ends with this."""
-        loads = self._loads
+        loads = Loads()
+        self._coming.add(loads)
         opening = asyncio.get_running_loop().run_in_executor(None, self._transport, table, loads)
         try:
-            return Pipeline(await asyncio.shield(opening))
+            pipeline = Pipeline(await asyncio.shield(opening))
         except asyncio.CancelledError:
             loads.end()
-            self._loads = Loads()
             opening.add_done_callback(close_opened)
             raise
+        finally:
+            self._coming.discard(loads)
+        if self._is_closed:
+            await pipeline.close()
+            raise ValueError(CLOSED)
+        return pipeline
 
     def _transport(self, table: Table | None, loads: Loads) -> Transport:
         if self._address is not None:
@@ -249,19 +271,26 @@ class Rtfilter:
         with named(table, self._header) as name:
             return loads.ready(Program([*self._words, "--", name]), ENDLESS)
 
-    async def _told(self, text: bytes, lines: int) -> tuple[int, bytes]:
-        asked = self._asked(text, lines)
-        return await (asked if self._timeout is None else self._in_time(asked))
+    def _told(self, text: bytes, lines: int) -> Awaitable[Told]:
+        if self._pipeline is not None and self._timeout is None and self._address is None:
+            return self._pipeline.told(text, lines)  # mostly, and without a coroutine of its own
+        return self._in_time(self._asked(text, lines))
 
-    async def _asked(self, text: bytes, lines: int) -> tuple[int, bytes]:
-        if self._is_closed or self._pipeline is None:
-            raise ValueError(CLOSED if self._is_closed else NOT_OPEN)
-        if self._address is not None and self._pipeline.has_ended:
+    async def _asked(self, text: bytes, lines: int) -> Told:
+        if self._address is not None and self._current().has_ended:
             async with self._connecting:
-                if self._pipeline.has_ended and not self._is_closed:
-                    before, self._pipeline = self._pipeline, await self._opened(None)
-                    await before.close()
-        return await self._pipeline.told(text, lines)
+                if (lost := self._current()).has_ended:
+                    fresh = await self._opened(None)
+                    if self._pipeline is lost:
+                        self._pipeline, fresh = fresh, lost
+                    await fresh.finish()  # where a reload was quicker, its table may be a newer one
+        return await self._current().told(text, lines)
+
+    def _current(self) -> Pipeline:
+        """The one that is asked. Raises `ValueError` where there is none."""
+        if self._pipeline is None:
+            raise ValueError(CLOSED if self._is_closed else NOT_OPEN)
+        return self._pipeline
 
     async def replies(self, lines: Iterable[str]) -> list[Reply]:
         """As `rtfilter.Boxes.replies`."""
@@ -336,35 +365,32 @@ class Rtfilter:
 
     async def reload(self, table: Table | None = None) -> None:
         """As `rtfilter.Boxes.reload`; by address, as `rtfilter.Rtfilter.reload`."""
-        if self._is_closed or self._pipeline is None:
-            raise ValueError(CLOSED if self._is_closed else NOT_OPEN)
+        self._current()
         if self._address is not None and table is not None:
             raise ValueError("the table behind an address is the service's")
         if self._address is None:
             table = again(table, self._file)
         fresh = await self._in_time(self._opened(table))
-        if self._is_closed:
-            await fresh.close()
-            raise ValueError(CLOSED)
-        before, self._pipeline, self._file = self._pipeline, fresh, file_of(table)
+        before, self._pipeline, self._file = self._current(), fresh, file_of(table)
         self._leaving.add(before)
-        await finished(before.finish())
-        self._leaving.discard(before)
+        leaving = asyncio.ensure_future(before.finish())
+        leaving.add_done_callback(lambda _: self._leaving.discard(before))
+        await asyncio.shield(leaving)
 
     async def close(self) -> None:
         """Ends the program or the connection, and the calls that wait, which raise `ValueError`. Closing again does nothing."""
         self._is_closed = True
-        self._loads.end()
-        pipelines = {self._pipeline, *self._leaving} - {None}
+        for loads in list(self._coming):
+            loads.end()
+        pipelines = [*self._leaving, *([] if self._pipeline is None else [self._pipeline])]
         self._pipeline = None
-        for pipeline in pipelines:
-            if pipeline is not None:
-                await pipeline.close()
+        await finished(asyncio.gather(*(pipeline.close() for pipeline in pipelines)))
 
 
 def close_opened(opening: "asyncio.Future[Transport]") -> None:
-    """Closes what was opened for nobody."""
+    """Closes what was opened for nobody, at once."""
     if not opening.cancelled() and opening.exception() is None:
+        opening.result().hang_up()
         opening.result().close()
 
 

@@ -3,6 +3,7 @@
 import contextlib
 import errno
 import os
+import re
 import select
 import socket
 import time
@@ -19,6 +20,7 @@ Address = Union[File, tuple[str, int]]
 """Where a service listens: the path of a Unix socket, or the host and the port of a TCP socket."""
 
 PAUSES = 0.001, 0.05  # seconds between two looks at a connection that is being made, the first and the longest
+HOST_AND_PORT = re.compile(r"[^/]*:[0-9]+")
 UNDER_WAY = errno.EINPROGRESS, errno.EALREADY, errno.EINTR
 
 IsWanted = Callable[[], bool]
@@ -104,6 +106,8 @@ def connected(address: Address, deadline: Deadline, is_wanted: IsWanted) -> sock
     except OSError as failure:
         if failure.errno is not None:  # as TimedOut has none
             failure.filename = name_of(address)
+            if isinstance(address, str) and HOST_AND_PORT.fullmatch(address):
+                failure.add_note('a TCP socket is given as a pair: ("127.0.0.1", 7878)')
         raise
 
 

@@ -1,7 +1,6 @@
 """Points, pieces of lines, windows and polygons of the plane, exactly: all numbers are whole, and of any size."""
 
 from collections.abc import Sequence
-from fractions import Fraction
 
 Place = tuple[int, int]
 """A point, as x and y."""
@@ -35,17 +34,20 @@ def is_straight(path: Path) -> bool:
     return all(side_of((first, other), x, y) == 0 for x, y in path)
 
 
-def distance2(piece: Piece, x: int, y: int) -> Fraction:
-    """The square of a point's distance to the nearest point of a piece."""
+def square_of(piece: Piece, x: int, y: int) -> tuple[int, int]:
+    """The square of a point's distance to the nearest point of a piece, as a numerator and a denominator."""
     (ax, ay), (bx, by) = piece
     along_x, along_y = bx - ax, by - ay
-    length2 = along_x * along_x + along_y * along_y
-    along = (x - ax) * along_x + (y - ay) * along_y
+    over_x, over_y = x - ax, y - ay
+    along = over_x * along_x + over_y * along_y
     if along <= 0:
-        return Fraction((x - ax) ** 2 + (y - ay) ** 2)
+        return over_x * over_x + over_y * over_y, 1
+    length2 = along_x * along_x + along_y * along_y
     if along >= length2:
-        return Fraction((x - bx) ** 2 + (y - by) ** 2)
-    return Fraction(side_of(piece, x, y) ** 2, length2)
+        past_x, past_y = x - bx, y - by
+        return past_x * past_x + past_y * past_y, 1
+    side = along_x * over_y - along_y * over_x
+    return side * side, length2
 
 
 def piece_meets(piece: Piece, window: Sides) -> bool:

@@ -231,6 +231,10 @@ class Pool(Boxes):
             copies.users += 1
         try:
             yield copies
+        except RuntimeError as error:  # of a part that isn't begun: threads take no more
+            if not self._is_closed:
+                raise
+            raise ValueError(CLOSED) from error
         finally:
             with self._changed:
                 copies.users -= 1

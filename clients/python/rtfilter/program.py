@@ -4,7 +4,6 @@ import contextlib
 import os
 import signal
 import subprocess
-import tempfile
 import time
 import weakref
 from collections.abc import Iterable, Sequence
@@ -17,7 +16,8 @@ from .transport import Text, Transport
 
 LONGEST_ERROR = 1 << 12  # bytes of standard error that are told
 GRACE = 2.0  # seconds that the program has to end by itself
-PAUSES = 0.0001, 0.05  # seconds between two looks whether it has ended, the shortest and the longest
+PAUSES = 0.00005, 0.05  # seconds between two looks whether it has ended, the shortest and the longest
+
 
 class Process(Protocol):
     """A process that was started here: its number, and once it was taken its status."""
@@ -69,14 +69,14 @@ class Child(Transport):
         return Ended(status, told.decode(errors="replace").strip() or self._why)
 
     def _end(self, grace: float) -> int:
-        """The status with which it ends by itself, in so many seconds, or else is killed. That is known later by a quarter of
+        """The status with which it ends by itself, in so many seconds, or else is killed. That is known later by an eighth of
         the time that it took, at most."""
         begun, (shortest, longest) = time.monotonic(), PAUSES
         while (status := status_of(self._process)) is None:
             waited = time.monotonic() - begun
             if waited >= grace:
                 self._end_at_once()
-            time.sleep(max(shortest, min(waited / 4, longest, grace - waited)))
+            time.sleep(max(shortest, min(waited / 8, longest, grace - waited)))
         return status
 
     def _end_at_once(self) -> None:
@@ -108,9 +108,7 @@ class Program(Child):
     def __init__(self, command: Sequence[str]) -> None:
         """Starts the process, which loads from then on: `load` waits for it."""
         with STARTING:
-            # A file takes whatever is written, so that nobody has to read it meanwhile. One with a buffer has a lock, which a
-            # child of a fork would wait for.
-            errors = tempfile.TemporaryFile(buffering=0)
+            errors = errors_file()
             try:
                 # In a process group of its own: an interrupt from the keyboard is for this process. The program ends with
                 # its input, and so with this process too.
@@ -132,6 +130,12 @@ class Program(Child):
             return 0
         except ConnectionError:
             return len(text)
+
+
+def errors_file() -> IO[bytes]:
+    """A file in memory for what a process tells of itself, which takes whatever is written, so that nobody has to read it
+    meanwhile. One with a buffer has a lock, which a child of a fork would wait for."""
+    return open(os.memfd_create("rtfilter-errors"), "rb", buffering=0)
 
 
 def status_of(process: Process) -> int | None:

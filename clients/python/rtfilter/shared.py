@@ -3,7 +3,6 @@
 import contextlib
 import os
 import socket
-import tempfile
 import time
 import weakref
 from collections.abc import Callable, Sequence
@@ -16,7 +15,7 @@ from .connection import Connection, hang_up
 from .deadlines import Deadline, Turns
 from .errors import Disconnected
 from .forks import STARTING
-from .program import Child
+from .program import Child, errors_file
 from .transport import CLOSED, Loads, Text, Transport
 
 PAUSE = 0.05  # seconds before a program that takes no more connections is tried again
@@ -28,7 +27,7 @@ class Holder(Child):
     def __init__(self, command: Sequence[str], library: Path) -> None:
         """Starts the process, which loads from then on: `load` waits for it."""
         with STARTING:
-            errors = tempfile.TemporaryFile(buffering=0)
+            errors = errors_file()
             try:
                 with open(os.devnull, "wb") as nowhere:
                     started = prefork.start(command, library, errors.fileno(), nowhere.fileno())

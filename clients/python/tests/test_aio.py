@@ -237,6 +237,56 @@ class Lives(Case):
                 await boxes.reload()
                 self.assertEqual(await boxes.size(), 1)
 
+    def fifo(self, name: str) -> Path:
+        """A table that isn't there until it is written."""
+        os.mkfifo(self.folder / name)
+        return self.folder / name
+
+    async def test_a_close_while_it_connects_again(self) -> None:
+        """All who wait for the connection are told."""
+        with Service(self.folder / "socket") as service:
+            boxes = await aio.Rtfilter(address=service.path).__aenter__()
+            service.table = self.fifo("never")
+            service.end_connections()
+            asking = [asyncio.create_task(boxes.count(All())) for _ in range(3)]
+            await asyncio.sleep(0.1)
+            with self.at_once():
+                await boxes.close()
+                for told in await asyncio.gather(*asking, return_exceptions=True):
+                    self.assertIsInstance(told, ValueError)
+
+    async def test_who_waits_for_a_connection_no_longer_leaves_the_others(self) -> None:
+        with Service(self.folder / "socket") as service:
+            async with aio.Rtfilter(address=service.path, timeout=0.5) as boxes:
+                service.table = self.fifo("never")
+                service.end_connections()
+                asked = asyncio.create_task(boxes.count(All()))
+                await asyncio.sleep(0.3)
+                service.table = self.fifo("later")
+                reloaded = asyncio.create_task(boxes.reload())
+                with self.assertRaises(TimedOut):
+                    await asked
+                await asyncio.to_thread(service.table.write_text, "7,0,1,0,1\n")
+                await reloaded
+                self.assertEqual(await boxes.size(), 1)
+
+    async def test_a_reload_while_it_connects_again(self) -> None:
+        """Who asks later is answered from the new table, whatever becomes of the other connection."""
+        with Service(self.folder / "socket") as service:
+            async with aio.Rtfilter(address=service.path) as boxes:
+                service.table = old = self.fifo("old")
+                service.end_connections()
+                asked = asyncio.create_task(boxes.count(All()))
+                await asyncio.sleep(0.1)
+                service.table = self.folder / "new"
+                service.table.write_text("7,0,1,0,1\n")
+                await boxes.reload()
+                self.assertEqual(await boxes.size(), 1)
+                await asyncio.to_thread(old.write_bytes, BOXES.read_bytes())
+                self.assertEqual(await asked, 1)
+                self.assertEqual(await boxes.size(), 1)
+                self.assertEqual(len(service.connections), 2)
+
     async def test_in_a_child_of_a_fork(self) -> None:
         async with aio.Rtfilter(BOXES, program=PROGRAM) as boxes:
             child = os.fork()

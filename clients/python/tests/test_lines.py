@@ -7,6 +7,7 @@ import unittest
 from fractions import Fraction
 from itertools import pairwise
 from typing import Any
+from unittest import mock
 
 from support import PROGRAM, anything
 from shapely_runs import told_by_shapely
@@ -49,6 +50,16 @@ def some_line(chance: random.Random, span: int, step: int) -> dict[str, Any]:
     return some_line(chance, span, step) if not found else line(*found[0]) if len(found) == 1 else lines(*found)
 
 
+def winding_line(chance: random.Random, span: int) -> dict[str, Any]:
+    """Many short pieces that turn a little at each place, as those of a road."""
+    places, turn = [(chance.randint(-span, span), chance.randint(-span, span))], chance.uniform(0, 2 * math.pi)
+    for _ in range(20):
+        turn, length = turn + chance.gauss(0, 0.3), chance.uniform(50, 150)
+        x, y = places[-1]
+        places.append((x + round(length * math.cos(turn)), y + round(length * math.sin(turn))))
+    return line(*places)
+
+
 def plain_distance2(a: Place, b: Place, x: int, y: int) -> Fraction:
     """The square of the distance to the point of a piece that is found by its part of the way along it."""
     length2 = (b[0] - a[0]) ** 2 + (b[1] - a[1]) ** 2
@@ -68,7 +79,7 @@ def scanned(geometries: list[dict[str, Any]], k: int, x: int, y: int) -> list[tu
 class Exactness(unittest.TestCase):
     def assert_as_scanned(self, geometries: list[dict[str, Any]], points: list[Place]) -> None:
         with Lines(map(feature, geometries), program=PROGRAM) as roads:
-            for k in (1, 3, len(geometries), len(geometries) + 1):
+            for k in (1, 2, 3, 4, 7, len(geometries), len(geometries) + 1):
                 wanted = [scanned(geometries, k, *point) for point in points]
                 self.assertEqual(list(roads.nearest_each(k, points)), wanted)
 
@@ -76,6 +87,21 @@ class Exactness(unittest.TestCase):
         chance = random.Random(1)
         geometries = [some_line(chance, 6, 3) for _ in range(30)]
         self.assert_as_scanned(geometries, [(chance.randint(-8, 8), chance.randint(-8, 8)) for _ in range(25)])
+
+    def test_many_short_pieces(self) -> None:
+        """Mostly the boxes that are asked for at first tell the nearest: few points are asked about anew."""
+        chance, span = random.Random(8), 8000
+        geometries = [winding_line(chance, span) for _ in range(240)]
+        points = [(chance.randint(-span, span), chance.randint(-span, span)) for _ in range(30)]
+        points += [chance.choice(it["coordinates"]) for it in geometries[:10]]
+        wanted = [scanned(geometries, 7, *point) for point in points]
+        with Lines(map(feature, geometries), program=PROGRAM) as roads:
+            for k in (1, 2, 4, 7):
+                with mock.patch.object(roads._boxes, "ask", wraps=roads._boxes.ask) as ask:
+                    self.assertEqual(list(roads.nearest_each(k, points)), [it[:k] for it in wanted])
+                first, *anew = [len(asked) for (asked,), _ in ask.call_args_list]
+                self.assertEqual(first, len(points))
+                self.assertLess(sum(anew), len(points))
 
     def test_long_pieces_across(self) -> None:
         """Boxes that hold the point, of pieces that are far from it, before the box of the nearest piece."""

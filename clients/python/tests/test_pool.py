@@ -5,7 +5,7 @@ import random
 import tempfile
 import threading
 import unittest
-from collections.abc import Callable
+from collections.abc import Callable, Iterator
 from functools import partial
 from pathlib import Path
 from typing import Any
@@ -62,6 +62,18 @@ class Pools(unittest.TestCase):
         with self.assertRaises(ValueError):
             boxes.reload()
         self.assertEqual(open_files(), before)
+
+    def test_a_close_while_parts_are_made(self) -> None:
+        """As while many windows are still put into words."""
+        boxes = Pool(2, BOXES, program=PROGRAM)
+
+        def texts() -> Iterator[tuple[str, int]]:
+            yield "count all\n", 1
+            boxes.close()
+            yield "count all\n", 1
+
+        with self.assertRaisesRegex(ValueError, "closed"):
+            list(boxes._texts(texts(), boxes._deadline()))
 
 
 class Reloads(unittest.TestCase):

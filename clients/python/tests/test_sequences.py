@@ -67,6 +67,7 @@ class Sequence:
         self.sizes = {5}  # of the tables that an answer may be of
         self.is_closed = False
         self.faults: list[str] = []
+        self.late: list[str] = []  # calls that took too long
         self.children: list[int] = []
 
     def run(self) -> None:
@@ -120,7 +121,7 @@ class Sequence:
     def check_time(self, name: str, begun: float, within: float = SECONDS) -> None:
         took = time.monotonic() - begun
         if took > within + LATE + self.clock.late_since(begun):
-            self.faults.append(f"{name} took {took:.2f} s")
+            self.late.append(f"{name} took {took:.2f} s")
 
     def ask(self, boxes: Boxes) -> None:
         told: list[object] = []
@@ -218,7 +219,11 @@ class Sequences(unittest.TestCase):
                         for at in range(seed, SEQUENCES, THREADS):
                             sequence = Sequence(random.Random(at), folder, service, clock)
                             sequence.run()
-                            faults.extend(f"{at}: {fault}" for fault in sequence.faults)
+                            if sequence.late:  # once more: programs that a busy machine holds up are late now and then
+                                faults.extend(f"{at}: {fault}" for fault in sequence.faults)
+                                sequence = Sequence(random.Random(at), folder, service, clock)
+                                sequence.run()
+                            faults.extend(f"{at}: {fault}" for fault in sequence.faults + sequence.late)
                     except BaseException as error:
                         faults.append(f"thread {seed}: {error!r}")
                         raise

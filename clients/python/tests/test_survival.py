@@ -96,6 +96,10 @@ class Ends(unittest.TestCase):
                 Rtfilter(address=address)
             self.assertEqual(nowhere.exception.filename, name)
             self.assertIn(name, str(nowhere.exception))
+            self.assertEqual(getattr(nowhere.exception, "__notes__", []), [])
+        with self.assertRaises(FileNotFoundError) as no_pair:
+            Rtfilter(address="127.0.0.1:7878")
+        self.assertEqual(no_pair.exception.__notes__, ['a TCP socket is given as a pair: ("127.0.0.1", 7878)'])
 
     def test_rows_of_what_can_be_gone_through_once(self) -> None:
         with Rtfilter((map(int, f"{at} 0 1 0 1".split()) for at in range(1500)), program=PROGRAM) as boxes:
@@ -112,6 +116,17 @@ class Ends(unittest.TestCase):
     def test_no_program(self) -> None:
         with self.assertRaises(FileNotFoundError):
             Rtfilter(BOXES, program="/no/such/program")
+
+    def test_no_folder_for_temporary_files(self) -> None:
+        """A table that is a file needs none, and a program's faults are told as ever."""
+        with mock.patch.object(tempfile, "tempdir", "/no/such/folder"):
+            for opened in anything(Rtfilter, partial(Pool, 2)):
+                for program in anything(PROGRAM, [PROGRAM]):
+                    with opened(BOXES, program=program) as boxes:
+                        self.assertEqual(boxes.count(All()), 5)
+                    with self.assertRaises(Ended) as raised:
+                        opened("/no/such/table", program=program)
+                    self.assert_ended(raised.exception, 3, "rtfilter: cannot open table")
 
     def test_death_in_mid_answer(self) -> None:
         for script, status, text in (
