@@ -3,20 +3,18 @@
 import math
 from abc import ABC, abstractmethod
 from collections.abc import Callable
-from typing import NamedTuple
+from functools import cached_property
 
 LEAST, GREATEST = -(2**31), 2**31 - 1  # of a table's coordinates
 ROUNDED = 3 * math.sqrt(0.5)  # units: position, road and nearest point are each off by half a unit at most, on x and y
 
 
-class Near(NamedTuple):
-    """The point told of a road by its coordinates, and how far it is from a position. The road is nearer, or farther, by
-    the error at most."""
+Point = tuple[float, float]
+"""A point of a plane, in its units."""
 
-    x: float
-    y: float
-    distance: float
-    error: float
+Near = tuple[float, float, float, float]
+"""The point told of a road by its coordinates, x and y, how far it is from a position, and an error: the road is nearer, or
+farther, by so much at most. A class would take a fiftieth of all the time."""
 
 
 class Plane(ABC):
@@ -28,11 +26,16 @@ class Plane(ABC):
     digits: tuple[int, int, int, int]
     """How many of each are told behind the point."""
 
-    def told(self, near: Near) -> tuple[float, float, float, float]:
+    def told(self, near: Near) -> Near:
         """What is told of a point, by these names, before it is rounded. The error is that of the rounded distance."""
         x, y, distance, error = near
-        units = 10 ** self.digits[3]
+        units = self._units_told
         return x, y, distance, math.ceil(error * units + 0.5) / units
+
+    @cached_property
+    def _units_told(self) -> float:
+        """So many of the last digit that is told of an error are one."""
+        return 10.0 ** self.digits[3]
 
     @abstractmethod
     def whole(self, x: float, y: float) -> tuple[int, int]:
@@ -43,7 +46,7 @@ class Plane(ABC):
         """The coordinates of a point of the plane."""
 
     @abstractmethod
-    def near(self, x: float, y: float) -> Callable[[float, float], Near]:
+    def near(self, x: float, y: float) -> Callable[[Point], Near]:
         """What tells how far it is from a place, by its coordinates, to a point of the plane, the nearest of a road."""
 
 
@@ -69,10 +72,10 @@ class Scaled(Plane):
     def back(self, x: float, y: float) -> tuple[float, float]:
         return x / self._scale, y / self._scale
 
-    def near(self, x: float, y: float) -> Callable[[float, float], Near]:
-        def near(across: float, up: float) -> Near:
-            east, north = self.back(across, up)
-            return Near(east, north, math.hypot(east - x, north - y), ROUNDED / self._scale)
+    def near(self, x: float, y: float) -> Callable[[Point], Near]:
+        def near(point: Point) -> Near:
+            east, north = self.back(*point)
+            return east, north, math.hypot(east - x, north - y), ROUNDED / self._scale
 
         return near
 
@@ -93,24 +96,26 @@ class WebMercator(Plane):
     def back(self, x: float, y: float) -> tuple[float, float]:
         return math.degrees(x / UNITS), math.degrees(math.atan(math.sinh(y / UNITS)))
 
-    def near(self, x: float, y: float) -> Callable[[float, float], Near]:
+    def near(self, x: float, y: float) -> Callable[[Point], Near]:
         """The plane stretches lengths to the north more than those to the east, in the ratio of two radii, and all of them
         more where it is farther from the equator: so the nearest in the plane may be a little farther than another one."""
         longitude, latitude = math.radians(x), math.radians(y)
         from_equator, from_edge = abs(latitude), math.pi - abs(longitude)
         on_ground = on_ground_from(longitude, math.tan(latitude))
 
-        def near(across: float, up: float) -> Near:
+        def near(point: Point) -> Near:
+            across, up = point
             east, slope = across / UNITS, math.sinh(up / UNITS)
             metres = on_ground(east, slope)
             turn = metres / LEAST_RADIUS  # no place that is as near lies farther to the north or the south
             error, high = metres, from_equator + turn
             # Roads that are nearer may lie beyond the plane's edge, else.
             if high < NORTHERN_EDGE and turn < from_edge * (cosine := math.cos(high)):
-                cosine_of_low = math.cos(max(0.0, from_equator - turn))
+                low = from_equator - turn
+                cosine_of_low = math.cos(low) if low > 0 else 1.0
                 least, most = cosine * along(cosine), cosine_of_low * along_parallel(cosine_of_low)
-                error = metres * (1 - least / most) + ROUNDED / UNITS_OF_METRE * most / RADIUS
-            return Near(math.degrees(east), math.degrees(math.atan(slope)), metres, error)
+                error = metres * (1 - least / most) + ROUNDED_METRES * most / RADIUS
+            return math.degrees(east), math.degrees(math.atan(slope)), metres, error
 
         return near
 
@@ -121,6 +126,7 @@ SQUARED = FLATTENING * (2 - FLATTENING)  # of the eccentricity
 LEAST_RADIUS = RADIUS * (1 - SQUARED)  # of a meridian, at the equator
 UNITS_OF_METRE = 100
 UNITS = UNITS_OF_METRE * RADIUS  # whole units of a radian
+ROUNDED_METRES = ROUNDED / UNITS_OF_METRE
 MOST_LATITUDE = 85.0511287  # where the plane is a square
 NORTHERN_EDGE = math.radians(MOST_LATITUDE)
 
@@ -143,13 +149,14 @@ def on_ground_from(longitude: float, slope: float) -> Callable[[float, float], f
 
     def metres(east: float, other_slope: float) -> float:
         second = on_sphere(other_slope)
-        mean, half, turn = (first + second) / 2, (second - first) / 2, (east - longitude) / 2
-        square_of_half = math.sin(half) ** 2
-        near = square_of_half + cosine * math.cos(second) * math.sin(turn) ** 2
+        sine_of_mean, sine_of_half = math.sin((first + second) / 2), math.sin((second - first) / 2)
+        sine_of_turn = math.sin((east - longitude) / 2)
+        square_of_mean, square_of_half = sine_of_mean * sine_of_mean, sine_of_half * sine_of_half
+        near = square_of_half + cosine * math.cos(second) * (sine_of_turn * sine_of_turn)
         if not 0 < near < 1:
             return math.pi * RADIUS * (near >= 1)
         angle = 2 * math.asin(math.sqrt(near))
-        sine, square_of_mean = math.sin(angle), math.sin(mean) ** 2
+        sine = math.sin(angle)
         lift = (angle - sine) * square_of_mean * (1 - square_of_half) / (1 - near)
         drop = (angle + sine) * (1 - square_of_mean) * square_of_half / near
         return RADIUS * (angle - FLATTENING / 2 * (lift + drop))

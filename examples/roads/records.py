@@ -5,6 +5,7 @@ from collections.abc import Callable, Iterator
 from itertools import islice
 from typing import TextIO
 
+from rows import row_of
 from snapping import Position, Snapping
 
 AT_ONCE = 1000  # records
@@ -31,19 +32,17 @@ class Records:
         """Whether no record was passed over so far."""
 
     @property
-    def header(self) -> Record:
-        return [*self._names, *(f"nearest_{name}" for name in ("rank", "road", "name", *self._snapping.plane.names))]
+    def header(self) -> str:
+        """The first row that is written."""
+        names = "rank", "road", "name", *self._snapping.plane.names
+        return row_of([*self._names, *(f"nearest_{name}" for name in names)]) + "\n"
 
-    def batches(self) -> Iterator[list[Record]]:
-        """Each record, once for each of its nearest roads, those of some records at once."""
+    def batches(self) -> Iterator[list[str]]:
+        """The rows of each record, one for each of its nearest roads, those of some records at once."""
         remaining = self._positions()
         while batch := list(islice(remaining, AT_ONCE)):
             snapped_each = self._snapping.snapped_each([position for _, position in batch])
-            yield [
-                [*record, str(rank), str(it[0].id), it[0].name or "", *self._snapping.numbers_of(it)]
-                for (record, _), snapped in zip(batch, snapped_each)
-                for rank, it in enumerate(snapped, 1)
-            ]
+            yield [self._snapping.rows_of(row_of(record), snapped) for (record, _), snapped in zip(batch, snapped_each)]
 
     def _read(self) -> Iterator[Record]:
         try:

@@ -1,27 +1,21 @@
 """The roads nearest to places of a plane, exactly in its whole units, and their nearest points."""
 
-import math
 from collections.abc import Iterator, Sequence
 from dataclasses import dataclass
-from fractions import Fraction
 from functools import cached_property
-from itertools import islice, pairwise
-from typing import Any, NamedTuple, Union
+from itertools import pairwise
+from typing import Any, Union
 
 from features import Feature, features_of, id_of, members, name_of, named
-from planes import Plane
+from planes import Plane, Point
 from restarts import Restarted
+from rows import row_of
 
-from rtfilter import Answers, FeatureError, Row
+from rtfilter import FeatureError, Row
 from rtfilter.closing import Closing
 from rtfilter.geojson import line_of, parts_of, whole_by
+from rtfilter.lines import Pieces
 from rtfilter.plane import Piece, Place, sides_of
-from rtfilter.queries import nearest_line
-
-BOXES_OF_ROAD = 8  # that are asked for at first, for each road: in nine searches of ten the last one is farther
-MORE = 4  # times as many are asked for, where that wasn't so
-MARGIN = 1 + 2**-50  # times a float: more than what it was rounded from
-MOST_ANSWERS = 1 << 20  # that are asked for at once
 
 
 @dataclass(frozen=True)
@@ -36,30 +30,14 @@ class Road:
         """What an object of JSON tells of it."""
         return members(road=self.id, name=self.name)
 
-
-class Foot(NamedTuple):
-    """The point of a piece that is nearest to a place: `above` / `below` is the square of its distance, and `squared` the
-    float nearest to that. So floats that differ have the order of the squares."""
-
-    squared: float
-    above: int
-    below: int
-    piece: int
-
-    def is_nearer(self, other: "Foot") -> bool:
-        """Whether it is nearer than another one, or as near and of a piece that comes before."""
-        if self.squared != other.squared:
-            return self.squared < other.squared
-        one, another = self.above * other.below, other.above * self.below
-        return one < another or (one == another and self.piece < other.piece)
+    @cached_property
+    def fields(self) -> str:
+        """What a row of CSV tells of it."""
+        return row_of([str(self.id), self.name or ""])
 
 
-class Found(NamedTuple):
-    """A road, and its point that is nearest to a place, in units of the plane."""
-
-    road: Road
-    foot: Foot
-    point: tuple[float, float]
+Found = tuple[Road, Piece]
+"""A road near a place, and the piece of it that is nearest, of pieces that are as near the first."""
 
 
 class Roads(Closing):
@@ -75,6 +53,7 @@ class Roads(Closing):
         with named(file):
             self._read(features_of(file), plane)
         self._boxes = Restarted(self._rows, program, timeout)
+        self._search = Pieces(self._boxes, self._pieces, self._road_of)
 
     def _read(self, features: list[Feature], plane: Plane) -> None:
         """Takes roads from features."""
@@ -91,107 +70,24 @@ class Roads(Closing):
         return len(self._roads)
 
     def nearest_each(self, k: int, places: Sequence[Place]) -> Iterator[list[Found]]:
-        """The k roads nearest to each place, the nearest first, and of roads that are as near the first in the file. Where
-        there are fewer all come."""
-        searches = [Search(k, x, y, len(self._pieces) + 1) for x, y in places]
-        waiting = searches
-        while waiting:
-            for search, answers in self._answered(waiting):
-                search.take(answers, self._pieces, self._road_of)
-            waiting = [search for search in waiting if not search.is_over]
-        for search in searches:
-            yield [
-                Found(self._roads[road], foot, point_of(self._pieces[foot.piece], search.x, search.y))
-                for road, foot in search.nearest
-            ]
-
-    def _answered(self, searches: list["Search"]) -> Iterator[tuple["Search", Answers]]:
-        """What searches have asked for, which is as much for each; so many at once that their answers are bounded."""
-        remaining = iter(searches)
-        while some := list(islice(remaining, max(1, MOST_ANSWERS // searches[0].asked))):
-            yield from zip(some, self._boxes.ask([search.query for search in some]))
+        """The k roads nearest to each place, the nearest first, and of roads that are as near the first in the file.
+        Where there are fewer all come."""
+        for feet in self._search.nearest_each(k, places):
+            yield [(self._roads[road], self._pieces[piece]) for _, road, piece, _, _ in feet]
 
     def close(self) -> None:
         self._boxes.close()
 
 
-class Search:
-    """The search for the k roads nearest to a place, over pieces in the order of their boxes' distances.
-
-    A box is at most as far as its piece. So a piece whose box is farther than what was found of its road isn't looked at,
-    and once a box is farther than the k-th road, no piece that is left matters.
-    """
-
-    def __init__(self, k: int, x: int, y: int, most: int) -> None:
-        """`most` is more than there are boxes."""
-        self.x, self.y = x, y
-        self.asked = min(BOXES_OF_ROAD * k, most)  # boxes
-        self.is_over = False
-        self._k = k
-        self._most = most
-        self._seen = 0  # boxes
-        self._feet: dict[int, Foot] = {}  # the nearest of each road
-        self._reach = math.inf  # no square of the k-th road's distance is greater
-
-    @property
-    def query(self) -> str:
-        """What asks for the next boxes: those that were seen come again before them."""
-        return nearest_line(self.asked, self.x, self.y)
-
-    def take(self, answers: Answers, pieces: list[Piece], road_of: list[int]) -> None:
-        """Takes the pieces whose boxes were found until none that is left matters."""
-        words = bytes(answers).split()[2 * self._seen :]
-        for piece, score in zip(map(int, words[::2]), map(int, words[1::2])):
-            if score > self._reach:
-                self.is_over = True
-                return
-            road = road_of[piece]
-            known = self._feet.get(road)
-            if known is None or score <= known.squared * MARGIN:
-                self._take(piece, pieces[piece], road, known)
-        self._seen += len(words) // 2
-        self.is_over = self._seen < self.asked
-        self.asked = min(MORE * self.asked, self._most)
-
-    def _take(self, number: int, piece: Piece, road: int, known: Foot | None) -> None:
-        """Takes the point of a piece, where no nearer one is known of its road."""
-        above, below = square_of(piece, self.x, self.y)
-        squared = above / below
-        if known is not None and squared > known.squared:
-            return
-        foot = Foot(squared, above, below, number)
-        if known is None or foot.is_nearer(known):
-            self._feet[road] = foot
-            if len(self._feet) >= self._k:
-                self._reach = sorted([foot.squared for foot in self._feet.values()])[self._k - 1] * MARGIN
-
-    @property
-    def nearest(self) -> list[tuple[int, Foot]]:
-        """The numbers of the roads so far, each with its nearest point, by their distances and then by number."""
-        found = sorted(self._feet.items(), key=lambda it: (it[1].squared, it[0]))
-        if any(one.squared == other.squared for (_, one), (_, other) in pairwise(found)):
-            found.sort(key=lambda it: (Fraction(it[1].above, it[1].below), it[0]))
-        return found[: self._k]
-
-
-def square_of(piece: Piece, x: int, y: int) -> tuple[int, int]:
-    """The square of a place's distance to the nearest point of a piece, as a fraction."""
-    (ax, ay), (bx, by) = piece
-    along_x, along_y, over_x, over_y = bx - ax, by - ay, x - ax, y - ay
-    along, length2 = over_x * along_x + over_y * along_y, along_x * along_x + along_y * along_y
-    if along <= 0:
-        return over_x * over_x + over_y * over_y, 1
-    if along >= length2:
-        return (x - bx) ** 2 + (y - by) ** 2, 1
-    return (along_x * over_y - along_y * over_x) ** 2, length2
-
-
-def point_of(piece: Piece, x: int, y: int) -> tuple[float, float]:
-    """Where that point lies: within a millionth of a unit, since it is told by floats."""
+def point_of(piece: Piece, x: int, y: int) -> Point:
+    """The point of a piece that is nearest to a place: within a millionth of a unit, since it is told by floats."""
     (ax, ay), (bx, by) = piece
     along_x, along_y = bx - ax, by - ay
-    length2 = along_x * along_x + along_y * along_y
-    along = min(max((x - ax) * along_x + (y - ay) * along_y, 0), length2)
+    along, length2 = (x - ax) * along_x + (y - ay) * along_y, along_x * along_x + along_y * along_y
+    if along <= 0:
+        return ax, ay
+    if along >= length2:
+        return bx, by
     part = along / length2
     return ax + part * along_x, ay + part * along_y
 

@@ -9,7 +9,6 @@ a CSV file with a header, whose records are written again with what is told of t
 
 import argparse
 import contextlib
-import csv
 import sys
 from pathlib import Path
 
@@ -63,10 +62,9 @@ def write_records(args: argparse.Namespace, snapping: Snapping) -> bool:
     with named(args.positions), open(args.positions, encoding="utf-8-sig", newline="") as file:
         records = Records(file, columns_of(args), snapping, lambda why: tell(f"{args.positions}, {why}"))
         with open(output_end, "w", encoding="utf-8", newline="", closefd=False) as output:
-            writer = csv.writer(output, lineterminator="\n")
-            writer.writerow(records.header)
+            output.write(records.header)
             for batch in records.batches():
-                writer.writerows(batch)
+                output.writelines(batch)
                 output.flush()
     return records.are_sound
 

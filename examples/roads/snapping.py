@@ -3,25 +3,18 @@
 import json
 import re
 from collections.abc import Iterator, Sequence
-from typing import NamedTuple
 
 from cutting import LONGEST_LINE, NAME, NUMBER, fault_of, is_skipped
 from planes import Near, Plane
-from roads import Road, Roads
+from roads import Road, Roads, point_of
 
 from rtfilter.plane import Place
 
 LINE = re.compile(rb",".join([NAME, NUMBER, NUMBER]) + rb"\r?")
 """A name, in quotes or not, and two coordinates."""
 
-
-class Position(NamedTuple):
-    """Two coordinates, and the same in whole units of the plane."""
-
-    x: float
-    y: float
-    place: Place
-
+Position = tuple[float, float, Place]
+"""Two coordinates, and the same in whole units of the plane."""
 
 Snapped = tuple[Road, Near]
 """A road near a position, and its nearest point."""
@@ -35,20 +28,21 @@ class Snapping:
         self._k = k
         self.plane = plane
         self._names = "NAME", plane.names[0].upper(), plane.names[1].upper()  # of a line's fields
-        self._forms = [f"%.{digits}f" for digits in plane.digits]
-        named = ", ".join([f'"{name}": {form}' for name, form in zip(plane.names, self._forms)])
+        forms = [f"%.{digits}f" for digits in plane.digits]
+        named = ", ".join([f'"{name}": {form}' for name, form in zip(plane.names, forms)])
         self._object = f"{{%s, {named}}}"
+        self._row = ",".join(["%s", "%d", "%s", *forms]) + "\n"
 
     def position(self, x: float, y: float) -> Position:
         """Raises `ValueError` for what isn't in the plane."""
-        return Position(x, y, self.plane.whole(x, y))
+        return x, y, self.plane.whole(x, y)
 
     def snapped_each(self, positions: Sequence[Position]) -> Iterator[list[Snapped]]:
         """The roads nearest to each position, by their distances in the plane."""
-        found_each = self._roads.nearest_each(self._k, [position.place for position in positions])
-        for (x, y, _), found in zip(positions, found_each):
+        found_each = self._roads.nearest_each(self._k, [place for _, _, place in positions])
+        for (x, y, (across, up)), found in zip(positions, found_each):
             near = self.plane.near(x, y)
-            yield [(road, near(*point)) for road, _, point in found]
+            yield [(road, near(point_of(piece, across, up))) for road, piece in found]
 
     def told_of(self, first: int, lines: list[bytes]) -> bytes:
         """What is told of lines that were read at once, in their order. The first of them has this number."""
@@ -65,7 +59,7 @@ class Snapping:
             except ValueError as why:
                 told[line] = f'{{"line": {line}, "refused": {json.dumps(str(why))}}}\n'
         for (line, name), snapped in zip(names, self.snapped_each(positions)):
-            nearest = ", ".join([self.object_of(it) for it in snapped])
+            nearest = self.objects_of(snapped)
             told[line] = f'{{"line": {line}, "name": {json.dumps(name)}, "nearest": [{nearest}]}}\n'
         return "".join([told[line] for line in sorted(told)]).encode()
 
@@ -80,11 +74,12 @@ class Snapping:
         except UnicodeDecodeError:
             raise ValueError("field 1, NAME, isn't UTF-8") from None
 
-    def numbers_of(self, snapped: Snapped) -> list[str]:
-        """What is told of a road in numbers, in the order of the plane's names."""
-        return [form % number for form, number in zip(self._forms, self.plane.told(snapped[1]))]
+    def objects_of(self, snapped: list[Snapped]) -> str:
+        """The roads near a position, as objects of JSON."""
+        form, told = self._object, self.plane.told
+        return ", ".join([form % (road.members, *told(near)) for road, near in snapped])
 
-    def object_of(self, snapped: Snapped) -> str:
-        """A road near a position, as an object of JSON."""
-        road, near = snapped
-        return self._object % (road.members, *self.plane.told(near))
+    def rows_of(self, row: str, snapped: list[Snapped]) -> str:
+        """A row of CSV, once for each of the roads near its position, with what is told of that one."""
+        form, told = self._row, self.plane.told
+        return "".join([form % (row, rank, road.fields, *told(near)) for rank, (road, near) in enumerate(snapped, 1)])

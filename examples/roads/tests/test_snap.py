@@ -13,6 +13,8 @@ import subprocess
 import tempfile
 import unittest
 from fractions import Fraction
+from itertools import pairwise
+from operator import itemgetter
 from pathlib import Path
 from typing import Any
 from unittest import mock
@@ -22,10 +24,10 @@ from snap_support import EXAMPLE, LONGEST, road, run, told_by_peers, words_of, w
 from common_support import PROGRAM, Printed, anything, children_of
 
 from planes import MOST_LATITUDE, Scaled, WebMercator, on_ground_from
-from roads import Roads
+from roads import Found, Roads, point_of
 from snapping import Snapping
 
-from rtfilter.plane import distance2
+from rtfilter.plane import Piece, Place
 
 MOST_MICROSECONDS = 300  # of processor time for a position: the page promises less, but others may use the machine
 Path_ = list[tuple[int, int]]
@@ -44,21 +46,30 @@ class Folder(unittest.TestCase):
 class Nearest(Folder):
     """In whole units, where nothing is rounded."""
 
+    def assert_as_scanned(self, paths: list[list[Path_]], places: list[Place], high: int) -> None:
+        """Roads, squares of distances, pieces and points are those of a look at each piece in fractions."""
+        roads = self.roads([road(at, *it) for at, it in enumerate(paths)], Scaled(1))
+        wanted_each = [scanned(paths, x, y) for x, y in places]
+        for k in (1, 2, 3, 4, 7, 100):
+            for (x, y), found, wanted in zip(places, roads.nearest_each(k, places), wanted_each, strict=True):
+                self.assertEqual([(square_to(piece, x, y), it.id, piece) for it, piece in found], wanted[:k])
+                for square, _, piece in wanted[:k]:
+                    self.assertLessEqual(abs(math.dist(point_of(piece, x, y), (x, y)) - math.sqrt(square)), 1e-6 * high)
+
     def test_order(self) -> None:
         """Roads of pieces long and short, crossing and touching, on a grid so small that many are as near."""
         chance = random.Random(1)
         for _ in range(25):
             high, count = chance.choice([5, 30, 1000, 2**31 - 1]), chance.randint(1, 60)
             paths = [some_paths(chance, high) for _ in range(count)]
-            roads = self.roads([road(at, *it) for at, it in enumerate(paths)], Scaled(1))
-            places = [some_place(chance, high) for _ in range(40)]
-            for k in (1, 3, 100):
-                for (x, y), found in zip(places, roads.nearest_each(k, places)):
-                    squares = [(least_square(it, x, y), at) for at, it in enumerate(paths)]
-                    told = [(Fraction(it.foot.above, it.foot.below), it.road.id) for it in found]
-                    self.assertEqual(told, sorted(squares)[:k])
-                    for it in found:
-                        self.assertLessEqual(abs(math.dist(it.point, (x, y)) - math.sqrt(it.foot.squared)), 1e-6 * high)
+            self.assert_as_scanned(paths, [some_place(chance, high) for _ in range(40)], high)
+
+    def test_winding_roads(self) -> None:
+        """Of many short pieces, as on a map, from places anywhere and from corners, at which two pieces are as near."""
+        chance, high = random.Random(10), 6000
+        paths = [[winding_path(chance, high)] for _ in range(140)]
+        corners = [chance.choice(path) for (path,) in paths[:15]]
+        self.assert_as_scanned(paths, [*(some_place(chance, high) for _ in range(25)), *corners], high)
 
     def test_as_shapely(self) -> None:
         """Roads, their distances and nearest points. Where two roads are exactly as near, shapely's floats may differ in their
@@ -69,11 +80,13 @@ class Nearest(Folder):
         lines = [road(0, *it)["geometry"] for it in paths]
         told = told_by_peers(self, lines=lines, points=places)
         roads = self.roads([road(at, *it) for at, it in enumerate(paths)], Scaled(1))
-        for found, distances, feet in zip(roads.nearest_each(10, places), told["distances"], told["feet"]):
-            self.assertEqual([it.road.id for it in found], sorted(range(150), key=lambda at: (round(distances[at], 6), at))[:10])
-            for it in found:
-                self.assertAlmostEqual(math.sqrt(it.foot.squared), distances[it.road.id], delta=1e-3)
-                self.assertLess(math.dist(it.point, feet[it.road.id]), 1e-3)
+        found_each = roads.nearest_each(10, places)
+        for place, found, distances, feet in zip(places, found_each, told["distances"], told["feet"], strict=True):
+            nearest = sorted(range(150), key=lambda at: (round(distances[at], 6), at))[:10]
+            self.assertEqual(ids_of(found), nearest)
+            for at, (_, piece) in zip(nearest, found):
+                self.assertAlmostEqual(math.sqrt(square_to(piece, *place)), distances[at], delta=1e-3)
+                self.assertLess(math.dist(point_of(piece, *place), feet[at]), 1e-3)
 
     def test_what_floats_cannot_tell(self) -> None:
         """Squares of distances that differ by one of 2^60 are the same in floats, and their order is exact all the same."""
@@ -91,8 +104,8 @@ class Nearest(Folder):
             roads = self.roads([road(at, *it) for at, it in enumerate(paths)], Scaled(1))
             for k in range(1, len(roads_told) + 1):
                 (found,) = roads.nearest_each(k, [(0, 0)])
-                self.assertEqual([it.road.id for it in found], roads_told[:k])
-                self.assertEqual([it.point for it in found], points[:k])
+                self.assertEqual(ids_of(found), roads_told[:k])
+                self.assertEqual([point_of(piece, 0, 0) for _, piece in found], points[:k])
 
     def test_a_road_as_near_behind_a_box_as_near(self) -> None:
         """Seven slanting roads around the place come first, the last of them 5 away; then the box of one that is farther than
@@ -103,7 +116,7 @@ class Nearest(Folder):
         roads = self.roads(features, Scaled(1))
         for k in (1, 2, 3):
             (found,) = roads.nearest_each(k, [(0, 0)])
-            self.assertEqual([it.road.id for it in found], [1, 8, 0][:k])
+            self.assertEqual(ids_of(found), [1, 8, 0][:k])
 
     def test_answers_are_bounded(self) -> None:
         """So many boxes are asked for at once and no more, and all places are answered."""
@@ -111,7 +124,8 @@ class Nearest(Folder):
         roads = self.roads([road(at, *some_paths(chance, 50)) for at in range(40)], Scaled(1))
         places = [some_place(chance, 50) for _ in range(30)]
         wanted = [*roads.nearest_each(3, places)]
-        with mock.patch("roads.MOST_ANSWERS", 100), mock.patch.object(roads._boxes, "ask", wraps=roads._boxes.ask) as ask:
+        bounded = mock.patch("rtfilter.lines.MOST_ANSWERS", 100)
+        with bounded, mock.patch.object(roads._boxes, "ask", wraps=roads._boxes.ask) as ask:
             self.assertEqual([*roads.nearest_each(3, places)], wanted)
         for (lines,), _ in ask.call_args_list:
             self.assertLessEqual(sum(int(line.split()[1]) for line in lines), 100)
@@ -125,8 +139,7 @@ class Nearest(Folder):
         roads = self.roads([road(at, *it) for at, it in enumerate(paths)], Scaled(1))
         places = [some_place(chance, far // 4) for _ in range(20)]
         for (x, y), found in zip(places, roads.nearest_each(3, places)):
-            wanted = sorted((least_square(it, x, y), at) for at, it in enumerate(paths))[:3]
-            self.assertEqual([it.road.id for it in found], [at for _, at in wanted])
+            self.assertEqual(ids_of(found), [at for _, at, _ in scanned(paths, x, y)[:3]])
 
     def test_the_program_is_killed(self) -> None:
         roads = self.roads([road("a", [(0, 0), (1, 1)])], Scaled(1))
@@ -134,7 +147,7 @@ class Nearest(Folder):
             for process in children_of(os.getpid()):
                 if Path(f"/proc/{process}/comm").read_text() == f"{Path(PROGRAM).name}\n":
                     os.kill(process, signal.SIGKILL)
-            self.assertEqual([it.road.id for it in next(roads.nearest_each(1, [(5, 5)]))], ["a"])
+            self.assertEqual(ids_of(next(roads.nearest_each(1, [(5, 5)]))), ["a"])
 
 
 class OnTheGround(Folder):
@@ -162,18 +175,18 @@ class OnTheGround(Folder):
         pairs, seen = [], []
         for (position, ends), feature in zip(asked, features):
             snapping = Snapping(self.roads([feature], plane), plane, 1)
-            (((_, snapped),),) = snapping.snapped_each([snapping.position(*position)])
+            (((_, (x, y, distance, error)),),) = snapping.snapped_each([snapping.position(*position)])
             on_road = points_of(plane, ends)
-            seen.append((snapped, len(on_road)))
-            pairs += [(position, (snapped.x, snapped.y)), *((position, it) for it in on_road)]
+            seen.append((distance, error, len(on_road)))
+            pairs += [(position, (x, y)), *((position, it) for it in on_road)]
         metres = iter(told_by_peers(self, pairs=pairs)["metres"])
         tight = 0
-        for snapped, count in seen:
+        for distance, error, count in seen:
             to_foot, least = next(metres), min(next(metres) for _ in range(count))
-            self.assertLess(abs(to_foot - snapped.distance), 2e-5 * to_foot + 1e-3)
-            self.assertLess(snapped.distance - snapped.error, least + 1e-6)
-            self.assertLess(to_foot, least * 1.5 + 0.03 + snapped.error)
-            tight += snapped.error < 0.01 * snapped.distance + 0.03
+            self.assertLess(abs(to_foot - distance), 2e-5 * to_foot + 1e-3)
+            self.assertLess(distance - error, least + 1e-6)
+            self.assertLess(to_foot, least * 1.5 + 0.03 + error)
+            tight += error < 0.01 * distance + 0.03
         self.assertGreater(tight, 80)
 
     def test_degrees_order_wrongly(self) -> None:
@@ -193,8 +206,8 @@ class OnTheGround(Folder):
             with self.assertRaises(ValueError):
                 plane.whole(*position)
         for position, point in (((179.9, 10), (179.0, 10)), ((0, 84), (0, 82)), ((-179.9, -10), (-179, -10))):
-            near = plane.near(*position)(*plane.whole(*point))
-            self.assertEqual(near.error, near.distance)
+            _, _, distance, error = plane.near(*position)(plane.whole(*point))
+            self.assertEqual(error, distance)
         for x, y in ((0, 0), (12345678, -1234567890), (-2003750834, 2003750820)):
             self.assertEqual(plane.whole(*plane.back(x, y)), (x, y))
 
@@ -345,7 +358,7 @@ class Program(Folder):
             done = run("--scale", 1, self.file)
             self.assertEqual((done.returncode, done.stderr.decode()), (1, f"snap.py: {self.file}: {told}\n"))
         self.file.write_text("{")
-        told = "Expecting property name enclosed in double quotes: line 1 column 2 (char 1)"
+        told = "no JSON: Expecting property name enclosed in double quotes: line 1 column 2 (char 1)"
         self.assertEqual(run(self.file).stderr.decode(), f"snap.py: {self.file}: {told}\n")
         write_roads(self.file, [])
         done = run(self.file, lines=b"a,1,1\n")
@@ -390,8 +403,38 @@ def some_paths(chance: random.Random, high: int) -> list[Path_]:
     return paths
 
 
-def least_square(paths: list[Path_], x: int, y: int) -> Fraction:
-    return min(distance2(piece, x, y) for path in paths for piece in zip(path, path[1:]))
+def winding_path(chance: random.Random, high: int) -> Path_:
+    """A road that bends a little at each corner."""
+    (x, y), turn = some_place(chance, high), chance.uniform(0, 2 * math.pi)
+    path = [(x, y)]
+    for _ in range(20):
+        turn, length = turn + chance.gauss(0, 0.3), chance.uniform(50, 150)
+        x, y = x + round(length * math.cos(turn)), y + round(length * math.sin(turn))
+        path.append((x, y))
+    return path
+
+
+def scanned(roads: list[list[Path_]], x: int, y: int) -> list[tuple[Fraction, int, Piece]]:
+    """All roads by their distances and then by number, by a look at each piece: the squares, the numbers, and the
+    nearest pieces, of pieces that are as near the first."""
+    found = []
+    for number, paths in enumerate(roads):
+        pieces = [piece for path in paths for piece in pairwise(path)]
+        square, piece = min(((square_to(it, x, y), it) for it in pieces), key=itemgetter(0))
+        found.append((square, number, piece))
+    return sorted(found)
+
+
+def square_to(piece: Piece, x: int, y: int) -> Fraction:
+    """The square of the distance to the point of a piece that is found by its part of the way along it."""
+    (ax, ay), (bx, by) = piece
+    length2 = (bx - ax) ** 2 + (by - ay) ** 2
+    part = Fraction(min(max((x - ax) * (bx - ax) + (y - ay) * (by - ay), 0), length2), length2)
+    return (ax + part * (bx - ax) - x) ** 2 + (ay + part * (by - ay) - y) ** 2
+
+
+def ids_of(found: list[Found]) -> list[Any]:
+    return [it.id for it, _ in found]
 
 
 def points_of(plane: WebMercator, ends: list[tuple[float, float]]) -> list[tuple[float, float]]:
