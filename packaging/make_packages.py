@@ -26,7 +26,8 @@ REVISION = "1"  # of the packages of one version
 WIDTH = 76  # of the changes
 
 # The pages for users, as docs/README.md has them.
-PAGES = [f"{name}.md" for name in ("SCALING", "python-client", "query-language", "recipes", "table-format", "usage")]
+USERS = "PERFORMANCE", "SCALING", "python-client", "query-language", "recipes", "table-format", "usage"
+PAGES = [f"{name}.md" for name in USERS]
 
 # What packages are made of, beside the program.
 SOURCES = [

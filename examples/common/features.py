@@ -18,6 +18,8 @@ def named(file: str) -> Iterator[None]:
         yield
     except RecursionError:
         raise ValueError(f"{file}: lists in lists, too deep to be read") from None
+    except json.JSONDecodeError as error:
+        raise ValueError(f"{file}: no JSON: {error}") from error
     except ValueError as error:
         raise ValueError(f"{file}: {error}") from error
 

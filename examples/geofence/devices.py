@@ -2,11 +2,16 @@
 
 import json
 import math
+import re
 from array import array
 from collections.abc import Iterable
 from typing import Any
 
 from fences import Held, Zone
+
+
+REFUSAL = re.compile(r'\{"line": [0-9]+, "event": "refused", ')
+"""How a line begins that tells of a position which wasn't taken."""
 
 
 class Refused(Exception):
@@ -50,13 +55,13 @@ class Devices:
 
     def resume(self, lines: Iterable[str]) -> int:
         """Takes from events that were told before when each device was last told of, and which zones held it then. Gives
-        how many lines are no events, as one that was cut off."""
+        how many lines are no events, as one that was cut off; a refusal is one that tells nothing here."""
         same: dict[Any, Any] = {}  # so that what is equal is kept once
         strays = 0
         for line in lines:
             change = change_of(line)
             if change is None:
-                strays += 1
+                strays += REFUSAL.match(line) is None
                 continue
             device, moment, is_in, zone = change
             if device not in self._place_of:

@@ -74,8 +74,8 @@ def joined(one: Window | None, other: Window) -> Window:
 
 
 def pieces_of(table: str, header: bool) -> Iterator[list[list[str]]]:
-    """The records of a table, some thousands at once. Empty lines are no records."""
-    with open(table, encoding="utf-8-sig", newline="") as file:
+    """The records of a table, some thousands at once. Empty lines are no records, and a header may be in any encoding."""
+    with open(table, encoding="utf-8-sig", errors="replace", newline="") as file:
         records = filter(None, csv.reader(file))
         if header:
             next(records, None)

@@ -1,6 +1,7 @@
 """The service as it is installed, without the repository and without pip, and its units."""
 
 import configparser
+import contextlib
 import os
 import re
 import shutil
@@ -90,7 +91,9 @@ class QuickStart(Case):
         session = found(r"^```pycon\n(.*?)^```$", PAGE.read_text(), re.MULTILINE | re.DOTALL)[1]
         command, *told = served.splitlines()
         words: dict[str, Any] = {"shell": True, "executable": "/bin/bash", "env": PLAIN, "cwd": self.folder, "text": True}
-        with subprocess.Popen(f"exec {command}", stderr=subprocess.PIPE, **words) as service:
+        started = subprocess.Popen(f"exec {command}", stderr=subprocess.PIPE, **words)
+        with started as service, contextlib.ExitStack() as stack:
+            stack.callback(service.kill)  # where something fails, nobody waits for its end
             assert service.stderr
             self.assertEqual([service.stderr.readline().rstrip("\n") for _ in told], told)
             typed = "".join(f"{line[4:]}\n" for line in session.splitlines() if line.startswith((">>> ", "... "))) + "\n"

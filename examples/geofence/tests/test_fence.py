@@ -169,8 +169,8 @@ class Events(Folder):
         for text, told in (
             (b"[" * 100_000, "lists in lists, too deep to be read"),
             (b"{}", "no FeatureCollection"),
-            (b"x", "Expecting value: line 1 column 1 (char 0)"),
-            (b'{"features": [1,]}\n', "Expecting value: line 1 column 17 (char 16)"),
+            (b"x", "no JSON: Expecting value: line 1 column 1 (char 0)"),
+            (b'{"features": [1,]}\n', "no JSON: Expecting value: line 1 column 17 (char 16)"),
             (b'"\xff"', "'utf-8' codec can't decode byte 0xff in position 1: invalid start byte"),
         ):
             self.zones.write_bytes(text)

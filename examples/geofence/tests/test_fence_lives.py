@@ -74,7 +74,7 @@ class Exchanges(Lives):
         self.assertIn("No such file", fence.errors.next())
         self.zones.write_text('{"type": "FeatureCollection", "features": [')
         fence.signal(signal.SIGHUP)
-        told = f"fence.py: {self.zones}: Expecting value: line 1 column 44 (char 43); the zones are those of before"
+        told = f"fence.py: {self.zones}: no JSON: Expecting value: line 1 column 44 (char 43); the zones are those of before"
         self.assertEqual(fence.errors.next(), told)
         fence.send("a,1,1,1")
         self.assertEqual(brief(fence.events.some(1)), [("a", "enter", "park")])
@@ -181,7 +181,8 @@ class Ends(Lives):
         again.send("a,1,1,4", "b,50,1,4")
         self.assertEqual(brief(again.events.some(1)), [("a", "enter", "park")])
         log = self.folder / "events"
-        log.write_text("".join(f"{line}\n" for line in kept) + kept[0][:30])
+        refusal = '{"line": 7, "event": "refused", "why": "no position"}'
+        log.write_text("".join(f"{line}\n" for line in [*kept, refusal]) + kept[0][:30])
         more = self.enterContext(Running(self.zones, "--resume", str(log)))
         self.assertEqual(more.errors.next(), "fence.py: devices: 2; lines that are no events: 1")
         more.started().send("a,1,1,6", "a,50,1,4", "a,50,1,8", "b,25,1,5", "b,25,1,6")

@@ -148,8 +148,12 @@ class Tables(unittest.TestCase):
         table = Path(self.enterContext(tempfile.TemporaryDirectory()), "boxes.csv")
         most, least = 2**63 - 1, -(2**63)
         boxes = {most: [1, 2, 3, 4, 0], least: [-5, 6, -7, 8, 63], 0: [9, 9, 9, 9, 2], 7: [-2, 0, 0, 0, 0]}
-        records = ["id,a,b,c,d", f'{most},"1",2,+3,004', "", f"{least},-5,6,-7,8,63", "0,9,9,9,9,2", '"7",-2,0,0,0']
-        table.write_bytes(b"\xef\xbb\xbf" + "\r\n".join(records).encode())
+        records = ["id,a,b,c,größe", f'{most},"1",2,+3,004', "", f"{least},-5,6,-7,8,63", "0,9,9,9,9,2", '"7",-2,0,0,0']
+        for encoding, mark in (("utf-8", b"\xef\xbb\xbf"), ("latin-1", b"")):
+            table.write_bytes(mark + "\r\n".join(records).encode(encoding))
+            self.check_shown(table, boxes)
+
+    def check_shown(self, table: Path, boxes: dict[int, list[int]]) -> None:
         with Server(table, "--header") as server:
             _, body = server.get("/ask?q=" + quote("find all first 9"))
             answers = json.loads(body)["answers"]
