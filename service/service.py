@@ -64,8 +64,8 @@ class NotLoaded(Exception):
 
 
 class Connection(NamedTuple):
-    """One who has connected. The socket is open here until its process was waited for: whoever sees the end of one may
-    open another."""
+    """One who has connected. The socket is open here until its end is counted: whoever sees the end of one may open
+    another."""
 
     number: int
     socket: socket.socket
@@ -313,7 +313,8 @@ class Service:
         """Closes a connection, whose place another one may have then, and tells why."""
         if connection:
             self._counts["connections"] -= 1
-            connection.socket.close()
+            with contextlib.suppress(OSError), connection.socket as ended:
+                ended.shutdown(socket.SHUT_RDWR)  # a process that was killed may hold it for a moment yet
             log(f"connection {connection.number} ({connection.who}): {how}")
 
     def _metrics(self) -> dict[str, float]:

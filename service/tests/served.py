@@ -4,6 +4,7 @@ import contextlib
 import os
 import random
 import re
+import shutil
 import signal
 import socket
 import subprocess
@@ -21,6 +22,9 @@ PACKAGE = ROOT / "clients/python"
 SERVICE = ROOT / "service/serve.py"
 BOXES = ROOT / "examples/data/boxes.csv"
 PROGRAM = os.environ["RTFILTER_PROGRAM"]
+SOURCE = ROOT / "service/prefork.c"
+FLAGS = ["-std=gnu11", "-O", "-fPIC", "-shared"]
+TRIES = "-include", Path(__file__).with_name("tries.h")
 SYSTEM_PYTHON = "/usr/bin/python3"  # which other users may run too
 LONG = 20.0  # seconds after which what is waited for doesn't come
 
@@ -190,6 +194,13 @@ class Case(unittest.TestCase):
 
     def served(self, table: Path = BOXES, *words: str, **given: Any) -> Served:
         return self.enterContext(Served(self.folder, table, *words, **given))
+
+    def build(self, *flags: object) -> str:
+        """A copy of the program, with a test build of the library."""
+        folder = Path(self.folder, "build")
+        folder.mkdir()
+        subprocess.run(["cc", *FLAGS, *map(str, flags), "-o", folder / "rtfilter-prefork.so", SOURCE], check=True)
+        return str(shutil.copy(PROGRAM, folder))
 
     def assert_well(self, service: Served) -> None:
         """Others are answered, and soon."""

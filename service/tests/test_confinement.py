@@ -9,26 +9,17 @@ import subprocess
 import unittest
 from pathlib import Path
 
-from served import BOXES, PROGRAM, ROOT, Case, found, read_lines, table_of, told_by_program, until
+from served import BOXES, FLAGS, SOURCE, TRIES, Case, found, read_lines, table_of, told_by_program, until
 
-SOURCE = ROOT / "service/prefork.c"
-FLAGS = ["-std=gnu11", "-O", "-fPIC", "-shared"]
 CALLS = {"read", "write", "munmap", "brk", "exit_group"}
 ERROR_OF_VALGRIND = 99
 NO_FAULT = r"Parent PID: \d+\n==\d+== \n*$"
 
 
 class Confinement(Case):
-    def build(self, *flags: object) -> str:
-        """A copy of the program, with a test build of the library."""
-        folder = Path(self.folder, "build")
-        folder.mkdir()
-        subprocess.run(["cc", *FLAGS, *map(str, flags), "-o", folder / "rtfilter-prefork.so", SOURCE], check=True)
-        return str(shutil.copy(PROGRAM, folder))
-
     def test_what_is_tried(self) -> None:
         """By a build that tries: the kernel ends the connection, and nothing else."""
-        service = self.served(program=self.build("-include", Path(__file__).with_name("tries.h")))
+        service = self.served(program=self.build(*TRIES))
         names = ["open", "openat", "socket", "mmap", "more", "high", "fork", "execve", "kill", "x32", "i386"]
         for name in names:
             with self.subTest(name), service.connect() as asker:

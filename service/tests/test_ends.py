@@ -11,7 +11,7 @@ import time
 import unittest
 from pathlib import Path
 
-from served import BOXES, PROGRAM, Case, Served, is_there, put_library, read_lines, send, table_of, until
+from served import BOXES, PROGRAM, TRIES, Case, Served, is_there, put_library, read_lines, send, table_of, until
 
 
 class Ends(Case):
@@ -105,6 +105,18 @@ class Ends(Case):
             for asker in (one, two):
                 asker.sendall(b"count all\n")
                 self.assertEqual(read_lines(asker, 1), b"ok 1 5\n")
+
+    def test_a_connection_whose_process_is_long_in_ending(self) -> None:
+        """It has ended for its peer once that is told, by whatever it is still held."""
+        service = self.served(program=self.build("-DUNCONFINED", *TRIES))
+        for at, of in enumerate(("connections", "programs"), 1):
+            with service.connect() as asker:
+                asker.sendall(b"# outlived\ncount all\n")
+                self.assertEqual(read_lines(asker, 1), b"ok 2 5\n")
+                send(signal.SIGKILL, getattr(service, of)[:1])
+                service.logs("signal=9 ", at)
+                asker.setblocking(False)
+                self.assertEqual(asker.recv(1), b"")
 
     def test_kills_at_any_moment(self) -> None:
         """Of connections and programs, while others ask, connect and exchange: what is answered is right, and none of the

@@ -40,6 +40,13 @@ static void try_it(const char *text, long size)
     syscall(SYS_brk, end);
     syscall(SYS_brk, end - 4096);
     syscall(SYS_munmap, end, 4096);
+  } else if (!strcmp(name, "outlived")) { /* where that isn't confined: by a process that isn't ended with it */
+    pid_t other = fork();
+    setpgid(other, 0);
+    if (!other) {
+      sleep(3);
+      _exit(0);
+    }
   }
 }
 
