@@ -22,6 +22,7 @@ sys.path[:0] = [str(CLUSTER), *(str(ROOT / folder) for folder in FOLDERS)]
 
 import random_runs
 import reading
+from common_support import descendants_of, is_gone
 from shards.cutting import cut
 from shards.places import places_of
 from shards.router import Cluster
@@ -168,9 +169,13 @@ class Service:
         self.until("the table is exchanged", done + 1)
 
     def end(self, number: int = signal.SIGTERM) -> None:
+        """Until all of its processes have ended: where it is killed the kernel ends the others, a moment later."""
         if self.process.poll() is None:
+            started = descendants_of(self.process.pid)
             self.process.send_signal(number)
             self.process.wait(LONG)
+            if not all(map(is_gone, started)):
+                raise AssertionError(f"{self.place} has left processes")
 
 
 def until(is_so, what: object) -> None:  # type: ignore[no-untyped-def]
