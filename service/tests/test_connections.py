@@ -296,6 +296,15 @@ class Askers(Case):
         self.assert_well(service)
 
 
+def processes_of(user: int) -> int:
+    """How many a user has, those included that are still to be waited for."""
+    found = 0
+    for process in Path("/proc").glob("[0-9]*"):
+        with contextlib.suppress(FileNotFoundError):  # it has ended meanwhile
+            found += process.stat().st_uid == user
+    return found
+
+
 class WantOfRoom(Case):
     def test_a_fork_that_fails(self) -> None:
         """It is told, the connection is closed and its slot free, and others go on."""
@@ -331,6 +340,7 @@ class WantOfRoom(Case):
         user = 60_000 + os.getpid() % 5_000  # whom no other run of this test has, since they'd be counted together
         before = ["prlimit", "--nproc=6", "setpriv", f"--reuid={user}", f"--regid={user}", "--clear-groups"]
         service = self.served(BOXES, before=before, python=SYSTEM_PYTHON)
+        until(lambda: processes_of(user) == 2, "an end to the connection that was asked for the size")
         with contextlib.ExitStack() as stack:
             askers = [stack.enter_context(service.connect()) for _ in range(3)]  # beside two threads of the service, and its program
             for asker in askers:
