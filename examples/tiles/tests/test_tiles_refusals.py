@@ -15,7 +15,7 @@ from urllib.parse import quote
 
 from tiles_support import BOXES, LONGEST, Mapped, Server, told
 
-from common_support import children_of
+from common_support import children_of, is_gone
 
 import random_runs
 
@@ -201,7 +201,10 @@ class Tables(unittest.TestCase):
         table.write_text("1,0,1,0,1\n")
         with Server(table) as server:
             for _ in range(3):
-                send(signal.SIGKILL, server.program())
+                program = server.program()
+                started = [program, *children_of(program)]
+                send(signal.SIGKILL, program)
+                self.assertTrue(all(map(is_gone, started)))
                 self.wait_for_answer(server)
             table.write_text("1,0,1,0,1\n2,0,1,0,1\n")
             processes = [server.program(), *children_of(server.program())]
