@@ -21,6 +21,9 @@ use rt_search::{Frontier, FullSearch, Search, cost, count};
 use rt_text::{BoxQuery, Query, Report, level_line, ok_line};
 use rt_tree::Tree;
 
+/// Up to so many answers are kept in order as they are found.
+const FEW: u64 = 128;
+
 /// Pushes the reply to a query.
 pub(crate) fn push_reply<K: Sink>(
     tree: &Tree,
@@ -190,7 +193,8 @@ fn push_count<S: Shape + Drop, K: Sink>(
 }
 
 // Pushes a line for each answer of one geometry, and then their number. Where all are wanted, all are found first. Where
-// no node has a score, as in the orders by id and by area, all nodes that may hold answers are opened first.
+// no node has a score, as in the orders by id and by area, all nodes that may hold answers are opened first, and where
+// more than a few are wanted, all are found then.
 fn find<G: Geometry + Drop, K: Sink>(
     tree: &Tree,
     frontier: Frontier,
@@ -211,12 +215,18 @@ fn find<G: Geometry + Drop, K: Sink>(
     let _most = tree.len();
     let counted = Counted::new(&geometry);
     match limit {
-        None => push_search(FullSearch::start(tree, frontier, counted), line, sink),
-        Some(_) if is_unscored => push_search(
-            Search::start_unscored(tree, frontier, counted, limit),
-            line,
-            sink,
-        ),
+        None => {
+            let search = FullSearch::start(tree, frontier, counted, None);
+            push_search(search, line, sink)
+        }
+        Some(most) if is_unscored && FEW < most => {
+            let search = FullSearch::start(tree, frontier, counted, limit);
+            push_search(search, line, sink)
+        }
+        Some(_) if is_unscored => {
+            let search = Search::start_unscored(tree, frontier, counted, limit);
+            push_search(search, line, sink)
+        }
         Some(_) => push_search(Search::start(tree, frontier, counted, limit), line, sink),
     }
 }

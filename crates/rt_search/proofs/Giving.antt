@@ -3,7 +3,7 @@ use Rattle.std.proofs.Common.{◌≡◌, ◌≢◌, ◌<◌, ◌≤◌, ◌+◌,
 use Rattle.std.proofs.Common.{Option, Some, None, refl, sym, ◌∙◌, ap, subst, arith, add-one}
 use Rattle.std.proofs.lemmas.List.{length-drop, length-map, Sums.{count_by-le-length, length-filter}}
 use Rattle.std.proofs.lemmas.List.Sorted.{length_permutation}
-use Rattle.std.specs.Prelude.{IfSome, slice_get}
+use Rattle.std.specs.Prelude.{IfNone, IfSome, MatchOption, slice_get}
 use Rattle.rt_geo.specs.Laws.{Meaning}
 use Rattle.rt_geo.specs.{Laws.{extent_of_entry}, declared.{entry.Entry.{Entry}}}
 use Rattle.rt_tree.specs.{Packed.{Packed}, Sorting.{limited}, declared.tree.Node.{Node}}
@@ -39,6 +39,32 @@ take_end (suc k) zero [] h = refl
 take_end (suc k) zero (y ∷ xs) h = cc
 take_end (suc k) (suc g) [] h = refl
 take_end (suc k) (suc g) (y ∷ xs) h = take_end k g xs h
+
+take-nil : {X : Type 0} (n : ℕ) → ◌≡◌ {A = List X} (take n []) []
+take-nil zero = refl
+take-nil (suc n) = refl
+
+limited-nil : {X : Type 0} (limit : Option ℕ) → ◌≡◌ {A = List X} (limited limit []) []
+limited-nil None = refl
+limited-nil (Some n) = take-nil n
+
+limited-next : {X : Type 0} (limit : Option ℕ) (x : X) (xs : List X) → limit ≢ Some 0
+    → limited limit (x ∷ xs) ≡ x ∷ limited (one_less limit) xs
+limited-next None x xs n = refl
+limited-next (Some zero) x xs n = absurd (n refl)
+limited-next (Some (suc k)) x xs n = ap (λ m. x ∷ take m xs) (omega arith)
+
+-- what is given of all is given of the first so many
+pub given_limited : {X : Type 0} (limit : Option ℕ) (out : Option X) (old new : List X) → limit ≢ Some 0
+    → MatchOption out (old ≡ []) (λ x. old ≡ x ∷ new)
+    → MatchOption out (limited limit old ≡ []) (λ x. limited limit old ≡ x ∷ limited (one_less limit) new)
+given_limited limit None old new n e = ap (limited limit) e ∙ limited-nil limit
+given_limited limit (Some x) old new n e = ap (limited limit) e ∙ limited-next limit x new n
+
+pub none_limited : {X : Type 0} (limit : Option ℕ) (out : Option X) (new : List X) → IfNone out (new ≡ [])
+    → IfNone out (limited limit new ≡ [])
+none_limited limit None new e = ap (limited limit) e ∙ limited-nil limit
+none_limited limit (Some x) new e = tt
 
 past_end : {X : Type 0} (xs : List X) (g k : ℕ) → drop g xs ≡ [] → g ≤ k → slice_get xs k ≡ None
 past_end [] g k h le = refl

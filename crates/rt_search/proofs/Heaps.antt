@@ -14,7 +14,7 @@ pub on_ok : {T E P : Type 0} (r : Result T E) → IsOk r → OnOk r P → P
 on_ok (Ok x) h p = p
 on_ok (Err e) h p = cc
 
-map-all : {X : Type 0} (item : X → Item) (P : Item → Type 0) (xs : List X) → AllByRecursion (λ x. P (item x)) xs
+pub map-all : {X : Type 0} (item : X → Item) (P : Item → Type 0) (xs : List X) → AllByRecursion (λ x. P (item x)) xs
     → AllByRecursion P (map item xs)
 map-all item P [] a = tt
 map-all item P (x ∷ xs) a = (a.0, map-all item P xs a.1)

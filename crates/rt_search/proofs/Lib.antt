@@ -4,6 +4,7 @@ pub mod Children
 pub mod Chosen
 pub mod Collectors
 pub mod Elements
+pub mod Firsts
 pub mod Giving
 pub mod Heaps
 pub mod Joined

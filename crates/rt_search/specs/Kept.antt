@@ -1,9 +1,9 @@
 -- How a frontier keeps its items. Nothing that a public call promises speaks of this.
 use Rattle.std.specs.Prelude.{◌≡◌, ◌<◌, ◌≤◌, ◌/◌, ◌%◌, ◌^◌, ◌-ℤ◌, ℕ, ℤ, pos, nat_lt, Bool, true, false, if◌then◌else◌}
-use Rattle.std.specs.Prelude.{Option, Some, None, List, [], ◌∷◌, length, map, vec_capacity}
+use Rattle.std.specs.Prelude.{◌⊎◌, not, filter, Option, Some, None, List, [], ◌∷◌, ◌++◌, length, map, vec_capacity}
 use Rattle.std.specs.BinaryHeap.{IsHeap, heap_capacity, heap_items, heap_len}
 use Rattle.std.specs.List.{AllByRecursion}
-use Rattle.std.specs.List.Sorted.{IsSorted}
+use Rattle.std.specs.List.Sorted.{IsPermutation, IsSorted}
 use Rattle.std.specs.Ordering.{int_cmp, is_gt}
 use Rattle.std.specs.declared.cmp.Ordering.{Ordering}
 use Rattle.std.specs.declared.cmp.Reverse.{Reverse}
@@ -74,6 +74,10 @@ AllEntries = AllByRecursion (λ x. IsEntry x.place)
 abbrev pub offered : (is_wanted : Bool) → Item → List Item → List Item
 offered is_wanted x items = if is_wanted then put item_cmp x items else items
 
+-- none of them comes after x
+abbrev pub IsLast : {X : Type 0} → (X → Item) → X → List X → Type 0
+IsLast item x = AllByRecursion (λ y. is_gt (item_cmp (item y) (item x)) ≡ false)
+
 -- x comes after none of them
 abbrev pub IsLeast : Item → List Item → Type 0
 IsLeast x = AllByRecursion (λ y. is_gt (item_cmp x y) ≡ false)
@@ -140,6 +144,21 @@ hits_in ids keys wide = put_all item_cmp (in_order zero_item ids) (put_all item_
 -- the lowest id is the last of a sorted list
 abbrev pub id_cmp : Reverse ℤ → Reverse ℤ → Ordering
 id_cmp i j = int_cmp j.0 i.0
+
+-- ys are the first so many of xs or more, in any order: none of the others comes before one of them
+pub record AreFirst {X : Type 0} (item : X → Item) (count : ℕ) (xs ys : List X) : Type 0 where
+  pub others : List X
+  pub same : IsPermutation xs (ys ++ others)
+  pub behind : AllByRecursion (λ z. IsLast item z ys) others
+  pub many : (others ≡ []) ⊎ (count ≤ length ys)
+
+-- an element up to a bound
+abbrev pub is_upto : {X : Type 0} → (X → X → Ordering) → (bound : X) → Reverse X → Bool
+is_upto cmp bound x = not (is_gt (cmp x.0 bound))
+
+-- all, or those up to a bound, and these are so many or more
+abbrev pub IsCut : {X : Type 0} → (X → X → Ordering) → (count : ℕ) → (xs ys : List (Reverse X)) → Type 0
+IsCut {X} cmp count xs ys = (ys ≡ xs) ⊎ ((bound : X) × ((ys ≡ filter (is_upto cmp bound) xs) × (count ≤ length ys)))
 
 -- sorted, or not; each has room for so many, and they hold together no more
 pub record HasHits {A B : Type 0} (ids : Vec (Reverse ℤ) A) (keys : Vec (Reverse ℕ) B) (wide : Waiting)

@@ -8,6 +8,7 @@ ghost use Rattle.rt_search.specs.Kept.{AllEntries, IsTakenOut, taken_entry, take
 ghost use Rattle.rt_search.specs.Limits.{IsPut, wanted_after};
 ghost use Rattle.rt_search.specs.Remaining.{remaining};
 ghost use Rattle.rt_search.specs.Work.{HasWorked};
+ghost use Rattle.rt_tree.specs.Sorting.{limited as upto};
 
 use crate::hits::Hits;
 use crate::item::{Taken, WaitingNode};
@@ -98,12 +99,18 @@ impl Frontier {
         self.rooms.queue.clear(limit);
     }
 
-    // Finds all hits in a tree, and returns how many nodes were opened.
-    pub(crate) fn gather<G: Geometry>(&mut self, tree: &Tree, counted: &mut Counted<'_, G>) -> u64
+    // Finds all hits in a tree, and returns how many nodes were opened. Where there is a limit, it may give up hits
+    // behind the first so many.
+    pub(crate) fn gather<G: Geometry>(
+        &mut self,
+        tree: &Tree,
+        counted: &mut Counted<'_, G>,
+        limit: Option<u64>,
+    ) -> u64
         requires capacity { length tree.now.entries ≤ self.old.capacity }
         requires asked { counted.old.asked ≡ 0 }
         ensures answers { let meaning = G.meaning counted.old.geometry in
-            remaining tree.now meaning self.new.hits ≡ answers tree.now.entries meaning None }
+            upto limit (remaining tree.now meaning self.new.hits) ≡ answers tree.now.entries meaning limit }
         ensures worked { HasWorked (G.meaning counted.old.geometry) tree.now None result counted.new.asked }
         ensures none_waits { self.new.items ≡ [] }
         ensures few { length self.new.hits ≤ length tree.now.entries }
@@ -113,7 +120,9 @@ impl Frontier {
         let rooms = &mut *self.rooms;
         rooms.queue.clear(None);
         rooms.hits.clear();
-        walk(tree, &mut rooms.hits, counted)
+        let opened = walk(tree, &mut rooms.hits, counted);
+        rooms.hits.keep_first(limit);
+        opened
     }
 
     #[inline(always)]

@@ -1,7 +1,8 @@
 //! Searches for all answers.
 
-ghost use Rattle.std.specs.Prelude.{◌≡◌, ◌≤◌, [], ◌∷◌, None, IfNone, MatchOption, length};
+ghost use Rattle.std.specs.Prelude.{◌≡◌, ◌≢◌, ◌≤◌, [], ◌∷◌, false, true, None, Some, IfNone, MatchOption, length};
 ghost use Rattle.rt_search.specs.Answers.{answers};
+ghost use Rattle.rt_search.specs.Limits.{one_less};
 ghost use Rattle.rt_search.specs.Work.{HasWorked};
 
 use crate::frontier::Frontier;
@@ -9,8 +10,9 @@ use rt_geo::{Counted, Geometry};
 use rt_tree::Tree;
 use std::marker::Model;
 
-/// A search that finds all answers to a query, and then gives them one at a time, those of the lowest score first. It
-/// opens as many nodes as a [`Search`](crate::Search) without a limit, all of them before the first answer.
+/// A search that finds all answers to a query, and then gives them one at a time, those of the lowest score first, or
+/// the first so many. It opens as many nodes as a [`Search`](crate::Search) without a limit, all of them before the
+/// first answer.
 ///
 /// It is seen as what is searched, the answers still to come, the nodes opened and the checks made, and the capacity of
 /// its frontier.
@@ -20,19 +22,22 @@ pub struct FullSearch<'a, G: Geometry> {
     frontier: Frontier,
     counted: Counted<'a, G>,
     opened: u64,
+    // how many answers are still wanted, if not all
+    left: Option<u64>,
 }
 
 impl<'a, G: Geometry> Model for FullSearch<'a, G> {
     ghost use Rattle.std.specs.Prelude.{◌≡◌, ◌≤◌, [], length};
     ghost use Rattle.rt_search.specs.Remaining.{remaining};
     ghost use Rattle.rt_search.specs.Searching.{FullSearching};
+    ghost use Rattle.rt_tree.specs.Sorting.{limited};
 
     ghost Value = { FullSearching G };
 
     ghost view = { λ s. let g = s.counted.geometry in record {
       tree = s.tree.now;
       geometry = g;
-      to_come = remaining s.tree.now (G.meaning g) s.frontier.hits;
+      to_come = limited s.left (remaining s.tree.now (G.meaning g) s.frontier.hits);
       opened = s.opened;
       asked = s.counted.asked;
       capacity = s.frontier.capacity;
@@ -45,11 +50,16 @@ impl<'a, G: Geometry> Model for FullSearch<'a, G> {
 }
 
 impl<'a, G: Geometry> FullSearch<'a, G> {
-    /// A search for all answers. What the frontier held is given up.
-    pub fn start(tree: &'a Tree, frontier: Frontier, counted: Counted<'a, G>) -> FullSearch<'a, G>
+    /// A search for all answers, or for at most so many. What the frontier held is given up.
+    pub fn start(
+        tree: &'a Tree,
+        frontier: Frontier,
+        counted: Counted<'a, G>,
+        limit: Option<u64>,
+    ) -> FullSearch<'a, G>
         requires capacity { length tree.now.entries ≤ frontier.capacity }
         requires asked { counted.asked ≡ 0 }
-        ensures to_come { result.to_come ≡ answers tree.now.entries (G.meaning counted.entry.geometry) None }
+        ensures to_come { result.to_come ≡ answers tree.now.entries (G.meaning counted.entry.geometry) limit }
 
         // The work is that of a search without a limit.
         ensures worked { HasWorked (G.meaning counted.entry.geometry) tree.now None result.opened result.asked }
@@ -60,12 +70,13 @@ impl<'a, G: Geometry> FullSearch<'a, G> {
     {
         let mut frontier = frontier;
         let mut counted = counted;
-        let opened = frontier.gather(tree, &mut counted);
+        let opened = frontier.gather(tree, &mut counted, limit);
         FullSearch {
             tree,
             frontier,
             counted,
             opened,
+            left: limit,
         }
     }
 
@@ -86,6 +97,9 @@ impl<'a, G: Geometry> FullSearch<'a, G> {
         ensures geometry { self.new.geometry ≡ self.old.geometry }
         ensures capacity { self.new.capacity ≡ self.old.capacity }
     {
+        if is_enough(&mut self.left) {
+            return None;
+        }
         self.frontier.take_hit()
     }
 
@@ -100,4 +114,19 @@ impl<'a, G: Geometry> FullSearch<'a, G> {
     {
         (self.frontier, self.counted)
     }
+}
+
+// Whether no more answers are wanted. Otherwise one less is, from now on.
+#[inline(always)]
+fn is_enough(wanted: &mut Option<u64>) -> bool
+    ensures enough { result ≡ true → (wanted.old ≡ Some 0) × (wanted.new ≡ Some 0) }
+    ensures less { result ≡ false → (wanted.old ≢ Some 0) × (wanted.new ≡ one_less wanted.old) }
+{
+    if let Some(n) = *wanted {
+        if n == 0 {
+            return true;
+        }
+        *wanted = Some(n - 1);
+    }
+    false
 }

@@ -20,6 +20,7 @@ mod best;
 mod costing;
 mod counting;
 mod counts;
+mod cut;
 mod entries;
 mod frontier;
 mod full_search;

@@ -2,7 +2,7 @@
 
 ghost use Rattle.std.specs.Prelude.{◌≡◌, ◌<◌, ◌≤◌, [], IfOk, length};
 ghost use Rattle.rt_search.specs.Items.{item_cmp};
-ghost use Rattle.rt_search.specs.Kept.{IsTakenOut};
+ghost use Rattle.rt_search.specs.Kept.{IsRising, IsTakenOut};
 ghost use Rattle.rt_tree.specs.Sorting.{put};
 
 use crate::item::Item;
@@ -47,6 +47,7 @@ impl Wide {
     pub fn len(&self) -> usize
         ensures value { result ≡ length self.now.items }
         ensures room { length self.now.items ≤ self.now.capacity }
+        ensures rising { IsRising self.now.items }
     {
         self.heap.len()
     }

@@ -119,7 +119,7 @@ fn expect_cost<G: Geometry>(
     expect_eq(rt, frontier.capacity(), tree.len());
 }
 
-// What a search for all answers gives, one at a time and all at once.
+// What a search for all answers gives, one at a time and all at once, or the first so many of all that were found.
 fn expect_full_search<G: Geometry>(
     rt: &impl Abort,
     alloc: Global,
@@ -128,10 +128,27 @@ fn expect_full_search<G: Geometry>(
     want: &Want<'_>,
 ) {
     expect_search(rt, alloc, tree, geometry, None, want);
+    expect_first_found(rt, alloc, tree, geometry, None, want);
+    for limit in 0..want.answers.len() as u64 + 2 {
+        expect_first_found(rt, alloc, tree, geometry, Some(limit), want);
+    }
+}
+
+// What a search that finds all gives of them: `want` has all. Its work is the same whatever the limit.
+fn expect_first_found<G: Geometry>(
+    rt: &impl Abort,
+    alloc: Global,
+    tree: &Tree,
+    geometry: &G,
+    limit: Option<u64>,
+    want: &Want<'_>,
+) {
     let frontier = Frontier::new(alloc, tree.len()).expect(rt, "there is memory");
-    let mut search = FullSearch::start(tree, frontier, Counted::new(geometry));
+    let mut search = FullSearch::start(tree, frontier, Counted::new(geometry), limit);
     expect_eq(rt, search.opened(), want.opened);
-    for answer in want.answers {
+    let most = want.answers.len();
+    let first = limit.map_or(most, |n| most.min(n as usize));
+    for answer in &want.answers[..first] {
         expect_eq(rt, search.next(), Some(*answer));
     }
     expect_eq(rt, search.next(), None);
@@ -497,7 +514,7 @@ fn full_searches_and_counts_ask_about_each_child_once(rt: HostRuntime) {
     let tree = pack(&rt, rt.alloc(), &BOXES);
     let frontier = Frontier::new(rt.alloc(), tree.len()).expect(&rt, "there is memory");
     let all = Watched::new(all_by_id());
-    let search = FullSearch::start(&tree, frontier, Counted::new(&all));
+    let search = FullSearch::start(&tree, frontier, Counted::new(&all), None);
     // d: a, c; e: b
     let want = [30, 10, -1, 10, 30, 30, 15, 15, 15, 12];
     expect_eq(&rt, all.shown(), want);
@@ -564,12 +581,50 @@ fn full_searches_give_ids_in_order(rt: HostRuntime) {
         let tree = Tree::pack(rt.alloc(), table, 2).expect(&rt, "there is memory");
         let frontier = Frontier::new(rt.alloc(), tree.len()).expect(&rt, "there is memory");
         let all = all_by_id();
-        let mut search = FullSearch::start(&tree, frontier, Counted::new(&all));
+        let mut search = FullSearch::start(&tree, frontier, Counted::new(&all), None);
         for id in in_order {
             expect_eq(&rt, search.next(), Some((*id, 0)));
         }
         expect_eq(&rt, search.next(), None);
         let _end = search.finish();
+    }
+}
+
+// Of many that are found those behind the limit are given up first: by a sample where at most half are wanted.
+#[test]
+fn full_searches_up_to_a_limit_give_the_first_of_all(rt: HostRuntime) {
+    let mut table = Table::empty(rt.alloc());
+    for i in 0..1_200 {
+        let bounds = boxed(&rt, [0, i % 40, 0, i % 30]);
+        push(
+            &rt,
+            &mut table,
+            i64::from(i) * 7_919 % 10_007 - 5_000,
+            bounds,
+        );
+    }
+    let tree = Tree::pack(rt.alloc(), table, 16).expect(&rt, "there is memory");
+    expect_first_of_all(&rt, rt.alloc(), &tree, &all_by_id());
+    let by_area = Guided {
+        shape: All,
+        rank: Smallest,
+    };
+    expect_first_of_all(&rt, rt.alloc(), &tree, &by_area);
+    expect_first_of_all(&rt, rt.alloc(), &tree, &near(i32::MAX, i32::MIN));
+}
+
+fn expect_first_of_all<G: Geometry>(rt: &impl Abort, alloc: Global, tree: &Tree, geometry: &G) {
+    for limit in [0, 1, 2, 129, 300, 599, 600, 601, 1_199, 1_200, 5_000] {
+        let frontier = Frontier::new(alloc, tree.len()).expect(rt, "there is memory");
+        let mut all = FullSearch::start(tree, frontier, Counted::new(geometry), None);
+        let frontier = Frontier::new(alloc, tree.len()).expect(rt, "there is memory");
+        let mut first = FullSearch::start(tree, frontier, Counted::new(geometry), Some(limit));
+        for _ in 0..limit {
+            expect_eq(rt, first.next(), all.next());
+        }
+        expect_eq(rt, first.next(), None);
+        let _all = all.finish();
+        let _first = first.finish();
     }
 }
 

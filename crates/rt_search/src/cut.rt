@@ -1,0 +1,49 @@
+//! A cut in a list: its least elements stay, and few more than are wanted.
+
+ghost use Rattle.std.specs.Prelude.{◌≡◌, length, vec_capacity};
+ghost use Rattle.std.specs.List.{filter};
+ghost use Rattle.rt_search.specs.Kept.{IsCut, is_upto};
+
+use std::cmp::Reverse;
+
+/// The bound of a cut is one of a sample of so many elements.
+const SAMPLE: usize = 256;
+
+/// Gives up elements that come after so many others, where these are at most half of all. The others keep their order.
+pub fn keep_least<T: Ord + Copy + Drop>(items: &mut Vec<Reverse<T>>, count: usize)
+    ensures cut { IsCut T.cmp count items.old.items items.new.items }
+    ensures capacity { vec_capacity items.new ≡ vec_capacity items.old }
+{
+    if let Some(bound) = bound_behind(items, count) {
+        if count <= count_upto(items, bound) {
+            items.retain(|item| item.0.cmp(&bound).is_le());
+        }
+    }
+}
+
+// An element that comes somewhat behind the first so many, as a sample tells. `None` where there are too few for one, or
+// more than half are wanted.
+fn bound_behind<T: Ord + Copy + Drop>(items: &[Reverse<T>], count: usize) -> Option<T> {
+    let step = items.len() / SAMPLE;
+    if step < 2 || items.len() / 2 < count {
+        return None;
+    }
+    let mut sample = [items[0].0; SAMPLE];
+    for (place, item) in sample.iter_mut().zip(items.iter().step_by(step)) {
+        *place = item.0;
+    }
+    sample.sort_unstable();
+    let at = count / step;
+    sample.get(at + at / 4 + 4).copied()
+}
+
+// How many are at most the bound.
+fn count_upto<T: Ord + Copy + Drop>(items: &[Reverse<T>], bound: T) -> usize
+    ensures { result ≡ length (filter (is_upto T.cmp bound) items.now) }
+{
+    let mut found = 0;
+    for item in items {
+        found += usize::from(item.0.cmp(&bound).is_le());
+    }
+    found
+}
