@@ -157,7 +157,7 @@ fn push_in_shape<S: Shape + Drop, K: Sink>(
     match order {
         Order::ById(rank) => {
             let geometry = Guided { shape, rank };
-            find(tree, frontier, line, geometry, true, limit, sink)
+            find_unscored(tree, frontier, line, geometry, limit, sink)
         }
         Order::Near(rank) => {
             let geometry = Guided { shape, rank };
@@ -165,7 +165,7 @@ fn push_in_shape<S: Shape + Drop, K: Sink>(
         }
         Order::Smallest(rank) => {
             let geometry = Guided { shape, rank };
-            find(tree, frontier, line, geometry, true, limit, sink)
+            find_unscored(tree, frontier, line, geometry, limit, sink)
         }
     }
 }
@@ -193,8 +193,7 @@ fn push_count<S: Shape + Drop, K: Sink>(
 }
 
 // Pushes a line for each answer of one geometry, and then their number. Where all are wanted, all are found first. Where
-// no node has a score, as in the orders by id and by area, all nodes that may hold answers are opened first, and where
-// more than a few are wanted, all are found then.
+// no node has a score, as in the orders by id and by area, all nodes that may hold answers are opened first.
 fn find<G: Geometry + Drop, K: Sink>(
     tree: &Tree,
     frontier: Frontier,
@@ -215,20 +214,58 @@ fn find<G: Geometry + Drop, K: Sink>(
     let _most = tree.len();
     let counted = Counted::new(&geometry);
     match limit {
-        None => {
-            let search = FullSearch::start(tree, frontier, counted, None);
-            push_search(search, line, sink)
-        }
-        Some(most) if is_unscored && FEW < most => {
-            let search = FullSearch::start(tree, frontier, counted, limit);
-            push_search(search, line, sink)
-        }
-        Some(_) if is_unscored => {
-            let search = Search::start_unscored(tree, frontier, counted, limit);
-            push_search(search, line, sink)
-        }
+        None => push_search(FullSearch::start(tree, frontier, counted), line, sink),
+        Some(_) if is_unscored => push_search(
+            Search::start_unscored(tree, frontier, counted, limit),
+            line,
+            sink,
+        ),
         Some(_) => push_search(Search::start(tree, frontier, counted, limit), line, sink),
     }
+}
+
+// The same where no node has a score: where more than a few are wanted, all are found first.
+fn find_unscored<G: Geometry + Drop, K: Sink>(
+    tree: &Tree,
+    frontier: Frontier,
+    line: u128,
+    geometry: G,
+    limit: Option<u64>,
+    sink: &mut K,
+) -> Result<Frontier, WriteFault>
+    requires room { length tree.now.entries ≤ frontier.capacity }
+    requires count { K.failed sink.old < 2 ^ 64 - 1 }
+    requires unscored { IsUnscored (G.meaning geometry) }
+    ensures pushed { Pushed K.written K.failed sink.old sink.new result
+        (find_reply line (answers tree.now.entries (G.meaning geometry) limit)) }
+    ensures capacity { IfOk result (λ left. left.capacity ≡ frontier.capacity) }
+{
+    match limit {
+        Some(most) if FEW < most => find_many(tree, frontier, line, geometry, most, sink),
+        _ => find(tree, frontier, line, geometry, true, limit, sink),
+    }
+}
+
+// The same where so many are wanted that all are found first. Out of line, so that other searches stay small.
+#[inline(never)]
+fn find_many<G: Geometry + Drop, K: Sink>(
+    tree: &Tree,
+    frontier: Frontier,
+    line: u128,
+    geometry: G,
+    most: u64,
+    sink: &mut K,
+) -> Result<Frontier, WriteFault>
+    requires room { length tree.now.entries ≤ frontier.capacity }
+    requires count { K.failed sink.old < 2 ^ 64 - 1 }
+    ensures pushed { Pushed K.written K.failed sink.old sink.new result
+        (find_reply line (answers tree.now.entries (G.meaning geometry) (Some most))) }
+    ensures capacity { IfOk result (λ left. left.capacity ≡ frontier.capacity) }
+{
+    // (called, so that it is known that the number of answers fits)
+    let _most = tree.len();
+    let search = FullSearch::start(tree, frontier, Counted::new(&geometry));
+    push_search(search.first(most), line, sink)
 }
 
 // Pushes how many nodes a report on boxes opens.

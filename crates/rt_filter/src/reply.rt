@@ -7,7 +7,7 @@ ghost use Rattle.rt_filter.specs.Replies.{find_reply};
 
 use rt_device::{Sink, WriteFault};
 use rt_geo::Geometry;
-use rt_search::{Frontier, FullSearch, Search};
+use rt_search::{FirstAnswers, Frontier, FullSearch, Search};
 use rt_text::{Line, set_answer_line, set_ok_line};
 
 /// Pushes a line until all of it is taken, each time on from where the sink stopped. It isn't flushed.
@@ -100,6 +100,21 @@ impl<'a, G: Geometry> AnswerStream for Search<'a, G> {
 }
 
 impl<'a, G: Geometry> AnswerStream for FullSearch<'a, G> {
+    ghost to_come = { λ s. s.to_come };
+
+    ghost capacity = { λ s. s.capacity };
+
+    #[inline(always)]
+    fn next_answer(&mut self) -> Option<(i64, u128)> {
+        self.next()
+    }
+
+    fn into_frontier(self) -> Frontier {
+        self.finish().0
+    }
+}
+
+impl<'a, G: Geometry> AnswerStream for FirstAnswers<'a, G> {
     ghost to_come = { λ s. s.to_come };
 
     ghost capacity = { λ s. s.capacity };

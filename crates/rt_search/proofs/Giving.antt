@@ -44,27 +44,21 @@ take-nil : {X : Type 0} (n : ℕ) → ◌≡◌ {A = List X} (take n []) []
 take-nil zero = refl
 take-nil (suc n) = refl
 
-limited-nil : {X : Type 0} (limit : Option ℕ) → ◌≡◌ {A = List X} (limited limit []) []
-limited-nil None = refl
-limited-nil (Some n) = take-nil n
-
-limited-next : {X : Type 0} (limit : Option ℕ) (x : X) (xs : List X) → limit ≢ Some 0
-    → limited limit (x ∷ xs) ≡ x ∷ limited (one_less limit) xs
-limited-next None x xs n = refl
-limited-next (Some zero) x xs n = absurd (n refl)
-limited-next (Some (suc k)) x xs n = ap (λ m. x ∷ take m xs) (omega arith)
+take-next : {X : Type 0} (n : ℕ) (x : X) (xs : List X) → n ≢ 0 → take n (x ∷ xs) ≡ x ∷ take (n - 1) xs
+take-next zero x xs some = absurd (some refl)
+take-next (suc k) x xs some = ap (λ m. x ∷ take m xs) (omega arith)
 
 -- what is given of all is given of the first so many
-pub given_limited : {X : Type 0} (limit : Option ℕ) (out : Option X) (old new : List X) → limit ≢ Some 0
+pub given_first : {X : Type 0} (n : ℕ) (out : Option X) (old new : List X) → n ≢ 0
     → MatchOption out (old ≡ []) (λ x. old ≡ x ∷ new)
-    → MatchOption out (limited limit old ≡ []) (λ x. limited limit old ≡ x ∷ limited (one_less limit) new)
-given_limited limit None old new n e = ap (limited limit) e ∙ limited-nil limit
-given_limited limit (Some x) old new n e = ap (limited limit) e ∙ limited-next limit x new n
+    → MatchOption out (take n old ≡ []) (λ x. take n old ≡ x ∷ take (n - 1) new)
+given_first n None old new some e = ap (take n) e ∙ take-nil n
+given_first n (Some x) old new some e = ap (take n) e ∙ take-next n x new some
 
-pub none_limited : {X : Type 0} (limit : Option ℕ) (out : Option X) (new : List X) → IfNone out (new ≡ [])
-    → IfNone out (limited limit new ≡ [])
-none_limited limit None new e = ap (limited limit) e ∙ limited-nil limit
-none_limited limit (Some x) new e = tt
+pub none_first : {X : Type 0} (n : ℕ) (out : Option X) (new : List X) → IfNone out (new ≡ [])
+    → IfNone out (take n new ≡ [])
+none_first n None new e = ap (take n) e ∙ take-nil n
+none_first n (Some x) new e = tt
 
 past_end : {X : Type 0} (xs : List X) (g k : ℕ) → drop g xs ≡ [] → g ≤ k → slice_get xs k ≡ None
 past_end [] g k h le = refl

@@ -24,7 +24,7 @@ pub fn cost<G: Geometry>(
     ensures items { length result.1.items ≤ length tree.now.entries }
 {
     if limit.is_none() {
-        let search = FullSearch::start(tree, frontier, counted, None);
+        let search = FullSearch::start(tree, frontier, counted);
         return (search.opened(), search.finish().0);
     }
     let mut search = Search::start(tree, frontier, counted, limit);

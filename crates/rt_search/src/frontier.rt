@@ -1,6 +1,6 @@
 //! What waits to be taken out, least first.
 
-ghost use Rattle.std.specs.Prelude.{◌≡◌, ◌==◌, ◌<◌, ◌≤◌, ◌^◌, [], length, IfOk, IfSome, None, Some};
+ghost use Rattle.std.specs.Prelude.{◌≡◌, ◌==◌, ◌<◌, ◌≤◌, ◌^◌, [], length, take, IfOk, IfSome, None, Some};
 ghost use Rattle.rt_search.specs.declared.item.Place.TheVariants as place;
 ghost use Rattle.rt_search.specs.Items.{item_at, limited};
 ghost use Rattle.rt_search.specs.Answers.{answers};
@@ -8,7 +8,8 @@ ghost use Rattle.rt_search.specs.Kept.{AllEntries, IsTakenOut, taken_entry, take
 ghost use Rattle.rt_search.specs.Limits.{IsPut, wanted_after};
 ghost use Rattle.rt_search.specs.Remaining.{remaining};
 ghost use Rattle.rt_search.specs.Work.{HasWorked};
-ghost use Rattle.rt_tree.specs.Sorting.{limited as upto};
+ghost use Rattle.rt_geo.specs.Laws.{Meaning};
+ghost use Rattle.rt_tree.specs.Packed.{Packed};
 
 use crate::hits::Hits;
 use crate::item::{Taken, WaitingNode};
@@ -99,18 +100,12 @@ impl Frontier {
         self.rooms.queue.clear(limit);
     }
 
-    // Finds all hits in a tree, and returns how many nodes were opened. Where there is a limit, it may give up hits
-    // behind the first so many.
-    pub(crate) fn gather<G: Geometry>(
-        &mut self,
-        tree: &Tree,
-        counted: &mut Counted<'_, G>,
-        limit: Option<u64>,
-    ) -> u64
+    // Finds all hits in a tree, and returns how many nodes were opened.
+    pub(crate) fn gather<G: Geometry>(&mut self, tree: &Tree, counted: &mut Counted<'_, G>) -> u64
         requires capacity { length tree.now.entries ≤ self.old.capacity }
         requires asked { counted.old.asked ≡ 0 }
         ensures answers { let meaning = G.meaning counted.old.geometry in
-            upto limit (remaining tree.now meaning self.new.hits) ≡ answers tree.now.entries meaning limit }
+            remaining tree.now meaning self.new.hits ≡ answers tree.now.entries meaning None }
         ensures worked { HasWorked (G.meaning counted.old.geometry) tree.now None result counted.new.asked }
         ensures none_waits { self.new.items ≡ [] }
         ensures few { length self.new.hits ≤ length tree.now.entries }
@@ -120,9 +115,18 @@ impl Frontier {
         let rooms = &mut *self.rooms;
         rooms.queue.clear(None);
         rooms.hits.clear();
-        let opened = walk(tree, &mut rooms.hits, counted);
-        rooms.hits.keep_first(limit);
-        opened
+        walk(tree, &mut rooms.hits, counted)
+    }
+
+    // Gives up hits behind the first so many.
+    pub(crate) fn keep_first(&mut self, count: u64)
+        ensures first { (t : Packed) (meaning : Meaning) → take count (remaining t meaning self.new.hits)
+            ≡ take count (remaining t meaning self.old.hits) }
+        ensures few { length self.new.hits ≤ length self.old.hits }
+        ensures waiting { self.new.items ≡ self.old.items }
+        ensures capacity { self.new.capacity ≡ self.old.capacity }
+    {
+        self.rooms.hits.keep_first(count);
     }
 
     #[inline(always)]

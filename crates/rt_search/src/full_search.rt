@@ -1,8 +1,7 @@
 //! Searches for all answers.
 
-ghost use Rattle.std.specs.Prelude.{◌≡◌, ◌≢◌, ◌≤◌, [], ◌∷◌, false, true, None, Some, IfNone, MatchOption, length};
+ghost use Rattle.std.specs.Prelude.{◌≡◌, ◌≤◌, [], ◌∷◌, None, IfNone, MatchOption, length, take};
 ghost use Rattle.rt_search.specs.Answers.{answers};
-ghost use Rattle.rt_search.specs.Limits.{one_less};
 ghost use Rattle.rt_search.specs.Work.{HasWorked};
 
 use crate::frontier::Frontier;
@@ -10,9 +9,8 @@ use rt_geo::{Counted, Geometry};
 use rt_tree::Tree;
 use std::marker::Model;
 
-/// A search that finds all answers to a query, and then gives them one at a time, those of the lowest score first, or
-/// the first so many. It opens as many nodes as a [`Search`](crate::Search) without a limit, all of them before the
-/// first answer.
+/// A search that finds all answers to a query, and then gives them one at a time, those of the lowest score first. It
+/// opens as many nodes as a [`Search`](crate::Search) without a limit, all of them before the first answer.
 ///
 /// It is seen as what is searched, the answers still to come, the nodes opened and the checks made, and the capacity of
 /// its frontier.
@@ -22,22 +20,19 @@ pub struct FullSearch<'a, G: Geometry> {
     frontier: Frontier,
     counted: Counted<'a, G>,
     opened: u64,
-    // how many answers are still wanted, if not all
-    left: Option<u64>,
 }
 
 impl<'a, G: Geometry> Model for FullSearch<'a, G> {
     ghost use Rattle.std.specs.Prelude.{◌≡◌, ◌≤◌, [], length};
     ghost use Rattle.rt_search.specs.Remaining.{remaining};
     ghost use Rattle.rt_search.specs.Searching.{FullSearching};
-    ghost use Rattle.rt_tree.specs.Sorting.{limited};
 
     ghost Value = { FullSearching G };
 
     ghost view = { λ s. let g = s.counted.geometry in record {
       tree = s.tree.now;
       geometry = g;
-      to_come = limited s.left (remaining s.tree.now (G.meaning g) s.frontier.hits);
+      to_come = remaining s.tree.now (G.meaning g) s.frontier.hits;
       opened = s.opened;
       asked = s.counted.asked;
       capacity = s.frontier.capacity;
@@ -50,16 +45,11 @@ impl<'a, G: Geometry> Model for FullSearch<'a, G> {
 }
 
 impl<'a, G: Geometry> FullSearch<'a, G> {
-    /// A search for all answers, or for at most so many. What the frontier held is given up.
-    pub fn start(
-        tree: &'a Tree,
-        frontier: Frontier,
-        counted: Counted<'a, G>,
-        limit: Option<u64>,
-    ) -> FullSearch<'a, G>
+    /// A search for all answers. What the frontier held is given up.
+    pub fn start(tree: &'a Tree, frontier: Frontier, counted: Counted<'a, G>) -> FullSearch<'a, G>
         requires capacity { length tree.now.entries ≤ frontier.capacity }
         requires asked { counted.asked ≡ 0 }
-        ensures to_come { result.to_come ≡ answers tree.now.entries (G.meaning counted.entry.geometry) limit }
+        ensures to_come { result.to_come ≡ answers tree.now.entries (G.meaning counted.entry.geometry) None }
 
         // The work is that of a search without a limit.
         ensures worked { HasWorked (G.meaning counted.entry.geometry) tree.now None result.opened result.asked }
@@ -70,13 +60,12 @@ impl<'a, G: Geometry> FullSearch<'a, G> {
     {
         let mut frontier = frontier;
         let mut counted = counted;
-        let opened = frontier.gather(tree, &mut counted, limit);
+        let opened = frontier.gather(tree, &mut counted);
         FullSearch {
             tree,
             frontier,
             counted,
             opened,
-            left: limit,
         }
     }
 
@@ -97,10 +86,21 @@ impl<'a, G: Geometry> FullSearch<'a, G> {
         ensures geometry { self.new.geometry ≡ self.old.geometry }
         ensures capacity { self.new.capacity ≡ self.old.capacity }
     {
-        if is_enough(&mut self.left) {
-            return None;
-        }
         self.frontier.take_hit()
+    }
+
+    /// The first so many of the answers still to come.
+    pub fn first(self, count: u64) -> FirstAnswers<'a, G>
+        ensures to_come { result.to_come ≡ take count self.entry.to_come }
+        ensures opened { result.opened ≡ self.entry.opened }
+        ensures asked { result.asked ≡ self.entry.asked }
+        ensures tree { result.tree ≡ self.entry.tree }
+        ensures geometry { result.geometry ≡ self.entry.geometry }
+        ensures capacity { result.capacity ≡ self.entry.capacity }
+    {
+        let mut all = self;
+        all.frontier.keep_first(count);
+        FirstAnswers { all, left: count }
     }
 
     /// The frontier, for the next search, and the geometry with the number of its checks. Nothing waits in the frontier,
@@ -116,17 +116,44 @@ impl<'a, G: Geometry> FullSearch<'a, G> {
     }
 }
 
-// Whether no more answers are wanted. Otherwise one less is, from now on.
-#[inline(always)]
-fn is_enough(wanted: &mut Option<u64>) -> bool
-    ensures enough { result ≡ true → (wanted.old ≡ Some 0) × (wanted.new ≡ Some 0) }
-    ensures less { result ≡ false → (wanted.old ≢ Some 0) × (wanted.new ≡ one_less wanted.old) }
-{
-    if let Some(n) = *wanted {
-        if n == 0 {
-            return true;
+/// The first answers of a [`FullSearch`], so many at most, one at a time. It is seen as that search is.
+#[derive(Drop)]
+pub struct FirstAnswers<'a, G: Geometry> {
+    all: FullSearch<'a, G>,
+    left: u64,
+}
+
+impl<'a, G: Geometry> Model for FirstAnswers<'a, G> {
+    ghost use Rattle.std.specs.Prelude.{take};
+    ghost use Rattle.rt_search.specs.Searching.{FullSearching};
+
+    ghost Value = { FullSearching G };
+
+    ghost view = { λ s. record s.all { to_come = take s.left s.all.to_come } };
+}
+
+impl<'a, G: Geometry> FirstAnswers<'a, G> {
+    /// The next answer, as its id and score. `None` where none is left, and from then on.
+    pub fn next(&mut self) -> Option<(i64, u128)>
+        ensures answer { MatchOption result (self.old.to_come ≡ []) (λ a. self.old.to_come ≡ a ∷ self.new.to_come) }
+        ensures none { IfNone result (self.new.to_come ≡ []) }
+        ensures capacity { self.new.capacity ≡ self.old.capacity }
+    {
+        if self.left == 0 {
+            return None;
         }
-        *wanted = Some(n - 1);
+        self.left -= 1;
+        self.all.next()
     }
-    false
+
+    /// The same as of the search.
+    pub fn finish(self) -> (Frontier, Counted<'a, G>)
+        ensures capacity { result.0.capacity ≡ self.entry.capacity }
+        ensures items { result.0.items ≡ [] }
+        ensures hits { length result.0.hits ≤ length self.entry.tree.entries }
+        ensures geometry { result.1.geometry ≡ self.entry.geometry }
+        ensures asked { result.1.asked ≡ self.entry.asked }
+    {
+        self.all.finish()
+    }
 }

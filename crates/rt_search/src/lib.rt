@@ -2,7 +2,8 @@
 //!
 //! A [`Search`] gives the answers to a query one at a time, for any geometry that keeps its laws: those of a plain scan
 //! of all entries, by score and then id, cut at a limit. It opens as many nodes as the last answer's score makes
-//! necessary. A [`FullSearch`] finds all answers before it gives the first, with the work of a search without a limit.
+//! necessary. A [`FullSearch`] finds all answers before it gives the first, with the work of a search without a limit;
+//! its [`FirstAnswers`] are cut at one.
 //! [`count`] returns how many entries are accepted, and adds the size of a node that is accepted whole. [`cost`]
 //! returns how many nodes a search opens. A search works in the room of a [`Frontier`] that was made beforehand, a
 //! count in none, and neither takes memory.
@@ -39,5 +40,5 @@ pub use costing::cost;
 pub use counting::count;
 pub use counts::Count;
 pub use frontier::Frontier;
-pub use full_search::FullSearch;
+pub use full_search::{FirstAnswers, FullSearch};
 pub use search::Search;

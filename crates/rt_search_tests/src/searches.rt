@@ -119,7 +119,7 @@ fn expect_cost<G: Geometry>(
     expect_eq(rt, frontier.capacity(), tree.len());
 }
 
-// What a search for all answers gives, one at a time and all at once, or the first so many of all that were found.
+// What a search for all answers gives, one at a time and all at once, and the first so many of them.
 fn expect_full_search<G: Geometry>(
     rt: &impl Abort,
     alloc: Global,
@@ -128,33 +128,41 @@ fn expect_full_search<G: Geometry>(
     want: &Want<'_>,
 ) {
     expect_search(rt, alloc, tree, geometry, None, want);
-    expect_first_found(rt, alloc, tree, geometry, None, want);
-    for limit in 0..want.answers.len() as u64 + 2 {
-        expect_first_found(rt, alloc, tree, geometry, Some(limit), want);
-    }
-}
-
-// What a search that finds all gives of them: `want` has all. Its work is the same whatever the limit.
-fn expect_first_found<G: Geometry>(
-    rt: &impl Abort,
-    alloc: Global,
-    tree: &Tree,
-    geometry: &G,
-    limit: Option<u64>,
-    want: &Want<'_>,
-) {
     let frontier = Frontier::new(alloc, tree.len()).expect(rt, "there is memory");
-    let mut search = FullSearch::start(tree, frontier, Counted::new(geometry), limit);
+    let mut search = FullSearch::start(tree, frontier, Counted::new(geometry));
     expect_eq(rt, search.opened(), want.opened);
-    let most = want.answers.len();
-    let first = limit.map_or(most, |n| most.min(n as usize));
-    for answer in &want.answers[..first] {
+    for answer in want.answers {
         expect_eq(rt, search.next(), Some(*answer));
     }
     expect_eq(rt, search.next(), None);
     expect_eq(rt, search.next(), None);
     expect_eq(rt, search.opened(), want.opened);
     let (frontier, counted) = search.finish();
+    expect_eq(rt, counted.asked(), want.asked);
+    expect_eq(rt, frontier.capacity(), tree.len());
+    for count in 0..want.answers.len() + 2 {
+        expect_first_answers(rt, alloc, tree, geometry, count, want);
+    }
+}
+
+// The first so many of what a search for all answers gives: `want` has all.
+fn expect_first_answers<G: Geometry>(
+    rt: &impl Abort,
+    alloc: Global,
+    tree: &Tree,
+    geometry: &G,
+    count: usize,
+    want: &Want<'_>,
+) {
+    let frontier = Frontier::new(alloc, tree.len()).expect(rt, "there is memory");
+    let search = FullSearch::start(tree, frontier, Counted::new(geometry));
+    let mut first = search.first(count as u64);
+    for answer in &want.answers[..count.min(want.answers.len())] {
+        expect_eq(rt, first.next(), Some(*answer));
+    }
+    expect_eq(rt, first.next(), None);
+    expect_eq(rt, first.next(), None);
+    let (frontier, counted) = first.finish();
     expect_eq(rt, counted.asked(), want.asked);
     expect_eq(rt, frontier.capacity(), tree.len());
 }
@@ -514,7 +522,7 @@ fn full_searches_and_counts_ask_about_each_child_once(rt: HostRuntime) {
     let tree = pack(&rt, rt.alloc(), &BOXES);
     let frontier = Frontier::new(rt.alloc(), tree.len()).expect(&rt, "there is memory");
     let all = Watched::new(all_by_id());
-    let search = FullSearch::start(&tree, frontier, Counted::new(&all), None);
+    let search = FullSearch::start(&tree, frontier, Counted::new(&all));
     // d: a, c; e: b
     let want = [30, 10, -1, 10, 30, 30, 15, 15, 15, 12];
     expect_eq(&rt, all.shown(), want);
@@ -581,7 +589,7 @@ fn full_searches_give_ids_in_order(rt: HostRuntime) {
         let tree = Tree::pack(rt.alloc(), table, 2).expect(&rt, "there is memory");
         let frontier = Frontier::new(rt.alloc(), tree.len()).expect(&rt, "there is memory");
         let all = all_by_id();
-        let mut search = FullSearch::start(&tree, frontier, Counted::new(&all), None);
+        let mut search = FullSearch::start(&tree, frontier, Counted::new(&all));
         for id in in_order {
             expect_eq(&rt, search.next(), Some((*id, 0)));
         }
@@ -616,9 +624,10 @@ fn full_searches_up_to_a_limit_give_the_first_of_all(rt: HostRuntime) {
 fn expect_first_of_all<G: Geometry>(rt: &impl Abort, alloc: Global, tree: &Tree, geometry: &G) {
     for limit in [0, 1, 2, 129, 300, 599, 600, 601, 1_199, 1_200, 5_000] {
         let frontier = Frontier::new(alloc, tree.len()).expect(rt, "there is memory");
-        let mut all = FullSearch::start(tree, frontier, Counted::new(geometry), None);
+        let mut all = FullSearch::start(tree, frontier, Counted::new(geometry));
         let frontier = Frontier::new(alloc, tree.len()).expect(rt, "there is memory");
-        let mut first = FullSearch::start(tree, frontier, Counted::new(geometry), Some(limit));
+        let search = FullSearch::start(tree, frontier, Counted::new(geometry));
+        let mut first = search.first(limit);
         for _ in 0..limit {
             expect_eq(rt, first.next(), all.next());
         }
