@@ -18,6 +18,10 @@ pub at_failure : {T E B : Type 0} (r : Result T E) (P : E → Type 0) (A : T →
 at_failure (Ok x) P A is h = absurd is
 at_failure (Err e) P A is h = h
 
+-- a sink that is left alone
+pub nothing_pushed : (written : Option (List ℕ)) → WasPushed written written []
+nothing_pushed written = if_some _ written (λ before e. e ∙ ap (λ xs. Some xs) (sym (append-nil before)))
+
 -- of all bytes, what isn't left was pushed
 pub record AllBut (all : List ℕ) (old now : Option (List ℕ)) (rest : List ℕ) : Type 0 where
   pub out : (before : List ℕ) → old ≡ Some before → (out : List ℕ) × (now ≡ Some (before ++ out)) × (all ≡ out ++ rest)

@@ -3,7 +3,7 @@
 ghost use Rattle.std.specs.Prelude.{◌≡◌, [], Some, if◌then◌else◌};
 ghost use Rattle.rt_filter.specs.Stages.{is_nothing, kept_with, parsed_with};
 
-use rt_text::{Parsed, QueryFault, parse};
+use rt_text::{Parsed, QueryFault, Vertices, parse};
 use std::marker::Model;
 
 /// The most bytes of a query line, a carriage return included and the line feed not.
@@ -62,7 +62,7 @@ impl LineStart {
     }
 
     /// Parses the line that these bytes end; nothing is begun then. One that is here whole is parsed where it stands.
-    pub(crate) fn parse(&mut self, end: &[u8]) -> Parsed
+    pub(crate) fn parse<'a>(&mut self, end: &[u8], vertices: &'a mut Vertices) -> Parsed<'a>
         ensures parsed { result ≡ parsed_with self.old end.now }
         ensures begun { self.new ≡ Some [] }
     {
@@ -74,7 +74,7 @@ impl LineStart {
         let line = line_of(is_whole, end, kept);
         // (one call, so that the compiler puts its body here)
         let parsed = if self.kept.is_some() && line.len() <= LONGEST_LINE {
-            parse(line)
+            parse(line, vertices)
         } else {
             Parsed::Fault(QueryFault::LineTooLong)
         };

@@ -29,13 +29,13 @@ pub(crate) fn push_reply<K: Sink>(
     tree: &Tree,
     frontier: Frontier,
     line: u128,
-    query: Query,
+    query: Query<'_>,
     sink: &mut K,
 ) -> Result<Frontier, WriteFault>
     requires room { length tree.now.entries ≤ frontier.capacity }
     requires count { K.failed sink.old < 2 ^ 64 - 1 }
     ensures pushed { Pushed K.written K.failed sink.old sink.new result
-        (query_reply (loaded_tree tree.now) line query) }
+        (query_reply (loaded_tree tree.now) line query.entry) }
     ensures capacity { IfOk result (λ left. left.capacity ≡ frontier.capacity) }
 {
     match query {
@@ -68,13 +68,13 @@ fn push_report<K: Sink>(
     tree: &Tree,
     frontier: Frontier,
     line: u128,
-    asked: BoxQuery,
+    asked: BoxQuery<'_>,
     sink: &mut K,
 ) -> Result<Frontier, WriteFault>
     requires room { length tree.now.entries ≤ frontier.capacity }
     requires count { K.failed sink.old < 2 ^ 64 - 1 }
     ensures pushed { Pushed K.written K.failed sink.old sink.new result
-        (query_reply (loaded_tree tree.now) line (Query.Boxes asked)) }
+        (query_reply (loaded_tree tree.now) line (Query.Boxes asked.entry)) }
     ensures capacity { IfOk result (λ left. left.capacity ≡ frontier.capacity) }
 {
     // (called, so that it is known which layers the entries have)
@@ -102,7 +102,7 @@ fn push_in_region<K: Sink>(
     tree: &Tree,
     frontier: Frontier,
     line: u128,
-    region: Region,
+    region: Region<'_>,
     order: Order,
     report: Report,
     sink: &mut K,
@@ -110,7 +110,7 @@ fn push_in_region<K: Sink>(
     requires room { length tree.now.entries ≤ frontier.capacity }
     requires count { K.failed sink.old < 2 ^ 64 - 1 }
     ensures pushed { Pushed K.written K.failed sink.old sink.new result
-        (report_on tree.now.entries (region_accepts region) line order report) }
+        (report_on tree.now.entries (region_accepts region.entry) line order report) }
     ensures capacity { IfOk result (λ left. left.capacity ≡ frontier.capacity) }
 {
     match region {
@@ -273,13 +273,13 @@ fn push_cost<K: Sink>(
     tree: &Tree,
     frontier: Frontier,
     line: u128,
-    asked: BoxQuery,
+    asked: BoxQuery<'_>,
     sink: &mut K,
 ) -> Result<Frontier, WriteFault>
     requires room { length tree.now.entries ≤ frontier.capacity }
     requires count { K.failed sink.old < 2 ^ 64 - 1 }
     ensures pushed { Pushed K.written K.failed sink.old sink.new result
-        (query_reply (loaded_tree tree.now) line (Query.Cost asked)) }
+        (query_reply (loaded_tree tree.now) line (Query.Cost asked.entry)) }
     ensures capacity { IfOk result (λ left. left.capacity ≡ frontier.capacity) }
 {
     // (called, so that it is known that the tree is the packed one of its own entries)

@@ -17,7 +17,7 @@ use crate::reply::push_line;
 use memchr::memchr;
 use rt_device::{Sink, WriteFault};
 use rt_search::Frontier;
-use rt_text::{Parsed, error_line};
+use rt_text::{Parsed, Vertices, error_line};
 use rt_tree::Tree;
 use std::marker::Model;
 
@@ -233,7 +233,8 @@ impl Progress {
         ensures capacity { IfOk result (λ left. left.capacity ≡ frontier.capacity) }
         ensures untouched { self.new.is_pushed ≡ false → (self.old.is_pushed ≡ false) × (sink.new ≡ sink.old) }
     {
-        let parsed = self.begun.parse(end);
+        let mut vertices = Vertices::new();
+        let parsed = self.begun.parse(end, &mut vertices);
         self.lines += 1;
         match parsed {
             Parsed::Skip => Ok(frontier),

@@ -19,7 +19,6 @@ use crate::bounds::{Bounds, hull, inside, overlaps};
 use crate::distance::Point;
 use crate::geometry::{Info, Shape, Within};
 use crate::prepared::{PreparedPolygon, is_short, left_of_short, prepare};
-use arrayvec::ArrayVec;
 use std::marker::Model;
 
 /// The fewest vertices of a polygon.
@@ -38,61 +37,75 @@ pub enum PolygonFault {
     NotConvex,
 }
 
-/// Accepts the boxes that a strictly convex polygon of 3 to 16 vertices meets, its edges included.
+/// Accepts the boxes that a strictly convex polygon of 3 to 16 vertices meets, its edges included. The vertices stand
+/// elsewhere, so that it is small.
 ///
 /// The boxes are those that no axis parts from it. A box that is dropped shares no point with the polygon, not
 /// even one in fractions, and each other box shares one with it: these are clauses of `within`.
-#[derive(Debug, PartialEq, Eq, Drop)]
-pub struct Polygon {
-    vertices: ArrayVec<Point, MOST_VERTICES>,
+#[derive(Debug, Drop)]
+pub struct Polygon<'a> {
+    vertices: &'a [Point],
     bounds: Bounds,
 }
 
-impl Model for Polygon {
+impl<'a> Model for Polygon<'a> {
     ghost use Rattle.std.specs.Prelude.{◌≡◌, true, List};
     ghost use Rattle.rt_geo.specs.Polygons.{bounding_box, has_polygon_count, is_strictly_convex};
     ghost use Rattle.rt_geo.specs.declared.distance.Point.{Point};
 
     ghost Value = { List Point };
 
-    ghost view = { λ p. p.vertices.items };
+    ghost view = { λ p. p.vertices.now };
 
     ghost invariant = { λ p. record {
-      count : has_polygon_count p.vertices.items ≡ true;
-      convex : is_strictly_convex p.vertices.items ≡ true;
-      bounds : p.bounds ≡ bounding_box p.vertices.items;
+      count : has_polygon_count p.vertices.now ≡ true;
+      convex : is_strictly_convex p.vertices.now ≡ true;
+      bounds : p.bounds ≡ bounding_box p.vertices.now;
     } };
-
-    ghost inverse = { λ vertices. record {
-      vertices = record { items = vertices };
-      bounds = bounding_box vertices;
-    } };
-
-    ghost use Rattle.std.proofs.Common.{ap, sym};
-
-    ghost inverse_ok = { λ p h. ap (λ b. record { vertices = p.vertices; bounds = b }) (sym h.bounds) };
 }
 
-impl Polygon {
-    /// The polygon with these vertices in turn, counterclockwise or clockwise.
+/// Polygons are equal where their vertices are, in turn from the first.
+impl<'a> PartialEq for Polygon<'a> {
+    ghost use Rattle.std.specs.Ordering.{eq_of_both, int_eq, on};
+    ghost use Rattle.std.specs.Cmp.Lexicographic.{pointwise};
+    ghost use Rattle.std.specs.Cmp.Rules.{comparing};
+    ghost use Rattle.std.proofs.Common.{rules};
+
+    ghost eq = { pointwise (eq_of_both (on (λ p. p.x) int_eq) (on (λ p. p.y) int_eq)) };
+
+    ghost laws = { Prim.search (comparing, rules) };
+
+    fn eq(&self, other: &Polygon<'a>) -> bool {
+        self.vertices == other.vertices
+    }
+}
+
+impl<'a> Eq for Polygon<'a> {
+    ghost use Rattle.std.specs.Cmp.Rules.{comparing};
+    ghost use Rattle.std.proofs.Common.{rules};
+
+    ghost laws = { Prim.search (comparing, rules) };
+}
+
+impl<'a> Polygon<'a> {
+    /// The polygon with these vertices in turn, counterclockwise or clockwise. They may be reversed where they stand.
     ///
     /// [`PolygonFault::Count`] where there are not 3 to 16 of them, [`PolygonFault::NotConvex`] where there
     /// are and they aren't strictly convex either way round, as where three are in line.
     #[inline(always)]
-    pub fn new(points: &[Point]) -> Result<Polygon, PolygonFault>
-        ensures value { result ≡ polygon_of points.now }
-        ensures polygon { IsPolygonOf points.now result }
+    pub fn new(points: &'a mut [Point]) -> Result<Polygon<'a>, PolygonFault>
+        ensures value { result ≡ polygon_of points.old }
+        ensures polygon { IsPolygonOf points.old result }
     {
         if points.len() < FEWEST_VERTICES || points.len() > MOST_VERTICES {
             return Err(PolygonFault::Count);
         }
-        let mut vertices = vertices_of(points);
-        if is_strictly_convex(&vertices) {
-            return Ok(of_convex(vertices));
+        if is_strictly_convex(points) {
+            return Ok(of_convex(points));
         }
-        vertices.reverse();
-        if is_strictly_convex(&vertices) {
-            return Ok(of_convex(vertices));
+        points.reverse();
+        if is_strictly_convex(points) {
+            return Ok(of_convex(points));
         }
         Err(PolygonFault::NotConvex)
     }
@@ -100,7 +113,7 @@ impl Polygon {
     /// The same polygon, made ready to be asked about many boxes, where each edge leads less than 2^31 far on each
     /// axis. `None` where one leads farther.
     #[inline(always)]
-    pub fn prepare(&self) -> Option<PreparedPolygon<'_>>
+    pub fn prepare(&self) -> Option<PreparedPolygon<'a>>
         ensures when { is_some result ≡ has_short_edges self.now }
         ensures value { IfSome result (λ prepared. prepared ≡ self.now) }
     {
@@ -108,12 +121,12 @@ impl Polygon {
     }
 
     /// The vertices in turn, counterclockwise.
-    pub(crate) fn vertices(&self) -> &[Point]
+    pub(crate) fn vertices(&self) -> &'a [Point]
         ensures value { result.now ≡ self.now }
         ensures count { has_polygon_count result.now ≡ true }
         ensures convex { is_strictly_convex result.now ≡ true }
     {
-        &self.vertices
+        self.vertices
     }
 
     /// The least box around the vertices.
@@ -124,7 +137,7 @@ impl Polygon {
     }
 }
 
-impl Shape for Polygon {
+impl<'a> Shape for Polygon<'a> {
     ghost use Rattle.std.specs.Prelude.{◌≡◌, ◌≢◌};
     ghost use Rattle.rt_geo.specs.Polygons.{HoldsEachPoint, SharesNoPoint, SharesPoint};
     ghost use Rattle.rt_geo.specs.Regions.{region_accepts, region_state};
@@ -145,7 +158,7 @@ impl Shape for Polygon {
             return Within::Not;
         }
         let lies_inside = inside(info.bounds, self.bounds);
-        state_by_edges(&self.vertices, info.bounds, lies_inside)
+        state_by_edges(self.vertices, info.bounds, lies_inside)
     }
 
     ghost use Rattle.rt_geo.specs.Lemmas.Regions.{region-faithful};
@@ -289,30 +302,17 @@ fn left_of(edge: Edge, points: &[Point]) -> usize
         .count()
 }
 
-/// The points in a vector of their own.
-#[inline(always)]
-fn vertices_of(points: &[Point]) -> ArrayVec<Point, MOST_VERTICES>
-    requires { length points.now ≤ MOST_VERTICES }
-    ensures { result.items ≡ points.now }
-{
-    let mut vertices = ArrayVec::new();
-    for point in points {
-        vertices.push(*point);
-    }
-    vertices
-}
-
 /// The polygon with these vertices.
 #[inline(always)]
-fn of_convex(vertices: ArrayVec<Point, MOST_VERTICES>) -> Polygon
-    requires count { has_polygon_count vertices.items ≡ true }
-    requires convex { is_strictly_convex vertices.items ≡ true }
-    ensures value { result ≡ vertices.items }
+fn of_convex(vertices: &[Point]) -> Polygon<'_>
+    requires count { has_polygon_count vertices.now ≡ true }
+    requires convex { is_strictly_convex vertices.now ≡ true }
+    ensures value { result ≡ vertices.now }
     ensures convex { IsStrictlyConvex result }
 {
     Polygon {
-        bounds: bounding_box(&vertices),
         vertices,
+        bounds: bounding_box(vertices),
     }
 }
 

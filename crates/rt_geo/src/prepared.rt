@@ -35,10 +35,10 @@ pub(crate) struct HalfPlane {
     side_y: u32,
 }
 
-/// A borrowed [`Polygon`] each edge of which leads less than 2^31 far on each axis. It is asked faster.
+/// A [`Polygon`] each edge of which leads less than 2^31 far on each axis. It is asked faster.
 #[derive(Debug, Drop)]
 pub struct PreparedPolygon<'a> {
-    polygon: &'a Polygon,
+    vertices: &'a [Point],
     bounds: Bounds,
     half_planes: ArrayVec<HalfPlane, MOST_VERTICES>,
 }
@@ -53,14 +53,14 @@ impl<'a> Model for PreparedPolygon<'a> {
 
     ghost Value = { List Point };
 
-    ghost view = { λ p. p.polygon.now };
+    ghost view = { λ p. p.vertices.now };
 
     ghost invariant = { λ p. record {
-      count : has_polygon_count p.polygon.now ≡ true;
-      convex : is_strictly_convex p.polygon.now ≡ true;
-      short : has_short_edges p.polygon.now ≡ true;
-      bounds : p.bounds ≡ bounding_box p.polygon.now;
-      half_planes : p.half_planes.items ≡ map half_plane_of (edges_from_last p.polygon.now);
+      count : has_polygon_count p.vertices.now ≡ true;
+      convex : is_strictly_convex p.vertices.now ≡ true;
+      short : has_short_edges p.vertices.now ≡ true;
+      bounds : p.bounds ≡ bounding_box p.vertices.now;
+      half_planes : p.half_planes.items ≡ map half_plane_of (edges_from_last p.vertices.now);
     } };
 }
 
@@ -171,14 +171,14 @@ fn turned_sides(bounds: Bounds) -> [i64; 4]
 
 /// The polygon with the half-planes of its edges. `None` where an edge isn't short.
 #[inline(always)]
-pub(crate) fn prepare(polygon: &Polygon) -> Option<PreparedPolygon<'_>>
+pub(crate) fn prepare<'a>(polygon: &Polygon<'a>) -> Option<PreparedPolygon<'a>>
     ensures when { is_some result ≡ has_short_edges polygon.now }
     ensures value { IfSome result (λ prepared. prepared ≡ polygon.now) }
 {
-    let last = last_vertex(polygon.vertices());
-    match half_planes(last, polygon.vertices()) {
+    let vertices = polygon.vertices();
+    match half_planes(last_vertex(vertices), vertices) {
         Some(half_planes) => Some(PreparedPolygon {
-            polygon,
+            vertices,
             bounds: polygon.bounds(),
             half_planes,
         }),

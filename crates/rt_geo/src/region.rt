@@ -6,16 +6,16 @@ use crate::shapes::{All, Circle, Covers, Inside, Window};
 
 /// A shape that is chosen while the program runs.
 #[derive(Debug, PartialEq, Eq, Drop)]
-pub enum Region {
+pub enum Region<'a> {
     All(All),
     Window(Window),
     Inside(Inside),
     Covers(Covers),
     Circle(Circle),
-    Polygon(Polygon),
+    Polygon(Polygon<'a>),
 }
 
-impl Shape for Region {
+impl<'a> Shape for Region<'a> {
     ghost use Rattle.rt_geo.specs.Regions.{region_accepts, region_state};
 
     ghost accepts = { region_accepts };

@@ -9,27 +9,22 @@ fn at(x: i32, y: i32) -> Point {
     Point { x, y }
 }
 
-fn polygon(rt: &impl Abort, points: &[Point]) -> Polygon {
+fn polygon<'a>(rt: &impl Abort, points: &'a mut [Point]) -> Polygon<'a> {
     Polygon::new(points).expect(rt, "the points are those of a convex polygon")
 }
 
-fn triangle(rt: &impl Abort) -> Polygon {
-    polygon(rt, &[at(0, 0), at(30, 0), at(0, 30)])
+/// Why the points are those of no polygon, if they are none.
+fn fault_of(points: &mut [Point]) -> Option<PolygonFault> {
+    Polygon::new(points).err()
 }
 
-fn prepared_polygon<'a>(rt: &impl Abort, polygon: &'a Polygon) -> PreparedPolygon<'a> {
-    polygon.prepare().expect(rt, "the edges are short")
+fn triangle() -> [Point; 3] {
+    [at(0, 0), at(30, 0), at(0, 30)]
 }
 
-/// The state of an entry's box.
-fn state_of_entry(polygon: &Polygon, bounds: Bounds) -> Within {
-    state_of(polygon, bounds, 0)
-}
-
-#[test]
-fn a_polygon_has_3_to_16_vertices(rt: HostRuntime) {
-    // (on a parabola, whose points are in convex position)
-    let points = [
+/// Points of a parabola, which are in convex position.
+fn parabola() -> [Point; 17] {
+    [
         at(0, 0),
         at(1, 1),
         at(2, 4),
@@ -47,13 +42,31 @@ fn a_polygon_has_3_to_16_vertices(rt: HostRuntime) {
         at(14, 196),
         at(15, 225),
         at(16, 256),
-    ];
-    expect_eq(&rt, Polygon::new(&points), Err(PolygonFault::Count));
-    expect_eq(&rt, Polygon::new(&points[..2]), Err(PolygonFault::Count));
-    expect_eq(&rt, Polygon::new(&[]), Err(PolygonFault::Count));
-    assert!(rt; Polygon::new(&points[..3]).is_ok());
+    ]
+}
 
-    let widest = polygon(&rt, &points[..16]);
+fn prepared_polygon<'a>(rt: &impl Abort, polygon: &Polygon<'a>) -> PreparedPolygon<'a> {
+    polygon.prepare().expect(rt, "the edges are short")
+}
+
+/// The state of an entry's box.
+fn state_of_entry(polygon: &Polygon<'_>, bounds: Bounds) -> Within {
+    state_of(polygon, bounds, 0)
+}
+
+#[test]
+fn a_polygon_has_3_to_16_vertices(rt: HostRuntime) {
+    expect_eq(&rt, fault_of(&mut parabola()), Some(PolygonFault::Count));
+    expect_eq(
+        &rt,
+        fault_of(&mut [at(0, 0), at(1, 1)]),
+        Some(PolygonFault::Count),
+    );
+    expect_eq(&rt, fault_of(&mut []), Some(PolygonFault::Count));
+    expect_eq(&rt, fault_of(&mut triangle()), None);
+
+    let mut widest = parabola();
+    let widest = polygon(&rt, &mut widest[..16]);
     expect_eq(
         &rt,
         state_of_entry(&widest, boxed(&rt, 15, 15, 225, 225)),
@@ -68,20 +81,20 @@ fn a_polygon_has_3_to_16_vertices(rt: HostRuntime) {
 
 #[test]
 fn a_polygon_is_strictly_convex(rt: HostRuntime) {
-    let in_line = [at(0, 0), at(5, 5), at(10, 10)];
-    expect_eq(&rt, Polygon::new(&in_line), Err(PolygonFault::NotConvex));
+    let mut in_line = [at(0, 0), at(5, 5), at(10, 10)];
+    expect_eq(&rt, fault_of(&mut in_line), Some(PolygonFault::NotConvex));
 
-    let flat_corner = [at(0, 0), at(5, 0), at(10, 0), at(0, 10)];
+    let mut flat_corner = [at(0, 0), at(5, 0), at(10, 0), at(0, 10)];
     expect_eq(
         &rt,
-        Polygon::new(&flat_corner),
-        Err(PolygonFault::NotConvex),
+        fault_of(&mut flat_corner),
+        Some(PolygonFault::NotConvex),
     );
 
-    let star = [at(0, 3), at(2, -3), at(-3, 1), at(3, 1), at(-2, -3)];
-    expect_eq(&rt, Polygon::new(&star), Err(PolygonFault::NotConvex));
+    let mut star = [at(0, 3), at(2, -3), at(-3, 1), at(3, 1), at(-2, -3)];
+    expect_eq(&rt, fault_of(&mut star), Some(PolygonFault::NotConvex));
 
-    let twice = [
+    let mut twice = [
         at(0, 0),
         at(30, 0),
         at(0, 30),
@@ -89,21 +102,21 @@ fn a_polygon_is_strictly_convex(rt: HostRuntime) {
         at(30, 0),
         at(0, 30),
     ];
-    expect_eq(&rt, Polygon::new(&twice), Err(PolygonFault::NotConvex));
+    expect_eq(&rt, fault_of(&mut twice), Some(PolygonFault::NotConvex));
 }
 
 #[test]
 fn a_clockwise_list_is_taken_reversed(rt: HostRuntime) {
-    let square = [at(0, 0), at(10, 0), at(10, 10), at(0, 10)];
-    let reverse = [at(0, 10), at(10, 10), at(10, 0), at(0, 0)];
-    assert!(rt; Polygon::new(&square).is_ok());
-    expect_eq(&rt, Polygon::new(&reverse), Polygon::new(&square));
+    let mut square = [at(0, 0), at(10, 0), at(10, 10), at(0, 10)];
+    let mut reverse = [at(0, 10), at(10, 10), at(10, 0), at(0, 0)];
+    assert!(rt; Polygon::new(&mut square).is_ok());
+    expect_eq(&rt, Polygon::new(&mut reverse), Polygon::new(&mut square));
 }
 
 #[test]
 fn a_triangle_tells_five_boxes(rt: HostRuntime) {
-    let clockwise = [at(0, 0), at(0, 30), at(30, 0)];
-    for triangle in [triangle(&rt), polygon(&rt, &clockwise)] {
+    let mut clockwise = [at(0, 0), at(0, 30), at(30, 0)];
+    for triangle in [polygon(&rt, &mut triangle()), polygon(&rt, &mut clockwise)] {
         for (bounds, want) in [
             (boxed(&rt, 0, 10, 0, 10), Within::Fully),
             (boxed(&rt, 5, 15, 5, 15), Within::Fully),
@@ -118,7 +131,8 @@ fn a_triangle_tells_five_boxes(rt: HostRuntime) {
 
 #[test]
 fn an_edge_decides_where_the_bounding_box_does_not(rt: HostRuntime) {
-    let triangle = triangle(&rt);
+    let mut triangle = triangle();
+    let triangle = polygon(&rt, &mut triangle);
     for (bounds, want) in [
         (boxed(&rt, 25, 30, 25, 30), Within::Not),
         (boxed(&rt, 15, 30, 15, 30), Within::Partly),
@@ -133,7 +147,8 @@ fn an_edge_decides_where_the_bounding_box_does_not(rt: HostRuntime) {
 #[test]
 fn a_polygon_reaches_the_ends_of_the_plane(rt: HostRuntime) {
     let (low, high) = (i32::MIN, i32::MAX);
-    let half = polygon(&rt, &[at(low, low), at(high, low), at(high, high)]);
+    let mut half = [at(low, low), at(high, low), at(high, high)];
+    let half = polygon(&rt, &mut half);
     for (bounds, want) in [
         (boxed(&rt, 20, 30, 0, 10), Within::Fully),
         (boxed(&rt, -5, -1, -5, -1), Within::Partly),
@@ -148,7 +163,8 @@ fn a_polygon_reaches_the_ends_of_the_plane(rt: HostRuntime) {
 
 #[test]
 fn a_region_may_be_a_polygon(rt: HostRuntime) {
-    let region = Region::Polygon(triangle(&rt));
+    let mut triangle = triangle();
+    let region = Region::Polygon(polygon(&rt, &mut triangle));
     expect_eq(
         &rt,
         state_of(&region, boxed(&rt, 5, 15, 5, 15), 0),
@@ -163,7 +179,8 @@ fn a_region_may_be_a_polygon(rt: HostRuntime) {
 
 #[test]
 fn a_prepared_polygon_tells_what_the_polygon_tells(rt: HostRuntime) {
-    let triangle = triangle(&rt);
+    let mut triangle = triangle();
+    let triangle = polygon(&rt, &mut triangle);
     let prepared = prepared_polygon(&rt, &triangle);
     for (bounds, want) in [
         (boxed(&rt, 0, 10, 0, 10), Within::Fully),
@@ -183,8 +200,8 @@ fn a_prepared_polygon_tells_what_the_polygon_tells(rt: HostRuntime) {
 #[test]
 fn a_prepared_polygon_reaches_the_end_of_the_plane(rt: HostRuntime) {
     let (low, high) = (i32::MIN, i32::MAX);
-    let corner = polygon(&rt, &[at(low, low), at(-1, low), at(-1, -1)]);
-    let corner = prepared_polygon(&rt, &corner);
+    let mut corner = [at(low, low), at(-1, low), at(-1, -1)];
+    let corner = prepared_polygon(&rt, &polygon(&rt, &mut corner));
     for (bounds, want) in [
         (boxed(&rt, -30, -20, -50, -40), Within::Fully),
         (boxed(&rt, low, high, low, high), Within::Partly),
@@ -199,9 +216,9 @@ fn a_prepared_polygon_reaches_the_end_of_the_plane(rt: HostRuntime) {
 
 #[test]
 fn a_polygon_with_a_long_edge_cannot_be_prepared(rt: HostRuntime) {
-    let longest = [at(0, 0), at(i32::MAX, 0), at(0, 1)];
-    assert!(rt; polygon(&rt, &longest).prepare().is_some());
+    let mut longest = [at(0, 0), at(i32::MAX, 0), at(0, 1)];
+    assert!(rt; polygon(&rt, &mut longest).prepare().is_some());
 
-    let too_long = [at(-1, 0), at(i32::MAX, 0), at(0, 1)];
-    assert!(rt; polygon(&rt, &too_long).prepare().is_none());
+    let mut too_long = [at(-1, 0), at(i32::MAX, 0), at(0, 1)];
+    assert!(rt; polygon(&rt, &mut too_long).prepare().is_none());
 }

@@ -11,7 +11,7 @@ ghost use Rattle.rt_geo.specs.Layers.{most_layer};
 ghost use Rattle.rt_text.specs.Queries.{Takes, box_query, circle, coordinate, count, find, finished, layers_of, limit, natural, nearest, number, on_list, order, point, points, polygon, query, query_of, region, sides, usual_order, vertex_count, word_as};
 
 use crate::numbers::{NumberFault, number};
-use crate::query::{BoxQuery, Parsed, Query, QueryFault, Report};
+use crate::query::{BoxQuery, Parsed, Query, QueryFault, Report, Vertices};
 use crate::words::Words;
 use arrayvec::ArrayVec;
 use rt_geo::{
@@ -19,10 +19,11 @@ use rt_geo::{
     Point, Polygon, PolygonFault, Region, Smallest, Window,
 };
 
-/// What a line asks, without its line feed. One carriage return at its end is dropped. It takes no memory.
+/// What a line asks, without its line feed. One carriage return at its end is dropped. It takes no memory: the vertices of
+/// a polygon stand in `vertices`, whatever stood there.
 ///
 /// It never answers [`QueryFault::LineTooLong`]: how long a line may be is the reader's matter.
-pub fn parse(line: &[u8]) -> Parsed
+pub fn parse<'a>(line: &[u8], vertices: &'a mut Vertices) -> Parsed<'a>
     ensures { result ≡ query_of line.now }
 {
     let mut words = Words::new(without_return(line));
@@ -32,7 +33,7 @@ pub fn parse(line: &[u8]) -> Parsed
     if is_comment(verb) {
         return Parsed::Skip;
     }
-    match query(verb, &mut words) {
+    match query(verb, &mut words, vertices) {
         Ok(query) => Parsed::Query(query),
         Err(fault) => Parsed::Fault(fault),
     }
@@ -56,48 +57,56 @@ fn is_comment(word: &[u8]) -> bool
 // ---- queries
 
 #[inline(always)]
-fn query(verb: &[u8], words: &mut Words) -> Result<Query, QueryFault>
+fn query<'a>(
+    verb: &[u8],
+    words: &mut Words,
+    vertices: &'a mut Vertices,
+) -> Result<Query<'a>, QueryFault>
     ensures { result ≡ query verb.now words.old }
 {
     if verb == b"levels".as_slice() {
         finished(words)?;
         Ok(Query::Levels)
     } else if verb == b"cost".as_slice() {
-        Ok(Query::Cost(costed(words)?))
+        Ok(Query::Cost(costed(words, vertices)?))
     } else {
-        Ok(Query::Boxes(box_query(verb, words)?))
+        Ok(Query::Boxes(box_query(verb, words, vertices)?))
     }
 }
 
 // Kept out of line: only lines with `cost` have need of it.
 #[inline(never)]
-fn costed(words: &mut Words) -> Result<BoxQuery, QueryFault>
+fn costed<'a>(words: &mut Words, vertices: &'a mut Vertices) -> Result<BoxQuery<'a>, QueryFault>
     ensures { result ≡ box_query words.old }
 {
     let verb = next_word(words)?;
-    box_query(verb, words)
+    box_query(verb, words, vertices)
 }
 
 #[inline(always)]
-fn box_query(verb: &[u8], words: &mut Words) -> Result<BoxQuery, QueryFault>
+fn box_query<'a>(
+    verb: &[u8],
+    words: &mut Words,
+    vertices: &'a mut Vertices,
+) -> Result<BoxQuery<'a>, QueryFault>
     ensures { result ≡ box_query (verb.now ∷ words.old) }
 {
     if verb == b"find".as_slice() {
-        find(words)
+        find(words, vertices)
     } else if verb == b"nearest".as_slice() {
         nearest(words)
     } else if verb == b"count".as_slice() {
-        count(words)
+        count(words, vertices)
     } else {
         Err(QueryFault::UnknownVerb)
     }
 }
 
 #[inline(always)]
-fn find(words: &mut Words) -> Result<BoxQuery, QueryFault>
+fn find<'a>(words: &mut Words, vertices: &'a mut Vertices) -> Result<BoxQuery<'a>, QueryFault>
     ensures { result ≡ find words.old }
 {
-    let region = region(words)?;
+    let region = region(words, vertices)?;
     let layers = on_list(words)?;
     let order = order(&region, words)?;
     let limit = limit(words)?;
@@ -111,7 +120,7 @@ fn find(words: &mut Words) -> Result<BoxQuery, QueryFault>
 }
 
 #[inline(always)]
-fn nearest(words: &mut Words) -> Result<BoxQuery, QueryFault>
+fn nearest<'a>(words: &mut Words) -> Result<BoxQuery<'a>, QueryFault>
     ensures { result ≡ nearest words.old }
 {
     let limit = natural_word(words, u64::MAX)?;
@@ -126,10 +135,10 @@ fn nearest(words: &mut Words) -> Result<BoxQuery, QueryFault>
 }
 
 #[inline(always)]
-fn count(words: &mut Words) -> Result<BoxQuery, QueryFault>
+fn count<'a>(words: &mut Words, vertices: &'a mut Vertices) -> Result<BoxQuery<'a>, QueryFault>
     ensures { result ≡ count words.old }
 {
-    let region = region(words)?;
+    let region = region(words, vertices)?;
     let layers = on_list(words)?;
     finished(words)?;
     Ok(BoxQuery {
@@ -230,7 +239,7 @@ fn limit(words: &mut Words) -> Result<Option<u64>, QueryFault>
 // ---- regions
 
 #[inline(always)]
-fn region(words: &mut Words) -> Result<Region, QueryFault>
+fn region<'a>(words: &mut Words, vertices: &'a mut Vertices) -> Result<Region<'a>, QueryFault>
     ensures { Takes (region words.old) result words.new }
 {
     let name = next_word(words)?;
@@ -245,7 +254,7 @@ fn region(words: &mut Words) -> Result<Region, QueryFault>
     } else if name == b"circle".as_slice() {
         Ok(Region::Circle(circle(words)?))
     } else if name == b"polygon".as_slice() {
-        Ok(Region::Polygon(polygon(words)?))
+        Ok(Region::Polygon(polygon(words, vertices)?))
     } else {
         Err(QueryFault::UnknownRegion)
     }
@@ -273,12 +282,12 @@ fn circle(words: &mut Words) -> Result<Circle, QueryFault>
 }
 
 #[inline(always)]
-fn polygon(words: &mut Words) -> Result<Polygon, QueryFault>
+fn polygon<'a>(words: &mut Words, vertices: &'a mut Vertices) -> Result<Polygon<'a>, QueryFault>
     ensures { Takes (polygon words.old) result words.new }
 {
     let count = vertex_count(words)?;
-    let vertices = points(count, words)?;
-    match Polygon::new(&vertices) {
+    points(count, words, vertices)?;
+    match Polygon::new(vertices.as_mut_slice()) {
         Ok(polygon) => Ok(polygon),
         Err(PolygonFault::Count) => Err(QueryFault::VertexCount),
         Err(PolygonFault::NotConvex) => Err(QueryFault::NotConvex),
@@ -300,16 +309,16 @@ fn vertex_count(words: &mut Words) -> Result<usize, QueryFault>
 
 // So many points, one after the other.
 #[inline(always)]
-fn points(count: usize, words: &mut Words) -> Result<ArrayVec<Point, MOST_VERTICES>, QueryFault>
+fn points(count: usize, words: &mut Words, vertices: &mut Vertices) -> Result<(), QueryFault>
     requires { count ≤ MOST_VERTICES }
-    ensures ok { IfOk result (λ vertices. points count words.old ≡ Ok (vertices.items, words.new)) }
+    ensures ok { IfOk result (λ _. points count words.old ≡ Ok (vertices.new.items, words.new)) }
     ensures fault { IfErr result (λ cause. points count words.old ≡ Err cause) }
 {
-    let mut vertices = ArrayVec::new();
+    vertices.clear();
     for _vertex in 0..count {
         vertices.push(point(words)?);
     }
-    Ok(vertices)
+    Ok(())
 }
 
 // ---- numbers

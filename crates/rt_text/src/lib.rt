@@ -23,6 +23,6 @@ pub use fault_lines::fault_line;
 pub use grammar::parse;
 pub use line::Line;
 pub use numbers::{NumberFault, number};
-pub use query::{BoxQuery, Parsed, Query, QueryFault, Report};
+pub use query::{BoxQuery, Parsed, Query, QueryFault, Report, Vertices};
 pub use reply_lines::{answer_line, error_line, level_line, ok_line, set_answer_line, set_ok_line};
 pub use tables::{Axis, TableFault, read_table};

@@ -1,6 +1,10 @@
 //! What a query line asks.
 
-use rt_geo::{Layers, Order, Region};
+use arrayvec::ArrayVec;
+use rt_geo::{Layers, MOST_VERTICES, Order, Point, Region};
+
+/// Room for the vertices of a query's polygon, beside the query, so that it is small: it is moved many times.
+pub type Vertices = ArrayVec<Point, MOST_VERTICES>;
 
 /// What is reported of boxes.
 #[derive(Clone, Copy, Debug, PartialEq, Eq)]
@@ -13,8 +17,8 @@ pub enum Report {
 
 /// A query for boxes: the report on those on the layers that the region accepts. Their number is the same in any order.
 #[derive(Debug, PartialEq, Eq, Drop)]
-pub struct BoxQuery {
-    pub region: Region,
+pub struct BoxQuery<'a> {
+    pub region: Region<'a>,
     pub layers: Layers,
     pub order: Order,
     pub report: Report,
@@ -22,12 +26,11 @@ pub struct BoxQuery {
 
 /// A query.
 #[derive(Debug, PartialEq, Eq, Drop)]
-pub enum Query {
+pub enum Query<'a> {
     /// The report on boxes.
-    Boxes(BoxQuery),
-    /// How many nodes that report opens: answers up to a limit those up to the last answer where the limit is reached,
-    /// else all that the search opens.
-    Cost(BoxQuery),
+    Boxes(BoxQuery<'a>),
+    /// How many nodes that report opens. Where answers reach their limit, only those up to the last answer count.
+    Cost(BoxQuery<'a>),
     /// How many entries or nodes stand on each level of the tree.
     Levels,
 }
@@ -59,11 +62,11 @@ pub enum QueryFault {
 
 /// What a query line holds.
 #[derive(Debug, PartialEq, Eq, Drop)]
-pub enum Parsed {
+pub enum Parsed<'a> {
     /// No words, or a comment.
     Skip,
     /// A query.
-    Query(Query),
+    Query(Query<'a>),
     /// The first fault.
     Fault(QueryFault),
 }

@@ -5,7 +5,7 @@ use rt_geo::{
     All, Bounds, ById, Circle, Covers, Inside, Layers, Near, Order, Point, Polygon, Region,
     Smallest, Window,
 };
-use rt_text::{BoxQuery, Parsed, Query, QueryFault, Report, parse};
+use rt_text::{BoxQuery, Parsed, Query, QueryFault, Report, Vertices, parse};
 use std::process::Abort;
 use std::test::Fail;
 
@@ -151,8 +151,8 @@ static COST_FAULTS: [(&[u8], QueryFault); 38] = [
     (b"find all cost", QueryFault::StrayWord),
 ];
 
-fn expect_parsed(rt: &impl Abort, line: &[u8], want: Parsed) {
-    expect_eq(rt, parse(line), want);
+fn expect_parsed(rt: &impl Abort, line: &[u8], want: Parsed<'_>) {
+    expect_eq(rt, parse(line, &mut Vertices::new()), want);
 }
 
 #[test]
@@ -193,12 +193,12 @@ fn skipped_lines(rt: HostRuntime) {
 }
 
 // What `find` asks with this region, order and limit, and without `on`.
-fn find(region: Region, order: Order, limit: Option<u64>) -> Parsed {
+fn find(region: Region<'_>, order: Order, limit: Option<u64>) -> Parsed<'_> {
     find_on(region, order, limit, Layers::new(u64::MAX))
 }
 
 // What `find` asks with this region, order, limit and layers.
-fn find_on(region: Region, order: Order, limit: Option<u64>, layers: Layers) -> Parsed {
+fn find_on(region: Region<'_>, order: Order, limit: Option<u64>, layers: Layers) -> Parsed<'_> {
     Parsed::Query(Query::Boxes(BoxQuery {
         region,
         layers,
@@ -248,11 +248,12 @@ fn a_circle_and_a_polygon(rt: HostRuntime) -> Result<(), Fail> {
         b"find circle -1 2 4294967295",
         find(Region::Circle(circle), Order::Near(Near(centre)), None),
     );
-    let triangle = Polygon::new(&[
+    let mut triangle = [
         Point { x: 0, y: 0 },
         Point { x: 30, y: 0 },
         Point { x: 0, y: 30 },
-    ]);
+    ];
+    let triangle = Polygon::new(&mut triangle);
     expect_parsed(
         &rt,
         b"find polygon 3 0 0 30 0 0 30",
@@ -263,6 +264,22 @@ fn a_circle_and_a_polygon(rt: HostRuntime) -> Result<(), Fail> {
         ),
     );
     Ok(())
+}
+
+#[test]
+fn room_for_vertices_is_used_again(rt: HostRuntime) {
+    let mut vertices = Vertices::new();
+    for line in [
+        b"find polygon 4 0 0 9 0 9 9 0 9".as_slice(),
+        b"find polygon 3 0 0 5 0 0",
+        b"find polygon 3 0 0 0 30 30 0",
+    ] {
+        expect_eq(
+            &rt,
+            parse(line, &mut vertices),
+            parse(line, &mut Vertices::new()),
+        );
+    }
 }
 
 #[test]
@@ -306,7 +323,7 @@ fn orders_and_limits(rt: HostRuntime) {
 }
 
 // What `count` asks with this region and layers.
-fn counted(region: Region, layers: Layers) -> BoxQuery {
+fn counted(region: Region<'_>, layers: Layers) -> BoxQuery<'_> {
     BoxQuery {
         region,
         layers,
@@ -406,7 +423,7 @@ fn layers_of_a_find(rt: HostRuntime) {
 }
 
 // What `cost find` asks with this region, order, limit and layers.
-fn cost_find(region: Region, order: Order, limit: Option<u64>, layers: Layers) -> Parsed {
+fn cost_find(region: Region<'_>, order: Order, limit: Option<u64>, layers: Layers) -> Parsed<'_> {
     Parsed::Query(Query::Cost(BoxQuery {
         region,
         layers,
