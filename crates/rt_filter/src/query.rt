@@ -22,7 +22,7 @@ use rt_text::{BoxQuery, Query, Report, level_line, ok_line};
 use rt_tree::Tree;
 
 /// Up to so many answers are kept in order as they are found.
-const FEW: u64 = 128;
+const FEW: u64 = 64;
 
 /// Pushes the reply to a query.
 pub(crate) fn push_reply<K: Sink>(

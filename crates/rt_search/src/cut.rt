@@ -1,6 +1,6 @@
 //! A cut in a list: its least elements stay, and few more than are wanted.
 
-ghost use Rattle.std.specs.Prelude.{◌≡◌, length, vec_capacity};
+ghost use Rattle.std.specs.Prelude.{◌≡◌, ◌<◌, ◌≤◌, length, vec_capacity};
 ghost use Rattle.std.specs.List.{filter};
 ghost use Rattle.rt_search.specs.Kept.{IsCut, is_upto};
 
@@ -28,13 +28,22 @@ fn bound_behind<T: Ord + Copy + Drop>(items: &[Reverse<T>], count: usize) -> Opt
     if step < 2 || items.len() / 2 < count {
         return None;
     }
+    let at = count / step;
+    of_sample(items, step, at + at / 4 + 4)
+}
+
+// An element of a sample in order, at a place. Out of line, since room for a sample is filled at each call.
+#[inline(never)]
+fn of_sample<T: Ord + Copy + Drop>(items: &[Reverse<T>], step: usize, place: usize) -> Option<T>
+    requires enough { SAMPLE ≤ length items.now }
+    requires step { 0 < step }
+{
     let mut sample = [items[0].0; SAMPLE];
-    for (place, item) in sample.iter_mut().zip(items.iter().step_by(step)) {
-        *place = item.0;
+    for (copied, item) in sample.iter_mut().zip(items.iter().step_by(step)) {
+        *copied = item.0;
     }
     sample.sort_unstable();
-    let at = count / step;
-    sample.get(at + at / 4 + 4).copied()
+    sample.get(place).copied()
 }
 
 // How many are at most the bound.
