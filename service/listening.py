@@ -1,6 +1,7 @@
 """The sockets that a service listens on."""
 
 import contextlib
+import errno
 import fcntl
 import os
 import socket
@@ -51,13 +52,10 @@ def locked(path: str) -> Iterator[None]:
 
 def remove_if_unused(path: str) -> None:
     """Removes a socket on which nobody listens."""
-    with contextlib.suppress(FileNotFoundError, BlockingIOError), socket.socket(socket.AF_UNIX) as probe:
+    with contextlib.suppress(FileNotFoundError), socket.socket(socket.AF_UNIX) as probe:
         probe.setblocking(False)  # whose backlog is full is in use
-        if stat.S_ISSOCK(os.lstat(path).st_mode):
-            try:
-                probe.connect(path)
-            except ConnectionRefusedError:
-                os.unlink(path)
+        if stat.S_ISSOCK(os.lstat(path).st_mode) and probe.connect_ex(path) == errno.ECONNREFUSED:
+            os.unlink(path)
 
 
 def tcp_listener(host: str, port: int) -> socket.socket:

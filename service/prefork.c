@@ -32,7 +32,6 @@
 #include <stdint.h>
 #include <stdio.h>
 #include <string.h>
-#include <sys/eventfd.h>
 #include <sys/prctl.h>
 #include <sys/signalfd.h>
 #include <sys/socket.h>
@@ -85,15 +84,14 @@ static int confine(void)
     return !prctl(PR_SET_NO_NEW_PRIVS, 1, 0, 0, 0) && !prctl(PR_SET_SECCOMP, SECCOMP_MODE_FILTER, &program);
 }
 
-/* Makes this child the program for one connection, once that is told. */
-static void become(int connection, int told, pid_t parent)
+/* Makes this child the program for one connection, once its parent has told that. */
+static void become(int connection, pid_t parent)
 {
-    eventfd_t count;
-    int score = open("/proc/self/oom_score_adj", O_WRONLY | O_CLOEXEC);
+    int number, score = open("/proc/self/oom_score_adj", O_WRONLY | O_CLOEXEC);
     /* Short of memory, the kernel is to take a connection, and not the table. */
     if (score < 0 || write(score, "1000", 4) < 0)
         dprintf(STDERR_FILENO, "a connection's oom_score_adj: %m\n");
-    if (prctl(PR_SET_PDEATHSIG, SIGKILL) || getppid() != parent || eventfd_read(told, &count) ||
+    if (prctl(PR_SET_PDEATHSIG, SIGKILL) || getppid() != parent || sigwait(&of_children, &number) ||
         dup2(connection, STDIN_FILENO) < 0 || dup2(connection, STDOUT_FILENO) < 0 ||
         close_range(STDERR_FILENO + 1, ~0U, 0) || sigprocmask(SIG_SETMASK, &no_signals, NULL) ||
         (is_confining && !confine()))
@@ -115,27 +113,22 @@ static int begin(void)
 {
     char byte;
     int connection = NONE;
-    union {
-        struct cmsghdr head;
-        char room[CMSG_SPACE(sizeof connection)];
-    } extra;
-    struct iovec text = { &byte, 1 };
+    _Alignas(struct cmsghdr) char extra[CMSG_SPACE(sizeof connection)];
     struct msghdr message = {
-        .msg_iov = &text, .msg_iovlen = 1, .msg_control = &extra, .msg_controllen = sizeof extra,
+        .msg_iov = &(struct iovec){ &byte, 1 }, .msg_iovlen = 1, .msg_control = extra, .msg_controllen = sizeof extra,
     };
     if (recvmsg(CONTROL, &message, MSG_CMSG_CLOEXEC) != 1)
         return 0; /* there is none yet, or no starter, as poll tells */
     if (message.msg_controllen >= CMSG_LEN(sizeof connection)) /* else there was no room for another descriptor */
-        memcpy(&connection, CMSG_DATA(&extra.head), sizeof connection);
-    int told = eventfd(0, EFD_CLOEXEC);
-    pid_t parent = getpid(), child = connection == NONE || told < 0 ? NONE : fork();
+        memcpy(&connection, CMSG_DATA(CMSG_FIRSTHDR(&message)), sizeof connection);
+    pid_t parent = getpid(), child = connection == NONE ? NONE : fork();
     if (child == 0) {
-        become(connection, told, parent);
+        become(connection, parent);
         return 1;
     }
     tell(child, child > 0 ? BEGUN : connection == NONE ? EMFILE : errno);
-    if (told >= 0 && (eventfd_write(told, 1) || close(told)))
-        _exit(NOT_BEGUN);
+    if (child > 0)
+        kill(child, SIGCHLD); /* it goes on */
     if (connection != NONE)
         close(connection);
     return 0;

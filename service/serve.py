@@ -40,16 +40,16 @@ def main(words: Sequence[str]) -> int:
             listeners = opened(args, stack)
             if not listeners:
                 parser.error("nowhere to listen: --unix, --tcp, or a socket of systemd")
-            health = stack.enter_context(tcp_listener(*args.health)) if args.health else None
+            asked = stack.enter_context(tcp_listener(*args.health)) if args.health else None
             library = prefork.library_of(args.program)
             if library is None:
                 raise FileNotFoundError(f"no program {args.program}, or no {prefork.LIBRARY} with it")
             for listener in listeners:
                 log(f"listening on {name_of(listener.getsockname())}")
-            if health:
-                log(f"health on {name_of(health.getsockname())}")
-            command = [args.program, *args.options, "--", args.table]
-            return asyncio.run(Service(args, command, library, listeners).run(health))
+            if asked:
+                log(f"health on {name_of(asked.getsockname())}")
+            start = partial(prefork.start, [args.program, *args.options, "--", args.table], library)
+            return asyncio.run(Service(args, start, listeners).run(asked))
     except OSError as error:
         log(f"rtfilter-serve: {error}")
     return NO_SERVICE

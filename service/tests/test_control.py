@@ -58,6 +58,19 @@ class Control(Case):
         self.assert_answered(askers, 7)
         until(lambda: len(service.programs) == 1, "the end of the old program")
 
+    def test_a_program_that_takes_nothing_and_a_service_that_ends(self) -> None:
+        """Who waits is told of, too."""
+        service = self.served()
+        send(signal.SIGSTOP, service.programs)
+        askers = self.opened(service, 3)
+        time.sleep(0.3)
+        service.signal(signal.SIGTERM)
+        self.assertEqual(service.process.wait(10), 0)
+        self.assertEqual(len(service.logs(r"^connection [123] \(.*\): signal=9 ", 3)), 3)
+        for asker in askers:
+            with contextlib.suppress(ConnectionResetError):  # what it wrote was left unread
+                self.assertEqual(asker.recv(1), b"")
+
     def test_kills_at_any_moment_lose_no_connection_that_waits(self) -> None:
         """Of the program, while many connect: each is answered wholly, or was begun and has ended."""
         service = self.served(BOXES, "--connections", "100", "--health", "0")
