@@ -24,7 +24,7 @@ ROOT = pathlib.Path(__file__).resolve().parent.parent
 CRATES = ROOT / "crates"
 
 # The most lines that public contracts may reach, and that the headline alone may.
-MOST_LINES = {"contracts": 905, "headline": 700}
+MOST_LINES = {"contracts": 904, "headline": 700}
 
 # The headline: its crate, its call and its clause.
 HEADLINE = ("rt_filter", "run", "headline")
@@ -40,6 +40,8 @@ SAID_AGAIN = {
 }
 
 IMPORT = re.compile(r"^ *(?:ghost )?use Rattle\.(\w+)\.specs\.([A-Z]\w*)(.*?);?$", re.MULTILINE)
+GROUP = re.compile(r"^( *(?:ghost )?use Rattle\.\w+\.specs)\.(\{.*\};?)$", re.MULTILINE)
+GROUPED = re.compile(r"([\w.]+)\.\{([^{}]*)\}")
 HANDED_ON = re.compile(r"^pub use (?:\w+::)+(\w+|\{[^}]*\});", re.MULTILINE)
 ITEM = re.compile(r"(?:pub )?(?:(?P<kind>fn|trait)|impl(?:<.*?>)?(?: (?P<of>\w+)\S* for)?) (?P<name>\w+)")
 TRAIT = re.compile(r"^(?:pub\S* )?trait (\w+)", re.MULTILINE)
@@ -55,10 +57,15 @@ def words_of(name):
     return [name.replace("◌", ""), "do"] if "◌" in name else [name]
 
 
+def ungrouped(line):
+    """A line that imports from several modules, as a line for each of them."""
+    return "\n".join(f"{line[1]}.{module}.{{{names}}};" for module, names in GROUPED.findall(line[2]))
+
+
 def imports(text):
     """The definitions that a text imports: by each word the crate, the module and the name."""
     found = {}
-    for crate, module, names in IMPORT.findall(text):
+    for crate, module, names in IMPORT.findall(GROUP.sub(ungrouped, text)):
         if (CRATES / crate).is_dir() and module != "Lemmas":
             if not re.fullmatch(r"\.\{[^{}]+\}", names):
                 raise ValueError(f"names of {crate}/specs/{module}.antt are imported in a way that isn't counted")

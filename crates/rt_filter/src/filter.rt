@@ -1,11 +1,10 @@
 //! A whole run: a table and queries in, answers out.
 
-ghost use Rattle.std.specs.Prelude.{◌≡◌, ◌+◌, ◌-◌, ◌<◌, ◌≤◌, ◌^◌, ◌⊎◌, ◌≢◌, ◌++◌, ℕ, List, Some, None, IfOk, IfErr, MatchOption, length, if◌then◌else◌, true, false};
+ghost use Rattle.std.specs.Prelude.{◌≡◌, ◌+◌, ◌-◌, ◌<◌, ◌≤◌, ◌^◌, ◌⊎◌, ◌≢◌, ◌++◌, ℕ, List, Some, None, IfOk, IfErr};
+ghost use Rattle.std.specs.Prelude.{MatchOption, length, if◌then◌else◌, true, false};
 ghost use Rattle.rt_device.specs.Devices.{PulledTimes};
-ghost use Rattle.rt_filter.specs.Endings.{Ends, ConsumedAtLeast};
-ghost use Rattle.rt_filter.specs.Runs.{run_of};
-ghost use Rattle.rt_filter.specs.Faults.{run_fault, run_fault_line, status_of};
-ghost use Rattle.rt_filter.specs.Stages.{HasLoaded, Stops, is_of_load, run_fault_of};
+ghost use Rattle.rt_filter.specs.{Endings.{Ends, ConsumedAtLeast}, Faults.{run_fault, run_fault_line, status_of}};
+ghost use Rattle.rt_filter.specs.{Runs.{run_of}, Stages.{HasLoaded, Stops, is_of_load, run_fault_of}};
 ghost use Rattle.rt_filter.specs.declared.filter.RunFault.{RunFault};
 
 use crate::serving::{ServeFault, Served, serve};

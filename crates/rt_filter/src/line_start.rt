@@ -18,8 +18,7 @@ pub(crate) struct LineStart {
 }
 
 impl Model for LineStart {
-    ghost use Rattle.std.specs.Prelude.{◌≤◌, ℕ, List, Option, IfSome, take};
-    ghost use Rattle.std.specs.Option.{option_map};
+    ghost use Rattle.std.specs.{Option.{option_map}, Prelude.{◌≤◌, ℕ, List, Option, IfSome, take}};
     ghost use Rattle.rt_filter.specs.Lines.{longest_line};
 
     ghost Value = { Option (List ℕ) };

@@ -7,12 +7,9 @@ ghost use Rattle.std.specs.Prelude.{◌≡◌, ◌-◌, ◌<◌, ◌≤◌, ◌^
 ghost use Rattle.rt_geo.specs.Regions.{region_accepts};
 ghost use Rattle.rt_tree.specs.Levels.{level_sizes};
 ghost use Rattle.rt_text.specs.ReplyLines.{ok_line};
-ghost use Rattle.rt_search.specs.Answers.{answers};
-ghost use Rattle.rt_search.specs.Work.{IsUnscored};
-ghost use Rattle.rt_filter.specs.Pushes.{Pushed};
-ghost use Rattle.rt_filter.specs.Replies.{find_reply, levels_reply, opened_for, query_reply};
-ghost use Rattle.rt_filter.specs.Reports.{report_on};
-ghost use Rattle.rt_filter.specs.Stages.{loaded_tree};
+ghost use Rattle.rt_search.specs.{Answers.{answers}, Work.{IsUnscored}};
+ghost use Rattle.rt_filter.specs.{Pushes.{Pushed}, Replies.{find_reply, levels_reply, opened_for, query_reply}};
+ghost use Rattle.rt_filter.specs.{Reports.{report_on}, Stages.{loaded_tree}};
 
 use crate::reply::{push_line, push_search};
 use rt_device::{Sink, WriteFault};
@@ -21,7 +18,7 @@ use rt_search::{Frontier, FullSearch, Search, cost, count};
 use rt_text::{BoxQuery, Query, Report, level_line, ok_line};
 use rt_tree::Tree;
 
-/// Up to so many answers are kept in order as they are found.
+/// Where each node scores 0, up to so many answers are kept in order as they are found; for more, all are found first.
 const FEW: u64 = 64;
 
 /// Pushes the reply to a query.
@@ -193,7 +190,7 @@ fn push_count<S: Shape + Drop, K: Sink>(
 }
 
 // Pushes a line for each answer of one geometry, and then their number. Where all are wanted, all are found first. Where
-// no node has a score, as in the orders by id and by area, all nodes that may hold answers are opened first.
+// each node scores 0, as in the orders by id and by area, all nodes that may hold answers are opened first.
 fn find<G: Geometry + Drop, K: Sink>(
     tree: &Tree,
     frontier: Frontier,
@@ -224,7 +221,7 @@ fn find<G: Geometry + Drop, K: Sink>(
     }
 }
 
-// The same where no node has a score: where more than a few are wanted, all are found first.
+// The same where each node scores 0: where more than a few are wanted, all are found first.
 fn find_unscored<G: Geometry + Drop, K: Sink>(
     tree: &Tree,
     frontier: Frontier,
@@ -246,7 +243,7 @@ fn find_unscored<G: Geometry + Drop, K: Sink>(
     }
 }
 
-// The same where so many are wanted that all are found first. Out of line, so that other searches stay small.
+// Pushes the first so many answers, once all are found. Out of line, so that other searches stay small.
 #[inline(never)]
 fn find_many<G: Geometry + Drop, K: Sink>(
     tree: &Tree,

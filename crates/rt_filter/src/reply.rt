@@ -2,8 +2,7 @@
 
 ghost use Rattle.std.specs.Prelude.{◌≡◌, ◌-◌, ◌<◌, ◌^◌, ℕ, List, [], ◌∷◌, IfOk, MatchOption, length};
 ghost use Rattle.rt_search.specs.Answers.{Answer};
-ghost use Rattle.rt_filter.specs.Pushes.{Pushed, answer_lines};
-ghost use Rattle.rt_filter.specs.Replies.{find_reply};
+ghost use Rattle.rt_filter.specs.{Pushes.{Pushed, answer_lines}, Replies.{find_reply}};
 
 use rt_device::{Sink, WriteFault};
 use rt_geo::Geometry;
@@ -46,8 +45,7 @@ pub(crate) fn push_search<A: AnswerStream, K: Sink>(
     Ok(frontier)
 }
 
-// Pushes a line for each of these answers, as it is found, and returns how many there were. All are put together in one
-// place.
+// Pushes a line for each of these answers, as it is given, and returns how many there were. All lines use one buffer.
 fn push_answers<A: AnswerStream, K: Sink>(
     search: &mut A,
     text: &mut Line,

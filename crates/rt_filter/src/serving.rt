@@ -2,8 +2,7 @@
 
 ghost use Rattle.std.specs.Prelude.{◌≡◌, ◌+◌, ◌-◌, ◌<◌, ◌≤◌, ◌^◌, ◌⊎◌, ◌≢◌, ℕ, Some, length, false};
 ghost use Rattle.rt_device.specs.Devices.{PulledTimes};
-ghost use Rattle.rt_filter.specs.Endings.{ConsumedAtLeast, Serves};
-ghost use Rattle.rt_filter.specs.Replies.{Loaded, tree_of};
+ghost use Rattle.rt_filter.specs.{Endings.{ConsumedAtLeast, Serves}, Replies.{Loaded, tree_of}};
 
 use crate::session::Session;
 use rt_device::{Sink, Source};

@@ -1,14 +1,11 @@
 //! A session: query bytes as they come, each line answered as soon as it is complete.
 
-ghost use Rattle.std.specs.Prelude.{◌≡◌, ◌+◌, ◌-◌, ◌||◌, ◌<◌, ◌≤◌, ◌^◌, ◌++◌, ℕ, List, [], Some, IfOk, IfSome, OnOk, OnErr, MatchResult, length, take, false, true};
-ghost use Rattle.std.specs.Io.{StartsWith};
-ghost use Rattle.std.specs.Io.KnownBytes.{Keeps};
-ghost use Rattle.std.specs.Borrow.{sem};
+ghost use Rattle.std.specs.{Borrow.{sem}, Io.{StartsWith}, Io.KnownBytes.{Keeps}, Prelude.{◌≡◌, ◌+◌, ◌-◌, ◌||◌, ◌<◌}};
+ghost use Rattle.std.specs.Prelude.{◌≤◌, ◌^◌, ◌++◌, ℕ, List, [], Some, IfOk, IfSome, OnOk, OnErr, MatchResult, length};
+ghost use Rattle.std.specs.Prelude.{take, false, true};
 ghost use Rattle.rt_device.specs.Devices.{IsSameIfTold};
-ghost use Rattle.rt_filter.specs.Lines.{completed, longest_line, numbered_lines};
-ghost use Rattle.rt_filter.specs.Pushes.{CountsFailure, Pushed};
-ghost use Rattle.rt_filter.specs.Replies.{Loaded, any_fault, is_fault, output, reply, tree_of};
-ghost use Rattle.rt_filter.specs.Sessions.{heard_of};
+ghost use Rattle.rt_filter.specs.{Lines.{completed, longest_line, numbered_lines}, Pushes.{CountsFailure, Pushed}};
+ghost use Rattle.rt_filter.specs.{Replies.{Loaded, any_fault, is_fault, output, reply, tree_of}, Sessions.{heard_of}};
 ghost use Rattle.rt_filter.specs.Stages.{loaded_tree, parsed_with};
 
 use crate::line_start::{LONGEST_LINE, LineStart};

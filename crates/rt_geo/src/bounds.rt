@@ -1,9 +1,7 @@
 //! Boxes of 32-bit coordinates.
 
-ghost use Rattle.std.specs.Prelude.{◌≡◌, ◌∷◌, [], true};
-ghost use Rattle.std.specs.Option.{SomeIff};
-ghost use Rattle.rt_geo.specs.Boxes.{IsLeastAround, IsRect, rect_of, plane};
-ghost use Rattle.rt_geo.specs.Boxes.{area, complement, hull, inside, overlaps};
+ghost use Rattle.std.specs.{Option.{SomeIff}, Prelude.{◌≡◌, ◌∷◌, [], true}};
+ghost use Rattle.rt_geo.specs.Boxes.{IsLeastAround, IsRect, rect_of, plane, area, complement, hull, inside, overlaps};
 ghost use Rattle.rt_geo.specs.Distances.{rect_at};
 
 use crate::distance::Point;

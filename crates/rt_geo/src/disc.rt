@@ -1,11 +1,7 @@
 //! Discs whose nearest boxes come first.
 
-ghost use Rattle.std.specs.Prelude.{◌≡◌, IfSome, nat_le, nat_lt};
-ghost use Rattle.std.specs.Option.{SomeIff};
-ghost use Rattle.rt_geo.specs.Discs.{MeansBoth};
-ghost use Rattle.rt_geo.specs.Distances.{far2, near2};
-ghost use Rattle.rt_geo.specs.Orders.{near};
-ghost use Rattle.rt_geo.specs.Regions.{disc_of, state_by};
+ghost use Rattle.std.specs.{Option.{SomeIff}, Prelude.{◌≡◌, IfSome, nat_le, nat_lt}};
+ghost use Rattle.rt_geo.specs.{Discs.{MeansBoth}, Distances.{far2, near2}, Orders.{near}, Regions.{disc_of, state_by}};
 
 use crate::bounds::Bounds;
 use crate::distance::{Point, far2, near2};
@@ -66,8 +62,7 @@ impl Disc {
 }
 
 impl Geometry for Disc {
-    ghost use Rattle.rt_geo.specs.Discs.{disc_meaning};
-    ghost use Rattle.rt_geo.specs.Orders.{near, order_estimate, order_score};
+    ghost use Rattle.rt_geo.specs.{Discs.{disc_meaning}, Orders.{near, order_estimate, order_score}};
     ghost use Rattle.rt_geo.specs.Regions.{disc_accepts, disc_state};
 
     ghost meaning = { disc_meaning };
@@ -80,8 +75,7 @@ impl Geometry for Disc {
         }
     }
 
-    ghost use Rattle.rt_geo.specs.Lemmas.Guided.{guided-lawful};
-    ghost use Rattle.rt_geo.specs.Lemmas.Orders.{order-admissible};
+    ghost use Rattle.rt_geo.specs.{Lemmas.Guided.{guided-lawful}, Lemmas.Orders.{order-admissible}};
     ghost use Rattle.rt_geo.specs.Lemmas.Shapes.{disc-faithful};
 
     ghost lawful = { λ d. guided-lawful (disc_accepts d) (disc_state d) (order_score (near d.centre))

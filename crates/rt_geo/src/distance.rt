@@ -3,8 +3,8 @@
 //! They are squares of Euclidean distances, exact whole numbers. The greatest,
 //! 2 * 4294967295 * 4294967295 = 36893488130239234050, is above 64 bits.
 
-ghost use Rattle.std.specs.Prelude.{◌≡◌, ◌<◌, ◌^◌, ◌-ℤ◌, ◌∷◌, [], ℤ, FitsSigned, unsigned_abs};
 ghost use Rattle.std.specs.Int.{w32, int_max, int_min};
+ghost use Rattle.std.specs.Prelude.{◌≡◌, ◌<◌, ◌^◌, ◌-ℤ◌, ◌∷◌, [], ℤ, FitsSigned, unsigned_abs};
 ghost use Rattle.rt_geo.specs.Boxes.{IsRect};
 ghost use Rattle.rt_geo.specs.Distances.{IsGreatestDistance, IsLeastDistance, far2, gap, near2, reach};
 

@@ -1,8 +1,7 @@
 //! Entries: boxes with their ids and layers.
 
 ghost use Rattle.std.specs.Prelude.{◌≡◌};
-ghost use Rattle.rt_geo.specs.Entries.{HasBox, HasLayer, info_of_entry};
-ghost use Rattle.rt_geo.specs.Laws.{IsWellFormed};
+ghost use Rattle.rt_geo.specs.{Entries.{HasBox, HasLayer, info_of_entry}, Laws.{IsWellFormed}};
 
 use crate::bounds::Bounds;
 use crate::geometry::{Info, Within};

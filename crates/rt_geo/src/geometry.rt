@@ -9,8 +9,7 @@
 
 ghost use Rattle.std.specs.Prelude.{◌≡◌, ℕ, Bool};
 ghost use Rattle.rt_geo.specs.Laws.{Extent, IsAdmissible, IsFaithful, IsHonest, IsLawful, Meaning};
-ghost use Rattle.rt_geo.specs.declared.geometry.Info.{Info};
-ghost use Rattle.rt_geo.specs.declared.geometry.Within.{Within};
+ghost use Rattle.rt_geo.specs.{declared.geometry.Info.{Info}, declared.geometry.Within.{Within}};
 
 use crate::bounds::Bounds;
 use crate::layers::Layers;

@@ -4,16 +4,12 @@
 //! four corners of the box for each edge. One corner is enough: the one farthest to the left of the edge shows
 //! whether the box meets the half-plane of the edge, the opposite one whether it lies in it.
 
-ghost use Rattle.std.specs.Prelude.{◌≡◌, ◌<◌, ◌≤◌, ◌^◌, ◌-◌, true, not, ◌&&◌};
-ghost use Rattle.std.specs.Prelude.{IfSome, is_some, ◌-ℤ◌, ◌*ℤ◌, unsigned_abs, ◌∷◌, length, slice_index_or};
-ghost use Rattle.std.specs.List.{count_by, list_all};
-ghost use Rattle.rt_geo.specs.Boxes.{IsRect};
-ghost use Rattle.rt_geo.specs.Lemmas.HalfPlanes.{corner, leftmost_corner, rightmost_corner};
+ghost use Rattle.std.specs.{List.{list_all}, Prelude.{◌≡◌, ◌<◌, ◌≤◌, ◌^◌, ◌-◌, true, not, ◌&&◌, IfSome, is_some, ◌-ℤ◌}};
+ghost use Rattle.std.specs.Prelude.{◌*ℤ◌, unsigned_abs, ◌∷◌, length, slice_index_or, count_by};
+ghost use Rattle.rt_geo.specs.{Boxes.{IsRect}, Lemmas.HalfPlanes.{corner, leftmost_corner, rightmost_corner}};
 ghost use Rattle.rt_geo.specs.Polygons.{bounding_box, cross, edges, is_left, lies_in_half_plane, meets_half_plane};
 ghost use Rattle.rt_geo.specs.Polygons.{IsPolygonOf, IsStrictlyConvex, has_polygon_count, is_strictly_convex};
-ghost use Rattle.rt_geo.specs.Polygons.{polygon_of};
-ghost use Rattle.rt_geo.specs.Regions.{state_by};
-ghost use Rattle.rt_geo.specs.ShortEdges.{has_short_edges};
+ghost use Rattle.rt_geo.specs.{Polygons.{polygon_of}, Regions.{state_by}, ShortEdges.{has_short_edges}};
 
 use crate::bounds::{Bounds, hull, inside, overlaps};
 use crate::distance::Point;
@@ -66,9 +62,8 @@ impl<'a> Model for Polygon<'a> {
 
 /// Polygons are equal where their vertices are, in turn from the first.
 impl<'a> PartialEq for Polygon<'a> {
+    ghost use Rattle.std.specs.{Cmp.Lexicographic.{pointwise}, Cmp.Rules.{comparing}};
     ghost use Rattle.std.specs.Ordering.{eq_of_both, int_eq, on};
-    ghost use Rattle.std.specs.Cmp.Lexicographic.{pointwise};
-    ghost use Rattle.std.specs.Cmp.Rules.{comparing};
     ghost use Rattle.std.proofs.Common.{rules};
 
     ghost eq = { pointwise (eq_of_both (on (λ p. p.x) int_eq) (on (λ p. p.y) int_eq)) };
@@ -139,9 +134,8 @@ impl<'a> Polygon<'a> {
 
 impl<'a> Shape for Polygon<'a> {
     ghost use Rattle.std.specs.Prelude.{◌≡◌, ◌≢◌};
-    ghost use Rattle.rt_geo.specs.Polygons.{HoldsEachPoint, SharesNoPoint, SharesPoint};
-    ghost use Rattle.rt_geo.specs.Regions.{region_accepts, region_state};
-    ghost use Rattle.rt_geo.specs.declared.geometry.Within.TheVariants.{Not, Fully};
+    ghost use Rattle.rt_geo.specs.{Polygons.{HoldsEachPoint, SharesNoPoint, SharesPoint}, Regions.{region_accepts}};
+    ghost use Rattle.rt_geo.specs.{Regions.{region_state}, declared.geometry.Within.TheVariants.{Not, Fully}};
     ghost use Rattle.rt_geo.specs.declared.region.Region.TheVariants as region;
 
     ghost accepts = { λ s. region_accepts (region.Polygon s) };

@@ -3,15 +3,11 @@
 //! What is the same for all boxes is computed once: where each edge leads, how far its line lies from the origin,
 //! and which corner of a box lies farthest to its left. The products of short edges with coordinates have 63 bits.
 
-ghost use Rattle.std.specs.Prelude.{◌≡◌, ◌<◌, ◌≤◌, ◌^◌, ◌*ℤ◌, ◌-ℤ◌, true, not, ◌&&◌, length};
-ghost use Rattle.std.specs.Prelude.{unsigned_abs, is_some, IfSome};
-ghost use Rattle.std.specs.List.{count_by, list_all};
-ghost use Rattle.rt_geo.specs.Boxes.{IsRect};
-ghost use Rattle.rt_geo.specs.HalfPlanes.{half_plane_of, half_planes_of, is_coordinate, is_small};
-ghost use Rattle.rt_geo.specs.HalfPlanes.{is_strictly_left, reaches, sides_of, turned_sides_of};
-ghost use Rattle.rt_geo.specs.Polygons.{is_left, path_from};
-ghost use Rattle.rt_geo.specs.Regions.{state_by};
-ghost use Rattle.rt_geo.specs.ShortEdges.{has_short_edges, is_short};
+ghost use Rattle.std.specs.{List.{list_all}, Prelude.{◌≡◌, ◌<◌, ◌≤◌, ◌^◌, ◌*ℤ◌, ◌-ℤ◌, true, not, ◌&&◌, length}};
+ghost use Rattle.std.specs.Prelude.{unsigned_abs, is_some, IfSome, count_by};
+ghost use Rattle.rt_geo.specs.{Boxes.{IsRect}, HalfPlanes.{half_plane_of, half_planes_of, is_coordinate, is_small}};
+ghost use Rattle.rt_geo.specs.{HalfPlanes.{is_strictly_left, reaches, sides_of, turned_sides_of}, Polygons.{is_left}};
+ghost use Rattle.rt_geo.specs.{Polygons.{path_from}, Regions.{state_by}, ShortEdges.{has_short_edges, is_short}};
 
 use crate::bounds::{Bounds, inside, overlaps};
 use crate::distance::Point;
@@ -44,12 +40,10 @@ pub struct PreparedPolygon<'a> {
 }
 
 impl<'a> Model for PreparedPolygon<'a> {
-    ghost use Rattle.std.specs.Prelude.{◌≡◌, true, List, map};
-    ghost use Rattle.std.specs.List.{list_all};
+    ghost use Rattle.std.specs.{List.{list_all}, Prelude.{◌≡◌, true, List, map}};
     ghost use Rattle.rt_geo.specs.HalfPlanes.{edges_from_last, half_plane_of};
     ghost use Rattle.rt_geo.specs.Polygons.{bounding_box, has_polygon_count, is_strictly_convex};
-    ghost use Rattle.rt_geo.specs.ShortEdges.{has_short_edges};
-    ghost use Rattle.rt_geo.specs.declared.distance.Point.{Point};
+    ghost use Rattle.rt_geo.specs.{ShortEdges.{has_short_edges}, declared.distance.Point.{Point}};
 
     ghost Value = { List Point };
 
@@ -66,9 +60,8 @@ impl<'a> Model for PreparedPolygon<'a> {
 
 impl<'a> Shape for PreparedPolygon<'a> {
     ghost use Rattle.std.specs.Prelude.{◌≡◌, ◌≢◌};
-    ghost use Rattle.rt_geo.specs.Polygons.{HoldsEachPoint, SharesNoPoint, SharesPoint};
-    ghost use Rattle.rt_geo.specs.Regions.{region_accepts, region_state};
-    ghost use Rattle.rt_geo.specs.declared.geometry.Within.TheVariants.{Not, Fully};
+    ghost use Rattle.rt_geo.specs.{Polygons.{HoldsEachPoint, SharesNoPoint, SharesPoint}, Regions.{region_accepts}};
+    ghost use Rattle.rt_geo.specs.{Regions.{region_state}, declared.geometry.Within.TheVariants.{Not, Fully}};
     ghost use Rattle.rt_geo.specs.declared.region.Region.TheVariants as region;
 
     ghost accepts = { λ s. region_accepts (region.Polygon s) };

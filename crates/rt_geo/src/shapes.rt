@@ -3,8 +3,7 @@
 //! `specs/Regions.antt` has the tables of what they accept and of their states. No state looks at the parent's.
 
 ghost use Rattle.std.specs.Prelude.{◌≡◌, Decides, not};
-ghost use Rattle.rt_geo.specs.Boxes.{inside, overlaps};
-ghost use Rattle.rt_geo.specs.Regions.{state_by};
+ghost use Rattle.rt_geo.specs.{Boxes.{inside, overlaps}, Regions.{state_by}};
 
 use crate::bounds::{self, Bounds, overlaps};
 use crate::distance::{Point, far2, near2};

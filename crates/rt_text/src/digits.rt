@@ -1,8 +1,7 @@
 //! The digits of numbers, side by side in the lanes of a vector.
 
+ghost use Rattle.std.specs.{Int.Digits.{number_from_digits, AllBelowBase}, List.{prefix_len}};
 ghost use Rattle.std.specs.Prelude.{◌≡◌, ◌+◌, ◌*◌, ◌/◌, ◌%◌, ◌^◌, ◌<◌, ◌==◌, [], ◌∷◌, length, slice_index};
-ghost use Rattle.std.specs.Int.Digits.{number_from_digits, AllBelowBase};
-ghost use Rattle.std.specs.List.{prefix_len};
 
 use std::simd::prelude::*;
 

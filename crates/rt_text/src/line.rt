@@ -1,8 +1,7 @@
 //! A short line of text.
 
+ghost use Rattle.std.specs.{Fmt.{signed_decimal}, Int.Digits.{AllBelowBase}};
 ghost use Rattle.std.specs.Prelude.{◌≡◌, ◌+◌, ◌++◌, ◌<◌, ◌≤◌, ◌∷◌, [], decimal, drop, length, map};
-ghost use Rattle.std.specs.Fmt.{signed_decimal};
-ghost use Rattle.std.specs.Int.Digits.{AllBelowBase};
 
 use crate::digits::{sixteen_digits, zeros_in_front};
 use itoa::{Buffer, write_digits};

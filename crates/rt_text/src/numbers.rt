@@ -1,8 +1,7 @@
 //! Numbers as text.
 
-ghost use Rattle.std.specs.Prelude.{◌≡◌, ◌≤ℤ◌, ◌<◌, ◌≤◌, ◌^◌, IfOk, IfSome, Some, length, neg_ℤ, pos, min, option_map, ok_or, take, true};
-ghost use Rattle.std.specs.Char.{is_ascii_digit};
-ghost use Rattle.std.specs.List.{list_all};
+ghost use Rattle.std.specs.{Char.{is_ascii_digit}, List.{list_all}, Prelude.{◌≡◌, ◌≤ℤ◌, ◌<◌, ◌≤◌, ◌^◌, IfOk, IfSome}};
+ghost use Rattle.std.specs.Prelude.{Some, length, neg_ℤ, pos, min, option_map, ok_or, take, true};
 ghost use Rattle.std.specs.Str.Parse.{digits_value, without_leading_sign};
 ghost use Rattle.rt_text.specs.Numbers.{digits_number, in_range, number_in, number_text};
 

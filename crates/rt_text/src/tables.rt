@@ -5,20 +5,16 @@
 //! A record is five numbers: an id, the least and the greatest x, the least and the greatest y. A sixth may follow, the
 //! layer, which is 0 where it doesn't stand.
 
-ghost use Rattle.std.specs.Prelude.{◌≡◌, ◌≤ℤ◌, ◌+◌, ◌<◌, ◌≤◌, ◌++◌, ◌∷◌, [], length, ◌⊎◌, true, List, ℕ, int_lt, pos, unsigned_abs, if◌then◌else◌};
-ghost use Rattle.std.specs.Prelude.{Result, Ok, Some, None, IsOkAnd, IfOk, IfErr, OnErr, OnOk};
-ghost use Rattle.std.specs.List.{All, slice_index_or};
-ghost use Rattle.csv.specs.Reading.{default_config, has_failed, is_flexible, Ready, ReadRecord, reader_config, reader_trim};
-ghost use Rattle.csv.specs.Records.{fields_of};
-ghost use Rattle.csv.specs.declared.reader.Trim.TheVariants as trim;
-ghost use Rattle.rt_geo.specs.Boxes.{rect_of};
-ghost use Rattle.rt_geo.specs.Entries.{HasLayer};
-ghost use Rattle.rt_geo.specs.Layers.{most_layer};
-ghost use Rattle.rt_geo.specs.declared.entry.Entry.{Entry};
+ghost use Rattle.std.specs.{List.{slice_index_or}, Prelude.{◌≡◌, ◌≤ℤ◌, ◌+◌, ◌<◌, ◌≤◌, ◌++◌, ◌∷◌, [], length, ◌⊎◌}};
+ghost use Rattle.std.specs.Prelude.{true, List, ℕ, int_lt, pos, unsigned_abs, if◌then◌else◌, Result, Ok, Some, None};
+ghost use Rattle.std.specs.Prelude.{IsOkAnd, IfOk, IfErr, OnErr, OnOk, All};
+ghost use Rattle.csv.specs.Reading.{default_config, has_failed, is_flexible, Ready, ReadRecord, reader_config};
+ghost use Rattle.csv.specs.{Reading.{reader_trim}, Records.{fields_of}};
+ghost use Rattle.rt_geo.specs.{Boxes.{rect_of}, Entries.{HasLayer}, Layers.{most_layer}, declared.entry.Entry.{Entry}};
 ghost use Rattle.rt_tree.specs.Entries.{first_repeat, most_entries};
 ghost use Rattle.rt_text.specs.Loads.{EndsAt, IsRefusal, after_ids, entry_after, first_number, number_of};
-ghost use Rattle.rt_text.specs.Steps.{map_value};
-ghost use Rattle.rt_text.specs.Tables.{IsFaultOf, entry_of_fields, layer_in, table_of};
+ghost use Rattle.rt_text.specs.{Steps.{map_value}, Tables.{IsFaultOf, entry_of_fields, layer_in, table_of}};
+ghost use Rattle.csv.specs.declared.reader.Trim.TheVariants as trim;
 
 use crate::numbers::{self, NumberFault};
 use csv::{ByteRecord, Reader, ReaderBuilder};

@@ -1,10 +1,8 @@
 //! The words of a line.
 
-ghost use Rattle.std.specs.Prelude.{◌≡◌, ◌≤◌, ◌==◌, ℕ, List, [], ◌∷◌, ◌↔◌, IsTrue, Some, drop, if◌then◌else◌, length, not, MatchOption};
-ghost use Rattle.std.specs.List.{position, position_or_len};
-ghost use Rattle.rt_text.specs.Numbers.{number_text};
-ghost use Rattle.rt_text.specs.Queries.{is_next};
-ghost use Rattle.rt_text.specs.Words.{is_blank, words};
+ghost use Rattle.std.specs.{List.{position_or_len}, Prelude.{◌≡◌, ◌≤◌, ◌==◌, ℕ, List, [], ◌∷◌, ◌↔◌, IsTrue, Some}};
+ghost use Rattle.std.specs.Prelude.{drop, if◌then◌else◌, length, not, MatchOption, position};
+ghost use Rattle.rt_text.specs.{Numbers.{number_text}, Queries.{is_next}, Words.{is_blank, words}};
 
 use crate::numbers::leading_number;
 use std::marker::Model;

@@ -1,12 +1,10 @@
 //! The ids of a table's entries, of which one is found in O(log n) whatever they are.
 
-ghost use Rattle.std.specs.Prelude.{◌≡◌, ◌≤◌, ◌||◌, ◌↔◌, ℤ, None, IfOk, IfErr, OnOk, OnErr, length, true, false};
-ghost use Rattle.std.specs.List.{All, list_any};
-ghost use Rattle.std.specs.List.Sorted.{IsSorted, IsStrictlySortedBy};
-ghost use Rattle.std.specs.Ordering.{int_cmp, int_eq};
+ghost use Rattle.std.specs.{List.{list_any}, List.Sorted.{IsStrictlySortedBy}, Ordering.{int_cmp, int_eq}};
+ghost use Rattle.std.specs.Prelude.{◌≡◌, ◌≤◌, ◌||◌, ◌↔◌, ℤ, None, IfOk, IfErr, OnOk, OnErr, length, true, false, All};
+ghost use Rattle.std.specs.Prelude.{IsSorted};
 ghost use Rattle.rt_geo.specs.Entries.{HasBox};
-ghost use Rattle.rt_tree.specs.Entries.{first_repeat, ids_of, most_entries};
-ghost use Rattle.rt_tree.specs.Indexes.{AreIdsOf, keeps};
+ghost use Rattle.rt_tree.specs.{Entries.{first_repeat, ids_of, most_entries}, Indexes.{AreIdsOf, keeps}};
 ghost use Rattle.rt_tree.specs.Repeats.{ExplainsNoTable};
 
 use crate::entries::Entries;

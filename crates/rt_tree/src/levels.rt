@@ -2,8 +2,7 @@
 
 ghost use Rattle.std.specs.Int.{div_ceil};
 ghost use Rattle.std.specs.Prelude.{◌≡◌, ◌<◌, ◌≤◌, ◌+◌, ◌++◌, ◌∷◌, ◌↔◌, ℕ, [], length, slice_get, Some};
-ghost use Rattle.rt_tree.specs.Entries.{most_entries};
-ghost use Rattle.rt_tree.specs.Levels.{level_sizes};
+ghost use Rattle.rt_tree.specs.{Entries.{most_entries}, Levels.{level_sizes}};
 
 use std::marker::Model;
 

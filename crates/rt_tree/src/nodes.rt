@@ -34,8 +34,7 @@ pub(crate) struct Nodes {
 
 impl Model for Nodes {
     ghost use Rattle.std.specs.Prelude.{◌≡◌, List, length};
-    ghost use Rattle.rt_tree.specs.PlainNodes.{nodes_of};
-    ghost use Rattle.rt_tree.specs.declared.tree.Node.{Node};
+    ghost use Rattle.rt_tree.specs.{PlainNodes.{nodes_of}, declared.tree.Node.{Node}};
 
     ghost Value = { List Node };
 

@@ -4,23 +4,14 @@
 //! slice of them is sorted by y, and the items are moved once, at the end. Of nodes with one middle that at the lesser
 //! place goes first, and of entries that with the lesser id.
 
+ghost use Rattle.std.specs.{Int.{div_ceil}, List.{enumerate_from, flat_map}, Ordering.{int_cmp, nat_cmp, on}};
 ghost use Rattle.std.specs.Prelude.{◌≡◌, ℕ, ◌<◌, ◌≤◌, ◌*◌, ◌+◌, ◌^◌, ◌+ℤ◌, ◌++◌, ◌∷◌, [], ⊤, IfOk, List, OnOk, Some};
-ghost use Rattle.std.specs.Prelude.{length, map, slice_get};
-ghost use Rattle.std.specs.Int.{div_ceil};
-ghost use Rattle.std.specs.List.{All, enumerate_from, flat_map, sum_by};
-ghost use Rattle.std.specs.Ordering.{int_cmp, nat_cmp, on};
-ghost use Rattle.std.specs.declared.cmp.Ordering.{Ordering};
-ghost use Rattle.rt_geo.specs.Boxes.{Rect, hull};
-ghost use Rattle.rt_geo.specs.Entries.{HasLayer};
-ghost use Rattle.rt_geo.specs.Layers.{union};
-ghost use Rattle.rt_geo.specs.Laws.{Extent, extent_of_entry};
-ghost use Rattle.rt_tree.specs.Entries.{most_entries};
-ghost use Rattle.rt_tree.specs.Packed.{extent_of_node};
-ghost use Rattle.rt_tree.specs.Packing.{ceil_sqrt, chunks, groups, joined, node_over, nodes_over};
-ghost use Rattle.rt_tree.specs.Packing.{twice_middle_x, twice_middle_y};
-ghost use Rattle.rt_tree.specs.SortKeys.{ArePackable, IsRanked, IsRankedAt, by_rank_and_id, by_y, key_of, place_of, rank};
-ghost use Rattle.rt_tree.specs.SortKeys.{rekeyed, sort_key, told};
-ghost use Rattle.rt_tree.specs.Sorting.{sorted};
+ghost use Rattle.std.specs.{Prelude.{length, map, slice_get, All, sum_by}, declared.cmp.Ordering.{Ordering}};
+ghost use Rattle.rt_geo.specs.{Boxes.{Rect, hull}, Entries.{HasLayer}, Laws.{Extent, extent_of_entry}, Layers.{union}};
+ghost use Rattle.rt_tree.specs.{Entries.{most_entries}, Packed.{extent_of_node}, Packing.{ceil_sqrt, chunks, groups}};
+ghost use Rattle.rt_tree.specs.Packing.{joined, node_over, nodes_over, twice_middle_x, twice_middle_y};
+ghost use Rattle.rt_tree.specs.SortKeys.{ArePackable, IsRanked, IsRankedAt, by_rank_and_id, by_y, key_of, place_of};
+ghost use Rattle.rt_tree.specs.{SortKeys.{rank, rekeyed, sort_key, told}, Sorting.{sorted}};
 
 use crate::entries::Entries;
 use crate::nodes::Nodes;

@@ -1,11 +1,9 @@
 //! Entries with distinct ids.
 
-ghost use Rattle.std.specs.Prelude.{◌≡◌, ◌==◌, ◌<◌, ◌≤◌, ◌++◌, ◌∷◌, ◌↔◌, [], length, slice_get, true, false};
-ghost use Rattle.std.specs.Prelude.{Ok, Err, Some, None, IfOk, IfErr, OnOk, OnErr};
-ghost use Rattle.std.specs.List.{All};
+ghost use Rattle.std.specs.Prelude.{◌≡◌, ◌==◌, ◌<◌, ◌≤◌, ◌++◌, ◌∷◌, ◌↔◌, [], length, slice_get, true, false, Ok, Err};
+ghost use Rattle.std.specs.Prelude.{Some, None, IfOk, IfErr, OnOk, OnErr, All};
 ghost use Rattle.rt_geo.specs.Entries.{HasBox, HasLayer};
-ghost use Rattle.rt_tree.specs.Entries.{IsTable, first_repeat, has_id, most_entries};
-ghost use Rattle.rt_tree.specs.Repeats.{ExplainsNoTable};
+ghost use Rattle.rt_tree.specs.{Entries.{IsTable, first_repeat, has_id, most_entries}, Repeats.{ExplainsNoTable}};
 
 use crate::entries::Entries;
 use crate::ids::Ids;

@@ -1,16 +1,11 @@
 //! A packed tree of boxes.
 
-ghost use Rattle.std.specs.Prelude.{◌≡◌, ◌==◌, ◌+◌, ◌-◌, ◌*◌, ◌<◌, ◌≤◌, ◌↔◌, IfOk, IfSome, IsSome, Some, length, map, slice_get, ℕ};
-ghost use Rattle.std.specs.Int.{div_ceil};
-ghost use Rattle.std.specs.List.{sum_by};
-ghost use Rattle.std.specs.List.Sorted.{IsPermutation};
+ghost use Rattle.std.specs.{Int.{div_ceil}, Prelude.{◌≡◌, ◌==◌, ◌+◌, ◌-◌, ◌*◌, ◌<◌, ◌≤◌, ◌↔◌, IfOk, IfSome, IsSome}};
+ghost use Rattle.std.specs.Prelude.{Some, length, map, slice_get, ℕ, sum_by, IsPermutation};
 ghost use Rattle.rt_geo.specs.Laws.{extent_of_entry};
-ghost use Rattle.rt_tree.specs.Entries.{most_entries};
-ghost use Rattle.rt_tree.specs.Leaves.{without_layer};
-ghost use Rattle.rt_tree.specs.Levels.{level_sizes};
+ghost use Rattle.rt_tree.specs.{Entries.{most_entries}, Leaves.{without_layer}, Levels.{level_sizes}};
 ghost use Rattle.rt_tree.specs.Packed.{IsSound, child_entries, child_nodes, node_at, root_of};
-ghost use Rattle.rt_tree.specs.Packing.{nodes_from, pack_of};
-ghost use Rattle.rt_tree.specs.PlainNodes.{without_layers};
+ghost use Rattle.rt_tree.specs.{Packing.{nodes_from, pack_of}, PlainNodes.{without_layers}};
 
 use crate::entries::{Entries, LeafEntry};
 use crate::levels::Levels;
@@ -77,9 +72,7 @@ pub struct Tree {
 
 impl Model for Tree {
     ghost use Rattle.std.specs.Prelude.{◌≡◌, length};
-    ghost use Rattle.rt_tree.specs.Levels.{level_sizes};
-    ghost use Rattle.rt_tree.specs.Packed.{Packed, IsSound};
-    ghost use Rattle.rt_tree.specs.Packing.{pack_of};
+    ghost use Rattle.rt_tree.specs.{Levels.{level_sizes}, Packed.{Packed, IsSound}, Packing.{pack_of}};
 
     ghost Value = { Packed };
 
