@@ -2,7 +2,7 @@
 use Rattle.std.proofs.Common.{◌≡◌, ◌+◌, ◌∷◌, ◌∙◌, [], ℕ, List, length, map, sym, ap, subst, arith}
 use Rattle.std.proofs.lemmas.List.{length-map}
 use Rattle.rt_tree.specs.Sorting.{put}
-use Rattle.rt_search.specs.{Answers.{Answer}, Items.{SearchRoom, Waiting, item_cmp, item_of, limited}}
+use Rattle.rt_search.specs.{Answers.{Answer}, Items.{Limited, Waiting, item_cmp, item_of}}
 use Rattle.rt_search.specs.{Joining.{KeepsHit, join_answers}, Limits.{IsEnough, IsPut, KeepsEnough}, Walking.{HasTaken}}
 use Rattle.rt_search.specs.declared.{counting.Tally.{Tally}, item.Item.{Item}}
 use Rattle.rt_search.proofs.{Limits.{enough_itself, enough_put_all, enough_trans}, OrderedLists.{length-put_all, put_all-put}}
@@ -39,9 +39,9 @@ pub length-joined : (xs : List Answer) (items : List Item) → length (join_answ
 length-joined xs items = omega
     (arith, length-put_all item_cmp item_order (map item_of xs) items, length-map xs item_of)
 
-pub entries_join : (old new : SearchRoom) (xs : List Answer)
-    → HasTaken (λ old a new. IsPut (item_of a) (limited old) (limited new)) old xs new
-    → KeepsEnough (join_answers xs old.items) (limited old) (limited new)
+pub entries_join : (old new : Limited) (xs : List Answer)
+    → HasTaken (λ old a new. IsPut (item_of a) old new) old xs new
+    → KeepsEnough (join_answers xs old.items) old new
 entries_join old new [] h = record {
   items = subst (λ r. IsEnough old.wanted r.items old.items) (sym h) (enough_itself old.wanted old.items);
   wanted = ap (λ r. r.wanted) h;

@@ -28,7 +28,7 @@ pub few_wait : (meaning : Meaning) (t : Packed)
     → IsUnderWay meaning t opened asked wanted to_come items → length items ≤ length t.entries
 few_wait meaning t u = omega (arith, u.enough.few, length_le_held meaning t u.all u.state.sound, u.state.room)
 
--- ---- what was taken out of a frontier
+-- ---- what was taken out of a queue
 
 module _ (meaning : Meaning) (t : Packed) (wanted : Option ℕ) (s : ℕ) (n : WaitingNode) where
   enough_children : (xs ys : List Item) → IsEnough wanted xs ys

@@ -1,4 +1,4 @@
--- What opening a node leaves in the frontier. Nothing that a public call promises speaks of this.
+-- What opening a node leaves in the queue. Nothing that a public call promises speaks of this.
 use Rattle.std.specs.Prelude.{◌≡◌, ◌+◌, ◌-◌, ◌==◌, ℕ, zero, suc, pos, false, if◌then◌else◌, List, [], ◌∷◌}
 use Rattle.std.specs.Prelude.{length, map}
 use Rattle.rt_geo.specs.Laws.{extent_of_entry, Meaning}

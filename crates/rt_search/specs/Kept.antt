@@ -1,4 +1,4 @@
--- How a frontier keeps its items. Nothing that a public call promises speaks of this.
+-- How a queue keeps its items, and a full search its hits. Nothing that a public call promises speaks of this.
 use Rattle.std.specs.Prelude.{◌≡◌, ◌<◌, ◌≤◌, ◌/◌, ◌%◌, ◌^◌, ◌-ℤ◌, ℕ, ℤ, pos, nat_lt, Bool, true, false, if◌then◌else◌}
 use Rattle.std.specs.Prelude.{◌⊎◌, not, filter, Option, Some, None, List, [], ◌∷◌, ◌++◌, length, map, vec_capacity}
 use Rattle.std.specs.BinaryHeap.{IsHeap, heap_capacity, heap_items, heap_len}
@@ -71,8 +71,8 @@ abbrev pub AllEntries : List Item → Type 0
 AllEntries = AllByRecursion (λ x. IsEntry x.place)
 
 -- an item joins, where it is wanted
-abbrev pub offered : (is_wanted : Bool) → Item → List Item → List Item
-offered is_wanted x items = if is_wanted then put item_cmp x items else items
+abbrev pub offered : (is_accepted : Bool) → Item → List Item → List Item
+offered is_accepted x items = if is_accepted then put item_cmp x items else items
 
 -- none of them comes after x
 abbrev pub IsLast : {X : Type 0} → (X → Item) → X → List X → Type 0
@@ -159,6 +159,12 @@ is_upto cmp bound x = not (is_gt (cmp x.0 bound))
 -- all, or those up to a bound, and these are so many or more
 abbrev pub IsCut : {X : Type 0} → (X → X → Ordering) → (count : ℕ) → (xs ys : List (Reverse X)) → Type 0
 IsCut {X} cmp count xs ys = (ys ≡ xs) ⊎ ((bound : X) × ((ys ≡ filter (is_upto cmp bound) xs) × (count ≤ length ys)))
+
+-- the same elements, in order
+pub record IsPutInOrder {X A : Type 0} (cmp : X → X → Ordering) (old new : Vec X A) : Type 0 where
+  pub sorted : IsSorted cmp new.items
+  pub same : IsPermutation old.items new.items
+  pub capacity : vec_capacity new ≡ vec_capacity old
 
 -- sorted, or not; each has room for so many, and they hold together no more
 pub record HasHits {A B : Type 0} (ids : Vec (Reverse ℤ) A) (keys : Vec (Reverse ℕ) B) (wide : Waiting)

@@ -2,7 +2,7 @@
 use Rattle.std.proofs.Common.{◌≡◌, ◌+◌, ◌-◌, ◌∷◌, [], true, false, cond, List, length, refl, ap, arith}
 use Rattle.std.specs.Ordering.{is_gt}
 use Rattle.rt_tree.specs.Sorting.{put}
-use Rattle.rt_search.specs.Items.{item_cmp, item_of, limited}
+use Rattle.rt_search.specs.Items.{item_cmp, item_of}
 use Rattle.rt_search.specs.Limits.{IsPut}
 use Rattle.rt_search.specs.Joining.{KeepsHit}
 use Rattle.rt_search.specs.Walking.{IsFilling}
@@ -22,7 +22,7 @@ hits-fill old new a h =
     let same = h.capacity in
     omega (arith, long, same, one_longer (item_of a) old.items)
 
-pub entries-fill : IsFilling (λ old a new. IsPut (item_of a) (limited old) (limited new)) (λ f. f.capacity - length f.items)
+pub entries-fill : IsFilling (λ old a new. IsPut (item_of a) old new) (λ q. q.capacity - length q.items)
 entries-fill old new a h =
     let few = h.items.few in
     let same = h.capacity in

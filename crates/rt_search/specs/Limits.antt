@@ -1,17 +1,14 @@
 -- What has to wait where a limit is known. Nothing that a public call promises speaks of this.
 use Rattle.std.specs.Prelude.{◌≡◌, ◌+◌, ◌-◌, ◌≤◌, ℕ, zero, suc, if◌then◌else◌, Option, Some, None, List, [], ◌∷◌}
-use Rattle.std.specs.Prelude.{drop, length, take, vec_capacity}
+use Rattle.std.specs.Prelude.{IfSome, drop, length, take, vec_capacity}
 use Rattle.std.specs.List.{AllByRecursion}
 use Rattle.std.specs.Ordering.{is_gt}
 use Rattle.std.specs.declared.cmp.Reverse.{Reverse}
 use Rattle.std.specs.declared.vec.Vec.{Vec}
 use Rattle.rt_tree.specs.Sorting.{put}
 use Rattle.rt_search.specs.Items.{Limited, Waiting, item_cmp}
-use Rattle.rt_search.specs.Kept.{entry_item, in_order}
-use Rattle.rt_search.specs.Pooling.{keys_in}
-use Rattle.rt_search.specs.Pooling as pooling
-use Rattle.rt_search.specs.declared.entries.Keeping.{Keeping}
-use Rattle.rt_search.specs.declared.entries.Keeping.TheVariants.{Best, Pooled}
+use Rattle.rt_search.specs.Kept.{IsTakenOut}
+use Rattle.rt_search.specs.Pooling.{Pooled, keys_in}
 use Rattle.rt_search.specs.declared.item.Item.{Item}
 use Rattle.rt_search.specs.declared.item.Place.{Place}
 use Rattle.rt_search.specs.declared.item.Place.TheVariants.{Node, Entry}
@@ -71,12 +68,21 @@ abbrev pub wanted_after : Option Item → (wanted : Option ℕ) → Option ℕ
 wanted_after None wanted = wanted
 wanted_after (Some x) wanted = less_at x.place wanted
 
--- ---- the entries that come first among those found
+-- nothing waits, for a search up to a limit, if there is one: where it is known how many are wanted, it is the limit, and
+-- with a limit of at most 128 it is known
+pub record IsCleared (limit : Option ℕ) (old new : Limited) : Type 0 where
+  pub items : new.items ≡ []
+  pub wanted : IfSome new.wanted (λ n. limit ≡ Some n)
+  pub known : IfSome limit (λ n. n ≤ 128 → new.wanted ≡ Some n)
+  pub capacity : new.capacity ≡ old.capacity
 
--- these, and how many are wanted
-pub record Chosen : Type 0 where
-  pub items : List Item
-  pub wanted : ℕ
+-- what stood first was taken out, if anything was there
+pub record IsTakenFrom (old new : Limited) (x : Option Item) : Type 0 where
+  pub taken : IsTakenOut x old.items new.items
+  pub wanted : new.wanted ≡ wanted_after x old.wanted
+  pub capacity : new.capacity ≡ old.capacity
+
+-- ---- the entries that come first among those found
 
 -- each key is at most those behind it
 abbrev pub IsClimbing : List (Reverse ℕ) → Type 0
@@ -86,30 +92,27 @@ IsClimbing (k ∷ ks) = AllByRecursion (λ j. k.0 ≤ j.0) ks × IsClimbing ks
 abbrev pub but_last : List (Reverse ℕ) → List (Reverse ℕ)
 but_last ks = take (length ks - 1) ks
 
--- those that weren't taken out climb, all are no more than were wanted, and there is room for as many as can be wanted
+-- those that weren't taken out climb, and all are no more than were wanted, of which there are few
 pub record IsChosen {A : Type 0} (keys : Vec (Reverse ℕ) A) (taken limit : ℕ) : Type 0 where
   pub climbing : IsClimbing (drop taken keys.items)
   pub past : taken ≤ length keys.items
   pub few : length keys.items ≤ limit
   pub low : limit ≤ 128
-  pub room : 128 ≤ vec_capacity keys
 
 -- ---- in one of two ways
 
--- what is kept
-abbrev pub entries_kept : Keeping → (best : Chosen) → (keys : List (Reverse ℕ)) → List Item
-entries_kept Best best keys = best.items
-entries_kept Pooled best keys = in_order entry_item keys
+-- the keys that wait: those that weren't taken out, where few are wanted, or else all in the pool
+abbrev pub waiting_keys : (limit : Option ℕ) → (taken : ℕ) → (keys pooled : List (Reverse ℕ)) → List (Reverse ℕ)
+waiting_keys None taken keys pooled = pooled
+waiting_keys (Some limit) taken keys pooled = drop taken keys
 
--- and how many are wanted, where no more are kept
-abbrev pub wanted_kept : Keeping → (best : Chosen) → Option ℕ
-wanted_kept Best best = Some best.wanted
-wanted_kept Pooled best = None
-
--- the pool has room for so many, and what is kept fits
-pub record HasEntries (keeping : Keeping) (best : Chosen) (pool : pooling.Pooled) (capacity : ℕ) : Type 0 where
+-- there is room for as many as can be wanted, and in the pool for so many, and what is kept fits
+pub record HasEntries {A : Type 0} (keys : Vec (Reverse ℕ) A) (taken : ℕ) (limit : Option ℕ) (pool : Pooled)
+    (capacity : ℕ) : Type 0 where
+  pub chosen : IfSome limit (IsChosen keys taken)
+  pub room : 128 ≤ vec_capacity keys
   pub pool_room : pool.capacity ≡ capacity
-  pub few : length (entries_kept keeping best (keys_in pool)) ≤ capacity
+  pub few : length (waiting_keys limit taken keys.items (keys_in pool)) ≤ capacity
 
 -- without the limit
 abbrev pub unlimited : Limited → Waiting

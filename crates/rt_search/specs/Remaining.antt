@@ -1,4 +1,4 @@
--- What the items of a frontier stand for. Nothing that a public call promises speaks of this.
+-- What the items of a queue stand for. Nothing that a public call promises speaks of this.
 use Rattle.std.specs.Prelude.{◌≡◌, ◌-◌, ◌<◌, ◌≤◌, ℕ, Bool, true, false, if◌then◌else◌, List, [], ◌∷◌, length}
 use Rattle.std.specs.List.{AllByRecursion}
 use Rattle.std.specs.declared.cmp.Ordering.{Ordering}

@@ -15,8 +15,8 @@ use Rattle.rt_search.specs.Work.{info_of_node, reached}
 -- ---- answers
 
 -- the answer that an entry is, where it is kept
-abbrev pub answer_if : (is_kept : Bool) → (id : ℤ) → (score : ℕ) → List Answer
-answer_if is_kept id score = if is_kept then (id, score) ∷ [] else []
+abbrev pub answer_if : (is_accepted : Bool) → (id : ℤ) → (score : ℕ) → List Answer
+answer_if is_accepted id score = if is_accepted then (id, score) ∷ [] else []
 
 -- the answers under a node
 abbrev pub answers_under : Packed → Meaning → (number : ℕ) → List Answer

@@ -1,8 +1,7 @@
 //! Counting by whole subtrees.
 
 ghost use Rattle.std.specs.Prelude.{◌≡◌, [], length};
-ghost use Rattle.rt_search.specs.Answers.{accepted};
-ghost use Rattle.rt_search.specs.Work.{asked_by_count, opened_by_count};
+ghost use Rattle.rt_search.specs.{Answers.{accepted}, Work.{asked_by_count, opened_by_count}};
 
 use crate::counts::Count;
 use crate::frontier::Frontier;
@@ -25,8 +24,8 @@ impl Collector for Tally {
     ghost room = { λ t. 2 ^ 64 - 1 - t.accepted };
 
     #[inline(always)]
-    fn visit_entry(&mut self, is_kept: bool, _score: u128, _id: i64) {
-        self.accepted += u64::from(is_kept);
+    fn visit_entry(&mut self, is_accepted: bool, _score: u128, _id: i64) {
+        self.accepted += u64::from(is_accepted);
     }
 
     ghost fills = { Prim.search rules };
@@ -79,8 +78,8 @@ pub fn count<G: Geometry>(
     ensures capacity { frontier.new.capacity ≡ frontier.old.capacity }
     ensures geometry { counted.new.geometry ≡ counted.old.geometry }
 {
-    // (a count goes down by recursion, and lets no node wait)
-    frontier.clear(None);
+    // (nothing waits after a count, as after a full search)
+    frontier.rooms.queue.clear(None);
     let mut tally = Tally { accepted: 0 };
     let opened = walk(tree, &mut tally, counted);
     let accepted = tally.accepted;

@@ -1,7 +1,6 @@
 //! A cut in a list: its least elements stay, and few more than are wanted.
 
-ghost use Rattle.std.specs.Prelude.{◌≡◌, ◌<◌, ◌≤◌, length, vec_capacity};
-ghost use Rattle.std.specs.List.{filter};
+ghost use Rattle.std.specs.Prelude.{◌≡◌, ◌<◌, ◌≤◌, length, vec_capacity, filter};
 ghost use Rattle.rt_search.specs.Kept.{IsCut, is_upto};
 
 use std::cmp::Reverse;

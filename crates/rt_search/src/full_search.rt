@@ -1,10 +1,10 @@
-//! Searches for all answers.
+//! Searches that find all answers first, and give all of them or the first.
 
-ghost use Rattle.std.specs.Prelude.{◌≡◌, ◌≤◌, [], ◌∷◌, None, IfNone, MatchOption, length, take};
-ghost use Rattle.rt_search.specs.Answers.{answers};
-ghost use Rattle.rt_search.specs.Work.{HasWorked};
+ghost use Rattle.std.specs.Prelude.{◌≡◌, ◌≤◌, [], ◌∷◌, IfNone, MatchOption, length, take};
+ghost use Rattle.rt_search.specs.{Answers.{answers}, Work.{HasWorked}};
 
-use crate::frontier::Frontier;
+use crate::frontier::{Frontier, Rooms};
+use crate::walk::walk;
 use rt_geo::{Counted, Geometry};
 use rt_tree::Tree;
 use std::marker::Model;
@@ -17,30 +17,30 @@ use std::marker::Model;
 #[derive(Drop)]
 pub struct FullSearch<'a, G: Geometry> {
     tree: &'a Tree,
-    frontier: Frontier,
+    rooms: Box<Rooms>,
     counted: Counted<'a, G>,
     opened: u64,
 }
 
 impl<'a, G: Geometry> Model for FullSearch<'a, G> {
     ghost use Rattle.std.specs.Prelude.{◌≡◌, ◌≤◌, [], length};
-    ghost use Rattle.rt_search.specs.Remaining.{remaining};
-    ghost use Rattle.rt_search.specs.Searching.{FullSearching};
+    ghost use Rattle.rt_search.specs.{Remaining.{remaining}, Searching.{FullSearching}};
 
     ghost Value = { FullSearching G };
 
     ghost view = { λ s. let g = s.counted.geometry in record {
       tree = s.tree.now;
       geometry = g;
-      to_come = remaining s.tree.now (G.meaning g) s.frontier.hits;
+      to_come = remaining s.tree.now (G.meaning g) s.rooms.value.hits.items;
       opened = s.opened;
       asked = s.counted.asked;
-      capacity = s.frontier.capacity;
+      capacity = s.rooms.value.queue.capacity;
     } };
 
-    ghost invariant = { λ s. record {
-      none_waits : s.frontier.items ≡ [];
-      few : length s.frontier.hits ≤ length s.tree.now.entries;
+    ghost invariant = { λ s. let rooms = s.rooms.value in record {
+      same_room : rooms.hits.capacity ≡ rooms.queue.capacity;
+      none_waits : rooms.queue.items ≡ [];
+      few : length rooms.hits.items ≤ length s.tree.now.entries;
     } };
 }
 
@@ -58,12 +58,15 @@ impl<'a, G: Geometry> FullSearch<'a, G> {
         ensures geometry { result.geometry ≡ counted.entry.geometry }
         ensures capacity { result.capacity ≡ frontier.capacity }
     {
-        let mut frontier = frontier;
+        let mut rooms = frontier.rooms;
         let mut counted = counted;
-        let opened = frontier.gather(tree, &mut counted);
+        let Rooms { queue, hits } = &mut *rooms;
+        queue.clear(None);
+        hits.clear();
+        let opened = walk(tree, hits, &mut counted);
         FullSearch {
             tree,
-            frontier,
+            rooms,
             counted,
             opened,
         }
@@ -86,7 +89,7 @@ impl<'a, G: Geometry> FullSearch<'a, G> {
         ensures geometry { self.new.geometry ≡ self.old.geometry }
         ensures capacity { self.new.capacity ≡ self.old.capacity }
     {
-        self.frontier.take_hit()
+        self.rooms.hits.take()
     }
 
     /// The first so many of the answers still to come.
@@ -99,7 +102,7 @@ impl<'a, G: Geometry> FullSearch<'a, G> {
         ensures capacity { result.capacity ≡ self.entry.capacity }
     {
         let mut all = self;
-        all.frontier.keep_first(count);
+        all.rooms.hits.keep_first(count);
         FirstAnswers { all, left: count }
     }
 
@@ -112,7 +115,8 @@ impl<'a, G: Geometry> FullSearch<'a, G> {
         ensures geometry { result.1.geometry ≡ self.entry.geometry }
         ensures asked { result.1.asked ≡ self.entry.asked }
     {
-        (self.frontier, self.counted)
+        let rooms = self.rooms;
+        (Frontier { rooms }, self.counted)
     }
 }
 

@@ -1,4 +1,4 @@
-//! What waits in a frontier.
+//! What waits in a queue.
 
 use rt_tree::NodeNo;
 
@@ -7,7 +7,7 @@ use rt_tree::NodeNo;
 pub struct WaitingNode {
     /// Its number.
     pub number: NodeNo,
-    /// Whether all that lies under it is accepted.
+    /// Whether the verdict on it is FULLY, so that all that lies under it is accepted.
     pub is_full: bool,
 }
 
@@ -20,7 +20,7 @@ pub enum Place {
     Entry(i64),
 }
 
-/// An item of the frontier. The least is taken out first: that of the lowest score; at equal score nodes before
+/// An item that waits. The least is taken out first: that of the lowest score; at equal score nodes before
 /// entries, nodes by number and entries by id.
 #[derive(Clone, Copy, PartialEq, Eq, PartialOrd, Ord)]
 pub struct Item {
@@ -39,6 +39,6 @@ pub struct ScoredNode {
     pub node: WaitingNode,
 }
 
-/// What was taken out of a frontier: a node, or else the id and the score of an entry, or else nothing, as nothing
+/// What was taken out of a queue: a node, or else the id and the score of an entry, or else nothing, as nothing
 /// waited. The two stand side by side, and not in an enum, so that each stays in registers.
 pub type Taken = (Option<ScoredNode>, Option<(i64, u128)>);

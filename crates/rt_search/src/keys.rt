@@ -4,9 +4,8 @@
 //! those of nodes, and each is moved and compared at once.
 
 ghost use Rattle.std.specs.Prelude.{◌≡◌, ◌<◌, ◌/◌, ◌^◌};
+ghost use Rattle.rt_search.specs.{Items.{item_at, item_of}, Kept.{entry_item, lesser, node_item}};
 ghost use Rattle.rt_search.specs.declared.item.Place.TheVariants as place;
-ghost use Rattle.rt_search.specs.Items.{item_at, item_of};
-ghost use Rattle.rt_search.specs.Kept.{entry_item, lesser, node_item};
 
 use crate::item::{ScoredNode, WaitingNode};
 use rt_tree::NodeNo;
@@ -44,7 +43,7 @@ pub fn entry_of(key: u128) -> (i64, u128)
     (id, key / TAILS)
 }
 
-/// A node's key: its tail is its number, and below it 1 where all that lies under it is accepted, otherwise 0.
+/// A node's key: its tail is its number, and below it 1 where the verdict on it is FULLY, otherwise 0.
 #[inline(always)]
 pub fn node_key(score: u64, node: WaitingNode) -> u128
     ensures { node_item (record { 0 = result }) ≡ item_at score (place.Node node) }

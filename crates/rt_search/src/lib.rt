@@ -10,15 +10,13 @@
 //!
 //! Words: an entry is a box of the table with its id and layer, a node a subtree with its bounds. To check is to ask the
 //! geometry for its verdict on one of them; to open a node is to check its children. Entries that are accepted and nodes
-//! that may hold such wait in the frontier as items, each with a score. A hit is an entry that a full search found.
+//! that may hold such wait in a queue as items, each with a score. A hit is an entry that a full search found.
 //!
 //! The definitions that the contracts cite stand in `specs/`: `Answers`, `Work` for the nodes that are opened and the
 //! checks that are made, `Searching` and `Items` for what a search and a frontier are seen as. Their worked rows stand
 //! in `proofs/Rows.antt`.
 #![tactic(auto)]
 
-mod best;
-mod costing;
 mod counting;
 mod counts;
 mod cut;
@@ -36,9 +34,8 @@ mod search;
 mod walk;
 mod wide;
 
-pub use costing::cost;
 pub use counting::count;
 pub use counts::Count;
 pub use frontier::Frontier;
 pub use full_search::{FirstAnswers, FullSearch};
-pub use search::Search;
+pub use search::{Search, cost};

@@ -1,8 +1,7 @@
 //! Keys of which the least are wanted.
 
-ghost use Rattle.std.specs.Prelude.{◌≡◌, ◌<◌, ◌≤◌, ◌++◌, [], ◌∷◌, IfNone, IfOk, IfSome, MatchOption, length, vec_capacity};
-ghost use Rattle.std.specs.BinaryHeap.{heap_capacity, heap_items};
-ghost use Rattle.std.specs.List.Sorted.{IsPermutation};
+ghost use Rattle.std.specs.{BinaryHeap.{heap_capacity, heap_items}, Prelude.{◌≡◌, ◌<◌, ◌≤◌, ◌++◌, [], ◌∷◌, IfNone}};
+ghost use Rattle.std.specs.Prelude.{IfOk, IfSome, MatchOption, length, vec_capacity, IsPermutation};
 ghost use Rattle.rt_search.specs.Pooling.{HasLeastScore, IsFar, IsLowest, IsNear, keys_in};
 
 use crate::keys::{lesser, score_of};
@@ -45,11 +44,9 @@ impl Pool {
         ensures keys { IfOk result (λ p. keys_in p ≡ []) }
         ensures capacity { IfOk result (λ p. p.capacity ≡ capacity) }
     {
-        let near = BinaryHeap::with_capacity(alloc, capacity as usize)?;
-        let far = Vec::with_capacity(alloc, capacity as usize)?;
         Ok(Pool {
-            near,
-            far,
+            near: BinaryHeap::with_capacity(alloc, capacity as usize)?,
+            far: Vec::with_capacity(alloc, capacity as usize)?,
             edge: 0,
             least: None,
             capacity,

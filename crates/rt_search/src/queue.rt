@@ -1,17 +1,19 @@
 //! What waits in a best-first search.
 
-ghost use Rattle.std.specs.Prelude.{◌≡◌, ◌<◌, ◌≤◌, ◌^◌, [], false, length, IfOk, IfSome, MatchBool, MatchOption, None, Some, true};
+ghost use Rattle.std.specs.Prelude.{◌≡◌, ◌<◌, ◌≤◌, ◌^◌, [], false, length, IfOk, IfSome, MatchBool, MatchOption, true};
+ghost use Rattle.rt_search.specs.{Items.{item_at}, Joining.{join_node}};
+ghost use Rattle.rt_search.specs.Kept.{IsAhead, IsTakenOut, in_order, narrow, node_item, taken_item};
+ghost use Rattle.rt_search.specs.{Limits.{IsCleared, IsPut, KeepsEnough, IsTakenFrom, wanted_after}, Pooling.{keys_in}};
 ghost use Rattle.rt_search.specs.declared.item.Place.TheVariants as place;
-ghost use Rattle.rt_search.specs.Items.{item_at};
-ghost use Rattle.rt_search.specs.Kept.{IsAhead, IsTakenOut, in_order, narrow, node_item, taken_item, taken_node};
-ghost use Rattle.rt_search.specs.Limits.{IsPut, wanted_after};
-ghost use Rattle.rt_search.specs.Pooling.{keys_in};
 
-use crate::entries::Entries;
+use crate::entries::WaitingEntries;
 use crate::item::{Item, Place, ScoredNode, Taken, WaitingNode};
 use crate::keys::{node_key, node_of};
 use crate::pool::Pool;
+use crate::walk::{Collector, Visitor, is_kept};
 use crate::wide::{WIDE, Wide};
+use rt_geo::{Verdict, Within};
+use rt_tree::NodeNo;
 use std::alloc::{AllocError, Global};
 use std::marker::Model;
 
@@ -23,16 +25,13 @@ use std::marker::Model;
 #[derive(Drop)]
 pub struct Queue {
     nodes: Pool,
-    entries: Entries,
+    entries: WaitingEntries,
     wide: Wide,
     capacity: u32,
 }
 
 impl Model for Queue {
-    ghost use Rattle.rt_search.specs.Items.{Limited};
-    ghost use Rattle.rt_search.specs.Kept.{IsQueue, queued};
-    ghost use Rattle.rt_search.specs.Limits.{unlimited};
-    ghost use Rattle.rt_search.specs.Pooling.{keys_in};
+    ghost use Rattle.rt_search.specs.{Items.{Limited}, Kept.{IsQueue, queued}, Limits.{unlimited}, Pooling.{keys_in}};
 
     ghost Value = { Limited };
 
@@ -50,13 +49,10 @@ impl Queue {
         ensures items { IfOk result (λ q. q.items ≡ []) }
         ensures capacity { IfOk result (λ q. q.capacity ≡ capacity) }
     {
-        let nodes = Pool::new(alloc, capacity)?;
-        let entries = Entries::new(alloc, capacity)?;
-        let wide = Wide::new(alloc, capacity)?;
         Ok(Queue {
-            nodes,
-            entries,
-            wide,
+            nodes: Pool::new(alloc, capacity)?,
+            entries: WaitingEntries::new(alloc, capacity)?,
+            wide: Wide::new(alloc, capacity)?,
             capacity,
         })
     }
@@ -70,21 +66,25 @@ impl Queue {
 
     /// Gives up what it has, for a search up to a limit, if there is one.
     pub fn clear(&mut self, limit: Option<u64>)
-        ensures items { self.new.items ≡ [] }
-        ensures wanted { IfSome self.new.wanted (λ n. limit ≡ Some n) }
-        ensures known { IfSome limit (λ n. n ≤ 128 → self.new.wanted ≡ Some n) }
-        ensures capacity { self.new.capacity ≡ self.old.capacity }
+        ensures { IsCleared limit self.old self.new }
     {
         self.nodes.clear();
         self.entries.clear(limit);
         self.wide.clear();
     }
 
+    /// Puts a node in, with the verdict on it, unless no answer that is wanted can lie under it.
     #[inline(always)]
-    pub fn put_node(&mut self, score: u128, node: WaitingNode)
+    pub fn put_node(&mut self, verdict: Verdict, number: NodeNo)
         requires { length self.old.items < self.old.capacity }
-        ensures { IsPut (item_at score (place.Node node)) self.old self.new }
+        ensures { KeepsEnough (join_node verdict number.number self.old.items) self.old self.new }
     {
+        let Verdict { within, score } = verdict;
+        if within == Within::Not {
+            return;
+        }
+        let is_full = within == Within::Fully;
+        let node = WaitingNode { number, is_full };
         if WIDE <= score {
             self.put_wide(score, Place::Node(node));
             return;
@@ -93,18 +93,6 @@ impl Queue {
             return;
         }
         self.nodes.put(node_key(score as u64, node));
-    }
-
-    #[inline(always)]
-    pub fn put_entry(&mut self, score: u128, id: i64)
-        requires { length self.old.items < self.old.capacity }
-        ensures { IsPut (item_at score (place.Entry id)) self.old self.new }
-    {
-        if WIDE <= score {
-            self.put_wide(score, Place::Entry(id));
-            return;
-        }
-        self.entries.put(score as u64, id);
     }
 
     // Out of line, as wide items are rare.
@@ -121,11 +109,10 @@ impl Queue {
         self.wide.put(Item { score, place });
     }
 
+    /// Takes the least item out, if one waits.
     #[inline(always)]
     pub fn take(&mut self) -> Taken
-        ensures taken { IsTakenOut (taken_item result) self.old.items self.new.items }
-        ensures wanted { self.new.wanted ≡ wanted_after (taken_item result) self.old.wanted }
-        ensures capacity { self.new.capacity ≡ self.old.capacity }
+        ensures { IsTakenFrom self.old self.new (taken_item result) }
     {
         let taken = take_narrow(&mut self.nodes, &mut self.entries);
         if is_any(taken) {
@@ -135,9 +122,45 @@ impl Queue {
     }
 }
 
+impl Collector for Queue {
+    ghost use Rattle.std.specs.Prelude.{◌-◌};
+    ghost use Rattle.rt_search.specs.{Items.{item_of}, Lemmas.{entries-fill}};
+
+    ghost takes = { λ old a new. IsPut (item_of a) old new };
+
+    ghost room = { λ q. q.capacity - length q.items };
+
+    #[inline(always)]
+    fn visit_entry(&mut self, is_accepted: bool, score: u128, id: i64) {
+        if !is_accepted {
+            return;
+        }
+        if WIDE <= score {
+            self.put_wide(score, Place::Entry(id));
+            return;
+        }
+        self.entries.put(score as u64, id);
+    }
+
+    ghost fills = { entries-fill };
+}
+
+impl Visitor for Queue {
+    ghost use Rattle.std.specs.Prelude.{None};
+    ghost use Rattle.rt_search.specs.Work.{is_reached};
+
+    ghost opens = { is_reached None };
+
+    // Each node is opened that may hold answers.
+    #[inline(always)]
+    fn visit_node(&mut self, verdict: Verdict, _size: u32) -> bool {
+        is_kept(verdict.within)
+    }
+}
+
 // Takes the least of those whose score is one word.
 #[inline(always)]
-fn take_narrow(nodes: &mut Pool, entries: &mut Entries) -> Taken
+fn take_narrow(nodes: &mut Pool, entries: &mut WaitingEntries) -> Taken
     ensures taken { IsTakenOut (taken_item result) (narrow (keys_in nodes.old) entries.old.items)
         (narrow (keys_in nodes.new) entries.new.items) }
     ensures low { IfSome (taken_item result) (λ x. x.score < 2 ^ 64) }
@@ -146,7 +169,10 @@ fn take_narrow(nodes: &mut Pool, entries: &mut Entries) -> Taken
     ensures entries { entries.new.capacity ≡ entries.old.capacity }
 {
     if is_node_next(nodes, entries) {
-        return (take_node(nodes), None);
+        let Some(key) = nodes.take() else {
+            return (None, None);
+        };
+        return (Some(node_of(key)), None);
     }
     (None, entries.take())
 }
@@ -162,7 +188,7 @@ fn is_any(taken: Taken) -> bool
 
 // Whether a node is next: one waits whose score is at most that of each entry found.
 #[inline(always)]
-fn is_node_next(nodes: &Pool, entries: &Entries) -> bool
+fn is_node_next(nodes: &Pool, entries: &WaitingEntries) -> bool
     ensures { MatchBool result (IsAhead (in_order node_item (keys_in nodes.now)) entries.now.items)
         (IsAhead entries.now.items (in_order node_item (keys_in nodes.now))) }
 {
@@ -175,21 +201,10 @@ fn is_node_next(nodes: &Pool, entries: &Entries) -> bool
     node <= entry
 }
 
-#[inline(always)]
-fn take_node(nodes: &mut Pool) -> Option<ScoredNode>
-    ensures taken { IsTakenOut (taken_node result) (in_order node_item (keys_in nodes.old))
-        (in_order node_item (keys_in nodes.new)) }
-    ensures low { IfSome result (λ n. n.score < 2 ^ 64) }
-    ensures capacity { nodes.new.capacity ≡ nodes.old.capacity }
-{
-    let key = nodes.take()?;
-    Some(node_of(key))
-}
-
 // Takes the least of those whose score is more, where there are no others. Inlined, so that the room for what
 // `Wide::take` returns is made only where that is called.
 #[inline(always)]
-fn take_wide(entries: &mut Entries, wide: &mut Wide) -> Taken
+fn take_wide(entries: &mut WaitingEntries, wide: &mut Wide) -> Taken
     requires { entries.old.items ≡ [] }
     ensures taken { IsTakenOut (taken_item result) wide.old.items wide.new.items }
     ensures wanted { entries.new.wanted ≡ wanted_after (taken_item result) entries.old.wanted }

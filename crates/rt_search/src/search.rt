@@ -1,14 +1,13 @@
 //! Best-first search.
 
-ghost use Rattle.std.specs.Prelude.{◌≡◌, ◌≢◌, ◌+◌, ◌≤◌, [], ◌∷◌, List, None, Some, IfNone, IfSome, MatchOption};
-ghost use Rattle.std.specs.Prelude.{length};
-ghost use Rattle.rt_search.specs.Answers.{Answer, answers};
-ghost use Rattle.rt_search.specs.Limits.{one_less};
-ghost use Rattle.rt_search.specs.Progress.{IsFound, IsOver, IsUnderWay};
-ghost use Rattle.rt_search.specs.Work.{HasWorked, IsUnscored};
+ghost use Rattle.std.specs.Prelude.{◌≡◌, ◌≢◌, ◌+◌, ◌≤◌, [], ◌∷◌, List, IfNone, IfSome, MatchOption, length};
+ghost use Rattle.rt_search.specs.{Answers.{Answer, answers}, Limits.{one_less}, Progress.{IsFound, IsOver, IsUnderWay}};
+ghost use Rattle.rt_search.specs.Work.{HasWorked, IsUnscored, opened_by_search};
 
-use crate::frontier::Frontier;
+use crate::frontier::{Frontier, Rooms};
+use crate::full_search::FullSearch;
 use crate::opening::{open_node, put_root};
+use crate::queue::Queue;
 use crate::walk::walk;
 use rt_geo::{Counted, Geometry};
 use rt_tree::Tree;
@@ -17,32 +16,32 @@ use std::marker::Model;
 // Takes items out until an entry comes: the next answer. None comes where no item is left.
 fn pull<G: Geometry>(
     tree: &Tree,
-    frontier: &mut Frontier,
+    queue: &mut Queue,
     counted: &mut Counted<'_, G>,
     opened: &mut u64,
 ) -> Option<(i64, u128)>
-    requires more { frontier.old.wanted ≢ Some 0 }
-    requires capacity { length tree.now.entries ≤ frontier.old.capacity }
+    requires more { queue.old.wanted ≢ Some 0 }
+    requires capacity { length tree.now.entries ≤ queue.old.capacity }
     requires state { let meaning = G.meaning counted.old.geometry in (to_come : List Answer) ×
-        IsUnderWay meaning tree.now opened.old counted.old.asked frontier.old.wanted to_come frontier.old.items }
+        IsUnderWay meaning tree.now opened.old counted.old.asked queue.old.wanted to_come queue.old.items }
     ensures step { let meaning = G.meaning counted.old.geometry in (to_come : List Answer) →
-        IsUnderWay meaning tree.now opened.old counted.old.asked frontier.old.wanted to_come frontier.old.items
+        IsUnderWay meaning tree.now opened.old counted.old.asked queue.old.wanted to_come queue.old.items
         → MatchOption result
-        (IsOver meaning tree.now opened.new counted.new.asked frontier.new.wanted to_come frontier.new.items)
-        (λ a. IsFound meaning tree.now opened.new counted.new.asked frontier.new.wanted to_come a
-        frontier.new.items) }
-    ensures wanted { MatchOption result (frontier.new.wanted ≡ frontier.old.wanted)
-        (λ _. frontier.new.wanted ≡ one_less frontier.old.wanted) }
-    ensures capacity { frontier.new.capacity ≡ frontier.old.capacity }
+        (IsOver meaning tree.now opened.new counted.new.asked queue.new.wanted to_come queue.new.items)
+        (λ a. IsFound meaning tree.now opened.new counted.new.asked queue.new.wanted to_come a
+        queue.new.items) }
+    ensures wanted { MatchOption result (queue.new.wanted ≡ queue.old.wanted)
+        (λ _. queue.new.wanted ≡ one_less queue.old.wanted) }
+    ensures capacity { queue.new.capacity ≡ queue.old.capacity }
     ensures geometry { counted.new.geometry ≡ counted.old.geometry }
 {
     loop {
-        let (node, entry) = frontier.take();
+        let (node, entry) = queue.take();
         let Some(node) = node else {
             return entry;
         };
         *opened += 1;
-        open_node(tree, frontier, counted, node);
+        open_node(tree, queue, counted, node);
     }
 }
 
@@ -53,7 +52,7 @@ fn pull<G: Geometry>(
 #[derive(Drop)]
 pub struct Search<'a, G: Geometry> {
     tree: &'a Tree,
-    frontier: Frontier,
+    rooms: Box<Rooms>,
     counted: Counted<'a, G>,
     limit: Option<u64>,
     given: u64,
@@ -61,10 +60,8 @@ pub struct Search<'a, G: Geometry> {
 }
 
 impl<'a, G: Geometry> Model for Search<'a, G> {
-    ghost use Rattle.std.specs.Prelude.{drop};
-    ghost use Rattle.rt_search.specs.Answers.{answers};
-    ghost use Rattle.rt_search.specs.Progress.{IsGiving};
-    ghost use Rattle.rt_search.specs.Searching.{Searching};
+    ghost use Rattle.std.specs.Prelude.{◌≡◌, drop};
+    ghost use Rattle.rt_search.specs.{Answers.{answers}, Progress.{IsGiving}, Searching.{Searching}};
 
     ghost Value = { Searching G };
 
@@ -76,11 +73,14 @@ impl<'a, G: Geometry> Model for Search<'a, G> {
       given = s.given;
       opened = s.opened;
       asked = s.counted.asked;
-      capacity = s.frontier.capacity;
+      capacity = s.rooms.value.queue.capacity;
     } };
 
-    ghost invariant = { λ s. IsGiving (G.meaning s.counted.geometry) s.tree.now s.limit s.given s.opened
-        s.counted.asked s.frontier.capacity s.frontier.wanted s.frontier.items };
+    ghost invariant = { λ s. let rooms = s.rooms.value in record {
+      same_room : rooms.hits.capacity ≡ rooms.queue.capacity;
+      giving : IsGiving (G.meaning s.counted.geometry) s.tree.now s.limit s.given s.opened s.counted.asked
+          rooms.queue.capacity rooms.queue.wanted rooms.queue.items;
+    } };
 }
 
 impl<'a, G: Geometry> Search<'a, G> {
@@ -104,12 +104,13 @@ impl<'a, G: Geometry> Search<'a, G> {
         ensures geometry { result.geometry ≡ counted.entry.geometry }
         ensures capacity { result.capacity ≡ frontier.capacity }
     {
-        let mut frontier = frontier;
-        frontier.clear(limit);
-        put_root(tree, &mut frontier);
+        let mut rooms = frontier.rooms;
+        let queue = &mut rooms.queue;
+        queue.clear(limit);
+        put_root(tree, queue);
         Search {
             tree,
-            frontier,
+            rooms,
             counted,
             limit,
             given: 0,
@@ -143,13 +144,14 @@ impl<'a, G: Geometry> Search<'a, G> {
         if limit == Some(0) {
             return Search::start(tree, frontier, counted, limit);
         }
-        let mut frontier = frontier;
+        let mut rooms = frontier.rooms;
         let mut counted = counted;
-        frontier.clear(limit);
-        let opened = walk(tree, &mut frontier, &mut counted);
+        let queue = &mut rooms.queue;
+        queue.clear(limit);
+        let opened = walk(tree, queue, &mut counted);
         Search {
             tree,
-            frontier,
+            rooms,
             counted,
             limit,
             given: 0,
@@ -182,7 +184,7 @@ impl<'a, G: Geometry> Search<'a, G> {
         }
         let answer = pull(
             self.tree,
-            &mut self.frontier,
+            &mut self.rooms.queue,
             &mut self.counted,
             &mut self.opened,
         )?;
@@ -205,6 +207,32 @@ impl<'a, G: Geometry> Search<'a, G> {
         ensures geometry { result.1.geometry ≡ self.entry.geometry }
         ensures asked { result.1.asked ≡ self.entry.asked }
     {
-        (self.frontier, self.counted)
+        let rooms = self.rooms;
+        (Frontier { rooms }, self.counted)
     }
+}
+
+/// How many nodes a search opens for so many answers, or for all where there is no limit, and the frontier. What
+/// waited in the frontier is given up.
+pub fn cost<G: Geometry>(
+    tree: &Tree,
+    frontier: Frontier,
+    counted: Counted<'_, G>,
+    limit: Option<u64>,
+) -> (u64, Frontier)
+    requires capacity { length tree.now.entries ≤ frontier.capacity }
+    requires asked { counted.asked ≡ 0 }
+    ensures opened { result.0 ≡ opened_by_search (G.meaning counted.entry.geometry) tree.now limit }
+    ensures capacity { result.1.capacity ≡ frontier.capacity }
+    ensures items { length result.1.items ≤ length tree.now.entries }
+{
+    if limit.is_none() {
+        let search = FullSearch::start(tree, frontier, counted);
+        return (search.opened(), search.finish().0);
+    }
+    let mut search = Search::start(tree, frontier, counted, limit);
+    while search.next().is_some() {}
+    let opened = search.opened();
+    let (frontier, _) = search.finish();
+    (opened, frontier)
 }

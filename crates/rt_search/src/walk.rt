@@ -1,17 +1,15 @@
 //! Walking over the nodes of a tree: what is asked about the children of an opened node, and who takes what is found.
 //!
-//! A full search, a count and a search in whose order no node has a score walk from the root downwards. What they do at
+//! A full search, a count and a search in whose order each node scores 0 walk from the root downwards. What they do at
 //! a node and with an entry is their [`Visitor`]. A best-first search opens one node at a time, in an order of its own,
 //! and needs a [`Collector`] alone.
 
 ghost use Rattle.std.specs.Prelude.{◌≡◌, ◌+◌, ◌-◌, ◌<◌, ◌≤◌, ◌^◌, ℕ, Bool, List, [], if◌then◌else◌, length};
-ghost use Rattle.rt_geo.specs.Laws.{Extent};
-ghost use Rattle.rt_geo.specs.declared.geometry.Verdict.{Verdict};
+ghost use Rattle.rt_geo.specs.{Laws.{Extent}, declared.geometry.Verdict.{Verdict}};
 ghost use Rattle.rt_tree.specs.Packed.{IsSound, node_at, root_of};
-ghost use Rattle.rt_search.specs.Answers.{Answer};
-ghost use Rattle.rt_search.specs.Remaining.{IsOpenable, IsOpenableLeaf};
-ghost use Rattle.rt_search.specs.Walking.{HasTaken, IsCheckable, IsFilling, IsKnown, answer_if, answers_among};
-ghost use Rattle.rt_search.specs.Walking.{answers_in_tree, answers_under, work_at_child, work_under};
+ghost use Rattle.rt_search.specs.{Answers.{Answer}, Remaining.{IsOpenable, IsOpenableLeaf}, Walking.{HasTaken}};
+ghost use Rattle.rt_search.specs.Walking.{IsCheckable, IsFilling, IsKnown, answer_if, answers_among, answers_in_tree};
+ghost use Rattle.rt_search.specs.Walking.{answers_under, work_at_child, work_under};
 ghost use Rattle.rt_search.specs.Work.{info_under, is_kept, its_children, one_node, reached_from_root};
 
 use rt_geo::{Bounds, Counted, Geometry, Info, Layers, Verdict, Within};
@@ -25,10 +23,10 @@ pub(crate) trait Collector: Sized {
     /// How many more it has room for.
     ghost room: { Self → ℕ };
 
-    /// Takes an entry where it is kept.
-    fn visit_entry(&mut self, is_kept: bool, score: u128, id: i64)
+    /// Takes an entry where it is accepted.
+    fn visit_entry(&mut self, is_accepted: bool, score: u128, id: i64)
         requires { 0 < room self.old }
-        ensures { HasTaken takes self.old (answer_if is_kept id score) self.new };
+        ensures { HasTaken takes self.old (answer_if is_accepted id score) self.new };
 
     /// Each answer takes a place.
     ghost fills: { IsFilling takes room };
@@ -69,13 +67,7 @@ pub(crate) trait Visitor: Collector {
 
 /// What is asked about a child of a node that has this verdict.
 #[inline(always)]
-pub(crate) fn info_under(
-    tree: &Tree,
-    parent: Verdict,
-    bounds: Bounds,
-    layers: Layers,
-    level: u8,
-) -> Info
+pub fn info_under(tree: &Tree, parent: Verdict, bounds: Bounds, layers: Layers, level: u8) -> Info
     ensures { let extent : Extent = record { bounds = bounds; layers = layers } in
         result ≡ info_under (root_of tree.now).level parent extent level }
 {
@@ -89,7 +81,7 @@ pub(crate) fn info_under(
     }
 }
 
-/// Whether what is in this state is kept.
+/// Whether an entry in this state is an answer; of a node, whether it may hold answers.
 #[inline(always)]
 pub(crate) fn is_kept(within: Within) -> bool
     ensures { result ≡ is_kept within }
@@ -101,7 +93,7 @@ pub(crate) fn is_kept(within: Within) -> bool
     }
 }
 
-/// Asks about the children of a node of level 1.
+/// Asks about each entry under a node of level 1, and hands the verdict on it to the collector.
 #[inline(always)]
 pub(crate) fn visit_entries<C: Collector, G: Geometry>(
     tree: &Tree,
@@ -128,8 +120,8 @@ pub(crate) fn visit_entries<C: Collector, G: Geometry>(
     }
 }
 
-/// Walks over a tree from its root, and returns how many nodes were opened. All that is accepted is taken. A visitor
-/// needs room for as many entries as there are, and may rest on what holds of each tree.
+/// Walks over a tree from its root, which isn't asked about, and returns how many nodes were opened. All that is
+/// accepted is taken. A visitor needs room for as many entries as there are, by what holds of each tree.
 pub(crate) fn walk<V: Visitor, G: Geometry>(
     tree: &Tree,
     visitor: &mut V,
@@ -192,18 +184,10 @@ fn walk_under<V: Visitor, G: Geometry>(
     let level = node.level - 1;
     let children = tree.child_nodes(node);
     for (i, child) in children.iter().enumerate() {
-        let child_number = NodeNo::new(first + i as u32);
-        let whole = tree.node(child_number);
+        let number = NodeNo::new(first + i as u32);
+        let whole = tree.node(number);
         let info = info_under(tree, parent, child.bounds, whole.layers, level);
-        walk_child(
-            tree,
-            visitor,
-            counted,
-            opened,
-            child_number,
-            child.size,
-            &info,
-        );
+        walk_child(tree, visitor, counted, opened, number, child.size, &info);
     }
 }
 

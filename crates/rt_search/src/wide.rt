@@ -1,8 +1,7 @@
 //! Items whose score is more than one word.
 
 ghost use Rattle.std.specs.Prelude.{◌≡◌, ◌<◌, ◌≤◌, [], IfOk, length};
-ghost use Rattle.rt_search.specs.Items.{item_cmp};
-ghost use Rattle.rt_search.specs.Kept.{IsRising, IsTakenOut};
+ghost use Rattle.rt_search.specs.{Items.{item_cmp}, Kept.{IsRising, IsTakenOut}};
 ghost use Rattle.rt_tree.specs.Sorting.{put};
 
 use crate::item::Item;
@@ -25,8 +24,7 @@ pub struct Wide {
 
 impl Model for Wide {
     ghost use Rattle.std.specs.BinaryHeap.{heap_items};
-    ghost use Rattle.rt_search.specs.Items.{Waiting};
-    ghost use Rattle.rt_search.specs.Kept.{IsKept, in_order, wide_item};
+    ghost use Rattle.rt_search.specs.{Items.{Waiting}, Kept.{IsKept, in_order, wide_item}};
 
     ghost Value = { Waiting };
 

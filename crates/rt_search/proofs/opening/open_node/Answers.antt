@@ -9,12 +9,12 @@ pub returns-then-node-eq1-clause-children : goal.returns-then-node-eq1-clause-ch
 returns-then-node-eq1-clause-children g c =
     let geometry = c.args.counted.now.geometry in
     let n = c.node-node.result in
-    let joined = entries_join c.args.frontier.now c.visit_entries.new.collector
+    let joined = entries_join c.args.queue.now c.visit_entries.new.collector
     (answers_among c.args.tree.now (g.G.Geometry.meaning geometry) n n.count)
     c.visit_entries.ensures.taken in
     record {
-      items = leaf_joins (g.met.G.Geometry.lawful geometry) c.args.tree.now c.args.frontier.now.wanted c.args.taken.score
-          c.args.taken.node n c.visit_entries.new.collector.items c.args.frontier.now.items c.node-node.ensures
+      items = leaf_joins (g.met.G.Geometry.lawful geometry) c.args.tree.now c.args.queue.now.wanted c.args.taken.score
+          c.args.taken.node n c.visit_entries.new.collector.items c.args.queue.now.items c.node-node.ensures
           c.if-node-eq1.true joined.items;
       wanted = joined.wanted;
       capacity = joined.capacity;
@@ -23,22 +23,25 @@ returns-then-node-eq1-clause-children g c =
 pub child_nodes-children-requires : goal.child_nodes-children-requires
 child_nodes-children-requires g c = children_inside c.requires.node c.node-node.ensures c.if-node-eq1.false
 
-pub ask_node-requires : goal.ask_node-requires
-ask_node-requires g c =
+pub check-requires : goal.check-requires
+check-requires g c =
+    let here = children_of c.requires.node c.node-node.ensures c.if-node-eq1.false c.child_nodes-children.ensures in
+    let k = asked here c.loop-i.i c.verdict_on-parent.result c.loop-i-test.true c.index-children-i.is
+    c.new-number.ensures c.node-whole.ensures c.info_under-info.ensures in
+    record { honest = grind (arith, honest_child); room = omega arith }
+
+pub put_node-requires : goal.put_node-requires
+put_node-requires g c =
+    let here = children_of c.requires.node c.node-node.ensures c.if-node-eq1.false c.child_nodes-children.ensures in
+    let k = asked here c.loop-i.i c.verdict_on-parent.result c.loop-i-test.true c.index-children-i.is
+    c.new-number.ensures c.node-whole.ensures c.info_under-info.ensures in
     let geometry = c.args.counted.now.geometry in
     let tree = c.args.tree.now in
     let number = c.args.taken.node.number.number in
     let v = c.verdict_on-parent.result in
-    let here = children_of c.requires.node c.node-node.ensures c.if-node-eq1.false c.child_nodes-children.ensures in
-    let k = asked here c.loop-i.i c.verdict_on-parent.result c.loop-i-test.true c.index-children-i.is
-    c.new-number.ensures c.node-whole.ensures c.info_under-info.ensures in
     let long = length-join_nodes (g.G.Geometry.meaning geometry) tree v (node_at tree number) c.loop-i.i
-    c.args.frontier.now.items in
-    record {
-      honest = grind (arith, honest_child);
-      room = rw c.loop-i.invariant.children.capacity (omega arith);
-      asked = omega arith;
-    }
+    c.args.queue.now.items in
+    rw c.loop-i.invariant.children.capacity (omega arith)
 
 pub loop-i-preserved : goal.loop-i-preserved
 loop-i-preserved g c =
@@ -46,15 +49,16 @@ loop-i-preserved g c =
     let k = asked here c.loop-i.i c.verdict_on-parent.result c.loop-i-test.true c.index-children-i.is
     c.new-number.ensures c.node-whole.ensures c.info_under-info.ensures in
     let inv = c.loop-i.invariant in
-    let h = rw (inv.geometry, inv.children.wanted) at c.ask_node.ensures in
+    let e = rw inv.geometry at c.check.ensures in
+    let h = rw (e.verdict, inv.children.wanted) at c.put_node.ensures in
     record {
       children = record {
-        items = rw add-one (enough_node c.args.frontier.now.wanted _ _ _ _ _ inv.children.items
-            (rw k.at at (rw k.info_is at h.node.items)));
-        wanted = h.node.wanted;
-        capacity = h.node.capacity ∙ inv.children.capacity;
+        items = rw add-one (enough_node c.args.queue.now.wanted _ _ _ _ _ inv.children.items
+            (rw k.at at (rw k.info_is at h.items)));
+        wanted = h.wanted;
+        capacity = h.capacity ∙ inv.children.capacity;
       };
-      geometry = h.geometry;
+      geometry = e.geometry;
       asked = omega arith;
     }
 

@@ -39,8 +39,8 @@ loop-node-preserved g c =
     let n = c.in-Some.node in
     let o = c.open_node.ensures in
     let same = e.wanted
-    ∙ ap (λ o. wanted_after (node_or o (taken_entry c.take-node.result.1)) c.loop-node.frontier.wanted) c.in-Some.is in
-    let items = subst (λ y. IsEnough c.loop-node.frontier.wanted c.open_node.new.frontier.items
+    ∙ ap (λ o. wanted_after (node_or o (taken_entry c.take-node.result.1)) c.loop-node.queue.wanted) c.in-Some.is in
+    let items = subst (λ y. IsEnough c.loop-node.queue.wanted c.open_node.new.queue.items
     (join_children (g.G.Geometry.meaning y) c.args.tree.now n.score n.node c.take-node.new.self.items)) v.geometry
     (rw same at o.children.items) in
     record {

@@ -7,10 +7,10 @@ invariant-loop-node g l =
     let meaning = g.G.Geometry.meaning l.initial.counted.geometry in
     record {
       state : (to_come : List Answer) → IsUnderWay meaning l.tree l.initial.opened l.initial.counted.asked
-          l.initial.frontier.wanted to_come l.initial.frontier.items
-          → IsUnderWay meaning l.tree l.opened l.counted.asked l.frontier.wanted to_come l.frontier.items;
-      wanted : l.frontier.wanted ≡ l.initial.frontier.wanted;
-      capacity : l.frontier.capacity ≡ l.initial.frontier.capacity;
+          l.initial.queue.wanted to_come l.initial.queue.items
+          → IsUnderWay meaning l.tree l.opened l.counted.asked l.queue.wanted to_come l.queue.items;
+      wanted : l.queue.wanted ≡ l.initial.queue.wanted;
+      capacity : l.queue.capacity ≡ l.initial.queue.capacity;
       geometry : l.counted.geometry ≡ l.initial.counted.geometry;
     }
 

@@ -60,14 +60,14 @@ walk_under-walk_child-requires g t c κs within =
     let sound = c.requires.sound in
     let v = c.args.parent in
     let here = children_of c.requires.node c.node-node.ensures c.if-node-eq1.false c.child_nodes-children.ensures in
-    let k = asked here c.loop-i.i v c.loop-i-test.true c.index-children-i.is c.new-child_number.ensures
+    let k = asked here c.loop-i.i v c.loop-i-test.true c.index-children-i.is c.new-number.ensures
     c.node-whole.ensures c.info_under-info.ensures in
     let i = c.loop-i.invariant in
     let can = visit law sound (search rules) c.requires.node here.high g.V.Visitor.opens k g.V.Collector.takes
     g.V.Collector.room g.met.V.Collector.fills c.args.visitor.now c.loop-i.visitor i.taken c.requires.room
     c.args.opened.now c.loop-i.opened c.args.counted.now.asked c.loop-i.counted.asked i.opened i.asked
     c.requires.opened c.requires.asked in
-    let size : c.index-children-i.result.size ≡ (node_at tree c.new-child_number.result.number).size = ap (λ n. n.size) k.is in
+    let size : c.index-children-i.result.size ≡ (node_at tree c.new-number.result.number).size = ap (λ n. n.size) k.is in
     let fits = can.room_is in (
       omega arith,
       (within.0, (within.1, (sound, rw i.geometry (can.node, (size, (omega arith, (can.opened_few, can.asked_few))))))),
@@ -78,7 +78,7 @@ walk_under-loop-i-preserved g t c =
     let law = g.met.G.Geometry.lawful c.args.counted.now.geometry in
     let v = c.args.parent in
     let here = children_of c.requires.node c.node-node.ensures c.if-node-eq1.false c.child_nodes-children.ensures in
-    let k = asked here c.loop-i.i v c.loop-i-test.true c.index-children-i.is c.new-child_number.ensures
+    let k = asked here c.loop-i.i v c.loop-i-test.true c.index-children-i.is c.new-number.ensures
     c.node-whole.ensures c.info_under-info.ensures in
     let e = rw k.at at (rw k.info_is at (rw c.loop-i.invariant.geometry at c.walk_child.ensures)) in
     let more = λ (cost : Node → ℕ).

@@ -9,7 +9,7 @@ returns-clause-answer g c =
     let geometry = c.self.inside.counted.geometry in
     let meaning = g.G.Geometry.meaning geometry in
     let tree = c.self.inside.tree.now in
-    let e = c.take_hit.ensures in
-    subst (λ s. MatchOption c.take_hit.result (s.to_come ≡ [])
-    (λ a. s.to_come ≡ a ∷ remaining tree meaning c.take_hit.new.self.hits)) c.self.view_is
-    (given meaning tree c.take_hit.result c.self.inside.frontier.hits c.take_hit.new.self.hits e.entries e.taken)
+    let e = c.take.ensures in
+    subst (λ s. MatchOption c.take.result (s.to_come ≡ [])
+    (λ a. s.to_come ≡ a ∷ remaining tree meaning c.take.new.self.items)) c.self.view_is
+    (rw (← c.deref_mut.ensures.value) (given meaning tree c.take.result c.deref_mut.result.now.hits.items c.take.new.self.items e.entries e.taken))

@@ -1,7 +1,7 @@
-use Rattle.std.proofs.{Common.{◌∙◌, ap, refl, arith}, lemmas.List.Sorted.{length_permutation}}
+use Rattle.std.proofs.{Common.{◌≡◌, ◌∙◌, ap, refl, arith, rules}, lemmas.List.Sorted.{length_permutation}}
 use Rattle.rt_tree.specs.Sorting.{put}
 use Rattle.rt_search.specs.{Items.{item_at, item_cmp}, Kept.{in_order, node_item}, Pooling.{keys_in}}
-use Rattle.rt_search.specs.Remaining.{put_all}
+use Rattle.rt_search.specs.{Joining.{join_node}, Remaining.{put_all}}
 use Rattle.rt_search.proofs.{Heaps.{pushed}, Limits.{put_beyond, enough_same}, Merging.{length-queued, put-put_all}}
 use Rattle.rt_search.proofs.{OrderedLists.{put_all-put}, Orders.{item_order}}
 use Rattle.rt_search.specs.declared.item.Place.TheVariants as place
@@ -33,22 +33,27 @@ invariant_of-self c =
 
 pub returns-then-is_beyond : goal.returns-then-is_beyond
 returns-then-is_beyond c =
-    let x = item_at c.args.score (place.Node c.args.node) in
-    put_beyond x (keys_in c.self.inside.nodes) c.self.inside.entries.items c.self.inside.wide.items _
-    (rw (← c.self.view_is) (c.if-is_beyond.ensures refl x refl)) (ap (λ v. v.items) c.self.view_is)
+    let x = item_at c.args.verdict.score (place.Node (record { number = c.args.number; is_full = c.eq-is_full.result })) in
+    let joins : join_node c.args.verdict c.args.number.number c.args.self.now.items ≡ put item_cmp x c.args.self.now.items =
+    search rules in
+    rw joins (put_beyond x (keys_in c.self.inside.nodes) c.self.inside.entries.items c.self.inside.wide.items _
+    (rw (← c.self.view_is) (c.if-is_beyond.ensures refl x refl)) (ap (λ v. v.items) c.self.view_is))
 
 pub returns : goal.returns
 returns c =
+    let x = item_at c.args.verdict.score (place.Node (record { number = c.args.number; is_full = c.eq-is_full.result })) in
+    let joins : join_node c.args.verdict c.args.number.number c.args.self.now.items ≡ put item_cmp x c.args.self.now.items =
+    search rules in
     let nodes = in_order node_item (keys_in c.self.inside.nodes) in
     let entries = c.self.inside.entries.items in
     let wide = c.self.inside.wide.items in
-    record {
+    rw joins (record {
       items = enough_same c.args.self.now.wanted _ _
           (ap (λ xs. put_all item_cmp wide (put_all item_cmp xs entries))
           (pushed node_item _ _ _ c.put.ensures.keys ∙ ap (λ x. put item_cmp x nodes) c.node_key.ensures)
           ∙ ap (put_all item_cmp wide) (put-put_all item_cmp item_order _ nodes entries)
           ∙ put_all-put item_cmp item_order wide _ (put_all item_cmp nodes entries)
-          ∙ ap (λ w. put item_cmp (item_at c.args.score (place.Node c.args.node)) w.items) c.self.view_is);
+          ∙ ap (λ w. put item_cmp x w.items) c.self.view_is);
       wanted = ap (λ w. w.wanted) c.self.view_is;
       capacity = ap (λ w. w.capacity) c.self.view_is;
-    }
+    })

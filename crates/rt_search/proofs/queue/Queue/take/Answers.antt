@@ -1,4 +1,4 @@
-use Rattle.std.proofs.Common.{◌≤◌, ◌^◌, length, ◌∙◌, ap, sym, subst}
+use Rattle.std.proofs.Common.{◌≤◌, rules, ◌^◌, length, ◌∙◌, ap, sym, subst}
 use Rattle.rt_search.specs.{Items.{item_cmp}, Kept.{IsTakenOut, in_order, node_item, taken_item}, Pooling.{keys_in}}
 use Rattle.rt_search.specs.Remaining.{put_all}
 use Rattle.rt_search.proofs.{Limits.{none_merged, still_none}, Merging.{taken_right, wide_ahead}}
@@ -18,16 +18,20 @@ invariant_of-self c =
       high = k.high;
     }
 
-pub returns-then-is_any-clause-taken : goal.returns-then-is_any-clause-taken
-returns-then-is_any-clause-taken c =
+pub returns-then-is_any : goal.returns-then-is_any
+returns-then-is_any c =
     let r = taken_item c.take_narrow-taken.result in
     let e = c.take_narrow-taken.ensures in
     let old = put_all item_cmp (in_order node_item (keys_in c.self.inside.nodes)) c.self.inside.entries.items in
     let new = put_all item_cmp (in_order node_item (keys_in c.take_narrow-taken.new.nodes)) c.take_narrow-taken.new.entries.items in
     let wide = c.self.inside.wide.items in
-    subst (λ w. IsTakenOut r w.items (put_all item_cmp wide new)) c.self.view_is
-    (taken_right r wide old new e.taken
-    (narrow_ahead r old new wide c.if-is_any.ensures e.taken e.low c.self.invariant.high))
+    record {
+      taken = subst (λ w. IsTakenOut r w.items (put_all item_cmp wide new)) c.self.view_is
+          (taken_right r wide old new e.taken
+          (narrow_ahead r old new wide c.if-is_any.ensures e.taken e.low c.self.invariant.high));
+      wanted = search rules;
+      capacity = search rules;
+    }
 
 pub take_wide-requires : goal.take_wide-requires
 take_wide-requires c =
@@ -55,8 +59,8 @@ invariant_of-self-2 c =
       high = left-all (λ x. 2 ^ 64 ≤ x.score) r wide c.take_wide.new.wide.items w.taken k.high;
     }
 
-pub returns-clause-taken : goal.returns-clause-taken
-returns-clause-taken c =
+pub returns : goal.returns
+returns c =
     let r = taken_item c.take_wide.result in
     let e = c.take_narrow-taken.ensures in
     let w = c.take_wide.ensures in
@@ -66,6 +70,10 @@ returns-clause-taken c =
     let rest = put_all item_cmp nodes c.take_wide.new.entries.items in
     let none = none_taken (taken_item c.take_narrow-taken.result) _ _ c.if-is_any.ensures e.taken in
     let empty = still_none nodes c.take_narrow-taken.new.entries.items c.take_wide.new.entries.items none.1 w.entries in
-    subst (λ l. IsTakenOut r l (put_all item_cmp new rest))
-    (ap (put_all item_cmp wide) (empty ∙ sym none.0) ∙ ap (λ w. w.items) c.self.view_is)
-    (taken_left r wide new rest w.taken (wide_ahead rest wide empty))
+    record {
+      taken = subst (λ l. IsTakenOut r l (put_all item_cmp new rest))
+          (ap (put_all item_cmp wide) (empty ∙ sym none.0) ∙ ap (λ w. w.items) c.self.view_is)
+          (taken_left r wide new rest w.taken (wide_ahead rest wide empty));
+      wanted = search rules;
+      capacity = search rules;
+    }

@@ -1,0 +1,58 @@
+use Rattle.std.proofs.{Common.{◌≤◌, ◌+◌, length, arith, refl, ℤ, ◌∙◌, ap, rules, subst, w64}, lemmas.Int.{to_z-of_z}}
+use Rattle.rt_tree.specs.Sorting.{put}
+use Rattle.rt_search.specs.{Items.{item_at, item_cmp}, Kept.{in_order, node_item, queued}, Pooling.{keys_in}}
+use Rattle.rt_search.specs.{Limits.{IsEnough}, Remaining.{put_all}}
+use Rattle.rt_search.proofs.{Limits.{enough_fits, enough_joined}, Merging.{length-queued}}
+use Rattle.rt_search.specs.declared.item.Place.TheVariants as place
+use Rattle.rt_search.proofs.queue.QueueCollector.visit_entry.Goals as goal
+
+pub put-requires : goal.put-requires
+put-requires c =
+    let h = rw (← c.self.view_is) at c.requires in
+    let long = length-queued (keys_in c.self.inside.nodes) c.self.inside.entries.items c.self.inside.wide.items in
+    omega arith
+
+pub invariant_of-self : goal.invariant_of-self
+invariant_of-self c =
+    let h = rw (← c.self.view_is) at c.requires in
+    let k = c.self.invariant in
+    let e = c.put.ensures in
+    let nodes = keys_in c.self.inside.nodes in
+    let long = length-queued nodes c.self.inside.entries.items c.self.inside.wide.items in
+    let longer = length-queued nodes c.put.new.self.items c.self.inside.wide.items in
+    let one_more : length c.put.new.self.items ≤ length c.self.inside.entries.items + 1 =
+    enough_fits c.self.inside.entries.wanted _ c.self.inside.entries.items _ (length c.self.inside.entries.items + 1)
+    e.items (omega arith) in
+    record {
+      nodes_room = k.nodes_room;
+      entries_room = e.capacity ∙ k.entries_room;
+      wide_room = k.wide_room;
+      few = omega arith;
+      low = k.low;
+      high = k.high;
+    }
+
+pub returns : goal.returns
+returns c =
+    let w = c.self.inside.entries.wanted in
+    let nodes = in_order node_item (keys_in c.self.inside.nodes) in
+    let wide = c.self.inside.wide.items in
+    let old = c.self.inside.entries.items in
+    let new = c.put.new.self.items in
+    let at : ℤ → _ = λ i. item_at c.args.score (place.Entry i) in
+    let e = c.put.ensures in
+    rw c.if-not-is_accepted.false (
+      _,
+      (
+        record {
+          items = subst (λ v. IsEnough v.wanted (queued (keys_in c.self.inside.nodes) new wide)
+              (put item_cmp (at c.args.id) v.items)) c.self.view_is
+              (enough_joined w (at c.args.id) wide (put_all item_cmp nodes old) (put_all item_cmp nodes new)
+              (enough_joined w (at c.args.id) nodes old new
+              (subst (λ i. IsEnough w new (put item_cmp (at i) old)) (to_z-of_z w64 c.args.id (search rules)) e.items)));
+          wanted = e.wanted ∙ ap (λ w. w.wanted) c.self.view_is;
+          capacity = ap (λ w. w.capacity) c.self.view_is;
+        },
+        refl,
+      ),
+    )
