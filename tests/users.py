@@ -78,15 +78,19 @@ def side_by_side(args):
 
     def run(name):
         command = [sys.executable, __file__, args.program, *options, "--only", name]
-        return subprocess.run(command, stdout=subprocess.PIPE, stderr=subprocess.STDOUT, text=True)
+        # (into a file: a pipe would end no sooner than a process that a test has left behind)
+        with tempfile.TemporaryFile("w+", encoding="utf-8", errors="replace") as told:
+            status = subprocess.run(command, stdout=told, stderr=subprocess.STDOUT).returncode
+            told.seek(0)
+            return status, told.read().splitlines()
 
     passed = failed = 0
     with ThreadPoolExecutor(AT_ONCE) as threads:
-        for name, done in zip(TESTS, threads.map(run, TESTS)):
-            *lines, last = done.stdout.splitlines() or [""]
+        for name, (status, told) in zip(TESTS, threads.map(run, TESTS)):
+            *lines, last = told or [""]
             print("".join(f"{line}\n" for line in lines), end="", flush=True)
             if (numbers := re.fullmatch(r"(\d+) passed, (\d+) failed", last)) is None:
-                print(last, f"FAIL {name}: ended with status {done.returncode}", sep="\n", flush=True)
+                print(last, f"FAIL {name}: ended with status {status}", sep="\n", flush=True)
             passed += int(numbers[1]) if numbers else 0
             failed += int(numbers[2]) if numbers else 1
     print(f"{passed} passed, {failed} failed")
