@@ -1,7 +1,7 @@
 //! Where answers go.
 
-ghost use Rattle.std.specs.Prelude.{◌≡◌, ◌+◌, ◌-◌, ◌<◌, ◌≤◌, ◌^◌, ℕ, Bool, List, Option, IfOk, OnOk, OnErr, false, length};
-ghost use Rattle.std.specs.Io.KnownBytes.{Keeps};
+ghost use Rattle.std.specs.{Io.KnownBytes.{Keeps}, Prelude.{◌≡◌, ◌+◌, ◌-◌, ◌<◌, ◌≤◌, ◌^◌, ℕ, Bool, List, Option, IfOk}};
+ghost use Rattle.std.specs.Prelude.{OnOk, OnErr, false, length};
 ghost use Rattle.rt_device.specs.Devices.{IsSameIfTold, Pushes};
 
 /// A push or a flush that failed.

@@ -1,7 +1,7 @@
 //! Room in memory as a sink.
 
-ghost use Rattle.std.specs.Prelude.{◌≡◌, ◌+◌, ◌-◌, ◌<◌, ◌≤◌, ◌^◌, ◌↔◌, ◌||◌, [], Some, IfOk, IsErr, nat_lt, OnOk, OnErr, length, min, unwrap_or, if◌then◌else◌, true, false};
-ghost use Rattle.std.specs.Io.KnownBytes.{Keeps};
+ghost use Rattle.std.specs.{Io.KnownBytes.{Keeps}, Prelude.{◌≡◌, ◌+◌, ◌-◌, ◌<◌, ◌≤◌, ◌^◌, ◌↔◌, ◌||◌, [], Some, IfOk}};
+ghost use Rattle.std.specs.Prelude.{IsErr, nat_lt, OnOk, OnErr, length, min, unwrap_or, if◌then◌else◌, true, false};
 ghost use Rattle.std.specs.Result.{result_unwrap_or};
 ghost use Rattle.rt_device.specs.Devices.{IsSameIfTold, Pushes};
 

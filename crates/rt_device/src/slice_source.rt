@@ -1,6 +1,7 @@
 //! Bytes in memory as a source.
 
-ghost use Rattle.std.specs.Prelude.{◌≡◌, ◌+◌, ◌-◌, ◌<◌, ◌≤◌, ◌^◌, ◌↔◌, Some, IfOk, IsErr, OnOk, OnErr, length, min, unwrap_or};
+ghost use Rattle.std.specs.Prelude.{◌≡◌, ◌+◌, ◌-◌, ◌<◌, ◌≤◌, ◌^◌, ◌↔◌, Some, IfOk, IsErr, OnOk, OnErr, length, min};
+ghost use Rattle.std.specs.Prelude.{unwrap_or};
 ghost use Rattle.rt_device.specs.Devices.{PulledTimes, Pulls};
 
 use crate::source::{ReadFault, Source};

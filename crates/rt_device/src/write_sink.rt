@@ -1,8 +1,7 @@
 //! A writer of std as a sink.
 
+ghost use Rattle.std.specs.{Io.KnownBytes.{Keeps}, Result.{result_unwrap_or}};
 ghost use Rattle.std.specs.Prelude.{◌≡◌, ◌+◌, ◌-◌, ◌<◌, ◌≤◌, ◌^◌, ◌||◌, IfOk, nat_lt, OnOk, OnErr, false, length};
-ghost use Rattle.std.specs.Io.KnownBytes.{Keeps};
-ghost use Rattle.std.specs.Result.{result_unwrap_or};
 ghost use Rattle.rt_device.specs.Devices.{IsSameIfTold, Pushes};
 
 use crate::sink::{Sink, WriteFault};
