@@ -1,5 +1,5 @@
 -- The lines of the answers, one after the other.
-use Rattle.std.proofs.Common.{◌≡◌, ◌<◌, ◌≤◌, ℕ, ℤ, List, ◌∷◌, ◌++◌, length, Option, Some, None, ap, arith}
+use Rattle.std.proofs.Common.{◌≡◌, ◌<◌, ◌≤◌, ℕ, ℤ, List, ◌∷◌, ◌++◌, length, Option, Some, None, ap, arith, append_assoc}
 use Rattle.std.proofs.lemmas.List.Concat.{flat_map-cons}
 use Rattle.std.proofs.lemmas.List.{length-take}
 use Rattle.std.proofs.lemmas.List.Sorted.{length_permutation}
@@ -7,7 +7,7 @@ use Rattle.rt_geo.specs.Laws.{Meaning}
 use Rattle.rt_geo.specs.declared.entry.Entry.{Entry}
 use Rattle.rt_tree.specs.Sorting.{limited, sorted}
 use Rattle.rt_tree.proofs.SortingLemmas.{IsPermutation-sorted}
-use Rattle.rt_text.specs.ReplyLines.{answer_line}
+use Rattle.rt_text.specs.ReplyLines.{answer_line, ok_line}
 use Rattle.rt_search.specs.Answers.{Answer, answer_cmp, answers, scored}
 use Rattle.rt_search.proofs.Giving.{length-scored}
 use Rattle.rt_filter.specs.Pushes.{WasCut, WasPushed, answer_lines}
@@ -30,17 +30,18 @@ pub few_answers : (entries : List Entry) (meaning : Meaning) (limit : Option ℕ
 few_answers entries meaning limit found n most is size few =
     omega (arith, ap length is, size, few, length-answers entries meaning limit)
 
-module _ (all : List ℕ) (old mid new : Option (List ℕ)) (id : ℤ) (score : ℕ) (found more : List Answer) where
-  first : found ≡ (id, score) ∷ more → AllBut all old mid (answer_lines found)
-      → AllBut all old mid (answer_line id score ++ answer_lines more)
-  first is p = rw (is, flat_map-cons (λ (answer : Answer). answer_line answer.0 answer.1) (id, score) more) at p
+-- what is left of a reply: the lines of these answers, and the number of all
+abbrev pub reply_left : (line count : ℕ) → List Answer → List ℕ
+reply_left line count found = answer_lines found ++ ok_line line count
+
+module _ (all : List ℕ) (old mid new : Option (List ℕ)) (line count : ℕ) (id : ℤ) (score : ℕ) (found more : List Answer) (is : found ≡ (id, score) ∷ more) (left : AllBut all old mid (reply_left line count found)) where
+  next : AllBut all old mid (answer_line id score ++ reply_left line count more)
+  next = rw (is, flat_map-cons (λ (answer : Answer). answer_line answer.0 answer.1) (id, score) more, append_assoc (answer_line id score) (answer_lines more) (ok_line line count)) at left
 
   -- the line of the next answer was pushed
-  pub answer_pushed : found ≡ (id, score) ∷ more → AllBut all old mid (answer_lines found) → WasPushed mid new (answer_line id score)
-      → AllBut all old new (answer_lines more)
-  answer_pushed is p h = pushed_next all (answer_line id score) (answer_lines more) old mid new (first is p) h
+  pub answer_pushed : WasPushed mid new (answer_line id score) → AllBut all old new (reply_left line count more)
+  answer_pushed h = pushed_next all (answer_line id score) (reply_left line count more) old mid new next h
 
   -- it was cut short
-  pub answer_cut : found ≡ (id, score) ∷ more → AllBut all old mid (answer_lines found) → WasCut mid new (answer_line id score)
-      → WasCut old new all
-  answer_cut is p h = pushed_cut all (answer_line id score) (answer_lines more) old mid new (first is p) h
+  pub answer_cut : WasCut mid new (answer_line id score) → WasCut old new all
+  answer_cut h = pushed_cut all (answer_line id score) (reply_left line count more) old mid new next h

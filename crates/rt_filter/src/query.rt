@@ -36,7 +36,22 @@ pub(crate) fn push_reply<K: Sink>(
     ensures capacity { IfOk result (λ left. left.capacity ≡ frontier.capacity) }
 {
     match query {
-        Query::Boxes(asked) => push_report(tree, frontier, line, asked, sink),
+        Query::Boxes(asked) => {
+            // (called, so that it is known which layers the entries have)
+            let _most = tree.len();
+            // (all layers are those of all entries: none is checked)
+            if asked.layers.bits() == u64::MAX {
+                return push_in_region(tree, frontier, line, asked, sink);
+            }
+            let BoxQuery {
+                region: shape,
+                layers,
+                order,
+                report,
+            } = asked;
+            let shape = OnLayers { shape, layers };
+            push_in_shape(tree, frontier, line, shape, order, report, sink)
+        }
         Query::Cost(asked) => push_cost(tree, frontier, line, asked, sink),
         Query::Levels => {
             push_levels(tree, line, sink)?;
@@ -59,9 +74,10 @@ fn push_levels<K: Sink>(tree: &Tree, line: u128, sink: &mut K) -> Result<(), Wri
     push_line(&ok_line(line, u64::from(count)), sink)
 }
 
-// Pushes the report on boxes.
+// Pushes the report on the boxes of a region on all layers. A polygon is prepared where it can be, and a circle whose
+// order is by the distance from its centre takes one distance for both.
 #[inline(always)]
-fn push_report<K: Sink>(
+fn push_in_region<K: Sink>(
     tree: &Tree,
     frontier: Frontier,
     line: u128,
@@ -71,45 +87,15 @@ fn push_report<K: Sink>(
     requires room { length tree.now.entries ≤ frontier.capacity }
     requires count { K.failed sink.old < 2 ^ 64 - 1 }
     ensures pushed { Pushed K.written K.failed sink.old sink.new result
-        (query_reply (loaded_tree tree.now) line (Query.Boxes asked.entry)) }
+        (report_on tree.now.entries (region_accepts asked.entry.region) line asked.entry.order asked.entry.report) }
     ensures capacity { IfOk result (λ left. left.capacity ≡ frontier.capacity) }
 {
-    // (called, so that it is known which layers the entries have)
-    let _most = tree.len();
     let BoxQuery {
         region,
-        layers,
         order,
         report,
+        ..
     } = asked;
-    if layers.bits() == u64::MAX {
-        return push_in_region(tree, frontier, line, region, order, report, sink);
-    }
-    let shape = OnLayers {
-        shape: region,
-        layers,
-    };
-    push_in_shape(tree, frontier, line, shape, order, report, sink)
-}
-
-// The same on all layers, which are those of all entries: none is checked. A polygon is prepared where it can be, and a
-// circle whose order is by the distance from its centre takes one distance for both.
-#[inline(always)]
-fn push_in_region<K: Sink>(
-    tree: &Tree,
-    frontier: Frontier,
-    line: u128,
-    region: Region<'_>,
-    order: Order,
-    report: Report,
-    sink: &mut K,
-) -> Result<Frontier, WriteFault>
-    requires room { length tree.now.entries ≤ frontier.capacity }
-    requires count { K.failed sink.old < 2 ^ 64 - 1 }
-    ensures pushed { Pushed K.written K.failed sink.old sink.new result
-        (report_on tree.now.entries (region_accepts region.entry) line order report) }
-    ensures capacity { IfOk result (λ left. left.capacity ≡ frontier.capacity) }
-{
     match region {
         Region::All(shape) => push_in_shape(tree, frontier, line, shape, order, report, sink),
         Region::Window(shape) => push_in_shape(tree, frontier, line, shape, order, report, sink),
@@ -154,7 +140,7 @@ fn push_in_shape<S: Shape + Drop, K: Sink>(
     match order {
         Order::ById(rank) => {
             let geometry = Guided { shape, rank };
-            find_unscored(tree, frontier, line, geometry, limit, sink)
+            find(tree, frontier, line, geometry, true, limit, sink)
         }
         Order::Near(rank) => {
             let geometry = Guided { shape, rank };
@@ -162,7 +148,7 @@ fn push_in_shape<S: Shape + Drop, K: Sink>(
         }
         Order::Smallest(rank) => {
             let geometry = Guided { shape, rank };
-            find_unscored(tree, frontier, line, geometry, limit, sink)
+            find(tree, frontier, line, geometry, true, limit, sink)
         }
     }
 }
@@ -189,8 +175,8 @@ fn push_count<S: Shape + Drop, K: Sink>(
     Ok(frontier)
 }
 
-// Pushes a line for each answer of one geometry, and then their number. Where all are wanted, all are found first. Where
-// each node scores 0, as in the orders by id and by area, all nodes that may hold answers are opened first.
+// Pushes a line for each answer of one geometry, and then their number. Where all are wanted, or more than a few and each
+// node scores 0, as in the orders by id and by area, all are found first.
 fn find<G: Geometry + Drop, K: Sink>(
     tree: &Tree,
     frontier: Frontier,
@@ -212,57 +198,16 @@ fn find<G: Geometry + Drop, K: Sink>(
     let counted = Counted::new(&geometry);
     match limit {
         None => push_search(FullSearch::start(tree, frontier, counted), line, sink),
-        Some(_) if is_unscored => push_search(
-            Search::start_unscored(tree, frontier, counted, limit),
-            line,
-            sink,
-        ),
+        Some(most) if is_unscored && FEW < most => {
+            let search = FullSearch::start(tree, frontier, counted).first(most);
+            push_search(search, line, sink)
+        }
+        Some(_) if is_unscored => {
+            let search = Search::start_unscored(tree, frontier, counted, limit);
+            push_search(search, line, sink)
+        }
         Some(_) => push_search(Search::start(tree, frontier, counted, limit), line, sink),
     }
-}
-
-// The same where each node scores 0: where more than a few are wanted, all are found first.
-fn find_unscored<G: Geometry + Drop, K: Sink>(
-    tree: &Tree,
-    frontier: Frontier,
-    line: u128,
-    geometry: G,
-    limit: Option<u64>,
-    sink: &mut K,
-) -> Result<Frontier, WriteFault>
-    requires room { length tree.now.entries ≤ frontier.capacity }
-    requires count { K.failed sink.old < 2 ^ 64 - 1 }
-    requires unscored { IsUnscored (G.meaning geometry) }
-    ensures pushed { Pushed K.written K.failed sink.old sink.new result
-        (find_reply line (answers tree.now.entries (G.meaning geometry) limit)) }
-    ensures capacity { IfOk result (λ left. left.capacity ≡ frontier.capacity) }
-{
-    match limit {
-        Some(most) if FEW < most => find_many(tree, frontier, line, geometry, most, sink),
-        _ => find(tree, frontier, line, geometry, true, limit, sink),
-    }
-}
-
-// Pushes the first so many answers, once all are found. Out of line, so that other searches stay small.
-#[inline(never)]
-fn find_many<G: Geometry + Drop, K: Sink>(
-    tree: &Tree,
-    frontier: Frontier,
-    line: u128,
-    geometry: G,
-    most: u64,
-    sink: &mut K,
-) -> Result<Frontier, WriteFault>
-    requires room { length tree.now.entries ≤ frontier.capacity }
-    requires count { K.failed sink.old < 2 ^ 64 - 1 }
-    ensures pushed { Pushed K.written K.failed sink.old sink.new result
-        (find_reply line (answers tree.now.entries (G.meaning geometry) (Some most))) }
-    ensures capacity { IfOk result (λ left. left.capacity ≡ frontier.capacity) }
-{
-    // (called, so that it is known that the number of answers fits)
-    let _most = tree.len();
-    let search = FullSearch::start(tree, frontier, Counted::new(&geometry));
-    push_search(search.first(most), line, sink)
 }
 
 // Pushes how many nodes a report on boxes opens.

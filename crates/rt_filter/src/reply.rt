@@ -26,7 +26,7 @@ pub(crate) fn push_line<K: Sink>(line: &Line, sink: &mut K) -> Result<(), WriteF
 }
 
 /// Pushes a line for each answer that a search is still to give, and then their number.
-pub(crate) fn push_search<A: AnswerStream, K: Sink>(
+pub(crate) fn push_search<A: AnswerStream + Drop, K: Sink>(
     search: A,
     line: u128,
     sink: &mut K,
@@ -38,32 +38,15 @@ pub(crate) fn push_search<A: AnswerStream, K: Sink>(
 {
     let mut search = search;
     let mut text = Line::new(b"");
-    let pushed = push_answers(&mut search, &mut text, sink);
-    let frontier = search.into_frontier();
-    set_ok_line(&mut text, line, pushed?);
-    push_line(&text, sink)?;
-    Ok(frontier)
-}
-
-// Pushes a line for each of these answers, as it is given, and returns how many there were. All lines use one buffer.
-fn push_answers<A: AnswerStream, K: Sink>(
-    search: &mut A,
-    text: &mut Line,
-    sink: &mut K,
-) -> Result<u64, WriteFault>
-    requires few { length (A.to_come search.old) < 2 ^ 32 }
-    requires count { K.failed sink.old < 2 ^ 64 - 1 }
-    ensures pushed { Pushed K.written K.failed sink.old sink.new result (answer_lines (A.to_come search.old)) }
-    ensures many { IfOk result (λ found. found ≡ length (A.to_come search.old)) }
-    ensures capacity { A.capacity search.new ≡ A.capacity search.old }
-{
     let mut found: u64 = 0;
     while let Some((id, score)) = search.next_answer() {
-        set_answer_line(text, id, score);
-        push_line(text, sink)?;
+        set_answer_line(&mut text, id, score);
+        push_line(&text, sink)?;
         found += 1;
     }
-    Ok(found)
+    set_ok_line(&mut text, line, found);
+    push_line(&text, sink)?;
+    Ok(search.into_frontier())
 }
 
 /// A search that gives its answers one at a time.

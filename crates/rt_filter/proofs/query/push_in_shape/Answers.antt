@@ -1,13 +1,13 @@
 use Rattle.rt_filter.proofs.query.push_in_shape.Goals as goal
 
 pub returns-in-ById-clause-pushed : goal.returns-in-ById-clause-pushed
-returns-in-ById-clause-pushed g c = rw (c.in-Answers.is, c.in-ById.is) c.find_unscored.ensures.pushed
+returns-in-ById-clause-pushed g c = rw (c.in-Answers.is, c.in-ById.is) c.find.ensures.pushed
 
 pub returns-in-Near-clause-pushed : goal.returns-in-Near-clause-pushed
-returns-in-Near-clause-pushed g c = rw (c.in-Answers.is, c.in-Near.is) c.find.ensures.pushed
+returns-in-Near-clause-pushed g c = rw (c.in-Answers.is, c.in-Near.is) c.find-in-Near.ensures.pushed
 
 pub returns-in-Smallest-clause-pushed : goal.returns-in-Smallest-clause-pushed
-returns-in-Smallest-clause-pushed g c = rw (c.in-Answers.is, c.in-Smallest.is) c.find_unscored-in-Smallest.ensures.pushed
+returns-in-Smallest-clause-pushed g c = rw (c.in-Answers.is, c.in-Smallest.is) c.find-in-Smallest.ensures.pushed
 
 pub returns-in-Count-clause-pushed : goal.returns-in-Count-clause-pushed
 returns-in-Count-clause-pushed g c = rw c.in-Count.is (c.push_count.ensures.pushed c.args.order)

@@ -1,13 +1,36 @@
-use Rattle.std.proofs.Common.{◌∙◌, ap, length}
-use Rattle.rt_text.specs.ReplyLines.{ok_line}
-use Rattle.rt_filter.specs.Pushes.{answer_lines}
-use Rattle.rt_filter.proofs.PushLemmas.{as_failed, pushed_after}
+use Rattle.std.proofs.Common.{◌≡◌, ◌∙◌, ◌+◌, ap, arith, length, rules}
+use Rattle.rt_text.specs.ReplyLines.{answer_line, ok_line}
+use Rattle.rt_filter.proofs.FindLemmas.{answer_cut, answer_pushed}
+use Rattle.rt_filter.proofs.PushLemmas.{as_failed, pushed_last}
 use Rattle.rt_filter.proofs.reply.push_search.Goals as goal
 
 pub returns-in_err-push_line-clause-pushed : goal.returns-in_err-push_line-clause-pushed
 returns-in_err-push_line-clause-pushed g c =
-    let found = g.A.AnswerStream.to_come c.args.search in
-    let text = c.set_ok_line.ensures ∙ ap (ok_line c.args.line) c.in_ok-pushed.ensures.many in
-    let result = c.from_residual-in_err-push_line.result in
-    pushed_after g.K.Sink.written g.K.Sink.failed _ c.push_answers-pushed.new.sink _ (answer_lines found) (ok_line c.args.line (length found)) result c.in_ok-pushed.ensures.pushed
-    (as_failed g.K.Sink.written g.K.Sink.failed _ c.push_line.new.sink _ result _ _ c.from_residual-in_err-push_line.ensures.1 (rw text at c.in_err-push_line.ensures.pushed))
+    let line : c.set_answer_line.new.text ≡ answer_line c.in-Some.id c.in-Some.score = search rules in
+    let cut = rw line at c.in_err-push_line.ensures.pushed in
+    as_failed g.K.Sink.written g.K.Sink.failed _ c.loop-id.sink _ c.from_residual.result _ _ c.from_residual.ensures.1 (
+      answer_cut _ _ _ _ _ _ c.in-Some.id c.in-Some.score _ _ c.in-Some.ensures.answer c.loop-id.invariant.pushed cut.0,
+      cut.1 ∙ ap (λ n. n + 1) c.loop-id.invariant.count,
+    )
+
+pub loop-id-preserved : goal.loop-id-preserved
+loop-id-preserved g c =
+    let line : c.set_answer_line.new.text ≡ answer_line c.in-Some.id c.in-Some.score = search rules in
+    let pushed = rw line at c.in_ok-push_line.ensures.pushed in record {
+      count = pushed.1 ∙ c.loop-id.invariant.count;
+      capacity = c.in-Some.ensures.capacity ∙ c.loop-id.invariant.capacity;
+      many = omega (arith, ap length c.in-Some.ensures.answer, c.loop-id.invariant.many);
+      pushed = answer_pushed _ _ _ _ _ _ c.in-Some.id c.in-Some.score _ _ c.in-Some.ensures.answer
+          c.loop-id.invariant.pushed pushed.0;
+    }
+
+pub returns-in_err-push_line-2-clause-pushed : goal.returns-in_err-push_line-2-clause-pushed
+returns-in_err-push_line-2-clause-pushed g c =
+    let all = g.A.AnswerStream.to_come c.args.search in
+    let left = rw c.in_default.ensures.answer at c.loop-id.invariant.pushed in
+    let many : c.loop-id.found ≡ length all =
+    omega (arith, ap length c.in_default.ensures.answer, c.loop-id.invariant.many) in
+    let cut = rw (c.set_ok_line.ensures ∙ ap (ok_line c.args.line) many) at c.in_err-push_line-2.ensures.pushed in
+    pushed_last g.K.Sink.written g.K.Sink.failed _ c.loop-id.sink _ _ (ok_line c.args.line (length all)) _ left
+    c.loop-id.invariant.count (as_failed g.K.Sink.written g.K.Sink.failed c.loop-id.sink c.loop-id.sink _
+    c.from_residual-in_err-push_line-2.result _ _ c.from_residual-in_err-push_line-2.ensures.1 cut)
