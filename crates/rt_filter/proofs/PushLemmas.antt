@@ -2,7 +2,6 @@
 use Rattle.std.proofs.Common.{◌≡◌, ◌∙◌, ◌+◌, ℕ, List, [], ◌∷◌, ◌++◌, length, take, drop, Option, Some, None, refl, sym, ap, arith, append_assoc, append-nil}
 use Rattle.std.specs.Prelude.{IfSome, IsErrAnd, MatchResult, Result, Ok, Err}
 use Rattle.std.specs.Io.{StartsWith}
-use Rattle.std.specs.Io.KnownBytes.{Appends}
 use Rattle.std.proofs.Math.Seq.{take-append-add, take-append_seam}
 use Rattle.std.proofs.lemmas.List.{append_cancel_left, length-append, take-append-drop}
 use Rattle.rt_device.specs.Devices.{IsSameIfTold}
@@ -49,19 +48,6 @@ pushed_next all next rest old mid new p h = record {
       );
 }
 
--- ---- a push of some of them
-
-appended : (old new : Option (List ℕ)) (bytes : List ℕ) → Appends old new bytes → WasPushed old new bytes
-appended None new bytes h = tt
-appended (Some xs) None bytes h = absurd h
-appended (Some xs) (Some ys) bytes h = ap (λ zs. Some zs) h
-
-pub pushed_more : (all : List ℕ) (old mid new : Option (List ℕ)) (rest left : List ℕ) (n : ℕ) → AllBut all old mid rest
-    → Appends mid new (take n rest) → left ≡ drop n rest → AllBut all old new left
-pushed_more all old mid new rest left n p h l =
-    let parts : AllBut all old mid (take n rest ++ drop n rest) = rw (take-append-drop n rest) p in
-    rw l (pushed_next all (take n rest) (drop n rest) old mid new parts (appended mid new (take n rest) h))
-
 -- ---- what was cut short
 
 -- the front of a list is a prefix of it
@@ -107,12 +93,6 @@ pub unmoved_same : (now : Option (List ℕ)) → IsSameIfTold now now
 unmoved_same None = tt
 unmoved_same (Some xs) = refl
 
--- a push took nothing
-pub pushed_nothing : (all : List ℕ) (old mid new : Option (List ℕ)) (rest : List ℕ) (n : ℕ) → AllBut all old mid rest
-    → Appends mid new (take n rest) → WasCut old new all
-pushed_nothing all old mid new rest n p h =
-    pushed_prefix all old new new (drop n rest) (pushed_more all old mid new rest (drop n rest) n p h refl) (unmoved_same new)
-
 -- what came out before, and then a prefix of the bytes: told by prefixes alone
 pub cut_told : (before bytes : List ℕ) (now : Option (List ℕ)) → WentPrefix before now bytes
     → IfSome now (λ written. StartsWith written before × StartsWith (before ++ bytes) written)
@@ -156,13 +136,6 @@ module _ {T E K : Type 0} (written : K → Option (List ℕ)) (failed : K → �
     pushed_cut all last [] _ _ _ (rw append-nil p) h.0,
     h.1 ∙ ap (λ n. n + 1) count,
   )
-
-  -- one push after the other
-  pub pushed_after : (first last : List ℕ) (r : Result T E)
-      → WasPushed (written old) (written mid) first × (failed mid ≡ failed old)
-      → Pushed written failed mid new r last → Pushed written failed old new r (first ++ last)
-  pushed_after first last r h k = pushed_last (first ++ last) last r
-      (pushed_next (first ++ last) first last _ _ _ (pushed_none (first ++ last) (written old)) h.0) h.1 k
 
 -- a push that is told by what was written alone
 pub pushed_told : {T E K : Type 0} (written : K → Option (List ℕ)) (failed : K → ℕ) (old new : K) (r : Result T E) (bytes : List ℕ)

@@ -5,13 +5,13 @@ use Rattle.std.proofs.lemmas.List.{length-append}
 use Rattle.rt_command.specs.Choices.{Choices}
 use Rattle.rt_geo.specs.declared.entry.Entry.{Entry}
 use Rattle.rt_text.specs.Steps.{◌>>=◌}
-use Rattle.rt_text.specs.Tables.{IsFaultOf, table_of}
+use Rattle.rt_text.specs.Tables.{table_of}
 use Rattle.rt_text.specs.declared.tables.TableFault.{TableFault}
 use Rattle.rt_text.specs.declared.tables.TableFault.TheVariants as load
 use Rattle.rt_tree.specs.Packed.{Packed}
 use Rattle.rt_tree.specs.Packing.{pack_of}
 use Rattle.rt_filter.specs.Endings.{ConsumedAtLeast, Ends, EndsWith, Happened, Serves, ServesWith, SinkTells, SourceTells, StillTells}
-use Rattle.rt_filter.specs.Faults.{run_fault, status_of}
+use Rattle.rt_filter.specs.Faults.{status_of}
 use Rattle.rt_filter.specs.Lines.{numbered_lines}
 use Rattle.rt_filter.specs.Replies.{Loaded, any_fault, output, tree_of}
 use Rattle.rt_filter.specs.Runs.{Run, loaded_of, run_of, run_over}
@@ -40,17 +40,6 @@ abbrev pub whole_run : (written : List ℕ) → (bad : Bool) → Run
 whole_run written bad = ended_with written None (if bad then 1 else 0)
 
 -- ---- the table was refused
-
-pub stops_refused : (choices : Choices) (table : List ℕ) (cause : TableFault)
-    → IsFaultOf cause (table_of table choices.header choices.max_entries) → Stops choices table (run_fault cause)
-stops_refused choices table load.Memory h = tt
-stops_refused choices table load.Read h = tt
-stops_refused choices table (load.TooMany n) h = ap (loaded_with choices) h
-stops_refused choices table (load.FieldCount n k) h = ap (loaded_with choices) h
-stops_refused choices table (load.NotNumber n k) h = ap (loaded_with choices) h
-stops_refused choices table (load.OutOfRange n k) h = ap (loaded_with choices) h
-stops_refused choices table (load.MinAboveMax n k) h = ap (loaded_with choices) h
-stops_refused choices table (load.Repeated n) h = ap (loaded_with choices) h
 
 -- ---- the table was loaded
 

@@ -109,16 +109,6 @@ heard-rest fed rest clear heard e =
 
 -- ---- what was answered
 
-pub answered-none : (loaded : Loaded) (heard : Heard) (out : Option (List ℕ)) (bytes : List ℕ) → IsAnswered loaded heard heard out out bytes bytes
-answered-none loaded heard out bytes = record {
-  front = [];
-  parts = refl;
-  so = λ fed e. (
-    rw append-nil e,
-    subst (λ ls. WasPushed out out (output loaded ls)) (sym (completed-none fed [] tt)) (pushed_same out),
-  );
-}
-
 module _ (loaded : Loaded) (old heard : Heard) (old_out out : Option (List ℕ)) (bytes rest : List ℕ) (s : IsAnswered loaded old heard old_out out bytes rest) where
   -- a line was answered
   module _ (n : ℕ) (at : IsFirstByte (is_byte line_feed) rest (Some n)) where

@@ -1,15 +1,15 @@
 -- What may be left out where a limit is known.
 use Rattle.std.proofs.Common.{◌≡◌, ◌≢◌, ◌≤◌, ◌<◌, ◌+◌, ◌-◌, ℕ, zero, suc, Bool, true, false, cond, Option, Some, None}
-use Rattle.std.proofs.Common.{List, Ordering, [], ◌∷◌, length, refl, sym, ◌∙◌, ap, subst, arith}
-use Rattle.std.specs.{Ordering.{is_gt}, declared.cmp.Reverse.{Reverse}}
+use Rattle.std.proofs.Common.{List, [], ◌∷◌, length, refl, sym, ◌∙◌, ap, subst, arith}
+use Rattle.std.specs.{Ordering.{is_gt}}
 use Rattle.rt_geo.specs.Laws.{Meaning}
 use Rattle.rt_geo.specs.declared.geometry.{Verdict.{Verdict}}
 use Rattle.rt_tree.specs.{Packed.{Packed, node_at}, Sorting.{put}}
-use Rattle.rt_search.specs.{Items.{Limited, item_at, item_cmp}, Work.{info_of_node, is_kept}, declared.item.Item.{Item}}
+use Rattle.rt_search.specs.{Items.{item_at, item_cmp}, Work.{info_of_node, is_kept}, declared.item.Item.{Item}}
 use Rattle.rt_search.specs.{Joining.{join_node, join_nodes}, declared.item.Place.{Place, TheVariants.{Node, Entry}}}
-use Rattle.rt_search.specs.{Kept.{IsRising, in_order, narrow, node_item, queued}, Remaining.{put_all, waiting_node}}
-use Rattle.rt_search.specs.Limits.{IsBehind, IsEnough, IsPut, entries_at, entries_before, front, front_of, less_at}
-use Rattle.rt_search.proofs.{SortedLists.{rising_put}, OrderedLists.{IsOrder, length-put, length-put_all, put_all-put}}
+use Rattle.rt_search.specs.{Kept.{IsRising}, Remaining.{put_all, waiting_node}}
+use Rattle.rt_search.specs.Limits.{IsEnough, entries_at, front, front_of, less_at}
+use Rattle.rt_search.proofs.{SortedLists.{rising_put}, OrderedLists.{length-put, length-put_all, put_all-put}}
 use Rattle.rt_search.proofs.Orders.{item_order}
 use Rattle.rt_tree.specs.declared.tree.Node as node
 
@@ -47,50 +47,6 @@ same_put : (x : Item) (xs ys : List Item) (wanted : Option ℕ) → front_of wan
 same_put x xs ys None h = ap (put item_cmp x) h
 same_put x xs ys (Some n) h = sym (front-put x xs n) ∙ ap (λ l. front (put item_cmp x l) n) h ∙ front-put x ys n
 
--- ---- what is behind the front
-
--- an item joins behind the front, or is left out
-pub left_out_behind : (x : Item) (xs : List Item) (n : ℕ) → n ≤ entries_before x xs
-    → front xs n ≡ front (put item_cmp x xs) n
-left_out_behind x [] zero h = refl
-left_out_behind x [] (suc n) h = absurd (omega arith)
-left_out_behind x (y ∷ ys) zero h = sym (front_zero (put item_cmp x (y ∷ ys)))
-left_out_behind x (y ∷ ys) (suc n) h =
-    let split : (b : Bool) → suc n ≤ cond b (entries_at y.place + entries_before x ys) 0
-    → front (y ∷ ys) (suc n) ≡ front (cond b (y ∷ put item_cmp x ys) (x ∷ y ∷ ys)) (suc n) = elim [
-      | true ↦ λ k. ap (λ l. y ∷ l) (left_out_behind x ys (suc n - entries_at y.place) (omega arith))
-      | false ↦ λ k. absurd (omega arith)
-    ] in
-    split (is_gt (item_cmp x y)) h
-
--- ---- how many entries stand before an item
-
-module _ (cmp : Item → Item → Ordering) (o : IsOrder cmp) (size : Item → ℕ) where
-  abbrev before : Item → List Item → ℕ
-  before x [] = 0
-  before x (y ∷ ys) = cond (is_gt (cmp x y)) (size y + before x ys) 0
-
-  before-put : (x z : Item) (ys : List Item) → before x (put cmp z ys) ≡ cond (is_gt (cmp x z)) (size z) 0 + before x ys
-  before-put x z [] = grind arith
-  before-put x z (y ∷ ys) = grind (arith, o.one_way, o.trans, before-put x z ys)
-
-abbrev pub here : Item → Item → ℕ
-here x z = cond (is_gt (item_cmp x z)) (entries_at z.place) 0
-
-pub entries_before-put : (x z : Item) (ys : List Item) → entries_before x (put item_cmp z ys)
-    ≡ here x z + entries_before x ys
-entries_before-put = before-put item_cmp item_order (λ z. entries_at z.place)
-
--- those in either of two lists stand before it in both
-pub before_right : (x : Item) (xs ys : List Item) → entries_before x ys ≤ entries_before x (put_all item_cmp xs ys)
-before_right x [] ys = omega arith
-before_right x (z ∷ xs) ys = omega (arith, entries_before-put x z (put_all item_cmp xs ys), before_right x xs ys)
-
-pub behind_right : (wanted : Option ℕ) (x : Item) (xs ys : List Item) → IsBehind wanted x ys
-    → IsBehind wanted x (put_all item_cmp xs ys)
-behind_right None x xs ys h = h
-behind_right (Some n) x xs ys h = omega (arith, before_right x xs ys)
-
 -- ---- enough is kept
 
 pub enough_itself : (wanted : Option ℕ) (xs : List Item) → IsEnough wanted xs xs
@@ -109,20 +65,6 @@ pub enough_put_all : (wanted : Option ℕ) (zs xs ys : List Item) → IsEnough w
 enough_put_all wanted [] xs ys h = h
 enough_put_all wanted (z ∷ zs) xs ys h =
     enough_put wanted z (put_all item_cmp zs xs) (put_all item_cmp zs ys) (enough_put_all wanted zs xs ys h)
-
-pub enough_without : (wanted : Option ℕ) (x : Item) (xs : List Item) → IsBehind wanted x xs
-    → IsEnough wanted xs (put item_cmp x xs)
-enough_without None x xs h = absurd h
-enough_without (Some n) x xs h = grind (arith, left_out_behind, length-put, item_order)
-
--- what is behind the entries is behind the whole queue
-pub put_beyond : (x : Item) (nodes : List (Reverse ℕ)) (entries wide : List Item) (v : Limited)
-    → IsBehind v.wanted x entries → queued nodes entries wide ≡ v.items → IsPut x v v
-put_beyond x nodes entries wide v h e =
-    let behind = behind_right v.wanted x (in_order node_item nodes) entries h in
-    let all = behind_right v.wanted x wide (narrow nodes entries) behind in
-    let items = enough_without v.wanted x v.items (subst (IsBehind v.wanted x) e all) in
-    record { items = items; wanted = refl; capacity = refl }
 
 pub enough_same : (wanted : Option ℕ) (xs ys : List Item) → xs ≡ ys → IsEnough wanted xs ys
 enough_same wanted xs ys e = subst (IsEnough wanted xs) e (enough_itself wanted xs)

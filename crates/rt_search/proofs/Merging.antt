@@ -8,7 +8,7 @@ use Rattle.rt_search.specs.{Items.{item_cmp}, Kept.{queued}, Remaining.{put_all}
 use Rattle.rt_search.specs.Kept.{IsAhead, IsEntry, IsFirstScore, IsLeast, IsNode, IsTakenOut, hits_in, narrow, offered}
 use Rattle.rt_search.proofs.{Heaps.{length-in_order}, Orders.{item_order, lower_before, node_before}}
 use Rattle.rt_search.proofs.{Elements.{all_both, all_map}, OrderedLists.{put_all-put, put_cases, put_least}}
-use Rattle.rt_search.proofs.OrderedLists.{IsOrder, length-put, length-put_all, put-all, put-put, put_all-all}
+use Rattle.rt_search.proofs.OrderedLists.{IsOrder, length-put, length-put_all, put-put, put_all-all}
 
 -- x joins the left list, or the whole
 pub put-put_all : {X : Type 0} (cmp : X → X → Ordering) (o : IsOrder cmp) (x : X) (xs zs : List X)
@@ -27,11 +27,6 @@ pub length-hits : (ids : List (Reverse ℤ)) (keys : List (Reverse ℕ)) (wide :
     ≡ length ids + length keys + length wide
 length-hits ids keys wide = grind (arith, length-merged, length-in_order)
 
--- one more fits
-pub joined_fits : (x : Item) (xs ys : List Item) (capacity : ℕ) → ys ≡ put item_cmp x xs → length xs < capacity
-    → length ys ≤ capacity
-joined_fits x xs ys capacity e h = rw e (omega (arith, length-put item_cmp item_order x xs))
-
 -- ---- an item that joins where it is wanted
 
 -- it joins the left list, or the right one, or the whole
@@ -39,11 +34,6 @@ pub offered_left : (b : Bool) (x : Item) (xs ys : List Item)
     → put_all item_cmp (offered b x xs) ys ≡ offered b x (put_all item_cmp xs ys)
 offered_left true x xs ys = put-put_all item_cmp item_order x xs ys
 offered_left false x xs ys = refl
-
-pub offered_right : (b : Bool) (x : Item) (xs ys : List Item)
-    → put_all item_cmp xs (offered b x ys) ≡ offered b x (put_all item_cmp xs ys)
-offered_right true x xs ys = put_all-put item_cmp item_order xs x ys
-offered_right false x xs ys = refl
 
 pub one_longer : (b : Bool) (x : Item) (xs ys : List Item) → ys ≡ offered b x xs → length ys ≤ length xs + 1
 one_longer true x xs ys e = omega (arith, ap length e, length-put item_cmp item_order x xs)
@@ -138,9 +128,3 @@ pub left-all : (P : Item → Type 0) (r : Option Item) (old new : List Item) →
     → AllByRecursion P old → AllByRecursion P new
 left-all P None old new t a = subst (AllByRecursion P) (sym t.1) tt
 left-all P (Some x) old new t a = (subst (AllByRecursion P) t.0 a).1
-
--- and with one that joins where it is wanted
-pub offered-all : (P : Item → Type 0) (b : Bool) (x : Item) (xs : List Item) → P x → AllByRecursion P xs
-    → AllByRecursion P (offered b x xs)
-offered-all P true x xs p a = put-all item_cmp item_order P x xs p a
-offered-all P false x xs p a = a

@@ -44,9 +44,6 @@ abbrev pub node_or : Option ScoredNode → Option Item → Option Item
 node_or None other = other
 node_or (Some n) other = Some (item_at n.score (Node n.node))
 
-abbrev pub taken_node : Option ScoredNode → Option Item
-taken_node node = node_or node None
-
 abbrev pub taken_entry : Option Answer → Option Item
 taken_entry None = None
 taken_entry (Some a) = Some (item_of a)

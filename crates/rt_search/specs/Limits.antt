@@ -1,8 +1,7 @@
 -- What has to wait where a limit is known. Nothing that a public call promises speaks of this.
-use Rattle.std.specs.Prelude.{◌≡◌, ◌+◌, ◌-◌, ◌≤◌, ℕ, zero, suc, if◌then◌else◌, Option, Some, None, List, [], ◌∷◌}
+use Rattle.std.specs.Prelude.{◌≡◌, ◌-◌, ◌≤◌, ℕ, zero, suc, Option, Some, None, List, [], ◌∷◌}
 use Rattle.std.specs.Prelude.{IfSome, drop, length, take, vec_capacity}
 use Rattle.std.specs.List.{AllByRecursion}
-use Rattle.std.specs.Ordering.{is_gt}
 use Rattle.std.specs.declared.cmp.Reverse.{Reverse}
 use Rattle.std.specs.declared.vec.Vec.{Vec}
 use Rattle.rt_tree.specs.Sorting.{put}
@@ -43,16 +42,6 @@ pub record KeepsEnough (all : List Item) (old new : Limited) : Type 0 where
 -- an item joined
 abbrev pub IsPut : Item → (old new : Limited) → Type 0
 IsPut x old new = KeepsEnough (put item_cmp x old.items) old new
-
--- how many entries stand before the place of x
-abbrev pub entries_before : Item → List Item → ℕ
-entries_before x [] = 0
-entries_before x (y ∷ ys) = if is_gt (item_cmp x y) then entries_at y.place + entries_before x ys else 0
-
--- all entries that are wanted stand before the place of x
-abbrev pub IsBehind : (wanted : Option ℕ) → Item → List Item → Type 0
-IsBehind None x items = ⊥
-IsBehind (Some n) x items = n ≤ entries_before x items
 
 -- how many are wanted once an entry was taken out
 abbrev pub one_less : (wanted : Option ℕ) → Option ℕ

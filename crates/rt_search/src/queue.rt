@@ -89,9 +89,6 @@ impl Queue {
             self.put_wide(score, Place::Node(node));
             return;
         }
-        if self.entries.is_beyond(score) {
-            return;
-        }
         self.nodes.put(node_key(score as u64, node));
     }
 
@@ -103,9 +100,6 @@ impl Queue {
         requires room { length self.old.items < self.old.capacity }
         ensures { IsPut (item_at score place) self.old self.new }
     {
-        if self.entries.is_beyond(score) {
-            return;
-        }
         self.wide.put(Item { score, place });
     }
 

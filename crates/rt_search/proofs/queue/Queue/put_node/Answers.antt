@@ -1,8 +1,8 @@
-use Rattle.std.proofs.{Common.{◌≡◌, ◌∙◌, ap, refl, arith, rules}, lemmas.List.Sorted.{length_permutation}}
+use Rattle.std.proofs.{Common.{◌≡◌, ◌∙◌, ap, arith, rules}, lemmas.List.Sorted.{length_permutation}}
 use Rattle.rt_tree.specs.Sorting.{put}
 use Rattle.rt_search.specs.{Items.{item_at, item_cmp}, Kept.{in_order, node_item}, Pooling.{keys_in}}
 use Rattle.rt_search.specs.{Joining.{join_node}, Remaining.{put_all}}
-use Rattle.rt_search.proofs.{Heaps.{pushed}, Limits.{put_beyond, enough_same}, Merging.{length-queued, put-put_all}}
+use Rattle.rt_search.proofs.{Heaps.{pushed}, Limits.{enough_same}, Merging.{length-queued, put-put_all}}
 use Rattle.rt_search.proofs.{OrderedLists.{put_all-put}, Orders.{item_order}}
 use Rattle.rt_search.specs.declared.item.Place.TheVariants as place
 use Rattle.rt_search.proofs.queue.Queue.put_node.Goals as goal
@@ -30,14 +30,6 @@ invariant_of-self c =
       low = k.low;
       high = k.high;
     }
-
-pub returns-then-is_beyond : goal.returns-then-is_beyond
-returns-then-is_beyond c =
-    let x = item_at c.args.verdict.score (place.Node (record { number = c.args.number; is_full = c.eq-is_full.result })) in
-    let joins : join_node c.args.verdict c.args.number.number c.args.self.now.items ≡ put item_cmp x c.args.self.now.items =
-    search rules in
-    rw joins (put_beyond x (keys_in c.self.inside.nodes) c.self.inside.entries.items c.self.inside.wide.items _
-    (rw (← c.self.view_is) (c.if-is_beyond.ensures refl x refl)) (ap (λ v. v.items) c.self.view_is))
 
 pub returns : goal.returns
 returns c =

@@ -1,6 +1,6 @@
-use Rattle.std.proofs.Common.{ap, refl, arith}
-use Rattle.rt_search.specs.{Items.{item_at}, Pooling.{keys_in}}
-use Rattle.rt_search.proofs.{Limits.{put_beyond, enough_same}, Merging.{length-queued, put-put_all}}
+use Rattle.std.proofs.Common.{arith}
+use Rattle.rt_search.specs.{Pooling.{keys_in}}
+use Rattle.rt_search.proofs.{Limits.{enough_same}, Merging.{length-queued, put-put_all}}
 use Rattle.rt_search.proofs.{OrderedLists.{length-put, put-all}, Orders.{item_order}}
 use Rattle.rt_search.proofs.queue.Queue.put_wide.Goals as goal
 
@@ -12,12 +12,6 @@ put-requires c =
 
 pub invariant_of-self : goal.invariant_of-self
 invariant_of-self c = grind (arith, length-queued, length-put, item_order, put-all)
-
-pub returns-then-is_beyond : goal.returns-then-is_beyond
-returns-then-is_beyond c =
-    let x = item_at c.args.score c.args.place in
-    put_beyond x (keys_in c.self.inside.nodes) c.self.inside.entries.items c.self.inside.wide.items _
-    (rw (← c.self.view_is) (c.if-is_beyond.ensures refl x refl)) (ap (λ v. v.items) c.self.view_is)
 
 pub returns : goal.returns
 returns c = grind (arith, enough_same, put-put_all, item_order)
