@@ -4,8 +4,9 @@
 usage: tests/random_runs.py PROGRAM [--first SEED] [--seeds N]
 
 `reading.expected` says what a run gives. Each seed is a test of `RUNS` runs, whose tables are mostly sound and whose
-query lines are at fault as often as not, and of `COST_RUNS` whose lines ask what queries cost, without a limit and with
-limits below, at and above the number of answers. One more test is that the runs meet each form of the language and each
+query lines are at fault as often as not, of `COST_RUNS` whose lines ask what queries cost, without a limit and with
+limits below, at and above the number of answers, and of `LIMIT_RUNS` over many boxes with limits about those at which
+answers are kept in another way. One more test is that the runs meet each form of the language and each
 fault often enough, and faults at least as often as answers. The last line is `N passed, M failed`.
 """
 
@@ -22,7 +23,7 @@ sys.dont_write_bytecode = True
 import reading
 from reading import FAULTS, LONGEST_LINE, MARK
 
-RUNS, COST_RUNS = 40, 8
+RUNS, COST_RUNS, LIMIT_RUNS = 40, 8, 2
 MOST_ENTRIES = 16777216
 FANOUTS = [2, 3, 16, 64]
 
@@ -72,6 +73,7 @@ ENDS = [b"\n", b"\r\n", b"\r", b"\n\n"]
 # Some are a power of a fanout, or one more.
 SIZES = [0, 1, 2, 3, 4, 9, 10, 16, 17, 50, 64, 65, 150]
 COST_SIZES = [0, 1, 4, 17, 50, 65, 150, 200]
+MANY_SIZES = [130, 400, 900, 1500]
 QUOTED = [b'""', b'"1"2', b'1"2', b'"1\n"', b'"1,2"', b'"a""b"', b'"']
 
 
@@ -138,6 +140,13 @@ def some_small_boxes(chance):
     return b"".join(b",".join(map(b"%d".__mod__, row)) + b"\n" for row in rows)
 
 
+def some_many_boxes(chance):
+    """A sound table of many boxes, whose ids lie close together or far apart; now and then one is at the ends."""
+    apart = chance.choice([1, 2**52])
+    ids = chance.sample(range(-1000, 1000), chance.choice(MANY_SIZES))
+    return b"".join(b"%d,%d,%d,%d,%d\n" % (id * apart, *box(chance)) for id in ids)
+
+
 # ---- query lines
 
 REGIONS = [b"all", b"window", b"inside", b"covers", b"circle", b"polygon"]
@@ -193,6 +202,10 @@ def some_region(chance):
 
 def some_limit(chance):
     return written(chance, chance.choice([0, 1, 1, 2, 3, 5, 20, 2**64 - 1]))
+
+
+# Few are kept in order as they are found, up to 64 or 128; of many those behind a sample's bound are given up.
+FEW_AND_MANY = [n + d for n in (64, 128) for d in (-1, 0, 1)] + [255, 256, 257, 350, 700]
 
 
 # Lists at fault: an empty part, one that is no number, one out of range, or two of these.
@@ -269,6 +282,15 @@ def some_costs(chance, boxes):
         if asked == [b"all"] and order[:1] == [b"near"]:
             lines.append([b"nearest", b"%d" % limit, *order[1:]])
     return [b" ".join([b"cost", *line]) for line in lines]
+
+
+def some_limited(chance):
+    """A line that asks for so many boxes of a region in which there may be more, after or before one for others."""
+    if chance.random() < 0.2:
+        return b" ".join([b"nearest", b"%d" % chance.choice(FEW_AND_MANY), *some_point(chance)])
+    region = chance.choice([[b"all"], some_wide_region(chance)])
+    limit = [b"first", b"%d" % chance.choice(FEW_AND_MANY)] * (chance.random() < 0.9)
+    return b" ".join([b"find", *region, *some_order(chance), *limit])
 
 
 WORDS = [*REGIONS, b"find", b"count", b"nearest", b"levels", b"near", b"smallest", b"first", b"on", b"cost"]
@@ -434,6 +456,17 @@ def costs_differ(program, folder, chance, met):
     return difference(program, folder, table, queries, False, MOST_ENTRIES, fanout, wanted)
 
 
+def limits_differ(program, folder, chance, met):
+    """The same of a run over many boxes, of which so many are asked for."""
+    table, fanout = some_many_boxes(chance), chance.choice(FANOUTS)
+    lines = [some_limited(chance) for _ in range(12)]
+    wanted = reading.expected(table, b"".join(line + b"\n" for line in lines), fanout=fanout)
+    boxes = reading.boxes(table, False, MOST_ENTRIES)
+    for line in lines:
+        met.update(limit_kinds(boxes, line))
+    return difference(program, folder, table, b"".join(line + b"\n" for line in lines), False, MOST_ENTRIES, fanout, wanted)
+
+
 def difference(program, folder, table, queries, header, most, fanout, wanted):
     """Makes a run, and tells it where it isn't what is wanted."""
     Path(folder, "table").write_bytes(table)
@@ -474,6 +507,13 @@ def cost_kinds(boxes, fanout, line, told):
         yield f"a node counted whole of {reading.Words(line).left[2].decode()}"
 
 
+def limit_kinds(boxes, line):
+    """What a line with a limit is a case of: which limit, where there are more answers."""
+    asked = reading.question(reading.Words(line))
+    if asked.limit in FEW_AND_MANY and asked.limit < len(reading.answers(boxes, asked.region.accepts, asked.score, None)):
+        yield f"a limit of {asked.limit} below"
+
+
 PARTS = {"find", "count", "near", "smallest", "first", *(name.decode() for name in REGIONS)}
 WHOLE = {"skipped", "nearest", "levels", "on", *PARTS, *(f"{part} and on" for part in PARTS), *FAULTS}
 WHOLE |= {"nearest and cost", "on and cost", *(f"{part} and cost" for part in PARTS)}
@@ -483,6 +523,7 @@ WHOLE |= {f"a cost with the limit {limit}" for limit in (None, 0, 1)}
 WHOLE |= {f"a cost with a limit {place}" for place in ("below", "at a tie", "at the end", "beyond")}
 WHOLE |= {f"a cost of {nodes}" for nodes in (0, 1, "some nodes", "all nodes")}
 WHOLE |= {f"a node counted whole of {name.decode()}" for name in REGIONS if name != b"covers"}
+WHOLE |= {f"a limit of {n} below" for n in FEW_AND_MANY}
 WHOLE |= {f"field 6 is {fault}" for fault in ("not a number", "out of range")}
 
 
@@ -505,6 +546,7 @@ def main():
             chance = random.Random(seed)
             runs = [differs(program, folder, chance, met) for _ in range(RUNS)]
             runs += [costs_differ(program, folder, chance, met) for _ in range(COST_RUNS)]
+            runs += [limits_differ(program, folder, chance, met) for _ in range(LIMIT_RUNS)]
             wrong = next(filter(None, runs), None)
             if wrong:
                 failed += 1
