@@ -89,8 +89,9 @@ module _ (tree : Packed) (loaded : Loaded) (sound : IsSound tree) (packed : tree
 -- ---- what a report costs
 
 -- how many nodes are opened of the tree is its cost line's answer
-pub cost_same : (tree : Packed) (line opened : ℕ) (asked : BoxQuery) → tree ≡ pack_of tree.fanout tree.entries
-    → opened ≡ opened_for tree (meaning_of asked) asked.report
+pub cost_same : (tree : Packed) (line opened : ℕ) (asked : BoxQuery) (report : Report) → asked.report ≡ report
+    → tree ≡ pack_of tree.fanout tree.entries → opened ≡ opened_for tree (meaning_of asked) report
     → ok_line line opened ≡ query_reply (loaded_tree tree) line (Cost asked)
-cost_same tree line opened asked packed is =
-    ap (ok_line line) (is ∙ ap (λ tree. opened_for tree (meaning_of asked) asked.report) packed)
+cost_same tree line opened asked report reported packed is =
+    ap (ok_line line) (is ∙ ap (λ tree. opened_for tree (meaning_of asked) report) packed
+    ∙ ap (opened_for (tree_of (loaded_tree tree)) (meaning_of asked)) (sym reported))

@@ -8,7 +8,7 @@ ghost use Rattle.rt_geo.specs.Regions.{region_accepts};
 ghost use Rattle.rt_tree.specs.Levels.{level_sizes};
 ghost use Rattle.rt_text.specs.ReplyLines.{ok_line};
 ghost use Rattle.rt_search.specs.{Answers.{answers}, Work.{IsUnscored}};
-ghost use Rattle.rt_filter.specs.{Pushes.{Pushed}, Replies.{find_reply, levels_reply, opened_for, query_reply}};
+ghost use Rattle.rt_filter.specs.{Pushes.{Pushed}, Replies.{find_reply, levels_reply, query_reply}};
 ghost use Rattle.rt_filter.specs.{Reports.{report_on}, Stages.{loaded_tree}};
 
 use crate::reply::{push_line, push_search};
@@ -135,7 +135,13 @@ fn push_in_shape<S: Shape + Drop, K: Sink>(
 {
     let limit = match report {
         Report::Answers { limit } => limit,
-        Report::Count => return push_count(tree, frontier, line, shape, sink),
+        Report::Count => {
+            let geometry = Guided { shape, rank: ById };
+            let mut frontier = frontier;
+            let counted = count(tree, &mut frontier, &mut Counted::new(&geometry));
+            push_line(&ok_line(line, counted.accepted), sink)?;
+            return Ok(frontier);
+        }
     };
     match order {
         Order::ById(rank) => {
@@ -151,28 +157,6 @@ fn push_in_shape<S: Shape + Drop, K: Sink>(
             find(tree, frontier, line, geometry, true, limit, sink)
         }
     }
-}
-
-// Pushes the number of the boxes that a shape accepts.
-#[inline(never)]
-fn push_count<S: Shape + Drop, K: Sink>(
-    tree: &Tree,
-    frontier: Frontier,
-    line: u128,
-    shape: S,
-    sink: &mut K,
-) -> Result<Frontier, WriteFault>
-    requires room { length tree.now.entries ≤ frontier.capacity }
-    requires count { K.failed sink.old < 2 ^ 64 - 1 }
-    ensures pushed { (order : Order) → Pushed K.written K.failed sink.old sink.new result
-        (report_on tree.now.entries (S.accepts shape) line order Report.Count) }
-    ensures capacity { IfOk result (λ left. left.capacity ≡ frontier.capacity) }
-{
-    let geometry = Guided { shape, rank: ById };
-    let mut frontier = frontier;
-    let counted = count(tree, &mut frontier, &mut Counted::new(&geometry));
-    push_line(&ok_line(line, counted.accepted), sink)?;
-    Ok(frontier)
 }
 
 // Pushes a line for each answer of one geometry, and then their number. Where all are wanted, or more than a few and each
@@ -234,30 +218,18 @@ fn push_cost<K: Sink>(
     } = asked;
     let shape = OnLayers { shape, layers };
     let geometry = Guided { shape, rank };
-    let (opened, frontier) = opened_for(tree, frontier, Counted::new(&geometry), report);
-    push_line(&ok_line(line, opened), sink)?;
-    Ok(frontier)
-}
-
-// How many nodes are opened for a report, and the frontier.
-fn opened_for<G: Geometry>(
-    tree: &Tree,
-    frontier: Frontier,
-    counted: Counted<'_, G>,
-    report: Report,
-) -> (u64, Frontier)
-    requires room { length tree.now.entries ≤ frontier.capacity }
-    requires asked { counted.asked ≡ 0 }
-    ensures opened { result.0 ≡ opened_for tree.now (G.meaning counted.entry.geometry) report }
-    ensures capacity { result.1.capacity ≡ frontier.capacity }
-{
+    let mut counted = Counted::new(&geometry);
     match report {
-        Report::Answers { limit } => cost(tree, frontier, counted, limit),
+        Report::Answers { limit } => {
+            let (opened, frontier) = cost(tree, frontier, counted, limit);
+            push_line(&ok_line(line, opened), sink)?;
+            Ok(frontier)
+        }
         Report::Count => {
             let mut frontier = frontier;
-            let mut counted = counted;
             let found = count(tree, &mut frontier, &mut counted);
-            (found.opened, frontier)
+            push_line(&ok_line(line, found.opened), sink)?;
+            Ok(frontier)
         }
     }
 }

@@ -8,6 +8,3 @@ returns-in-Near-clause-pushed g c = rw (c.in-Answers.is, c.in-Near.is) c.find-in
 
 pub returns-in-Smallest-clause-pushed : goal.returns-in-Smallest-clause-pushed
 returns-in-Smallest-clause-pushed g c = rw (c.in-Answers.is, c.in-Smallest.is) c.find-in-Smallest.ensures.pushed
-
-pub returns-in-Count-clause-pushed : goal.returns-in-Count-clause-pushed
-returns-in-Count-clause-pushed g c = rw c.in-Count.is (c.push_count.ensures.pushed c.args.order)
