@@ -86,21 +86,11 @@ impl Queue {
         let is_full = within == Within::Fully;
         let node = WaitingNode { number, is_full };
         if WIDE <= score {
-            self.put_wide(score, Place::Node(node));
+            let place = Place::Node(node);
+            self.wide.put(Item { score, place });
             return;
         }
         self.nodes.put(node_key(score as u64, node));
-    }
-
-    // Out of line, as wide items are rare.
-    #[cold]
-    #[inline(never)]
-    fn put_wide(&mut self, score: u128, place: Place)
-        requires wide { 2 ^ 64 ≤ score }
-        requires room { length self.old.items < self.old.capacity }
-        ensures { IsPut (item_at score place) self.old self.new }
-    {
-        self.wide.put(Item { score, place });
     }
 
     /// Takes the least item out, if one waits.
@@ -130,7 +120,8 @@ impl Collector for Queue {
             return;
         }
         if WIDE <= score {
-            self.put_wide(score, Place::Entry(id));
+            let place = Place::Entry(id);
+            self.wide.put(Item { score, place });
             return;
         }
         self.entries.put(score as u64, id);

@@ -3,7 +3,7 @@ use Rattle.rt_tree.specs.Sorting.{put}
 use Rattle.rt_search.specs.{Items.{item_at, item_cmp}, Kept.{in_order, node_item}, Pooling.{keys_in}}
 use Rattle.rt_search.specs.{Joining.{join_node}, Remaining.{put_all}}
 use Rattle.rt_search.proofs.{Heaps.{pushed}, Limits.{enough_same}, Merging.{length-queued, put-put_all}}
-use Rattle.rt_search.proofs.{OrderedLists.{put_all-put}, Orders.{item_order}}
+use Rattle.rt_search.proofs.{OrderedLists.{length-put, put-all, put_all-put}, Orders.{item_order}}
 use Rattle.rt_search.specs.declared.item.Place.TheVariants as place
 use Rattle.rt_search.proofs.queue.Queue.put_node.Goals as goal
 
@@ -14,13 +14,29 @@ put-requires c =
     omega arith
 
 pub invariant_of-self : goal.invariant_of-self
-invariant_of-self c =
+invariant_of-self c = grind (arith, length-queued, length-put, item_order, put-all)
+
+pub returns-then-score-ge-WIDE : goal.returns-then-score-ge-WIDE
+returns-then-score-ge-WIDE c =
+    let x = item_at c.args.verdict.score (place.Node (record { number = c.args.number; is_full = c.eq-is_full.result })) in
+    let joins : join_node c.args.verdict c.args.number.number c.args.self.now.items ≡ put item_cmp x c.args.self.now.items =
+    search rules in
+    rw joins (grind (arith, enough_same, put-put_all, item_order))
+
+pub put-requires-2 : goal.put-requires-2
+put-requires-2 c =
+    let h = rw (← c.self.view_is) at c.requires in
+    let long = length-queued (keys_in c.self.inside.nodes) c.self.inside.entries.items c.self.inside.wide.items in
+    omega arith
+
+pub invariant_of-self-2 : goal.invariant_of-self-2
+invariant_of-self-2 c =
     let h = rw (← c.self.view_is) at c.requires in
     let k = c.self.invariant in
-    let e = c.put.ensures in
+    let e = c.put-2.ensures in
     let entries = c.self.inside.entries.items in
     let wide = c.self.inside.wide.items in
-    let longer = length-queued (keys_in c.put.new.self) entries wide in
+    let longer = length-queued (keys_in c.put-2.new.self) entries wide in
     let one_more = length_permutation _ _ e.keys in
     record {
       nodes_room = e.capacity ∙ k.nodes_room;
@@ -42,7 +58,7 @@ returns c =
     rw joins (record {
       items = enough_same c.args.self.now.wanted _ _
           (ap (λ xs. put_all item_cmp wide (put_all item_cmp xs entries))
-          (pushed node_item _ _ _ c.put.ensures.keys ∙ ap (λ x. put item_cmp x nodes) c.node_key.ensures)
+          (pushed node_item _ _ _ c.put-2.ensures.keys ∙ ap (λ x. put item_cmp x nodes) c.node_key.ensures)
           ∙ ap (put_all item_cmp wide) (put-put_all item_cmp item_order _ nodes entries)
           ∙ put_all-put item_cmp item_order wide _ (put_all item_cmp nodes entries)
           ∙ ap (λ w. put item_cmp x w.items) c.self.view_is);

@@ -1,8 +1,9 @@
-use Rattle.std.proofs.{Common.{◌≤◌, ◌+◌, length, arith, refl, ℤ, ◌∙◌, ap, rules, subst, w64}, lemmas.Int.{to_z-of_z}}
+use Rattle.std.proofs.{Common.{◌≡◌, ◌≤◌, ◌+◌, length, arith, refl, ℤ, ◌∙◌, ap, rules, subst, w64}, lemmas.Int.{to_z-of_z}}
 use Rattle.rt_tree.specs.Sorting.{put}
 use Rattle.rt_search.specs.{Items.{item_at, item_cmp}, Kept.{in_order, node_item, queued}, Pooling.{keys_in}}
-use Rattle.rt_search.specs.{Limits.{IsEnough}, Remaining.{put_all}}
-use Rattle.rt_search.proofs.{Limits.{enough_fits, enough_joined}, Merging.{length-queued}}
+use Rattle.rt_search.specs.{Limits.{IsEnough, IsPut}, Remaining.{put_all}}
+use Rattle.rt_search.proofs.{Limits.{enough_fits, enough_joined, enough_same}, Merging.{length-queued, put-put_all}}
+use Rattle.rt_search.proofs.{OrderedLists.{length-put, put-all}, Orders.{item_order}}
 use Rattle.rt_search.specs.declared.item.Place.TheVariants as place
 use Rattle.rt_search.proofs.queue.QueueCollector.visit_entry.Goals as goal
 
@@ -13,14 +14,36 @@ put-requires c =
     omega arith
 
 pub invariant_of-self : goal.invariant_of-self
-invariant_of-self c =
+invariant_of-self c = grind (arith, length-queued, length-put, item_order, put-all)
+
+pub returns-then-score-ge-WIDE : goal.returns-then-score-ge-WIDE
+returns-then-score-ge-WIDE c =
+    let wide = c.self.inside.wide.items in
+    let joins : c.put.new.self.items ≡ put item_cmp (item_at c.args.score (place.Entry c.args.id)) wide =
+    subst (λ i. c.put.new.self.items ≡ put item_cmp (item_at c.args.score (place.Entry i)) wide)
+    (to_z-of_z w64 c.args.id (search rules)) c.put.ensures.items in
+    let kept : IsPut (item_at c.args.score (place.Entry c.args.id)) c.args.self.now (record {
+      items = queued (keys_in c.self.inside.nodes) c.self.inside.entries.items c.put.new.self.items;
+      wanted = c.self.inside.entries.wanted;
+      capacity = c.self.inside.capacity;
+    }) = grind (arith, enough_same, put-put_all, item_order) in
+    rw c.if-not-is_accepted.false (_, (kept, refl))
+
+pub put-requires-2 : goal.put-requires-2
+put-requires-2 c =
+    let h = rw (← c.self.view_is) at c.requires in
+    let long = length-queued (keys_in c.self.inside.nodes) c.self.inside.entries.items c.self.inside.wide.items in
+    omega arith
+
+pub invariant_of-self-2 : goal.invariant_of-self-2
+invariant_of-self-2 c =
     let h = rw (← c.self.view_is) at c.requires in
     let k = c.self.invariant in
-    let e = c.put.ensures in
+    let e = c.put-2.ensures in
     let nodes = keys_in c.self.inside.nodes in
     let long = length-queued nodes c.self.inside.entries.items c.self.inside.wide.items in
-    let longer = length-queued nodes c.put.new.self.items c.self.inside.wide.items in
-    let one_more : length c.put.new.self.items ≤ length c.self.inside.entries.items + 1 =
+    let longer = length-queued nodes c.put-2.new.self.items c.self.inside.wide.items in
+    let one_more : length c.put-2.new.self.items ≤ length c.self.inside.entries.items + 1 =
     enough_fits c.self.inside.entries.wanted _ c.self.inside.entries.items _ (length c.self.inside.entries.items + 1)
     e.items (omega arith) in
     record {
@@ -38,9 +61,9 @@ returns c =
     let nodes = in_order node_item (keys_in c.self.inside.nodes) in
     let wide = c.self.inside.wide.items in
     let old = c.self.inside.entries.items in
-    let new = c.put.new.self.items in
+    let new = c.put-2.new.self.items in
     let at : ℤ → _ = λ i. item_at c.args.score (place.Entry i) in
-    let e = c.put.ensures in
+    let e = c.put-2.ensures in
     rw c.if-not-is_accepted.false (
       _,
       (
