@@ -1,5 +1,5 @@
 -- The words of a line, one after the other. A blank is any byte that passes the test p.
-use Rattle.std.proofs.Common.{◌≡◌, ◌≢◌, ◌∙◌, ℕ, Bool, true, false, not, List, [], ◌∷◌, length, take, drop, filter, refl, sym, ap, arith, Option, Some, None, nat_lt, one-add}
+use Rattle.std.proofs.Common.{◌≡◌, ◌≢◌, ◌∙◌, ℕ, Bool, true, false, not, List, [], ◌∷◌, length, take, drop, filter, refl, sym, ap, arith, Option, Some, None, unwrap_or, nat_lt, one-add}
 use Rattle.std.proofs.lemmas.List.Sums.{prefix_len-le-length}
 use borrow.Author.Tests.{ltb-false}
 use Rattle.std.specs.List.{position, position_or_len, slice_split}
@@ -13,6 +13,14 @@ full_parts parts = filter (λ part. not (is_empty part)) parts
 abbrev pub later_parts : (ℕ → Bool) → List ℕ → List (List ℕ)
 later_parts p [] = []
 later_parts p (c ∷ xs) = slice_split p xs
+
+-- the place of the first element that passes, or the length where there is none
+pub first_place : (p : ℕ → Bool) (xs : List ℕ) {place : Option ℕ} {n : ℕ} → place ≡ position p xs → n ≡ unwrap_or place (length xs) → n ≡ position_or_len p xs
+first_place p xs is e = e ∙ rw is (by (nat_lt (position_or_len p xs) (length xs)) refl)
+  where
+    by : (b : Bool) → nat_lt (position_or_len p xs) (length xs) ≡ b → unwrap_or (position p xs) (length xs) ≡ position_or_len p xs
+    by true t = rw t refl
+    by false t = rw t (omega (arith, prefix_len-le-length (λ x. not (p x)) xs, ltb-false))
 
 module _ (p : ℕ → Bool) where
   abbrev not_p : ℕ → Bool
@@ -52,14 +60,6 @@ module _ (p : ℕ → Bool) where
   pub words_first : (c : ℕ) (xs : List ℕ) → p c ≡ false
       → full_parts (slice_split p (c ∷ xs)) ≡ take (position_or_len p (c ∷ xs)) (c ∷ xs) ∷ full_parts (slice_split p (drop (position_or_len p (c ∷ xs)) (c ∷ xs)))
   words_first c xs e = ap full_parts (parts_are (c ∷ xs)) ∙ rw (e, one-add) (ap (λ rest. (c ∷ take (position_or_len p xs) xs) ∷ rest) (later_words xs))
-
-  -- the place of the first element that passes, or else the length
-  pub at_none : (xs : List ℕ) → None ≡ position p xs → length xs ≡ position_or_len p xs
-  at_none xs e = by (nat_lt (position_or_len p xs) (length xs)) refl
-    where
-      by : (b : Bool) → nat_lt (position_or_len p xs) (length xs) ≡ b → length xs ≡ position_or_len p xs
-      by true t = let absent : ◌≡◌ {A = Option ℕ} None (Some (position_or_len p xs)) = e ∙ rw t refl in cc
-      by false t = let le = prefix_len-le-length (λ x. not (p x)) xs in omega (arith, ltb-false)
 
   -- what stands after all blanks in front begins with none
   no_blank_in_front : (xs : List ℕ) (c : ℕ) (ys : List ℕ) → drop (position_or_len not_p xs) xs ≡ c ∷ ys → p c ≡ false

@@ -81,13 +81,9 @@ impl<'a> Iterator for Words<'a> {
     ghost remaining = { item_count (λ words. words) };
 
     fn next(&mut self) -> Option<&'a [u8]> {
-        match first_word(self.rest) {
-            None => None,
-            Some((word, rest)) => {
-                self.rest = rest;
-                Some(word)
-            }
-        }
+        let (word, rest) = first_word(self.rest)?;
+        self.rest = rest;
+        Some(word)
     }
 }
 
@@ -95,11 +91,23 @@ impl<'a> Iterator for Words<'a> {
 fn first_word(line: &[u8]) -> Option<(&[u8], &[u8])>
     ensures { MatchOption result (words line.now ≡ []) (λ found. words line.now ≡ found.0.now ∷ words found.1.now) }
 {
-    let rest = &line[blanks_len(line)..];
+    let rest = &line[first_not_blank(line).unwrap_or(line.len())..];
     if rest.is_empty() {
         return None;
     }
-    Some(rest.split_at(word_len(rest)))
+    Some(rest.split_at(first_blank(rest).unwrap_or(rest.len())))
+}
+
+fn first_not_blank(text: &[u8]) -> Option<usize>
+    ensures { result ≡ position (λ byte. not (is_blank byte)) text.now }
+{
+    text.iter().position(|byte| !is_blank(*byte))
+}
+
+fn first_blank(text: &[u8]) -> Option<usize>
+    ensures { result ≡ position is_blank text.now }
+{
+    text.iter().position(|byte| is_blank(*byte))
 }
 
 // What stands behind a space, if there is one.
@@ -120,42 +128,6 @@ fn ends_word(rest: &[u8]) -> bool
         [next, ..] => is_blank(*next),
         [] => true,
     }
-}
-
-// How many blanks stand in front.
-#[tactic(auto, using(crate::proofs::WordLemmas::at_none))]
-fn blanks_len(rest: &[u8]) -> usize
-    ensures value { result ≡ position_or_len (λ byte. not (is_blank byte)) rest.now }
-    ensures bound { result ≤ length rest.now }
-{
-    match first_not_blank(rest) {
-        Some(at) => at,
-        None => rest.len(),
-    }
-}
-
-fn first_not_blank(rest: &[u8]) -> Option<usize>
-    ensures { result ≡ position (λ byte. not (is_blank byte)) rest.now }
-{
-    rest.iter().position(|byte| !is_blank(*byte))
-}
-
-// How many bytes stand before the first blank.
-#[tactic(auto, using(crate::proofs::WordLemmas::at_none))]
-fn word_len(rest: &[u8]) -> usize
-    ensures value { result ≡ position_or_len is_blank rest.now }
-    ensures bound { result ≤ length rest.now }
-{
-    match first_blank(rest) {
-        Some(at) => at,
-        None => rest.len(),
-    }
-}
-
-fn first_blank(rest: &[u8]) -> Option<usize>
-    ensures { result ≡ position is_blank rest.now }
-{
-    rest.iter().position(|byte| is_blank(*byte))
 }
 
 fn is_blank(byte: u8) -> bool
