@@ -4,7 +4,8 @@ ghost use Rattle.std.specs.Prelude.{◌≡◌, ◌≤◌, ◌++◌, decimal, len
 ghost use Rattle.rt_text.specs.FaultLines.{fault_line, record_line};
 
 use crate::line::Line;
-use crate::tables::{Axis, TableFault};
+use crate::tables::Axis::{X, Y};
+use crate::tables::TableFault;
 
 /// The line that reports a fault of the table, its line feed included.
 pub fn fault_line(fault: &TableFault) -> Line
@@ -21,14 +22,12 @@ pub fn fault_line(fault: &TableFault) -> Line
         TableFault::OutOfRange { number, field } => {
             numbered_line(number, b": field ", u64::from(field), b" is out of range\n")
         }
-        TableFault::MinAboveMax {
-            number,
-            axis: Axis::X,
-        } => record_line(number, b": minimum above maximum in x\n"),
-        TableFault::MinAboveMax {
-            number,
-            axis: Axis::Y,
-        } => record_line(number, b": minimum above maximum in y\n"),
+        TableFault::MinAboveMax { number, axis: X } => {
+            record_line(number, b": minimum above maximum in x\n")
+        }
+        TableFault::MinAboveMax { number, axis: Y } => {
+            record_line(number, b": minimum above maximum in y\n")
+        }
         TableFault::Repeated { number } => record_line(number, b": repeated id\n"),
         TableFault::Read => Line::new(b"rtfilter: cannot read table\n"),
         TableFault::Memory => Line::new(b"rtfilter: out of memory\n"),
@@ -37,11 +36,12 @@ pub fn fault_line(fault: &TableFault) -> Line
 
 // A line on one record.
 fn record_line(number: u32, text: &[u8]) -> Line
-    requires { length text.now ≤ 64 }
+    requires { length text.now ≤ 84 }
     ensures { result ≡ record_line number text.now }
 {
     let mut line = Line::new(text);
-    put_record(&mut line, number);
+    line.prepend_number(u64::from(number));
+    line.prepend(b"rtfilter: table record ");
     line
 }
 
@@ -51,18 +51,8 @@ fn numbered_line(number: u32, before: &[u8], n: u64, after: &[u8]) -> Line
     requires after { length after.now ≤ 32 }
     ensures { result ≡ record_line number (before.now ++ decimal n ++ after.now) }
 {
-    let mut line = Line::new(after);
-    line.prepend_number(n);
-    line.prepend(before);
-    put_record(&mut line, number);
-    line
-}
-
-// Puts before a text which record it is about.
-fn put_record(line: &mut Line, number: u32)
-    requires { length line.old ≤ 84 }
-    ensures { line.new ≡ record_line number line.old }
-{
-    line.prepend_number(u64::from(number));
-    line.prepend(b"rtfilter: table record ");
+    let mut text = Line::new(after);
+    text.prepend_number(n);
+    text.prepend(before);
+    record_line(number, text.bytes())
 }
