@@ -8,6 +8,5 @@ mod Records
 pub mod Rows
 mod TableLemmas
 mod TableReads
-mod VertexCounts
 pub mod WordLemmas
 pub mod WordReads

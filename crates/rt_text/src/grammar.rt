@@ -11,7 +11,7 @@ ghost use Rattle.rt_text.specs.Queries.{point, points, polygon, query, query_of,
 ghost use Rattle.rt_text.specs.Queries.{vertex_count, word_as};
 ghost use Rattle.rt_geo.specs.Layers.{most_layer};
 
-use crate::numbers::{NumberFault, number};
+use crate::numbers::{self, NumberFault};
 use crate::query::{BoxQuery, Parsed, Query, QueryFault, Report, Vertices};
 use crate::words::Words;
 use arrayvec::ArrayVec;
@@ -19,6 +19,9 @@ use rt_geo::{
     All, Bounds, ById, Circle, Covers, FEWEST_VERTICES, Inside, Layers, MOST_VERTICES, Near, Order,
     Point, Polygon, PolygonFault, Region, Smallest, Window,
 };
+
+/// A part of a query, or the first fault of its line.
+type Read<T> = Result<T, QueryFault>;
 
 /// What a line asks, without its line feed. One carriage return at its end is dropped. It takes no memory: the vertices of
 /// a polygon stand in `vertices`, whatever stood there.
@@ -28,12 +31,10 @@ pub fn parse<'a>(line: &[u8], vertices: &'a mut Vertices) -> Parsed<'a>
     ensures { result ≡ query_of line.now }
 {
     let mut words = Words::new(without_return(line));
-    let Some(verb) = words.next() else {
-        return Parsed::Skip;
+    let verb = match words.next() {
+        Some(verb) if !verb.starts_with(b"#") => verb,
+        _ => return Parsed::Skip,
     };
-    if is_comment(verb) {
-        return Parsed::Skip;
-    }
     match query(verb, &mut words, vertices) {
         Ok(query) => Parsed::Query(query),
         Err(fault) => Parsed::Fault(fault),
@@ -49,20 +50,10 @@ fn without_return(line: &[u8]) -> &[u8]
     }
 }
 
-fn is_comment(word: &[u8]) -> bool
-    ensures { result ≡ starts_with nat_eq word.now (codes "#") }
-{
-    word.first() == Some(&b'#')
-}
-
 // ---- queries
 
 #[inline(always)]
-fn query<'a>(
-    verb: &[u8],
-    words: &mut Words,
-    vertices: &'a mut Vertices,
-) -> Result<Query<'a>, QueryFault>
+fn query<'a>(verb: &[u8], words: &mut Words, vertices: &'a mut Vertices) -> Read<Query<'a>>
     ensures { result ≡ query verb.now words.old }
 {
     if verb == b"levels".as_slice() {
@@ -77,7 +68,7 @@ fn query<'a>(
 
 // Kept out of line: only lines with `cost` have need of it.
 #[inline(never)]
-fn costed<'a>(words: &mut Words, vertices: &'a mut Vertices) -> Result<BoxQuery<'a>, QueryFault>
+fn costed<'a>(words: &mut Words, vertices: &'a mut Vertices) -> Read<BoxQuery<'a>>
     ensures { result ≡ box_query words.old }
 {
     let verb = next_word(words)?;
@@ -85,11 +76,7 @@ fn costed<'a>(words: &mut Words, vertices: &'a mut Vertices) -> Result<BoxQuery<
 }
 
 #[inline(always)]
-fn box_query<'a>(
-    verb: &[u8],
-    words: &mut Words,
-    vertices: &'a mut Vertices,
-) -> Result<BoxQuery<'a>, QueryFault>
+fn box_query<'a>(verb: &[u8], words: &mut Words, vertices: &'a mut Vertices) -> Read<BoxQuery<'a>>
     ensures { result ≡ box_query (verb.now ∷ words.old) }
 {
     if verb == b"find".as_slice() {
@@ -104,7 +91,7 @@ fn box_query<'a>(
 }
 
 #[inline(always)]
-fn find<'a>(words: &mut Words, vertices: &'a mut Vertices) -> Result<BoxQuery<'a>, QueryFault>
+fn find<'a>(words: &mut Words, vertices: &'a mut Vertices) -> Read<BoxQuery<'a>>
     ensures { result ≡ find words.old }
 {
     let region = region(words, vertices)?;
@@ -121,7 +108,7 @@ fn find<'a>(words: &mut Words, vertices: &'a mut Vertices) -> Result<BoxQuery<'a
 }
 
 #[inline(always)]
-fn nearest<'a>(words: &mut Words) -> Result<BoxQuery<'a>, QueryFault>
+fn nearest<'a>(words: &mut Words) -> Read<BoxQuery<'a>>
     ensures { result ≡ nearest words.old }
 {
     let limit = natural_word(words, u64::MAX)?;
@@ -136,7 +123,7 @@ fn nearest<'a>(words: &mut Words) -> Result<BoxQuery<'a>, QueryFault>
 }
 
 #[inline(always)]
-fn count<'a>(words: &mut Words, vertices: &'a mut Vertices) -> Result<BoxQuery<'a>, QueryFault>
+fn count<'a>(words: &mut Words, vertices: &'a mut Vertices) -> Read<BoxQuery<'a>>
     ensures { result ≡ count words.old }
 {
     let region = region(words, vertices)?;
@@ -152,7 +139,7 @@ fn count<'a>(words: &mut Words, vertices: &'a mut Vertices) -> Result<BoxQuery<'
 
 // Whether no word is left.
 #[inline(always)]
-fn finished(words: &Words) -> Result<(), QueryFault>
+fn finished(words: &Words) -> Read<()>
     ensures { result ≡ finished words.now }
 {
     if words.is_empty() {
@@ -166,25 +153,18 @@ fn finished(words: &Words) -> Result<(), QueryFault>
 
 // Kept out of line, with what only lines with `on` have need of: in line it made all others slower.
 #[inline(never)]
-fn on_list(words: &mut Words) -> Result<Layers, QueryFault>
+fn on_list(words: &mut Words) -> Read<Layers>
     ensures { Takes (on_list words.old) result words.new }
 {
     if words.takes(b"on") {
-        list_word(words)
+        layers_of(next_word(words)?)
     } else {
         Ok(Layers::all())
     }
 }
 
 #[inline(never)]
-fn list_word(words: &mut Words) -> Result<Layers, QueryFault>
-    ensures { Takes (word_as layers_of words.old) result words.new }
-{
-    let list = next_word(words)?;
-    layers_of(list)
-}
-
-fn layers_of(list: &[u8]) -> Result<Layers, QueryFault>
+fn layers_of(list: &[u8]) -> Read<Layers>
     ensures { result ≡ layers_of list.now }
 {
     let mut layers = Layers::new(0);
@@ -194,19 +174,17 @@ fn layers_of(list: &[u8]) -> Result<Layers, QueryFault>
     Ok(layers)
 }
 
-fn layer_part(part: &[u8]) -> Result<u8, QueryFault>
+fn layer_part(part: &[u8]) -> Read<u8>
     ensures value { result ≡ natural most_layer part.now }
     ensures within { IfOk result (λ layer. layer ≤ most_layer) }
 {
-    match number(part, 0, i128::from(Layers::MOST)) {
-        Ok(layer) => Ok(layer.unsigned_abs() as u8),
-        Err(fault) => Err(number_fault(fault)),
-    }
+    let layer = number(QueryFault::OutOfRange, 0, i128::from(Layers::MOST), part)?;
+    Ok(layer.unsigned_abs() as u8)
 }
 
 // ---- orders and limits
 
-fn order(found: &Region, words: &mut Words) -> Result<Order, QueryFault>
+fn order(found: &Region, words: &mut Words) -> Read<Order>
     ensures { Takes (order found.now words.old) result words.new }
 {
     if words.takes(b"near") {
@@ -227,7 +205,7 @@ fn usual_order(found: &Region) -> Order
     }
 }
 
-fn limit(words: &mut Words) -> Result<Option<u64>, QueryFault>
+fn limit(words: &mut Words) -> Read<Option<u64>>
     ensures { Takes (limit words.old) result words.new }
 {
     if words.takes(b"first") {
@@ -240,7 +218,7 @@ fn limit(words: &mut Words) -> Result<Option<u64>, QueryFault>
 // ---- regions
 
 #[inline(always)]
-fn region<'a>(words: &mut Words, vertices: &'a mut Vertices) -> Result<Region<'a>, QueryFault>
+fn region<'a>(words: &mut Words, vertices: &'a mut Vertices) -> Read<Region<'a>>
     ensures { Takes (region words.old) result words.new }
 {
     let name = next_word(words)?;
@@ -261,7 +239,7 @@ fn region<'a>(words: &mut Words, vertices: &'a mut Vertices) -> Result<Region<'a
     }
 }
 
-fn sides(words: &mut Words) -> Result<Bounds, QueryFault>
+fn sides(words: &mut Words) -> Read<Bounds>
     ensures { Takes (sides words.old) result words.new }
 {
     let min_x = coordinate(words)?;
@@ -274,7 +252,7 @@ fn sides(words: &mut Words) -> Result<Bounds, QueryFault>
     }
 }
 
-fn circle(words: &mut Words) -> Result<Circle, QueryFault>
+fn circle(words: &mut Words) -> Read<Circle>
     ensures { Takes (circle words.old) result words.new }
 {
     let centre = point(words)?;
@@ -283,7 +261,7 @@ fn circle(words: &mut Words) -> Result<Circle, QueryFault>
 }
 
 #[inline(always)]
-fn polygon<'a>(words: &mut Words, vertices: &'a mut Vertices) -> Result<Polygon<'a>, QueryFault>
+fn polygon<'a>(words: &mut Words, vertices: &'a mut Vertices) -> Read<Polygon<'a>>
     ensures { Takes (polygon words.old) result words.new }
 {
     let count = vertex_count(words)?;
@@ -295,22 +273,18 @@ fn polygon<'a>(words: &mut Words, vertices: &'a mut Vertices) -> Result<Polygon<
     }
 }
 
-fn vertex_count(words: &mut Words) -> Result<usize, QueryFault>
+fn vertex_count(words: &mut Words) -> Read<usize>
     ensures takes { Takes (word_as vertex_count words.old) result words.new }
     ensures most { IfOk result (λ n. n ≤ MOST_VERTICES) }
 {
-    match number_word(words, FEWEST_VERTICES as i128, MOST_VERTICES as i128) {
-        Ok(value) => Ok(value.unsigned_abs() as usize),
-        Err(fault) => match fault {
-            QueryFault::OutOfRange => Err(QueryFault::VertexCount),
-            _ => Err(fault),
-        },
-    }
+    let (low, high) = (FEWEST_VERTICES as i128, MOST_VERTICES as i128);
+    let count = number_word(QueryFault::VertexCount, low, high, words)?;
+    Ok(count.unsigned_abs() as usize)
 }
 
 // So many points, one after the other.
 #[inline(always)]
-fn points(count: usize, words: &mut Words, vertices: &mut Vertices) -> Result<(), QueryFault>
+fn points(count: usize, words: &mut Words, vertices: &mut Vertices) -> Read<()>
     requires { count ≤ MOST_VERTICES }
     ensures ok { IfOk result (λ _. points count words.old ≡ Ok (vertices.new.items, words.new)) }
     ensures fault { IfErr result (λ cause. points count words.old ≡ Err cause) }
@@ -325,7 +299,7 @@ fn points(count: usize, words: &mut Words, vertices: &mut Vertices) -> Result<()
 // ---- numbers
 
 #[inline(always)]
-fn point(words: &mut Words) -> Result<Point, QueryFault>
+fn point(words: &mut Words) -> Read<Point>
     ensures { Takes (point words.old) result words.new }
 {
     let x = coordinate(words)?;
@@ -334,15 +308,12 @@ fn point(words: &mut Words) -> Result<Point, QueryFault>
 }
 
 #[inline(always)]
-fn coordinate(words: &mut Words) -> Result<i32, QueryFault>
+fn coordinate(words: &mut Words) -> Read<i32>
     ensures { Takes (word_as coordinate words.old) result words.new }
 {
-    let Some(value) = usual_coordinate(words) else {
-        return any_coordinate(words);
-    };
-    match i32::try_from(value) {
-        Ok(value) => Ok(value),
-        Err(_) => Err(QueryFault::OutOfRange),
+    match usual_coordinate(words) {
+        Some(value) => i32::try_from(value).or(Err(QueryFault::OutOfRange)),
+        None => any_coordinate(words),
     }
 }
 
@@ -358,66 +329,61 @@ fn usual_coordinate(words: &mut Words) -> Option<i64>
 
 // The same as a coordinate whatever the word is.
 #[inline(never)]
-fn any_coordinate(words: &mut Words) -> Result<i32, QueryFault>
+fn any_coordinate(words: &mut Words) -> Read<i32>
     ensures { Takes (word_as coordinate words.old) result words.new }
 {
-    let value = any_number_word(words, i128::from(i32::MIN), i128::from(i32::MAX))?;
-    Ok(value as i32)
+    let (low, high) = (i128::from(i32::MIN), i128::from(i32::MAX));
+    Ok(any_number_word(QueryFault::OutOfRange, low, high, words)? as i32)
 }
 
 #[inline(never)]
-fn natural_word(words: &mut Words, high: u64) -> Result<u64, QueryFault>
+fn natural_word(words: &mut Words, high: u64) -> Read<u64>
     ensures takes { Takes (word_as (natural high) words.old) result words.new }
     ensures within { IfOk result (λ n. n ≤ high) }
 {
-    let value = number_word(words, 0, i128::from(high))?;
+    let value = number_word(QueryFault::OutOfRange, 0, i128::from(high), words)?;
     Ok(value.unsigned_abs() as u64)
 }
 
 // The next word, which has to be there.
-fn next_word<'a>(words: &mut Words<'a>) -> Result<&'a [u8], QueryFault>
+fn next_word<'a>(words: &mut Words<'a>) -> Read<&'a [u8]>
     ensures word { IfOk result (λ word. words.old ≡ word.now ∷ words.new) }
     ensures missing { IfErr result (λ cause. (cause ≡ QueryFault.MissingWord) × (words.old ≡ [])) }
 {
-    match words.next() {
-        Some(word) => Ok(word),
-        None => Err(QueryFault::MissingWord),
-    }
+    words.next().ok_or(QueryFault::MissingWord)
 }
 
 #[inline(always)]
-fn number_word(words: &mut Words, low: i128, high: i128) -> Result<i128, QueryFault>
-    ensures takes { Takes (word_as (number QueryFault.OutOfRange low high) words.old) result words.new }
+fn number_word(outside: QueryFault, low: i128, high: i128, words: &mut Words) -> Read<i128>
+    ensures takes { Takes (word_as (number outside low high) words.old) result words.new }
     ensures within { IfOk result (λ n. (low ≤ℤ n) × (n ≤ℤ high)) }
 {
     let Some(short) = words.next_number() else {
-        return any_number_word(words, low, high);
+        return any_number_word(outside, low, high, words);
     };
     let value = i128::from(short);
     if value < low || high < value {
-        return Err(QueryFault::OutOfRange);
+        return Err(outside);
     }
     Ok(value)
 }
 
 // The same whatever the word is.
 #[inline(never)]
-fn any_number_word(words: &mut Words, low: i128, high: i128) -> Result<i128, QueryFault>
-    ensures takes { Takes (word_as (number QueryFault.OutOfRange low high) words.old) result words.new }
+fn any_number_word(outside: QueryFault, low: i128, high: i128, words: &mut Words) -> Read<i128>
+    ensures takes { Takes (word_as (number outside low high) words.old) result words.new }
     ensures within { IfOk result (λ n. (low ≤ℤ n) × (n ≤ℤ high)) }
 {
-    let word = next_word(words)?;
-    match number(word, low, high) {
-        Ok(value) => Ok(value),
-        Err(fault) => Err(number_fault(fault)),
-    }
+    number(outside, low, high, next_word(words)?)
 }
 
-fn number_fault(fault: NumberFault) -> QueryFault
-    ensures { result ≡ fault_as QueryFault.NotNumber QueryFault.OutOfRange fault }
+fn number(outside: QueryFault, low: i128, high: i128, word: &[u8]) -> Read<i128>
+    ensures value { result ≡ number outside low high word.now }
+    ensures within { IfOk result (λ n. (low ≤ℤ n) × (n ≤ℤ high)) }
 {
-    match fault {
-        NumberFault::NotNumber => QueryFault::NotNumber,
-        NumberFault::OutOfRange => QueryFault::OutOfRange,
+    match numbers::number(word, low, high) {
+        Ok(value) => Ok(value),
+        Err(NumberFault::NotNumber) => Err(QueryFault::NotNumber),
+        Err(NumberFault::OutOfRange) => Err(outside),
     }
 }
