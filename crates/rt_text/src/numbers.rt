@@ -63,18 +63,8 @@ pub(crate) fn number_64(text: &[u8], low: i64, high: i64) -> Result<i64, NumberF
             }
             Ok(found.number)
         }
-        _ => any_number_64(text, low, high),
+        _ => Ok(number(text, i128::from(low), i128::from(high))? as i64),
     }
-}
-
-// The same whatever the text is. Kept out of line, as most fields of tables are short numbers and nothing else.
-#[cold]
-#[inline(never)]
-fn any_number_64(text: &[u8], low: i64, high: i64) -> Result<i64, NumberFault>
-    ensures value { result ≡ number_in low high text.now }
-    ensures within { IfOk result (λ n. (low ≤ℤ n) × (n ≤ℤ high)) }
-{
-    Ok(number(text, i128::from(low), i128::from(high))? as i64)
 }
 
 /// A number in front of a text, whatever stands behind it: a sign if there is one, and its digits up to the 18th.
@@ -182,29 +172,12 @@ fn without_sign(text: &[u8]) -> &[u8]
 fn signed(text: &[u8]) -> Result<i128, NumberFault>
     ensures { result ≡ number_in i128.MIN i128.MAX text.now }
 {
-    match text {
-        [b'-', digits @ ..] => below_zero(digits),
-        [b'+', digits @ ..] => above_zero(digits),
-        digits => above_zero(digits),
-    }
-}
-
-// The number that digits write after a `-`, where an `i128` has room for it.
-fn below_zero(digits: &[u8]) -> Result<i128, NumberFault>
-    ensures { result ≡ in_range i128.MIN i128.MAX (option_map (λ n. neg_ℤ (pos n)) (digits_number digits.now)) }
-{
-    0i128
-        .checked_sub_unsigned(magnitude(digits)?)
-        .ok_or(NumberFault::OutOfRange)
-}
-
-// The number that digits write after a `+` or no sign, where an `i128` has room for it.
-fn above_zero(digits: &[u8]) -> Result<i128, NumberFault>
-    ensures { result ≡ in_range i128.MIN i128.MAX (option_map pos (digits_number digits.now)) }
-{
-    0i128
-        .checked_add_unsigned(magnitude(digits)?)
-        .ok_or(NumberFault::OutOfRange)
+    let number = match text {
+        [b'-', digits @ ..] => 0i128.checked_sub_unsigned(magnitude(digits)?),
+        [b'+', digits @ ..] => 0i128.checked_add_unsigned(magnitude(digits)?),
+        digits => 0i128.checked_add_unsigned(magnitude(digits)?),
+    };
+    number.ok_or(NumberFault::OutOfRange)
 }
 
 // The number that digits write, or the greatest `u128` where it is above that.
