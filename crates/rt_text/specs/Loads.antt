@@ -1,18 +1,19 @@
 -- How a table is loaded: first its entries, and once all are there, their ids. Nothing that the load promises speaks of
 -- this.
-use Rattle.std.specs.Prelude.{◌≡◌, ◌⊎◌, ℕ, ◌+◌, nat_le, ℤ, Bool, if◌then◌else◌, List, length, Option, Some, None, Result, Ok, Err}
+use Rattle.std.specs.Prelude.{◌≡◌, ◌⊎◌, ℕ, ◌+◌, nat_le, Bool, true, if◌then◌else◌, List, length, Option, Some, None, Result, Ok, Err}
+use Rattle.csv.specs.Reading.{Ready, default_config, is_flexible, reader_config, reader_trim}
+use Rattle.csv.specs.declared.reader.Reader.{Reader}
+use Rattle.csv.specs.declared.reader.Trim.TheVariants as trim
 use Rattle.rt_geo.specs.declared.entry.Entry.{Entry}
 use Rattle.rt_tree.specs.Entries.{first_repeat}
-use Rattle.rt_text.specs.Numbers.{fault_as, number_in}
-use Rattle.rt_text.specs.Steps.{map_fault}
 use Rattle.rt_text.specs.Tables.{IsFaultOf, entry_of_fields}
 use Rattle.rt_text.specs.declared.tables.TableFault.{TableFault}
 use Rattle.rt_text.specs.declared.tables.TableFault.TheVariants as fault
 
--- the number that the text of a field writes, within a range
-abbrev pub number_of : (number field : ℕ) → (low high : ℤ) → (text : List ℕ) → Result ℤ TableFault
-number_of number field low high text =
-    map_fault (fault_as (fault.NotNumber number field) (fault.OutOfRange number field)) (number_in low high text)
+-- a reader of csv's usual records, of any number of fields, that may be read on
+abbrev pub IsReading : {R : Type 0} → Reader R → Type 0
+IsReading records =
+    (reader_trim records ≡ trim.None) × Ready records × (reader_config records ≡ default_config) × (is_flexible records ≡ true)
 
 -- one record, judged after the entries so far, but for its id
 abbrev pub entry_after : (max number : ℕ) → List Entry → List (List ℕ) → Result Entry TableFault

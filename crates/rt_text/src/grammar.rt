@@ -20,8 +20,8 @@ use rt_geo::{
     Point, Polygon, PolygonFault, Region, Smallest, Window,
 };
 
-/// A part of a query, or the first fault of its line.
-type Read<T> = Result<T, QueryFault>;
+/// A part of a query, or what is wrong with it.
+type Judged<T> = Result<T, QueryFault>;
 
 /// What a line asks, without its line feed. One carriage return at its end is dropped. It takes no memory: the vertices of
 /// a polygon stand in `vertices`, whatever stood there.
@@ -53,7 +53,7 @@ fn without_return(line: &[u8]) -> &[u8]
 // ---- queries
 
 #[inline(always)]
-fn query<'a>(verb: &[u8], words: &mut Words, vertices: &'a mut Vertices) -> Read<Query<'a>>
+fn query<'a>(verb: &[u8], words: &mut Words, vertices: &'a mut Vertices) -> Judged<Query<'a>>
     ensures { result ≡ query verb.now words.old }
 {
     if verb == b"levels".as_slice() {
@@ -68,7 +68,7 @@ fn query<'a>(verb: &[u8], words: &mut Words, vertices: &'a mut Vertices) -> Read
 
 // Kept out of line: only lines with `cost` have need of it.
 #[inline(never)]
-fn costed<'a>(words: &mut Words, vertices: &'a mut Vertices) -> Read<BoxQuery<'a>>
+fn costed<'a>(words: &mut Words, vertices: &'a mut Vertices) -> Judged<BoxQuery<'a>>
     ensures { result ≡ box_query words.old }
 {
     let verb = next_word(words)?;
@@ -76,7 +76,7 @@ fn costed<'a>(words: &mut Words, vertices: &'a mut Vertices) -> Read<BoxQuery<'a
 }
 
 #[inline(always)]
-fn box_query<'a>(verb: &[u8], words: &mut Words, vertices: &'a mut Vertices) -> Read<BoxQuery<'a>>
+fn box_query<'a>(verb: &[u8], words: &mut Words, vertices: &'a mut Vertices) -> Judged<BoxQuery<'a>>
     ensures { result ≡ box_query (verb.now ∷ words.old) }
 {
     if verb == b"find".as_slice() {
@@ -91,7 +91,7 @@ fn box_query<'a>(verb: &[u8], words: &mut Words, vertices: &'a mut Vertices) -> 
 }
 
 #[inline(always)]
-fn find<'a>(words: &mut Words, vertices: &'a mut Vertices) -> Read<BoxQuery<'a>>
+fn find<'a>(words: &mut Words, vertices: &'a mut Vertices) -> Judged<BoxQuery<'a>>
     ensures { result ≡ find words.old }
 {
     let region = region(words, vertices)?;
@@ -108,7 +108,7 @@ fn find<'a>(words: &mut Words, vertices: &'a mut Vertices) -> Read<BoxQuery<'a>>
 }
 
 #[inline(always)]
-fn nearest<'a>(words: &mut Words) -> Read<BoxQuery<'a>>
+fn nearest<'a>(words: &mut Words) -> Judged<BoxQuery<'a>>
     ensures { result ≡ nearest words.old }
 {
     let limit = natural_word(words, u64::MAX)?;
@@ -123,7 +123,7 @@ fn nearest<'a>(words: &mut Words) -> Read<BoxQuery<'a>>
 }
 
 #[inline(always)]
-fn count<'a>(words: &mut Words, vertices: &'a mut Vertices) -> Read<BoxQuery<'a>>
+fn count<'a>(words: &mut Words, vertices: &'a mut Vertices) -> Judged<BoxQuery<'a>>
     ensures { result ≡ count words.old }
 {
     let region = region(words, vertices)?;
@@ -139,7 +139,7 @@ fn count<'a>(words: &mut Words, vertices: &'a mut Vertices) -> Read<BoxQuery<'a>
 
 // Whether no word is left.
 #[inline(always)]
-fn finished(words: &Words) -> Read<()>
+fn finished(words: &Words) -> Judged<()>
     ensures { result ≡ finished words.now }
 {
     if words.is_empty() {
@@ -153,7 +153,7 @@ fn finished(words: &Words) -> Read<()>
 
 // Kept out of line, with what only lines with `on` have need of: in line it made all others slower.
 #[inline(never)]
-fn on_list(words: &mut Words) -> Read<Layers>
+fn on_list(words: &mut Words) -> Judged<Layers>
     ensures { Takes (on_list words.old) result words.new }
 {
     if words.takes(b"on") {
@@ -164,7 +164,7 @@ fn on_list(words: &mut Words) -> Read<Layers>
 }
 
 #[inline(never)]
-fn layers_of(list: &[u8]) -> Read<Layers>
+fn layers_of(list: &[u8]) -> Judged<Layers>
     ensures { result ≡ layers_of list.now }
 {
     let mut layers = Layers::new(0);
@@ -174,7 +174,7 @@ fn layers_of(list: &[u8]) -> Read<Layers>
     Ok(layers)
 }
 
-fn layer_part(part: &[u8]) -> Read<u8>
+fn layer_part(part: &[u8]) -> Judged<u8>
     ensures value { result ≡ natural most_layer part.now }
     ensures within { IfOk result (λ layer. layer ≤ most_layer) }
 {
@@ -184,7 +184,7 @@ fn layer_part(part: &[u8]) -> Read<u8>
 
 // ---- orders and limits
 
-fn order(found: &Region, words: &mut Words) -> Read<Order>
+fn order(found: &Region, words: &mut Words) -> Judged<Order>
     ensures { Takes (order found.now words.old) result words.new }
 {
     if words.takes(b"near") {
@@ -205,7 +205,7 @@ fn usual_order(found: &Region) -> Order
     }
 }
 
-fn limit(words: &mut Words) -> Read<Option<u64>>
+fn limit(words: &mut Words) -> Judged<Option<u64>>
     ensures { Takes (limit words.old) result words.new }
 {
     if words.takes(b"first") {
@@ -218,7 +218,7 @@ fn limit(words: &mut Words) -> Read<Option<u64>>
 // ---- regions
 
 #[inline(always)]
-fn region<'a>(words: &mut Words, vertices: &'a mut Vertices) -> Read<Region<'a>>
+fn region<'a>(words: &mut Words, vertices: &'a mut Vertices) -> Judged<Region<'a>>
     ensures { Takes (region words.old) result words.new }
 {
     let name = next_word(words)?;
@@ -239,7 +239,7 @@ fn region<'a>(words: &mut Words, vertices: &'a mut Vertices) -> Read<Region<'a>>
     }
 }
 
-fn sides(words: &mut Words) -> Read<Bounds>
+fn sides(words: &mut Words) -> Judged<Bounds>
     ensures { Takes (sides words.old) result words.new }
 {
     let min_x = coordinate(words)?;
@@ -252,7 +252,7 @@ fn sides(words: &mut Words) -> Read<Bounds>
     }
 }
 
-fn circle(words: &mut Words) -> Read<Circle>
+fn circle(words: &mut Words) -> Judged<Circle>
     ensures { Takes (circle words.old) result words.new }
 {
     let centre = point(words)?;
@@ -261,7 +261,7 @@ fn circle(words: &mut Words) -> Read<Circle>
 }
 
 #[inline(always)]
-fn polygon<'a>(words: &mut Words, vertices: &'a mut Vertices) -> Read<Polygon<'a>>
+fn polygon<'a>(words: &mut Words, vertices: &'a mut Vertices) -> Judged<Polygon<'a>>
     ensures { Takes (polygon words.old) result words.new }
 {
     let count = vertex_count(words)?;
@@ -273,7 +273,7 @@ fn polygon<'a>(words: &mut Words, vertices: &'a mut Vertices) -> Read<Polygon<'a
     }
 }
 
-fn vertex_count(words: &mut Words) -> Read<usize>
+fn vertex_count(words: &mut Words) -> Judged<usize>
     ensures takes { Takes (word_as vertex_count words.old) result words.new }
     ensures most { IfOk result (λ n. n ≤ MOST_VERTICES) }
 {
@@ -284,7 +284,7 @@ fn vertex_count(words: &mut Words) -> Read<usize>
 
 // So many points, one after the other.
 #[inline(always)]
-fn points(count: usize, words: &mut Words, vertices: &mut Vertices) -> Read<()>
+fn points(count: usize, words: &mut Words, vertices: &mut Vertices) -> Judged<()>
     requires { count ≤ MOST_VERTICES }
     ensures ok { IfOk result (λ _. points count words.old ≡ Ok (vertices.new.items, words.new)) }
     ensures fault { IfErr result (λ cause. points count words.old ≡ Err cause) }
@@ -299,7 +299,7 @@ fn points(count: usize, words: &mut Words, vertices: &mut Vertices) -> Read<()>
 // ---- numbers
 
 #[inline(always)]
-fn point(words: &mut Words) -> Read<Point>
+fn point(words: &mut Words) -> Judged<Point>
     ensures { Takes (point words.old) result words.new }
 {
     let x = coordinate(words)?;
@@ -308,7 +308,7 @@ fn point(words: &mut Words) -> Read<Point>
 }
 
 #[inline(always)]
-fn coordinate(words: &mut Words) -> Read<i32>
+fn coordinate(words: &mut Words) -> Judged<i32>
     ensures { Takes (word_as coordinate words.old) result words.new }
 {
     match usual_coordinate(words) {
@@ -329,7 +329,7 @@ fn usual_coordinate(words: &mut Words) -> Option<i64>
 
 // The same as a coordinate whatever the word is.
 #[inline(never)]
-fn any_coordinate(words: &mut Words) -> Read<i32>
+fn any_coordinate(words: &mut Words) -> Judged<i32>
     ensures { Takes (word_as coordinate words.old) result words.new }
 {
     let (low, high) = (i128::from(i32::MIN), i128::from(i32::MAX));
@@ -337,7 +337,7 @@ fn any_coordinate(words: &mut Words) -> Read<i32>
 }
 
 #[inline(never)]
-fn natural_word(words: &mut Words, high: u64) -> Read<u64>
+fn natural_word(words: &mut Words, high: u64) -> Judged<u64>
     ensures takes { Takes (word_as (natural high) words.old) result words.new }
     ensures within { IfOk result (λ n. n ≤ high) }
 {
@@ -346,7 +346,7 @@ fn natural_word(words: &mut Words, high: u64) -> Read<u64>
 }
 
 // The next word, which has to be there.
-fn next_word<'a>(words: &mut Words<'a>) -> Read<&'a [u8]>
+fn next_word<'a>(words: &mut Words<'a>) -> Judged<&'a [u8]>
     ensures word { IfOk result (λ word. words.old ≡ word.now ∷ words.new) }
     ensures missing { IfErr result (λ cause. (cause ≡ QueryFault.MissingWord) × (words.old ≡ [])) }
 {
@@ -354,7 +354,7 @@ fn next_word<'a>(words: &mut Words<'a>) -> Read<&'a [u8]>
 }
 
 #[inline(always)]
-fn number_word(outside: QueryFault, low: i128, high: i128, words: &mut Words) -> Read<i128>
+fn number_word(outside: QueryFault, low: i128, high: i128, words: &mut Words) -> Judged<i128>
     ensures takes { Takes (word_as (number outside low high) words.old) result words.new }
     ensures within { IfOk result (λ n. (low ≤ℤ n) × (n ≤ℤ high)) }
 {
@@ -370,14 +370,14 @@ fn number_word(outside: QueryFault, low: i128, high: i128, words: &mut Words) ->
 
 // The same whatever the word is.
 #[inline(never)]
-fn any_number_word(outside: QueryFault, low: i128, high: i128, words: &mut Words) -> Read<i128>
+fn any_number_word(outside: QueryFault, low: i128, high: i128, words: &mut Words) -> Judged<i128>
     ensures takes { Takes (word_as (number outside low high) words.old) result words.new }
     ensures within { IfOk result (λ n. (low ≤ℤ n) × (n ≤ℤ high)) }
 {
     number(outside, low, high, next_word(words)?)
 }
 
-fn number(outside: QueryFault, low: i128, high: i128, word: &[u8]) -> Read<i128>
+fn number(outside: QueryFault, low: i128, high: i128, word: &[u8]) -> Judged<i128>
     ensures value { result ≡ number outside low high word.now }
     ensures within { IfOk result (λ n. (low ≤ℤ n) × (n ≤ℤ high)) }
 {

@@ -8,13 +8,11 @@
 ghost use Rattle.std.specs.{List.{slice_index_or}, Prelude.{◌≡◌, ◌≤ℤ◌, ◌+◌, ◌<◌, ◌≤◌, ◌++◌, ◌∷◌, [], length, ◌⊎◌}};
 ghost use Rattle.std.specs.Prelude.{true, List, ℕ, int_lt, pos, unsigned_abs, if◌then◌else◌, Result, Ok, Some, None};
 ghost use Rattle.std.specs.Prelude.{IsOkAnd, IfOk, IfErr, OnErr, OnOk, All};
-ghost use Rattle.csv.specs.Reading.{default_config, has_failed, is_flexible, Ready, ReadRecord, reader_config};
-ghost use Rattle.csv.specs.{Reading.{reader_trim}, Records.{fields_of}};
+ghost use Rattle.csv.specs.{Reading.{ReadRecord, has_failed}, Records.{fields_of}};
 ghost use Rattle.rt_geo.specs.{Boxes.{rect_of}, Entries.{HasLayer}, Layers.{most_layer}, declared.entry.Entry.{Entry}};
 ghost use Rattle.rt_tree.specs.Entries.{first_repeat, most_entries};
-ghost use Rattle.rt_text.specs.Loads.{EndsAt, IsRefusal, after_ids, entry_after, first_number, number_of};
-ghost use Rattle.rt_text.specs.{Steps.{map_value}, Tables.{IsFaultOf, entry_of_fields, layer_in, table_of}};
-ghost use Rattle.csv.specs.declared.reader.Trim.TheVariants as trim;
+ghost use Rattle.rt_text.specs.Loads.{EndsAt, IsReading, IsRefusal, after_ids, entry_after, first_number};
+ghost use Rattle.rt_text.specs.{Steps.{map_value}, Tables.{IsFaultOf, coordinate_at, entry_of_fields, layer_in, number_at, table_of}};
 
 use crate::numbers::{self, NumberFault};
 use csv::{ByteRecord, Reader, ReaderBuilder};
@@ -57,6 +55,9 @@ const FIELDS_WITHOUT_LAYER: usize = 5;
 /// The number of fields of a record whose layer stands behind these.
 const FIELDS_WITH_LAYER: usize = 6;
 
+/// A part of a table, or what is wrong with it.
+type Judged<T> = Result<T, TableFault>;
+
 /// The table that a reader's bytes give: at most `max` boxes, each under an id of its own. With `header` the
 /// first record is counted and not judged. The fault of the first record that has one is returned; `Read` and `Memory`
 /// stand in the place of whatever would follow where they come.
@@ -76,10 +77,7 @@ pub fn read_table<R: Read + Drop>(
     let end = read_entries(alloc, reader, header, max, &mut entries);
     // (a repeated id is reported first: what ended the load stands after it)
     let table = table_of_entries(alloc, header, entries)?;
-    match end {
-        Ok(()) => Ok(table),
-        Err(cause) => Err(cause),
-    }
+    end.and(Ok(table))
 }
 
 // Reads the entries of records, and compares no ids. At a fault the entries are those of the records before.
@@ -89,7 +87,7 @@ fn read_entries<R: Read + Drop>(
     header: bool,
     max: u32,
     entries: &mut Entries,
-) -> Result<(), TableFault>
+) -> Judged<()>
     requires none { entries.old ≡ [] }
     requires most { max ≤ most_entries }
     ensures few { length entries.new ≤ max }
@@ -116,7 +114,7 @@ fn read_entries<R: Read + Drop>(
 }
 
 // The table of the entries that were read, if no id comes again.
-fn table_of_entries(alloc: Global, header: bool, entries: Entries) -> Result<Table, TableFault>
+fn table_of_entries(alloc: Global, header: bool, entries: Entries) -> Judged<Table>
     requires most { length entries ≤ most_entries }
     requires layers { All HasLayer entries }
     ensures table { IfOk result (λ table. table ≡ entries) }
@@ -141,19 +139,10 @@ fn first_number(header: bool) -> u32
 }
 
 // The next record, where there is one. After an error, which is of the reader or of memory, there is none.
-fn next_record<R: Read>(
-    records: &mut Reader<R>,
-    fields: &mut ByteRecord,
-) -> Result<bool, TableFault>
-    requires trim { reader_trim records.old ≡ trim.None }
-    requires ready { Ready records.old }
-    requires config { reader_config records.old ≡ default_config }
-    requires flexible { is_flexible records.old ≡ true }
+fn next_record<R: Read>(records: &mut Reader<R>, fields: &mut ByteRecord) -> Judged<bool>
+    requires { IsReading records.old }
     ensures reads { IfOk result (λ found. ReadRecord R.remaining records.old records.new found (fields_of fields.new)) }
-    ensures trim { OnOk result (reader_trim records.new ≡ trim.None) }
-    ensures ready { OnOk result (Ready records.new) }
-    ensures config { OnOk result (reader_config records.new ≡ default_config) }
-    ensures flexible { OnOk result (is_flexible records.new ≡ true) }
+    ensures reading { OnOk result (IsReading records.new) }
     ensures failed { OnErr result (has_failed records.new ≡ true) }
     ensures fault { IfErr result (λ cause. (cause ≡ TableFault.Read) ⊎ (cause ≡ TableFault.Memory)) }
 {
@@ -165,12 +154,7 @@ fn next_record<R: Read>(
 }
 
 // Judges one record, but for its id, and adds its entry.
-fn add_entry(
-    max: u32,
-    number: u32,
-    fields: &ByteRecord,
-    entries: &mut Entries,
-) -> Result<(), TableFault>
+fn add_entry(max: u32, number: u32, fields: &ByteRecord, entries: &mut Entries) -> Judged<()>
     requires { All HasLayer entries.old }
     ensures added { OnOk result (IsOkAnd (entry_after max number entries.old (fields_of fields.now))
         (λ entry. entries.new ≡ entries.old ++ entry ∷ [])) }
@@ -191,7 +175,7 @@ fn add_entry(
 }
 
 // The entry of a record's fields.
-fn entry_of(number: u32, fields: &ByteRecord) -> Result<Entry, TableFault>
+fn entry_of(number: u32, fields: &ByteRecord) -> Judged<Entry>
     ensures value { result ≡ entry_of_fields number (fields_of fields.now) }
     ensures layer { IfOk result HasLayer }
 {
@@ -202,17 +186,17 @@ fn entry_of(number: u32, fields: &ByteRecord) -> Result<Entry, TableFault>
             found: found as u64,
         });
     }
-    let id = number_of(number, 1, field(fields, 0), i64::MIN, i64::MAX)?;
-    let min_x = coordinate_of(number, 2, field(fields, 1))?;
-    let max_x = coordinate_of(number, 3, field(fields, 2))?;
-    let min_y = coordinate_of(number, 4, field(fields, 3))?;
-    let max_y = coordinate_of(number, 5, field(fields, 4))?;
+    let id = number_at(number, 1, i64::MIN, i64::MAX, fields)?;
+    let min_x = coordinate_at(number, 2, fields)?;
+    let max_x = coordinate_at(number, 3, fields)?;
+    let min_y = coordinate_at(number, 4, fields)?;
+    let max_y = coordinate_at(number, 5, fields)?;
     let layer = layer_in(number, fields)?;
     entry_of_sides(number, id, min_x, max_x, min_y, max_y, layer)
 }
 
-// The field at a place that is there.
-fn field(fields: &ByteRecord, place: usize) -> &[u8]
+// The text of a field that is there, at a place that counts from 0.
+fn text_at(fields: &ByteRecord, place: usize) -> &[u8]
     requires { place < length (fields_of fields.now) }
     ensures { result.now ≡ slice_index_or (fields_of fields.now) place [] }
 {
@@ -221,21 +205,17 @@ fn field(fields: &ByteRecord, place: usize) -> &[u8]
 
 // A coordinate.
 #[inline(always)]
-fn coordinate_of(number: u32, field: u8, text: &[u8]) -> Result<i32, TableFault>
-    ensures { result ≡ number_of number field i32.MIN i32.MAX text.now }
+fn coordinate_at(number: u32, field: u8, fields: &ByteRecord) -> Judged<i32>
+    requires { (0 < field) × (field ≤ length (fields_of fields.now)) }
+    ensures { result ≡ coordinate_at number field (fields_of fields.now) }
 {
-    Ok(number_of(
-        number,
-        field,
-        text,
-        i64::from(i32::MIN),
-        i64::from(i32::MAX),
-    )? as i32)
+    let (low, high) = (i64::from(i32::MIN), i64::from(i32::MAX));
+    Ok(number_at(number, field, low, high, fields)? as i32)
 }
 
 // The layer of a record.
 #[inline(always)]
-fn layer_in(number: u32, fields: &ByteRecord) -> Result<u8, TableFault>
+fn layer_in(number: u32, fields: &ByteRecord) -> Judged<u8>
     requires { FIELDS_WITHOUT_LAYER ≤ length (fields_of fields.now) }
     ensures value { result ≡ layer_in number (fields_of fields.now) }
     ensures within { IfOk result (λ layer. layer ≤ most_layer) }
@@ -243,26 +223,29 @@ fn layer_in(number: u32, fields: &ByteRecord) -> Result<u8, TableFault>
     if fields.len() == FIELDS_WITHOUT_LAYER {
         Ok(0)
     } else {
-        layer_of(number, field(fields, 5))
+        sixth_field(number, fields)
     }
 }
 
 // The sixth field. Kept out of line, as most tables have none.
 #[inline(never)]
-fn layer_of(number: u32, text: &[u8]) -> Result<u8, TableFault>
-    ensures value { result ≡ map_value unsigned_abs (number_of number 6 (pos 0) (pos most_layer) text.now) }
+fn sixth_field(number: u32, fields: &ByteRecord) -> Judged<u8>
+    requires { FIELDS_WITH_LAYER ≤ length (fields_of fields.now) }
+    ensures value { result ≡ map_value unsigned_abs (number_at number 6 (pos 0) (pos most_layer) (fields_of fields.now)) }
     ensures within { IfOk result (λ layer. layer ≤ most_layer) }
 {
-    let layer = number_of(number, 6, text, 0, i64::from(Layers::MOST))?;
+    let layer = number_at(number, 6, 0, i64::from(Layers::MOST), fields)?;
     Ok(layer.unsigned_abs() as u8)
 }
 
-// The number of a field, within its range.
+// The number in a field that is there, within a range.
 #[inline(always)]
-fn number_of(number: u32, field: u8, text: &[u8], low: i64, high: i64) -> Result<i64, TableFault>
-    ensures value { result ≡ number_of number field low high text.now }
+fn number_at(number: u32, field: u8, low: i64, high: i64, fields: &ByteRecord) -> Judged<i64>
+    requires { (0 < field) × (field ≤ length (fields_of fields.now)) }
+    ensures value { result ≡ number_at number field low high (fields_of fields.now) }
     ensures within { IfOk result (λ n. (low ≤ℤ n) × (n ≤ℤ high)) }
 {
+    let text = text_at(fields, usize::from(field) - 1);
     match numbers::number_64(text, low, high) {
         Ok(value) => Ok(value),
         Err(NumberFault::NotNumber) => Err(TableFault::NotNumber { number, field }),
@@ -279,22 +262,16 @@ fn entry_of_sides(
     min_y: i32,
     max_y: i32,
     layer: u8,
-) -> Result<Entry, TableFault>
+) -> Judged<Entry>
     requires { layer ≤ most_layer }
     ensures value { result ≡ (if int_lt max_x min_x then Err (TableFault.MinAboveMax number Axis.X)
         else if int_lt max_y min_y then Err (TableFault.MinAboveMax number Axis.Y)
         else Ok (record { id = id; bounds = rect_of min_x max_x min_y max_y; layer = layer })) }
     ensures layer { IfOk result HasLayer }
 {
-    match Bounds::new(min_x, max_x, min_y, max_y) {
-        Some(bounds) => Ok(Entry { id, bounds, layer }),
-        None if min_x > max_x => Err(TableFault::MinAboveMax {
-            number,
-            axis: Axis::X,
-        }),
-        None => Err(TableFault::MinAboveMax {
-            number,
-            axis: Axis::Y,
-        }),
-    }
+    let Some(bounds) = Bounds::new(min_x, max_x, min_y, max_y) else {
+        let axis = if min_x > max_x { Axis::X } else { Axis::Y };
+        return Err(TableFault::MinAboveMax { number, axis });
+    };
+    Ok(Entry { id, bounds, layer })
 }

@@ -1,8 +1,6 @@
 use Rattle.std.proofs.Common.{All, ◌≡◌, ◌-◌, ◌≤◌, ℕ, List, Some, length, true}
-use Rattle.csv.specs.Reading.{Ready, default_config}
-use Rattle.csv.specs.declared.reader.Trim.TheVariants as trim
 use Rattle.rt_geo.specs.Entries.{HasLayer}
-use Rattle.rt_text.specs.Loads.{first_number}
+use Rattle.rt_text.specs.Loads.{IsReading, first_number}
 use Rattle.rt_text.specs.Tables.{table_of}
 use Rattle.rt_text.proofs.TableReads.{ReadUpTo}
 use Rattle.rt_text.proofs.tables.read_entries.Given as goal
@@ -10,10 +8,7 @@ use Rattle.rt_text.proofs.tables.read_entries.Given as goal
 -- each record before this one gave an entry, but the first where it is a header
 abbrev pub invariant-loop-number : goal.invariant-loop-number
 invariant-loop-number g l = record {
-  trim : l.records.trim ≡ trim.None;
-  ready : Ready l.records;
-  config : l.records.config ≡ default_config;
-  flexible : l.records.flexible ≡ true;
+  reading : IsReading l.records;
   count : length l.entries ≡ l.number - first_number l.fn.header;
   most : length l.entries ≤ l.fn.max;
   layers : All HasLayer l.entries;
