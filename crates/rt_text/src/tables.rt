@@ -192,7 +192,11 @@ fn entry_of(number: u32, fields: &ByteRecord) -> Judged<Entry>
     let min_y = coordinate_at(number, 4, fields)?;
     let max_y = coordinate_at(number, 5, fields)?;
     let layer = layer_in(number, fields)?;
-    entry_of_sides(number, id, min_x, max_x, min_y, max_y, layer)
+    let Some(bounds) = Bounds::new(min_x, max_x, min_y, max_y) else {
+        let axis = if min_x > max_x { Axis::X } else { Axis::Y };
+        return Err(TableFault::MinAboveMax { number, axis });
+    };
+    Ok(Entry { id, bounds, layer })
 }
 
 // The text of a field that is there, at a place that counts from 0.
@@ -251,27 +255,4 @@ fn number_at(number: u32, field: u8, low: i64, high: i64, fields: &ByteRecord) -
         Err(NumberFault::NotNumber) => Err(TableFault::NotNumber { number, field }),
         Err(NumberFault::OutOfRange) => Err(TableFault::OutOfRange { number, field }),
     }
-}
-
-// The entry of an id, the four sides of its box and its layer.
-fn entry_of_sides(
-    number: u32,
-    id: i64,
-    min_x: i32,
-    max_x: i32,
-    min_y: i32,
-    max_y: i32,
-    layer: u8,
-) -> Judged<Entry>
-    requires { layer ≤ most_layer }
-    ensures value { result ≡ (if int_lt max_x min_x then Err (TableFault.MinAboveMax number Axis.X)
-        else if int_lt max_y min_y then Err (TableFault.MinAboveMax number Axis.Y)
-        else Ok (record { id = id; bounds = rect_of min_x max_x min_y max_y; layer = layer })) }
-    ensures layer { IfOk result HasLayer }
-{
-    let Some(bounds) = Bounds::new(min_x, max_x, min_y, max_y) else {
-        let axis = if min_x > max_x { Axis::X } else { Axis::Y };
-        return Err(TableFault::MinAboveMax { number, axis });
-    };
-    Ok(Entry { id, bounds, layer })
 }
