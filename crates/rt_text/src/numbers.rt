@@ -25,16 +25,9 @@ pub enum NumberFault {
 
 /// A number in front of a text: what it is, and how many bytes it takes.
 #[derive(Clone, Copy)]
-pub(crate) struct Leading {
-    pub(crate) number: i64,
+pub(crate) struct Leading<T> {
+    pub(crate) number: T,
     pub(crate) len: usize,
-}
-
-// Digits in front of a text: the number that they write, and how many they are.
-#[derive(Clone, Copy)]
-struct Digits {
-    number: u64,
-    count: usize,
 }
 
 /// The number that a text gives, where it lies in a range: an optional `+` or `-`, then one or more
@@ -69,7 +62,7 @@ pub(crate) fn number_64(text: &[u8], low: i64, high: i64) -> Result<i64, NumberF
 
 /// A number in front of a text, whatever stands behind it: a sign if there is one, and its digits up to the 18th.
 #[inline(always)]
-pub(crate) fn leading_number(text: &[u8]) -> Option<Leading>
+pub(crate) fn leading_number(text: &[u8]) -> Option<Leading<i64>>
     ensures within { IfSome result (λ found. found.len ≤ length text.now) }
     ensures value { IfSome result (λ found. number_text (take found.len text.now) ≡ Some found.number) }
 {
@@ -78,61 +71,50 @@ pub(crate) fn leading_number(text: &[u8]) -> Option<Leading>
     }
     let behind = without_sign(text);
     let digits = leading_digits(behind);
-    if digits.count == 0 {
+    if digits.len == 0 {
         return None;
     }
-    let magnitude = digits.number as i64;
-    Some(Leading {
-        number: if text[0] == b'-' {
-            -magnitude
-        } else {
-            magnitude
-        },
-        len: text.len() - behind.len() + digits.count,
-    })
+    let value = digits.number as i64;
+    let number = if text[0] == b'-' { -value } else { value };
+    let len = text.len() - behind.len() + digits.len;
+    Some(Leading { number, len })
 }
 
 // The digits in front of a text, up to the 18th.
 #[inline(always)]
-fn leading_digits(text: &[u8]) -> Digits
-    ensures within { result.count ≤ length text.now }
-    ensures digits { list_all is_ascii_digit (take result.count text.now) ≡ true }
-    ensures number { result.number ≡ digits_value 10 (take result.count text.now) }
+fn leading_digits(text: &[u8]) -> Leading<u64>
+    ensures within { result.len ≤ length text.now }
+    ensures digits { list_all is_ascii_digit (take result.len text.now) ≡ true }
+    ensures number { result.number ≡ digits_value 10 (take result.len text.now) }
     ensures small { result.number < 10 ^ SHORT }
 {
     let most = text.len().min(SHORT);
     let first = leading_group(text);
     let mut number = first.number;
-    for at in first.count..most {
+    for at in first.len..most {
         if !text[at].is_ascii_digit() {
-            return Digits { number, count: at };
+            return Leading { number, len: at };
         }
         number = number * 10 + u64::from(text[at] - b'0');
     }
-    Digits {
-        number,
-        count: most,
-    }
+    Leading { number, len: most }
 }
 
 // The first bytes of a text, where they are all digits, and else none.
 #[inline(always)]
-fn leading_group(text: &[u8]) -> Digits
-    ensures within { result.count ≤ min (length text.now) GROUP }
-    ensures digits { list_all is_ascii_digit (take result.count text.now) ≡ true }
-    ensures number { result.number ≡ digits_value 10 (take result.count text.now) }
-    ensures small { result.number < 10 ^ result.count }
+fn leading_group(text: &[u8]) -> Leading<u64>
+    ensures within { result.len ≤ min (length text.now) GROUP }
+    ensures digits { list_all is_ascii_digit (take result.len text.now) ≡ true }
+    ensures number { result.number ≡ digits_value 10 (take result.len text.now) }
+    ensures small { result.number < 10 ^ result.len }
 {
     if GROUP <= text.len() && all_digits(&text[..GROUP]) {
-        Digits {
+        Leading {
             number: written(&text[..GROUP]),
-            count: GROUP,
+            len: GROUP,
         }
     } else {
-        Digits {
-            number: 0,
-            count: 0,
-        }
+        Leading { number: 0, len: 0 }
     }
 }
 
