@@ -1,5 +1,5 @@
 -- The words of a line, one after the other. A blank is any byte that passes the test p.
-use Rattle.std.proofs.Common.{◌≡◌, ◌≢◌, ◌∙◌, ℕ, Bool, true, false, not, List, [], ◌∷◌, length, take, drop, filter, refl, sym, ap, arith, Option, Some, None, unwrap_or, nat_lt, one-add}
+use Rattle.std.proofs.Common.{◌≡◌, ◌≢◌, ◌∙◌, ℕ, Bool, true, false, not, List, [], ◌∷◌, length, take, drop, filter, refl, sym, ap, arith, Option, unwrap_or, nat_lt, one-add}
 use Rattle.std.proofs.lemmas.List.Sums.{prefix_len-le-length}
 use borrow.Author.Tests.{ltb-false}
 use Rattle.std.specs.List.{position, position_or_len, slice_split}

@@ -3,12 +3,11 @@
 //! The functions follow the definitions of `specs/Queries.antt`: each takes the words that its definition takes, and
 //! answers what that answers.
 
-ghost use Rattle.std.specs.{List.{starts_with}, Prelude.{◌≡◌, ◌≤◌, ◌≤ℤ◌, ◌∷◌, [], ℕ, nat_eq, codes, IfErr, IfOk, List}};
-ghost use Rattle.std.specs.{Prelude.{MatchOption, OnOk, Some, Ok, Err}, Str.Lines.{strip_carriage_return}};
-ghost use Rattle.rt_text.specs.{Numbers.{fault_as, number_text}, Queries.{Takes, box_query, circle, coordinate, count}};
-ghost use Rattle.rt_text.specs.Queries.{find, finished, layers_of, limit, natural, nearest, number, on_list, order};
-ghost use Rattle.rt_text.specs.Queries.{point, points, polygon, query, query_of, region, sides, usual_order};
-ghost use Rattle.rt_text.specs.Queries.{vertex_count, word_as};
+ghost use Rattle.std.specs.Prelude.{◌≡◌, ◌≤◌, ◌≤ℤ◌, ◌∷◌, [], ℕ, IfErr, IfOk, List, MatchOption, Some, Ok, Err};
+ghost use Rattle.std.specs.Str.Lines.{strip_carriage_return};
+ghost use Rattle.rt_text.specs.{Numbers.{number_text}, Queries.{Takes, box_query, circle, coordinate, count, find, finished}};
+ghost use Rattle.rt_text.specs.Queries.{layers_of, limit, natural, nearest, number, on_list, order, point, points, polygon};
+ghost use Rattle.rt_text.specs.Queries.{query, query_of, region, sides, usual_order, vertex_count, word_as};
 ghost use Rattle.rt_geo.specs.Layers.{most_layer};
 
 use crate::numbers::{self, NumberFault};

@@ -1,9 +1,9 @@
 //! Numbers as text.
 
 ghost use Rattle.std.specs.{Char.{is_ascii_digit}, List.{list_all}, Prelude.{◌≡◌, ◌≤ℤ◌, ◌<◌, ◌≤◌, ◌^◌, IfOk, IfSome}};
-ghost use Rattle.std.specs.Prelude.{Some, length, neg_ℤ, pos, min, option_map, ok_or, take, true};
+ghost use Rattle.std.specs.Prelude.{Some, length, min, option_map, ok_or, take, true};
 ghost use Rattle.std.specs.Str.Parse.{digits_value, without_leading_sign};
-ghost use Rattle.rt_text.specs.Numbers.{digits_number, in_range, number_in, number_text};
+ghost use Rattle.rt_text.specs.Numbers.{digits_number, number_in, number_text};
 
 use crate::digits::number_of;
 use std::simd::prelude::*;

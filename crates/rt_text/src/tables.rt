@@ -5,14 +5,14 @@
 //! A record is five numbers: an id, the least and the greatest x, the least and the greatest y. A sixth may follow, the
 //! layer, which is 0 where it doesn't stand.
 
-ghost use Rattle.std.specs.{List.{slice_index_or}, Prelude.{◌≡◌, ◌≤ℤ◌, ◌+◌, ◌<◌, ◌≤◌, ◌++◌, ◌∷◌, [], length, ◌⊎◌}};
-ghost use Rattle.std.specs.Prelude.{true, List, ℕ, int_lt, pos, unsigned_abs, if◌then◌else◌, Result, Ok, Some, None};
-ghost use Rattle.std.specs.Prelude.{IsOkAnd, IfOk, IfErr, OnErr, OnOk, All};
+ghost use Rattle.std.specs.{List.{slice_index_or}, Prelude.{◌≡◌, ◌≤ℤ◌, ◌<◌, ◌≤◌, ◌++◌, ◌∷◌, [], length, ◌⊎◌, List, ℕ}};
+ghost use Rattle.std.specs.Prelude.{pos, unsigned_abs, Result, Ok, Some, None, IsOkAnd, IfOk, IfErr, OnErr, OnOk, All, true};
 ghost use Rattle.csv.specs.{Reading.{ReadRecord, has_failed}, Records.{fields_of}};
-ghost use Rattle.rt_geo.specs.{Boxes.{rect_of}, Entries.{HasLayer}, Layers.{most_layer}, declared.entry.Entry.{Entry}};
+ghost use Rattle.rt_geo.specs.{Entries.{HasLayer}, Layers.{most_layer}, declared.entry.Entry.{Entry}};
 ghost use Rattle.rt_tree.specs.Entries.{first_repeat, most_entries};
 ghost use Rattle.rt_text.specs.Loads.{EndsAt, IsReading, IsRefusal, after_ids, entry_after, first_number};
-ghost use Rattle.rt_text.specs.{Steps.{map_value}, Tables.{IsFaultOf, coordinate_at, entry_of_fields, layer_in, number_at, table_of}};
+ghost use Rattle.rt_text.specs.{Steps.{map_value}, Tables.{IsFaultOf, coordinate_at, entry_of_fields}};
+ghost use Rattle.rt_text.specs.Tables.{layer_in, number_at, table_of};
 
 use crate::numbers::{self, NumberFault};
 use csv::{ByteRecord, Reader, ReaderBuilder};
@@ -168,10 +168,7 @@ fn add_entry(max: u32, number: u32, fields: &ByteRecord, entries: &mut Entries) 
         return Err(TableFault::TooMany { number });
     }
     let entry = entry_of(number, fields)?;
-    match entries.push(entry) {
-        Ok(()) => Ok(()),
-        Err(_) => Err(TableFault::Memory),
-    }
+    entries.push(entry).or(Err(TableFault::Memory))
 }
 
 // The entry of a record's fields.

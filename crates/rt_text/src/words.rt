@@ -1,7 +1,7 @@
 //! The words of a line.
 
-ghost use Rattle.std.specs.{List.{position_or_len}, Prelude.{◌≡◌, ◌≤◌, ◌==◌, ℕ, List, [], ◌∷◌, ◌↔◌, IsTrue, Some}};
-ghost use Rattle.std.specs.Prelude.{drop, if◌then◌else◌, length, not, MatchOption, position};
+ghost use Rattle.std.specs.{List.{position_or_len}, Prelude.{◌≡◌, ◌==◌, ℕ, List, [], ◌∷◌, ◌↔◌, IsTrue, Some, MatchOption}};
+ghost use Rattle.std.specs.Prelude.{drop, if◌then◌else◌, not, position};
 ghost use Rattle.rt_text.specs.{Numbers.{number_text}, Queries.{is_next}, Words.{is_blank, words}};
 
 use crate::numbers::leading_number;

@@ -1,6 +1,5 @@
-use Rattle.std.proofs.Common.{◌≡◌, ◌∙◌, ◌-◌, ap, arith, drop, false, length, option_map, pos, rules, sym, take, true}
+use Rattle.std.proofs.Common.{◌≡◌, ◌∙◌, ◌-◌, ap, arith, drop, length, option_map, pos, rules, sym, take}
 use Rattle.std.specs.Prelude.{neg_ℤ}
-use Rattle.std.specs.Str.Parse.{starts_with_minus, without_leading_sign}
 use Rattle.std.proofs.lemmas.Grind.{common_steps}
 use Rattle.rt_text.specs.Numbers.{digits_number, in_range}
 use Rattle.rt_text.proofs.NumberLemmas.{least_i128, most_i128, number_text-minus, number_text-plain}

@@ -1,4 +1,4 @@
-use Rattle.std.proofs.Common.{All, ◌≡◌, ◌-◌, ◌≤◌, ℕ, List, Some, length, true}
+use Rattle.std.proofs.Common.{All, ◌≡◌, ◌-◌, ◌≤◌, ℕ, List, Some, length}
 use Rattle.rt_geo.specs.Entries.{HasLayer}
 use Rattle.rt_text.specs.Loads.{IsReading, first_number}
 use Rattle.rt_text.specs.Tables.{table_of}
