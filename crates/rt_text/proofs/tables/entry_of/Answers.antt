@@ -1,7 +1,6 @@
 use Rattle.std.proofs.Common.{◌≡◌, ◌==◌, ◌||◌, ℕ, List, length, rules, true}
 use Rattle.csv.specs.Records.{fields_of}
 use Rattle.rt_text.proofs.tables.entry_of.Goals as goal
-use Rattle.rt_text.proofs.tables.entry_of.Goals.{then-min_x-max_x, else-min_x-max_x}
 
 -- there are as many fields as a record may have
 abbrev Enough : List (List ℕ) → Type 0
@@ -26,9 +25,4 @@ pub returns : goal.returns
 returns c = let enough : Enough (fields_of c.args.fields.now) = search rules in rw enough (search rules)
 
 pub returns-in_default-clause-value : goal.returns-in_default-clause-value
-returns-in_default-clause-value c =
-    let enough : Enough (fields_of c.args.fields.now) = search rules in
-    elim c.if-min_x-max_x.branch [
-      | then-min_x-max_x w ↦ rw (w.axis-is, enough) (search rules)
-      | else-min_x-max_x w ↦ rw (w.axis-is, enough) (search rules)
-    ]
+returns-in_default-clause-value c = let enough : Enough (fields_of c.args.fields.now) = search rules in rw enough (search rules)
