@@ -130,26 +130,6 @@ in_range-narrower_ok least most low high (Some m) n e = by (int_le least m && in
     by true p = let x : ◌≡◌ {A = Result ℤ NumberFault} (Ok n) (Ok m) = e ∙ if_true _ _ _ p in let y : n ≡ m = cc in rw y refl
     by false p = let x : ◌≡◌ {A = Result ℤ NumberFault} (Ok n) (Err fault.OutOfRange) = e ∙ if_false _ _ _ p in absurd cc
 
--- ---- the tests of a range
-
-pub in_range-inside : (low high n : ℤ) → low ≤ℤ n → n ≤ℤ high → in_range low high (Some n) ≡ Ok n
-in_range-inside low high n a b = if_true _ _ _ (within low high n a b)
-  where
-    within : (low high n : ℤ) → low ≤ℤ n → n ≤ℤ high → (int_le low n && int_le n high) ≡ true
-    within low high n a b = grind (arith, ints)
-
-pub in_range-below : (low high n : ℤ) → n <ℤ low → in_range low high (Some n) ≡ Err fault.OutOfRange
-in_range-below low high n a = if_false _ _ _ (below low high n a)
-  where
-    below : (low high n : ℤ) → n <ℤ low → (int_le low n && int_le n high) ≡ false
-    below low high n a = grind (arith, ints)
-
-pub in_range-above : (low high n : ℤ) → high <ℤ n → in_range low high (Some n) ≡ Err fault.OutOfRange
-in_range-above low high n a = if_false _ _ _ (above low high n a)
-  where
-    above : (low high n : ℤ) → high <ℤ n → (int_le low n && int_le n high) ≡ false
-    above low high n a = grind (arith, ints)
-
 -- ---- a minus
 
 negated : (b : Bool) (n : ℕ) → (if b then Some (neg_ℤ (pos n)) else None) ≡ option_map (λ m. neg_ℤ (pos m)) (if b then Some n else None)

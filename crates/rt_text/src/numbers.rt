@@ -37,11 +37,10 @@ pub fn number(text: &[u8], low: i128, high: i128) -> Result<i128, NumberFault>
     ensures within { IfOk result (λ n. (low ≤ℤ n) × (n ≤ℤ high)) }
 {
     let number = signed(text)?;
-    if low <= number && number <= high {
-        Ok(number)
-    } else {
-        Err(NumberFault::OutOfRange)
+    if number < low || high < number {
+        return Err(NumberFault::OutOfRange);
     }
+    Ok(number)
 }
 
 /// The same for a range within that of `i64`.
