@@ -1,5 +1,5 @@
 -- Numbers as text: one digit at a time, up to a greatest number, and one range within another.
-use Rattle.std.proofs.Common.{◌≡◌, ◌+◌, ◌*◌, ◌-◌, ◌%◌, ◌<◌, ◌≤◌, ℕ, zero, suc, ℤ, pos, negsuc, ◌^◌, ◌≤ℤ◌, ◌<ℤ◌, min, Bool, true, false, ◌&&◌, Option, Some, None, List, [], ◌∷◌, map, replicate, drop, take, length, get_or, arith, ◌∙◌, ap, sym, refl, add-one}
+use Rattle.std.proofs.Common.{◌≡◌, ◌+◌, ◌*◌, ◌-◌, ◌%◌, ◌<◌, ◌≤◌, ℕ, zero, suc, ℤ, pos, negsuc, ◌^◌, min, Bool, true, false, ◌&&◌, Option, Some, None, List, [], ◌∷◌, map, replicate, drop, take, length, get_or, arith, ◌∙◌, ap, sym, refl, add-one}
 use Rattle.std.specs.Prelude.{Result, Ok, Err, int_le, if◌then◌else◌, neg_ℤ, option_map}
 use Rattle.std.specs.Char.{digit_value, is_ascii_digit}
 use Rattle.std.specs.Int.Digits.{AllBelowBase, number_from_digits}
@@ -8,7 +8,6 @@ use Rattle.std.specs.Simd.Lanes.{zip2}
 use Rattle.std.specs.Str.Parse.{digits_value, starts_with_minus, without_leading_sign}
 use Rattle.std.proofs.Math.Nat.{pow-le-pow_right, pow-suc}
 use Rattle.std.proofs.lemmas.Bool.Decides.{nat_tests}
-use Rattle.std.proofs.lemmas.Int.{ints}
 use Rattle.std.proofs.lemmas.Int.Digits.{digits_value_is, digits_value_more, number_lt}
 use Rattle.std.proofs.lemmas.List.{length-map, take_all}
 use Rattle.std.proofs.lemmas.List.Folds.{list_all_more}
@@ -100,25 +99,11 @@ least_i128 = negsuc (2 ^ 127 - 1)
 abbrev pub most_i128 : ℤ
 most_i128 = pos (2 ^ 127 - 1)
 
-wider : (least most low high n : ℤ) → least ≤ℤ low → high ≤ℤ most → (int_le low n && int_le n high) ≡ true → (int_le least n && int_le n most) ≡ true
-wider least most low high n a b h = grind (arith, ints)
-
 if_true : {A : Type 0} (b : Bool) (x y : A) → b ≡ true → (if b then x else y) ≡ x
 if_true b x y e = rw e refl
 
 if_false : {A : Type 0} (b : Bool) (x y : A) → b ≡ false → (if b then x else y) ≡ y
 if_false b x y e = rw e refl
-
--- what is no number of the wide range is none of the narrow one, for the same reason
-pub in_range-narrower_err : (least most low high : ℤ) (o : Option ℤ) (f : NumberFault) → least ≤ℤ low → high ≤ℤ most
-    → Err f ≡ in_range least most o → Err f ≡ in_range low high o
-in_range-narrower_err least most low high None f a b e = e
-in_range-narrower_err least most low high (Some n) f a b e = by (int_le least n && int_le n most) (int_le low n && int_le n high) refl refl
-  where
-    by : (w v : Bool) → (int_le least n && int_le n most) ≡ w → (int_le low n && int_le n high) ≡ v → Err f ≡ in_range low high (Some n)
-    by true v p q = let x : Err f ≡ Ok n = e ∙ if_true _ _ _ p in absurd cc
-    by false true p q = let x : false ≡ true = sym p ∙ wider least most low high n a b q in absurd cc
-    by false false p q = e ∙ if_false _ _ _ p ∙ sym (if_false _ _ _ q)
 
 -- a number of the wide range is judged by the narrow one alone
 pub in_range-narrower_ok : (least most low high : ℤ) (o : Option ℤ) (n : ℤ)

@@ -29,10 +29,6 @@ after_all so_far more = Ok (so_far ++ more.0, more.1)
 abbrev pub points_after : List Point → ℕ → List (List ℕ) → PointsRead
 points_after so_far n words = points n words >>= after_all so_far
 
-after_none : (read : PointsRead) → read ≡ (read >>= after_all [])
-after_none (Ok more) = refl
-after_none (Err cause) = refl
-
 -- one point more was read
 after_one : (so_far : List Point) (p : Point) (read : PointsRead)
     → ((read >>= after_first p) >>= after_all so_far) ≡ (read >>= after_all (so_far ++ p ∷ []))

@@ -8,7 +8,7 @@ use Rattle.rt_text.specs.Steps.{◌>>=◌}
 use Rattle.rt_tree.specs.Entries.{first_repeat, has_id}
 use Rattle.rt_tree.proofs.RepeatLemmas.{first_repeat-push, repeat_with}
 use Rattle.rt_text.specs.Loads.{IsRefusal, after_ids, entry_after, first_number, repeat_or}
-use Rattle.rt_text.specs.Tables.{IsFaultOf, entries_from, entry_of_fields, judged, records_of, table_of}
+use Rattle.rt_text.specs.Tables.{IsFaultOf, entries_from, judged}
 use Rattle.rt_text.specs.declared.tables.TableFault.{TableFault}
 use Rattle.rt_text.specs.declared.tables.TableFault.TheVariants as fault
 
@@ -26,13 +26,6 @@ IsSome-field text None fields place e h = let x : None ≡ Some (get_or fields p
 IsSome-field text (Some a) fields place e h = search rules
 
 -- ---- one record
-
-pub entry_after-fields : (max number : ℕ) (so_far : List Entry) (fields : List (List ℕ)) → length so_far < max
-    → entry_after max number so_far fields ≡ entry_of_fields number fields
-entry_after-fields max number so_far fields room = rw room_now refl
-  where
-    room_now : nat_le max (length so_far) ≡ false
-    room_now = grind (arith, nat_tests)
 
 -- the entry, where no entry so far has its id
 abbrev new_entry : (number : ℕ) → List Entry → Entry → Result Entry TableFault
@@ -59,10 +52,6 @@ judged-id max number so_far fields entry read = judged-entry max number so_far f
 abbrev pub table_after : (header : Bool) → (max number : ℕ) → List Entry → List (List (List ℕ)) → Result (List Entry) TableFault
 table_after header max number so_far records =
     if header && (number == 1) then entries_from max (number + 1) so_far (drop 1 records) else entries_from max number so_far records
-
-pub table_after-start : (bytes : List ℕ) (header : Bool) (max : ℕ) → table_of bytes header max ≡ table_after header max 1 [] (records_of bytes)
-table_after-start bytes true max = refl
-table_after-start bytes false max = refl
 
 pub table_after-end : (header : Bool) (max number : ℕ) (so_far : List Entry) → table_after header max number so_far [] ≡ Ok so_far
 unfolding entries_from

@@ -1,17 +1,14 @@
 -- Reading a table: what has been read before a record, and what one more read makes of it.
 use Rattle.std.proofs.Common.{◌≡◌, ◌≤◌, ◌+◌, ◌==◌, ◌&&◌, ◌⊎◌, inl, inr, ℕ, Bool, true, false, List, [], ◌∷◌, ◌++◌, length, length-append, Option, Some, refl, ◌∙◌, ap, arith}
-use Rattle.std.specs.Prelude.{Result, Ok, Err, IsOkAnd, option_map}
+use Rattle.std.specs.Prelude.{Result, Ok, Err, IsOkAnd}
 use Rattle.std.proofs.lemmas.Bool.Decides.{nat_tests}
-use Rattle.csv.specs.Reading.{ReadRecord, default_config, source_of, strip_bom}
-use Rattle.csv.specs.declared.parser.State.TheVariants as st
+use Rattle.csv.specs.Reading.{ReadRecord, default_config, source_of}
 use Rattle.csv.specs.declared.reader.Reader.{Reader}
 use Rattle.rt_geo.specs.declared.entry.Entry.{Entry}
 use Rattle.rt_text.specs.Loads.{EndsAt, IsRefusal, after_ids, entry_after, first_number}
-use Rattle.rt_text.specs.Tables.{IsFaultOf, table_of}
 use Rattle.rt_text.specs.declared.tables.TableFault.{TableFault}
-use Rattle.rt_text.specs.declared.tables.TableFault.TheVariants as fault
 use Rattle.rt_text.proofs.Records.{records_after, records_after-end, records_after-found}
-use Rattle.rt_text.proofs.TableLemmas.{after_ids-more, after_ids-refused, table_after, table_after-end, table_after-header, table_after-start}
+use Rattle.rt_text.proofs.TableLemmas.{after_ids-more, after_ids-refused, table_after, table_after-end, table_after-header}
 
 -- before the record of this number: the table is the entries so far, if no id comes again, and what the bytes to come add
 pub record ReadUpTo {R : Type 0} (rem : R → Option (List ℕ)) (records : Reader R) (so_far : List Entry) (header : Bool) (max number : ℕ) (table : Result (List Entry) TableFault) : Type 0 where
@@ -26,15 +23,6 @@ is_judged header number (inl both) = rw both.0 (later number both.1)
     later : (n : ℕ) → (n ≡ 1 → ⊥) → (n == 1) ≡ false
     later n h = grind (arith, nat_tests)
 is_judged header number (inr absent) = rw absent refl
-
-pub read-start : {R : Type 0} (rem : R → Option (List ℕ)) (reader : R) (records : Reader R) (so_far : List Entry) (header : Bool) (max : ℕ) (bytes : List ℕ)
-    → source_of rem records ≡ option_map strip_bom (rem reader) → records.state ≡ st.StartRecord → so_far ≡ [] → rem reader ≡ Some bytes
-    → ReadUpTo rem records so_far header max 1 (table_of bytes header max)
-read-start rem reader records so_far header max bytes source state empty known = record {
-  rest = strip_bom bytes;
-  known = source ∙ rw known refl;
-  whole = rw (state, empty) (table_after-start bytes header max);
-}
 
 -- one entry more
 pub longer : (r : Result Entry TableFault) (so_far more : List Entry) → IsOkAnd r (λ entry. more ≡ so_far ++ entry ∷ []) → length more ≡ length so_far + 1
@@ -85,16 +73,3 @@ module _ {R : Type 0} {rem : R → Option (List ℕ)} {records : Reader R} {so_f
         at.whole,
         rw found.2 (after_ids-refused header max number so_far f fields _ judges refused),
       )
-
--- the reader failed, or memory did
-pub read-failed : {R : Type 0} {rem : R → Option (List ℕ)} {records : Reader R} {so_far : List Entry} {header : Bool} {max number : ℕ} {table : Result (List Entry) TableFault}
-    (f : TableFault) → ReadUpTo rem records so_far header max number table → (f ≡ fault.Read) ⊎ (f ≡ fault.Memory) → EndsAt {U = Unit {0}} (Err f) header so_far table
-read-failed {records} {so_far} {header} {max} {number} f at failed = (
-  table_after header max number so_far (records_after default_config records.state at.rest),
-  at.whole,
-  at_any_time _ failed,
-)
-  where
-    at_any_time : {A : Type 0} (table : Result A TableFault) → (f ≡ fault.Read) ⊎ (f ≡ fault.Memory) → IsFaultOf f table
-    at_any_time table (inl reader) = rw reader tt
-    at_any_time table (inr memory) = rw memory tt

@@ -1,31 +1,10 @@
-use Rattle.std.proofs.Common.{◌≡◌, ◌-◌, Bool, true, false, refl, arith, length, rules}
+use Rattle.std.proofs.Common.{arith, length}
 use Rattle.std.proofs.lemmas.Result.{err_from_is_err_and}
-use Rattle.std.proofs.lemmas.List.Elements.{All-nil}
 use Rattle.csv.specs.Records.{fields_of}
-use Rattle.rt_geo.specs.Entries.{HasLayer}
-use Rattle.rt_text.specs.Loads.{entry_after, first_number}
+use Rattle.rt_text.specs.Loads.{entry_after}
 use Rattle.rt_text.proofs.TableLemmas.{count-header, number_now}
-use Rattle.rt_text.proofs.TableReads.{is_judged, longer, read-end, read-entry, read-failed, read-header, read-refused, read-start}
+use Rattle.rt_text.proofs.TableReads.{is_judged, longer, read-end, read-entry, read-header, read-refused}
 use Rattle.rt_text.proofs.tables.read_entries.Goals as goal
-
-pub loop-number-init : goal.loop-number-init
-loop-number-init g c = record {
-  reading = search rules;
-  count = rw c.requires.none (at_start c.args.header);
-  most = rw c.requires.none (omega arith);
-  layers = rw c.requires.none (All-nil HasLayer);
-  table = λ bytes h. read-start g.R.Read.remaining c.args.reader c.from_reader-records.result c.args.entries.now c.args.header c.args.max bytes
-      c.from_reader-records.ensures.source c.from_reader-records.ensures.state c.requires.none h;
-}
-  where
-    at_start : (header : Bool) → 0 ≡ 1 - first_number header
-    at_start true = refl
-    at_start false = refl
-
-pub returns-in_err-next_record-clause-end : goal.returns-in_err-next_record-clause-end
-returns-in_err-next_record-clause-end g c =
-    let p = err_from_is_err_and c.from_residual.result c.from_residual.ensures.1 in
-    rw (p.1, p.2) (λ bytes h. read-failed c.in_err-next_record.field-0.0 (c.loop-number.invariant.table bytes h) c.in_err-next_record.ensures.fault)
 
 pub returns-then-not-branch-clause-end : goal.returns-then-not-branch-clause-end
 returns-then-not-branch-clause-end g c bytes h =
