@@ -11,8 +11,7 @@ ghost use Rattle.csv.specs.{Reading.{ReadRecord, has_failed}, Records.{fields_of
 ghost use Rattle.rt_geo.specs.{Entries.{HasLayer}, Layers.{most_layer}, declared.entry.Entry.{Entry}};
 ghost use Rattle.rt_tree.specs.Entries.{first_repeat, most_entries};
 ghost use Rattle.rt_text.specs.Loads.{EndsAt, IsReading, IsRefusal, after_ids, entry_after, first_number};
-ghost use Rattle.rt_text.specs.{Steps.{map_value}, Tables.{IsFaultOf, coordinate_at, entry_of_fields}};
-ghost use Rattle.rt_text.specs.Tables.{layer_in, number_at, table_of};
+ghost use Rattle.rt_text.specs.{Steps.{map_value}, Tables.{IsFaultOf, coordinate_at, entry_of_fields, number_at, table_of}};
 
 use crate::numbers::{self, NumberFault};
 use csv::{ByteRecord, Reader, ReaderBuilder};
@@ -188,7 +187,11 @@ fn entry_of(number: u32, fields: &ByteRecord) -> Judged<Entry>
     let max_x = coordinate_at(number, 3, fields)?;
     let min_y = coordinate_at(number, 4, fields)?;
     let max_y = coordinate_at(number, 5, fields)?;
-    let layer = layer_in(number, fields)?;
+    let layer = if found == FIELDS_WITHOUT_LAYER {
+        0
+    } else {
+        sixth_field(number, fields)?
+    };
     let Some(bounds) = Bounds::new(min_x, max_x, min_y, max_y) else {
         let axis = if min_x > max_x { Axis::X } else { Axis::Y };
         return Err(TableFault::MinAboveMax { number, axis });
@@ -214,21 +217,7 @@ fn coordinate_at(number: u32, field: u8, fields: &ByteRecord) -> Judged<i32>
     Ok(number_at(number, field, low, high, fields)? as i32)
 }
 
-// The layer of a record.
-#[inline(always)]
-fn layer_in(number: u32, fields: &ByteRecord) -> Judged<u8>
-    requires { FIELDS_WITHOUT_LAYER ≤ length (fields_of fields.now) }
-    ensures value { result ≡ layer_in number (fields_of fields.now) }
-    ensures within { IfOk result (λ layer. layer ≤ most_layer) }
-{
-    if fields.len() == FIELDS_WITHOUT_LAYER {
-        Ok(0)
-    } else {
-        sixth_field(number, fields)
-    }
-}
-
-// The sixth field. Kept out of line, as most tables have none.
+// The layer in the sixth field. Kept out of line, as most tables have none.
 #[inline(never)]
 fn sixth_field(number: u32, fields: &ByteRecord) -> Judged<u8>
     requires { FIELDS_WITH_LAYER ≤ length (fields_of fields.now) }
