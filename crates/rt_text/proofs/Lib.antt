@@ -8,5 +8,5 @@ mod Records
 pub mod Rows
 mod TableLemmas
 mod TableReads
-pub mod WordLemmas
-pub mod WordReads
+mod WordLemmas
+mod WordReads
