@@ -67,6 +67,11 @@ chunks-step n xs some more =
     ap (λ k. first_chunks n k xs) (div_ceil-step (length xs) n some more)
     ∙ ap (λ len. take n xs ∷ first_chunks n (div_ceil len n) (drop n xs)) (sym (length-drop n xs))
 
+-- no elements have the same chunks of any size
+pub chunks-alike : {X : Type 0} (m n : ℕ) (xs : List X) → (0 < length xs → m ≡ n) → chunks m xs ≡ chunks n xs
+chunks-alike m n [] same = chunks-nil m ∙ sym (chunks-nil n)
+chunks-alike m n (x ∷ xs) same = ap (λ k. chunks k (x ∷ xs)) (same (omega arith))
+
 -- what holds of no elements, and of some where it holds of those behind the first chunk, holds of all lists
 chunk_by_chunk : {X : Type 0} (n : ℕ) (P : List X → Type 0) → 0 < n → P []
     → ((xs : List X) → 0 < length xs → P (drop n xs) → P xs) → (xs : List X) → P xs

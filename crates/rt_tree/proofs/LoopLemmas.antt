@@ -2,12 +2,10 @@
 use Rattle.std.proofs.Common.{◌≡◌, ◌<◌, ◌≤◌, ◌+◌, ◌-◌, ℕ, suc, List, [], ◌∷◌, ◌++◌, length, map, take, drop}
 use Rattle.std.proofs.Common.{set, get_or, min, refl, sym, ◌∙◌, ap, subst, arith, add-one, append_assoc, inl, inr}
 use borrow.Rule.Slice.PartMut.{post_of, put_mid}
-use Rattle.std.specs.List.{All, enumerate_from, reduce}
-use Rattle.std.specs.Prelude.{unwrap_or}
+use Rattle.std.specs.List.{All, enumerate_from}
 use Rattle.std.proofs.lemmas.List.{append-nil, drop-drop, drop_all, get_or-drop, get_or-take, length-append, take-append-drop}
 use Rattle.std.proofs.lemmas.List.{length-drop, length-map, length-take, map-append, take-append-le, take_all}
 use Rattle.std.proofs.lemmas.List.{take_more}
-use Rattle.std.proofs.lemmas.List.Sums.{fold-append}
 use Rattle.std.proofs.lemmas.Slice.{drop-put_mid, take-put_mid}
 use Rattle.std.proofs.Math.Seq.{drop-cons}
 use Rattle.rt_tree.specs.Packing.{chunks}
@@ -149,17 +147,6 @@ all_more P start n k old keys k_is inside later before here i d h = elim (le_or_
       )))
   | inr l ↦ before i d l
 ]
-
--- ---- one more child under a node
-
--- what a function of two elements makes of a list, from the first on; of an empty list another element
-abbrev pub reduced : {X : Type 0} → (X → X → X) → (none : X) → List X → X
-reduced f none xs = unwrap_or (reduce f xs) none
-
-pub reduced-push : {X : Type 0} (f : X → X → X) (none : X) (xs : List X) (x : X) → 0 < length xs
-    → reduced f none (xs ++ x ∷ []) ≡ f (reduced f none xs) x
-reduced-push f none [] x some = absurd (omega (arith, some))
-reduced-push f none (y ∷ xs) x some = fold-append f y xs (x ∷ [])
 
 -- the front of a list that is as long as what is taken
 pub front_of : {X : Type 0} (n : ℕ) (xs ys : List X) → length xs ≡ n → take n (xs ++ ys) ≡ xs

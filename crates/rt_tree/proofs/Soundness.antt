@@ -2,7 +2,8 @@
 use Rattle.std.proofs.Common.{◌≡◌, ◌<◌, ◌≤◌, ◌+◌, ℕ, zero, suc, Bool, true, List, [], ◌∷◌, ◌++◌, length, map}
 use Rattle.std.proofs.Common.{take, drop, refl, sym, ◌∙◌, ap, subst, arith, append_assoc}
 use Rattle.std.proofs.Common.{length-append}
-use Rattle.std.specs.List.{AllByRecursion, flat_map, fold, sum_by}
+use Rattle.std.specs.List.{AllByRecursion, flat_map, fold, reduce, sum_by}
+use Rattle.std.specs.Prelude.{unwrap_or}
 use Rattle.std.proofs.Math.Seq.{drop-append_seam}
 use Rattle.std.proofs.lemmas.Grind.{flat_map-append}
 use Rattle.std.proofs.lemmas.List.{drop-append-le, length-drop, take-append-le, take_all}
@@ -21,7 +22,6 @@ use Rattle.rt_tree.specs.Packed.{Packed, IsLeafNode, IsSubtree, child_nodes}
 use Rattle.rt_tree.specs.Packed.{entries_under, extent_of_node, hull_of, no_box, union_of}
 use Rattle.rt_tree.specs.Packing.{joined, node_over, nodes_over}
 use Rattle.rt_tree.specs.declared.tree.Node.{Node}
-use Rattle.rt_tree.proofs.LoopLemmas.{reduced}
 
 -- ---- lists
 
@@ -45,6 +45,10 @@ all_map P Q f [] a = tt
 all_map P Q f (x ∷ xs) a = (f x a.0, all_map P Q f xs a.1)
 
 -- ---- hulls and unions
+
+-- what a function of two elements makes of a list, from the first on; of an empty list another element
+abbrev reduced : {X : Type 0} → (X → X → X) → (none : X) → List X → X
+reduced f none xs = unwrap_or (reduce f xs) none
 
 module _ {X : Type 0} (f : X → X → X) where
   -- what two have and what is made of them, all have and what is made of all

@@ -38,13 +38,13 @@ ceil_sqrt-IsCeilSqrt (suc n) = ceil_sqrt-step n (ceil_sqrt n) (ceil_sqrt-IsCeilS
     (ceil_sqrt n * ceil_sqrt n)) refl
 
 -- it is one more than the square root, rounded down, of the number below
-pub ceil_sqrt-from_isqrt : (n root : ℕ) → 0 < n → root * root ≤ n - 1 → n - 1 < (root + 1) * (root + 1)
-    → ceil_sqrt n ≡ root + 1
-ceil_sqrt-from_isqrt n root some low high =
+pub ceil_sqrt-from_isqrt : (n below root : ℕ) → 0 < n → below ≡ n - 1 → root * root ≤ below
+    → below < (root + 1) * (root + 1) → ceil_sqrt n ≡ root + 1
+ceil_sqrt-from_isqrt n below root some is low high =
     let c = ceil_sqrt-IsCeilSqrt n in
-    let most : ceil_sqrt n ≤ root + 1 = c.least (root + 1) (omega (arith, high)) in
+    let most : ceil_sqrt n ≤ root + 1 = c.least (root + 1) (omega (arith, high, is, some)) in
     let not_fewer : ceil_sqrt n ≤ root → ⊥ = λ h. let squares = mul-le-mul h h in omega
-    (arith, squares, c.enough, low) in
+    (arith, squares, c.enough, low, is, some) in
     omega arith
 
 pub ceil_sqrt-positive : (n : ℕ) → 0 < n → 0 < ceil_sqrt n

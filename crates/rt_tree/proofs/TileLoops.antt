@@ -1,40 +1,28 @@
 -- The loops that put items behind those that are packed, and make the nodes over them.
-use Rattle.std.proofs.Common.{◌≡◌, ◌<◌, ◌≤◌, ◌+◌, ◌-◌, ◌^◌, ℕ, suc, Ordering, Some, List, [], ◌∷◌, ◌++◌}
+use Rattle.std.proofs.Common.{◌≡◌, ◌<◌, ◌≤◌, ◌+◌, ◌^◌, ℕ, suc, Ordering, Some, List, [], ◌∷◌, ◌++◌}
 use Rattle.std.proofs.Common.{length, map, take, drop}
 use Rattle.std.proofs.Common.{get_or, slice_get, min, refl, sym, ◌∙◌, ap, subst, arith, append_assoc, inl, inr}
-use Rattle.std.specs.List.{All, sum_by}
+use Rattle.std.specs.List.{All, fold, sum_by}
 use Rattle.std.proofs.Math.Seq.{drop-append_seam, take-append_seam}
-use Rattle.std.proofs.lemmas.List.{append-nil, get_or-drop, length-append, length-drop, length-map, length-take}
-use Rattle.std.proofs.lemmas.List.{map-append, take-append-drop, take_all, take_more}
+use Rattle.std.proofs.lemmas.List.{append-nil, length-append}
+use Rattle.std.proofs.lemmas.List.{take-append-drop, take_all, take_more}
 use Rattle.std.proofs.lemmas.List.Elements.{All-drop, All-take, filter_map-append}
 use Rattle.std.proofs.lemmas.List.Sorted.{IsPermutation-trans, length_permutation, sum_by-IsPermutation}
-use Rattle.std.proofs.lemmas.List.Sums.{sum_by-append}
+use Rattle.std.proofs.lemmas.List.Sums.{fold-append, sum_by-append, sum_by_from}
+use Rattle.std.proofs.lemmas.Int.{ints}
+use Rattle.std.specs.Int.{int_min, int_max}
+use Rattle.rt_tree.proofs.Soundness.{sum_by-ones}
 use Rattle.std.proofs.lemmas.Option.{slice_get_cases}
 use Rattle.rt_geo.specs.Boxes.{Rect, hull}
 use Rattle.rt_geo.specs.Layers.{no_layers, union}
 use Rattle.rt_geo.specs.Laws.{Extent}
 use Rattle.rt_geo.specs.declared.layers.Layers.{Layers}
-use Rattle.rt_tree.specs.Packed.{no_box}
+use Rattle.rt_tree.specs.Packed.{union_of}
 use Rattle.rt_tree.specs.Packing.{chunks, groups, joined, node_over, nodes_over}
-use Rattle.rt_tree.specs.SortKeys.{ArePackable, place_of, told}
+use Rattle.rt_tree.specs.SortKeys.{ArePackable, box_of, place_of, told, with_child}
 use Rattle.rt_tree.specs.declared.tree.Node.{Node}
 use Rattle.rt_tree.proofs.ChunkLemmas.{chunks-front, chunks-nil}
-use Rattle.rt_tree.proofs.LoopLemmas.{reduced, reduced-push}
 use Rattle.rt_tree.proofs.TileLemmas.{groups-chunks, groups-moved}
-
--- a node with the children of another behind its own
-abbrev pub with_children : (node behind : Node) → Node
-with_children node behind = record node {
-  layers = union node.layers behind.layers;
-  bounds = hull node.bounds behind.bounds;
-  size = node.size + behind.size;
-  count = node.count + behind.count;
-}
-
-same_node : (k l : Layers) (a b : Rect) (first level m n i j : ℕ) → k ≡ l → a ≡ b → m ≡ n → i ≡ j → ◌≡◌ {A = Node}
-    (record { layers = k; bounds = a; first = first; size = m; count = i; level = level })
-    (record { layers = l; bounds = b; first = first; size = n; count = j; level = level })
-same_node k l a b first level m n i j p q r s = rw (p, q, r, s) refl
 
 -- ---- the items that keys tell
 
@@ -81,59 +69,82 @@ module _ {X : Type 0} (items : List X) where
       ∙ ap (λ n. sum_by size (told items (take i keys)) + n) (omega arith) in
       omega (arith, whole, next)
 
-  module _ (extent : X → Extent) (size : X → ℕ) (level first : ℕ) where
-    -- ---- the loop over a tile
+-- ---- the node over the items of a tile
 
-    -- the items that the first keys tell are packed behind those before, and the node is the one over them
-    pub record IsTilePart (before packed : List X) (keys : List ℕ) (node : Node) : Type 0 where
-      pub long : length (told items keys) ≡ length keys
-      pub packed_is : packed ≡ before ++ told items keys
-      pub node_is : node ≡ node_over extent size level first (told items keys)
+same_hull : (a : Rect) → hull a a ≡ a
+same_hull a =
+    let low_x : int_min a.min_x a.min_x ≡ a.min_x = grind (arith, ints) in
+    let high_x : int_max a.max_x a.max_x ≡ a.max_x = grind (arith, ints) in
+    let low_y : int_min a.min_y a.min_y ≡ a.min_y = grind (arith, ints) in
+    let high_y : int_max a.max_y a.max_y ≡ a.max_y = grind (arith, ints) in
+    rw (low_x, high_x, low_y, high_y) refl
 
-    node_over-push : (group : List X) (x : X) (other : ℕ) → 0 < length group
-        → with_children (node_over extent size level first group) (node_over extent size level other (x ∷ []))
-        ≡ node_over extent size level first (group ++ x ∷ [])
-    node_over-push group x other some =
-        let layers = λ (y : X). (extent y).layers in
-        let box = λ (y : X). (extent y).bounds in
-        sym (same_node _ _ _ _ first level _ _ _ _
-        (ap (reduced union no_layers) (map-append layers group (x ∷ []))
-        ∙ reduced-push union no_layers (map layers group) (layers x) (omega (arith, some, length-map group layers)))
-        (ap (reduced hull no_box) (map-append box group (x ∷ []))
-        ∙ reduced-push hull no_box (map box group) (box x) (omega (arith, some, length-map group box)))
-        (sum_by-append size group (x ∷ [])) (length-append group (x ∷ [])))
+module _ {X : Type 0} (extent : X → Extent) (size : X → ℕ) where
+  -- a node with items behind its children
+  abbrev pub with_children : Node → List X → Node
+  with_children = fold (with_child extent size)
 
-    pub tile_more : (before packed packed' : List X) (keys : List ℕ) (i : ℕ) (x : X) (node node' : Node) (other : ℕ)
-        → i + 1 < length keys → slice_get items (place_of (get_or keys (i + 1) 0)) ≡ Some x
-        → packed' ≡ packed ++ x ∷ [] → node' ≡ with_children node (node_over extent size level other (x ∷ []))
-        → IsTilePart before packed (take (i + 1) keys) node → IsTilePart before packed' (take (i + 1 + 1) keys) node'
-    tile_more before packed packed' keys i x node node' other there is packed_is node_is part =
-        let group = told items (take (i + 1) keys) in
-        let next : told items (take (i + 1 + 1) keys) ≡ group ++ x ∷ [] = told_next keys (i + 1) x there is in
-        let long = length-take (i + 1) keys in
-        record {
-          long = omega (
-            arith,
-            ap length next,
-            length-append group (x ∷ []),
-            part.long,
-            long,
-            length-take (i + 1 + 1) keys,
-            there,
-          );
-          packed_is = packed_is ∙ ap (λ l. l ++ x ∷ []) part.packed_is ∙ append_assoc before group (x ∷ [])
-              ∙ ap (λ l. before ++ l) (sym next);
-          node_is = node_is ∙ ap (λ n. with_children n (node_over extent size level other (x ∷ []))) part.node_is
-              ∙ node_over-push group x other (omega (arith, part.long, long, there))
-              ∙ ap (node_over extent size level first) (sym next);
-        }
+  with_children-is : (node : Node) (xs : List X) → with_children node xs ≡ record node {
+    layers = fold union node.layers (map (λ x. (extent x).layers) xs);
+    bounds = fold hull node.bounds (map (λ x. (extent x).bounds) xs);
+    size = fold (λ n x. n + size x) node.size xs;
+    count = fold (λ n _. n + 1) node.count xs;
+  }
+  with_children-is node [] = refl
+  with_children-is node (x ∷ xs) = with_children-is (with_child extent size node x) xs
 
--- the key at a place behind the first
-pub key_behind : (keys : List ℕ) (i : ℕ) → i < length keys - 1
-    → get_or (take (length keys - 1) (drop 1 keys)) i 0 ≡ get_or keys (i + 1) 0
-key_behind keys i h =
-    ap (λ l. get_or l i 0) (take_all (length keys - 1) (drop 1 keys) (omega (arith, length-drop 1 keys)))
-    ∙ get_or-drop 1 keys i 0 ∙ ap (λ n. get_or keys n 0) (omega arith)
+  -- what the first of some items weigh with the next
+  pub next_fits : (items : List X) (keys : List ℕ) (i : ℕ) (x : X) (start node : Node) → i < length keys
+      → slice_get items (place_of (get_or keys i 0)) ≡ Some x → start.size ≡ 0
+      → node ≡ with_children start (told items (take i keys)) → node.size + size x ≤ sum_by size (told items keys)
+  next_fits items keys i x start node there at empty is = omega (
+    arith,
+    empty,
+    told-weight items size keys i x there at,
+    ap (λ n. n.size) is,
+    ap (λ n. n.size) (with_children-is start (told items (take i keys))),
+    sum_by_from size start.size (told items (take i keys)),
+  )
+
+  -- one more of them is packed, and is a child of the node
+  pub tile_more : (items : List X) (keys : List ℕ) (i : ℕ) (x : X) (start node : Node) (before packed : List X)
+      → i < length keys → slice_get items (place_of (get_or keys i 0)) ≡ Some x
+      → node ≡ with_children start (told items (take i keys)) → packed ≡ before ++ told items (take i keys)
+      → (with_child extent size node x ≡ with_children start (told items (take (i + 1) keys)))
+      × (packed ++ x ∷ [] ≡ before ++ told items (take (i + 1) keys))
+  tile_more items keys i x start node before packed there at is packed_is =
+      rw (told_next items keys i x there at, is, packed_is) (
+    sym (fold-append (with_child extent size) start (told items (take i keys)) (x ∷ [])),
+    append_assoc before (told items (take i keys)) (x ∷ []),
+  )
+
+  -- a node without children, with those of a tile
+  pub over_tile : (items : List X) (keys : List ℕ) (i level first number : ℕ) (x : X) (empty : Layers) (box : Rect)
+      → 0 < length keys → length keys ≤ i → slice_get items (place_of (get_or keys 0 0)) ≡ Some x
+      → empty ≡ no_layers → box ≡ box_of extent x → first ≡ number
+      → with_children (record { layers = empty; bounds = box; first = first; size = 0; count = 0; level = level })
+      (told items (take i keys)) ≡ node_over extent size level number (told items keys)
+  over_tile items [] i level first number x empty box some all at none around is = absurd (omega (arith, some))
+  over_tile items (key ∷ keys) i level first number x empty box some all at none around is =
+      let others = told items keys in
+      let over : Rect → ℕ → Node = λ b n. record {
+        layers = union_of (map (λ y. (extent y).layers) (x ∷ others));
+        bounds = fold hull b (map (λ y. (extent y).bounds) others);
+        first = number;
+        size = sum_by size (x ∷ others);
+        count = n;
+        level = level;
+      } in
+      rw (take_all i (key ∷ keys) all, at, none, around, is)
+      (with_children-is (record {
+        layers = no_layers;
+        bounds = (extent x).bounds;
+        first = number;
+        size = 0;
+        count = 0;
+        level = level;
+      }) (x ∷ others) ∙ ap (λ b. over b (sum_by (λ _. 1) (x ∷ others))) (same_hull (extent x).bounds)
+      ∙ ap (over (extent x).bounds) (sum_by-ones (x ∷ others)))
 
 -- ---- the loop over tiles
 

@@ -7,11 +7,11 @@
 ghost use Rattle.std.specs.{Int.{div_ceil}, List.{enumerate_from, flat_map}, Ordering.{int_cmp, nat_cmp, on}};
 ghost use Rattle.std.specs.Prelude.{◌≡◌, ℕ, ◌<◌, ◌≤◌, ◌*◌, ◌+◌, ◌^◌, ◌+ℤ◌, ◌++◌, ◌∷◌, [], ⊤, IfOk, List, OnOk, Some};
 ghost use Rattle.std.specs.{Prelude.{length, map, slice_get, All, sum_by}, declared.cmp.Ordering.{Ordering}};
-ghost use Rattle.rt_geo.specs.{Boxes.{Rect, hull}, Entries.{HasLayer}, Laws.{Extent, extent_of_entry}, Layers.{union}};
+ghost use Rattle.rt_geo.specs.{Entries.{HasLayer}, Laws.{Extent, extent_of_entry}};
 ghost use Rattle.rt_tree.specs.{Entries.{most_entries}, Packed.{extent_of_node}, Packing.{ceil_sqrt, chunks, groups}};
 ghost use Rattle.rt_tree.specs.Packing.{joined, node_over, nodes_over, twice_middle_x, twice_middle_y};
-ghost use Rattle.rt_tree.specs.SortKeys.{ArePackable, IsRanked, IsRankedAt, by_rank_and_id, by_y, key_of, place_of};
-ghost use Rattle.rt_tree.specs.{SortKeys.{rank, rekeyed, sort_key, told}, Sorting.{sorted}};
+ghost use Rattle.rt_tree.specs.SortKeys.{ArePackable, IsRanked, IsRankedAt, box_of, by_rank_and_id, by_y, key_of, place_of};
+ghost use Rattle.rt_tree.specs.{SortKeys.{rank, rekeyed, sort_key, told, with_child}, Sorting.{sorted}};
 
 use crate::entries::Entries;
 use crate::nodes::Nodes;
@@ -34,9 +34,6 @@ pub(crate) trait Items {
 
     /// They, in order.
     ghost list: { Self → List Self.Item };
-
-    /// The box of one.
-    ghost rect: { Self.Item → Rect };
 
     /// Its box and its layers.
     ghost extent: { Self.Item → Extent };
@@ -68,12 +65,14 @@ pub(crate) trait Items {
 
     /// The box of an item.
     fn bounds(item: Self::Item) -> Bounds
-        ensures { result ≡ rect item };
+        ensures { result ≡ box_of extent item };
 
-    /// The node over an item alone.
-    fn node_over(item: Self::Item, level: u8, first: u32) -> Node
-        requires { has_layers item }
-        ensures { result ≡ node_over extent size level first (item ∷ []) };
+    /// A node with an item behind its children.
+    fn with_child(node: Node, item: Self::Item) -> Node
+        requires layers { has_layers item }
+        requires size { node.size + size item < 2 ^ 32 }
+        requires count { node.count + 1 < 2 ^ 8 }
+        ensures { result ≡ with_child extent size node item };
 
     /// Sorts the keys of the items.
     fn sort_keys(&self, keys: &mut [u64])
@@ -84,8 +83,6 @@ impl Items for Entries {
     type Item = Entry;
 
     ghost list = { λ entries. entries };
-
-    ghost rect = { λ e. e.bounds };
 
     ghost extent = { extent_of_entry };
 
@@ -113,14 +110,13 @@ impl Items for Entries {
         item.bounds
     }
 
-    fn node_over(item: Entry, level: u8, first: u32) -> Node {
+    fn with_child(node: Node, entry: Entry) -> Node {
         Node {
-            layers: Layers::of(item.layer),
-            bounds: item.bounds,
-            first,
-            size: 1,
-            count: 1,
-            level,
+            layers: node.layers.union(Layers::of(entry.layer)),
+            bounds: hull(node.bounds, entry.bounds),
+            size: node.size + 1,
+            count: node.count + 1,
+            ..node
         }
     }
 
@@ -133,8 +129,6 @@ impl Items for Nodes {
     type Item = Node;
 
     ghost list = { λ nodes. nodes };
-
-    ghost rect = { λ n. n.bounds };
 
     ghost extent = { extent_of_node };
 
@@ -162,12 +156,13 @@ impl Items for Nodes {
         item.bounds
     }
 
-    fn node_over(item: Node, level: u8, first: u32) -> Node {
+    fn with_child(node: Node, child: Node) -> Node {
         Node {
-            first,
-            count: 1,
-            level,
-            ..item
+            layers: node.layers.union(child.layers),
+            bounds: hull(node.bounds, child.bounds),
+            size: node.size + child.size,
+            count: node.count + 1,
+            ..node
         }
     }
 
@@ -200,17 +195,18 @@ pub(crate) fn pack_level<T: Items>(
     level: u8,
     packed: &mut T,
 ) -> Result<Nodes, AllocError>
-    requires packable { ArePackable T.rect T.has_layers T.size (T.key_order (T.list items.now))
+    requires packable { ArePackable (box_of T.extent) T.has_layers T.size (T.key_order (T.list items.now))
         (T.in_order (T.list items.now)) (T.list items.now) }
     requires several { 2 ≤ fanout }
     requires most { fanout ≤ 64 }
     requires room { length (T.list packed.old) + length (T.list items.now) < 2 ^ 32 }
     ensures packed { OnOk result (T.list packed.new
-        ≡ T.list packed.old ++ joined (groups T.rect fanout (T.in_order (T.list items.now)))) }
+        ≡ T.list packed.old ++ joined (groups (box_of T.extent) fanout (T.in_order (T.list items.now)))) }
     ensures nodes { IfOk result (λ nodes. nodes ≡ nodes_over T.extent T.size level (length (T.list packed.old))
-        (groups T.rect fanout (T.in_order (T.list items.now)))) }
+        (groups (box_of T.extent) fanout (T.in_order (T.list items.now)))) }
 {
-    let keys = arranged_keys(alloc, items, fanout)?;
+    let mut keys = keys_of(alloc, items)?;
+    arrange(&mut keys, items, fanout);
     let mut nodes = Nodes::with_room(alloc, keys.len().div_ceil(fanout as usize))?;
     for tile in keys.chunks(fanout as usize) {
         nodes.push(pack_tile(items, tile, level, packed)?)?;
@@ -218,40 +214,36 @@ pub(crate) fn pack_level<T: Items>(
     Ok(nodes)
 }
 
-// The keys of items, in the order of their tiles.
-fn arranged_keys<T: Items>(alloc: Global, items: &T, fanout: u8) -> Result<Vec<u64>, AllocError>
-    requires packable { ArePackable T.rect T.has_layers T.size (T.key_order (T.list items.now))
+// Puts the keys by x of items in the order of their tiles.
+fn arrange<T: Items>(keys: &mut [u64], items: &T, fanout: u8)
+    requires packable { ArePackable (box_of T.extent) T.has_layers T.size (T.key_order (T.list items.now))
         (T.in_order (T.list items.now)) (T.list items.now) }
     requires several { 2 ≤ fanout }
-    ensures told { IfOk result (λ keys. told (T.list items.now) keys.items
-        ≡ joined (groups T.rect fanout (T.in_order (T.list items.now)))) }
-    ensures places { IfOk result (λ keys. All (λ key. place_of key < length (T.list items.now)) keys.items) }
+    requires keys { keys.old ≡ map (key_of (box_of T.extent) twice_middle_x) (enumerate_from 0 (T.list items.now)) }
+    requires ranked { All (λ x. IsRanked (twice_middle_x (box_of T.extent x))) (T.list items.now) }
+    ensures told { told (T.list items.now) keys.new ≡ joined (groups (box_of T.extent) fanout (T.in_order (T.list items.now))) }
+    ensures places { All (λ key. place_of key < length (T.list items.now)) keys.new }
 {
-    let mut keys = keys_of(alloc, items)?;
-    if keys.is_empty() {
-        return Ok(keys);
-    }
-    items.sort_keys(&mut keys);
-    sort_slices(&mut keys, items, slice_size(items.count(), fanout));
-    Ok(keys)
+    items.sort_keys(keys);
+    sort_slices(keys, items, slice_size(items.count(), fanout));
 }
 
-// How many items a slice has: as many tiles as there are slices.
+// How many items a slice has: as many tiles as there are slices. Without items, any number but 0.
 fn slice_size(items: usize, fanout: u8) -> usize
-    requires some { 0 < items }
-    requires several { 2 ≤ fanout }
-    ensures value { result ≡ ceil_sqrt (div_ceil items fanout) * fanout }
+    requires { 2 ≤ fanout }
+    ensures value { 0 < items → result ≡ ceil_sqrt (div_ceil items fanout) * fanout }
     ensures some { 0 < result }
 {
     let tiles = items.div_ceil(fanout as usize);
-    ((tiles - 1).isqrt() + 1) * fanout as usize
+    (tiles.saturating_sub(1).isqrt() + 1) * fanout as usize
 }
 
 // The keys by x of the items, in their order.
 fn keys_of<T: Items>(alloc: Global, items: &T) -> Result<Vec<u64>, AllocError>
     requires { length (T.list items.now) ≤ most_entries }
-    ensures keys { IfOk result (λ v. v.items ≡ map (key_of T.rect twice_middle_x) (enumerate_from 0 (T.list items.now))) }
-    ensures ranked { IfOk result (λ _. All (λ x. IsRanked (twice_middle_x (T.rect x))) (T.list items.now)) }
+    ensures keys { IfOk result (λ v. v.items
+        ≡ map (key_of (box_of T.extent) twice_middle_x) (enumerate_from 0 (T.list items.now))) }
+    ensures ranked { IfOk result (λ _. All (λ x. IsRanked (twice_middle_x (box_of T.extent x))) (T.list items.now)) }
 {
     let mut keys = Vec::with_capacity(alloc, items.count())?;
     for place in 0..items.count() {
@@ -266,8 +258,9 @@ fn sort_slices<T: Items>(keys: &mut [u64], items: &T, size: usize)
     requires some { 0 < size }
     requires few { length (T.list items.now) ≤ most_entries }
     requires places { All (λ key. place_of key < length (T.list items.now)) keys.old }
-    ensures keys { keys.new ≡ flat_map (by_y (T.key_order (T.list items.now)) T.rect (T.list items.now)) (chunks size keys.old) }
-    ensures ranked { All (IsRankedAt T.rect twice_middle_y (T.list items.now)) keys.old }
+    ensures keys { keys.new ≡ flat_map (by_y (T.key_order (T.list items.now)) (box_of T.extent) (T.list items.now))
+        (chunks size keys.old) }
+    ensures ranked { All (IsRankedAt (box_of T.extent) twice_middle_y (T.list items.now)) keys.old }
 {
     let mut start = 0;
     while start < keys.len() {
@@ -281,8 +274,8 @@ fn sort_slices<T: Items>(keys: &mut [u64], items: &T, size: usize)
 fn sort_by_y<T: Items>(keys: &mut [u64], items: &T)
     requires few { length (T.list items.now) ≤ most_entries }
     requires places { All (λ key. place_of key < length (T.list items.now)) keys.old }
-    ensures keys { keys.new ≡ by_y (T.key_order (T.list items.now)) T.rect (T.list items.now) keys.old }
-    ensures ranked { All (IsRankedAt T.rect twice_middle_y (T.list items.now)) keys.old }
+    ensures keys { keys.new ≡ by_y (T.key_order (T.list items.now)) (box_of T.extent) (T.list items.now) keys.old }
+    ensures ranked { All (IsRankedAt (box_of T.extent) twice_middle_y (T.list items.now)) keys.old }
 {
     for key in keys.iter_mut() {
         *key = key_by_y(*key, items);
@@ -294,8 +287,8 @@ fn sort_by_y<T: Items>(keys: &mut [u64], items: &T)
 fn key_by_y<T: Items>(key: u64, items: &T) -> u64
     requires few { length (T.list items.now) ≤ most_entries }
     requires place { place_of key < length (T.list items.now) }
-    ensures value { result ≡ rekeyed T.rect twice_middle_y (T.list items.now) key }
-    ensures ranked { IsRankedAt T.rect twice_middle_y (T.list items.now) key }
+    ensures value { result ≡ rekeyed (box_of T.extent) twice_middle_y (T.list items.now) key }
+    ensures ranked { IsRankedAt (box_of T.extent) twice_middle_y (T.list items.now) key }
 {
     let place = place_of(key);
     let bounds = T::bounds(items.item(place));
@@ -319,33 +312,28 @@ fn pack_tile<T: Items>(
     ensures node { IfOk result (λ node. node ≡ node_over T.extent T.size level (length (T.list packed.old))
         (told (T.list items.now) tile.now)) }
 {
-    let item = items.item(place_of(tile[0]));
-    let mut node = T::node_over(item, level, packed.count() as u32);
-    packed.push(item)?;
-    for key in &tile[1..] {
-        let item = items.item(place_of(*key));
-        node = with_children(node, T::node_over(item, level, 0));
-        packed.push(item)?;
+    let mut node = Node {
+        layers: Layers::new(0),
+        bounds: T::bounds(items.item(place_of(tile[0]))),
+        first: packed.count() as u32,
+        size: 0,
+        count: 0,
+        level,
+    };
+    for key in tile {
+        let item = pack_item(items, *key, packed)?;
+        node = T::with_child(node, item);
     }
     Ok(node)
 }
 
-// A node with the children of another behind its own.
-fn with_children(node: Node, behind: Node) -> Node
-    requires size { node.size + behind.size < 2 ^ 32 }
-    requires count { node.count + behind.count < 2 ^ 8 }
-    ensures { result ≡ record node {
-      layers = union node.layers behind.layers;
-      bounds = hull node.bounds behind.bounds;
-      size = node.size + behind.size;
-      count = node.count + behind.count;
-    } }
+// Puts the item that a key tells behind those that are packed.
+fn pack_item<T: Items>(items: &T, key: u64, packed: &mut T) -> Result<T::Item, AllocError>
+    requires { place_of key < length (T.list items.now) }
+    ensures item { IfOk result (λ item. slice_get (T.list items.now) (place_of key) ≡ Some item) }
+    ensures packed { IfOk result (λ item. T.list packed.new ≡ T.list packed.old ++ item ∷ []) }
 {
-    Node {
-        layers: node.layers.union(behind.layers),
-        bounds: hull(node.bounds, behind.bounds),
-        size: node.size + behind.size,
-        count: node.count + behind.count,
-        ..node
-    }
+    let item = items.item(place_of(key));
+    packed.push(item)?;
+    Ok(item)
 }

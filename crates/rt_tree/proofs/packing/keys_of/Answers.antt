@@ -3,7 +3,7 @@ use Rattle.std.proofs.lemmas.Int.{to_z-of_z}
 use Rattle.std.proofs.lemmas.List.{get_or_default}
 use Rattle.std.proofs.lemmas.Option.{get_or_from_slice_get, slice_get_within}
 use Rattle.rt_tree.specs.Packing.{twice_middle_x}
-use Rattle.rt_tree.specs.SortKeys.{IsRanked, key_of, rank, sort_key}
+use Rattle.rt_tree.specs.SortKeys.{IsRanked, key_of, rank, sort_key, box_of}
 use Rattle.rt_tree.proofs.LoopLemmas.{keys_more}
 use Rattle.rt_tree.proofs.packing.keys_of.Goals as goal
 
@@ -17,7 +17,7 @@ loop-place-preserved g c =
     let low : FitsSigned w32 c.min_x.result = search rules in
     let high : FitsSigned w32 c.max_x.result = search rules in
     let sum : to_z w32 (of_z w32 c.min_x.result) +ℤ to_z w32 (of_z w32 c.max_x.result) ≡ twice_middle_x
-    (g.T.Items.rect x) = rw (
+    (box_of g.T.Items.extent x) = rw (
       to_z-of_z w32 c.min_x.result low,
       to_z-of_z w32 c.max_x.result high,
       c.min_x.ensures.value,
@@ -27,12 +27,12 @@ loop-place-preserved g c =
     let key = c.sort_key.ensures.value ∙ ap (λ s. sort_key (rank s) place) sum in
     record {
       keys = c.in_ok-push.ensures.items
-          ∙ keys_more (key_of g.T.Items.rect twice_middle_x) items place c.sort_key.result x c.loop-place.keys.items
+          ∙ keys_more (key_of (box_of g.T.Items.extent) twice_middle_x) items place c.sort_key.result x c.loop-place.keys.items
           there is key c.loop-place.invariant.keys;
       ranked = λ k d h. below_more (λ k. (d : g.row.T-Item.Denot)
-          → IsRanked (twice_middle_x (g.T.Items.rect (get_or items k d)))) place
+          → IsRanked (twice_middle_x (box_of g.T.Items.extent (get_or items k d)))) place
           (λ k h d. c.loop-place.invariant.ranked k d h)
-          (λ d. subst (λ y. IsRanked (twice_middle_x (g.T.Items.rect y))) (is
+          (λ d. subst (λ y. IsRanked (twice_middle_x (box_of g.T.Items.extent y))) (is
           ∙ get_or_default items place x d there)
           (subst IsRanked sum c.sort_key.ensures.ranked)) k h d;
     }

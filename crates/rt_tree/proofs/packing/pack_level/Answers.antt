@@ -1,21 +1,27 @@
+use Rattle.rt_tree.specs.SortKeys.{box_of}
 use Rattle.std.proofs.Common.{◌≡◌, ◌∙◌, ap, arith, length, min}
 use Rattle.std.specs.Slice.Iter.{chunks_rest, chunks_size}
+use Rattle.rt_tree.proofs.LoopLemmas.{front_of}
 use Rattle.rt_tree.proofs.TileLoops.{level_done, level_first, level_more, next_tile}
 use Rattle.rt_tree.proofs.packing.pack_level.Goals as goal
 
+pub arrange-requires-clause-keys : goal.arrange-requires-clause-keys
+arrange-requires-clause-keys g c = c.deref_mut.ensures.value ∙ c.in_ok-keys.ensures.keys
+
 pub loop-tile-init : goal.loop-tile-init
 loop-tile-init g c =
-    let items = g.T.Items.list c.args.items.now in
-    let given : c.into_iter-tile-iterator.result ≡ c.chunks-tile-items.result =
-    c.into_iter-tile-iterator.ensures.into_iter_gives in
-    let rest : chunks_rest c.into_iter-tile-iterator.result ≡ c.in_ok-keys.keys.items =
-    ap chunks_rest given ∙ c.chunks-tile-items.ensures.rest ∙ c.deref.ensures.value in
+    let keys = c.arrange.new.keys in
+    let given = c.into_iter-tile-iterator.ensures.into_iter_gives in
+    let rest : chunks_rest c.into_iter-tile-iterator.result ≡ keys = ap chunks_rest given
+    ∙ c.chunks-tile-items.ensures.rest ∙ c.deref.ensures.value
+    ∙ front_of _ keys _ (c.arrange.auto.keys ∙ c.deref_mut.ensures.len) in
     record {
       size = ap chunks_size given ∙ c.chunks-tile-items.ensures.size;
-      part = rw (rest, c.in_ok-nodes.ensures) (level_first items g.T.Items.extent g.T.Items.size c.args.level c.args.fanout
-          g.T.Items.rect g.T.Items.has_layers (g.T.Items.key_order items) (g.T.Items.in_order items)
-          (g.T.Items.list c.args.packed.now) c.in_ok-keys.keys.items c.requires.packable c.requires.several
-          c.in_ok-keys.ensures.told c.in_ok-keys.ensures.places c.requires.room);
+      part = rw (rest, c.in_ok-nodes.ensures) (level_first (g.T.Items.list c.args.items.now) g.T.Items.extent g.T.Items.size
+          c.args.level c.args.fanout (box_of g.T.Items.extent) g.T.Items.has_layers
+          (g.T.Items.key_order (g.T.Items.list c.args.items.now)) (g.T.Items.in_order (g.T.Items.list c.args.items.now))
+          (g.T.Items.list c.args.packed.now) keys c.requires.packable c.requires.several c.arrange.ensures.told
+          c.arrange.ensures.places c.requires.room);
     }
 
 pub pack_tile-requires-clause-places : goal.pack_tile-requires-clause-places

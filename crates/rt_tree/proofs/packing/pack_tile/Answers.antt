@@ -1,37 +1,44 @@
-use Rattle.std.proofs.Common.{◌≡◌, ◌<◌, ◌+◌, ◌-◌, ◌∙◌, Some, ap, arith, drop, get_or, length, slice_get, sym}
-use Rattle.std.proofs.lemmas.List.{length-take}
+use Rattle.std.proofs.Common.{◌+◌, ◌∙◌, ap, append-nil, arith, get_or, refl, slice_get, subst, sym}
+use Rattle.std.proofs.lemmas.Option.{get_or_from_slice_get, slice_get_within}
 use Rattle.rt_tree.specs.SortKeys.{place_of}
-use Rattle.rt_tree.proofs.TileLoops.{key_behind, tile_more, told-weight, with_children}
+use Rattle.rt_tree.proofs.TileLoops.{next_fits, over_tile, tile_more}
 use Rattle.rt_tree.proofs.packing.pack_tile.Goals as goal
 
-pub with_children-node-requires-clause-size : goal.with_children-node-requires-clause-size
-with_children-node-requires-clause-size g c =
+pub loop-key-init : goal.loop-key-init
+loop-key-init g c = record { count = refl; node = refl; packed = sym (append-nil (g.T.Items.list c.args.packed.now)) }
+
+pub with_child-node-requires-clause-layers : goal.with_child-node-requires-clause-layers
+with_child-node-requires-clause-layers g c =
     let items = g.T.Items.list c.args.items.now in
-    let tile = c.args.tile.now in
-    let i = c.loop-key.key-index in
-    let x = c.item-item-in-loop-key.result in
-    let behind : i < length tile - 1 = omega
-    (arith, c.loop-key-test.true, length-take (length tile - 1) (drop 1 tile)) in
-    let is : slice_get items (place_of (get_or tile (i + 1) 0)) ≡ Some x = ap (slice_get items) (ap place_of (sym
-    (key_behind tile i behind)) ∙ sym c.place_of-in-loop-key.ensures) ∙ c.item-item-in-loop-key.ensures in
-    omega (
-      arith,
-      told-weight items g.T.Items.size tile (i + 1) x (omega (arith, behind)) is,
-      ap (λ n. n.size) c.loop-key.invariant.node_is,
-      ap (λ n. n.size) c.node_over.ensures,
-      c.requires.weight,
-    )
+    let place = place_of (get_or c.args.tile.now c.loop-key.key-index 0) in
+    let x = c.in_ok-item.item in
+    let at = c.in_ok-item.ensures.item in
+    subst g.T.Items.has_layers (get_or_from_slice_get items place x x at)
+    (c.requires.layers place x (slice_get_within items place x at))
+
+pub with_child-node-requires-clause-size : goal.with_child-node-requires-clause-size
+with_child-node-requires-clause-size g c = omega (
+  arith,
+  next_fits g.T.Items.extent g.T.Items.size (g.T.Items.list c.args.items.now) c.args.tile.now c.loop-key.key-index
+      c.in_ok-item.item _ c.loop-key.node c.loop-key-test.true c.in_ok-item.ensures.item refl c.loop-key.invariant.node,
+  c.requires.weight,
+)
 
 pub loop-key-preserved : goal.loop-key-preserved
 loop-key-preserved g c =
+    let more = tile_more g.T.Items.extent g.T.Items.size (g.T.Items.list c.args.items.now) c.args.tile.now
+    c.loop-key.key-index c.in_ok-item.item _ c.loop-key.node _ _ c.loop-key-test.true c.in_ok-item.ensures.item
+    c.loop-key.invariant.node c.loop-key.invariant.packed in
+    record {
+      count = ap (λ n. n.count) c.with_child-node.ensures ∙ ap (λ n. n + 1) c.loop-key.invariant.count;
+      node = c.with_child-node.ensures ∙ more.0;
+      packed = c.in_ok-item.ensures.packed ∙ more.1;
+    }
+
+pub returns-clause-node : goal.returns-clause-node
+returns-clause-node g c =
     let items = g.T.Items.list c.args.items.now in
-    let tile = c.args.tile.now in
-    let i = c.loop-key.key-index in
-    let x = c.item-item-in-loop-key.result in
-    let behind : i < length tile - 1 = omega
-    (arith, c.loop-key-test.true, length-take (length tile - 1) (drop 1 tile)) in
-    let is : slice_get items (place_of (get_or tile (i + 1) 0)) ≡ Some x = ap (slice_get items) (ap place_of (sym
-    (key_behind tile i behind)) ∙ sym c.place_of-in-loop-key.ensures) ∙ c.item-item-in-loop-key.ensures in
-    tile_more items g.T.Items.extent g.T.Items.size c.args.level _ _ _ _ tile i x c.loop-key.node _ 0
-    (omega (arith, behind)) is c.in_ok-push-2.ensures
-    (c.with_children-node.ensures ∙ ap (with_children c.loop-key.node) c.node_over.ensures) c.loop-key.invariant
+    let at = ap (slice_get items) (sym c.place_of.ensures) ∙ c.item.ensures in
+    c.loop-key.invariant.node ∙ over_tile g.T.Items.extent g.T.Items.size items c.args.tile.now c.loop-key.key-index
+    c.args.level c.count.result _ c.item.result c.new.result c.bounds.result c.requires.some c.loop-key-test.false at
+    (ap (λ b. record { bits = b }) c.new.ensures) c.bounds.ensures c.count.ensures

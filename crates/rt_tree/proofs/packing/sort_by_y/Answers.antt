@@ -1,14 +1,14 @@
 use Rattle.std.proofs.Common.{◌∙◌, ℕ, ap, below_more, get_or, subst}
 use Rattle.rt_tree.specs.Packing.{twice_middle_y}
-use Rattle.rt_tree.specs.SortKeys.{IsRankedAt, rekeyed}
+use Rattle.rt_tree.specs.SortKeys.{IsRankedAt, rekeyed, box_of}
 use Rattle.rt_tree.specs.Sorting.{sorted}
 use Rattle.rt_tree.proofs.LoopLemmas.{mapped_all, mapped_more, unchanged_at}
 use Rattle.rt_tree.proofs.packing.sort_by_y.Goals as goal
 
 pub loop-key-preserved : goal.loop-key-preserved
 loop-key-preserved g c =
-    let key = rekeyed g.T.Items.rect twice_middle_y (g.T.Items.list c.args.items.now) in
-    let IsRankedKey = IsRankedAt g.T.Items.rect twice_middle_y (g.T.Items.list c.args.items.now) in
+    let key = rekeyed (box_of g.T.Items.extent) twice_middle_y (g.T.Items.list c.args.items.now) in
+    let IsRankedKey = IsRankedAt (box_of g.T.Items.extent) twice_middle_y (g.T.Items.list c.args.items.now) in
     let i = c.loop-key.key-index in
     let old = c.args.keys.now in
     let there = c.loop-key-test.true in
@@ -22,6 +22,6 @@ loop-key-preserved g c =
 
 pub returns-clause-keys : goal.returns-clause-keys
 returns-clause-keys g c =
-    let key = rekeyed g.T.Items.rect twice_middle_y (g.T.Items.list c.args.items.now) in
-    c.sort_keys.ensures ∙ ap (sorted (g.T.Items.key_order (g.T.Items.list c.args.items.now))) (c.loop-key.invariant.keys ∙ mapped_all key c.args.keys.now c.loop-key.key-index
-    c.loop-key-test.false)
+    let key = rekeyed (box_of g.T.Items.extent) twice_middle_y (g.T.Items.list c.args.items.now) in
+    c.sort_keys.ensures ∙ ap (sorted (g.T.Items.key_order (g.T.Items.list c.args.items.now))) (c.loop-key.invariant.keys
+    ∙ mapped_all key c.args.keys.now c.loop-key.key-index c.loop-key-test.false)

@@ -2,7 +2,7 @@ use Rattle.std.proofs.Common.{◌≡◌, ℕ, List, ◌+◌, ◌-◌, ◌++◌, 
 use Rattle.std.specs.List.{flat_map}
 use Rattle.std.proofs.lemmas.List.{length-drop, length-take}
 use Rattle.rt_tree.specs.Packing.{chunks, twice_middle_y}
-use Rattle.rt_tree.specs.SortKeys.{IsRankedAt, by_y}
+use Rattle.rt_tree.specs.SortKeys.{IsRankedAt, by_y, box_of}
 use Rattle.rt_tree.proofs.LoopLemmas.{all_more, changed_more, chunks-at}
 use Rattle.rt_tree.proofs.packing.sort_slices.Goals as goal
 
@@ -14,7 +14,7 @@ loop-start-preserved g c =
     let old = c.args.keys.now in
     let keys = c.loop-start.keys in
     let so_far = c.loop-start.invariant.changed in
-    let each = by_y (g.T.Items.key_order items) g.T.Items.rect items in
+    let each = by_y (g.T.Items.key_order items) (box_of g.T.Items.extent) items in
     let sliced = λ (l : List ℕ). flat_map each (chunks c.args.size l) in
     let same = c.loop-start.auto.keys in
     let there = c.loop-start-test.true in
@@ -33,6 +33,6 @@ loop-start-preserved g c =
             length-take (start + n - start) (drop start keys),
             length-drop start keys,
           )) next;
-      ranked = all_more (IsRankedAt g.T.Items.rect twice_middle_y items) start n (start + n - start) old keys k_is
+      ranked = all_more (IsRankedAt (box_of g.T.Items.extent) twice_middle_y items) start n (start + n - start) old keys k_is
           (omega (arith, c.min.ensures)) so_far.later c.loop-start.invariant.ranked c.sort_by_y.ensures.ranked;
     }
