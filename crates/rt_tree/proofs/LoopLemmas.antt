@@ -1,15 +1,15 @@
 -- One more step of a loop over a list.
 use Rattle.std.proofs.Common.{◌≡◌, ◌<◌, ◌≤◌, ◌+◌, ◌-◌, ℕ, suc, List, [], ◌∷◌, ◌++◌, length, map, take, drop}
-use Rattle.std.proofs.Common.{set, get_or, min, refl, sym, ◌∙◌, ap, subst, arith, add-one, append_assoc, inl, inr}
+use Rattle.std.proofs.Common.{set, get_or, min, refl, sym, ◌∙◌, ap, subst, arith, add-one, append_assoc}
 use borrow.Rule.Slice.PartMut.{post_of, put_mid}
-use Rattle.std.specs.List.{All, enumerate_from}
-use Rattle.std.proofs.lemmas.List.{append-nil, drop-drop, drop_all, get_or-drop, get_or-take, length-append, take-append-drop}
+use Rattle.std.specs.List.{enumerate_from}
+use Rattle.std.proofs.lemmas.List.{append-nil, drop-drop, drop_all, length-append, take-append-drop}
 use Rattle.std.proofs.lemmas.List.{length-drop, length-map, length-take, map-append, take-append-le, take_all}
 use Rattle.std.proofs.lemmas.List.{take_more}
 use Rattle.std.proofs.lemmas.Slice.{drop-put_mid, take-put_mid}
 use Rattle.std.proofs.Math.Seq.{drop-cons}
 use Rattle.rt_tree.specs.Packing.{chunks}
-use Rattle.rt_tree.proofs.ChunkLemmas.{chunks-front, le_or_lt}
+use Rattle.rt_tree.proofs.ChunkLemmas.{chunks-front}
 
 -- ---- each element gets a key
 
@@ -63,15 +63,6 @@ mapped_more f old new i x h is e =
     there ∙ ap (λ z. front ++ z ∷ back) (e ∙ ap f here) ∙ sym (append_assoc front (f y ∷ []) back)
     ∙ ap (λ l. l ++ back) (sym later) ∙ ap (λ n. map f (take (i + 1) old) ++ drop n old) (sym (add-one i))
 
--- the elements from i on are as they were
-pub unchanged_at : (f : ℕ → ℕ) (old new : List ℕ) (i d : ℕ) → i < length old
-    → new ≡ map f (take i old) ++ drop i old → get_or new i 0 ≡ get_or old i d
-unchanged_at f old new i d h is =
-    let long : length (map f (take i old)) ≡ i = omega (arith, length-map (take i old) f, length-take i old) in
-    ap (λ l. get_or l i 0) (is ∙ ap (λ l. map f (take i old) ++ l) (drop-cons old i d h))
-    ∙ subst (λ n. get_or (map f (take i old) ++ get_or old i d ∷ drop (suc i) old) n 0 ≡ get_or old i d) long
-    (get_or_behind (map f (take i old)) (get_or old i d) 0 (drop (suc i) old))
-
 -- all of them are mapped
 pub mapped_all : (f : ℕ → ℕ) (old : List ℕ) (i : ℕ) → length old ≤ i → map f (take i old) ++ drop i old ≡ map f old
 mapped_all f old i h = rw (take_all i old h, drop_all i old h) (append-nil (map f old))
@@ -122,31 +113,6 @@ chunks-at size start n xs some there e =
     ap (chunks size) (sym whole) ∙ chunks-front size (take n rest) (drop n rest) some
     (omega (arith, long, left, e, some, there)) (omega (arith, ap length whole, long, left, e))
     ∙ ap (λ l. take n rest ∷ chunks size l) (drop-drop n start xs)
-
--- what holds of each element before the chunk, and of each in the chunk as it was
-pub all_more : (P : ℕ → Type 0) (start n k : ℕ) (old keys : List ℕ) → k ≡ n → start + n ≤ length keys
-    → drop start keys ≡ drop start old
-    → ((i d : ℕ) → i < start → P (get_or old i d)) → All P (take k (drop start keys)) → (i d : ℕ) → i < start + n
-    → P (get_or old i d)
-all_more P start n k old keys k_is inside later before here i d h = elim (le_or_lt start i) [
-  | inl l ↦
-      let at : start + (i - start) ≡ i = omega (arith, l) in
-      let same : get_or (take k (drop start keys)) (i - start) d ≡ get_or old i d =
-      get_or-take k (drop start keys) (i - start) d (omega (arith, h, l, k_is))
-      ∙ ap (λ xs. get_or xs (i - start) d) later ∙ get_or-drop start old (i - start) d
-      ∙ ap (λ j. get_or old j d) at in
-      subst P same (here (i - start) d (omega (
-        arith,
-        h,
-        l,
-        k_is,
-        inside,
-        length-take k
-            (drop start keys),
-        length-drop start keys,
-      )))
-  | inr l ↦ before i d l
-]
 
 -- the front of a list that is as long as what is taken
 pub front_of : {X : Type 0} (n : ℕ) (xs ys : List X) → length xs ≡ n → take n (xs ++ ys) ≡ xs

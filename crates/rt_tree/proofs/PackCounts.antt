@@ -3,10 +3,11 @@ use Rattle.std.proofs.Common.{◌≡◌, ◌<◌, ◌≤◌, ◌+◌, ◌-◌, �
 use Rattle.std.proofs.Common.{◌∷◌, ◌++◌, length, refl, sym, ◌∙◌, ap, subst, arith, append_assoc, inl}
 use Rattle.std.proofs.Common.{inr, length-append}
 use Rattle.std.specs.Int.{div_ceil}
-use Rattle.std.specs.List.{sum_by}
+use Rattle.std.specs.List.{All, sum_by}
 use Rattle.std.proofs.Math.Nat.{eq-or-lt_of_le, pow-succ'}
 use Rattle.std.proofs.lemmas.Bool.Decides.{nat_tests}
-use Rattle.std.proofs.lemmas.List.Sorted.{length_permutation, sum_by-IsPermutation}
+use Rattle.std.proofs.lemmas.List.Elements.{All-from_recursion, recursion_from_All}
+use Rattle.std.proofs.lemmas.List.Sorted.{All-permutation, length_permutation, sum_by-IsPermutation}
 use Rattle.std.proofs.lemmas.List.Sums.{sum_by-append, sum_by-cons}
 use Rattle.rt_geo.specs.Boxes.{Rect}
 use Rattle.rt_geo.specs.Laws.{Extent, extent_of_entry}
@@ -16,7 +17,8 @@ use Rattle.rt_tree.specs.Packing.{groups, joined, node_over, nodes_from, nodes_o
 use Rattle.rt_tree.specs.declared.tree.Node.{Node}
 use Rattle.rt_tree.proofs.ChunkLemmas.{le_or_lt, length-chunks}
 use Rattle.rt_tree.proofs.LevelLemmas.{div_ceil-halves, div_ceil-positive}
-use Rattle.rt_tree.proofs.Soundness.{length-nodes_over, sum_by-ones}
+use Rattle.rt_tree.specs.SortKeys.{IsInPlane}
+use Rattle.rt_tree.proofs.Soundness.{chunk_groups, length-nodes_over, nodes_over-in_plane, sum_by-ones}
 use Rattle.rt_tree.proofs.TileLemmas.{groups-IsPermutation, groups-chunks, groups-moved}
 
 -- the nodes of level 1, over groups of entries
@@ -50,6 +52,19 @@ weight-nodes_over extent weight level first (g ∷ gs) =
       weight-nodes_over extent weight level (first + length g) gs,
       sum_by-append weight g (joined gs),
     )
+
+-- the boxes of nodes over items are in the plane where those of the items are
+pub over_in_plane : {X : Type 0} (extent : X → Extent) (size : X → ℕ) (fanout level first : ℕ) (items : List X) → 2 ≤ fanout
+    → All (λ x. IsInPlane (extent x).bounds) items
+    → All (λ n. IsInPlane n.bounds) (nodes_over extent size level first (groups (λ x. (extent x).bounds) fanout items))
+over_in_plane {X} extent size fanout level first items several a =
+    let P = λ (x : X). IsInPlane (extent x).bounds in
+    let gs = groups (λ x. (extent x).bounds) fanout items in
+    All-from_recursion (λ n. IsInPlane n.bounds) (nodes_over extent size level first gs)
+    (nodes_over-in_plane extent size fanout level first gs (chunk_groups fanout P gs (omega arith)
+    (groups-chunks (λ x. (extent x).bounds) items fanout (omega arith))
+    (recursion_from_All P (joined gs) (All-permutation P items (joined gs)
+    (groups-moved (λ x. (extent x).bounds) fanout items several) a))))
 
 -- a loop that makes one level after another: it has made so many nodes, and then those of this level
 pub record IsCounted (level : ℕ) (nodes made : List Node) : Type 0 where

@@ -2,17 +2,19 @@
 use Rattle.std.proofs.Common.{◌≡◌, ◌≤◌, ◌*◌, ℕ, Ordering, List, [], ◌++◌, length}
 use Rattle.std.proofs.Common.{refl, arith}
 use Rattle.std.specs.Cmp.{IsTotalOrder}
-use Rattle.std.specs.List.{sum_by}
+use Rattle.std.specs.List.{All, sum_by}
 use Rattle.std.specs.Ordering.{int_cmp, on}
 use Rattle.std.proofs.lemmas.Cmp.{int_cmp_total, on_total}
-use Rattle.std.proofs.lemmas.List.Sorted.{length_permutation}
+use Rattle.std.proofs.lemmas.List.Sorted.{All-permutation, length_permutation}
 use Rattle.rt_geo.specs.Laws.{extent_of_entry}
 use Rattle.rt_geo.specs.declared.entry.Entry.{Entry}
+use Rattle.rt_tree.specs.Entries.{IsTable}
+use Rattle.rt_tree.specs.SortKeys.{IsInPlane}
 use Rattle.rt_tree.specs.Packed.{Packed}
 use Rattle.rt_tree.specs.Packing.{groups, joined, nodes_over, pack_of}
 use Rattle.rt_tree.specs.Sorting.{sorted}
 use Rattle.rt_tree.specs.declared.tree.Node.{Node}
-use Rattle.rt_tree.proofs.PackCounts.{all_nodes, leaf_nodes, leaf_nodes-few}
+use Rattle.rt_tree.proofs.PackCounts.{all_nodes, leaf_nodes, leaf_nodes-few, over_in_plane}
 use Rattle.rt_tree.proofs.PackSound.{entries-IsPermutation}
 use Rattle.rt_tree.proofs.SortingLemmas.{IsPermutation-sorted}
 
@@ -30,16 +32,21 @@ module _ (fanout : ℕ) (table entries before : List Entry) (same : entries ≡ 
       → made ≡ leaf_nodes (groups (λ e. e.bounds) fanout (sorted by_id table))
   leaf_nodes_are made is = rw (← same, is, none) refl
 
-  pub leaf_nodes_few : (made : List Node) → 2 ≤ fanout → length table ≤ 16777216
+  pub leaf_nodes_few : (made : List Node) → 2 ≤ fanout → IsTable table
       → made ≡ nodes_over extent_of_entry (λ _. 1) 1 (length before) (groups (λ e. e.bounds) fanout (sorted by_id entries))
-      → (2 * length made ≤ 16777217) × (sum_by (λ n. n.size) made ≤ 16777216)
-  leaf_nodes_few made several few is = rw (leaf_nodes_are made is) (leaf_nodes-few fanout several (λ e. e.bounds)
-      (sorted by_id table) (omega (
-        arith,
-        few,
-        length_permutation table (sorted by_id table)
-            (IsPermutation-sorted by_id table),
-      )))
+      → ((2 * length made ≤ 16777217) × (sum_by (λ n. n.size) made ≤ 16777216)) × All (λ n. IsInPlane n.bounds) made
+  leaf_nodes_few made several t is =
+      let moved = IsPermutation-sorted by_id table in
+      let InPlane = λ (e : Entry). IsInPlane e.bounds in
+      rw (leaf_nodes_are made is) (
+        leaf_nodes-few fanout several (λ e. e.bounds) (sorted by_id table) (omega (
+          arith,
+          t.few,
+          length_permutation table (sorted by_id table) moved,
+        )),
+        over_in_plane extent_of_entry (λ _. 1) fanout 1 0 (sorted by_id table) several (All-permutation InPlane table
+            (sorted by_id table) moved (λ k d h. let b = t.boxes k d h in (b.box, b.coordinates))),
+      )
 
   pub packed_is : (leaves : List Entry) (made nodes : List Node)
       → leaves ≡ before ++ joined (groups (λ e. e.bounds) fanout (sorted by_id entries))

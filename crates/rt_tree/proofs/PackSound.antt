@@ -12,7 +12,7 @@ use Rattle.std.proofs.lemmas.List.Sorted.{IsPermutation-sym, IsPermutation-trans
 use Rattle.rt_geo.specs.declared.entry.Entry.{Entry}
 use Rattle.rt_tree.specs.Packed.{Packed, IsSound, IsSubtree, child_entries, entries_under, extent_of_node, height, no_node}
 use Rattle.rt_tree.specs.Packed.{node_at, root_of}
-use Rattle.rt_tree.specs.Packing.{chunks, groups, joined, nodes_from, nodes_over, pack_of}
+use Rattle.rt_tree.specs.Packing.{groups, joined, nodes_from, nodes_over, pack_of}
 use Rattle.rt_tree.specs.Entries.{IsTable, ids_of}
 use Rattle.rt_tree.specs.Sorting.{sorted}
 use Rattle.rt_geo.specs.Entries.{HasBox, HasLayer}
@@ -25,7 +25,7 @@ use Rattle.rt_tree.proofs.SortingLemmas.{IsPermutation-sorted}
 use Rattle.rt_tree.specs.declared.tree.Node.{Node}
 use Rattle.rt_tree.proofs.Children.{AreOnce, all_child_entries, all_child_entries-is, all_child_nodes, all_child_nodes-is}
 use Rattle.rt_tree.proofs.Children.{nodes_once, once_first, once_more}
-use Rattle.rt_tree.proofs.ChunkLemmas.{chunks-size, le_or_lt}
+use Rattle.rt_tree.proofs.ChunkLemmas.{le_or_lt}
 use Rattle.rt_tree.proofs.OrderLemmas.{all_append, all_moved, flat_map-IsPermutation}
 use Rattle.rt_tree.proofs.PackCounts.{IsCounted, above, all_nodes, counted_first, counted_more, course, cut, fewer}
 use Rattle.rt_tree.proofs.PackCounts.{leaf_nodes-few, length-groups, nodes_from-last, some_above}
@@ -34,27 +34,9 @@ use Rattle.rt_tree.proofs.LevelLemmas.{div_ceil-positive}
 use Rattle.rt_tree.proofs.LevelOrder.{last_node-top, level_by_level, nodes_from-levels, nodes_over-AreOn, sizes_from}
 use Rattle.rt_tree.proofs.LevelOrder.{sizes_from_first}
 use Rattle.rt_tree.specs.Levels.{level_sizes}
-use Rattle.rt_tree.proofs.Soundness.{IsEntry, IsGroup, all_map, all_under_more, inner-range, leaves_sound, leaves_under}
+use Rattle.rt_tree.proofs.Soundness.{IsEntry, all_map, chunk_groups, all_under_more, inner-range, leaves_sound, leaves_under}
 use Rattle.rt_tree.proofs.Soundness.{length-nodes_over, over_sound, over_under, subtree_more, tree}
 use Rattle.rt_tree.proofs.TileLemmas.{groups-IsPermutation, groups-chunks, groups-moved, groups-nil}
-
-all_front : {X : Type 0} (P : X → Type 0) (xs ys : List X) → AllByRecursion P (xs ++ ys)
-    → AllByRecursion P xs × AllByRecursion P ys
-all_front P [] ys a = (tt, a)
-all_front P (x ∷ xs) ys a = let k = all_front P xs ys a.1 in ((a.0, k.0), k.1)
-
--- groups of the right size, of elements of which something holds
-pub all_groups : {X : Type 0} (fanout : ℕ) (P : X → Type 0) (gs : List (List X))
-    → AllByRecursion (λ g. (0 < length g) × (length g ≤ fanout)) gs → AllByRecursion P (joined gs)
-    → AllByRecursion (IsGroup fanout P) gs
-all_groups fanout P [] a b = tt
-all_groups fanout P (g ∷ gs) a b = let k = all_front P g (joined gs) b in ((a.0, k.0), all_groups fanout P gs a.1 k.1)
-
--- chunks are such groups
-pub chunk_groups : {X : Type 0} (fanout : ℕ) (P : X → Type 0) (gs : List (List X)) → 0 < fanout
-    → gs ≡ chunks fanout (joined gs) → AllByRecursion P (joined gs) → AllByRecursion (IsGroup fanout P) gs
-chunk_groups fanout P gs some e a = all_groups fanout P gs (subst (AllByRecursion (λ g. (0 < length g) ×
-    (length g ≤ fanout))) (sym e) (chunks-size fanout (joined gs) some)) a
 
 level_of : (t : Packed) (h : ℕ) (n : Node) → IsSubtree t h n → n.level ≡ suc h
 level_of t zero n s = s.level

@@ -21,7 +21,7 @@ entries_packable entries t = record {
   layers = t.layers;
   weight = omega (arith, t.few, sum_by-ones entries);
   moved = IsPermutation-sorted by_id entries;
-  arranged = λ fanout some x y. entries_told entries t x y fanout some;
+  arranged = entries_told entries t;
 }
 
 pub nodes_packable : (nodes : List Node) → AreFewNodes nodes → ArePackable (λ (n : Node). n.bounds) (λ (n : Node). Unit)
@@ -31,5 +31,5 @@ nodes_packable nodes a = record {
   layers = λ k d h. tt;
   weight = a.weight;
   moved = IsPermutation-refl nodes;
-  arranged = λ fanout some x y. nodes_told (λ (n : Node). n.bounds) nodes a.few x y fanout some;
+  arranged = nodes_told (λ (n : Node). n.bounds) nodes a.few a.boxes;
 }

@@ -20,7 +20,9 @@ use Rattle.rt_geo.specs.declared.entry.Entry.{Entry}
 use Rattle.rt_geo.specs.declared.layers.Layers.{Layers}
 use Rattle.rt_tree.specs.Packed.{Packed, IsLeafNode, IsSubtree, child_nodes}
 use Rattle.rt_tree.specs.Packed.{entries_under, extent_of_node, hull_of, no_box, union_of}
-use Rattle.rt_tree.specs.Packing.{joined, node_over, nodes_over}
+use Rattle.rt_tree.specs.Packing.{chunks, joined, node_over, nodes_over}
+use Rattle.rt_tree.specs.SortKeys.{IsInPlane}
+use Rattle.rt_tree.proofs.ChunkLemmas.{chunks-size}
 use Rattle.rt_tree.specs.declared.tree.Node.{Node}
 
 -- ---- lists
@@ -160,11 +162,42 @@ sum_by-ones (x ∷ xs) = sum_by-cons (λ _. 1) x xs ∙ ap (λ n. 1 + n) (sum_by
 abbrev pub IsGroup : {X : Type 0} → (fanout : ℕ) → (X → Type 0) → List X → Type 0
 IsGroup fanout P g = ((0 < length g) × (length g ≤ fanout)) × AllByRecursion P g
 
+all_front : {X : Type 0} (P : X → Type 0) (xs ys : List X) → AllByRecursion P (xs ++ ys)
+    → AllByRecursion P xs × AllByRecursion P ys
+all_front P [] ys a = (tt, a)
+all_front P (x ∷ xs) ys a = let k = all_front P xs ys a.1 in ((a.0, k.0), k.1)
+
+-- groups of the right size, of elements of which something holds
+all_groups : {X : Type 0} (fanout : ℕ) (P : X → Type 0) (gs : List (List X))
+    → AllByRecursion (λ g. (0 < length g) × (length g ≤ fanout)) gs → AllByRecursion P (joined gs)
+    → AllByRecursion (IsGroup fanout P) gs
+all_groups fanout P [] a b = tt
+all_groups fanout P (g ∷ gs) a b = let k = all_front P g (joined gs) b in ((a.0, k.0), all_groups fanout P gs a.1 k.1)
+
+-- chunks are such groups
+pub chunk_groups : {X : Type 0} (fanout : ℕ) (P : X → Type 0) (gs : List (List X)) → 0 < fanout
+    → gs ≡ chunks fanout (joined gs) → AllByRecursion P (joined gs) → AllByRecursion (IsGroup fanout P) gs
+chunk_groups fanout P gs some e a = all_groups fanout P gs (subst (AllByRecursion (λ g. (0 < length g) ×
+    (length g ≤ fanout))) (sym e) (chunks-size fanout (joined gs) some)) a
+
 -- the children of a node above level 1 are nodes of the tree
 pub inner-range : (t : Packed) (below : ℕ) (n : Node) → IsSubtree t below n → 0 < below
     → n.first + n.count ≤ length t.nodes
 inner-range t zero n s h = absurd (omega (arith, h))
 inner-range t (suc below) n s h = s.range
+
+-- the boxes of nodes over groups are in the plane where those of the groups are
+pub nodes_over-in_plane : {X : Type 0} (extent : X → Extent) (size : X → ℕ) (fanout level first : ℕ) (gs : List (List X))
+    → AllByRecursion (IsGroup fanout (λ x. IsInPlane (extent x).bounds)) gs
+    → AllByRecursion (λ n. IsInPlane n.bounds) (nodes_over extent size level first gs)
+nodes_over-in_plane extent size fanout level first [] a = tt
+nodes_over-in_plane extent size fanout level first (g ∷ gs) a = (
+  kept-reduced (λ x. (extent x).bounds) hull no_box IsInPlane (λ b c p q. (
+    IsRect-hull b c p.0 q.0,
+    hull-inside b c plane p.1 q.1,
+  )) g a.0.0.0 a.0.1,
+  nodes_over-in_plane extent size fanout level (first + length g) gs a.1,
+)
 
 module _ (fanout : ℕ) (es : List Entry) where
   -- the tree with these nodes

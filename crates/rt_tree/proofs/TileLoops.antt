@@ -114,9 +114,9 @@ module _ {X : Type 0} (extent : X → Extent) (size : X → ℕ) where
       × (packed ++ x ∷ [] ≡ before ++ told items (take (i + 1) keys))
   tile_more items keys i x start node before packed there at is packed_is =
       rw (told_next items keys i x there at, is, packed_is) (
-    sym (fold-append (with_child extent size) start (told items (take i keys)) (x ∷ [])),
-    append_assoc before (told items (take i keys)) (x ∷ []),
-  )
+        sym (fold-append (with_child extent size) start (told items (take i keys)) (x ∷ [])),
+        append_assoc before (told items (take i keys)) (x ∷ []),
+      )
 
   -- a node without children, with those of a tile
   pub over_tile : (items : List X) (keys : List ℕ) (i level first number : ℕ) (x : X) (empty : Layers) (box : Rect)

@@ -10,7 +10,7 @@ ghost use Rattle.std.specs.{Prelude.{length, map, slice_get, All, sum_by}, decla
 ghost use Rattle.rt_geo.specs.{Entries.{HasLayer}, Laws.{Extent, extent_of_entry}};
 ghost use Rattle.rt_tree.specs.{Entries.{most_entries}, Packed.{extent_of_node}, Packing.{ceil_sqrt, chunks, groups}};
 ghost use Rattle.rt_tree.specs.Packing.{joined, node_over, nodes_over, twice_middle_x, twice_middle_y};
-ghost use Rattle.rt_tree.specs.SortKeys.{ArePackable, IsRanked, IsRankedAt, box_of, by_rank_and_id, by_y, key_of, place_of};
+ghost use Rattle.rt_tree.specs.SortKeys.{ArePackable, box_of, by_rank_and_id, by_y, key_of, place_of};
 ghost use Rattle.rt_tree.specs.{SortKeys.{rank, rekeyed, sort_key, told, with_child}, Sorting.{sorted}};
 
 use crate::entries::Entries;
@@ -174,8 +174,7 @@ impl Items for Nodes {
 // The key of an item between two coordinates: keys sort by their sum, which is made no less than 0, and then by place.
 fn sort_key(least: i32, greatest: i32, place: usize) -> u64
     requires { place < PLACES }
-    ensures value { result ≡ sort_key (rank (least +ℤ greatest)) place }
-    ensures ranked { IsRanked (least +ℤ greatest) }
+    ensures { result ≡ sort_key (rank (least +ℤ greatest)) place }
 {
     (least as i64 + greatest as i64 + SUM_OFFSET) as u64 * PLACES + place as u64
 }
@@ -220,7 +219,6 @@ fn arrange<T: Items>(keys: &mut [u64], items: &T, fanout: u8)
         (T.in_order (T.list items.now)) (T.list items.now) }
     requires several { 2 ≤ fanout }
     requires keys { keys.old ≡ map (key_of (box_of T.extent) twice_middle_x) (enumerate_from 0 (T.list items.now)) }
-    requires ranked { All (λ x. IsRanked (twice_middle_x (box_of T.extent x))) (T.list items.now) }
     ensures told { told (T.list items.now) keys.new ≡ joined (groups (box_of T.extent) fanout (T.in_order (T.list items.now))) }
     ensures places { All (λ key. place_of key < length (T.list items.now)) keys.new }
 {
@@ -241,9 +239,8 @@ fn slice_size(items: usize, fanout: u8) -> usize
 // The keys by x of the items, in their order.
 fn keys_of<T: Items>(alloc: Global, items: &T) -> Result<Vec<u64>, AllocError>
     requires { length (T.list items.now) ≤ most_entries }
-    ensures keys { IfOk result (λ v. v.items
+    ensures { IfOk result (λ v. v.items
         ≡ map (key_of (box_of T.extent) twice_middle_x) (enumerate_from 0 (T.list items.now))) }
-    ensures ranked { IfOk result (λ _. All (λ x. IsRanked (twice_middle_x (box_of T.extent x))) (T.list items.now)) }
 {
     let mut keys = Vec::with_capacity(alloc, items.count())?;
     for place in 0..items.count() {
@@ -258,9 +255,8 @@ fn sort_slices<T: Items>(keys: &mut [u64], items: &T, size: usize)
     requires some { 0 < size }
     requires few { length (T.list items.now) ≤ most_entries }
     requires places { All (λ key. place_of key < length (T.list items.now)) keys.old }
-    ensures keys { keys.new ≡ flat_map (by_y (T.key_order (T.list items.now)) (box_of T.extent) (T.list items.now))
+    ensures { keys.new ≡ flat_map (by_y (T.key_order (T.list items.now)) (box_of T.extent) (T.list items.now))
         (chunks size keys.old) }
-    ensures ranked { All (IsRankedAt (box_of T.extent) twice_middle_y (T.list items.now)) keys.old }
 {
     let mut start = 0;
     while start < keys.len() {
@@ -274,8 +270,7 @@ fn sort_slices<T: Items>(keys: &mut [u64], items: &T, size: usize)
 fn sort_by_y<T: Items>(keys: &mut [u64], items: &T)
     requires few { length (T.list items.now) ≤ most_entries }
     requires places { All (λ key. place_of key < length (T.list items.now)) keys.old }
-    ensures keys { keys.new ≡ by_y (T.key_order (T.list items.now)) (box_of T.extent) (T.list items.now) keys.old }
-    ensures ranked { All (IsRankedAt (box_of T.extent) twice_middle_y (T.list items.now)) keys.old }
+    ensures { keys.new ≡ by_y (T.key_order (T.list items.now)) (box_of T.extent) (T.list items.now) keys.old }
 {
     for key in keys.iter_mut() {
         *key = key_by_y(*key, items);
@@ -287,8 +282,7 @@ fn sort_by_y<T: Items>(keys: &mut [u64], items: &T)
 fn key_by_y<T: Items>(key: u64, items: &T) -> u64
     requires few { length (T.list items.now) ≤ most_entries }
     requires place { place_of key < length (T.list items.now) }
-    ensures value { result ≡ rekeyed (box_of T.extent) twice_middle_y (T.list items.now) key }
-    ensures ranked { IsRankedAt (box_of T.extent) twice_middle_y (T.list items.now) key }
+    ensures { result ≡ rekeyed (box_of T.extent) twice_middle_y (T.list items.now) key }
 {
     let place = place_of(key);
     let bounds = T::bounds(items.item(place));

@@ -1,11 +1,11 @@
 //! A packed tree of boxes.
 
 ghost use Rattle.std.specs.{Int.{div_ceil}, Prelude.{◌≡◌, ◌==◌, ◌+◌, ◌-◌, ◌*◌, ◌<◌, ◌≤◌, ◌↔◌, IfOk, IfSome, IsSome}};
-ghost use Rattle.std.specs.Prelude.{Some, length, map, slice_get, ℕ, sum_by, IsPermutation};
+ghost use Rattle.std.specs.Prelude.{All, Some, length, map, slice_get, ℕ, sum_by, IsPermutation};
 ghost use Rattle.rt_geo.specs.Laws.{extent_of_entry};
 ghost use Rattle.rt_tree.specs.{Entries.{most_entries}, Leaves.{without_layer}, Levels.{level_sizes}};
 ghost use Rattle.rt_tree.specs.Packed.{IsSound, child_entries, child_nodes, node_at, root_of};
-ghost use Rattle.rt_tree.specs.{Packing.{nodes_from, pack_of}, PlainNodes.{without_layers}};
+ghost use Rattle.rt_tree.specs.{Packing.{nodes_from, pack_of}, PlainNodes.{without_layers}, SortKeys.{IsInPlane}};
 
 use crate::entries::{Entries, LeafEntry};
 use crate::levels::Levels;
@@ -235,6 +235,7 @@ fn all_nodes(alloc: Global, made: Nodes, fanout: u8) -> Result<Nodes, AllocError
     requires most { fanout ≤ 64 }
     requires few { 2 * length made ≤ most_entries + 1 }
     requires weight { sum_by (λ n. n.size) made ≤ most_entries }
+    requires boxes { All (λ n. IsInPlane n.bounds) made }
     ensures { IfOk result (λ nodes. nodes ≡ nodes_from (length made) fanout 1 0 made) }
 {
     let mut made = made;

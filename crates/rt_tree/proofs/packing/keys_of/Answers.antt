@@ -1,9 +1,8 @@
-use Rattle.std.proofs.Common.{◌≡◌, ◌∙◌, ◌+ℤ◌, FitsSigned, ap, below_more, get_or, of_z, refl, rules, subst, sym, to_z, w32}
+use Rattle.std.proofs.Common.{◌≡◌, ◌∙◌, ◌+ℤ◌, FitsSigned, ap, of_z, refl, rules, sym, to_z, w32}
 use Rattle.std.proofs.lemmas.Int.{to_z-of_z}
-use Rattle.std.proofs.lemmas.List.{get_or_default}
 use Rattle.std.proofs.lemmas.Option.{get_or_from_slice_get, slice_get_within}
 use Rattle.rt_tree.specs.Packing.{twice_middle_x}
-use Rattle.rt_tree.specs.SortKeys.{IsRanked, key_of, rank, sort_key, box_of}
+use Rattle.rt_tree.specs.SortKeys.{key_of, rank, sort_key, box_of}
 use Rattle.rt_tree.proofs.LoopLemmas.{keys_more}
 use Rattle.rt_tree.proofs.packing.keys_of.Goals as goal
 
@@ -24,15 +23,6 @@ loop-place-preserved g c =
       c.max_x.ensures.value,
       c.bounds-bounds.ensures,
     ) refl in
-    let key = c.sort_key.ensures.value ∙ ap (λ s. sort_key (rank s) place) sum in
-    record {
-      keys = c.in_ok-push.ensures.items
-          ∙ keys_more (key_of (box_of g.T.Items.extent) twice_middle_x) items place c.sort_key.result x c.loop-place.keys.items
-          there is key c.loop-place.invariant.keys;
-      ranked = λ k d h. below_more (λ k. (d : g.row.T-Item.Denot)
-          → IsRanked (twice_middle_x (box_of g.T.Items.extent (get_or items k d)))) place
-          (λ k h d. c.loop-place.invariant.ranked k d h)
-          (λ d. subst (λ y. IsRanked (twice_middle_x (box_of g.T.Items.extent y))) (is
-          ∙ get_or_default items place x d there)
-          (subst IsRanked sum c.sort_key.ensures.ranked)) k h d;
-    }
+    c.in_ok-push.ensures.items
+    ∙ keys_more (key_of (box_of g.T.Items.extent) twice_middle_x) items place c.sort_key.result x c.loop-place.keys.items
+    there is (c.sort_key.ensures ∙ ap (λ s. sort_key (rank s) place) sum) c.loop-place.invariant

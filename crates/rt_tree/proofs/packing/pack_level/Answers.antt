@@ -6,7 +6,7 @@ use Rattle.rt_tree.proofs.TileLoops.{level_done, level_first, level_more, next_t
 use Rattle.rt_tree.proofs.packing.pack_level.Goals as goal
 
 pub arrange-requires-clause-keys : goal.arrange-requires-clause-keys
-arrange-requires-clause-keys g c = c.deref_mut.ensures.value ∙ c.in_ok-keys.ensures.keys
+arrange-requires-clause-keys g c = c.deref_mut.ensures.value ∙ c.in_ok-keys.ensures
 
 pub loop-tile-init : goal.loop-tile-init
 loop-tile-init g c =

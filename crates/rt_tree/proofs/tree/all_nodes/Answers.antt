@@ -1,8 +1,11 @@
-use Rattle.std.proofs.Common.{◌≡◌, ◌<◌, ◌≤◌, ◌-◌, ◌++◌, ◌∷◌, ◌∙◌, [], List, Some, add-one, ap, arith, length, slice_get, sym}
+use Rattle.std.proofs.Common.{◌≡◌, ◌<◌, ◌≤◌, ◌+◌, ◌-◌, ◌++◌, ◌∷◌, ◌∙◌, [], List, Some, add-one, ap, arith, length, slice_get, subst, sym}
+use Rattle.std.specs.List.{All}
+use Rattle.rt_tree.specs.SortKeys.{IsInPlane}
 use Rattle.std.proofs.lemmas.List.{append-nil, nil_from_length}
 use Rattle.std.proofs.lemmas.Option.{get_or_from_slice_get}
 use Rattle.rt_tree.specs.declared.tree.Node.{Node}
-use Rattle.rt_tree.proofs.PackCounts.{all_nodes, counted_more, course_done, course_more, fewer}
+use Rattle.rt_tree.specs.Packed.{extent_of_node}
+use Rattle.rt_tree.proofs.PackCounts.{all_nodes, counted_more, over_in_plane, course_done, course_more, fewer}
 use Rattle.rt_tree.proofs.Packable.{nodes_packable}
 use Rattle.rt_tree.proofs.tree.all_nodes.Goals as goal
 use Rattle.rt_tree.proofs.tree.all_nodes.Goals.{then-len-eq1+in_ok-push, else-len-eq1}
@@ -19,6 +22,7 @@ pack_level-requires-clause-packable c =
     nodes_packable c.levels.made (record {
       few = omega (arith, counted.few_nodes, counted.few_levels);
       weight = omega (arith, counted.weight);
+      boxes = c.levels.invariant.boxes;
     })
 
 pub levels-smaller : goal.levels-smaller
@@ -40,10 +44,15 @@ levels-preserved c =
     let nodes = c.levels.nodes in
     let made = c.levels.made in
     let more : 1 < length made = omega (arith, c.levels-test.true, c.len.ensures) in
-    rw (c.in_ok-made.ensures.packed, c.in_ok-made.ensures.nodes, add-one level) (record {
-      counted = counted_more c.args.fanout several level nodes made c.levels.invariant.counted more;
-      course = course_more c.args.fanout several level nodes made _ more c.levels.invariant.course;
-    })
+    let boxes = over_in_plane extent_of_node (λ n. n.size) c.args.fanout (level + 1) (length nodes) made several
+    c.levels.invariant.boxes in
+    record {
+      counted = rw (c.in_ok-made.ensures.packed, c.in_ok-made.ensures.nodes, add-one level)
+          (counted_more c.args.fanout several level nodes made c.levels.invariant.counted more);
+      boxes = subst (All (λ n. IsInPlane n.bounds)) (sym c.in_ok-made.ensures.nodes) boxes;
+      course = rw (c.in_ok-made.ensures.packed, c.in_ok-made.ensures.nodes, add-one level)
+          (course_more c.args.fanout several level nodes made _ more c.levels.invariant.course);
+    }
 
 pub returns : goal.returns
 returns c =

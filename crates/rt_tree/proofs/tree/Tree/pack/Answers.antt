@@ -1,10 +1,11 @@
 use Rattle.std.proofs.Common.{◌≡◌, ◌≤◌, ◌*◌, ◌∙◌, ap, length, subst, sym}
-use Rattle.std.specs.List.{sum_by}
+use Rattle.std.specs.List.{All, sum_by}
 use Rattle.std.specs.List.Sorted.{IsPermutation}
 use Rattle.rt_tree.specs.Entries.{IsTable}
 use Rattle.rt_tree.specs.Levels.{level_sizes}
 use Rattle.rt_tree.specs.Packed.{IsSound, Packed}
 use Rattle.rt_tree.specs.Packing.{pack_of}
+use Rattle.rt_tree.specs.SortKeys.{IsInPlane}
 use Rattle.rt_tree.proofs.PackLemmas.{leaf_nodes_few, length-packed, packed_is}
 use Rattle.rt_tree.proofs.PackSound.{entries-IsPermutation, pack_of-IsSound}
 use Rattle.rt_tree.proofs.Packable.{entries_packable}
@@ -17,16 +18,20 @@ pack_level-requires-clause-packable c = entries_packable c.into_entries-entries.
     (subst IsTable (sym c.into_entries-entries.ensures.value) c.into_entries-entries.ensures.table)
 
 -- what all levels ask of the first
-few : (c : After-drop) → (2 * length c.in_ok-made.made ≤ 16777217) × (sum_by (λ n. n.size) c.in_ok-made.made ≤ 16777216)
-few c = leaf_nodes_few c.args.fanout c.args.table c.into_entries-entries.result c.reserve.new.self
+made_first : (c : After-drop) → ((2 * length c.in_ok-made.made ≤ 16777217) × (sum_by (λ n. n.size) c.in_ok-made.made ≤ 16777216))
+    × All (λ n. IsInPlane n.bounds) c.in_ok-made.made
+made_first c = leaf_nodes_few c.args.fanout c.args.table c.into_entries-entries.result c.reserve.new.self
     c.into_entries-entries.ensures.value (c.in_ok-reserve.ensures ∙ c.empty-leaves.ensures) c.in_ok-made.made
-    c.requires.several c.into_entries-entries.ensures.table.few c.in_ok-made.ensures.nodes
+    c.requires.several c.into_entries-entries.ensures.table c.in_ok-made.ensures.nodes
 
 pub all_nodes-requires-clause-few : goal.all_nodes-requires-clause-few
-all_nodes-requires-clause-few c = (few c).0
+all_nodes-requires-clause-few c = (made_first c).0.0
 
 pub all_nodes-requires-clause-weight : goal.all_nodes-requires-clause-weight
-all_nodes-requires-clause-weight c = (few c).1
+all_nodes-requires-clause-weight c = (made_first c).0.1
+
+pub all_nodes-requires-clause-boxes : goal.all_nodes-requires-clause-boxes
+all_nodes-requires-clause-boxes c = (made_first c).1
 
 -- what is packed is the tree
 tree_is : (c : In_ok-nodes) → ◌≡◌ {A = Packed} (record {
