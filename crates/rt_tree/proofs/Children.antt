@@ -1,21 +1,14 @@
 -- In a packed tree each node but the root is a child once, and so is each entry.
-use Rattle.std.proofs.Common.{◌≡◌, ◌<◌, ◌-◌, ℕ, suc, Bool, true, false, cond, nat_lt, ◌==◌}
-use Rattle.std.proofs.Common.{if◌then◌else◌, List, [], ◌∷◌, ◌++◌, length, filter, take, drop, refl, sym, ◌∙◌, ap}
-use Rattle.std.proofs.Common.{subst, arith, append_assoc, length-append, IsPermutation}
-use Rattle.std.specs.List.{AllByRecursion, flat_map}
-use Rattle.std.proofs.lemmas.Bool.Decides.{nat_tests}
-use Rattle.std.proofs.lemmas.Grind.{flat_map-append}
-use Rattle.std.proofs.lemmas.List.{append-nil}
+use Rattle.std.proofs.Common.{◌≡◌, ◌<◌, ◌-◌, ℕ, suc, Bool, true, false, cond, nat_lt, ◌==◌, if◌then◌else◌, List, [], ◌∷◌, ◌++◌}
+use Rattle.std.proofs.Common.{length, filter, take, drop, refl, sym, ◌∙◌, ap, subst, arith, append_assoc, length-append}
+use Rattle.std.proofs.{Common.{IsPermutation}, lemmas.{Bool.Decides.{nat_tests}, Grind.{flat_map-append}, List.{append-nil}}}
 use Rattle.std.proofs.lemmas.List.Sorted.{IsPermutation-append, IsPermutation-append_right, IsPermutation-cons}
-use Rattle.std.proofs.lemmas.List.Sorted.{IsPermutation-refl, IsPermutation-sym, IsPermutation-to_front}
-use Rattle.std.proofs.lemmas.List.Sorted.{IsPermutation-trans}
+use Rattle.std.proofs.lemmas.List.Sorted.{IsPermutation-refl, IsPermutation-sym, IsPermutation-to_front, IsPermutation-trans}
+use Rattle.std.specs.List.{AllByRecursion, flat_map}
 use Rattle.rt_geo.specs.declared.entry.Entry.{Entry}
-use Rattle.rt_tree.specs.Packed.{Packed, IsSubtree, child_entries, child_nodes}
-use Rattle.rt_tree.specs.Packed.{extent_of_node}
-use Rattle.rt_tree.specs.Packing.{joined, nodes_over}
+use Rattle.rt_tree.specs.{Packed.{Packed, IsSubtree, child_entries, child_nodes, extent_of_node}, Packing.{joined, nodes_over}}
 use Rattle.rt_tree.specs.declared.tree.Node.{Node}
-use Rattle.rt_tree.proofs.LevelOrder.{AreOn}
-use Rattle.rt_tree.proofs.OrderLemmas.{flat_map-IsPermutation, flat_map-same}
+use Rattle.rt_tree.proofs.{LevelOrder.{AreOn}, OrderLemmas.{flat_map-IsPermutation, flat_map-same}}
 use Rattle.rt_tree.proofs.Soundness.{children_more, group_at, inner-range, tree}
 
 -- the nodes right under all nodes above level 1

@@ -1,19 +1,12 @@
 -- Lists cut into chunks.
-use Rattle.std.proofs.Common.{◌≡◌, ◌<◌, ◌≤◌, ◌+◌, ◌-◌, ◌*◌, ℕ, zero, suc, List, [], ◌∷◌, ◌++◌, length}
-use Rattle.std.proofs.Common.{map, take, drop, min, refl, sym, ◌∙◌, ap, subst, arith, add-one, inl, inr, ◌⊎◌}
-use Rattle.std.proofs.Math.Seq.{drop-append_seam, take-append_seam}
-use Rattle.std.proofs.Common.{Bool, true, false, nat_le}
-use Rattle.std.proofs.lemmas.Bool.Decides.{nat_tests}
-use Rattle.std.specs.Int.{div_ceil}
-use Rattle.std.specs.List.{All, AllByRecursion, flat_map}
-use Rattle.std.proofs.lemmas.List.Elements.{All-drop, All-take}
-use Rattle.std.specs.Simd.{first_chunks}
+use Rattle.std.proofs.Common.{◌≡◌, ◌<◌, ◌≤◌, ◌+◌, ◌-◌, ◌*◌, ℕ, zero, suc, List, [], ◌∷◌, ◌++◌, length, map, take, drop, min}
+use Rattle.std.proofs.Common.{refl, sym, ◌∙◌, ap, subst, arith, add-one, inl, inr, ◌⊎◌, Bool, true, false, nat_le}
+use Rattle.std.proofs.Math.{Nat.{zero-div, zero-mod, mul-le-mul_right}, Seq.{drop-append_seam, take-append_seam}}
+use Rattle.std.proofs.lemmas.{Bool.Decides.{nat_tests}, Grind.{div_ceil_times}, List.Elements.{All-drop, All-take}}
+use Rattle.std.proofs.lemmas.List.{append-nil, drop-append-le, drop-map, drop_all, length-append, length-drop, length-map}
+use Rattle.std.proofs.lemmas.List.{length-take, take-append-drop, take-append-le, take_all, take-map}
+use Rattle.std.specs.{Int.{div_ceil}, List.{All, AllByRecursion, flat_map}, Simd.{first_chunks}}
 use native.Mathlib.Nat.{add-mul}
-use Rattle.std.proofs.Math.Nat.{zero-div, zero-mod, mul-le-mul_right}
-use Rattle.std.proofs.lemmas.Grind.{div_ceil_times}
-use Rattle.std.proofs.lemmas.List.{append-nil, drop-append-le, drop-map, drop_all, length-append, length-drop}
-use Rattle.std.proofs.lemmas.List.{length-map, length-take, take-append-drop, take-append-le, take_all}
-use Rattle.std.proofs.lemmas.List.{take-map}
 use Rattle.rt_tree.specs.Packing.{chunks, joined}
 
 -- ---- how many there are

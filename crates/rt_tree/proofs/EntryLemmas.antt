@@ -1,21 +1,11 @@
 -- A table with one more entry.
-use Rattle.std.proofs.Common.{◌≡◌, ◌∙◌, ◌<◌, ◌+◌, ◌-◌, ℕ, ℤ, get_or, take, Bool, true, false, ◌||◌, cond, List, [], ◌∷◌, ◌++◌, length, refl, sym}
-use Rattle.std.proofs.Common.{ap, subst, arith, length-append}
-use Rattle.std.specs.BTreeSet.{BTreeSet}
-use Rattle.std.specs.List.{IsDistinct, list_any}
-use Rattle.std.specs.Ordering.{int_cmp, int_eq, is_eq}
-use Rattle.std.proofs.Math.Bool.{or-false}
-use Rattle.std.proofs.Math.Seq.{take-append_seam}
-use Rattle.std.proofs.lemmas.Cmp.{int_eq_equiv}
-use Rattle.std.proofs.lemmas.Int.{ints}
-use Rattle.std.proofs.lemmas.List.{map-append, take_more}
-use Rattle.std.proofs.lemmas.List.Elements.{All-nil, All-push}
-use Rattle.std.proofs.lemmas.List.Folds.{list_any-append}
-use Rattle.std.proofs.lemmas.Map.Keys.{IsDistinct-push}
-use Rattle.rt_geo.specs.Entries.{HasBox, HasLayer}
-use Rattle.rt_geo.specs.declared.entry.Entry.{Entry}
-use Rattle.rt_tree.specs.Entries.{IsTable, has_id, ids_of, most_entries}
-use Rattle.rt_tree.specs.Indexes.{IsIndexed, keeps}
+use Rattle.std.proofs.Common.{◌≡◌, ◌∙◌, ◌<◌, ◌+◌, ◌-◌, ℕ, ℤ, get_or, take, Bool, true, false, ◌||◌, cond, List, [], ◌∷◌, ◌++◌}
+use Rattle.std.proofs.{Common.{length, refl, sym, ap, subst, arith, length-append}, Math.Bool.{or-false}, lemmas.Int.{ints}}
+use Rattle.std.proofs.{Math.Seq.{take-append_seam}, lemmas.{Cmp.{int_eq_equiv}, List.{map-append, take_more}}}
+use Rattle.std.proofs.lemmas.{List.{Elements.{All-nil, All-push}, Folds.{list_any-append}}, Map.Keys.{IsDistinct-push}}
+use Rattle.std.specs.{BTreeSet.{BTreeSet}, List.{IsDistinct, list_any}, Ordering.{int_cmp, int_eq, is_eq}}
+use Rattle.rt_geo.specs.{Entries.{HasBox, HasLayer}, declared.entry.Entry.{Entry}}
+use Rattle.rt_tree.specs.{Entries.{IsTable, has_id, ids_of, most_entries}, Indexes.{IsIndexed, keeps}}
 
 tie : (a b : ℤ) → is_eq (int_cmp a b) ≡ int_eq b a
 tie a b = grind (arith, ints)

@@ -1,20 +1,15 @@
 -- Ids in order, and ids in two parts.
-use Rattle.std.proofs.Common.{◌≡◌, ◌∙◌, ◌<◌, ◌+◌, ℕ, zero, suc, ℤ, pos, Bool, true, false, ◌||◌, List, [], ◌∷◌, length, get_or, refl, sym, ap, arith, Result, Ok, Err, inl, inr}
-use Rattle.std.specs.Prelude.{◌↔◌, int_lt, is_ok}
-use Rattle.std.specs.BTreeSet.{BTreeSet, contains}
-use Rattle.std.specs.List.{AllByRecursion, IsAllAdjacentAnswer, IsDistinct, list_any}
-use Rattle.std.specs.List.Sorted.{IsBinarySearchResult, IsPermutation, IsSearchInRange, IsSorted, IsStrictlySortedBy}
-use Rattle.std.specs.Ordering.{eq_by_cmp, int_cmp, int_eq}
-use Rattle.std.specs.declared.cmp.Ordering.TheVariants.{Less, Equal, Greater}
-use Rattle.std.proofs.Math.Bool.{or-false}
-use Rattle.std.proofs.lemmas.Bool.{cases_lt}
-use Rattle.std.proofs.lemmas.Cmp.{int_cmp_total}
-use Rattle.std.proofs.lemmas.Int.{ints}
+use Rattle.std.proofs.Common.{◌≡◌, ◌∙◌, ◌<◌, ◌+◌, ℕ, zero, suc, ℤ, pos, Bool, true, false, ◌||◌, List, [], ◌∷◌, length, get_or}
+use Rattle.std.proofs.{Common.{refl, sym, ap, arith, Result, Ok, Err, inl, inr}, Math.Bool.{or-false}, lemmas.Bool.{cases_lt}}
+use Rattle.std.proofs.lemmas.{Cmp.{int_cmp_total}, Int.{ints}, Map.Keys.{sorted_from_all_adjacent}}
 use Rattle.std.proofs.lemmas.List.Sorted.{IsPermutation-sym, list_any-IsPermutation, searchable_from_sorted}
-use Rattle.std.proofs.lemmas.Map.Keys.{IsDistinct-IsPermutation, IsDistinct-from_sorted, Less-from_sorted, sorted_from_all_adjacent}
+use Rattle.std.proofs.lemmas.Map.Keys.{IsDistinct-IsPermutation, IsDistinct-from_sorted, Less-from_sorted}
+use Rattle.std.specs.{BTreeSet.{BTreeSet, contains}, List.{AllByRecursion, IsAllAdjacentAnswer, IsDistinct, list_any}}
+use Rattle.std.specs.List.Sorted.{IsBinarySearchResult, IsPermutation, IsSearchInRange, IsSorted, IsStrictlySortedBy}
+use Rattle.std.specs.{Ordering.{eq_by_cmp, int_cmp, int_eq}, Prelude.{◌↔◌, int_lt, is_ok}}
+use Rattle.std.specs.declared.cmp.Ordering.TheVariants.{Less, Equal, Greater}
 use Rattle.rt_geo.specs.declared.entry.Entry.{Entry}
-use Rattle.rt_tree.specs.Entries.{ids_of}
-use Rattle.rt_tree.specs.Indexes.{AreIdsOf}
+use Rattle.rt_tree.specs.{Entries.{ids_of}, Indexes.{AreIdsOf}}
 use Rattle.rt_tree.proofs.EntryLemmas.{has_id-ids_of, int_eq-sym}
 
 -- ---- a test of each element

@@ -1,12 +1,7 @@
 -- Entries whose layers stand in a list of their own.
-use Rattle.std.proofs.Common.{◌≡◌, ℕ, zero, suc, List, [], ◌∷◌, length, map, get_or, slice_get, IfSome}
-use Rattle.std.proofs.Common.{refl}
-use Rattle.rt_geo.specs.Laws.{extent_of_entry}
-use Rattle.rt_geo.specs.Layers.{only}
-use Rattle.rt_geo.specs.declared.entry.Entry.{Entry}
-use Rattle.rt_geo.specs.declared.layers.Layers.{Layers}
-use Rattle.rt_tree.specs.Leaves.{entries_of, with_layer, without_layer}
-use Rattle.rt_tree.specs.declared.entries.LeafEntry.{LeafEntry}
+use Rattle.std.proofs.Common.{◌≡◌, ℕ, zero, suc, List, [], ◌∷◌, length, map, get_or, slice_get, IfSome, refl}
+use Rattle.rt_geo.specs.{Laws.{extent_of_entry}, Layers.{only}, declared.{entry.Entry.{Entry}, layers.Layers.{Layers}}}
+use Rattle.rt_tree.specs.{Leaves.{entries_of, with_layer, without_layer}, declared.entries.LeafEntry.{LeafEntry}}
 use Rattle.rt_tree.proofs.PairLemmas.{left-alone, length-paired, right-alone}
 
 -- the layer of an entry

@@ -1,11 +1,9 @@
 -- The sizes of levels.
-use Rattle.std.proofs.Common.{◌≡◌, ◌∙◌, ◌<◌, ◌≤◌, ◌+◌, ◌*◌, ◌/◌, ◌^◌, ◌-◌, ℕ, zero, suc, Bool, true, false, cond}
-use Rattle.std.proofs.Common.{nat_le, if◌then◌else◌, List, [], ◌∷◌, ◌++◌, refl, sym, ap, arith, append_assoc, subst}
-use Rattle.std.proofs.Common.{inl, inr}
-use Rattle.std.specs.Int.{div_ceil}
-use Rattle.std.proofs.Math.Nat.{div-add-mod, eq-or-lt_of_le, mul-le-mul_left, pow-succ'}
-use Rattle.std.proofs.lemmas.Bool.Decides.{nat_tests}
+use Rattle.std.proofs.Common.{◌≡◌, ◌∙◌, ◌<◌, ◌≤◌, ◌+◌, ◌*◌, ◌/◌, ◌^◌, ◌-◌, ℕ, zero, suc, Bool, true, false, cond, nat_le}
+use Rattle.std.proofs.Common.{if◌then◌else◌, List, [], ◌∷◌, ◌++◌, refl, sym, ap, arith, append_assoc, subst, inl, inr}
+use Rattle.std.proofs.{Math.Nat.{div-add-mod, eq-or-lt_of_le, mul-le-mul_left, pow-succ'}, lemmas.Bool.Decides.{nat_tests}}
 use Rattle.std.proofs.lemmas.Grind.{div_ceil_times}
+use Rattle.std.specs.Int.{div_ceil}
 use Rattle.rt_tree.specs.Levels.{sizes_above}
 
 -- a level has about half as many nodes as the one below it, or fewer

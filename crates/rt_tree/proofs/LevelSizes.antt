@@ -1,10 +1,8 @@
 -- What the sizes of levels are, told without the recursion that computes them.
-use Rattle.std.proofs.Common.{◌≡◌, ◌∙◌, ◌<◌, ◌≤◌, ◌+◌, ◌↔◌, ℕ, zero, suc, Bool, true, false, cond, nat_le, ap}
-use Rattle.std.proofs.Common.{List, [], ◌∷◌, length, slice_get, Some, refl, sym, arith}
-use Rattle.std.specs.Int.{div_ceil}
-use Rattle.std.proofs.lemmas.Bool.Decides.{nat_tests}
+use Rattle.std.proofs.Common.{◌≡◌, ◌∙◌, ◌<◌, ◌≤◌, ◌+◌, ◌↔◌, ℕ, zero, suc, Bool, true, false, cond, nat_le, ap, List, [], ◌∷◌}
+use Rattle.std.proofs.{Common.{length, slice_get, Some, refl, sym, arith}, lemmas.Bool.Decides.{nat_tests}}
 use Rattle.std.proofs.lemmas.Option.{none-some}
-use Rattle.std.specs.Option.{unwrap_or}
+use Rattle.std.specs.{Int.{div_ceil}, Option.{unwrap_or}}
 use Rattle.rt_tree.specs.Levels.{level_sizes, sizes_above}
 use Rattle.rt_tree.proofs.LevelLemmas.{div_ceil-halves, div_ceil-positive, less_fuel}
 

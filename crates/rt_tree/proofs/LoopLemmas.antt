@@ -1,13 +1,11 @@
 -- One more step of a loop over a list.
-use Rattle.std.proofs.Common.{◌≡◌, ◌<◌, ◌≤◌, ◌+◌, ◌-◌, ℕ, suc, List, [], ◌∷◌, ◌++◌, length, map, take, drop}
-use Rattle.std.proofs.Common.{set, get_or, min, refl, sym, ◌∙◌, ap, subst, arith, add-one, append_assoc}
+use Rattle.std.proofs.Common.{◌≡◌, ◌<◌, ◌≤◌, ◌+◌, ◌-◌, ℕ, suc, List, [], ◌∷◌, ◌++◌, length, map, take, drop, set, get_or, min}
+use Rattle.std.proofs.{Common.{refl, sym, ◌∙◌, ap, subst, arith, add-one, append_assoc}, Math.Seq.{drop-cons}}
+use Rattle.std.proofs.lemmas.List.{append-nil, drop-drop, drop_all, length-append, take-append-drop, length-drop, length-map}
+use Rattle.std.proofs.lemmas.List.{length-take, map-append, take-append-le, take_all, take_more}
+use Rattle.std.proofs.lemmas.Slice.{drop-put_mid, take-put_mid}
 use borrow.Rule.Slice.PartMut.{post_of, put_mid}
 use Rattle.std.specs.List.{enumerate_from}
-use Rattle.std.proofs.lemmas.List.{append-nil, drop-drop, drop_all, length-append, take-append-drop}
-use Rattle.std.proofs.lemmas.List.{length-drop, length-map, length-take, map-append, take-append-le, take_all}
-use Rattle.std.proofs.lemmas.List.{take_more}
-use Rattle.std.proofs.lemmas.Slice.{drop-put_mid, take-put_mid}
-use Rattle.std.proofs.Math.Seq.{drop-cons}
 use Rattle.rt_tree.specs.Packing.{chunks}
 use Rattle.rt_tree.proofs.ChunkLemmas.{chunks-front}
 

@@ -1,8 +1,7 @@
 -- Nodes whose layers stand in a list of their own.
 use Rattle.std.proofs.Common.{◌≡◌, List, length, map, refl}
 use Rattle.rt_geo.specs.declared.layers.Layers.{Layers}
-use Rattle.rt_tree.specs.PlainNodes.{nodes_of, with_layers, without_layers}
-use Rattle.rt_tree.specs.declared.nodes.PlainNode.{PlainNode}
+use Rattle.rt_tree.specs.{PlainNodes.{nodes_of, with_layers, without_layers}, declared.nodes.PlainNode.{PlainNode}}
 use Rattle.rt_tree.specs.declared.tree.Node.{Node}
 use Rattle.rt_tree.proofs.PairLemmas.{left-alone, length-paired}
 

@@ -1,17 +1,12 @@
 -- Lists in the order of another list, or by another comparison.
-use Rattle.std.proofs.Common.{◌≡◌, ℕ, Ordering, List, [], ◌∷◌, ◌++◌, map, cond, true, false, refl, sym, ◌∙◌, ap}
-use Rattle.std.proofs.Common.{subst, append_assoc, IsPermutation, IsSorted}
-use Rattle.std.specs.List.{AllByRecursion, flat_map}
-use Rattle.std.specs.Ordering.{is_gt, nat_cmp}
-use Rattle.std.proofs.lemmas.Cmp.{nat_cmp_total}
-use Rattle.std.proofs.lemmas.List.{map-append}
-use Rattle.std.proofs.lemmas.List.Elements.{All-from_recursion, recursion_from_All}
+use Rattle.std.proofs.Common.{◌≡◌, ℕ, Ordering, List, [], ◌∷◌, ◌++◌, map, cond, true, false, refl, sym, ◌∙◌, ap, subst}
+use Rattle.std.proofs.{Common.{append_assoc, IsPermutation, IsSorted}, lemmas.{Cmp.{nat_cmp_total}, List.{map-append}}}
+use Rattle.std.proofs.lemmas.{List.Elements.{All-from_recursion, recursion_from_All}, Map.Lookups.{exact_unsigned}}
 use Rattle.std.proofs.lemmas.List.Sorted.{All-permutation, IsPermutation-append_comm, IsPermutation-append_left}
 use Rattle.std.proofs.lemmas.List.Sorted.{IsPermutation-append_right, IsPermutation-refl, IsPermutation-trans}
-use Rattle.std.proofs.lemmas.Map.Lookups.{exact_unsigned}
+use Rattle.std.specs.{List.{AllByRecursion, flat_map}, Ordering.{is_gt, nat_cmp}}
 use Rattle.rt_tree.specs.Sorting.{put, sorted}
-use Rattle.rt_tree.proofs.Permutations.{along_permutation}
-use Rattle.rt_tree.proofs.SortingLemmas.{sorted-unique_by_all}
+use Rattle.rt_tree.proofs.{Permutations.{along_permutation}, SortingLemmas.{sorted-unique_by_all}}
 
 -- what a sort of numbers gives
 pub numbers_sorted : (xs ys : List ℕ) → IsPermutation xs ys → IsSorted nat_cmp ys → ys ≡ sorted nat_cmp xs

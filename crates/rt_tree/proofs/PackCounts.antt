@@ -1,23 +1,14 @@
 -- How many nodes a packing makes, level by level.
-use Rattle.std.proofs.Common.{◌≡◌, ◌<◌, ◌≤◌, ◌+◌, ◌-◌, ◌*◌, ◌^◌, ℕ, zero, suc, true, false, nat_le, List, []}
-use Rattle.std.proofs.Common.{◌∷◌, ◌++◌, length, refl, sym, ◌∙◌, ap, subst, arith, append_assoc, inl}
-use Rattle.std.proofs.Common.{inr, length-append}
-use Rattle.std.specs.Int.{div_ceil}
-use Rattle.std.specs.List.{All, sum_by}
-use Rattle.std.proofs.Math.Nat.{eq-or-lt_of_le, pow-succ'}
-use Rattle.std.proofs.lemmas.Bool.Decides.{nat_tests}
-use Rattle.std.proofs.lemmas.List.Elements.{All-from_recursion, recursion_from_All}
+use Rattle.std.proofs.Common.{◌≡◌, ◌<◌, ◌≤◌, ◌+◌, ◌-◌, ◌*◌, ◌^◌, ℕ, zero, suc, true, false, nat_le, List, [], ◌∷◌, ◌++◌, length}
+use Rattle.std.proofs.Common.{refl, sym, ◌∙◌, ap, subst, arith, append_assoc, inl, inr, length-append}
+use Rattle.std.proofs.{Math.Nat.{eq-or-lt_of_le, pow-succ'}, lemmas.Bool.Decides.{nat_tests}}
+use Rattle.std.proofs.lemmas.List.{Elements.{All-from_recursion, recursion_from_All}, Sums.{sum_by-append, sum_by-cons}}
 use Rattle.std.proofs.lemmas.List.Sorted.{All-permutation, length_permutation, sum_by-IsPermutation}
-use Rattle.std.proofs.lemmas.List.Sums.{sum_by-append, sum_by-cons}
-use Rattle.rt_geo.specs.Boxes.{Rect}
-use Rattle.rt_geo.specs.Laws.{Extent, extent_of_entry}
-use Rattle.rt_geo.specs.declared.entry.Entry.{Entry}
-use Rattle.rt_tree.specs.Packed.{extent_of_node}
-use Rattle.rt_tree.specs.Packing.{groups, joined, node_over, nodes_from, nodes_over}
-use Rattle.rt_tree.specs.declared.tree.Node.{Node}
-use Rattle.rt_tree.proofs.ChunkLemmas.{le_or_lt, length-chunks}
-use Rattle.rt_tree.proofs.LevelLemmas.{div_ceil-halves, div_ceil-positive}
-use Rattle.rt_tree.specs.SortKeys.{IsInPlane}
+use Rattle.std.specs.{Int.{div_ceil}, List.{All, sum_by}}
+use Rattle.rt_geo.specs.{Boxes.{Rect}, Laws.{Extent, extent_of_entry}, declared.entry.Entry.{Entry}}
+use Rattle.rt_tree.specs.{Packed.{extent_of_node}, Packing.{groups, joined, node_over, nodes_from, nodes_over}}
+use Rattle.rt_tree.specs.{SortKeys.{IsInPlane}, declared.tree.Node.{Node}}
+use Rattle.rt_tree.proofs.{ChunkLemmas.{le_or_lt, length-chunks}, LevelLemmas.{div_ceil-halves, div_ceil-positive}}
 use Rattle.rt_tree.proofs.Soundness.{chunk_groups, length-nodes_over, nodes_over-in_plane, sum_by-ones}
 use Rattle.rt_tree.proofs.TileLemmas.{groups-IsPermutation, groups-chunks, groups-moved}
 

@@ -1,21 +1,11 @@
 -- What the packing makes is the packed tree.
-use Rattle.std.proofs.Common.{◌≡◌, ◌≤◌, ◌*◌, ℕ, Ordering, List, [], ◌++◌, length}
-use Rattle.std.proofs.Common.{refl, arith}
-use Rattle.std.specs.Cmp.{IsTotalOrder}
-use Rattle.std.specs.List.{All, sum_by}
-use Rattle.std.specs.Ordering.{int_cmp, on}
-use Rattle.std.proofs.lemmas.Cmp.{int_cmp_total, on_total}
-use Rattle.std.proofs.lemmas.List.Sorted.{All-permutation, length_permutation}
-use Rattle.rt_geo.specs.Laws.{extent_of_entry}
-use Rattle.rt_geo.specs.declared.entry.Entry.{Entry}
-use Rattle.rt_tree.specs.Entries.{IsTable}
-use Rattle.rt_tree.specs.SortKeys.{IsInPlane}
-use Rattle.rt_tree.specs.Packed.{Packed}
-use Rattle.rt_tree.specs.Packing.{groups, joined, nodes_over, pack_of}
-use Rattle.rt_tree.specs.Sorting.{sorted}
-use Rattle.rt_tree.specs.declared.tree.Node.{Node}
-use Rattle.rt_tree.proofs.PackCounts.{all_nodes, leaf_nodes, leaf_nodes-few, over_in_plane}
-use Rattle.rt_tree.proofs.PackSound.{entries-IsPermutation}
+use Rattle.std.proofs.Common.{◌≡◌, ◌≤◌, ◌*◌, ℕ, Ordering, List, [], ◌++◌, length, refl, arith}
+use Rattle.std.proofs.lemmas.{Cmp.{int_cmp_total, on_total}, List.Sorted.{All-permutation, length_permutation}}
+use Rattle.std.specs.{Cmp.{IsTotalOrder}, List.{All, sum_by}, Ordering.{int_cmp, on}}
+use Rattle.rt_geo.specs.{Laws.{extent_of_entry}, declared.entry.Entry.{Entry}}
+use Rattle.rt_tree.specs.{Entries.{IsTable}, Packed.{Packed}, Packing.{groups, joined, nodes_over, pack_of}, Sorting.{sorted}}
+use Rattle.rt_tree.specs.{SortKeys.{IsInPlane}, declared.tree.Node.{Node}}
+use Rattle.rt_tree.proofs.{PackCounts.{all_nodes, leaf_nodes, leaf_nodes-few, over_in_plane}, PackSound.{entries-IsPermutation}}
 use Rattle.rt_tree.proofs.SortingLemmas.{IsPermutation-sorted}
 
 -- the order of ids

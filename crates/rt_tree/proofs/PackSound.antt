@@ -1,39 +1,22 @@
 -- The tree that is packed over a table is sound.
-use Rattle.std.proofs.Common.{◌≡◌, ◌<◌, ◌≤◌, ◌+◌, ◌-◌, ◌^◌, ℕ, zero, suc, List, [], ◌∷◌, ◌++◌, length, map}
-use Rattle.std.proofs.Common.{filter, ◌==◌, drop, get_or, refl, sym, ◌∙◌, ap, subst, arith}
-use Rattle.std.proofs.Common.{inl, inr, length-append, IsPermutation, slice_get, Some}
-use Rattle.std.specs.Int.{div_ceil}
-use Rattle.std.specs.List.{AllByRecursion, flat_map}
-use Rattle.std.proofs.lemmas.List.{append-nil, nil_from_length}
-use Rattle.std.proofs.lemmas.List.Elements.{All-from_recursion, recursion_from_All}
-use Rattle.std.proofs.lemmas.List.Sorted.{All-permutation}
-use Rattle.std.proofs.lemmas.List.Sorted.{IsPermutation-map, IsPermutation-refl}
-use Rattle.std.proofs.lemmas.List.Sorted.{IsPermutation-sym, IsPermutation-trans, length_permutation}
-use Rattle.rt_geo.specs.declared.entry.Entry.{Entry}
-use Rattle.rt_tree.specs.Packed.{Packed, IsSound, IsSubtree, child_entries, entries_under, extent_of_node, height, no_node}
-use Rattle.rt_tree.specs.Packed.{node_at, root_of}
-use Rattle.rt_tree.specs.Packing.{groups, joined, nodes_from, nodes_over, pack_of}
-use Rattle.rt_tree.specs.Entries.{IsTable, ids_of}
-use Rattle.rt_tree.specs.Sorting.{sorted}
-use Rattle.rt_geo.specs.Entries.{HasBox, HasLayer}
-use Rattle.rt_geo.specs.Laws.{extent_of_entry}
-use Rattle.std.specs.Ordering.{int_cmp, int_eq, on}
-use Rattle.std.proofs.lemmas.Map.Keys.{IsDistinct-IsPermutation}
+use Rattle.std.proofs.Common.{◌≡◌, ◌<◌, ◌≤◌, ◌+◌, ◌-◌, ◌^◌, ℕ, zero, suc, List, [], ◌∷◌, ◌++◌, length, map, filter, ◌==◌, drop}
+use Rattle.std.proofs.Common.{get_or, refl, sym, ◌∙◌, ap, subst, arith, inl, inr, length-append, IsPermutation, slice_get, Some}
+use Rattle.std.proofs.lemmas.List.{append-nil, nil_from_length, Elements.{All-from_recursion, recursion_from_All}}
+use Rattle.std.proofs.lemmas.List.Sorted.{All-permutation, IsPermutation-map, IsPermutation-refl, IsPermutation-sym}
+use Rattle.std.proofs.lemmas.{List.Sorted.{IsPermutation-trans, length_permutation}, Map.Keys.{IsDistinct-IsPermutation}}
 use Rattle.std.proofs.lemmas.Option.{get_or_from_slice_get}
-use Rattle.rt_tree.proofs.EntryLemmas.{int_eq-sym}
-use Rattle.rt_tree.proofs.SortingLemmas.{IsPermutation-sorted}
-use Rattle.rt_tree.specs.declared.tree.Node.{Node}
+use Rattle.std.specs.{Int.{div_ceil}, List.{AllByRecursion, flat_map}, Ordering.{int_cmp, int_eq, on}}
+use Rattle.rt_geo.specs.{Entries.{HasBox, HasLayer}, Laws.{extent_of_entry}, declared.entry.Entry.{Entry}}
+use Rattle.rt_tree.specs.{Entries.{IsTable, ids_of}, Levels.{level_sizes}, Packed.{node_at, root_of}, Sorting.{sorted}}
+use Rattle.rt_tree.specs.Packed.{Packed, IsSound, IsSubtree, child_entries, entries_under, extent_of_node, height, no_node}
+use Rattle.rt_tree.specs.{Packing.{groups, joined, nodes_from, nodes_over, pack_of}, declared.tree.Node.{Node}}
 use Rattle.rt_tree.proofs.Children.{AreOnce, all_child_entries, all_child_entries-is, all_child_nodes, all_child_nodes-is}
-use Rattle.rt_tree.proofs.Children.{nodes_once, once_first, once_more}
-use Rattle.rt_tree.proofs.ChunkLemmas.{le_or_lt}
-use Rattle.rt_tree.proofs.OrderLemmas.{all_append, all_moved, flat_map-IsPermutation}
+use Rattle.rt_tree.proofs.{Children.{nodes_once, once_first, once_more}, ChunkLemmas.{le_or_lt}, EntryLemmas.{int_eq-sym}}
+use Rattle.rt_tree.proofs.{LevelLemmas.{div_ceil-positive}, LevelOrder.{sizes_from_first}, LoopLemmas.{get_or_behind}}
+use Rattle.rt_tree.proofs.LevelOrder.{last_node-top, level_by_level, nodes_from-levels, nodes_over-AreOn, sizes_from}
+use Rattle.rt_tree.proofs.{OrderLemmas.{all_append, all_moved, flat_map-IsPermutation}, SortingLemmas.{IsPermutation-sorted}}
 use Rattle.rt_tree.proofs.PackCounts.{IsCounted, above, all_nodes, counted_first, counted_more, course, cut, fewer}
 use Rattle.rt_tree.proofs.PackCounts.{leaf_nodes-few, length-groups, nodes_from-last, some_above}
-use Rattle.rt_tree.proofs.LoopLemmas.{get_or_behind}
-use Rattle.rt_tree.proofs.LevelLemmas.{div_ceil-positive}
-use Rattle.rt_tree.proofs.LevelOrder.{last_node-top, level_by_level, nodes_from-levels, nodes_over-AreOn, sizes_from}
-use Rattle.rt_tree.proofs.LevelOrder.{sizes_from_first}
-use Rattle.rt_tree.specs.Levels.{level_sizes}
 use Rattle.rt_tree.proofs.Soundness.{IsEntry, all_map, chunk_groups, all_under_more, inner-range, leaves_sound, leaves_under}
 use Rattle.rt_tree.proofs.Soundness.{length-nodes_over, over_sound, over_under, subtree_more, tree}
 use Rattle.rt_tree.proofs.TileLemmas.{groups-IsPermutation, groups-chunks, groups-moved, groups-nil}

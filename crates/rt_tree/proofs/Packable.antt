@@ -1,18 +1,11 @@
 -- Entries of a table can be packed, and so can nodes.
-use Rattle.std.proofs.Common.{List, arith}
-use Rattle.std.proofs.lemmas.List.Sorted.{IsPermutation-refl}
+use Rattle.std.proofs.{Common.{List, arith}, lemmas.List.Sorted.{IsPermutation-refl}}
 use Rattle.std.specs.Ordering.{int_cmp, nat_cmp, on}
-use Rattle.rt_geo.specs.Entries.{HasLayer}
-use Rattle.rt_geo.specs.declared.entry.Entry.{Entry}
-use Rattle.rt_tree.specs.Entries.{IsTable}
-use Rattle.rt_tree.specs.SortKeys.{AreFewNodes, ArePackable, by_rank_and_id}
-use Rattle.rt_tree.specs.Sorting.{sorted}
+use Rattle.rt_geo.specs.{Entries.{HasLayer}, declared.entry.Entry.{Entry}}
+use Rattle.rt_tree.specs.{Entries.{IsTable}, SortKeys.{AreFewNodes, ArePackable, by_rank_and_id}, Sorting.{sorted}}
 use Rattle.rt_tree.specs.declared.tree.Node.{Node}
-use Rattle.rt_tree.proofs.PackLemmas.{by_id}
-use Rattle.rt_tree.proofs.SortKeyLemmas.{nodes_told}
-use Rattle.rt_tree.proofs.SortingLemmas.{IsPermutation-sorted}
-use Rattle.rt_tree.proofs.Soundness.{sum_by-ones}
-use Rattle.rt_tree.proofs.TieOrders.{entries_told}
+use Rattle.rt_tree.proofs.{PackLemmas.{by_id}, SortKeyLemmas.{nodes_told}, SortingLemmas.{IsPermutation-sorted}}
+use Rattle.rt_tree.proofs.{Soundness.{sum_by-ones}, TieOrders.{entries_told}}
 
 pub entries_packable : (entries : List Entry) → IsTable entries → ArePackable (λ (e : Entry). e.bounds) HasLayer
     (λ (e : Entry). 1) (by_rank_and_id entries) (sorted (on (λ (e : Entry). e.id) int_cmp) entries) entries

@@ -1,8 +1,7 @@
 -- Two lists side by side, and the list that they make.
-use Rattle.std.proofs.Common.{◌≡◌, ◌<◌, ◌+◌, ◌-◌, ℕ, zero, suc, List, [], ◌∷◌, ◌++◌, length, map, take, drop, get_or}
-use Rattle.std.proofs.Common.{slice_get, Some, refl, sym, ◌∙◌, ap, arith}
+use Rattle.std.proofs.Common.{◌≡◌, ◌<◌, ◌+◌, ◌-◌, ℕ, zero, suc, List, [], ◌∷◌, ◌++◌, length, map, take, drop, get_or, slice_get}
+use Rattle.std.proofs.{Common.{Some, refl, sym, ◌∙◌, ap, arith}, lemmas.List.{drop-map, length-map, take-map}}
 use Rattle.std.specs.List.{zip}
-use Rattle.std.proofs.lemmas.List.{drop-map, length-map, take-map}
 
 -- what each element of the one list makes with that beside it, as far as both go
 abbrev pub paired : {X Y Z : Type 0} → (join : X → Y → Z) → List X → List Y → List Z

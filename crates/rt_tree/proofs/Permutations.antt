@@ -1,8 +1,7 @@
 -- What holds along every rearrangement of a list.
 use Rattle.std.proofs.Common.{◌<◌, ℕ, zero, suc, List, [], ◌∷◌, length, get_or, set, arith}
-use Rattle.std.specs.List.{swap}
-use Rattle.std.specs.List.Sorted.{IsPermutation}
 use Rattle.std.proofs.lemmas.List.Sorted.{IsPermutation-keeps}
+use Rattle.std.specs.List.{swap, Sorted.{IsPermutation}}
 
 -- A relation holds along each permutation if it is reflexive and transitive, and goes under a head and over an
 -- exchange of two heads.

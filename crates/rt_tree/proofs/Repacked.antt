@@ -1,13 +1,9 @@
 -- Entries in another order are packed the same.
 use Rattle.std.proofs.Common.{◌≡◌, ◌≤◌, ℕ, List, IsPermutation, ap}
-use Rattle.std.specs.List.{IsDistinct}
-use Rattle.std.specs.Ordering.{int_eq}
+use Rattle.std.specs.{List.{IsDistinct}, Ordering.{int_eq}}
 use Rattle.rt_geo.specs.declared.entry.Entry.{Entry}
-use Rattle.rt_tree.specs.Entries.{ids_of}
-use Rattle.rt_tree.specs.Packed.{Packed}
-use Rattle.rt_tree.specs.Packing.{groups, joined, pack_of}
-use Rattle.rt_tree.proofs.PackCounts.{all_nodes, leaf_nodes}
-use Rattle.rt_tree.proofs.PackSound.{entries-IsPermutation}
+use Rattle.rt_tree.specs.{Entries.{ids_of}, Packed.{Packed}, Packing.{groups, joined, pack_of}}
+use Rattle.rt_tree.proofs.{PackCounts.{all_nodes, leaf_nodes}, PackSound.{entries-IsPermutation}}
 use Rattle.rt_tree.proofs.TieOrders.{sorted_by_id-IsPermutation}
 
 -- the packed tree of entries in the order of their ids

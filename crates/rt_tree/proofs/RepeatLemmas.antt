@@ -1,12 +1,9 @@
 -- The first entry whose id an earlier one has.
-use Rattle.std.proofs.Common.{◌≡◌, ◌∙◌, ◌<◌, ◌+◌, ℕ, ℤ, Bool, true, false, ◌||◌, List, [], ◌∷◌, ◌++◌, length, length-append, drop, get_or, take, Option, Some, None, refl, sym, subst, ap, add-one, append_assoc, arith}
-use Rattle.std.specs.Prelude.{if◌then◌else◌}
-use Rattle.std.specs.List.{AllByRecursion, IsDistinct}
-use Rattle.std.specs.Ordering.{int_eq}
-use Rattle.std.proofs.Math.Seq.{drop-cons}
-use Rattle.std.proofs.lemmas.Cmp.{int_eq_equiv}
+use Rattle.std.proofs.Common.{◌≡◌, ◌∙◌, ◌<◌, ◌+◌, ℕ, ℤ, Bool, true, false, ◌||◌, List, [], ◌∷◌, ◌++◌, length, length-append}
+use Rattle.std.proofs.Common.{drop, get_or, take, Option, Some, None, refl, sym, subst, ap, add-one, append_assoc, arith}
+use Rattle.std.proofs.{Math.Seq.{drop-cons}, lemmas.{Cmp.{int_eq_equiv}, Map.Keys.{IsDistinct-push}}}
 use Rattle.std.proofs.lemmas.List.{append-nil, length-take-le, map-append, take_more}
-use Rattle.std.proofs.lemmas.Map.Keys.{IsDistinct-push}
+use Rattle.std.specs.{List.{AllByRecursion, IsDistinct}, Ordering.{int_eq}, Prelude.{if◌then◌else◌}}
 use Rattle.rt_geo.specs.declared.entry.Entry.{Entry}
 use Rattle.rt_tree.specs.Entries.{first_repeat, has_id, ids_of, repeat_after}
 use Rattle.rt_tree.proofs.EntryLemmas.{has_id-ids_of, has_id-push, int_eq-sym}

@@ -1,14 +1,9 @@
 -- Answers that were worked out by hand: the definitions give them by computing.
 use Rattle.std.proofs.Common.{◌≡◌, refl, ℕ, ℤ, pos, negsuc, zero, suc, [], ◌∷◌, Some, None, map}
 use Rattle.std.specs.Ordering.{nat_cmp}
-use Rattle.rt_geo.specs.Boxes.{Rect, rect_of}
-use Rattle.rt_geo.specs.Layers.{only}
-use Rattle.rt_geo.specs.declared.entry.Entry.{Entry}
-use Rattle.rt_tree.specs.declared.tree.Node.{Node}
-use Rattle.rt_tree.specs.Entries.{first_repeat}
-use Rattle.rt_tree.specs.Levels.{level_sizes}
-use Rattle.rt_tree.specs.Packing.{ceil_sqrt, chunks, pack_of}
-use Rattle.rt_tree.specs.Sorting.{limited, sorted}
+use Rattle.rt_geo.specs.{Boxes.{Rect, rect_of}, Layers.{only}, declared.entry.Entry.{Entry}}
+use Rattle.rt_tree.specs.{Entries.{first_repeat}, Levels.{level_sizes}, Packing.{ceil_sqrt, chunks, pack_of}}
+use Rattle.rt_tree.specs.{Sorting.{limited, sorted}, declared.tree.Node.{Node}}
 
 sorted_row : sorted nat_cmp (3 ∷ 1 ∷ 2 ∷ 1 ∷ []) ≡ 1 ∷ 1 ∷ 2 ∷ 3 ∷ []
 sorted_row = refl

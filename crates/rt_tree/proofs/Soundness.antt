@@ -1,29 +1,19 @@
 -- A packed tree is sound.
-use Rattle.std.proofs.Common.{◌≡◌, ◌<◌, ◌≤◌, ◌+◌, ℕ, zero, suc, Bool, true, List, [], ◌∷◌, ◌++◌, length, map}
-use Rattle.std.proofs.Common.{take, drop, refl, sym, ◌∙◌, ap, subst, arith, append_assoc}
-use Rattle.std.proofs.Common.{length-append}
-use Rattle.std.specs.List.{AllByRecursion, flat_map, fold, reduce, sum_by}
-use Rattle.std.specs.Prelude.{unwrap_or}
-use Rattle.std.proofs.Math.Seq.{drop-append_seam}
-use Rattle.std.proofs.lemmas.Grind.{flat_map-append}
-use Rattle.std.proofs.lemmas.List.{drop-append-le, length-drop, take-append-le, take_all}
+use Rattle.std.proofs.Common.{◌≡◌, ◌<◌, ◌≤◌, ◌+◌, ℕ, zero, suc, Bool, true, List, [], ◌∷◌, ◌++◌, length, map, take, drop, refl}
+use Rattle.std.proofs.{Common.{sym, ◌∙◌, ap, subst, arith, append_assoc, length-append}, Math.Seq.{drop-append_seam}}
+use Rattle.std.proofs.lemmas.{Grind.{flat_map-append}, List.{drop-append-le, length-drop, take-append-le, take_all}}
 use Rattle.std.proofs.lemmas.List.Sums.{sum_by-cons}
-use Rattle.rt_geo.specs.Boxes.{Rect, IsRect, hull, inside, plane}
-use Rattle.rt_geo.specs.Entries.{HasBox, HasLayer}
-use Rattle.rt_geo.specs.Layers.{HasSome, no_layers, subset, union}
-use Rattle.rt_geo.specs.Laws.{Extent, IsBoxInside, IsPart, extent_of_entry}
+use Rattle.std.specs.{List.{AllByRecursion, flat_map, fold, reduce, sum_by}, Prelude.{unwrap_or}}
+use Rattle.rt_geo.specs.{Boxes.{Rect, IsRect, hull, inside, plane}, Entries.{HasBox, HasLayer}, declared.entry.Entry.{Entry}}
+use Rattle.rt_geo.specs.{Laws.{Extent, IsBoxInside, IsPart, extent_of_entry}, Layers.{HasSome, no_layers, subset, union}}
 use Rattle.rt_geo.specs.Lemmas.Boxes.{IsRect-hull, hull-inside, inside-hull_left, inside-hull_right, inside-same, inside-trans}
-use Rattle.rt_geo.specs.Lemmas.Laws.{IsBoxInside-entry, IsBoxInside-part}
+use Rattle.rt_geo.specs.Lemmas.{Laws.{IsBoxInside-entry, IsBoxInside-part}, Layers.{subset-union_right}}
 use Rattle.rt_geo.specs.Lemmas.Layers.{HasSome-only, HasSome-union, subset-same, subset-trans, subset-union_left}
-use Rattle.rt_geo.specs.Lemmas.Layers.{subset-union_right}
-use Rattle.rt_geo.specs.declared.entry.Entry.{Entry}
 use Rattle.rt_geo.specs.declared.layers.Layers.{Layers}
-use Rattle.rt_tree.specs.Packed.{Packed, IsLeafNode, IsSubtree, child_nodes}
-use Rattle.rt_tree.specs.Packed.{entries_under, extent_of_node, hull_of, no_box, union_of}
-use Rattle.rt_tree.specs.Packing.{chunks, joined, node_over, nodes_over}
-use Rattle.rt_tree.specs.SortKeys.{IsInPlane}
-use Rattle.rt_tree.proofs.ChunkLemmas.{chunks-size}
+use Rattle.rt_tree.specs.Packed.{Packed, IsLeafNode, IsSubtree, child_nodes, entries_under, extent_of_node, hull_of, no_box}
+use Rattle.rt_tree.specs.{Packed.{union_of}, Packing.{chunks, joined, node_over, nodes_over}, SortKeys.{IsInPlane}}
 use Rattle.rt_tree.specs.declared.tree.Node.{Node}
+use Rattle.rt_tree.proofs.ChunkLemmas.{chunks-size}
 
 -- ---- lists
 

@@ -1,8 +1,6 @@
 -- The square root, rounded up.
-use Rattle.std.proofs.Common.{◌≡◌, ◌<◌, ◌≤◌, ◌+◌, ◌*◌, ℕ, zero, suc, Bool, true, false, cond, nat_le, refl, ap, arith}
-use Rattle.std.proofs.Common.{inl, inr, ◌-◌}
-use Rattle.std.proofs.Math.Nat.{eq-or-lt_of_le, mul-le-mul}
-use Rattle.std.proofs.lemmas.Bool.Decides.{nat_tests}
+use Rattle.std.proofs.Common.{◌≡◌, ◌<◌, ◌≤◌, ◌+◌, ◌*◌, ℕ, zero, suc, Bool, true, false, cond, nat_le, refl, ap, arith, inl, inr}
+use Rattle.std.proofs.{Common.{◌-◌}, Math.Nat.{eq-or-lt_of_le, mul-le-mul}, lemmas.Bool.Decides.{nat_tests}}
 use Rattle.rt_tree.specs.Packing.{ceil_sqrt}
 
 -- its square is enough, and it is the least such number

@@ -1,19 +1,14 @@
 -- Tiles are chunks of the items in one order.
-use Rattle.std.proofs.Common.{◌≡◌, ◌<◌, ◌≤◌, ◌+◌, ◌*◌, ℕ, Ordering, List, [], ◌∷◌, length, map, refl, sym, ◌∙◌}
-use Rattle.std.proofs.Common.{ap, subst, arith, IsPermutation}
-use Rattle.std.specs.Int.{div_ceil}
-use Rattle.std.specs.List.{enumerate_from, flat_map}
-use Rattle.std.proofs.lemmas.List.Folds.{flat_map-map}
-use Rattle.std.proofs.lemmas.List.FromFn.{length-enumerate_from}
-use Rattle.std.proofs.lemmas.List.Sorted.{IsPermutation-append, IsPermutation-map, IsPermutation-refl}
-use Rattle.std.proofs.lemmas.List.Sorted.{IsPermutation-trans, length_permutation}
+use Rattle.std.proofs.Common.{◌≡◌, ◌<◌, ◌≤◌, ◌+◌, ◌*◌, ℕ, Ordering, List, [], ◌∷◌, length, map, refl, sym, ◌∙◌, ap, subst}
+use Rattle.std.proofs.{Common.{arith, IsPermutation}, lemmas.List.{Folds.{flat_map-map}, FromFn.{length-enumerate_from}}}
+use Rattle.std.proofs.lemmas.List.Sorted.{IsPermutation-append, IsPermutation-map, IsPermutation-refl, IsPermutation-trans}
+use Rattle.std.proofs.lemmas.List.Sorted.{length_permutation}
+use Rattle.std.specs.{Int.{div_ceil}, List.{enumerate_from, flat_map}}
 use Rattle.rt_geo.specs.Boxes.{Rect}
 use Rattle.rt_tree.specs.Packing.{by_middle, ceil_sqrt, chunks, groups, joined, tiles, twice_middle_x, twice_middle_y}
 use Rattle.rt_tree.specs.Sorting.{sorted}
 use Rattle.rt_tree.proofs.ChunkLemmas.{chunks-nil, chunks_of-chunks, div_ceil-step, joined-chunks, map-chunks}
-use Rattle.rt_tree.proofs.OrderLemmas.{map-flat_map}
-use Rattle.rt_tree.proofs.SortingLemmas.{IsPermutation-sorted}
-use Rattle.rt_tree.proofs.SquareLemmas.{ceil_sqrt-positive}
+use Rattle.rt_tree.proofs.{OrderLemmas.{map-flat_map}, SortingLemmas.{IsPermutation-sorted}, SquareLemmas.{ceil_sqrt-positive}}
 
 sorted-length : {Y : Type 0} (cmp : Y → Y → Ordering) (ys : List Y) → length (sorted cmp ys) ≡ length ys
 sorted-length cmp ys = length_permutation ys (sorted cmp ys) (IsPermutation-sorted cmp ys)

@@ -1,28 +1,17 @@
 -- The loops that put items behind those that are packed, and make the nodes over them.
-use Rattle.std.proofs.Common.{◌≡◌, ◌<◌, ◌≤◌, ◌+◌, ◌^◌, ℕ, suc, Ordering, Some, List, [], ◌∷◌, ◌++◌}
-use Rattle.std.proofs.Common.{length, map, take, drop}
+use Rattle.std.proofs.Common.{◌≡◌, ◌<◌, ◌≤◌, ◌+◌, ◌^◌, ℕ, suc, Ordering, Some, List, [], ◌∷◌, ◌++◌, length, map, take, drop}
 use Rattle.std.proofs.Common.{get_or, slice_get, min, refl, sym, ◌∙◌, ap, subst, arith, append_assoc, inl, inr}
-use Rattle.std.specs.List.{All, fold, sum_by}
-use Rattle.std.proofs.Math.Seq.{drop-append_seam, take-append_seam}
-use Rattle.std.proofs.lemmas.List.{append-nil, length-append}
-use Rattle.std.proofs.lemmas.List.{take-append-drop, take_all, take_more}
+use Rattle.std.proofs.{Math.Seq.{drop-append_seam, take-append_seam}, lemmas.{Int.{ints}, Option.{slice_get_cases}}}
+use Rattle.std.proofs.lemmas.List.{append-nil, length-append, take-append-drop, take_all, take_more}
 use Rattle.std.proofs.lemmas.List.Elements.{All-drop, All-take, filter_map-append}
 use Rattle.std.proofs.lemmas.List.Sorted.{IsPermutation-trans, length_permutation, sum_by-IsPermutation}
 use Rattle.std.proofs.lemmas.List.Sums.{fold-append, sum_by-append, sum_by_from}
-use Rattle.std.proofs.lemmas.Int.{ints}
-use Rattle.std.specs.Int.{int_min, int_max}
-use Rattle.rt_tree.proofs.Soundness.{sum_by-ones}
-use Rattle.std.proofs.lemmas.Option.{slice_get_cases}
-use Rattle.rt_geo.specs.Boxes.{Rect, hull}
-use Rattle.rt_geo.specs.Layers.{no_layers, union}
-use Rattle.rt_geo.specs.Laws.{Extent}
-use Rattle.rt_geo.specs.declared.layers.Layers.{Layers}
-use Rattle.rt_tree.specs.Packed.{union_of}
-use Rattle.rt_tree.specs.Packing.{chunks, groups, joined, node_over, nodes_over}
-use Rattle.rt_tree.specs.SortKeys.{ArePackable, box_of, place_of, told, with_child}
-use Rattle.rt_tree.specs.declared.tree.Node.{Node}
-use Rattle.rt_tree.proofs.ChunkLemmas.{chunks-front, chunks-nil}
+use Rattle.std.specs.{Int.{int_min, int_max}, List.{All, fold, sum_by}}
+use Rattle.rt_tree.proofs.{ChunkLemmas.{chunks-front, chunks-nil}, Soundness.{sum_by-ones}}
 use Rattle.rt_tree.proofs.TileLemmas.{groups-chunks, groups-moved}
+use Rattle.rt_geo.specs.{Boxes.{Rect, hull}, Laws.{Extent}, Layers.{no_layers, union}, declared.layers.Layers.{Layers}}
+use Rattle.rt_tree.specs.{Packed.{union_of}, Packing.{chunks, groups, joined, node_over, nodes_over}, declared.tree.Node.{Node}}
+use Rattle.rt_tree.specs.SortKeys.{ArePackable, box_of, place_of, told, with_child}
 
 -- ---- the items that keys tell
 

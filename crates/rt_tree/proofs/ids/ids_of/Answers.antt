@@ -1,7 +1,5 @@
-use Rattle.std.proofs.Common.{◌∙◌, ◌++◌, ◌∷◌, [], FitsSigned, ap, rules, subst, sym, w64}
-use Rattle.std.proofs.lemmas.Int.{to_z-of_z}
-use Rattle.std.proofs.lemmas.List.Elements.{All-more}
-use Rattle.std.proofs.lemmas.Option.{get_or_from_slice_get, slice_get_within}
+use Rattle.std.proofs.{Common.{◌∙◌, ◌++◌, ◌∷◌, [], FitsSigned, ap, rules, subst, sym, w64}, lemmas.Int.{to_z-of_z}}
+use Rattle.std.proofs.lemmas.{List.Elements.{All-more}, Option.{get_or_from_slice_get, slice_get_within}}
 use Rattle.rt_geo.specs.Entries.{HasBox}
 use Rattle.rt_tree.proofs.EntryLemmas.{ids_of-more}
 use Rattle.rt_tree.proofs.ids.ids_of.Goals as goal

@@ -1,7 +1,5 @@
-use Rattle.std.proofs.Common.{◌≡◌, ◌∙◌, arith, of_z, to_z, w64}
-use Rattle.std.specs.List.Sorted.{IsBinarySearchResult}
-use Rattle.std.specs.Ordering.{int_cmp}
-use Rattle.std.proofs.lemmas.Int.{ints}
+use Rattle.std.proofs.{Common.{◌≡◌, ◌∙◌, arith, of_z, to_z, w64}, lemmas.Int.{ints}}
+use Rattle.std.specs.{List.Sorted.{IsBinarySearchResult}, Ordering.{int_cmp}}
 use Rattle.rt_tree.proofs.IdLemmas.{searched-is}
 use Rattle.rt_tree.proofs.ids.is_among.Goals as goal
 

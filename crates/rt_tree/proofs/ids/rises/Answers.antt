@@ -1,6 +1,5 @@
-use Rattle.std.proofs.Common.{rules}
+use Rattle.std.proofs.{Common.{rules}, lemmas.List.Sorted.{answers_always}}
 use Rattle.std.specs.Prelude.{int_lt}
-use Rattle.std.proofs.lemmas.List.Sorted.{answers_always}
 use Rattle.rt_tree.proofs.IdLemmas.{rising-is}
 use Rattle.rt_tree.proofs.ids.rises.Goals as goal
 

@@ -1,13 +1,9 @@
-use Rattle.std.proofs.Common.{◌≡◌, ◌<◌, ◌*◌, ◌∙◌, All, ap, arith, length, subst, sym}
-use Rattle.std.specs.Int.{div_ceil}
-use Rattle.std.specs.List.{enumerate_from, flat_map}
-use Rattle.std.proofs.lemmas.List.{length-map}
+use Rattle.std.proofs.{Common.{◌≡◌, ◌<◌, ◌*◌, ◌∙◌, All, ap, arith, length, subst, sym}, lemmas.List.{length-map}}
 use Rattle.std.proofs.lemmas.List.FromFn.{length-enumerate_from}
-use Rattle.rt_tree.specs.Packing.{ceil_sqrt, chunks, twice_middle_x}
-use Rattle.rt_tree.specs.SortKeys.{box_of, by_y, key_of, place_of, told}
+use Rattle.std.specs.{Int.{div_ceil}, List.{enumerate_from, flat_map}}
+use Rattle.rt_tree.specs.{Packing.{ceil_sqrt, chunks, twice_middle_x}, SortKeys.{box_of, by_y, key_of, place_of, told}}
 use Rattle.rt_tree.specs.Sorting.{sorted}
-use Rattle.rt_tree.proofs.ChunkLemmas.{chunks-alike}
-use Rattle.rt_tree.proofs.SortKeyLemmas.{keys_tell, sliced_tell}
+use Rattle.rt_tree.proofs.{ChunkLemmas.{chunks-alike}, SortKeyLemmas.{keys_tell, sliced_tell}}
 use Rattle.rt_tree.proofs.packing.arrange.Goals as goal
 
 pub sort_slices-requires-clause-places : goal.sort_slices-requires-clause-places

@@ -1,8 +1,6 @@
-use Rattle.std.proofs.Common.{◌≡◌, ◌∙◌, ◌+ℤ◌, FitsSigned, ap, of_z, refl, rules, sym, to_z, w32}
-use Rattle.std.proofs.lemmas.Int.{to_z-of_z}
+use Rattle.std.proofs.{Common.{◌≡◌, ◌∙◌, ◌+ℤ◌, FitsSigned, ap, of_z, refl, rules, sym, to_z, w32}, lemmas.Int.{to_z-of_z}}
 use Rattle.std.proofs.lemmas.Option.{get_or_from_slice_get, slice_get_within}
-use Rattle.rt_tree.specs.Packing.{twice_middle_x}
-use Rattle.rt_tree.specs.SortKeys.{key_of, rank, sort_key, box_of}
+use Rattle.rt_tree.specs.{Packing.{twice_middle_x}, SortKeys.{key_of, rank, sort_key, box_of}}
 use Rattle.rt_tree.proofs.LoopLemmas.{keys_more}
 use Rattle.rt_tree.proofs.packing.keys_of.Goals as goal
 

@@ -1,7 +1,6 @@
 use Rattle.std.proofs.Common.{◌≡◌, map, take}
 use Rattle.std.specs.List.{enumerate_from}
-use Rattle.rt_tree.specs.Packing.{twice_middle_x}
-use Rattle.rt_tree.specs.SortKeys.{box_of, key_of}
+use Rattle.rt_tree.specs.{Packing.{twice_middle_x}, SortKeys.{box_of, key_of}}
 use Rattle.rt_tree.proofs.packing.keys_of.Given as goal
 
 abbrev pub invariant-loop-place : goal.invariant-loop-place

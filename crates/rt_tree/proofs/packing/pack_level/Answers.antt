@@ -1,8 +1,7 @@
 use Rattle.rt_tree.specs.SortKeys.{box_of}
 use Rattle.std.proofs.Common.{◌≡◌, ◌∙◌, ap, arith, length, min}
 use Rattle.std.specs.Slice.Iter.{chunks_rest, chunks_size}
-use Rattle.rt_tree.proofs.LoopLemmas.{front_of}
-use Rattle.rt_tree.proofs.TileLoops.{level_done, level_first, level_more, next_tile}
+use Rattle.rt_tree.proofs.{LoopLemmas.{front_of}, TileLoops.{level_done, level_first, level_more, next_tile}}
 use Rattle.rt_tree.proofs.packing.pack_level.Goals as goal
 
 pub arrange-requires-clause-keys : goal.arrange-requires-clause-keys

@@ -1,7 +1,6 @@
-use Rattle.rt_tree.specs.SortKeys.{box_of}
+use Rattle.rt_tree.specs.{Packing.{groups, joined, nodes_over}, SortKeys.{box_of}}
 use Rattle.std.proofs.Common.{◌≡◌, ◌++◌, length}
 use Rattle.std.specs.Slice.Iter.{chunks_rest, chunks_size}
-use Rattle.rt_tree.specs.Packing.{groups, joined, nodes_over}
 use Rattle.rt_tree.proofs.TileLoops.{IsLevelPart}
 use Rattle.rt_tree.proofs.packing.pack_level.Given as goal
 

@@ -1,6 +1,5 @@
 use Rattle.std.proofs.Common.{◌<◌, ◌*◌, ◌∙◌, ap, sym}
-use Rattle.rt_tree.proofs.LevelLemmas.{div_ceil-positive}
-use Rattle.rt_tree.proofs.SquareLemmas.{ceil_sqrt-from_isqrt}
+use Rattle.rt_tree.proofs.{LevelLemmas.{div_ceil-positive}, SquareLemmas.{ceil_sqrt-from_isqrt}}
 use Rattle.rt_tree.specs.Packing.{ceil_sqrt}
 use Rattle.rt_tree.proofs.packing.slice_size.Goals as goal
 

@@ -1,7 +1,5 @@
 use Rattle.std.proofs.Common.{◌∙◌, ap}
-use Rattle.rt_tree.specs.Packing.{twice_middle_y}
-use Rattle.rt_tree.specs.SortKeys.{box_of, rekeyed}
-use Rattle.rt_tree.specs.Sorting.{sorted}
+use Rattle.rt_tree.specs.{Packing.{twice_middle_y}, SortKeys.{box_of, rekeyed}, Sorting.{sorted}}
 use Rattle.rt_tree.proofs.LoopLemmas.{mapped_all, mapped_more}
 use Rattle.rt_tree.proofs.packing.sort_by_y.Goals as goal
 

@@ -1,6 +1,5 @@
 use Rattle.std.proofs.Common.{◌≡◌, ◌++◌, map, take, drop}
-use Rattle.rt_tree.specs.Packing.{twice_middle_y}
-use Rattle.rt_tree.specs.SortKeys.{box_of, rekeyed}
+use Rattle.rt_tree.specs.{Packing.{twice_middle_y}, SortKeys.{box_of, rekeyed}}
 use Rattle.rt_tree.proofs.packing.sort_by_y.Given as goal
 
 abbrev pub invariant-loop-key : goal.invariant-loop-key

@@ -1,8 +1,7 @@
 use Rattle.std.proofs.Common.{◌≡◌, ℕ, List, ◌+◌, ◌-◌, ◌++◌, ◌∙◌, ap, arith, drop, length, sym, take}
-use Rattle.std.specs.List.{flat_map}
 use Rattle.std.proofs.lemmas.List.{length-drop, length-take}
-use Rattle.rt_tree.specs.Packing.{chunks}
-use Rattle.rt_tree.specs.SortKeys.{by_y, box_of}
+use Rattle.std.specs.List.{flat_map}
+use Rattle.rt_tree.specs.{Packing.{chunks}, SortKeys.{by_y, box_of}}
 use Rattle.rt_tree.proofs.LoopLemmas.{changed_more, chunks-at}
 use Rattle.rt_tree.proofs.packing.sort_slices.Goals as goal
 

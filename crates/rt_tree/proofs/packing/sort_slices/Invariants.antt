@@ -1,7 +1,6 @@
 use Rattle.std.proofs.Common.{◌-◌, length}
 use Rattle.std.specs.List.{flat_map}
-use Rattle.rt_tree.specs.Packing.{chunks}
-use Rattle.rt_tree.specs.SortKeys.{box_of, by_y}
+use Rattle.rt_tree.specs.{Packing.{chunks}, SortKeys.{box_of, by_y}}
 use Rattle.rt_tree.proofs.LoopLemmas.{IsChangedTo}
 use Rattle.rt_tree.proofs.packing.sort_slices.Given as goal
 

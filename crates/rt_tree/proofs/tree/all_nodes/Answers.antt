@@ -1,14 +1,10 @@
-use Rattle.std.proofs.Common.{◌≡◌, ◌<◌, ◌≤◌, ◌+◌, ◌-◌, ◌++◌, ◌∷◌, ◌∙◌, [], List, Some, add-one, ap, arith, length, slice_get, subst, sym}
+use Rattle.std.proofs.Common.{◌≡◌, ◌<◌, ◌≤◌, ◌+◌, ◌-◌, ◌++◌, ◌∷◌, ◌∙◌, [], List, Some, add-one, ap, arith, length, slice_get}
+use Rattle.std.proofs.{Common.{subst, sym}, lemmas.{List.{append-nil, nil_from_length}, Option.{get_or_from_slice_get}}}
 use Rattle.std.specs.List.{All}
-use Rattle.rt_tree.specs.SortKeys.{IsInPlane}
-use Rattle.std.proofs.lemmas.List.{append-nil, nil_from_length}
-use Rattle.std.proofs.lemmas.Option.{get_or_from_slice_get}
-use Rattle.rt_tree.specs.declared.tree.Node.{Node}
-use Rattle.rt_tree.specs.Packed.{extent_of_node}
+use Rattle.rt_tree.specs.{Packed.{extent_of_node}, SortKeys.{IsInPlane}, declared.tree.Node.{Node}}
 use Rattle.rt_tree.proofs.PackCounts.{all_nodes, counted_more, over_in_plane, course_done, course_more, fewer}
-use Rattle.rt_tree.proofs.Packable.{nodes_packable}
+use Rattle.rt_tree.proofs.{Packable.{nodes_packable}, tree.all_nodes.Goals.{then-len-eq1+in_ok-push, else-len-eq1}}
 use Rattle.rt_tree.proofs.tree.all_nodes.Goals as goal
-use Rattle.rt_tree.proofs.tree.all_nodes.Goals.{then-len-eq1+in_ok-push, else-len-eq1}
 
 -- a single node is the first one
 one_node : (nodes : List Node) (n : Node) → length nodes ≡ 1 → slice_get nodes 0 ≡ Some n → nodes ≡ n ∷ []

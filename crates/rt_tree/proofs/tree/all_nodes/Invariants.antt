@@ -1,7 +1,6 @@
 use Rattle.std.proofs.Common.{◌≡◌, ◌++◌, length}
 use Rattle.std.specs.List.{All}
-use Rattle.rt_tree.specs.Packing.{nodes_from}
-use Rattle.rt_tree.specs.SortKeys.{IsInPlane}
+use Rattle.rt_tree.specs.{Packing.{nodes_from}, SortKeys.{IsInPlane}}
 use Rattle.rt_tree.proofs.PackCounts.{IsCounted, all_nodes}
 use Rattle.rt_tree.proofs.tree.all_nodes.Given as goal
 

@@ -1,9 +1,7 @@
-use Rattle.std.proofs.Common.{◌≡◌, ◌∙◌, ◌<◌, FitsSigned, ap, arith, get_or, length, rules, w64}
-use Rattle.std.proofs.lemmas.Int.{to_z-of_z}
+use Rattle.std.proofs.{Common.{◌≡◌, ◌∙◌, ◌<◌, FitsSigned, ap, arith, get_or, length, rules, w64}, lemmas.Int.{to_z-of_z}}
 use Rattle.std.proofs.lemmas.List.{get_or_default}
 use Rattle.rt_tree.specs.Leaves.{with_layer}
-use Rattle.rt_tree.proofs.LeafLemmas.{layers-alone, length-entries_of}
-use Rattle.rt_tree.proofs.PairLemmas.{paired-at}
+use Rattle.rt_tree.proofs.{LeafLemmas.{layers-alone, length-entries_of}, PairLemmas.{paired-at}}
 use Rattle.rt_tree.proofs.entries.Entries.get.Goals as goal
 
 pub index-entry-requires : goal.index-entry-requires

@@ -1,7 +1,6 @@
 use Rattle.std.proofs.Common.{◌≡◌, ◌∙◌, ◌-◌, ap, arith, length, take}
 use Rattle.rt_tree.specs.Leaves.{entries_of, with_layer}
-use Rattle.rt_tree.proofs.LeafLemmas.{length-entries_of}
-use Rattle.rt_tree.proofs.PairLemmas.{paired-take}
+use Rattle.rt_tree.proofs.{LeafLemmas.{length-entries_of}, PairLemmas.{paired-take}}
 use Rattle.rt_tree.proofs.entries.Entries.pop.Goals as goal
 
 pub returns : goal.returns

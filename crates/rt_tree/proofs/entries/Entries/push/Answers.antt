@@ -1,5 +1,4 @@
-use Rattle.std.proofs.Common.{FitsSigned, rules, w64}
-use Rattle.std.proofs.lemmas.Int.{to_z-of_z}
+use Rattle.std.proofs.{Common.{FitsSigned, rules, w64}, lemmas.Int.{to_z-of_z}}
 use Rattle.rt_tree.specs.Leaves.{with_layer, without_layer}
 use Rattle.rt_tree.proofs.PairLemmas.{paired-more}
 use Rattle.rt_tree.proofs.entries.Entries.push.Goals as goal

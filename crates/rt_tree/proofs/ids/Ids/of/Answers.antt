@@ -1,9 +1,6 @@
 use Rattle.std.proofs.Common.{refl, rules, subst}
-use Rattle.std.specs.List.{IsDistinct}
-use Rattle.std.specs.List.Sorted.{IsStrictlySortedBy}
-use Rattle.std.specs.Ordering.{int_cmp, int_eq}
-use Rattle.rt_tree.proofs.IdLemmas.{distinct-from_rising, ids_are-sorted}
-use Rattle.rt_tree.proofs.RepeatLemmas.{once-from_distinct}
+use Rattle.std.specs.{List.{IsDistinct, Sorted.{IsStrictlySortedBy}}, Ordering.{int_cmp, int_eq}}
+use Rattle.rt_tree.proofs.{IdLemmas.{distinct-from_rising, ids_are-sorted}, RepeatLemmas.{once-from_distinct}}
 use Rattle.rt_tree.proofs.ids.Ids.of.Goals as goal
 
 pub returns-clause-ids : goal.returns-clause-ids

@@ -1,7 +1,6 @@
 use Rattle.std.proofs.Common.{◌≡◌, ◌∙◌, ◌||◌, FitsSigned, ap, false, get_or, rules, subst, sym, true, w64}
+use Rattle.std.proofs.lemmas.{Int.{to_z-of_z}, Option.{get_or_from_slice_get, slice_get_within}}
 use Rattle.std.specs.Ordering.{int_eq}
-use Rattle.std.proofs.lemmas.Int.{to_z-of_z}
-use Rattle.std.proofs.lemmas.Option.{get_or_from_slice_get, slice_get_within}
 use Rattle.rt_geo.specs.declared.entry.Entry.{Entry}
 use Rattle.rt_tree.specs.Indexes.{keeps}
 use Rattle.rt_tree.proofs.RepeatLemmas.{ids-more, repeat-here, repeat-later}

@@ -1,6 +1,5 @@
 use Rattle.std.proofs.Common.{◌≡◌, drop, take}
-use Rattle.rt_tree.specs.Entries.{first_repeat, repeat_after}
-use Rattle.rt_tree.specs.Indexes.{AreIdsOf}
+use Rattle.rt_tree.specs.{Entries.{first_repeat, repeat_after}, Indexes.{AreIdsOf}}
 use Rattle.rt_tree.proofs.ids.Ids.one_by_one.Given as goal
 
 abbrev pub invariant-loop-place : goal.invariant-loop-place

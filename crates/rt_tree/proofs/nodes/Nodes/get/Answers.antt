@@ -1,7 +1,6 @@
 use Rattle.std.proofs.Common.{◌<◌, arith, length}
 use Rattle.rt_tree.specs.PlainNodes.{with_layers}
-use Rattle.rt_tree.proofs.NodeLemmas.{length-nodes_of}
-use Rattle.rt_tree.proofs.PairLemmas.{paired-at}
+use Rattle.rt_tree.proofs.{NodeLemmas.{length-nodes_of}, PairLemmas.{paired-at}}
 use Rattle.rt_tree.proofs.nodes.Nodes.get.Goals as goal
 
 pub index-node-requires : goal.index-node-requires

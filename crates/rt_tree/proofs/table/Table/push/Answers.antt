@@ -1,8 +1,6 @@
-use Rattle.std.proofs.Common.{◌≡◌, ◌<◌, ◌∙◌, sym, length, rules, FitsSigned, w64, false}
-use Rattle.std.proofs.lemmas.Int.{to_z-of_z}
+use Rattle.std.proofs.{Common.{◌≡◌, ◌<◌, ◌∙◌, sym, length, rules, FitsSigned, w64, false}, lemmas.Int.{to_z-of_z}}
 use Rattle.rt_geo.specs.Entries.{HasBox}
-use Rattle.rt_tree.specs.Entries.{most_entries}
-use Rattle.rt_tree.specs.Indexes.{keeps}
+use Rattle.rt_tree.specs.{Entries.{most_entries}, Indexes.{keeps}}
 use Rattle.rt_tree.proofs.EntryLemmas.{pushed, pushed-popped}
 use Rattle.rt_tree.proofs.table.Table.push.Goals as goal
 

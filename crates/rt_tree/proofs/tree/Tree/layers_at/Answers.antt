@@ -1,6 +1,4 @@
-use Rattle.std.proofs.Common.{◌<◌, ◌≤◌, ◌∙◌, ℕ, ap, arith, length, map}
-use Rattle.std.proofs.lemmas.List.{length-map}
-use Rattle.std.proofs.lemmas.List.Elements.{All-map}
+use Rattle.std.proofs.{Common.{◌<◌, ◌≤◌, ◌∙◌, ℕ, ap, arith, length, map}, lemmas.List.{length-map, Elements.{All-map}}}
 use Rattle.rt_geo.specs.Layers.{most_layer, only}
 use Rattle.rt_tree.proofs.LeafLemmas.{layer_of, layers_told}
 use Rattle.rt_tree.proofs.tree.Tree.layers_at.Goals as goal

@@ -1,17 +1,11 @@
 use Rattle.std.proofs.Common.{◌≡◌, ◌≤◌, ◌*◌, ◌∙◌, ap, length, subst, sym}
-use Rattle.std.specs.List.{All, sum_by}
-use Rattle.std.specs.List.Sorted.{IsPermutation}
-use Rattle.rt_tree.specs.Entries.{IsTable}
-use Rattle.rt_tree.specs.Levels.{level_sizes}
-use Rattle.rt_tree.specs.Packed.{IsSound, Packed}
-use Rattle.rt_tree.specs.Packing.{pack_of}
+use Rattle.std.specs.List.{All, sum_by, Sorted.{IsPermutation}}
+use Rattle.rt_tree.specs.{Entries.{IsTable}, Levels.{level_sizes}, Packed.{IsSound, Packed}, Packing.{pack_of}}
 use Rattle.rt_tree.specs.SortKeys.{IsInPlane}
-use Rattle.rt_tree.proofs.PackLemmas.{leaf_nodes_few, length-packed, packed_is}
-use Rattle.rt_tree.proofs.PackSound.{entries-IsPermutation, pack_of-IsSound}
-use Rattle.rt_tree.proofs.Packable.{entries_packable}
-use Rattle.rt_tree.proofs.Repacked.{pack_of-repacked}
-use Rattle.rt_tree.proofs.tree.Tree.pack.Goals as goal
+use Rattle.rt_tree.proofs.{PackLemmas.{leaf_nodes_few, length-packed, packed_is}, Packable.{entries_packable}}
+use Rattle.rt_tree.proofs.{PackSound.{entries-IsPermutation, pack_of-IsSound}, Repacked.{pack_of-repacked}}
 use Rattle.rt_tree.proofs.tree.Tree.pack.Goals.{After-drop, In_ok-nodes}
+use Rattle.rt_tree.proofs.tree.Tree.pack.Goals as goal
 
 pub pack_level-requires-clause-packable : goal.pack_level-requires-clause-packable
 pack_level-requires-clause-packable c = entries_packable c.into_entries-entries.result
