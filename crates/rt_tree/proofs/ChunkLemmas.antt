@@ -1,23 +1,19 @@
 -- Lists cut into chunks.
 use Rattle.std.proofs.Common.{◌≡◌, ◌<◌, ◌≤◌, ◌+◌, ◌-◌, ◌*◌, ℕ, zero, suc, List, [], ◌∷◌, ◌++◌, length, map, take, drop, min}
-use Rattle.std.proofs.Common.{refl, sym, ◌∙◌, ap, subst, arith, add-one, inl, inr, ◌⊎◌, Bool, true, false, nat_le}
+use Rattle.std.proofs.{Common.{refl, sym, ◌∙◌, ap, subst, arith, add-one, inl, inr, ◌⊎◌}, lemmas.Bool.{cases_lt}}
 use Rattle.std.proofs.Math.{Nat.{zero-div, zero-mod, mul-le-mul_right}, Seq.{drop-append_seam, take-append_seam}}
-use Rattle.std.proofs.lemmas.{Bool.Decides.{nat_tests}, Grind.{div_ceil_times}, List.Elements.{All-drop, All-take}}
+use Rattle.std.proofs.lemmas.{Grind.{div_ceil_times}, List.{length-take, take-append-drop, take-append-le, take_all, take-map}}
 use Rattle.std.proofs.lemmas.List.{append-nil, drop-append-le, drop-map, drop_all, length-append, length-drop, length-map}
-use Rattle.std.proofs.lemmas.List.{length-take, take-append-drop, take-append-le, take_all, take-map}
+use Rattle.std.proofs.lemmas.List.Elements.{All-drop, All-take}
 use Rattle.std.specs.{Int.{div_ceil}, List.{All, AllByRecursion, flat_map}, Simd.{first_chunks}}
 use native.Mathlib.Nat.{add-mul}
 use Rattle.rt_tree.specs.Packing.{chunks, joined}
 
 -- ---- how many there are
 
-le_or_lt_by : (a b : ℕ) (test : Bool) → nat_le a b ≡ test → (a ≤ b) ⊎ (b < a)
-le_or_lt_by a b true e = inl (grind (arith, nat_tests))
-le_or_lt_by a b false e = inr (grind (arith, nat_tests))
-
 -- one is at most the other, or above it
 pub le_or_lt : (a b : ℕ) → (a ≤ b) ⊎ (b < a)
-le_or_lt a b = le_or_lt_by a b (nat_le a b) refl
+le_or_lt a b = elim (cases_lt b a) [ inl l ↦ inr l | inr h ↦ inl h ]
 
 not_above : (d e n len : ℕ) → len ≤ d * n → e * n < len + n → d < e → ⊥
 not_above d e n len low high above = omega (arith, low, high, mul-le-mul_right n above)

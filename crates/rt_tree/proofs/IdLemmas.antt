@@ -1,31 +1,16 @@
 -- Ids in order, and ids in two parts.
-use Rattle.std.proofs.Common.{◌≡◌, ◌∙◌, ◌<◌, ◌+◌, ℕ, zero, suc, ℤ, pos, Bool, true, false, ◌||◌, List, [], ◌∷◌, length, get_or}
-use Rattle.std.proofs.{Common.{refl, sym, ap, arith, Result, Ok, Err, inl, inr}, Math.Bool.{or-false}, lemmas.Bool.{cases_lt}}
-use Rattle.std.proofs.lemmas.{Cmp.{int_cmp_total}, Int.{ints}, Map.Keys.{sorted_from_all_adjacent}}
+use Rattle.std.proofs.Common.{◌≡◌, ◌∙◌, ◌+◌, ℕ, ℤ, pos, Bool, true, false, ◌||◌, List, length, get_or, refl, sym, ap, arith}
+use Rattle.std.proofs.{Common.{Result, Ok, Err, inl, inr}, Math.Bool.{or-false}, lemmas.{Bool.{cases_lt}, Cmp.{int_cmp_total}}}
+use Rattle.std.proofs.lemmas.{Int.{ints}, List.Folds.{list_any_at, list_any_none}, Map.Keys.{Less-from_sorted}}
 use Rattle.std.proofs.lemmas.List.Sorted.{IsPermutation-sym, list_any-IsPermutation, searchable_from_sorted}
-use Rattle.std.proofs.lemmas.Map.Keys.{IsDistinct-IsPermutation, IsDistinct-from_sorted, Less-from_sorted}
-use Rattle.std.specs.{BTreeSet.{BTreeSet, contains}, List.{AllByRecursion, IsAllAdjacentAnswer, IsDistinct, list_any}}
+use Rattle.std.proofs.lemmas.Map.Keys.{sorted_from_all_adjacent, IsDistinct-IsPermutation, IsDistinct-from_apart}
+use Rattle.std.specs.{BTreeSet.{BTreeSet, contains}, List.{All, IsAllAdjacentAnswer, IsDistinct, list_any}}
 use Rattle.std.specs.List.Sorted.{IsBinarySearchResult, IsPermutation, IsSearchInRange, IsSorted, IsStrictlySortedBy}
-use Rattle.std.specs.{Ordering.{eq_by_cmp, int_cmp, int_eq}, Prelude.{◌↔◌, int_lt, is_ok}}
+use Rattle.std.specs.{Ordering.{int_cmp, int_eq}, Prelude.{◌↔◌, int_lt, is_ok}}
 use Rattle.std.specs.declared.cmp.Ordering.TheVariants.{Less, Equal, Greater}
 use Rattle.rt_geo.specs.declared.entry.Entry.{Entry}
 use Rattle.rt_tree.specs.{Entries.{ids_of}, Indexes.{AreIdsOf}}
 use Rattle.rt_tree.proofs.EntryLemmas.{has_id-ids_of, int_eq-sym}
-
--- ---- a test of each element
-
-absent : (p : ℤ → Bool) (xs : List ℤ) → ((k : ℕ) → k < length xs → p (get_or xs k (pos 0)) ≡ false) → list_any p xs ≡ false
-absent p [] h = refl
-absent p (x ∷ xs) h = rw (h 0 (omega arith)) (absent p xs (λ k l. h (suc k) (omega arith)))
-
-present : (p : ℤ → Bool) (xs : List ℤ) (k : ℕ) → k < length xs → p (get_or xs k (pos 0)) ≡ true → list_any p xs ≡ true
-present p [] k h e = absurd (omega (arith, h))
-present p (x ∷ xs) zero h e = rw e refl
-present p (x ∷ xs) (suc k) h e = by (p x) refl (present p xs k (omega arith) e)
-  where
-    by : (b : Bool) → p x ≡ b → list_any p xs ≡ true → list_any p (x ∷ xs) ≡ true
-    by true f r = rw f refl
-    by false f r = rw f r
 
 -- ---- what a binary search finds
 
@@ -40,35 +25,30 @@ greater a id h = grind (arith, ints)
 
 pub searched-is : (ids : List ℤ) (id : ℤ) (r : Result ℕ ℕ) → IsSorted int_cmp ids → IsSearchInRange r (length ids) → IsBinarySearchResult (λ other. int_cmp other id) ids r
     → is_ok r ≡ list_any (int_eq id) ids
-searched-is ids id (Ok place) sorted bound found = sym (present (int_eq id) ids place bound (equal (get_or ids place (pos 0)) id (found (pos 0))))
-searched-is ids id (Err place) sorted bound found = sym (absent (int_eq id) ids here)
+searched-is ids id (Ok place) sorted bound found =
+    sym (list_any_at (int_eq id) ids place (pos 0) bound (equal (get_or ids place (pos 0)) id (found (pos 0))))
+searched-is ids id (Err place) sorted bound found = sym (list_any_none (int_eq id) ids here)
   where
-    here : (k : ℕ) → k < length ids → int_eq id (get_or ids k (pos 0)) ≡ false
-    here k h =
+    here : All (λ a. int_eq id a ≡ false) ids
+    here k d h =
         let point = found (searchable_from_sorted int_cmp_total (λ (x : ℤ). x) ids id sorted) in
         elim (cases_lt k place) [
-          | inl before ↦ less (get_or ids k (pos 0)) id (point.0 k (pos 0) (omega arith) before)
-          | inr after ↦ greater (get_or ids k (pos 0)) id (point.1 k (pos 0) after h)
+          | inl before ↦ less (get_or ids k d) id (point.0 k d (omega arith) before)
+          | inr after ↦ greater (get_or ids k d) id (point.1 k d after h)
         ]
 
 -- ---- ids that rise differ
 
-same_test : (a b : ℤ) → eq_by_cmp int_cmp a b ≡ int_eq a b
-same_test a b = grind (arith, ints)
-
-none_like : (x : ℤ) (xs : List ℤ) → AllByRecursion (λ y. eq_by_cmp int_cmp x y ≡ false) xs → AllByRecursion (λ y. int_eq x y ≡ false) xs
-none_like x [] h = h
-none_like x (y ∷ xs) h = (sym (same_test x y) ∙ h.0, none_like x xs h.1)
-
-distinct_like : (xs : List ℤ) → IsDistinct (eq_by_cmp int_cmp) xs → IsDistinct int_eq xs
-unfolding IsDistinct
-distinct_like [] h = h
-distinct_like (x ∷ xs) h = (none_like x xs h.0, distinct_like xs h.1)
+apart : (a b : ℤ) → int_cmp a b ≡ Less → int_eq a b ≡ false
+apart a b h = grind (arith, ints)
 
 -- those that rise once they are sorted
-pub distinct-from_rising : (ids sorted : List ℤ) → IsPermutation ids sorted → IsStrictlySortedBy int_cmp sorted → IsDistinct int_eq ids
+pub distinct-from_rising : (ids sorted : List ℤ) → IsPermutation ids sorted → IsStrictlySortedBy int_cmp sorted
+    → IsDistinct int_eq ids
 distinct-from_rising ids sorted moved rising =
-    IsDistinct-IsPermutation int_eq int_eq-sym sorted ids (IsPermutation-sym ids sorted moved) (distinct_like sorted (IsDistinct-from_sorted int_cmp sorted rising))
+    IsDistinct-IsPermutation int_eq int_eq-sym sorted ids (IsPermutation-sym ids sorted moved)
+    (IsDistinct-from_apart int_eq sorted (λ i j d h k. apart (get_or sorted i d) (get_or sorted j d)
+    (Less-from_sorted int_cmp sorted i j d rising h k)))
 
 -- the ids of entries, sorted, are kept where nothing was pushed
 pub ids_are-sorted : (entries : List Entry) (ids sorted : List ℤ) (none : BTreeSet ℤ) → ids ≡ ids_of entries → IsPermutation ids sorted

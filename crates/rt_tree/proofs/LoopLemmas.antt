@@ -1,15 +1,20 @@
 -- One more step of a loop over a list.
 use Rattle.std.proofs.Common.{◌≡◌, ◌<◌, ◌≤◌, ◌+◌, ◌-◌, ℕ, suc, List, [], ◌∷◌, ◌++◌, length, map, take, drop, set, get_or, min}
-use Rattle.std.proofs.{Common.{refl, sym, ◌∙◌, ap, subst, arith, add-one, append_assoc}, Math.Seq.{drop-cons}}
+use Rattle.std.proofs.Common.{refl, sym, ◌∙◌, ap, subst, arith, add-one, append_assoc, ℤ, ◌+ℤ◌, FitsSigned, of_z, to_z, w32}
+use Rattle.std.proofs.{Math.Seq.{drop-cons}, lemmas.{Int.{to_z-of_z}, Slice.{drop-put_mid, take-put_mid}}}
 use Rattle.std.proofs.lemmas.List.{append-nil, drop-drop, drop_all, length-append, take-append-drop, length-drop, length-map}
 use Rattle.std.proofs.lemmas.List.{length-take, map-append, take-append-le, take_all, take_more}
-use Rattle.std.proofs.lemmas.Slice.{drop-put_mid, take-put_mid}
 use borrow.Rule.Slice.PartMut.{post_of, put_mid}
 use Rattle.std.specs.List.{enumerate_from}
 use Rattle.rt_tree.specs.Packing.{chunks}
 use Rattle.rt_tree.proofs.ChunkLemmas.{chunks-front}
 
 -- ---- each element gets a key
+
+-- the sum of two coordinates, as they are read
+pub sum_read : (low high a b : ℤ) → FitsSigned w32 low → FitsSigned w32 high → low ≡ a → high ≡ b
+    → to_z w32 (of_z w32 low) +ℤ to_z w32 (of_z w32 high) ≡ a +ℤ b
+sum_read low high a b p q e f = rw (to_z-of_z w32 low p, to_z-of_z w32 high q, e, f) refl
 
 enumerate_from-push : {X : Type 0} (n : ℕ) (xs : List X) (x : X)
     → enumerate_from n (xs ++ x ∷ []) ≡ enumerate_from n xs ++ (n + length xs, x) ∷ []

@@ -1,5 +1,5 @@
 -- The tree that is packed over a table is sound.
-use Rattle.std.proofs.Common.{◌≡◌, ◌<◌, ◌≤◌, ◌+◌, ◌-◌, ◌^◌, ℕ, zero, suc, List, [], ◌∷◌, ◌++◌, length, map, filter, ◌==◌, drop}
+use Rattle.std.proofs.Common.{◌≡◌, ◌<◌, ◌≤◌, ◌+◌, ◌-◌, ℕ, zero, suc, List, [], ◌∷◌, ◌++◌, length, map, filter, ◌==◌, drop}
 use Rattle.std.proofs.Common.{get_or, refl, sym, ◌∙◌, ap, subst, arith, inl, inr, length-append, IsPermutation, slice_get, Some}
 use Rattle.std.proofs.lemmas.List.{append-nil, nil_from_length, Elements.{All-from_recursion, recursion_from_All}}
 use Rattle.std.proofs.lemmas.List.Sorted.{All-permutation, IsPermutation-map, IsPermutation-refl, IsPermutation-sym}
@@ -7,14 +7,14 @@ use Rattle.std.proofs.lemmas.{List.Sorted.{IsPermutation-trans, length_permutati
 use Rattle.std.proofs.lemmas.Option.{get_or_from_slice_get}
 use Rattle.std.specs.{Int.{div_ceil}, List.{AllByRecursion, flat_map}, Ordering.{int_cmp, int_eq, on}}
 use Rattle.rt_geo.specs.{Entries.{HasBox, HasLayer}, Laws.{extent_of_entry}, declared.entry.Entry.{Entry}}
-use Rattle.rt_tree.specs.{Entries.{IsTable, ids_of}, Levels.{level_sizes}, Packed.{node_at, root_of}, Sorting.{sorted}}
-use Rattle.rt_tree.specs.Packed.{Packed, IsSound, IsSubtree, child_entries, entries_under, extent_of_node, height, no_node}
+use Rattle.rt_tree.specs.{Entries.{IsTable, ids_of}, Levels.{level_sizes}, Packed.{no_node}, Sorting.{sorted}}
+use Rattle.rt_tree.specs.Packed.{node_at, root_of, Packed, IsSound, IsSubtree, child_entries, entries_under, extent_of_node}
 use Rattle.rt_tree.specs.{Packing.{groups, joined, nodes_from, nodes_over, pack_of}, declared.tree.Node.{Node}}
 use Rattle.rt_tree.proofs.Children.{AreOnce, all_child_entries, all_child_entries-is, all_child_nodes, all_child_nodes-is}
 use Rattle.rt_tree.proofs.{Children.{nodes_once, once_first, once_more}, ChunkLemmas.{le_or_lt}, EntryLemmas.{int_eq-sym}}
-use Rattle.rt_tree.proofs.{LevelLemmas.{div_ceil-positive}, LevelOrder.{sizes_from_first}, LoopLemmas.{get_or_behind}}
-use Rattle.rt_tree.proofs.LevelOrder.{last_node-top, level_by_level, nodes_from-levels, nodes_over-AreOn, sizes_from}
-use Rattle.rt_tree.proofs.{OrderLemmas.{all_append, all_moved, flat_map-IsPermutation}, SortingLemmas.{IsPermutation-sorted}}
+use Rattle.rt_tree.proofs.{LevelLemmas.{div_ceil-positive}, LoopLemmas.{get_or_behind}, SortingLemmas.{IsPermutation-sorted}}
+use Rattle.rt_tree.proofs.LevelOrder.{sizes_from_first, last_node-top, level_by_level, nodes_from-levels, nodes_over-AreOn}
+use Rattle.rt_tree.proofs.OrderLemmas.{all_append, all_moved, flat_map-IsPermutation}
 use Rattle.rt_tree.proofs.PackCounts.{IsCounted, above, all_nodes, counted_first, counted_more, course, cut, fewer}
 use Rattle.rt_tree.proofs.PackCounts.{leaf_nodes-few, length-groups, nodes_from-last, some_above}
 use Rattle.rt_tree.proofs.Soundness.{IsEntry, all_map, chunk_groups, all_under_more, inner-range, leaves_sound, leaves_under}
@@ -27,6 +27,13 @@ level_of t (suc h) n s = s.level
 
 at_its_level : (t : Packed) (h : ℕ) (n : Node) → IsSubtree t h n → IsSubtree t (n.level - 1) n
 at_its_level t h n s = subst (λ k. IsSubtree t k n) (let e = level_of t h n s in omega (arith, e)) s
+
+-- that a tree has each node and each entry once, and the nodes level by level. No search rests on it
+pub record IsWhole (t : Packed) : Type 0 where
+  -- each entry is a child of exactly one node, and so is each node but the root
+  pub entries_once : IsPermutation (all_child_entries t) t.entries
+  pub nodes_once : 0 < length t.nodes → IsPermutation (root_of t ∷ all_child_nodes t) t.nodes
+  pub levels : map (λ n. n.level) t.nodes ≡ level_by_level 1 (drop 1 (level_sizes (length t.entries) t.fanout))
 
 module _ (fanout : ℕ) (several : 2 ≤ fanout) (es : List Entry) where
   -- the nodes of the lower levels, numbered, and those of this level, as they were made
@@ -67,21 +74,14 @@ module _ (fanout : ℕ) (several : 2 ≤ fanout) (es : List Entry) where
             b.once (nodes_over-AreOn extent_of_node (λ n. n.size) (suc (suc h)) (length numbered) gs);
       }
 
-  -- what holds of the finished tree
-  pub record IsFinished (ns : List Node) : Type 0 where
-    pub some : 0 < length ns
-    pub root : IsSubtree (tree fanout es ns) (height (tree fanout es ns)) (root_of (tree fanout es ns))
-    pub every : IsPermutation (entries_under (tree fanout es ns) (height (tree fanout es ns)) (root_of
-        (tree fanout es ns))) es
-    pub nodes : AllByRecursion (λ n. IsSubtree (tree fanout es ns) (n.level - 1) n) ns
-    pub nodes_once : IsPermutation (root_of (tree fanout es ns) ∷ all_child_nodes (tree fanout es ns)) ns
-    pub entries_once : IsPermutation (all_child_entries (tree fanout es ns)) es
-    pub few_levels : (root_of (tree fanout es ns)).level ≤ 24
-    pub few_nodes : length ns < 2 ^ 32
+  -- a tree of these nodes is sound, and whole, if they stand level by level
+  abbrev IsFinished : List Node → Type 0
+  IsFinished ns = map (λ n. n.level) ns ≡ level_by_level 1 (drop 1 (level_sizes (length es) fanout))
+      → IsSound (tree fanout es ns) × IsWhole (tree fanout es ns)
 
-  finished : (h : ℕ) (numbered : List Node) (r : Node) → IsBuilt h numbered (r ∷ [])
+  finished : IsTable es → 0 < length es → (h : ℕ) (numbered : List Node) (r : Node) → IsBuilt h numbered (r ∷ [])
       → IsCounted (suc h) numbered (r ∷ []) → IsFinished (numbered ++ r ∷ [])
-  finished h numbered r b c =
+  finished table there h numbered r b c levels =
       let ns = numbered ++ r ∷ [] in
       let old = tree fanout es numbered in
       let new = tree fanout es ns in
@@ -95,36 +95,45 @@ module _ (fanout : ℕ) (several : 2 ≤ fanout) (es : List Entry) where
       let whole : IsPermutation (entries_under new (r.level - 1) r) es =
       subst (λ k. IsPermutation (entries_under new k r) es) (omega (arith, level)) (subst
       (λ l. IsPermutation l es) same b.every) in
-      record {
-        some = omega (arith, long);
-        root = subst (λ n. IsSubtree new (n.level - 1) n) (sym is_root) (at_its_level new h r sub);
-        every = subst (λ n. IsPermutation (entries_under new (n.level - 1) n) es) (sym is_root) whole;
-        nodes = all_append (λ n. IsSubtree new (n.level - 1) n) numbered (r ∷ [])
-            (all_map (λ n. IsSubtree old (n.level - 1) n) (λ n. IsSubtree new (n.level - 1) n)
-            (λ n s. subtree_more fanout es numbered (r ∷ []) (n.level - 1) n s) numbered b.lower)
-            (at_its_level new h r sub, tt);
-        nodes_once = subst (λ n. IsPermutation (n ∷ all_child_nodes new) ns) (sym is_root) (subst
-            (λ l. IsPermutation (r ∷ l) ns) (all_child_nodes-is new) (nodes_once fanout es numbered r
-            (all_append (λ n. IsSubtree old (n.level - 1) n) numbered (r ∷ []) b.lower
-            (at_its_level old h r b.nodes.0, tt)) b.once));
-        entries_once = subst (λ l. IsPermutation l es) (all_child_entries-is new) b.once.entries;
-        few_levels = subst (λ n. n.level ≤ 24) (sym is_root) (omega (arith, level, c.few_levels));
-        few_nodes = omega (arith, long, c.few_nodes, c.few_levels);
-      }
+      let some : 0 < length ns = omega (arith, long) in (
+        record {
+          several = several;
+          table = table;
+          some = (λ _. there, λ _. some);
+          root = λ _. subst (λ n. IsSubtree new (n.level - 1) n) (sym is_root) (at_its_level new h r sub);
+          every = λ _. subst (λ n. IsPermutation (entries_under new (n.level - 1) n) es) (sym is_root) whole;
+          nodes = All-from_recursion (λ n. IsSubtree new (n.level - 1) n) ns (all_append
+              (λ n. IsSubtree new (n.level - 1) n) numbered (r ∷ [])
+              (all_map (λ n. IsSubtree old (n.level - 1) n) (λ n. IsSubtree new (n.level - 1) n)
+              (λ n s. subtree_more fanout es numbered (r ∷ []) (n.level - 1) n s) numbered b.lower)
+              (at_its_level new h r sub, tt));
+          top = last_node-top fanout several (length es) (div_ceil (length es) fanout) there refl ns levels;
+          few_levels = subst (λ n. n.level ≤ 24) (sym is_root) (omega (arith, level, c.few_levels));
+          few_nodes = omega (arith, long, c.few_nodes, c.few_levels);
+        },
+        record {
+          entries_once = subst (λ l. IsPermutation l es) (all_child_entries-is new) b.once.entries;
+          nodes_once = λ _. subst (λ n. IsPermutation (n ∷ all_child_nodes new) ns) (sym is_root) (subst
+              (λ l. IsPermutation (r ∷ l) ns) (all_child_nodes-is new) (nodes_once fanout es numbered r
+              (all_append (λ n. IsSubtree old (n.level - 1) n) numbered (r ∷ []) b.lower
+              (at_its_level old h r b.nodes.0, tt)) b.once));
+          levels = levels;
+        },
+      )
 
-  pub sound_from : (fuel h : ℕ) (numbered made : List Node) → length made ≤ fuel → 0 < length made
+  pub sound_from : IsTable es → 0 < length es → (fuel h : ℕ) (numbered made : List Node) → length made ≤ fuel → 0 < length made
       → IsBuilt h numbered made → IsCounted (suc h) numbered made
       → IsFinished (numbered ++ nodes_from fuel fanout (suc h) (length numbered) made)
-  sound_from fuel h numbered [] few there b c = absurd (omega (arith, there))
-  sound_from fuel h numbered (r ∷ []) few there b c = subst (λ l. IsFinished (numbered ++ l)) (sym
+  sound_from table held fuel h numbered [] few there b c = absurd (omega (arith, there))
+  sound_from table held fuel h numbered (r ∷ []) few there b c = subst (λ l. IsFinished (numbered ++ l)) (sym
       (nodes_from-last fanout several fuel (suc h) (length numbered) (r ∷ []) (omega arith)))
-      (finished h numbered r b c)
-  sound_from zero h numbered (r ∷ s ∷ made) few there b c = absurd (omega (arith, few))
-  sound_from (suc fuel) h numbered (r ∷ s ∷ made) few there b c =
+      (finished table held h numbered r b c)
+  sound_from table held zero h numbered (r ∷ s ∷ made) few there b c = absurd (omega (arith, few))
+  sound_from table held (suc fuel) h numbered (r ∷ s ∷ made) few there b c =
       let all = r ∷ s ∷ made in
       let first = length numbered in
       subst IsFinished (course fanout several fuel (suc h) numbered all (omega arith))
-      (sound_from fuel (suc h) (numbered ++ joined (cut fanout several all)) (above fanout several (suc h) first all)
+      (sound_from table held fuel (suc h) (numbered ++ joined (cut fanout several all)) (above fanout several (suc h) first all)
       (fewer fanout several (suc h) first fuel all (omega arith) few) (some_above fanout several (suc h) first all there)
       (climb h numbered all there b) (counted_more fanout several (suc h) numbered all c (omega arith)))
 
@@ -147,13 +156,6 @@ IsTable-IsPermutation xs ys moved t = record {
   layers = All-permutation HasLayer xs ys moved t.layers;
   few = omega (arith, t.few, length_permutation xs ys moved);
 }
-
--- that a tree has each node and each entry once, and the nodes level by level. No search rests on it
-pub record IsWhole (t : Packed) : Type 0 where
-  -- each entry is a child of exactly one node, and so is each node but the root
-  pub entries_once : IsPermutation (all_child_entries t) t.entries
-  pub nodes_once : 0 < length t.nodes → IsPermutation (root_of t ∷ all_child_nodes t) t.nodes
-  pub levels : map (λ n. n.level) t.nodes ≡ level_by_level 1 (drop 1 (level_sizes (length t.entries) t.fanout))
 
 -- a tree without nodes, and without entries
 sound_empty : (t : Packed) → 2 ≤ t.fanout → t.nodes ≡ [] → t.entries ≡ [] → IsTable t.entries → IsSound t × IsWhole t
@@ -178,27 +180,6 @@ sound_empty t several none nothing table =
         nodes_once = λ h. absurd (omega (arith, h, short));
         levels = rw (none, nothing) refl;
       },
-    )
-
-sound_finished : (fanout : ℕ) (several : 2 ≤ fanout) (es : List Entry) (ns : List Node) (count : ℕ) → 0 < length es
-    → count ≡ div_ceil (length es) fanout
-    → map (λ n. n.level) ns ≡ level_by_level 1 (sizes_from fanout count) → IsTable es
-    → IsFinished fanout several es ns → IsSound (tree fanout es ns) × IsWhole (tree fanout es ns)
-sound_finished fanout several es ns count there is in_levels table f =
-    let levels : map (λ n. n.level) ns ≡ level_by_level 1 (drop 1 (level_sizes (length es) fanout)) = in_levels
-    ∙ ap (level_by_level 1) (sym (sizes_from_first fanout several (length es) count there is)) in (
-      record {
-        several = several;
-        table = table;
-        some = (λ _. there, λ _. f.some);
-        root = λ _. f.root;
-        every = λ _. f.every;
-        nodes = All-from_recursion (λ n. IsSubtree (tree fanout es ns) (n.level - 1) n) ns f.nodes;
-        top = last_node-top fanout several (length es) count there is ns levels;
-        few_levels = f.few_levels;
-        few_nodes = f.few_nodes;
-      },
-      record { entries_once = f.entries_once; nodes_once = λ _. f.nodes_once; levels = levels },
     )
 
 module _ (fanout : ℕ) (several : 2 ≤ fanout) (in_order : List Entry) where
@@ -249,10 +230,10 @@ module _ (fanout : ℕ) (several : 2 ≤ fanout) (in_order : List Entry) where
             (arith, long)),
       ) in
       let on = nodes_over-AreOn extent_of_entry (λ _. 1) 1 0 gs in
-      sound_finished fanout several es (all_nodes fanout made) (length made) (omega (arith, there, long)) count
-      (nodes_from-levels fanout several (length made) 1 0 made (omega arith) some on) table
-      (sound_from fanout several es (length made) 0 [] made (omega arith) some (made-IsBuilt table)
-      (made-first table))
+      let held : 0 < length es = omega (arith, there, long) in
+      sound_from fanout several es table held (length made) 0 [] made (omega arith) some (made-IsBuilt table)
+      (made-first table) (nodes_from-levels fanout several (length made) 1 0 made (omega arith) some on
+      ∙ ap (level_by_level 1) (sym (sizes_from_first fanout several (length es) (length made) held count)))
 
 -- without entries there are no nodes
 packed-none : (fanout : ℕ) (several : 2 ≤ fanout) (in_order : List Entry) → in_order ≡ []

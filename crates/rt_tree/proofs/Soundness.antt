@@ -7,8 +7,8 @@ use Rattle.std.specs.{List.{AllByRecursion, flat_map, fold, reduce, sum_by}, Pre
 use Rattle.rt_geo.specs.{Boxes.{Rect, IsRect, hull, inside, plane}, Entries.{HasBox, HasLayer}, declared.entry.Entry.{Entry}}
 use Rattle.rt_geo.specs.{Laws.{Extent, IsBoxInside, IsPart, extent_of_entry}, Layers.{HasSome, no_layers, subset, union}}
 use Rattle.rt_geo.specs.Lemmas.Boxes.{IsRect-hull, hull-inside, inside-hull_left, inside-hull_right, inside-same, inside-trans}
-use Rattle.rt_geo.specs.Lemmas.{Laws.{IsBoxInside-entry, IsBoxInside-part}, Layers.{subset-union_right}}
-use Rattle.rt_geo.specs.Lemmas.Layers.{HasSome-only, HasSome-union, subset-same, subset-trans, subset-union_left}
+use Rattle.rt_geo.specs.Lemmas.{Laws.{IsBoxInside-entry, IsBoxInside-part}, Layers.{subset-union_left}}
+use Rattle.rt_geo.specs.Lemmas.Layers.{subset-union_right, HasSome-only, HasSome-union, subset-same, subset-trans}
 use Rattle.rt_geo.specs.declared.layers.Layers.{Layers}
 use Rattle.rt_tree.specs.Packed.{Packed, IsLeafNode, IsSubtree, child_nodes, entries_under, extent_of_node, hull_of, no_box}
 use Rattle.rt_tree.specs.{Packed.{union_of}, Packing.{chunks, joined, node_over, nodes_over}, SortKeys.{IsInPlane}}

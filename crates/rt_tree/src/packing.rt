@@ -273,20 +273,11 @@ fn sort_by_y<T: Items>(keys: &mut [u64], items: &T)
     ensures { keys.new ≡ by_y (T.key_order (T.list items.now)) (box_of T.extent) (T.list items.now) keys.old }
 {
     for key in keys.iter_mut() {
-        *key = key_by_y(*key, items);
+        let place = place_of(*key);
+        let bounds = T::bounds(items.item(place));
+        *key = sort_key(bounds.min_y(), bounds.max_y(), place);
     }
     items.sort_keys(keys);
-}
-
-// The key by y of the item whose place is in a key.
-fn key_by_y<T: Items>(key: u64, items: &T) -> u64
-    requires few { length (T.list items.now) ≤ most_entries }
-    requires place { place_of key < length (T.list items.now) }
-    ensures { result ≡ rekeyed (box_of T.extent) twice_middle_y (T.list items.now) key }
-{
-    let place = place_of(key);
-    let bounds = T::bounds(items.item(place));
-    sort_key(bounds.min_y(), bounds.max_y(), place)
 }
 
 // Puts the items that the keys of a tile tell behind those that are packed. The node over them.

@@ -1,12 +1,19 @@
-use Rattle.std.proofs.Common.{◌∙◌, ap}
-use Rattle.rt_tree.specs.{Packing.{twice_middle_y}, SortKeys.{box_of, rekeyed}, Sorting.{sorted}}
-use Rattle.rt_tree.proofs.LoopLemmas.{mapped_all, mapped_more}
+use Rattle.std.proofs.Common.{◌∙◌, ap, rules, slice_get, sym}
+use Rattle.rt_tree.specs.{Packing.{twice_middle_y}, SortKeys.{box_of, key_at, rank, rekeyed, sort_key}, Sorting.{sorted}}
+use Rattle.rt_tree.proofs.LoopLemmas.{mapped_all, mapped_more, sum_read}
 use Rattle.rt_tree.proofs.packing.sort_by_y.Goals as goal
 
 pub loop-key-preserved : goal.loop-key-preserved
 loop-key-preserved g c =
-    mapped_more (rekeyed (box_of g.T.Items.extent) twice_middle_y (g.T.Items.list c.args.items.now)) c.args.keys.now
-    c.loop-key.keys c.loop-key.key-index c.key_by_y.result c.loop-key-test.true c.loop-key.invariant c.key_by_y.ensures
+    let items = g.T.Items.list c.args.items.now in
+    let box = box_of g.T.Items.extent in
+    let place = c.place_of-place.result in
+    let sum = sum_read c.min_y.result c.max_y.result _ _ (search rules) (search rules) (c.min_y.ensures.value
+    ∙ ap (λ b. b.min_y) c.bounds-bounds.ensures) (c.max_y.ensures.value ∙ ap (λ b. b.max_y) c.bounds-bounds.ensures) in
+    mapped_more (rekeyed box twice_middle_y items) c.args.keys.now c.loop-key.keys c.loop-key.key-index c.sort_key.result
+    c.loop-key-test.true c.loop-key.invariant (c.sort_key.ensures
+    ∙ ap (λ s. sort_key (rank s) place) sum ∙ ap (key_at box twice_middle_y place) (sym c.item.ensures)
+    ∙ ap (λ place. key_at box twice_middle_y place (slice_get items place)) c.place_of-place.ensures)
 
 pub returns : goal.returns
 returns g c =

@@ -6,22 +6,15 @@ pub overflow_add-result : goal.overflow_add-result
 overflow_add-result c =
     let asked = rw (← c.self.view_is) at c.requires in
     let sound = c.self.invariant.0 in
-    let inside = child_inside (record {
-      fanout = c.self.inside.fanout;
-      entries = c.self.inside.leaves;
-      nodes =
-          c.self.inside.nodes;
-    }) c.args.no.number c.args.index c.get.result sound asked.inside
-    c.get.ensures asked.level asked.index in
-    omega (arith, inside, sound.few_nodes)
+    omega (
+      arith,
+      sound.few_nodes,
+      child_inside _ c.args.no.number c.args.index c.get.result sound asked.inside c.get.ensures
+          asked.level asked.index,
+    )
 
 pub returns-clause-inside : goal.returns-clause-inside
 returns-clause-inside c =
     let asked = rw (← c.self.view_is) at c.requires in
-    rw (← c.self.view_is) (child_inside (record {
-      fanout = c.self.inside.fanout;
-      entries =
-          c.self.inside.leaves;
-      nodes = c.self.inside.nodes;
-    }) c.args.no.number c.args.index
-    c.get.result c.self.invariant.0 asked.inside c.get.ensures asked.level asked.index)
+    rw (← c.self.view_is) (child_inside _ c.args.no.number c.args.index c.get.result c.self.invariant.0 asked.inside c.get.ensures
+    asked.level asked.index)
