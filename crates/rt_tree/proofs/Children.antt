@@ -1,6 +1,6 @@
 -- In a packed tree each node but the root is a child once, and so is each entry.
 use Rattle.std.proofs.Common.{◌≡◌, ◌<◌, ◌-◌, ℕ, suc, Bool, true, false, cond, nat_lt, ◌==◌, if◌then◌else◌, List, [], ◌∷◌, ◌++◌}
-use Rattle.std.proofs.Common.{length, filter, take, drop, refl, sym, ◌∙◌, ap, subst, arith, append_assoc, length-append}
+use Rattle.std.proofs.Common.{length, filter, refl, sym, ◌∙◌, ap, subst, arith}
 use Rattle.std.proofs.{Common.{IsPermutation}, lemmas.{Bool.Decides.{nat_tests}, Grind.{flat_map-append}, List.{append-nil}}}
 use Rattle.std.proofs.lemmas.List.Sorted.{IsPermutation-append, IsPermutation-append_right, IsPermutation-cons}
 use Rattle.std.proofs.lemmas.List.Sorted.{IsPermutation-refl, IsPermutation-sym, IsPermutation-to_front, IsPermutation-trans}
@@ -9,7 +9,7 @@ use Rattle.rt_geo.specs.declared.entry.Entry.{Entry}
 use Rattle.rt_tree.specs.{Packed.{Packed, IsSubtree, child_entries, child_nodes, extent_of_node}, Packing.{joined, nodes_over}}
 use Rattle.rt_tree.specs.declared.tree.Node.{Node}
 use Rattle.rt_tree.proofs.{LevelOrder.{AreOn}, OrderLemmas.{flat_map-IsPermutation, flat_map-same}}
-use Rattle.rt_tree.proofs.Soundness.{children_more, group_at, inner-range, tree}
+use Rattle.rt_tree.proofs.Soundness.{children_more, inner-range, over_flat, tree}
 
 -- the nodes right under all nodes above level 1
 abbrev pub all_child_nodes : Packed → List Node
@@ -60,15 +60,8 @@ module _ (fanout : ℕ) (es : List Entry) where
   over_children : (ns : List Node) (level : ℕ) (gs : List (List Node)) (front : List Node) → ns ≡ front ++ joined gs
       → flat_map (child_nodes (tree fanout es ns)) (nodes_over extent_of_node (λ n. n.size) level
       (length front) gs) ≡ joined gs
-  over_children ns level [] front is = refl
-  over_children ns level (g ∷ gs) front is =
-      let here : take (length g) (drop (length front) ns) ≡ g = ap (λ l. take (length g) (drop
-      (length front) l)) is ∙ group_at front g (joined gs) in
-      let behind : ns ≡ (front ++ g) ++ joined gs = is ∙ sym (append_assoc front g (joined gs)) in
-      let rest = subst (λ n. flat_map (child_nodes (tree fanout es ns)) (nodes_over extent_of_node
-      (λ k. k.size) level n gs) ≡ joined gs) (length-append front g) (over_children ns level gs
-      (front ++ g) behind) in
-      rw (here, rest) refl
+  over_children ns level = over_flat extent_of_node (λ n. n.size) level ns (child_nodes (tree fanout es ns)) (λ g. g)
+      (λ first g here. here)
 
   high : (t : Packed) (level : ℕ) (n : Node) → 1 < level → n.level ≡ level → nodes_under t n ≡ child_nodes t n
   high t level n h e = let test : nat_lt 1 n.level ≡ true = grind (arith, nat_tests) in rw test refl

@@ -4,7 +4,7 @@ use Rattle.std.proofs.{Common.{sym, ◌∙◌, ap, subst, arith, append_assoc, l
 use Rattle.std.proofs.lemmas.{Grind.{flat_map-append}, List.{drop-append-le, length-drop, take-append-le, take_all}}
 use Rattle.std.proofs.lemmas.List.Sums.{sum_by-cons}
 use Rattle.std.specs.{List.{AllByRecursion, flat_map, fold, reduce, sum_by}, Prelude.{unwrap_or}}
-use Rattle.rt_geo.specs.{Boxes.{Rect, IsRect, hull, inside, plane}, Entries.{HasBox, HasLayer}, declared.entry.Entry.{Entry}}
+use Rattle.rt_geo.specs.{Boxes.{Rect, hull, inside, plane}, Entries.{HasBox, HasLayer}, declared.entry.Entry.{Entry}}
 use Rattle.rt_geo.specs.{Laws.{Extent, IsBoxInside, IsPart, extent_of_entry}, Layers.{HasSome, no_layers, subset, union}}
 use Rattle.rt_geo.specs.Lemmas.Boxes.{IsRect-hull, hull-inside, inside-hull_left, inside-hull_right, inside-same, inside-trans}
 use Rattle.rt_geo.specs.Lemmas.{Laws.{IsBoxInside-entry, IsBoxInside-part}, Layers.{subset-union_left}}
@@ -83,15 +83,10 @@ module _ {X Y : Type 0} (show : X → Y) where
   kept-reduced f none P kept [] some a = absurd (omega (arith, some))
   kept-reduced f none P kept (x ∷ xs) some a = kept-fold f P kept (show x) (map show xs) a.0 (all_mapped P xs a.1)
 
--- the hull of a group is a box, and lies in what holds each of the group
-hull-IsRect : {X : Type 0} (box : X → Rect) (xs : List X) → 0 < length xs → AllByRecursion (λ x. IsRect (box x)) xs
-    → IsRect (hull_of (map box xs))
-hull-IsRect box = kept-reduced box hull no_box IsRect IsRect-hull
-
-hull_of-inside : {X : Type 0} (box : X → Rect) (whole : Rect) (xs : List X) → 0 < length xs
-    → AllByRecursion (λ x. inside (box x) whole ≡ true) xs → inside (hull_of (map box xs)) whole ≡ true
-hull_of-inside box whole =
-    kept-reduced box hull no_box (λ c. inside c whole ≡ true) (λ a b. hull-inside a b whole)
+-- the hull of boxes in the plane is one
+hull-in_plane : {X : Type 0} (box : X → Rect) (xs : List X) → 0 < length xs → AllByRecursion (λ x. IsInPlane (box x)) xs
+    → IsInPlane (hull_of (map box xs))
+hull-in_plane box = kept-reduced box hull no_box IsInPlane (λ a b p q. (IsRect-hull a b p.0 q.0, hull-inside a b plane p.1 q.1))
 
 union-HasSome : {X : Type 0} (layers : X → Layers) (xs : List X) → 0 < length xs
     → AllByRecursion (λ x. HasSome (layers x)) xs → HasSome (union_of (map layers xs))
@@ -182,12 +177,34 @@ pub nodes_over-in_plane : {X : Type 0} (extent : X → Extent) (size : X → ℕ
     → AllByRecursion (λ n. IsInPlane n.bounds) (nodes_over extent size level first gs)
 nodes_over-in_plane extent size fanout level first [] a = tt
 nodes_over-in_plane extent size fanout level first (g ∷ gs) a = (
-  kept-reduced (λ x. (extent x).bounds) hull no_box IsInPlane (λ b c p q. (
-    IsRect-hull b c p.0 q.0,
-    hull-inside b c plane p.1 q.1,
-  )) g a.0.0.0 a.0.1,
+  hull-in_plane (λ x. (extent x).bounds) g a.0.0.0 a.0.1,
   nodes_over-in_plane extent size fanout level (first + length g) gs a.1,
 )
+
+-- nodes over groups of items that stand one after the other: each has its group
+module _ {X : Type 0} (extent : X → Extent) (size : X → ℕ) (level : ℕ) (xs : List X) where
+  over_each : (P : Node → Type 0) (Q : List X → Type 0) → ((first : ℕ) (g : List X) → Q g → take (length g) (drop first xs) ≡ g
+      → first + length g ≤ length xs → P (node_over extent size level first g))
+      → (gs : List (List X)) (front : List X) → xs ≡ front ++ joined gs → AllByRecursion Q gs
+      → AllByRecursion P (nodes_over extent size level (length front) gs)
+  over_each P Q each [] front is a = tt
+  over_each P Q each (g ∷ gs) front is a = (
+    each (length front) g a.0 (ap (λ l. take (length g) (drop (length front) l)) is ∙ group_at front g (joined gs))
+        (omega (arith, ap length is, length-append front (g ++ joined gs), length-append g (joined gs))),
+    subst (λ n. AllByRecursion P (nodes_over extent size level n gs)) (length-append front g)
+        (over_each P Q each gs (front ++ g) (is ∙ sym (append_assoc front g (joined gs))) a.1),
+  )
+
+  pub over_flat : {Y : Type 0} (f : Node → List Y) (h : List X → List Y) → ((first : ℕ) (g : List X)
+      → take (length g) (drop first xs) ≡ g → f (node_over extent size level first g) ≡ h g)
+      → (gs : List (List X)) (front : List X) → xs ≡ front ++ joined gs
+      → flat_map f (nodes_over extent size level (length front) gs) ≡ flat_map h gs
+  over_flat f h each [] front is = refl
+  over_flat f h each (g ∷ gs) front is =
+      let here = ap (λ l. take (length g) (drop (length front) l)) is ∙ group_at front g (joined gs) in
+      let rest = subst (λ n. flat_map f (nodes_over extent size level n gs) ≡ flat_map h gs) (length-append front g)
+      (over_flat f h each gs (front ++ g) (is ∙ sym (append_assoc front g (joined gs)))) in
+      rw (each (length front) g here, rest) refl
 
 module _ (fanout : ℕ) (es : List Entry) where
   -- the tree with these nodes
@@ -252,13 +269,9 @@ module _ (fanout : ℕ) (es : List Entry) where
       → flat_map (entries_under (tree (ns ++ more)) h) ks ≡ flat_map (entries_under (tree ns) h) ks
   all_under_more ns more h ks a = flat_same ns more h (λ k. under_more ns more h k) ks a
 
-  subtree_coordinates : (t : Packed) (h : ℕ) (n : Node) → IsSubtree t h n → inside n.bounds plane ≡ true
-  subtree_coordinates t zero n s = s.coordinates
-  subtree_coordinates t (suc h) n s = s.coordinates
-
-  subtree_valid : (t : Packed) (h : ℕ) (n : Node) → IsSubtree t h n → IsRect n.bounds
-  subtree_valid t zero n s = s.valid
-  subtree_valid t (suc h) n s = s.valid
+  subtree_in_plane : (t : Packed) (h : ℕ) (n : Node) → IsSubtree t h n → IsInPlane n.bounds
+  subtree_in_plane t zero n s = (s.valid, s.coordinates)
+  subtree_in_plane t (suc h) n s = (s.valid, s.coordinates)
 
   subtree_layers : (t : Packed) (h : ℕ) (n : Node) → IsSubtree t h n → HasSome n.layers
   subtree_layers t zero n s = s.layers
@@ -269,46 +282,29 @@ module _ (fanout : ℕ) (es : List Entry) where
   pub leaves_sound : (ns : List Node) (gs : List (List Entry)) (front : List Entry) → es ≡ front ++ joined gs
       → AllByRecursion (IsGroup fanout IsEntry) gs
       → AllByRecursion (IsLeafNode (tree ns)) (nodes_over extent_of_entry (λ _. 1) 1 (length front) gs)
-  leaves_sound ns [] front is a = tt
-  leaves_sound ns (g ∷ gs) front is a =
+  leaves_sound ns = over_each extent_of_entry (λ _. 1) 1 es (IsLeafNode (tree ns)) (IsGroup fanout IsEntry) (λ first g a here range.
       let box = λ (e : Entry). e.bounds in
       let layers = λ (e : Entry). (extent_of_entry e).layers in
-      let whole = extent_of_node (node_over extent_of_entry (λ _. 1) 1 (length front) g) in
-      let here : take (length g) (drop (length front) es) ≡ g = ap (λ l. take (length g) (drop
-      (length front) l)) is ∙ group_at front g (joined gs) in
-      let behind : es ≡ (front ++ g) ++ joined gs = is ∙ sym (append_assoc front g (joined gs)) in
-      let total = ap length is in
-      let boxes = all_map IsEntry (λ e. IsRect e.bounds) (λ e b. b.0.box) g a.0.1 in
-      let some = all_map IsEntry (λ e. HasSome (layers e)) (λ e b. HasSome-only e.layer b.1) g a.0.1 in (
-        record {
-          level = refl;
-          some = a.0.0.0;
-          few = a.0.0.1;
-          range = omega (arith, total, length-append front (g ++ joined gs), length-append g (joined gs));
-          valid = hull-IsRect box g a.0.0.0 boxes;
-          coordinates = hull_of-inside box plane g a.0.0.0
-              (all_map IsEntry (λ e. inside e.bounds plane ≡ true) (λ e b. b.0.coordinates) g a.0.1);
-          layers = union-HasSome layers g a.0.0.0 some;
-          exact = ap (λ l. hull_of (map box l)) (sym here);
-          exact_layers = ap (λ l. union_of (map layers l)) (sym here);
-          within = subst (AllByRecursion (λ e. IsBoxInside (extent_of_entry e) whole)) (sym here)
-              (entries_inside whole g a.0.1 (parts_of-whole extent_of_entry whole g refl refl));
-          size = sum_by-ones g;
-        },
-        subst (λ n. AllByRecursion (IsLeafNode (tree ns)) (nodes_over extent_of_entry (λ _. 1) 1 n gs)) (length-append front g)
-            (leaves_sound ns gs (front ++ g) behind a.1),
-      )
+      let whole = extent_of_node (node_over extent_of_entry (λ _. 1) 1 first g) in
+      let around = hull-in_plane box g a.0.0 (all_map IsEntry (λ e. IsInPlane e.bounds) (λ e b. (b.0.box, b.0.coordinates)) g a.1) in
+      record {
+        level = refl;
+        some = a.0.0;
+        few = a.0.1;
+        range = range;
+        valid = around.0;
+        coordinates = around.1;
+        layers = union-HasSome layers g a.0.0 (all_map IsEntry (λ e. HasSome (layers e)) (λ e b. HasSome-only e.layer b.1) g a.1);
+        exact = ap (λ l. hull_of (map box l)) (sym here);
+        exact_layers = ap (λ l. union_of (map layers l)) (sym here);
+        within = subst (AllByRecursion (λ e. IsBoxInside (extent_of_entry e) whole)) (sym here)
+            (entries_inside whole g a.1 (parts_of-whole extent_of_entry whole g refl refl));
+        size = sum_by-ones g;
+      })
 
   pub leaves_under : (ns : List Node) (gs : List (List Entry)) (front : List Entry) → es ≡ front ++ joined gs
       → flat_map (entries_under (tree ns) 0) (nodes_over extent_of_entry (λ _. 1) 1 (length front) gs) ≡ joined gs
-  leaves_under ns [] front is = refl
-  leaves_under ns (g ∷ gs) front is =
-      let here : take (length g) (drop (length front) es) ≡ g = ap (λ l. take (length g) (drop
-      (length front) l)) is ∙ group_at front g (joined gs) in
-      let behind : es ≡ (front ++ g) ++ joined gs = is ∙ sym (append_assoc front g (joined gs)) in
-      let rest = subst (λ n. flat_map (entries_under (tree ns) 0) (nodes_over extent_of_entry
-      (λ _. 1) 1 n gs) ≡ joined gs) (length-append front g) (leaves_under ns gs (front ++ g) behind) in
-      rw (here, rest) refl
+  leaves_under ns = over_flat extent_of_entry (λ _. 1) 1 es (entries_under (tree ns) 0) (λ g. g) (λ first g here. here)
 
   -- ---- the nodes over groups of nodes
 
@@ -316,46 +312,38 @@ module _ (fanout : ℕ) (es : List Entry) where
       → AllByRecursion (IsGroup fanout (IsSubtree (tree ns) h)) gs
       → AllByRecursion (IsSubtree (tree ns) (suc h)) (nodes_over extent_of_node (λ n. n.size) (suc (suc h))
       (length front) gs)
-  over_sound ns h [] front is a = tt
-  over_sound ns h (g ∷ gs) front is a =
+  over_sound ns h = over_each extent_of_node (λ n. n.size) (suc (suc h)) ns (IsSubtree (tree ns) (suc h))
+      (IsGroup fanout (IsSubtree (tree ns) h)) (λ first g a here range.
       let box = λ (n : Node). n.bounds in
       let layers = λ (n : Node). n.layers in
-      let whole = extent_of_node (node_over extent_of_node (λ k. k.size) (suc (suc h)) (length front) g) in
-      let here : take (length g) (drop (length front) ns) ≡ g = ap (λ l. take (length g) (drop
-      (length front) l)) is ∙ group_at front g (joined gs) in
-      let behind : ns ≡ (front ++ g) ++ joined gs = is ∙ sym (append_assoc front g (joined gs)) in
-      let total = ap length is in (
-        record {
-          level = refl;
-          some = a.0.0.0;
-          few = a.0.0.1;
-          range = omega (arith, total, length-append front (g ++ joined gs), length-append g (joined gs));
-          below = subst (AllByRecursion (IsSubtree (tree ns) h)) (sym here) a.0.1;
-          valid = hull-IsRect box g a.0.0.0 (all_map (IsSubtree (tree ns) h) (λ n. IsRect n.bounds) (subtree_valid
-              (tree ns) h) g a.0.1);
-          coordinates = hull_of-inside box plane g a.0.0.0
-              (all_map (IsSubtree (tree ns) h) (λ n. inside n.bounds plane ≡ true) (subtree_coordinates (tree ns) h) g a.0.1);
-          layers = union-HasSome layers g a.0.0.0 (all_map (IsSubtree (tree ns) h) (λ n. HasSome n.layers)
-              (subtree_layers (tree ns) h) g a.0.1);
-          exact = ap (λ l. hull_of (map box l)) (sym here);
-          exact_layers = ap (λ l. union_of (map layers l)) (sym here);
-          within = subst (AllByRecursion (λ k. IsPart (extent_of_node k) whole)) (sym here)
-              (parts_of-whole extent_of_node whole g refl refl);
-          size = ap (sum_by (λ k. k.size)) (sym here);
-        },
-        subst (λ n. AllByRecursion (IsSubtree (tree ns) (suc h)) (nodes_over extent_of_node (λ k. k.size) (suc (suc h)) n gs))
-            (length-append front g) (over_sound ns h gs (front ++ g) behind a.1),
-      )
+      let whole = extent_of_node (node_over extent_of_node (λ k. k.size) (suc (suc h)) first g) in
+      let around = hull-in_plane box g a.0.0 (all_map (IsSubtree (tree ns) h) (λ n. IsInPlane n.bounds)
+      (subtree_in_plane (tree ns) h) g a.1) in
+      record {
+        level = refl;
+        some = a.0.0;
+        few = a.0.1;
+        range = range;
+        below = subst (AllByRecursion (IsSubtree (tree ns) h)) (sym here) a.1;
+        valid = around.0;
+        coordinates = around.1;
+        layers = union-HasSome layers g a.0.0 (all_map (IsSubtree (tree ns) h) (λ n. HasSome n.layers)
+            (subtree_layers (tree ns) h) g a.1);
+        exact = ap (λ l. hull_of (map box l)) (sym here);
+        exact_layers = ap (λ l. union_of (map layers l)) (sym here);
+        within = subst (AllByRecursion (λ k. IsPart (extent_of_node k) whole)) (sym here)
+            (parts_of-whole extent_of_node whole g refl refl);
+        size = ap (sum_by (λ k. k.size)) (sym here);
+      })
 
   pub over_under : (ns : List Node) (h : ℕ) (gs : List (List Node)) (front : List Node) → ns ≡ front ++ joined gs
       → flat_map (entries_under (tree ns) (suc h)) (nodes_over extent_of_node (λ n. n.size) (suc (suc h))
       (length front) gs) ≡ flat_map (entries_under (tree ns) h) (joined gs)
-  over_under ns h [] front is = refl
-  over_under ns h (g ∷ gs) front is =
-      let here : take (length g) (drop (length front) ns) ≡ g = ap (λ l. take (length g) (drop
-      (length front) l)) is ∙ group_at front g (joined gs) in
-      let behind : ns ≡ (front ++ g) ++ joined gs = is ∙ sym (append_assoc front g (joined gs)) in
-      let rest = subst (λ n. flat_map (entries_under (tree ns) (suc h)) (nodes_over extent_of_node (λ k. k.size)
-      (suc (suc h)) n gs) ≡ flat_map (entries_under (tree ns) h) (joined gs)) (length-append front g)
-      (over_under ns h gs (front ++ g) behind) in
-      rw (here, rest) (sym (flat_map-append (entries_under (tree ns) h) g (joined gs)))
+  over_under ns h gs front is = over_flat extent_of_node (λ n. n.size) (suc (suc h)) ns (entries_under (tree ns) (suc h))
+      (flat_map (entries_under (tree ns) h)) (λ first g here. ap (flat_map (entries_under (tree ns) h)) here) gs front is
+      ∙ flat_each gs
+    where
+      flat_each : (gs : List (List Node))
+          → flat_map (flat_map (entries_under (tree ns) h)) gs ≡ flat_map (entries_under (tree ns) h) (joined gs)
+      flat_each [] = refl
+      flat_each (g ∷ gs) = rw (flat_each gs) (sym (flat_map-append (entries_under (tree ns) h) g (joined gs)))
