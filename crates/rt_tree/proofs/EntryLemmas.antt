@@ -1,24 +1,16 @@
 -- A table with one more entry.
-use Rattle.std.proofs.Common.{◌≡◌, ◌∙◌, ◌<◌, ◌+◌, ◌-◌, ℕ, ℤ, get_or, take, Bool, true, false, ◌||◌, cond, List, [], ◌∷◌, ◌++◌}
+use Rattle.std.proofs.Common.{◌≡◌, ◌∙◌, ◌<◌, ◌+◌, ◌-◌, ℕ, ℤ, get_or, take, false, ◌||◌, List, [], ◌∷◌, ◌++◌}
 use Rattle.std.proofs.{Common.{length, refl, sym, ap, subst, arith, length-append}, Math.Bool.{or-false}, lemmas.Int.{ints}}
 use Rattle.std.proofs.{Math.Seq.{take-append_seam}, lemmas.{Cmp.{int_eq_equiv}, List.{map-append, take_more}}}
 use Rattle.std.proofs.lemmas.{List.{Elements.{All-nil, All-push}, Folds.{list_any-append}}, Map.Keys.{IsDistinct-push}}
-use Rattle.std.specs.{BTreeSet.{BTreeSet}, List.{IsDistinct, list_any}, Ordering.{int_cmp, int_eq, is_eq}}
+use Rattle.std.specs.{BTreeSet.{BTreeSet}, List.{IsDistinct, list_any}, Ordering.{int_eq}}
 use Rattle.rt_geo.specs.{Entries.{HasBox, HasLayer}, declared.entry.Entry.{Entry}}
 use Rattle.rt_tree.specs.{Entries.{IsTable, has_id, ids_of, most_entries}, Indexes.{IsIndexed, keeps}}
-
-tie : (a b : ℤ) → is_eq (int_cmp a b) ≡ int_eq b a
-tie a b = grind (arith, ints)
 
 pub has_id-push : (entries : List Entry) (entry : Entry) (id : ℤ)
     → has_id (entries ++ entry ∷ []) id ≡ (has_id entries id || int_eq id entry.id)
 has_id-push entries entry id = list_any-append (λ (e : Entry). int_eq id e.id) entries (entry ∷ [])
     ∙ ap (λ b. has_id entries id || b) (or-false (int_eq id entry.id))
-
-either : (a b c : Bool) → a ≡ b → cond b true c ≡ (c || a)
-either a true true e = refl
-either a true false e = sym e
-either a false c e = sym (ap (λ x. c || x) e ∙ or-false c)
 
 -- an entry has the id exactly where the id is among theirs
 pub has_id-ids_of : (entries : List Entry) (id : ℤ) → list_any (int_eq id) (ids_of entries) ≡ has_id entries id

@@ -59,7 +59,6 @@ over_in_plane {X} extent size fanout level first items several a =
 
 -- a loop that makes one level after another: it has made so many nodes, and then those of this level
 pub record IsCounted (level : ℕ) (nodes made : List Node) : Type 0 where
-  pub from_one : 1 ≤ level
   pub few_levels : level ≤ 24
   pub few : length made ≤ 2 ^ (24 - level)
   pub few_nodes : length nodes + 2 * length made ≤ 16777216 + level
@@ -163,7 +162,6 @@ module _ (fanout : ℕ) (several : 2 ≤ fanout) where
       let moved = groups-IsPermutation (λ (n : Node). n.bounds) made fanout several (omega arith) in
       let low = not_last level (length made) c.few_levels c.few some in
       record {
-        from_one = omega arith;
         few_levels = omega (arith, low);
         few = subst (λ n. n ≤ 2 ^ (24 - (suc level))) (sym new) (half level (length made) (div_ceil
             (length made) fanout) low c.few halves);
@@ -189,7 +187,6 @@ module _ (fanout : ℕ) (several : 2 ≤ fanout) where
   pub counted_first : (made : List Node) → 2 * length made ≤ 16777217 → sum_by (λ n. n.size) made ≤ 16777216
       → IsCounted 1 [] made
   counted_first made few weight = record {
-    from_one = omega arith;
     few_levels = omega arith;
     few = omega (arith, few);
     few_nodes = omega (arith, few);
