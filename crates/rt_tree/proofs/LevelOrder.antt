@@ -59,9 +59,7 @@ module _ (fanout : ℕ) (several : 2 ≤ fanout) where
         let later = nodes_from-levels fuel (suc level) (first + length made) new
         (fewer fanout several level first fuel made h few) (omega (
           arith,
-          count,
-          div_ceil-positive
-              (length made) fanout several there,
+          div_ceil-positive (length made) fanout several there,
         )) (nodes_over-AreOn extent_of_node (λ n. n.size)
         (suc level) first (cut fanout several made)) in
         let sizes : sizes_above (length made) fanout (length made) ≡ sizes_from fanout (length new) =
@@ -89,9 +87,7 @@ positive_from (suc fuel) fanout size several there =
 length-level_by_level : (level size : ℕ) (sizes : List ℕ) → 0 < size → 0 < length (level_by_level level (size ∷ sizes))
 length-level_by_level level size sizes there = omega (
   arith,
-  there,
-  length-append (replicate size level)
-      (level_by_level (suc level) sizes),
+  length-append (replicate size level) (level_by_level (suc level) sizes),
   length-replicate size level,
 )
 

@@ -87,15 +87,7 @@ changed_more F start end old new part so_far up there long next =
     let at : start + n ≡ end = omega (arith, up) in
     let behind = post_of start n new in
     record {
-      inside = omega (
-        arith,
-        there,
-        up,
-        long,
-        length-append (take start new) (part ++ behind),
-        length-append part behind,
-        length-take start new,
-      );
+      inside = omega (arith, length-append (take start new) (part ++ behind), length-append part behind, length-take start new);
       later = drop-put_mid start n new part end (omega (arith, at)) so_far.inside long
           ∙ ap (λ k. drop k new) (sym at) ∙ sym (drop-drop n start new) ∙ ap (drop n) so_far.later
           ∙ drop-drop n start old ∙ ap (λ k. drop k old) at;

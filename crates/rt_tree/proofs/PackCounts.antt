@@ -99,8 +99,7 @@ module _ (fanout : ℕ) (several : 2 ≤ fanout) where
   fewer level first fuel made some few = omega (
     arith,
     length-above level first made (omega arith),
-    div_ceil-halves
-        (length made) fanout several,
+    div_ceil-halves (length made) fanout several,
   )
 
   -- any fuel that is no less than the number of nodes is enough
@@ -167,18 +166,14 @@ module _ (fanout : ℕ) (several : 2 ≤ fanout) where
             (length made) fanout) low c.few halves);
         few_nodes = omega (
           arith,
-          new,
-          halves,
           c.few_nodes,
-          length-append nodes (joined
-              (cut made)),
+          length-append nodes (joined (cut made)),
           length_permutation made (joined (cut made)) moved,
         );
         weight = omega (
           arith,
           c.weight,
-          weight-nodes_over extent_of_node (λ n. n.size) (suc level)
-              (length nodes) (cut made),
+          weight-nodes_over extent_of_node (λ n. n.size) (suc level) (length nodes) (cut made),
           sum_by-IsPermutation (λ (n : Node). n.size) made (joined (cut made)) moved,
         );
       }

@@ -222,13 +222,7 @@ module _ (fanout : ℕ) (several : 2 ≤ fanout) (in_order : List Entry) where
       length-nodes_over extent_of_entry (λ _. 1) 1 0 gs
       ∙ length-groups (λ (e : Entry). e.bounds) fanout in_order several there
       ∙ ap (λ n. div_ceil n fanout) (sym long) in
-      let some : 0 < length made = omega (
-        arith,
-        count,
-        long,
-        div_ceil-positive (length es) fanout several (omega
-            (arith, long)),
-      ) in
+      let some : 0 < length made = omega (arith, div_ceil-positive (length es) fanout several (omega (arith, long))) in
       let on = nodes_over-AreOn extent_of_entry (λ _. 1) 1 0 gs in
       let held : 0 < length es = omega (arith, there, long) in
       sound_from fanout several es table held (length made) 0 [] made (omega arith) some (made-IsBuilt table)
@@ -270,8 +264,5 @@ child_inside t number index n s there is level count =
     let first : (node_at t number).first ≡ n.first = ap (λ m. m.first) (get_or_from_slice_get t.nodes number n no_node is) in
     omega (
       arith,
-      first,
-      count,
-      inner-range t ((node_at t number).level - 1) (node_at t number)
-          (s.nodes number no_node there) (omega (arith, level)),
+      inner-range t ((node_at t number).level - 1) (node_at t number) (s.nodes number no_node there) (omega (arith, level)),
     )

@@ -52,9 +52,7 @@ module _ {X : Type 0} (box : X → Rect) (items : List X) where
       (ceil_sqrt (div_ceil (length items) fanout)) fanout some by_x_of
       (λ there. wide fanout some (omega (
         arith,
-        there,
-        sorted-length (by_middle box twice_middle_x)
-            (enumerate_from 0 items),
+        sorted-length (by_middle box twice_middle_x) (enumerate_from 0 items),
         length-enumerate_from 0 items,
       )))
 

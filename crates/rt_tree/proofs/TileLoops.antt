@@ -88,7 +88,6 @@ module _ {X : Type 0} (extent : X → Extent) (size : X → ℕ) where
       → node ≡ with_children start (told items (take i keys)) → node.size + size x ≤ sum_by size (told items keys)
   next_fits items keys i x start node there at empty is = omega (
     arith,
-    empty,
     told-weight items size keys i x there at,
     ap (λ n. n.size) is,
     ap (λ n. n.size) (with_children-is start (told items (take i keys))),

@@ -9,8 +9,7 @@ overflow_add-result c =
     omega (
       arith,
       sound.few_nodes,
-      child_inside _ c.args.no.number c.args.index c.get.result sound asked.inside c.get.ensures
-          asked.level asked.index,
+      child_inside _ c.args.no.number c.args.index c.get.result sound asked.inside c.get.ensures asked.level asked.index,
     )
 
 pub returns-clause-inside : goal.returns-clause-inside
