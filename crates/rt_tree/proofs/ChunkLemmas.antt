@@ -16,7 +16,7 @@ pub le_or_lt : (a b : ℕ) → (a ≤ b) ⊎ (b < a)
 le_or_lt a b = elim (cases_lt b a) [ inl l ↦ inr l | inr h ↦ inl h ]
 
 not_above : (d e n len : ℕ) → len ≤ d * n → e * n < len + n → d < e → ⊥
-not_above d e n len low high above = omega (arith, low, high, mul-le-mul_right n above)
+not_above d e n len low high above = omega (arith, mul-le-mul_right n above)
 
 -- the one number that rounds a quotient up
 ceil_unique : (d e n len : ℕ) → len ≤ d * n → d * n < len + n → len ≤ e * n → e * n < len + n → d ≡ e
@@ -29,10 +29,9 @@ one_more : (d e n len : ℕ) → len ≤ d * n → d * n < len + n → len - n �
 one_more d e n len low high low' high' there =
     let times = add-mul e 1 n in
     elim (le_or_lt n len) [
-      | inl h ↦ ceil_unique d (e + 1) n len low high (omega (arith, h)) (omega (arith, h))
-      | inr h ↦ let none : e ≡ 0 = ceil_unique e 0 n 0 (omega arith) (omega (arith, h)) (omega arith) (omega
-          (arith, h)) in
-          let nothing = ap (λ k. k * n) none in ceil_unique d (e + 1) n len low high (omega (arith, h)) (omega (arith, h))
+      | inl h ↦ ceil_unique d (e + 1) n len low high (omega arith) (omega arith)
+      | inr h ↦ let none : e ≡ 0 = ceil_unique e 0 n 0 (omega arith) (omega arith) (omega arith) (omega arith) in
+          let nothing = ap (λ k. k * n) none in ceil_unique d (e + 1) n len low high (omega arith) (omega arith)
     ]
 
 pub div_ceil-step : (len n : ℕ) → 0 < n → 0 < len → div_ceil len n ≡ suc (div_ceil (len - n) n)
@@ -68,23 +67,23 @@ chunk_by_chunk {X} n P some none more xs = within (length xs) xs (omega arith)
   where
     within : (most : ℕ) (xs : List X) → length xs ≤ most → P xs
     within most [] few = none
-    within zero (x ∷ xs) few = absurd (omega (arith, few))
+    within zero (x ∷ xs) few = absurd (omega arith)
     within (suc most) (x ∷ xs) few = more (x ∷ xs) (omega arith)
-        (within most (drop n (x ∷ xs)) (omega (arith, some, few, length-drop n (x ∷ xs))))
+        (within most (drop n (x ∷ xs)) (omega (arith, length-drop n (x ∷ xs))))
 
 -- the chunk in front, which is as long as it may be
 pub chunks-front : {X : Type 0} (n : ℕ) (front behind : List X) → 0 < n → 0 < length front
     → length front ≡ min n (length (front ++ behind)) → chunks n (front ++ behind) ≡ front ∷ chunks n behind
 chunks-front n front [] some there long =
     let bare = append-nil front in
-    let few : length front ≤ n = omega (arith, long) in
+    let few : length front ≤ n = omega arith in
     ap (chunks n) bare ∙ chunks-step n front some there
     ∙ ap (λ l. l ∷ chunks n (drop n front)) (take_all n front few)
     ∙ ap (λ l. front ∷ chunks n l) (drop_all n front few)
 chunks-front n front (x ∷ behind) some there long =
-    let full : length front ≡ n = omega (arith, long, length-append front (x ∷ behind)) in
+    let full : length front ≡ n = omega (arith, length-append front (x ∷ behind)) in
     let whole = front ++ x ∷ behind in
-    chunks-step n whole some (omega (arith, there, length-append front (x ∷ behind)))
+    chunks-step n whole some (omega (arith, length-append front (x ∷ behind)))
     ∙ ap (λ l. l ∷ chunks n (drop n whole)) (subst (λ k. take k whole ≡ front) full (take-append_seam front (x ∷ behind)))
     ∙ ap (λ l. front ∷ chunks n l) (subst (λ k. drop k whole ≡ x ∷ behind) full (drop-append_seam front (x ∷ behind)))
 
@@ -110,7 +109,7 @@ chunks-size {X} n xs some =
     chunk_by_chunk n (λ ys. AllByRecursion Fits (chunks n ys)) some (subst (AllByRecursion Fits) (sym (chunks-nil n)) tt)
     (λ ys there rest. subst (AllByRecursion Fits) (sym (chunks-step n ys some there)) (
       let long = length-take n ys in
-          (omega (arith, long, some, there), omega (arith, long)),
+          (omega arith, omega arith),
       rest,
     )) xs
 
@@ -138,13 +137,13 @@ chunks-All P n xs = first_chunks-All P n (div_ceil (length xs) n) xs
 pub chunks-append : {X : Type 0} (n k : ℕ) (xs ys : List X) → 0 < n → length xs ≡ k * n
     → chunks n (xs ++ ys) ≡ chunks n xs ++ chunks n ys
 chunks-append n zero [] ys some full = ap (λ l. l ++ chunks n ys) (sym (chunks-nil n))
-chunks-append n zero (x ∷ xs) ys some full = absurd (omega (arith, full))
+chunks-append n zero (x ∷ xs) ys some full = absurd (omega arith)
 chunks-append n (suc k) xs ys some full =
     let long = length-append xs ys in
-    chunks-step n (xs ++ ys) some (omega (arith, full))
-    ∙ rw (take-append-le n xs ys (omega (arith, full)), drop-append-le n xs ys (omega (arith, full)))
-    (ap (λ l. take n xs ∷ l) (chunks-append n k (drop n xs) ys some (omega (arith, full, length-drop n xs))))
-    ∙ ap (λ l. l ++ chunks n ys) (sym (chunks-step n xs some (omega (arith, full))))
+    chunks-step n (xs ++ ys) some (omega arith)
+    ∙ rw (take-append-le n xs ys (omega arith), drop-append-le n xs ys (omega arith))
+    (ap (λ l. take n xs ∷ l) (chunks-append n k (drop n xs) ys some (omega (arith, length-drop n xs))))
+    ∙ ap (λ l. l ++ chunks n ys) (sym (chunks-step n xs some (omega arith)))
 
 -- chunks of chunks whose size is a multiple are chunks of the whole, the elements of each being put into some order
 -- first
@@ -163,9 +162,9 @@ module _ {X : Type 0} (h : List X → List X) (keeps : (s : List X)
       ≡ chunks n (h (take (side * n) ys) ++ of_all (drop (side * n) ys))
   one_more_slice ys (inl wide) rest =
       let slice = h (take (side * n) ys) in
-      let full : length slice ≡ side * n = omega (arith, wide, keeps (take (side * n) ys), length-take (side * n) ys) in
+      let full : length slice ≡ side * n = omega (arith, keeps (take (side * n) ys), length-take (side * n) ys) in
       ap (λ l. chunks n slice ++ l) rest ∙ sym (chunks-append n side slice (of_all (drop (side * n) ys)) some full)
-  one_more_slice ys (inr narrow) rest = rw (drop_all (side * n) ys (omega (arith, narrow)), chunks-nil {X = X} (side * n))
+  one_more_slice ys (inr narrow) rest = rw (drop_all (side * n) ys (omega arith), chunks-nil {X = X} (side * n))
       (append-nil (chunks n (h (take (side * n) ys))) ∙ ap (chunks n) (sym (append-nil (h (take (side * n) ys)))))
 
   pub chunks_of-chunks : (xs : List X) → (0 < length xs → 0 < side * n) → of_slices xs ≡ chunks n (of_all xs)

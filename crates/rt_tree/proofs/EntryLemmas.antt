@@ -23,7 +23,7 @@ IsTable-push entries entry t new box few room = record {
   distinct = subst (IsDistinct int_eq) (sym (map-append (λ (e : Entry). e.id) entries (entry ∷ []))) (IsDistinct-push int_eq_equiv (ids_of entries) entry.id t.distinct (has_id-ids_of entries entry.id ∙ new));
   boxes = All-push HasBox entries entry t.boxes box;
   layers = All-push HasLayer entries entry t.layers few;
-  few = omega (arith, length-append entries (entry ∷ []), room);
+  few = omega (arith, length-append entries (entry ∷ []));
 }
 
 -- the entry stands last, and its id beside the others

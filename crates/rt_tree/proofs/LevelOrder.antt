@@ -41,7 +41,7 @@ module _ (fanout : ℕ) (several : 2 ≤ fanout) where
       → AreOn level made
       → map (λ n. n.level) (nodes_from fuel fanout level first made) ≡ level_by_level level (sizes_from fanout
       (length made))
-  nodes_from-levels zero level first made few there on = absurd (omega (arith, there))
+  nodes_from-levels zero level first made few there on = absurd (omega arith)
   nodes_from-levels (suc fuel) level first made few there on = elim (le_or_lt (length made) 1) [
     | inl h ↦
         let last : nat_le (length made) 1 ≡ true = grind (arith, nat_tests) in
@@ -105,10 +105,8 @@ last_level level size (next ∷ sizes) some =
     let rest = level_by_level (suc level) (next ∷ sizes) in
     let long = length-append front rest in
     let there = length-level_by_level (suc level) next sizes some.1.0 in
-    let back : length (front ++ rest) - 1 - size ≡ length rest - 1 = omega
-    (arith, long, length-replicate size level, there) in
-    get_or-append_right front rest size (length (front ++ rest) - 1) 0 (length-replicate size level) (omega
-    (arith, long, length-replicate size level, there))
+    let back : length (front ++ rest) - 1 - size ≡ length rest - 1 = omega (arith, length-replicate size level) in
+    get_or-append_right front rest size (length (front ++ rest) - 1) 0 (length-replicate size level) (omega (arith, length-replicate size level))
     ∙ ap (λ i. get_or rest i 0) back ∙ last_level (suc level) next sizes some.1 ∙ omega arith
 
 -- the last node of a tree whose nodes stand level by level
@@ -128,12 +126,12 @@ sizes_above-positive fanout size several there = positive_from size fanout size 
 -- ---- the sizes of the levels of nodes
 
 pub sizes_behind : (len fanout : ℕ) → 0 < len → drop 1 (level_sizes len fanout) ≡ sizes_above len fanout len
-sizes_behind zero fanout there = absurd (omega (arith, there))
+sizes_behind zero fanout there = absurd (omega arith)
 sizes_behind (suc len) fanout there = refl
 
 length-level_sizes : (len fanout : ℕ) → 0 < len → length (level_sizes len fanout) ≡ 1 + length
     (sizes_above len fanout len)
-length-level_sizes zero fanout there = absurd (omega (arith, there))
+length-level_sizes zero fanout there = absurd (omega arith)
 length-level_sizes (suc len) fanout there = omega arith
 
 -- so many nodes of level 1 begin the levels of a tree
@@ -150,4 +148,4 @@ module _ (fanout : ℕ) (several : 2 ≤ fanout) (len count : ℕ) (there : 0 < 
       let sizes = sym (sizes_behind len fanout there) ∙ sizes_from_first in
       let top = last_node-level ns 1 count (if nat_le count 1 then [] else sizes_above count fanout count) positive
       (levels ∙ ap (level_by_level 1) sizes_from_first) in
-      omega (arith, top, length-level_sizes len fanout there, ap length sizes)
+      omega (arith, length-level_sizes len fanout there, ap length sizes)

@@ -25,17 +25,17 @@ above_in (suc fuel) fanout size (suc level) below above e f =
 pub level_above : (len fanout level next below above : ℕ) → next ≡ level + 1
     → slice_get (level_sizes len fanout) level ≡ Some below → slice_get (level_sizes len fanout) next ≡ Some above
     → above ≡ div_ceil below fanout
-level_above len fanout level zero below above is e f = absurd (omega (arith, is))
+level_above len fanout level zero below above is e f = absurd (omega arith)
 level_above zero fanout level (suc next) below above is e f = absurd (none-some above f)
 level_above (suc n) fanout level (suc next) below above is e f =
-    let same : level ≡ next = omega (arith, is) in
+    let same : level ≡ next = omega arith in
     above_in (suc n) fanout (suc n) next below above (rw (← same) e) f
 
 -- ---- the last
 
 -- there is a level above one of at least one
 some_above : (fuel fanout size : ℕ) → 0 < size → size ≤ fuel → 0 < length (sizes_above fuel fanout size)
-some_above zero fanout size some enough = absurd (omega (arith, some, enough))
+some_above zero fanout size some enough = absurd (omega arith)
 some_above (suc fuel) fanout size some enough = omega arith
 
 several_of : (n : ℕ) → nat_le n 1 ≡ false → n ≡ 1 → ⊥
@@ -53,10 +53,10 @@ last_of false next rest is some more zero size e further =
     let same = ap (λ o. unwrap_or o 0) e in
     let there = more refl in (
       (λ one. absurd (several_of next is (same ∙ one))),
-      (λ last. absurd (omega (arith, there, last))),
+      (λ last. absurd (omega arith)),
     )
 last_of false next rest is some more (suc level) size e further =
-    let told = further level refl e in ((λ one. ap suc (told.0 one)), (λ last. told.1 (omega (arith, last))))
+    let told = further level refl e in ((λ one. ap suc (told.0 one)), (λ last. told.1 (omega arith)))
 
 last_in : (fuel fanout below level size : ℕ) → 2 ≤ fanout → 0 < below → below ≤ fuel
     → slice_get (sizes_above fuel fanout below) level ≡ Some size
@@ -75,10 +75,10 @@ last_in (suc fuel) fanout below level size two some enough e =
 pub level_last : (len fanout level size count : ℕ) → 2 ≤ fanout → 0 < level
     → slice_get (level_sizes len fanout) level ≡ Some size → count ≡ length (level_sizes len fanout)
     → (size ≡ 1) ↔ (level + 1 ≡ count)
-level_last len fanout zero size count two some e is = absurd (omega (arith, some))
+level_last len fanout zero size count two some e is = absurd (omega arith)
 level_last zero fanout (suc level) size count two some e is = absurd (none-some size e)
 level_last (suc n) fanout (suc level) size count two some e is =
     let told = last_in (suc n) fanout (suc n) level size two (omega arith) (omega arith) e in (
-      (λ one. let last = told.0 one in omega (arith, is, last)),
-      (λ last. told.1 (omega (arith, is, last))),
+      (λ one. let last = told.0 one in omega arith),
+      (λ last. told.1 (omega arith)),
     )

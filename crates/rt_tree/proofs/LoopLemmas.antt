@@ -84,14 +84,14 @@ pub changed_more : (F : List ℕ → List ℕ) (start end : ℕ) (old new part :
     → IsChangedTo F end old (put_mid start (end - start) new part)
 changed_more F start end old new part so_far up there long next =
     let n = end - start in
-    let at : start + n ≡ end = omega (arith, up) in
+    let at : start + n ≡ end = omega arith in
     let behind = post_of start n new in
     record {
       inside = omega (arith, length-append (take start new) (part ++ behind), length-append part behind, length-take start new);
-      later = drop-put_mid start n new part end (omega (arith, at)) so_far.inside long
+      later = drop-put_mid start n new part end (omega arith) so_far.inside long
           ∙ ap (λ k. drop k new) (sym at) ∙ sym (drop-drop n start new) ∙ ap (drop n) so_far.later
           ∙ drop-drop n start old ∙ ap (λ k. drop k old) at;
-      changed = ap (λ l. l ++ F (drop end old)) (take-put_mid start n new part end (omega (arith, long, at)) so_far.inside)
+      changed = ap (λ l. l ++ F (drop end old)) (take-put_mid start n new part end (omega arith) so_far.inside)
           ∙ append_assoc (take start new) part (F (drop end old)) ∙ ap (λ l. take start new ++ l) (sym next)
           ∙ so_far.changed;
     }
@@ -106,7 +106,7 @@ chunks-at size start n xs some there e =
     let long = length-take n rest in
     let left = length-drop start xs in
     ap (chunks size) (sym whole) ∙ chunks-front size (take n rest) (drop n rest) some
-    (omega (arith, long, left, e, some, there)) (omega (arith, ap length whole, long, left, e))
+    (omega arith) (omega (arith, ap length whole))
     ∙ ap (λ l. take n rest ∷ chunks size l) (drop-drop n start xs)
 
 -- the front of a list that is as long as what is taken

@@ -106,7 +106,7 @@ module _ (fanout : ℕ) (several : 2 ≤ fanout) where
   pub nodes_from-fuel : (fuel other level first : ℕ) (made : List Node) → length made ≤ fuel → length made ≤ other
       → nodes_from fuel fanout level first made ≡ nodes_from other fanout level first made
   nodes_from-fuel zero other level first made f g = sym (nodes_from-last other level first made (omega arith))
-  nodes_from-fuel (suc fuel) zero level first made f g = nodes_from-last (suc fuel) level first made (omega (arith, g))
+  nodes_from-fuel (suc fuel) zero level first made f g = nodes_from-last (suc fuel) level first made (omega arith)
   nodes_from-fuel (suc fuel) (suc other) level first made f g = elim (le_or_lt (length made) 1) [
     | inl h ↦ nodes_from-last (suc fuel) level first made h ∙ sym (nodes_from-last (suc other) level first made h)
     | inr h ↦ nodes_from-more fuel level first made h
@@ -138,8 +138,7 @@ module _ (fanout : ℕ) (several : 2 ≤ fanout) where
 
   not_last : (level made : ℕ) → level ≤ 24 → made ≤ 2 ^ (24 - level) → 1 < made → level < 24
   not_last level made low few some = elim (eq-or-lt_of_le low) [
-    | inl e ↦ absurd (omega
-        (arith, some, last e))
+    | inl e ↦ absurd (omega (arith, last e))
     | inr l ↦ l
   ]
     where
@@ -161,7 +160,7 @@ module _ (fanout : ℕ) (several : 2 ≤ fanout) where
       let moved = groups-IsPermutation (λ (n : Node). n.bounds) made fanout several (omega arith) in
       let low = not_last level (length made) c.few_levels c.few some in
       record {
-        few_levels = omega (arith, low);
+        few_levels = omega arith;
         few = subst (λ n. n ≤ 2 ^ (24 - (suc level))) (sym new) (half level (length made) (div_ceil
             (length made) fanout) low c.few halves);
         few_nodes = omega (
@@ -198,8 +197,8 @@ module _ (fanout : ℕ) (several : 2 ≤ fanout) where
       let count : length (leaf_nodes gs) ≡ div_ceil (length (joined gs)) fanout = length-nodes_over extent_of_entry
       (λ _. 1) 1 0 gs ∙ ap length (groups-chunks box entries fanout (omega arith))
       ∙ length-chunks fanout (joined gs) in (
-        omega (arith, count, long, few, div_ceil-halves (length (joined gs)) fanout several),
-        omega (arith, weight-nodes_over extent_of_entry (λ _. 1) 1 0 gs, sum_by-ones (joined gs), long, few),
+        omega (arith, few, div_ceil-halves (length (joined gs)) fanout several),
+        omega (arith, weight-nodes_over extent_of_entry (λ _. 1) 1 0 gs, sum_by-ones (joined gs), few),
       )
 
   -- the course of the loop
@@ -211,9 +210,9 @@ module _ (fanout : ℕ) (several : 2 ≤ fanout) where
       let after = nodes ++ joined (cut made) in
       let new = above level (length nodes) made in
       let fuel = length made - 1 in
-      let one_less : suc fuel ≡ length made = omega (arith, some) in
+      let one_less : suc fuel ≡ length made = omega arith in
       ap (λ l. after ++ l) (nodes_from-fuel (length new) fuel (suc level) (length after) new (omega arith)
-      (fewer level (length nodes) fuel made some (omega (arith, one_less)))) ∙ course fuel level nodes made some
+      (fewer level (length nodes) fuel made some (omega arith))) ∙ course fuel level nodes made some
       ∙ ap (λ n. nodes ++ nodes_from n fanout level (length nodes) made) one_less ∙ so_far
 
   pub course_done : (level : ℕ) (nodes made whole : List Node) → length made ≤ 1

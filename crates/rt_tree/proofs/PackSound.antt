@@ -26,7 +26,7 @@ level_of t zero n s = s.level
 level_of t (suc h) n s = s.level
 
 at_its_level : (t : Packed) (h : ℕ) (n : Node) → IsSubtree t h n → IsSubtree t (n.level - 1) n
-at_its_level t h n s = subst (λ k. IsSubtree t k n) (let e = level_of t h n s in omega (arith, e)) s
+at_its_level t h n s = subst (λ k. IsSubtree t k n) (let e = level_of t h n s in omega arith) s
 
 -- that a tree has each node and each entry once, and the nodes level by level. No search rests on it
 pub record IsWhole (t : Packed) : Type 0 where
@@ -93,9 +93,9 @@ module _ (fanout : ℕ) (several : 2 ≤ fanout) (es : List Entry) where
       let same : flat_map (entries_under old h) (r ∷ []) ≡ entries_under new h r = sym
       (all_under_more fanout es numbered (r ∷ []) h (r ∷ []) b.nodes) ∙ append-nil (entries_under new h r) in
       let whole : IsPermutation (entries_under new (r.level - 1) r) es =
-      subst (λ k. IsPermutation (entries_under new k r) es) (omega (arith, level)) (subst
+      subst (λ k. IsPermutation (entries_under new k r) es) (omega arith) (subst
       (λ l. IsPermutation l es) same b.every) in
-      let some : 0 < length ns = omega (arith, long) in (
+      let some : 0 < length ns = omega arith in (
         record {
           several = several;
           table = table;
@@ -108,8 +108,8 @@ module _ (fanout : ℕ) (several : 2 ≤ fanout) (es : List Entry) where
               (λ n s. subtree_more fanout es numbered (r ∷ []) (n.level - 1) n s) numbered b.lower)
               (at_its_level new h r sub, tt));
           top = last_node-top fanout several (length es) (div_ceil (length es) fanout) there refl ns levels;
-          few_levels = subst (λ n. n.level ≤ 24) (sym is_root) (omega (arith, level, c.few_levels));
-          few_nodes = omega (arith, long, c.few_nodes, c.few_levels);
+          few_levels = subst (λ n. n.level ≤ 24) (sym is_root) (omega (arith, c.few_levels));
+          few_nodes = omega (arith, c.few_nodes, c.few_levels);
         },
         record {
           entries_once = subst (λ l. IsPermutation l es) (all_child_entries-is new) b.once.entries;
@@ -124,11 +124,11 @@ module _ (fanout : ℕ) (several : 2 ≤ fanout) (es : List Entry) where
   pub sound_from : IsTable es → 0 < length es → (fuel h : ℕ) (numbered made : List Node) → length made ≤ fuel → 0 < length made
       → IsBuilt h numbered made → IsCounted (suc h) numbered made
       → IsFinished (numbered ++ nodes_from fuel fanout (suc h) (length numbered) made)
-  sound_from table held fuel h numbered [] few there b c = absurd (omega (arith, there))
+  sound_from table held fuel h numbered [] few there b c = absurd (omega arith)
   sound_from table held fuel h numbered (r ∷ []) few there b c = subst (λ l. IsFinished (numbered ++ l)) (sym
       (nodes_from-last fanout several fuel (suc h) (length numbered) (r ∷ []) (omega arith)))
       (finished table held h numbered r b c)
-  sound_from table held zero h numbered (r ∷ s ∷ made) few there b c = absurd (omega (arith, few))
+  sound_from table held zero h numbered (r ∷ s ∷ made) few there b c = absurd (omega arith)
   sound_from table held (suc fuel) h numbered (r ∷ s ∷ made) few there b c =
       let all = r ∷ s ∷ made in
       let first = length numbered in
@@ -164,10 +164,10 @@ sound_empty t several none nothing table =
       record {
         several = several;
         table = table;
-        some = (λ h. absurd (omega (arith, h, short)), λ h. absurd (omega (arith, h, ap length nothing)));
-        root = λ h. absurd (omega (arith, h, short));
-        every = λ h. absurd (omega (arith, h, short));
-        nodes = λ k d h. absurd (omega (arith, h, short));
+        some = (λ h. absurd (omega arith), λ h. absurd (omega (arith, ap length nothing)));
+        root = λ h. absurd (omega arith);
+        every = λ h. absurd (omega arith);
+        nodes = λ k d h. absurd (omega arith);
         top = rw (none, nothing) refl;
         few_levels = subst (λ ns. (get_or ns (length ns - 1) no_node).level ≤ 24) (sym none) (omega arith);
         few_nodes = omega arith;
@@ -177,7 +177,7 @@ sound_empty t several none nothing table =
             (n : Node). n.level == 1) ns)) none in
             subst (λ l. IsPermutation l t.entries) (sym bare) (subst (IsPermutation []) (sym nothing)
             (IsPermutation-refl []));
-        nodes_once = λ h. absurd (omega (arith, h, short));
+        nodes_once = λ h. absurd (omega arith);
         levels = rw (none, nothing) refl;
       },
     )
@@ -224,7 +224,7 @@ module _ (fanout : ℕ) (several : 2 ≤ fanout) (in_order : List Entry) where
       ∙ ap (λ n. div_ceil n fanout) (sym long) in
       let some : 0 < length made = omega (arith, div_ceil-positive (length es) fanout several (omega (arith, long))) in
       let on = nodes_over-AreOn extent_of_entry (λ _. 1) 1 0 gs in
-      let held : 0 < length es = omega (arith, there, long) in
+      let held : 0 < length es = omega arith in
       sound_from fanout several es table held (length made) 0 [] made (omega arith) some (made-IsBuilt table)
       (made-first table) (nodes_from-levels fanout several (length made) 1 0 made (omega arith) some on
       ∙ ap (level_by_level 1) (sym (sizes_from_first fanout several (length es) (length made) held count)))

@@ -21,8 +21,8 @@ use Rattle.rt_tree.proofs.ChunkLemmas.{chunks-size}
 part_more : {X : Type 0} (xs more : List X) (first count : ℕ) → first + count ≤ length xs
     → take count (drop first (xs ++ more)) ≡ take count (drop first xs)
 part_more xs more first count h =
-    ap (take count) (drop-append-le first xs more (omega (arith, h)))
-    ∙ take-append-le count (drop first xs) more (omega (arith, h, length-drop first xs))
+    ap (take count) (drop-append-le first xs more (omega arith))
+    ∙ take-append-le count (drop first xs) more (omega (arith, length-drop first xs))
 
 -- a group that stands behind others
 pub group_at : {X : Type 0} (front group rest : List X) → take (length group) (drop (length front) (front ++
@@ -80,7 +80,7 @@ module _ {X Y : Type 0} (show : X → Y) where
   -- what each of a group shows, and what two make of it, the whole group makes
   kept-reduced : (f : Y → Y → Y) (none : Y) (P : Y → Type 0) → ((a b : Y) → P a → P b → P (f a b)) → (xs : List X)
       → 0 < length xs → AllByRecursion (λ x. P (show x)) xs → P (reduced f none (map show xs))
-  kept-reduced f none P kept [] some a = absurd (omega (arith, some))
+  kept-reduced f none P kept [] some a = absurd (omega arith)
   kept-reduced f none P kept (x ∷ xs) some a = kept-fold f P kept (show x) (map show xs) a.0 (all_mapped P xs a.1)
 
 -- the hull of boxes in the plane is one
@@ -168,7 +168,7 @@ chunk_groups fanout P gs some e a = all_groups fanout P gs (subst (AllByRecursio
 -- the children of a node above level 1 are nodes of the tree
 pub inner-range : (t : Packed) (below : ℕ) (n : Node) → IsSubtree t below n → 0 < below
     → n.first + n.count ≤ length t.nodes
-inner-range t zero n s h = absurd (omega (arith, h))
+inner-range t zero n s h = absurd (omega arith)
 inner-range t (suc below) n s h = s.range
 
 -- the boxes of nodes over groups are in the plane where those of the groups are
@@ -238,7 +238,7 @@ module _ (fanout : ℕ) (es : List Entry) where
         level = s.level;
         some = s.some;
         few = s.few;
-        range = (let r = s.range in omega (arith, r, length-append ns more));
+        range = (let r = s.range in omega (arith, length-append ns more));
         below = subst (AllByRecursion (IsSubtree (tree (ns ++ more)) h)) same (all_map (IsSubtree (tree ns) h)
             (IsSubtree (tree (ns ++ more)) h) (λ k. subtree_more ns more h k) (child_nodes (tree ns) n) s.below);
         valid = s.valid;

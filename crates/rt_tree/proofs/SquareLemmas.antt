@@ -9,7 +9,7 @@ pub record IsCeilSqrt (n root : ℕ) : Type 0 where
   pub least : (s : ℕ) → n ≤ s * s → root ≤ s
 
 one_more : (n root : ℕ) → n ≤ root * root → suc n ≤ suc root * suc root
-one_more n root h = omega (arith, h)
+one_more n root h = omega arith
 
 above : (n root s : ℕ) → root ≤ s → nat_le (suc n) (root * root) ≡ false → suc n ≤ s * s → suc root ≤ s
 above n root s low test h = elim (eq-or-lt_of_le low) [ inl e ↦ absurd (not_same e) | inr l ↦ l ]
@@ -21,13 +21,12 @@ ceil_sqrt-step : (n root : ℕ) → IsCeilSqrt n root → (test : Bool) → nat_
     → IsCeilSqrt (suc n) (cond test root (suc root))
 ceil_sqrt-step n root r true e = record {
   enough = grind (arith, nat_tests);
-  least = λ s h. r.least s (omega
-      (arith, h));
+  least = λ s h. r.least s (omega arith);
 }
 ceil_sqrt-step n root r false e = record {
   enough = one_more n root r.enough;
   least = λ s h. above n root s
-      (r.least s (omega (arith, h))) e h;
+      (r.least s (omega arith)) e h;
 }
 
 pub ceil_sqrt-IsCeilSqrt : (n : ℕ) → IsCeilSqrt n (ceil_sqrt n)
@@ -40,14 +39,13 @@ pub ceil_sqrt-from_isqrt : (n below root : ℕ) → 0 < n → below ≡ n - 1 �
     → below < (root + 1) * (root + 1) → ceil_sqrt n ≡ root + 1
 ceil_sqrt-from_isqrt n below root some is low high =
     let c = ceil_sqrt-IsCeilSqrt n in
-    let most : ceil_sqrt n ≤ root + 1 = c.least (root + 1) (omega (arith, high, is, some)) in
-    let not_fewer : ceil_sqrt n ≤ root → ⊥ = λ h. let squares = mul-le-mul h h in omega
-    (arith, squares, c.enough, low, is, some) in
+    let most : ceil_sqrt n ≤ root + 1 = c.least (root + 1) (omega arith) in
+    let not_fewer : ceil_sqrt n ≤ root → ⊥ = λ h. let squares = mul-le-mul h h in omega (arith, c.enough) in
     omega arith
 
 pub ceil_sqrt-positive : (n : ℕ) → 0 < n → 0 < ceil_sqrt n
 ceil_sqrt-positive n some = positive (ceil_sqrt n) (ceil_sqrt-IsCeilSqrt n).enough
   where
     positive : (root : ℕ) → n ≤ root * root → 0 < root
-    positive zero h = absurd (omega (arith, h))
+    positive zero h = absurd (omega arith)
     positive (suc root) h = omega arith

@@ -26,7 +26,7 @@ module _ {X : Type 0} (items : List X) where
   one_told : (key : ℕ) → Tells key → length (told items (key ∷ [])) ≡ 1
   one_told key tells = elim (slice_get_cases items (place_of key)).1 [
     | inl h ↦ rw h.2 refl
-    | inr h ↦ absurd (omega (arith, tells, h.0))
+    | inr h ↦ absurd (omega (arith, h.0))
   ]
 
   -- as many as keys
@@ -35,7 +35,7 @@ module _ {X : Type 0} (items : List X) where
   length-told (key ∷ keys) tell =
       ap length (told-append (key ∷ []) keys) ∙ length-append (told items (key ∷ [])) (told items keys)
       ∙ ap (λ n. n + length (told items keys)) (one_told key (tell 0 0 (omega arith)))
-      ∙ ap (λ n. 1 + n) (length-told keys (λ k d h. tell (suc k) d (omega (arith, h)))) ∙ omega arith
+      ∙ ap (λ n. 1 + n) (length-told keys (λ k d h. tell (suc k) d (omega arith))) ∙ omega arith
 
   -- with one key more
   pub told_next : (keys : List ℕ) (i : ℕ) (x : X) → i < length keys → slice_get items (place_of (get_or keys i 0)) ≡ Some x
@@ -56,7 +56,7 @@ module _ {X : Type 0} (items : List X) where
       let next : sum_by size (told items front) ≡ sum_by size (told items (take i keys)) + size x =
       ap (sum_by size) (told_next keys i x there is) ∙ sum_by-append size (told items (take i keys)) (x ∷ [])
       ∙ ap (λ n. sum_by size (told items (take i keys)) + n) (omega arith) in
-      omega (arith, whole, next)
+      omega arith
 
 -- ---- the node over the items of a tile
 
@@ -112,7 +112,7 @@ module _ {X : Type 0} (extent : X → Extent) (size : X → ℕ) where
       → empty ≡ no_layers → box ≡ box_of extent x → first ≡ number
       → with_children (record { layers = empty; bounds = box; first = first; size = 0; count = 0; level = level })
       (told items (take i keys)) ≡ node_over extent size level number (told items keys)
-  over_tile items [] i level first number x empty box some all at none around is = absurd (omega (arith, some))
+  over_tile items [] i level first number x empty box some all at none around is = absurd (omega arith)
   over_tile items (key ∷ keys) i level first number x empty box some all at none around is =
       let others = told items keys in
       let over : Rect → ℕ → Node = λ b n. record {
@@ -179,8 +179,8 @@ module _ {X : Type 0} (items : List X) (extent : X → Extent) (size : X → ℕ
       → (0 < length tile) × (length tile < 256) × All (Tells items) tile × (sum_by size (told items tile) < 2 ^ 32)
       × (length packed < 2 ^ 32)
   next_tile all_packed all_nodes packed nodes keys tile later part is long there several most = (
-    omega (arith, long, there, several),
-    omega (arith, long, most),
+    omega arith,
+    omega arith,
     All-front (Tells items) tile later (subst (All (Tells items)) is part.tell),
     omega (
       arith,
@@ -209,13 +209,13 @@ module _ {X : Type 0} (items : List X) (extent : X → Extent) (size : X → ℕ
       let count_all : length (group ++ rest) ≡ length keys = ap length (sym whole)
       ∙ length-told items keys part.tell in
       let cut : chunks fanout (told items keys) ≡ group ∷ chunks fanout rest = ap (chunks fanout) whole
-      ∙ chunks-front fanout group rest some (omega (arith, count, long, there, some))
+      ∙ chunks-front fanout group rest some (omega arith)
       (count ∙ long ∙ ap (min fanout) (sym count_all)) in
       let next : length packed' ≡ length packed + length group = ap length packed_is ∙ length-append packed group in
       record {
         tell = behind;
         weight = omega (arith, part.weight, ap (sum_by size) whole, sum_by-append size group rest);
-        room = omega (arith, part.room, next, count, ap length is, length-append tile later);
+        room = omega (arith, part.room, ap length is, length-append tile later);
         packed_are = ap (λ l. l ++ rest) packed_is ∙ append_assoc packed group rest
             ∙ ap (λ l. packed ++ l) (sym whole) ∙ part.packed_are;
         nodes_are = ap (λ n. nodes' ++ nodes_over extent size level n (chunks fanout rest)) next
@@ -233,4 +233,4 @@ module _ {X : Type 0} (items : List X) (extent : X → Extent) (size : X → ℕ
     sym (append-nil nodes) ∙ ap (λ gs. nodes ++ nodes_over extent size level (length packed) gs) (sym (chunks-nil fanout))
         ∙ part.nodes_are,
   )
-  level_done all_packed all_nodes packed nodes (key ∷ later) none part = absurd (omega (arith, none))
+  level_done all_packed all_nodes packed nodes (key ∷ later) none part = absurd (omega arith)

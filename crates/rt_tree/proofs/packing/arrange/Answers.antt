@@ -23,7 +23,7 @@ returns-clause-told g c =
     let long : length c.sort_keys.new.keys ≡ length items = c.sort_keys.auto.keys ∙ ap length c.requires.keys
     ∙ length-map (enumerate_from 0 items) (key_of box twice_middle_x) ∙ length-enumerate_from 0 items in
     let sliced = c.sort_slices.ensures ∙ ap (flat_map (by_y order box items)) (chunks-alike c.slice_size.result _
-    c.sort_keys.new.keys (λ some. c.slice_size.ensures.value (omega (arith, long, some, c.count.ensures))
+    c.sort_keys.new.keys (λ some. c.slice_size.ensures.value (omega (arith, c.count.ensures))
     ∙ ap (λ n. ceil_sqrt (div_ceil n c.args.fanout) * c.args.fanout) c.count.ensures) ∙ ap (chunks _) by_x) in
     ap (told items) sliced ∙ c.requires.packable.arranged c.args.fanout (omega (arith, c.requires.several))
 

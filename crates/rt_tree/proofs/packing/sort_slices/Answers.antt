@@ -20,11 +20,11 @@ loop-start-preserved g c =
     let k_is : start + n - start ≡ n = omega arith in
     let slice = c.sort_by_y.ensures ∙ ap (λ m. each (take m (drop start keys))) k_is
     ∙ ap (λ l. each (take n l)) so_far.later in
-    let next = ap (flat_map each) (chunks-at c.args.size start n old c.requires.some (omega (arith, there, same))
+    let next = ap (flat_map each) (chunks-at c.args.size start n old c.requires.some (omega arith)
     (c.min.ensures ∙ ap (λ l. Rattle.std.proofs.Common.min c.args.size (l - start)) same))
     ∙ ap (λ l. l ++ sliced (drop (start + n) old)) (sym slice) in
     changed_more sliced start (start + n) old keys c.sort_by_y.new.keys so_far (omega arith)
-    (omega (arith, c.min.ensures, there)) (omega (
+    (omega (arith, c.min.ensures)) (omega (
       arith,
       c.min.ensures,
       c.sort_by_y.auto.keys,

@@ -8,9 +8,9 @@ use Rattle.rt_tree.proofs.tree.all_nodes.Goals as goal
 
 -- a single node is the first one
 one_node : (nodes : List Node) (n : Node) → length nodes ≡ 1 → slice_get nodes 0 ≡ Some n → nodes ≡ n ∷ []
-one_node [] n long is = absurd (omega (arith, long))
+one_node [] n long is = absurd (omega arith)
 one_node (m ∷ []) n long is = ap (λ k. k ∷ []) (get_or_from_slice_get (m ∷ []) 0 n n is)
-one_node (m ∷ k ∷ nodes) n long is = absurd (omega (arith, long))
+one_node (m ∷ k ∷ nodes) n long is = absurd (omega arith)
 
 pub pack_level-requires-clause-packable : goal.pack_level-requires-clause-packable
 pack_level-requires-clause-packable c =
@@ -63,5 +63,5 @@ returns c =
       | else-len-eq1 w ↦
           let none : length made ≡ 0 = omega (arith, c.len-2.ensures, c.len.ensures, w.if-len-eq1.false, c.levels-test.false) in
           w.nodes-is ∙ sym (append-nil c.levels.nodes) ∙ ap (λ l. c.levels.nodes ++ l) (sym (nil_from_length made none))
-          ∙ done (omega (arith, none))
+          ∙ done (omega arith)
     ]

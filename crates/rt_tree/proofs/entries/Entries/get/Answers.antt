@@ -8,7 +8,7 @@ pub index-entry-requires : goal.index-entry-requires
 index-entry-requires c =
     let long = length-entries_of c.self.inside.entries.items c.self.inside.layers.items c.self.invariant in
     let there = rw (← c.self.view_is) at c.requires in
-    omega (arith, long, there)
+    omega arith
 
 pub returns : goal.returns
 returns c =
@@ -16,12 +16,12 @@ returns c =
     let layers = c.self.inside.layers.items in
     let place = c.args.place in
     let long = length-entries_of entries layers c.self.invariant in
-    let there : place < length entries = omega (arith, long, rw (← c.self.view_is) at c.requires) in
+    let there : place < length entries = omega (arith, rw (← c.self.view_is) at c.requires) in
     let entry = c.index-entry.result.now in
     let fits : FitsSigned w64 entry.id = search rules in
     let layer = c.layer.result in
     let same = c.self.invariant in
-    let inside : place < length layers = omega (arith, same, there) in
+    let inside : place < length layers = omega arith in
     let is : layer ≡ get_or layers place layer = (rw (← c.self.view_is) at c.layer.ensures)
     ∙ ap (λ l. get_or l place 0) (layers-alone entries layers same) ∙ get_or_default layers place 0 layer inside in
     rw (← c.self.view_is) (simp (to_z-of_z, fits) (paired-at with_layer entries layers place entry layer same there

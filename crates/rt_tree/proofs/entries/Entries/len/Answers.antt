@@ -5,4 +5,4 @@ use Rattle.rt_tree.proofs.entries.Entries.len.Goals as goal
 pub returns : goal.returns
 returns c =
     let long = length-entries_of c.self.inside.entries.items c.self.inside.layers.items c.self.invariant in
-    rw (← c.self.view_is) (omega (arith, c.len.ensures, long))
+    rw (← c.self.view_is) (omega (arith, c.len.ensures))

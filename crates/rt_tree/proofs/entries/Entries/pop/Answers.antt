@@ -9,6 +9,6 @@ returns c =
     let layers = c.self.inside.layers.items in
     let n = c.saturating_sub-len.result in
     let long = length-entries_of entries layers c.self.invariant in
-    let less : n ≡ length (entries_of entries layers) - 1 = omega (arith, c.saturating_sub-len.ensures, c.len.ensures, long) in
+    let less : n ≡ length (entries_of entries layers) - 1 = omega (arith, c.saturating_sub-len.ensures, c.len.ensures) in
     rw (← c.self.view_is, c.truncate.ensures.items, c.truncate-2.ensures.items)
     (paired-take with_layer n entries layers ∙ ap (λ n. take n (entries_of entries layers)) less)

@@ -21,7 +21,7 @@ loop-size-preserved c =
       course = course_more c.loop-size.levels fanout size _ c.requires.several before.some more before.course;
       some = some;
       room = subst (λ n. above ≤ 2 ^ (25 - n)) (sym longer) room;
-      few = omega (arith, longer, few_more (length c.loop-size.levels) above room before.few some more);
+      few = omega (arith, few_more (length c.loop-size.levels) above room before.few some more);
     })
 
 pub returns-then-size-eq1-clause-sizes : goal.returns-then-size-eq1-clause-sizes
@@ -37,4 +37,4 @@ returns-then-size-eq1-clause-last c level size e =
     let sizes = returns-then-size-eq1-clause-sizes c in
     let told = level_last c.args.len c.args.fanout (level + 1) size (length c.push-in-loop-size.new.self) c.requires.several
     (omega arith) (rw (← sizes) e) (ap length sizes) in
-    ((λ one. omega (arith, told.0 one)), (λ last. told.1 (omega (arith, last))))
+    ((λ one. omega (arith, told.0 one)), (λ last. told.1 (omega arith)))

@@ -9,7 +9,7 @@ of-requires c =
     let place = c.args.place in
     let few = All-map (λ (layer : ℕ). layer ≤ most_layer) layer_of entries c.self.invariant.0.table.layers in
     let there : place < length entries = rw (← c.self.view_is) at c.requires in
-    let inside : place < length (map layer_of entries) = omega (arith, there, length-map entries layer_of) in
+    let inside : place < length (map layer_of entries) = omega (arith, length-map entries layer_of) in
     omega (arith, few place 0 inside, c.layer.ensures)
 
 pub returns : goal.returns

@@ -9,7 +9,7 @@ returns-clause-value c = search rules
 pub returns-clause-above : goal.returns-clause-above
 returns-clause-above c below some e =
     let tree = c.args.self.now in
-    level_above (length tree.entries) tree.fanout (c.args.level - 1) c.args.level below c.size.result (omega (arith, some))
+    level_above (length tree.entries) tree.fanout (c.args.level - 1) c.args.level below c.size.result (omega arith)
     e (returns-clause-value c)
 
 pub returns-clause-root : goal.returns-clause-root
@@ -18,4 +18,4 @@ returns-clause-root c some =
     let sound : IsSound tree = rw (← c.self.view_is) c.self.invariant.0 in
     let told = level_last (length tree.entries) tree.fanout c.args.level c.size.result _ sound.several some
     (returns-clause-value c) sound.top in
-    ((λ one. omega (arith, told.0 one)), (λ top. told.1 (omega (arith, top))))
+    ((λ one. omega (arith, told.0 one)), (λ top. told.1 (omega arith)))
