@@ -2,9 +2,9 @@
 use Rattle.std.proofs.Common.{◌≡◌, ◌<◌, ◌≤◌, ◌+◌, ◌-◌, ◌*◌, ℕ, zero, suc, List, [], ◌∷◌, ◌++◌, length, map, take, drop, min}
 use Rattle.std.proofs.{Common.{refl, sym, ◌∙◌, ap, subst, arith, add-one, inl, inr, ◌⊎◌}, lemmas.Bool.{cases_lt}}
 use Rattle.std.proofs.Math.{Nat.{zero-div, zero-mod, mul-le-mul_right}, Seq.{drop-append_seam, take-append_seam}}
-use Rattle.std.proofs.lemmas.{Grind.{div_ceil_times}, List.{length-take, take-append-drop, take-append-le, take_all, take-map}}
-use Rattle.std.proofs.lemmas.List.{append-nil, drop-append-le, drop-map, drop_all, length-append, length-drop, length-map}
-use Rattle.std.proofs.lemmas.List.Elements.{All-drop, All-take}
+use Rattle.std.proofs.lemmas.{Grind.{div_ceil_times}, List.Elements.{All-drop, All-take}}
+use Rattle.std.proofs.lemmas.List.{length-take, take-append-drop, take-append-le, take_all, take-map, append-nil}
+use Rattle.std.proofs.lemmas.List.{drop-append-le, drop-map, drop_all, length-append, length-drop, length-map}
 use Rattle.std.specs.{Int.{div_ceil}, List.{All, AllByRecursion, flat_map}, Simd.{first_chunks}}
 use native.Mathlib.Nat.{add-mul}
 use Rattle.rt_tree.specs.Packing.{chunks, joined}
@@ -97,9 +97,11 @@ length-chunks n xs = length-first_chunks n (div_ceil (length xs) n) xs
 -- ---- what the chunks hold
 
 -- all of the list, in its order
-pub joined-chunks : {X : Type 0} (n : ℕ) (xs : List X) → 0 < n → joined (chunks n xs) ≡ xs
-joined-chunks n xs some = chunk_by_chunk n (λ ys. joined (chunks n ys) ≡ ys) some (ap joined (chunks-nil n))
-    (λ ys there rest. ap joined (chunks-step n ys some there) ∙ ap (λ l. take n ys ++ l) rest ∙ take-append-drop n ys) xs
+pub joined-chunks : {X : Type 0} (n : ℕ) (xs : List X) → (0 < length xs → 0 < n) → joined (chunks n xs) ≡ xs
+joined-chunks n [] some = ap joined (chunks-nil n)
+joined-chunks n (x ∷ xs) some = chunk_by_chunk n (λ ys. joined (chunks n ys) ≡ ys) (some (omega arith)) (ap joined
+    (chunks-nil n)) (λ ys there rest. ap joined (chunks-step n ys (some (omega arith)) there)
+    ∙ ap (λ l. take n ys ++ l) rest ∙ take-append-drop n ys) (x ∷ xs)
 
 -- a chunk has an element, and no more than the size
 pub chunks-size : {X : Type 0} (n : ℕ) (xs : List X) → 0 < n

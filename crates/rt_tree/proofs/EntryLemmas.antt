@@ -1,8 +1,8 @@
 -- A table with one more entry.
-use Rattle.std.proofs.Common.{◌≡◌, ◌∙◌, ◌<◌, ◌+◌, ◌-◌, ℕ, ℤ, get_or, take, false, ◌||◌, List, [], ◌∷◌, ◌++◌}
-use Rattle.std.proofs.{Common.{length, refl, sym, ap, subst, arith, length-append}, Math.Bool.{or-false}, lemmas.Int.{ints}}
-use Rattle.std.proofs.{Math.Seq.{take-append_seam}, lemmas.{Cmp.{int_eq_equiv}, List.{map-append, take_more}}}
-use Rattle.std.proofs.lemmas.{List.{Elements.{All-nil, All-push}, Folds.{list_any-append}}, Map.Keys.{IsDistinct-push}}
+use Rattle.std.proofs.Common.{◌≡◌, ◌∙◌, ◌<◌, ◌+◌, ◌-◌, ℕ, ℤ, get_or, take, false, ◌||◌, List, [], ◌∷◌, ◌++◌, length, refl, sym}
+use Rattle.std.proofs.{Common.{ap, subst, arith, length-append}, Math.{Bool.{or-false}, Seq.{take-append_seam}}}
+use Rattle.std.proofs.lemmas.{Cmp.{int_eq_equiv}, Int.{ints}, List.{map-append, take_more, Elements.{All-nil, All-push}}}
+use Rattle.std.proofs.lemmas.{List.Folds.{list_any-append}, Map.Keys.{IsDistinct-push}}
 use Rattle.std.specs.{BTreeSet.{BTreeSet}, List.{IsDistinct, list_any}, Ordering.{int_eq}}
 use Rattle.rt_geo.specs.{Entries.{HasBox, HasLayer}, declared.entry.Entry.{Entry}}
 use Rattle.rt_tree.specs.{Entries.{IsTable, has_id, ids_of, most_entries}, Indexes.{IsIndexed, keeps}}

@@ -10,7 +10,7 @@ use Rattle.rt_tree.specs.{Levels.{level_sizes, sizes_above}, Packed.{extent_of_n
 use Rattle.rt_tree.specs.Packing.{joined, nodes_from, nodes_over}
 use Rattle.rt_tree.proofs.{ChunkLemmas.{le_or_lt}, LevelLemmas.{div_ceil-positive, sizes_above-step}, OrderLemmas.{all_moved}}
 use Rattle.rt_tree.proofs.PackCounts.{above, cut, fewer, length-above, nodes_from-last, nodes_from-more}
-use Rattle.rt_tree.proofs.TileLemmas.{groups-IsPermutation}
+use Rattle.rt_tree.proofs.TileLemmas.{groups-moved}
 
 -- ---- level by level
 
@@ -51,7 +51,7 @@ module _ (fanout : ℕ) (several : 2 ≤ fanout) where
         let more : nat_le (length made) 1 ≡ false = grind (arith, nat_tests) in
         let ordered = joined (cut fanout several made) in
         let new = above fanout several level first made in
-        let moved = groups-IsPermutation (λ (n : Node). n.bounds) made fanout several there in
+        let moved = groups-moved (λ (n : Node). n.bounds) made fanout several in
         let count : length new ≡ div_ceil (length made) fanout = length-above fanout several level first made there in
         let here : map (λ n. n.level) ordered ≡ replicate (length made) level =
         levels_of level ordered (all_moved (λ (n : Node). n.level ≡ level) made ordered moved on)
@@ -119,10 +119,6 @@ last_node-level ns level size sizes some is =
     (n : Node). n.level))))
     ∙ ap (λ l. get_or l (length l - 1) 0) is ∙ last_level level size sizes some
 
-pub sizes_above-positive : (fanout size : ℕ) → 2 ≤ fanout → 0 < size
-    → AllByRecursion (λ n. 0 < n) (sizes_above size fanout size)
-sizes_above-positive fanout size several there = positive_from size fanout size several there
-
 -- ---- the sizes of the levels of nodes
 
 pub sizes_behind : (len fanout : ℕ) → 0 < len → drop 1 (level_sizes len fanout) ≡ sizes_above len fanout len
@@ -144,7 +140,7 @@ module _ (fanout : ℕ) (several : 2 ≤ fanout) (len count : ℕ) (there : 0 < 
       → (get_or ns (length ns - 1) no_node).level + 1 ≡ length (level_sizes len fanout)
   last_node-top ns levels =
       let positive = subst (AllByRecursion (λ n. 0 < n)) (sizes_above-step fanout len several there
-      ∙ ap (sizes_from fanout) (sym is)) (sizes_above-positive fanout len several there) in
+      ∙ ap (sizes_from fanout) (sym is)) (positive_from len fanout len several there) in
       let sizes = sym (sizes_behind len fanout there) ∙ sizes_from_first in
       let top = last_node-level ns 1 count (if nat_le count 1 then [] else sizes_above count fanout count) positive
       (levels ∙ ap (level_by_level 1) sizes_from_first) in

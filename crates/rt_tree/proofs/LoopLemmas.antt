@@ -1,9 +1,9 @@
 -- One more step of a loop over a list.
-use Rattle.std.proofs.Common.{◌≡◌, ◌<◌, ◌≤◌, ◌+◌, ◌-◌, ℕ, suc, List, [], ◌∷◌, ◌++◌, length, map, take, drop, set, get_or, min}
-use Rattle.std.proofs.Common.{refl, sym, ◌∙◌, ap, subst, arith, add-one, append_assoc, ℤ, ◌+ℤ◌, FitsSigned, of_z, to_z, w32}
-use Rattle.std.proofs.{Math.Seq.{drop-cons}, lemmas.{Int.{to_z-of_z}, Slice.{drop-put_mid, take-put_mid}}}
-use Rattle.std.proofs.lemmas.List.{append-nil, drop-drop, drop_all, length-append, take-append-drop, length-drop, length-map}
-use Rattle.std.proofs.lemmas.List.{length-take, map-append, take-append-le, take_all, take_more}
+use Rattle.std.proofs.Common.{◌≡◌, ◌<◌, ◌≤◌, ◌+◌, ◌-◌, ℕ, List, [], ◌∷◌, ◌++◌, length, map, take, drop, set, get_or, min, refl}
+use Rattle.std.proofs.{Common.{sym, ◌∙◌, ap, arith, append_assoc, ℤ, ◌+ℤ◌, FitsSigned, of_z, to_z, w32}, lemmas.Int.{to_z-of_z}}
+use Rattle.std.proofs.lemmas.{Grind.{drop_more_same, take-set_at}, Slice.{drop-put_mid, take-put_mid}}
+use Rattle.std.proofs.lemmas.List.{drop-set-lt, get_or-drop, length-set, drop-drop, length-append, take-append-drop}
+use Rattle.std.proofs.lemmas.List.{length-drop, length-take, map-append, take-append-le, take_all, take_more}
 use borrow.Rule.Slice.PartMut.{post_of, put_mid}
 use Rattle.std.specs.List.{enumerate_from}
 use Rattle.rt_tree.specs.Packing.{chunks}
@@ -37,38 +37,39 @@ keys_more key items i k x keys there e k_is is =
 
 -- ---- each element is changed in its place
 
-set_behind : {X : Type 0} (front : List X) (y x : X) (back : List X)
-    → set (front ++ y ∷ back) (length front) x ≡ front ++ x ∷ back
-set_behind [] y x back = refl
-set_behind (z ∷ front) y x back = ap (λ l. z ∷ l) (set_behind front y x back)
-
 pub get_or_behind : {X : Type 0} (front : List X) (y d : X) (back : List X)
     → get_or (front ++ y ∷ back) (length front) d ≡ y
 get_or_behind [] y d back = refl
 get_or_behind (z ∷ front) y d back = get_or_behind front y d back
 
--- the elements up to i are mapped, and now the next one
-pub mapped_more : (f : ℕ → ℕ) (old new : List ℕ) (i x : ℕ) → i < length old
-    → new ≡ map f (take i old) ++ drop i old → x ≡ f (get_or new i 0)
-    → set new i x ≡ map f (take (i + 1) old) ++ drop (i + 1) old
-mapped_more f old new i x h is e =
-    let front = map f (take i old) in
-    let y = get_or old i 0 in
-    let back = drop (suc i) old in
-    let long : length front ≡ i = omega (arith, length-map (take i old) f, length-take i old) in
-    let whole : new ≡ front ++ y ∷ back = is ∙ ap (λ l. front ++ l) (drop-cons old i 0 h) in
-    let here : get_or new i 0 ≡ y = ap (λ l. get_or l i 0) whole
-    ∙ subst (λ n. get_or (front ++ y ∷ back) n 0 ≡ y) long (get_or_behind front y 0 back) in
-    let there : set new i x ≡ front ++ x ∷ back = ap (λ l. set l i x) whole
-    ∙ subst (λ n. set (front ++ y ∷ back) n x ≡ front ++ x ∷ back) long (set_behind front y x back) in
-    let later : map f (take (i + 1) old) ≡ front ++ f y ∷ [] = ap (map f) (take_more old i 0 h)
-    ∙ map-append f (take i old) (y ∷ []) in
-    there ∙ ap (λ z. front ++ z ∷ back) (e ∙ ap f here) ∙ sym (append_assoc front (f y ∷ []) back)
-    ∙ ap (λ l. l ++ back) (sym later) ∙ ap (λ n. map f (take (i + 1) old) ++ drop n old) (sym (add-one i))
+-- the elements from a place on, where they are the same from there on
+pub unchanged : (start : ℕ) (old keys : List ℕ) → drop start keys ≡ drop start old → (i : ℕ) → start ≤ i
+    → get_or keys i 0 ≡ get_or old i 0
+unchanged start old keys later i h =
+    let at : start + (i - start) ≡ i = omega arith in
+    ap (λ j. get_or keys j 0) (sym at) ∙ sym (get_or-drop start keys (i - start) 0)
+    ∙ ap (λ l. get_or l (i - start) 0) later ∙ get_or-drop start old (i - start) 0 ∙ ap (λ j. get_or old j 0) at
+
+-- up to a place the elements are mapped, and from there on they are as they were
+pub record IsMappedTo (f : ℕ → ℕ) (place : ℕ) (old new : List ℕ) : Type 0 where
+  pub long : length new ≡ length old
+  pub done : take place new ≡ map f (take place old)
+  pub later : drop place new ≡ drop place old
+
+pub mapped_more : (f : ℕ → ℕ) (old new : List ℕ) (i x : ℕ) → i < length old → IsMappedTo f i old new → x ≡ f (get_or new i 0)
+    → IsMappedTo f (i + 1) old (set new i x)
+mapped_more f old new i x there m is =
+    record {
+      long = length-set new i x ∙ m.long;
+      done = take-set_at new i (i + 1) x refl (omega (arith, m.long)) ∙ ap (λ l. l ++ x ∷ []) m.done
+          ∙ ap (λ y. map f (take i old) ++ y ∷ []) (is ∙ ap f (unchanged i old new m.later i (omega arith))) ∙ sym (map-append f (take i old) (get_or old i 0 ∷ []))
+          ∙ ap (map f) (sym (take_more old i 0 there));
+      later = drop-set-lt (i + 1) new i x (omega arith) ∙ drop_more_same new old i m.later;
+    }
 
 -- all of them are mapped
-pub mapped_all : (f : ℕ → ℕ) (old : List ℕ) (i : ℕ) → length old ≤ i → map f (take i old) ++ drop i old ≡ map f old
-mapped_all f old i h = rw (take_all i old h, drop_all i old h) (append-nil (map f old))
+pub mapped_all : (f : ℕ → ℕ) (old new : List ℕ) (i : ℕ) → length old ≤ i → IsMappedTo f i old new → new ≡ map f old
+mapped_all f old new i all m = sym (take_all i new (omega (arith, m.long))) ∙ m.done ∙ ap (map f) (take_all i old all)
 
 -- ---- parts of a list are changed in their places, one after the other
 

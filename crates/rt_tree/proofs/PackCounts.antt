@@ -10,7 +10,7 @@ use Rattle.rt_tree.specs.{Packed.{extent_of_node}, Packing.{groups, joined, node
 use Rattle.rt_tree.specs.{SortKeys.{IsInPlane}, declared.tree.Node.{Node}}
 use Rattle.rt_tree.proofs.{ChunkLemmas.{le_or_lt, length-chunks}, LevelLemmas.{div_ceil-halves, div_ceil-positive}}
 use Rattle.rt_tree.proofs.Soundness.{chunk_groups, length-nodes_over, nodes_over-in_plane, sum_by-ones}
-use Rattle.rt_tree.proofs.TileLemmas.{groups-IsPermutation, groups-chunks, groups-moved}
+use Rattle.rt_tree.proofs.TileLemmas.{groups-chunks, groups-moved}
 
 -- the nodes of level 1, over groups of entries
 abbrev pub leaf_nodes : List (List Entry) → List Node
@@ -29,7 +29,7 @@ length-groups box fanout items several there =
     ap length (groups-chunks box items fanout (omega arith))
     ∙ length-chunks fanout (joined (groups box fanout items))
     ∙ ap (λ n. div_ceil n fanout) (length_permutation items (joined (groups box fanout items))
-    (groups-IsPermutation box items fanout several there))
+    (groups-moved box items fanout several))
 
 -- the nodes stand for as many entries as the items
 pub weight-nodes_over : {X : Type 0} (extent : X → Extent) (weight : X → ℕ) (level first : ℕ) (gs : List (List X))
@@ -55,7 +55,7 @@ over_in_plane {X} extent size fanout level first items several a =
     (nodes_over-in_plane extent size fanout level first gs (chunk_groups fanout P gs (omega arith)
     (groups-chunks (λ x. (extent x).bounds) items fanout (omega arith))
     (recursion_from_All P (joined gs) (All-permutation P items (joined gs)
-    (groups-moved (λ x. (extent x).bounds) fanout items several) a))))
+    (groups-moved (λ x. (extent x).bounds) items fanout several) a))))
 
 -- a loop that makes one level after another: it has made so many nodes, and then those of this level
 pub record IsCounted (level : ℕ) (nodes made : List Node) : Type 0 where
@@ -127,7 +127,7 @@ module _ (fanout : ℕ) (several : 2 ≤ fanout) where
   course fuel level nodes made some =
       let ordered = joined (cut made) in
       let new = above level (length nodes) made in
-      let moved = groups-IsPermutation (λ (n : Node). n.bounds) made fanout several (omega arith) in
+      let moved = groups-moved (λ (n : Node). n.bounds) made fanout several in
       let long : length (nodes ++ ordered) ≡ length nodes + length made = omega
       (arith, length-append nodes ordered, length_permutation made ordered moved) in
       append_assoc nodes ordered (nodes_from fuel fanout (suc level) (length (nodes ++ ordered)) new)
@@ -157,7 +157,7 @@ module _ (fanout : ℕ) (several : 2 ≤ fanout) where
   counted_more level nodes made c some =
       let new = length-above level (length nodes) made (omega arith) in
       let halves = div_ceil-halves (length made) fanout several in
-      let moved = groups-IsPermutation (λ (n : Node). n.bounds) made fanout several (omega arith) in
+      let moved = groups-moved (λ (n : Node). n.bounds) made fanout several in
       let low = not_last level (length made) c.few_levels c.few some in
       record {
         few_levels = omega arith;
@@ -193,7 +193,7 @@ module _ (fanout : ℕ) (several : 2 ≤ fanout) where
       × (sum_by (λ n. n.size) (leaf_nodes (groups box fanout entries)) ≤ 16777216)
   leaf_nodes-few box entries few =
       let gs = groups box fanout entries in
-      let long = length_permutation entries (joined gs) (groups-moved box fanout entries several) in
+      let long = length_permutation entries (joined gs) (groups-moved box entries fanout several) in
       let count : length (leaf_nodes gs) ≡ div_ceil (length (joined gs)) fanout = length-nodes_over extent_of_entry
       (λ _. 1) 1 0 gs ∙ ap length (groups-chunks box entries fanout (omega arith))
       ∙ length-chunks fanout (joined gs) in (

@@ -7,8 +7,8 @@ use Rattle.std.proofs.lemmas.{List.Sorted.{IsPermutation-trans, length_permutati
 use Rattle.std.proofs.lemmas.Option.{get_or_from_slice_get}
 use Rattle.std.specs.{Int.{div_ceil}, List.{AllByRecursion, flat_map}, Ordering.{int_cmp, int_eq, on}}
 use Rattle.rt_geo.specs.{Entries.{HasBox, HasLayer}, Laws.{extent_of_entry}, declared.entry.Entry.{Entry}}
-use Rattle.rt_tree.specs.{Entries.{IsTable, ids_of}, Levels.{level_sizes}, Packed.{no_node}, Sorting.{sorted}}
-use Rattle.rt_tree.specs.Packed.{node_at, root_of, Packed, IsSound, IsSubtree, child_entries, entries_under, extent_of_node}
+use Rattle.rt_tree.specs.{Entries.{IsTable, ids_of}, Levels.{level_sizes}, Packed.{extent_of_node}, Sorting.{sorted}}
+use Rattle.rt_tree.specs.Packed.{no_node, node_at, root_of, Packed, IsSound, IsSubtree, child_entries, entries_under}
 use Rattle.rt_tree.specs.{Packing.{groups, joined, nodes_from, nodes_over, pack_of}, declared.tree.Node.{Node}}
 use Rattle.rt_tree.proofs.Children.{AreOnce, all_child_entries, all_child_entries-is, all_child_nodes, all_child_nodes-is}
 use Rattle.rt_tree.proofs.{Children.{nodes_once, once_first, once_more}, ChunkLemmas.{le_or_lt}, EntryLemmas.{int_eq-sym}}
@@ -19,7 +19,7 @@ use Rattle.rt_tree.proofs.PackCounts.{IsCounted, above, all_nodes, counted_first
 use Rattle.rt_tree.proofs.PackCounts.{leaf_nodes-few, length-groups, nodes_from-last, some_above}
 use Rattle.rt_tree.proofs.Soundness.{IsEntry, all_map, chunk_groups, all_under_more, inner-range, leaves_sound, leaves_under}
 use Rattle.rt_tree.proofs.Soundness.{length-nodes_over, over_sound, over_under, subtree_more, tree}
-use Rattle.rt_tree.proofs.TileLemmas.{groups-IsPermutation, groups-chunks, groups-moved, groups-nil}
+use Rattle.rt_tree.proofs.TileLemmas.{groups-chunks, groups-moved, groups-nil}
 
 level_of : (t : Packed) (h : ℕ) (n : Node) → IsSubtree t h n → n.level ≡ suc h
 level_of t zero n s = s.level
@@ -53,7 +53,7 @@ module _ (fanout : ℕ) (several : 2 ≤ fanout) (es : List Entry) where
       let old = tree fanout es numbered in
       let ns = numbered ++ ordered in
       let new = tree fanout es ns in
-      let moved = groups-IsPermutation (λ (n : Node). n.bounds) made fanout several there in
+      let moved = groups-moved (λ (n : Node). n.bounds) made fanout several in
       let here = all_moved (IsSubtree old h) made ordered moved b.nodes in
       let later = all_map (IsSubtree old h) (IsSubtree new h)
       (subtree_more fanout es numbered ordered h) ordered here in
@@ -144,8 +144,8 @@ pub entries-IsPermutation : (fanout : ℕ) (entries : List Entry) → 2 ≤ fano
     → IsPermutation entries (pack_of fanout entries).entries
 entries-IsPermutation fanout entries several =
     let by_id = on (λ (e : Entry). e.id) int_cmp in
-    IsPermutation-trans _ _ _ (IsPermutation-sorted by_id entries) (groups-moved (λ (e : Entry). e.bounds) fanout
-    (sorted by_id entries) several)
+    IsPermutation-trans _ _ _ (IsPermutation-sorted by_id entries) (groups-moved (λ (e : Entry). e.bounds)
+    (sorted by_id entries) fanout several)
 
 -- what a table's entries have, the same entries have in another order
 pub IsTable-IsPermutation : (xs ys : List Entry) → IsPermutation xs ys → IsTable xs → IsTable ys
@@ -194,7 +194,7 @@ module _ (fanout : ℕ) (several : 2 ≤ fanout) (in_order : List Entry) where
   made = nodes_over extent_of_entry (λ _. 1) 1 0 gs
 
   moved : IsPermutation in_order es
-  moved = groups-moved (λ (e : Entry). e.bounds) fanout in_order several
+  moved = groups-moved (λ (e : Entry). e.bounds) in_order fanout several
 
   made-first : IsTable es → IsCounted 1 [] made
   made-first table =

@@ -63,7 +63,7 @@ module _ {X : Type 0} (box : X → Rect) (items : List X) where
       flat_map-map (λ xs. xs) (map (λ p. p.1)) (tiles box fanout items)
       ∙ map-flat_map (λ p. p.1) (λ ps. ps) (tiles box fanout items)
       ∙ ap (λ ts. map (λ p. p.1) (joined ts)) (tiles-chunks fanout some)
-      ∙ ap (map (λ p. p.1)) (joined-chunks fanout (tiled_of (slice_size fanout)) some)
+      ∙ ap (map (λ p. p.1)) (joined-chunks fanout (tiled_of (slice_size fanout)) (λ _. some))
 
   -- the groups are chunks of the items in that order
   pub groups-chunks : (fanout : ℕ) → 0 < fanout → groups box fanout items ≡ chunks fanout (joined
@@ -75,20 +75,21 @@ module _ {X : Type 0} (box : X → Rect) (items : List X) where
   by_x-IsPermutation : IsPermutation (enumerate_from 0 items) by_x_of
   by_x-IsPermutation = IsPermutation-sorted (by_middle box twice_middle_x) (enumerate_from 0 items)
 
-  tiled-IsPermutation : (size : ℕ) → 0 < size → IsPermutation (enumerate_from 0 items) (tiled_of size)
-  tiled-IsPermutation size some =
-      IsPermutation-trans _ _ _ by_x-IsPermutation
-      (subst (λ l. IsPermutation l (tiled_of size)) (joined-chunks size by_x_of some) (sorted_each
-      (by_middle box twice_middle_y) (chunks size by_x_of)))
-
   -- the groups have the items, each once
-  pub groups-IsPermutation : (fanout : ℕ) → 2 ≤ fanout → 0 < length items
-      → IsPermutation items (joined (groups box fanout items))
-  groups-IsPermutation fanout several there =
-      let moved = IsPermutation-map (λ (p : ℕ × X). p.1) _ _ (tiled-IsPermutation (slice_size fanout)
-      (wide fanout (omega arith) there)) in
+  pub groups-moved : (fanout : ℕ) → 2 ≤ fanout → IsPermutation items (joined (groups box fanout items))
+  groups-moved fanout several =
+      let size = slice_size fanout in
+      let numbered = enumerate_from 0 items in
+      let whole = joined-chunks size by_x_of (λ there. wide fanout (omega arith) (omega (
+        arith,
+        sorted-length (by_middle box twice_middle_x) numbered,
+        length-enumerate_from 0 items,
+      ))) in
+      let tiled = IsPermutation-trans _ _ _ by_x-IsPermutation (subst (λ l. IsPermutation l (tiled_of size)) whole
+      (sorted_each (by_middle box twice_middle_y) (chunks size by_x_of))) in
+      let moved = IsPermutation-map (λ (p : ℕ × X). p.1) _ _ tiled in
       subst (λ l. IsPermutation l (joined (groups box fanout items))) (numbered_items 0 items) (subst (IsPermutation
-      (map (λ (p : ℕ × X). p.1) (enumerate_from 0 items))) (sym (joined-groups fanout (omega arith))) moved)
+      (map (λ (p : ℕ × X). p.1) numbered)) (sym (joined-groups fanout (omega arith))) moved)
 
 -- no items have no groups
 pub groups-nil : {X : Type 0} (box : X → Rect) (fanout : ℕ) → groups box fanout [] ≡ []
@@ -96,10 +97,3 @@ groups-nil {X} box fanout =
     ap (λ slices. map (map (λ (p : ℕ × X). p.1)) (flat_map (λ slice. chunks fanout (sorted
     (by_middle box twice_middle_y) slice)) slices))
     (chunks-nil (ceil_sqrt (div_ceil 0 fanout) * fanout))
-
--- the groups have the items, each once, however many there are
-pub groups-moved : {X : Type 0} (box : X → Rect) (fanout : ℕ) (items : List X) → 2 ≤ fanout
-    → IsPermutation items (joined (groups box fanout items))
-groups-moved box fanout [] several = subst (λ gs. IsPermutation [] (joined gs)) (sym (groups-nil box fanout))
-    (IsPermutation-refl [])
-groups-moved box fanout (x ∷ items) several = groups-IsPermutation box (x ∷ items) fanout several (omega arith)

@@ -162,7 +162,7 @@ module _ {X : Type 0} (items : List X) (extent : X → Extent) (size : X → ℕ
       (groups box fanout in_order)) packed [] keys
   level_first box has_layers order in_order packed keys packable several are tell room =
       let ordered = joined (groups box fanout in_order) in
-      let moved = IsPermutation-trans _ _ _ packable.moved (groups-moved box fanout in_order several) in
+      let moved = IsPermutation-trans _ _ _ packable.moved (groups-moved box in_order fanout several) in
       record {
         tell = tell;
         weight = omega (arith, ap (sum_by size) are, sum_by-IsPermutation size items ordered moved, packable.weight);

@@ -1,7 +1,20 @@
-use Rattle.std.proofs.Common.{◌∙◌, ap, rules, slice_get, sym}
-use Rattle.rt_tree.specs.{Packing.{twice_middle_y}, SortKeys.{box_of, key_at, rank, rekeyed, sort_key}, Sorting.{sorted}}
-use Rattle.rt_tree.proofs.LoopLemmas.{mapped_all, mapped_more, sum_read}
+use Rattle.std.proofs.Common.{◌∙◌, ap, arith, rules, slice_get, sym}
+use Rattle.rt_tree.specs.{Packing.{twice_middle_y}, SortKeys.{box_of, key_at, place_of, rank, rekeyed, sort_key}}
+use Rattle.rt_tree.specs.Sorting.{sorted}
+use Rattle.rt_tree.proofs.LoopLemmas.{mapped_all, mapped_more, sum_read, unchanged}
 use Rattle.rt_tree.proofs.packing.sort_by_y.Goals as goal
+
+pub item-requires : goal.item-requires
+item-requires g c =
+    let i = c.loop-key.key-index in
+    let old = c.args.keys.now in
+    omega (
+      arith,
+      c.requires.places i 0 c.loop-key-test.true,
+      c.place_of-place.ensures,
+      ap place_of (unchanged i old
+          c.loop-key.keys c.loop-key.invariant.later i (omega arith)),
+    )
 
 pub loop-key-preserved : goal.loop-key-preserved
 loop-key-preserved g c =
@@ -19,5 +32,5 @@ pub returns : goal.returns
 returns g c =
     let items = g.T.Items.list c.args.items.now in
     let key = rekeyed (box_of g.T.Items.extent) twice_middle_y items in
-    c.sort_keys.ensures ∙ ap (sorted (g.T.Items.key_order items)) (c.loop-key.invariant
-    ∙ mapped_all key c.args.keys.now c.loop-key.key-index c.loop-key-test.false)
+    c.sort_keys.ensures ∙ ap (sorted (g.T.Items.key_order items)) (mapped_all key c.args.keys.now c.loop-key.keys
+    c.loop-key.key-index c.loop-key-test.false c.loop-key.invariant)
