@@ -1,7 +1,7 @@
 -- The sizes of levels.
 use Rattle.std.proofs.Common.{◌≡◌, ◌∙◌, ◌<◌, ◌≤◌, ◌+◌, ◌*◌, ◌/◌, ◌^◌, ◌-◌, ℕ, zero, suc, Bool, true, false, cond, nat_le}
-use Rattle.std.proofs.Common.{if◌then◌else◌, List, [], ◌∷◌, ◌++◌, refl, sym, ap, arith, append_assoc, subst, inl, inr}
-use Rattle.std.proofs.{Math.Nat.{div-add-mod, eq-or-lt_of_le, mul-le-mul_left, pow-succ'}, lemmas.Bool.Decides.{nat_tests}}
+use Rattle.std.proofs.Common.{if◌then◌else◌, List, [], ◌∷◌, ◌++◌, refl, sym, ap, arith, append_assoc}
+use Rattle.std.proofs.{Math.Nat.{div-add-mod, mul-le-mul_left, pow-succ'}, lemmas.Bool.Decides.{nat_tests}}
 use Rattle.std.proofs.lemmas.Grind.{div_ceil_times}
 use Rattle.std.specs.Int.{div_ceil}
 use Rattle.rt_tree.specs.Levels.{sizes_above}
@@ -58,22 +58,15 @@ course_more levels fanout size whole two some more e =
     append_assoc levels (above ∷ []) _ ∙ ap (λ l. levels ++ l) (sym (sizes_above-step fanout size two some
     ∙ rw several refl)) ∙ e
 
--- a level that isn't the last one leaves room for another
-pub room_more : (count size above : ℕ) → size ≤ 2 ^ (25 - count) → count ≤ 24 → 2 * above ≤ size + 1
-    → above ≤ 2 ^ (25 - (count + 1))
-room_more count size above room few halves =
-    let next : 25 - count ≡ suc (25 - (count + 1)) = omega arith in
-    let twice : 2 ^ (25 - count) ≡ 2 * 2 ^ (25 - (count + 1)) = ap (λ n. 2 ^ n) next ∙ pow-succ' 2 (25 - (count + 1)) in
-    omega arith
+-- ---- a level has no more than a power of 2, which halves from one to the next
 
--- one that has more than one node isn't the last one that there is room for
-pub few_more : (count above : ℕ) → above ≤ 2 ^ (25 - (count + 1)) → count ≤ 24 → 0 < above → (above ≡ 1 → ⊥)
-    → count + 1 ≤ 24
-few_more count above room few some more = elim (eq-or-lt_of_le few) [
-  | inl e ↦ absurd (more (omega
-      (arith, last e)))
-  | inr l ↦ omega arith
-]
-  where
-    last : count ≡ 24 → above ≤ 1
-    last e = subst (λ n. above ≤ 2 ^ (25 - (n + 1))) e room
+-- one with more than one has another above it
+pub power_left : (left size : ℕ) → size ≤ 2 ^ left → 1 < size → 0 < left
+power_left zero size room more = absurd (omega arith)
+power_left (suc left) size room more = omega arith
+
+pub power_more : (left size above : ℕ) → size ≤ 2 ^ left → 0 < left → 2 * above ≤ size + 1 → above ≤ 2 ^ (left - 1)
+power_more left size above room some halves =
+    let next : left ≡ suc (left - 1) = omega arith in
+    let twice : 2 ^ left ≡ 2 * 2 ^ (left - 1) = ap (λ n. 2 ^ n) next ∙ pow-succ' 2 (left - 1) in
+    omega arith

@@ -1,14 +1,14 @@
 -- How many nodes a packing makes, level by level.
 use Rattle.std.proofs.Common.{◌≡◌, ◌<◌, ◌≤◌, ◌+◌, ◌-◌, ◌*◌, ◌^◌, ℕ, zero, suc, true, false, nat_le, List, [], ◌∷◌, ◌++◌, length}
 use Rattle.std.proofs.Common.{refl, sym, ◌∙◌, ap, subst, arith, append_assoc, inl, inr, length-append}
-use Rattle.std.proofs.{Math.Nat.{eq-or-lt_of_le, pow-succ'}, lemmas.Bool.Decides.{nat_tests}}
+use Rattle.std.proofs.{lemmas.Bool.Decides.{nat_tests}}
 use Rattle.std.proofs.lemmas.List.{Elements.{All-from_recursion, recursion_from_All}, Sums.{sum_by-append, sum_by-cons}}
 use Rattle.std.proofs.lemmas.List.Sorted.{All-permutation, length_permutation, sum_by-IsPermutation}
 use Rattle.std.specs.{Int.{div_ceil}, List.{All, sum_by}}
 use Rattle.rt_geo.specs.{Boxes.{Rect}, Laws.{Extent, extent_of_entry}, declared.entry.Entry.{Entry}}
 use Rattle.rt_tree.specs.{Packed.{extent_of_node}, Packing.{groups, joined, node_over, nodes_from, nodes_over}}
 use Rattle.rt_tree.specs.{SortKeys.{IsInPlane}, declared.tree.Node.{Node}}
-use Rattle.rt_tree.proofs.{ChunkLemmas.{le_or_lt, length-chunks}, LevelLemmas.{div_ceil-halves, div_ceil-positive}}
+use Rattle.rt_tree.proofs.{ChunkLemmas.{le_or_lt, length-chunks}, LevelLemmas.{div_ceil-halves, div_ceil-positive, power_left, power_more}}
 use Rattle.rt_tree.proofs.Soundness.{chunk_groups, length-nodes_over, nodes_over-in_plane, sum_by-ones}
 use Rattle.rt_tree.proofs.TileLemmas.{groups-chunks, groups-moved}
 
@@ -136,33 +136,17 @@ module _ (fanout : ℕ) (several : 2 ≤ fanout) where
 
   -- ---- a loop that makes one level after another
 
-  not_last : (level made : ℕ) → level ≤ 24 → made ≤ 2 ^ (24 - level) → 1 < made → level < 24
-  not_last level made low few some = elim (eq-or-lt_of_le low) [
-    | inl e ↦ absurd (omega (arith, last e))
-    | inr l ↦ l
-  ]
-    where
-      last : level ≡ 24 → made ≤ 1
-      last e = subst (λ n. made ≤ 2 ^ (24 - n)) e few
-
-  half : (level made new : ℕ) → level < 24 → made ≤ 2 ^ (24 - level) → 2 * new ≤ made + 1 → new ≤ 2 ^ (24 - (suc level))
-  half level made new low few halves =
-      let next : 24 - level ≡ suc (24 - (suc level)) = omega arith in
-      let twice : 2 ^ (24 - level) ≡ 2 * 2 ^ (24 - (suc level)) = ap (λ n. 2 ^ n) next
-      ∙ pow-succ' 2 (24 - (suc level)) in
-      omega arith
-
   pub counted_more : (level : ℕ) (nodes made : List Node) → IsCounted level nodes made → 1 < length made
       → IsCounted (suc level) (nodes ++ joined (cut made)) (above level (length nodes) made)
   counted_more level nodes made c some =
       let new = length-above level (length nodes) made (omega arith) in
       let halves = div_ceil-halves (length made) fanout several in
       let moved = groups-moved (λ (n : Node). n.bounds) made fanout several in
-      let low = not_last level (length made) c.few_levels c.few some in
+      let left = power_left (24 - level) (length made) c.few some in
       record {
         few_levels = omega arith;
-        few = subst (λ n. n ≤ 2 ^ (24 - (suc level))) (sym new) (half level (length made) (div_ceil
-            (length made) fanout) low c.few halves);
+        few = subst (λ n. n ≤ 2 ^ (24 - (suc level))) (sym new) (subst (λ n. div_ceil (length made) fanout ≤ 2 ^ n) (omega arith)
+            (power_more (24 - level) (length made) (div_ceil (length made) fanout) c.few left halves));
         few_nodes = omega (
           arith,
           c.few_nodes,

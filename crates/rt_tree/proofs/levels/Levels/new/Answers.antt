@@ -1,7 +1,7 @@
-use Rattle.std.proofs.Common.{◌≡◌, ◌≤◌, ◌^◌, ◌-◌, ◌+◌, ◌++◌, ◌∷◌, [], length, arith, length-append, subst, sym, refl, ap, ◌∙◌}
+use Rattle.std.proofs.Common.{◌≡◌, ◌<◌, ◌≤◌, ◌^◌, ◌-◌, ◌+◌, ◌++◌, ◌∷◌, [], length, arith, length-append, subst, sym, refl, ap, ◌∙◌}
 use Rattle.std.proofs.lemmas.Grind.{common_steps}
 use Rattle.std.specs.Int.{div_ceil}
-use Rattle.rt_tree.proofs.LevelLemmas.{course_more, div_ceil-halves, div_ceil-positive, few_more, room_more}
+use Rattle.rt_tree.proofs.LevelLemmas.{course_more, div_ceil-halves, div_ceil-positive, power_left, power_more}
 use Rattle.rt_tree.proofs.LevelSizes.{level_above, level_last}
 use Rattle.rt_tree.proofs.levels.Levels.new.Goals as goal
 
@@ -15,13 +15,15 @@ loop-size-preserved c =
     let some = div_ceil-positive size fanout c.requires.several before.some in
     let longer : length (c.loop-size.levels ++ above ∷ []) ≡ length c.loop-size.levels + 1 = omega
     (arith, length-append c.loop-size.levels (above ∷ [])) in
-    let room = room_more (length c.loop-size.levels) size above before.room before.few
-    (div_ceil-halves size fanout c.requires.several) in
+    let count = length c.loop-size.levels in
+    let room : above ≤ 2 ^ (25 - (count + 1)) = subst (λ n. above ≤ 2 ^ n) (omega arith) (power_more (25 - count) size above
+    before.room (omega (arith, before.few)) (div_ceil-halves size fanout c.requires.several)) in
+    let several : 1 < above = omega arith in
     rw (c.push-in-loop-size.ensures, c.div_ceil-size.ensures) (record {
       course = course_more c.loop-size.levels fanout size _ c.requires.several before.some more before.course;
       some = some;
       room = subst (λ n. above ≤ 2 ^ (25 - n)) (sym longer) room;
-      few = omega (arith, few_more (length c.loop-size.levels) above room before.few some more);
+      few = omega (arith, power_left (25 - (count + 1)) above room several);
     })
 
 pub returns-then-size-eq1-clause-sizes : goal.returns-then-size-eq1-clause-sizes
