@@ -79,36 +79,47 @@ pub record IsChangedTo (F : List ℕ → List ℕ) (place : ℕ) (old new : List
   pub later : drop place new ≡ drop place old
   pub changed : take place new ++ F (drop place old) ≡ F old
 
--- the next part is changed, with which begins what F makes of the rest
-pub changed_more : (F : List ℕ → List ℕ) (start end : ℕ) (old new part : List ℕ) → IsChangedTo F start old new
-    → start ≤ end → end ≤ length new → length part ≡ end - start → F (drop start old) ≡ part ++ F (drop end old)
+-- the next part is changed by G, and with that begins what F makes of the rest
+pub changed_more : (F G : List ℕ → List ℕ) (start end : ℕ) (old new part : List ℕ) → IsChangedTo F start old new
+    → start ≤ end → end ≤ length new → length part ≡ length (take (end - start) (drop start new))
+    → part ≡ G (take (end - start) (drop start new))
+    → F (drop start old) ≡ G (take (end - start) (drop start old)) ++ F (drop end old)
     → IsChangedTo F end old (put_mid start (end - start) new part)
-changed_more F start end old new part so_far up there long next =
+changed_more F G start end old new part so_far up there same is next =
     let n = end - start in
     let at : start + n ≡ end = omega arith in
     let behind = post_of start n new in
+    let long : length part ≡ n = omega (arith, length-take n (drop start new), length-drop start new) in
+    let begun : part ++ F (drop end old) ≡ F (drop start old) =
+    ap (λ l. l ++ F (drop end old)) (is ∙ ap (λ l. G (take n l)) so_far.later) ∙ sym next in
     record {
-      inside = omega (arith, length-append (take start new) (part ++ behind), length-append part behind, length-take start new);
+      inside = omega (
+        arith,
+        length-append (take start new) (part ++ behind),
+        length-append part behind,
+        length-take start new,
+      );
       later = drop-put_mid start n new part end (omega arith) so_far.inside long
           ∙ ap (λ k. drop k new) (sym at) ∙ sym (drop-drop n start new) ∙ ap (drop n) so_far.later
           ∙ drop-drop n start old ∙ ap (λ k. drop k old) at;
       changed = ap (λ l. l ++ F (drop end old)) (take-put_mid start n new part end (omega arith) so_far.inside)
-          ∙ append_assoc (take start new) part (F (drop end old)) ∙ ap (λ l. take start new ++ l) (sym next)
-          ∙ so_far.changed;
+          ∙ append_assoc (take start new) part (F (drop end old)) ∙ ap (λ l. take start new ++ l) begun ∙ so_far.changed;
     }
 
 -- the chunk that begins at a place, and those behind it
 pub chunks-at : {X : Type 0} (size start n : ℕ) (xs : List X) → 0 < size → start < length xs
     → n ≡ min size (length xs - start)
-    → chunks size (drop start xs) ≡ take n (drop start xs) ∷ chunks size (drop (start + n) xs)
+    → chunks size (drop start xs) ≡ take (start + n - start) (drop start xs) ∷ chunks size (drop (start + n) xs)
 chunks-at size start n xs some there e =
     let rest = drop start xs in
     let whole = take-append-drop n rest in
     let long = length-take n rest in
     let left = length-drop start xs in
+    let taken : n ≡ start + n - start = omega arith in
     ap (chunks size) (sym whole) ∙ chunks-front size (take n rest) (drop n rest) some
     (omega arith) (omega (arith, ap length whole))
     ∙ ap (λ l. take n rest ∷ chunks size l) (drop-drop n start xs)
+    ∙ ap (λ k. take k rest ∷ chunks size (drop (start + n) xs)) taken
 
 -- the front of a list that is as long as what is taken
 pub front_of : {X : Type 0} (n : ℕ) (xs ys : List X) → length xs ≡ n → take n (xs ++ ys) ≡ xs
