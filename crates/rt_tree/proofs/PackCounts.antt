@@ -1,16 +1,16 @@
 -- How many nodes a packing makes, level by level.
 use Rattle.std.proofs.Common.{◌≡◌, ◌<◌, ◌≤◌, ◌+◌, ◌-◌, ◌*◌, ◌^◌, ℕ, zero, suc, true, false, nat_le, List, [], ◌∷◌, ◌++◌, length}
 use Rattle.std.proofs.Common.{refl, sym, ◌∙◌, ap, subst, arith, append_assoc, inl, inr, length-append}
-use Rattle.std.proofs.{lemmas.Bool.Decides.{nat_tests}}
-use Rattle.std.proofs.lemmas.List.{Elements.{All-from_recursion, recursion_from_All}, Sums.{sum_by-append, sum_by-cons}}
+use Rattle.std.proofs.lemmas.{Bool.Decides.{nat_tests}, List.Elements.{All-from_recursion, recursion_from_All}}
 use Rattle.std.proofs.lemmas.List.Sorted.{All-permutation, length_permutation, sum_by-IsPermutation}
+use Rattle.std.proofs.lemmas.List.Sums.{sum_by-append, sum_by-cons}
 use Rattle.std.specs.{Int.{div_ceil}, List.{All, sum_by}}
 use Rattle.rt_geo.specs.{Boxes.{Rect}, Laws.{Extent, extent_of_entry}, declared.entry.Entry.{Entry}}
 use Rattle.rt_tree.specs.{Packed.{extent_of_node}, Packing.{groups, joined, node_over, nodes_from, nodes_over}}
 use Rattle.rt_tree.specs.{SortKeys.{IsInPlane}, declared.tree.Node.{Node}}
-use Rattle.rt_tree.proofs.{ChunkLemmas.{le_or_lt, length-chunks}, LevelLemmas.{div_ceil-halves, div_ceil-positive, power_left, power_more}}
+use Rattle.rt_tree.proofs.{ChunkLemmas.{le_or_lt, length-chunks}, TileLemmas.{groups-chunks, groups-moved}}
+use Rattle.rt_tree.proofs.LevelLemmas.{div_ceil-halves, div_ceil-positive, power_left, power_more}
 use Rattle.rt_tree.proofs.Soundness.{chunk_groups, length-nodes_over, nodes_over-in_plane, sum_by-ones}
-use Rattle.rt_tree.proofs.TileLemmas.{groups-chunks, groups-moved}
 
 -- the nodes of level 1, over groups of entries
 abbrev pub leaf_nodes : List (List Entry) → List Node

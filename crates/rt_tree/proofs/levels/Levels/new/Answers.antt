@@ -1,5 +1,5 @@
-use Rattle.std.proofs.Common.{◌≡◌, ◌<◌, ◌≤◌, ◌^◌, ◌-◌, ◌+◌, ◌++◌, ◌∷◌, [], length, arith, length-append, subst, sym, refl, ap, ◌∙◌}
-use Rattle.std.proofs.lemmas.Grind.{common_steps}
+use Rattle.std.proofs.Common.{◌≡◌, ◌<◌, ◌≤◌, ◌^◌, ◌-◌, ◌+◌, ◌++◌, ◌∷◌, [], length, arith, length-append, subst, sym, refl, ap}
+use Rattle.std.proofs.{Common.{◌∙◌}, lemmas.Grind.{common_steps}}
 use Rattle.std.specs.Int.{div_ceil}
 use Rattle.rt_tree.proofs.LevelLemmas.{course_more, div_ceil-halves, div_ceil-positive, power_left, power_more}
 use Rattle.rt_tree.proofs.LevelSizes.{level_above, level_last}
