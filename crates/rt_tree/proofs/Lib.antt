@@ -11,7 +11,6 @@ mod NodeLemmas
 mod OrderLemmas
 mod PackCounts
 mod PackLemmas
-mod Packable
 mod PairLemmas
 mod Rows
 mod SortKeyLemmas

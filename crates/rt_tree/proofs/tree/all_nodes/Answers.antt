@@ -3,7 +3,7 @@ use Rattle.std.proofs.{Common.{subst, sym}, lemmas.{List.{append-nil, nil_from_l
 use Rattle.std.specs.List.{All}
 use Rattle.rt_tree.specs.{Packed.{extent_of_node}, SortKeys.{IsInPlane}, declared.tree.Node.{Node}}
 use Rattle.rt_tree.proofs.PackCounts.{all_nodes, counted_more, over_in_plane, course_done, course_more, fewer}
-use Rattle.rt_tree.proofs.{Packable.{nodes_packable}, tree.all_nodes.Goals.{then-len-eq1+in_ok-push, else-len-eq1}}
+use Rattle.rt_tree.proofs.{SortKeyLemmas.{nodes_packable}, tree.all_nodes.Goals.{then-len-eq1+in_ok-push, else-len-eq1}}
 use Rattle.rt_tree.proofs.tree.all_nodes.Goals as goal
 
 -- a single node is the first one

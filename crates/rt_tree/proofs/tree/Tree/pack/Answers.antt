@@ -2,8 +2,8 @@ use Rattle.std.proofs.Common.{◌≡◌, ◌≤◌, ◌*◌, ◌∙◌, ap, leng
 use Rattle.std.specs.List.{All, sum_by, Sorted.{IsPermutation}}
 use Rattle.rt_tree.specs.{Entries.{IsTable}, Levels.{level_sizes}, Packed.{IsSound, Packed}, Packing.{pack_of}}
 use Rattle.rt_tree.specs.SortKeys.{IsInPlane}
-use Rattle.rt_tree.proofs.{PackLemmas.{leaf_nodes_few, length-packed, packed_is}, Packable.{entries_packable}}
-use Rattle.rt_tree.proofs.{PackSound.{entries-IsPermutation, pack_of-IsSound}, Repacked.{pack_of-repacked}}
+use Rattle.rt_tree.proofs.{PackLemmas.{leaf_nodes_few, length-packed, packed_is}, Repacked.{pack_of-repacked}}
+use Rattle.rt_tree.proofs.{PackSound.{entries-IsPermutation, pack_of-IsSound}, TieOrders.{entries_packable}}
 use Rattle.rt_tree.proofs.tree.Tree.pack.Goals.{After-drop, In_ok-nodes}
 use Rattle.rt_tree.proofs.tree.Tree.pack.Goals as goal
 
