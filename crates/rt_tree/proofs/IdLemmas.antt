@@ -1,9 +1,9 @@
 -- Ids in order, and ids in two parts.
 use Rattle.std.proofs.Common.{◌≡◌, ◌∙◌, ◌+◌, ℕ, ℤ, pos, Bool, true, false, ◌||◌, List, length, get_or, refl, sym, ap, arith}
 use Rattle.std.proofs.{Common.{Result, Ok, Err, inl, inr}, Math.Bool.{or-false}, lemmas.{Bool.{cases_lt}, Cmp.{int_cmp_total}}}
-use Rattle.std.proofs.lemmas.{Int.{ints}, List.Folds.{list_any_at, list_any_none}, Map.Keys.{sorted_from_all_adjacent}}
+use Rattle.std.proofs.lemmas.{Int.{ints}, List.Folds.{list_any_at, list_any_none}, Map.Keys.{Less-from_sorted}}
 use Rattle.std.proofs.lemmas.List.Sorted.{IsPermutation-sym, list_any-IsPermutation, searchable_from_sorted}
-use Rattle.std.proofs.lemmas.Map.Keys.{IsDistinct-IsPermutation, IsDistinct-from_apart, Less-from_sorted}
+use Rattle.std.proofs.lemmas.Map.Keys.{sorted_from_all_adjacent, IsDistinct-IsPermutation, IsDistinct-from_apart}
 use Rattle.std.specs.{BTreeSet.{BTreeSet, contains}, List.{All, IsAllAdjacentAnswer, IsDistinct, list_any}}
 use Rattle.std.specs.List.Sorted.{IsBinarySearchResult, IsPermutation, IsSearchInRange, IsSorted, IsStrictlySortedBy}
 use Rattle.std.specs.{Ordering.{int_cmp, int_eq}, Prelude.{◌↔◌, int_lt, is_ok}}

@@ -7,8 +7,8 @@ use Rattle.std.proofs.lemmas.{List.Sorted.{IsPermutation-trans, length_permutati
 use Rattle.std.proofs.lemmas.Option.{get_or_from_slice_get}
 use Rattle.std.specs.{Int.{div_ceil}, List.{AllByRecursion, flat_map}, Ordering.{int_cmp, int_eq, on}}
 use Rattle.rt_geo.specs.{Entries.{HasBox, HasLayer}, Laws.{extent_of_entry}, declared.entry.Entry.{Entry}}
-use Rattle.rt_tree.specs.{Entries.{IsTable, ids_of}, Levels.{level_sizes}, Packed.{child_entries}, Sorting.{sorted}}
-use Rattle.rt_tree.specs.Packed.{entries_under, extent_of_node, no_node, node_at, root_of, Packed, IsSound, IsSubtree}
+use Rattle.rt_tree.specs.{Entries.{IsTable, ids_of}, Levels.{level_sizes}, Packed.{IsSubtree}, Sorting.{sorted}}
+use Rattle.rt_tree.specs.Packed.{child_entries, entries_under, extent_of_node, no_node, node_at, root_of, Packed, IsSound}
 use Rattle.rt_tree.specs.{Packing.{groups, joined, nodes_from, nodes_over, pack_of}, declared.tree.Node.{Node}}
 use Rattle.rt_tree.proofs.Children.{AreOnce, all_child_entries, all_child_entries-is, all_child_nodes, all_child_nodes-is}
 use Rattle.rt_tree.proofs.{Children.{nodes_once, once_first, once_more}, ChunkLemmas.{le_or_lt}, EntryLemmas.{int_eq-sym}}

@@ -1,8 +1,9 @@
 -- The first entry whose id an earlier one has.
 use Rattle.std.proofs.Common.{◌≡◌, ◌∙◌, ◌<◌, ◌+◌, ℕ, ℤ, Bool, true, false, ◌||◌, List, [], ◌∷◌, ◌++◌, length, length-append}
-use Rattle.std.proofs.Common.{drop, get_or, take, Option, Some, None, refl, sym, subst, ap, add-one, append_assoc, arith}
-use Rattle.std.proofs.{Math.Seq.{drop-cons}, lemmas.{Cmp.{int_eq_equiv}, Map.Keys.{IsDistinct-push}}}
+use Rattle.std.proofs.Common.{drop, take, Option, Some, None, refl, sym, subst, ap, add-one, append_assoc, arith, slice_get}
+use Rattle.std.proofs.{Common.{suc}, Math.Seq.{drop-cons}, lemmas.{Cmp.{int_eq_equiv}, Map.Keys.{IsDistinct-push}}}
 use Rattle.std.proofs.lemmas.List.{append-nil, length-take-le, map-append, take_more}
+use Rattle.std.proofs.lemmas.Option.{get_or_from_slice_get, slice_get_within}
 use Rattle.std.specs.{List.{AllByRecursion, IsDistinct}, Ordering.{int_eq}, Prelude.{if◌then◌else◌}}
 use Rattle.rt_geo.specs.declared.entry.Entry.{Entry}
 use Rattle.rt_tree.specs.Entries.{first_repeat, has_id, ids_of, repeat_after}
@@ -74,21 +75,29 @@ once-from_distinct entries d = once_after [] entries d
 
 -- ---- one entry after the other
 
-module _ (entries : List Entry) (place : ℕ) (d : Entry) (there : place < length entries)
-    (once : first_repeat entries ≡ repeat_after (take place entries) (drop place entries)) where
-  next : drop place entries ≡ get_or entries place d ∷ drop (place + 1) entries
-  next = rw (add-one place) (drop-cons entries place d there)
+module _ (entries : List Entry) (place : ℕ) (entry : Entry) (at : slice_get entries place ≡ Some entry) where
+  there : place < length entries
+  there = slice_get_within entries place entry at
 
-  pub repeat-here : has_id (take place entries) (get_or entries place d).id ≡ true → first_repeat entries ≡ Some place
-  repeat-here h = once ∙ rw (next, h) (ap (λ (n : ℕ). Some n) (length-take-le place entries (omega arith)))
+  one_more : take (place + 1) entries ≡ take place entries ++ entry ∷ []
+  one_more = take_more entries place entry there
+      ∙ ap (λ e. take place entries ++ e ∷ []) (get_or_from_slice_get entries place entry entry at)
 
-  pub repeat-later : has_id (take place entries) (get_or entries place d).id ≡ false → first_repeat entries ≡ repeat_after (take (place + 1) entries) (drop (place + 1) entries)
-  repeat-later h = once ∙ rw (next, h, take_more entries place d there) refl
+  -- the ids of one entry more
+  pub ids-more : (id : ℤ) → has_id (take (place + 1) entries) id ≡ (has_id (take place entries) id || int_eq id entry.id)
+  ids-more id = rw one_more (has_id-push (take place entries) entry id)
 
--- the ids of one entry more
-pub ids-more : (entries : List Entry) (place : ℕ) (d : Entry) (id : ℤ) → place < length entries
-    → has_id (take (place + 1) entries) id ≡ (has_id (take place entries) id || int_eq id (get_or entries place d).id)
-ids-more entries place d id there = rw (take_more entries place d there) (has_id-push (take place entries) (get_or entries place d) id)
+  module _ (once : first_repeat entries ≡ repeat_after (take place entries) (drop place entries)) where
+    next : drop place entries ≡ entry ∷ drop (place + 1) entries
+    next = rw (add-one place) (drop-cons entries place entry there
+        ∙ ap (λ e. e ∷ drop (suc place) entries) (get_or_from_slice_get entries place entry entry at))
+
+    pub repeat-here : has_id (take place entries) entry.id ≡ true → first_repeat entries ≡ Some place
+    repeat-here h = once ∙ rw (next, h) (ap (λ (n : ℕ). Some n) (length-take-le place entries (omega (arith, there))))
+
+    pub repeat-later : has_id (take place entries) entry.id ≡ false
+        → first_repeat entries ≡ repeat_after (take (place + 1) entries) (drop (place + 1) entries)
+    repeat-later h = once ∙ rw (next, h, one_more) refl
 
 -- ---- the place is that of an entry
 

@@ -4,11 +4,11 @@ use Rattle.std.proofs.{Common.{sym, ◌∙◌, ap, subst, arith, append_assoc, l
 use Rattle.std.proofs.lemmas.{Grind.{flat_map-append}, List.{drop-append-le, length-drop, take-append-le, take_all}}
 use Rattle.std.proofs.lemmas.List.Sums.{sum_by-cons}
 use Rattle.std.specs.{List.{AllByRecursion, flat_map, fold, reduce, sum_by}, Prelude.{unwrap_or}}
-use Rattle.rt_geo.specs.{Boxes.{Rect, hull, inside, plane}, Entries.{HasBox, HasLayer}, Lemmas.Layers.{HasSome-union}}
+use Rattle.rt_geo.specs.{Boxes.{Rect, hull, inside, plane}, Entries.{HasBox, HasLayer}, Lemmas.Layers.{HasSome-only}}
 use Rattle.rt_geo.specs.{Laws.{Extent, IsBoxInside, IsPart, extent_of_entry}, Layers.{HasSome, no_layers, subset, union}}
 use Rattle.rt_geo.specs.Lemmas.Boxes.{IsRect-hull, hull-inside, inside-hull_left, inside-hull_right, inside-same, inside-trans}
 use Rattle.rt_geo.specs.{Lemmas.Laws.{IsBoxInside-entry, IsBoxInside-part}, declared.entry.Entry.{Entry}}
-use Rattle.rt_geo.specs.Lemmas.Layers.{subset-same, subset-trans, subset-union_left, subset-union_right, HasSome-only}
+use Rattle.rt_geo.specs.Lemmas.Layers.{HasSome-union, subset-same, subset-trans, subset-union_left, subset-union_right}
 use Rattle.rt_geo.specs.declared.layers.Layers.{Layers}
 use Rattle.rt_tree.specs.Packed.{Packed, IsLeafNode, IsSubtree, child_nodes, entries_under, extent_of_node, hull_of, no_box}
 use Rattle.rt_tree.specs.{Packed.{union_of}, Packing.{chunks, joined, node_over, nodes_over}, SortKeys.{IsInPlane}}
