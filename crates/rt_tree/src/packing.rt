@@ -297,7 +297,7 @@ fn pack_tile<T: Items>(
     ensures node { IfOk result (λ node. node ≡ node_over T.extent T.size level (length (T.list packed.old))
         (told (T.list items.now) tile.now)) }
 {
-    // No box is around no children: the first child's is, and stays when that child goes under the node.
+    // (it begins with the first child's box, as there is none around nothing; the hull with that child leaves it so)
     let mut node = Node {
         layers: Layers::new(0),
         bounds: T::bounds(items.item(place_of(tile[0]))),
