@@ -1,7 +1,9 @@
 -- A search gives its answers one after the other, up to its limit.
 use Rattle.std.proofs.Common.{◌≡◌, ◌≢◌, ◌<◌, ◌≤◌, ◌+◌, ◌-◌, ℕ, zero, suc, List, [], ◌∷◌, length, take, drop}
 use Rattle.std.proofs.Common.{Option, Some, None, refl, sym, ◌∙◌, ap, subst, arith, add-one}
-use Rattle.std.proofs.lemmas.List.{length-drop, length-map, Sums.{count_by-le-length, length-filter}}
+use Rattle.std.proofs.lemmas.List.{drop_all, length-drop, length-map, length-take}
+use Rattle.std.proofs.lemmas.Option.{slice_get_past}
+use Rattle.std.proofs.lemmas.List.{Sums.{count_by-le-length, length-filter}}
 use Rattle.std.proofs.lemmas.List.Sorted.{length_permutation}
 use Rattle.std.specs.Prelude.{IfNone, IfSome, MatchOption, slice_get}
 use Rattle.rt_geo.specs.Laws.{Meaning}
@@ -29,42 +31,8 @@ take_step (suc k) zero (y ∷ xs) x rest lt h = cc
 take_step (suc k) (suc g) [] x rest lt h = cc
 take_step (suc k) (suc g) (y ∷ xs) x rest lt h = take_step k g xs x rest (omega arith) h
 
-drop_nil : {X : Type 0} (g : ℕ) → ◌≡◌ {A = List X} (drop g []) []
-drop_nil zero = refl
-drop_nil (suc g) = refl
-
-take_end : {X : Type 0} (k g : ℕ) (xs : List X) → drop g xs ≡ [] → drop g (take k xs) ≡ []
-take_end zero g xs h = drop_nil g
-take_end (suc k) zero [] h = refl
-take_end (suc k) zero (y ∷ xs) h = cc
-take_end (suc k) (suc g) [] h = refl
-take_end (suc k) (suc g) (y ∷ xs) h = take_end k g xs h
-
-take-nil : {X : Type 0} (n : ℕ) → ◌≡◌ {A = List X} (take n []) []
-take-nil zero = refl
-take-nil (suc n) = refl
-
-take-next : {X : Type 0} (n : ℕ) (x : X) (xs : List X) → n ≢ 0 → take n (x ∷ xs) ≡ x ∷ take (n - 1) xs
-take-next zero x xs some = absurd (some refl)
-take-next (suc k) x xs some = ap (λ m. x ∷ take m xs) (omega arith)
-
--- what is given of all is given of the first so many
-pub given_first : {X : Type 0} (n : ℕ) (out : Option X) (old new : List X) → n ≢ 0
-    → MatchOption out (old ≡ []) (λ x. old ≡ x ∷ new)
-    → MatchOption out (take n old ≡ []) (λ x. take n old ≡ x ∷ take (n - 1) new)
-given_first n None old new some e = ap (take n) e ∙ take-nil n
-given_first n (Some x) old new some e = ap (take n) e ∙ take-next n x new some
-
-pub none_first : {X : Type 0} (n : ℕ) (out : Option X) (new : List X) → IfNone out (new ≡ [])
-    → IfNone out (take n new ≡ [])
-none_first n None new e = ap (take n) e ∙ take-nil n
-none_first n (Some x) new e = tt
-
 past_end : {X : Type 0} (xs : List X) (g k : ℕ) → drop g xs ≡ [] → g ≤ k → slice_get xs k ≡ None
-past_end [] g k h le = refl
-past_end (y ∷ xs) zero k h le = cc
-past_end (y ∷ xs) (suc g) zero h le = absurd (omega arith)
-past_end (y ∷ xs) (suc g) (suc k) h le = past_end xs g k h (omega arith)
+past_end xs g k h le = slice_get_past xs k (omega (arith, length-drop g xs, ap length h))
 
 below_limit : (k g : ℕ) → g ≤ k → Some k ≢ Some g → g < k
 below_limit k g le n = grind arith
@@ -76,7 +44,7 @@ limited_step (Some k) g xs x rest le n h = take_step k g xs x rest (below_limit 
 
 limited_end : {X : Type 0} (limit : Option ℕ) (g : ℕ) (xs : List X) → drop g xs ≡ [] → drop g (limited limit xs) ≡ []
 limited_end None g xs h = h
-limited_end (Some k) g xs h = take_end k g xs h
+limited_end (Some k) g xs h = drop_all g (take k xs) (omega (arith, length-take k xs, length-drop g xs, ap length h))
 
 next_in_limit : (limit : Option ℕ) (g : ℕ) → IsInLimit limit g → limit ≢ Some g → IsInLimit limit (suc g)
 next_in_limit None g le n = tt

@@ -3,11 +3,6 @@ use Rattle.rt_search.specs.{Kept.{IsTakenOut, in_order, node_item, taken_entry},
 use Rattle.rt_search.proofs.{Heaps.{nodes_after, popped_out}, Merging.{taken_left, taken_right}}
 use Rattle.rt_search.proofs.queue.take_narrow.Goals as goal
 
-pub returns-in_default-clause-taken : goal.returns-in_default-clause-taken
-returns-in_default-clause-taken c =
-    let e = c.in_default.ensures in
-    taken_left None _ _ _ (ap (in_order node_item) e.keys, ap (in_order node_item) e.none) c.if-is_node_next.ensures
-
 pub returns-then-is_node_next-clause-taken : goal.returns-then-is_node_next-clause-taken
 returns-then-is_node_next-clause-taken c =
     let e = c.in-Some.ensures in

@@ -39,9 +39,6 @@ walk_child-returns-then-visit_node-clause-taken g t c =
 pub walk_child-returns-else-visit_node-clause-taken : goal.walk_child-returns-else-visit_node-clause-taken
 walk_child-returns-else-visit_node-clause-taken g t c = search (rules, known)
 
-pub walk_under-child_nodes-children-requires : goal.walk_under-child_nodes-children-requires
-walk_under-child_nodes-children-requires g t c = children_inside c.requires.node c.node-node.ensures c.if-node-eq1.false
-
 pub walk_under-loop-i-init : goal.walk_under-loop-i-init
 walk_under-loop-i-init g t c =
     let geometry = c.args.counted.now.geometry in
