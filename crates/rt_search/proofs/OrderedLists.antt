@@ -15,33 +15,15 @@ pub record IsOrder {X : Type 0} (cmp : X → X → Ordering) : Type 0 where
   pub turned : (x y : X) → is_lt (cmp y x) ≡ is_gt (cmp x y)
   pub rearranged : (xs ys : List X) → IsPermutation xs ys → sorted cmp xs ≡ sorted cmp ys
 
-reverse_is_lt : (o : Ordering) → is_lt (ordering_reverse o) ≡ is_gt o
-reverse_is_lt Less = refl
-reverse_is_lt Equal = refl
-reverse_is_lt Greater = refl
-
-not_both : (o : Ordering) → is_gt o ≡ true → is_lt o ≡ false
-not_both Less e = cc
-not_both Equal e = refl
-not_both Greater e = refl
-
-tied : (o : Ordering) → is_gt o ≡ false → is_lt o ≡ false → o ≡ Equal
-tied Less e f = cc
-tied Equal e f = refl
-tied Greater e f = cc
-
 -- a total order that tells all elements apart
 pub order_of : {X : Type 0} (cmp : X → X → Ordering) → IsTotalOrder cmp → CmpEqualImpliesEq cmp → IsOrder cmp
-order_of {X} cmp total apart =
-    let turn : (x y : X) → is_lt (cmp y x) ≡ is_gt (cmp x y) = λ x y. ap is_lt (total.antisymm y x)
-    ∙ reverse_is_lt (cmp x y) in
-    record {
-      one_way = λ x y e. sym (turn y x) ∙ not_both (cmp x y) e;
-      tie = λ x y e f. apart x y (tied (cmp x y) e (turn y x ∙ f));
-      trans = upto total;
-      turned = turn;
-      rearranged = grind (arith, sorted-IsPermutation);
-    }
+order_of cmp total apart = record {
+  one_way = grind (arith, total.antisymm);
+  tie = grind (arith, total.antisymm, apart);
+  trans = upto total;
+  turned = grind (arith, total.antisymm);
+  rearranged = grind (arith, sorted-IsPermutation);
+}
 
 -- what holds wherever x is put
 pub put_cases : {X : Type 0} (cmp : X → X → Ordering) (P : List X → Type 0) (x y : X) (ys : List X)

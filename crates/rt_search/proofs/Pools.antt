@@ -68,8 +68,7 @@ has_right s [] js h = h
 has_right s (k ∷ ks) js h = inr (has_right s ks js h)
 
 has_last : (ks : List (Reverse ℕ)) (k : Reverse ℕ) → HasScore (score_in k) (ks ++ k ∷ [])
-has_last [] k = inl refl
-has_last (j ∷ ks) k = inr (has_last ks k)
+has_last ks k = has_right (score_in k) ks (k ∷ []) (inl refl)
 
 -- after one more
 least_more : (r : Option ℕ) (ks : List (Reverse ℕ)) (k : Reverse ℕ) → MatchOption r (ks ≡ []) (λ s. HasLeastScore s ks)

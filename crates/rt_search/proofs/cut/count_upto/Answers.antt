@@ -3,19 +3,14 @@ use Rattle.std.proofs.lemmas.List.{length-take, Sums.{count_by-le-length, length
 use Rattle.rt_search.specs.Kept.{is_upto}
 use Rattle.rt_search.proofs.cut.count_upto.Goals as goal
 
-at_most_one : (b : Bool) → cond b 1 0 ≤ 1
-at_most_one true = omega arith
-at_most_one false = omega arith
-
 pub overflow_add-found : goal.overflow_add-found
 overflow_add-found g c =
     let upto = is_upto g.T.Ord.cmp c.args.bound in
     let so_far = take c.loop-item.item-index c.args.items.now in
-    let one : c.from-found.result ≡ cond c.is_le.result 1 0 = search rules in
+    let one : c.from-found.result ≤ 1 = search rules in
     omega (
       arith,
       one,
-      at_most_one c.is_le.result,
       c.loop-item.invariant,
       length-filter upto so_far,
       count_by-le-length upto so_far,
