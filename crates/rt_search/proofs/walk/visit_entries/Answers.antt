@@ -1,4 +1,4 @@
-use Rattle.std.proofs.{Common.{◌≡◌, FitsSigned, IfSome, ap, arith, rules, subst, w64}, lemmas.Int.{to_z-of_z}}
+use Rattle.std.proofs.{Common.{◌≡◌, FitsSigned, IfSome, arith, rules, subst, w64}, lemmas.Int.{to_z-of_z}}
 use Rattle.rt_geo.specs.Laws.{extent_of_entry}
 use Rattle.rt_tree.specs.Packed.{extent_of_node}
 use Rattle.rt_search.specs.Walking.{HasTaken, answers_among}
@@ -15,7 +15,7 @@ check-verdict-requires-clause-honest g c =
     c.layers_at-layers.ensures in
     rw c.loop-i.invariant.geometry
     (honest_child (g.G.Geometry.meaning c.args.counted.now.geometry) (extent_of_node c.args.node) c.info_under-info.result
-    c.args.parent c.requires.leaf.below (ap (λ i. i.parent_within) c.info_under-info.ensures)
+    c.args.parent c.requires.leaf.below (search rules)
     (rw (c.info_under-info.ensures, k.is, layers) k.at.within))
 
 pub check-verdict-requires-clause-room : goal.check-verdict-requires-clause-room

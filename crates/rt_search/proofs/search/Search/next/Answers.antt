@@ -3,15 +3,6 @@ use Rattle.std.specs.Prelude.{IfNone, MatchOption}
 use Rattle.rt_search.proofs.Giving.{end, give, given_low}
 use Rattle.rt_search.proofs.search.Search.next.Goals as goal
 
--- what holds in any case holds where there is none
-if_none : {X P : Type 0} (o : Option X) → P → IfNone o P
-if_none None p = p
-if_none (Some x) p = tt
-
-none_given : {X P : Type 0} (Q : X → Type 0) (o : Option X) → o ≡ None → P → MatchOption o P Q
-none_given Q None e p = p
-none_given Q (Some x) e p = cc
-
 pub overflow_add-self : goal.overflow_add-self
 overflow_add-self g c =
     let going = rw (← c.deref_mut.ensures.value) at c.self.invariant.giving in
@@ -43,19 +34,19 @@ pub returns-in_err-answer-clause-answer : goal.returns-in_err-answer-clause-answ
 returns-in_err-answer-clause-answer g c =
     let e = c.in_err-answer.ensures in
     let going = rw (← c.deref_mut.ensures.value) at c.self.invariant.giving in
-    let k = end going (search rules) e.wanted (e.step _ going.state) in
-    none_given _ c.from_residual.result (search rules) (rw (← c.self.view_is) k.answer)
+    let none : c.from_residual.result ≡ None = search rules in
+    rw (none, ← c.self.view_is) (end going (search rules) e.wanted (e.step _ going.state)).answer
 
 pub returns-in_err-answer-clause-none : goal.returns-in_err-answer-clause-none
 returns-in_err-answer-clause-none g c =
     let e = c.in_err-answer.ensures in
     let going = rw (← c.deref_mut.ensures.value) at c.self.invariant.giving in
-    if_none c.from_residual.result
-    (rw c.pull.ensures.geometry (end going (search rules) e.wanted (e.step _ going.state)).answer)
+    let none : c.from_residual.result ≡ None = search rules in
+    rw (none, c.pull.ensures.geometry) (end going (search rules) e.wanted (e.step _ going.state)).answer
 
 pub returns-in_err-answer-clause-worked_in_all : goal.returns-in_err-answer-clause-worked_in_all
 returns-in_err-answer-clause-worked_in_all g c =
     let e = c.in_err-answer.ensures in
     let going = rw (← c.deref_mut.ensures.value) at c.self.invariant.giving in
-    if_none c.from_residual.result
-    (rw (← c.self.view_is) (end going (search rules) e.wanted (e.step _ going.state)).worked)
+    let none : c.from_residual.result ≡ None = search rules in
+    rw (none, ← c.self.view_is) (end going (search rules) e.wanted (e.step _ going.state)).worked
