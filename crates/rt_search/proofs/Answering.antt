@@ -81,12 +81,7 @@ module _ (meaning : Meaning) where
 
   skip : (e : Entry) (es fs : List Entry) → IsPermutation (kept es) (kept fs)
       → IsPermutation (kept (e ∷ es)) (kept (e ∷ fs))
-  skip e es fs h =
-      elim (meaning.accepts (extent_of_entry e)) as
-      (λ b. IsPermutation (cond b (e ∷ kept es) (kept es)) (cond b (e ∷ kept fs) (kept fs))) [
-        | true ↦ IsPermutation-cons e (kept es) (kept fs) h
-        | false ↦ h
-      ]
+  skip e es fs h = grind (arith, cond_both, IsPermutation-cons)
 
   turn : (d e : Entry) (es : List Entry) → IsPermutation (kept (d ∷ e ∷ es)) (kept (e ∷ d ∷ es))
   turn d e es = by (meaning.accepts (extent_of_entry d)) (meaning.accepts (extent_of_entry e))

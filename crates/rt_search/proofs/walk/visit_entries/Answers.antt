@@ -2,7 +2,7 @@ use Rattle.std.proofs.{Common.{◌≡◌, FitsSigned, IfSome, arith, rules, subs
 use Rattle.rt_geo.specs.Laws.{extent_of_entry}
 use Rattle.rt_tree.specs.Packed.{extent_of_node}
 use Rattle.rt_search.specs.Walking.{HasTaken, answers_among}
-use Rattle.rt_search.proofs.Children.{entries_count, honest_child, leaf_read}
+use Rattle.rt_search.proofs.Children.{entries_count, entry_question, leaf_read}
 use Rattle.rt_search.proofs.Walks.{few_entries, one_entry, taken-append, taken_room}
 use Rattle.rt_search.proofs.walk.visit_entries.Goals as goal
 
@@ -13,10 +13,9 @@ check-verdict-requires-clause-honest g c =
     c.loop-i-test.true c.index-entries-i.is in
     let layers = subst (λ o. IfSome o (λ e. c.layers_at-layers.result ≡ (extent_of_entry e).layers)) k.found
     c.layers_at-layers.ensures in
-    rw c.loop-i.invariant.geometry
-    (honest_child (g.G.Geometry.meaning c.args.counted.now.geometry) (extent_of_node c.args.node) c.info_under-info.result
-    c.args.parent c.requires.leaf.below (search rules)
-    (rw (c.info_under-info.ensures, k.is, layers) k.at.within))
+    rw (c.loop-i.invariant.geometry, c.info_under-info.ensures, k.is, layers)
+    (entry_question (g.G.Geometry.meaning c.args.counted.now.geometry) c.args.tree.now c.requires.leaf.sound
+    c.args.parent (search rules) c.args.node _ c.loop-i.i c.requires.leaf.below k.at).honest
 
 pub check-verdict-requires-clause-room : goal.check-verdict-requires-clause-room
 check-verdict-requires-clause-room g c = grind (arith, entries_count)
