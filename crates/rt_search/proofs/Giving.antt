@@ -5,7 +5,7 @@ use Rattle.std.proofs.lemmas.List.{drop_all, length-drop, length-map, length-tak
 use Rattle.std.proofs.lemmas.Option.{slice_get_past}
 use Rattle.std.proofs.lemmas.List.{Sums.{count_by-le-length, length-filter}}
 use Rattle.std.proofs.lemmas.List.Sorted.{length_permutation}
-use Rattle.std.specs.Prelude.{IfNone, IfSome, MatchOption, slice_get}
+use Rattle.std.specs.Prelude.{IfSome, slice_get}
 use Rattle.rt_geo.specs.Laws.{Meaning}
 use Rattle.rt_geo.specs.{Laws.{extent_of_entry}, declared.{entry.Entry.{Entry}}}
 use Rattle.rt_tree.specs.{Packed.{Packed}, Sorting.{limited}, declared.tree.Node.{Node}}

@@ -1,8 +1,8 @@
 -- Lists that are kept in an order which tells all elements apart.
-use Rattle.std.proofs.Common.{◌≡◌, ◌+◌, true, false, List, [], ◌∷◌, ◌++◌, ℕ, length, refl, sym, ◌∙◌, ap, arith}
-use Rattle.std.proofs.{Common.{Ordering, Less, Equal, Greater, IsPermutation}, lemmas.{Bool.{cond_both}, Cmp.{upto}}}
+use Rattle.std.proofs.Common.{◌≡◌, ◌+◌, true, false, List, [], ◌∷◌, ◌++◌, ℕ, length, refl, ◌∙◌, ap, arith}
+use Rattle.std.proofs.{Common.{Ordering, IsPermutation}, lemmas.{Bool.{cond_both}, Cmp.{upto}}}
 use Rattle.std.proofs.lemmas.{List.Sums.{sum_by-cons}, Map.Lookups.{CmpEqualImpliesEq}}
-use Rattle.std.specs.{Cmp.{IsTotalOrder}, List.{AllByRecursion, sum_by}, Ordering.{is_gt, is_lt, ordering_reverse}}
+use Rattle.std.specs.{Cmp.{IsTotalOrder}, List.{AllByRecursion, sum_by}, Ordering.{is_gt, is_lt}}
 use Rattle.rt_tree.specs.Sorting.{put, sorted}
 use Rattle.rt_tree.proofs.SortingLemmas.{sorted-IsPermutation}
 use Rattle.rt_search.specs.Remaining.{put_all}

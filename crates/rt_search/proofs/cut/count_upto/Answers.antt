@@ -1,4 +1,4 @@
-use Rattle.std.proofs.Common.{◌≡◌, ◌≤◌, Bool, true, false, arith, cond, rules, take}
+use Rattle.std.proofs.Common.{◌≤◌, arith, rules, take}
 use Rattle.std.proofs.lemmas.List.{length-take, Sums.{count_by-le-length, length-filter}}
 use Rattle.rt_search.specs.Kept.{is_upto}
 use Rattle.rt_search.proofs.cut.count_upto.Goals as goal

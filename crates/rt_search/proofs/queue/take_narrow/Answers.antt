@@ -1,4 +1,4 @@
-use Rattle.std.proofs.Common.{Some, None, ap, subst, sym}
+use Rattle.std.proofs.Common.{Some, subst, sym}
 use Rattle.rt_search.specs.{Kept.{IsTakenOut, in_order, node_item, taken_entry}, Pooling.{keys_in}}
 use Rattle.rt_search.proofs.{Heaps.{nodes_after, popped_out}, Merging.{taken_left, taken_right}}
 use Rattle.rt_search.proofs.queue.take_narrow.Goals as goal

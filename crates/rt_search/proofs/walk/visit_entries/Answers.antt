@@ -1,6 +1,5 @@
 use Rattle.std.proofs.{Common.{◌≡◌, FitsSigned, IfSome, arith, rules, subst, w64}, lemmas.Int.{to_z-of_z}}
 use Rattle.rt_geo.specs.Laws.{extent_of_entry}
-use Rattle.rt_tree.specs.Packed.{extent_of_node}
 use Rattle.rt_search.specs.Walking.{HasTaken, answers_among}
 use Rattle.rt_search.proofs.Children.{entries_count, entry_question, leaf_read}
 use Rattle.rt_search.proofs.Walks.{few_entries, one_entry, taken-append, taken_room}

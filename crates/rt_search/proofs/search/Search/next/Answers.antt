@@ -1,5 +1,4 @@
-use Rattle.std.proofs.Common.{◌≡◌, Option, Some, None, arith, rules}
-use Rattle.std.specs.Prelude.{IfNone, MatchOption}
+use Rattle.std.proofs.Common.{◌≡◌, None, arith, rules}
 use Rattle.rt_search.proofs.Giving.{end, give, given_low}
 use Rattle.rt_search.proofs.search.Search.next.Goals as goal
 
