@@ -1,10 +1,7 @@
 -- The lines of the answers, one after the other.
 use Rattle.std.proofs.Common.{◌≡◌, ◌<◌, ◌≤◌, ℕ, ℤ, List, ◌∷◌, ◌++◌, length, Option, Some, None, ap, arith, append_assoc}
-use Rattle.std.proofs.lemmas.List.Concat.{flat_map-cons}
-use Rattle.std.proofs.lemmas.List.{length-take}
-use Rattle.std.proofs.lemmas.List.Sorted.{length_permutation}
-use Rattle.rt_geo.specs.Laws.{Meaning}
-use Rattle.rt_geo.specs.declared.entry.Entry.{Entry}
+use Rattle.std.proofs.lemmas.List.{length-take, Concat.{flat_map-cons}, Sorted.{length_permutation}}
+use Rattle.rt_geo.specs.{Laws.{Meaning}, declared.entry.Entry.{Entry}}
 use Rattle.rt_tree.specs.Sorting.{limited, sorted}
 use Rattle.rt_tree.proofs.SortingLemmas.{IsPermutation-sorted}
 use Rattle.rt_text.specs.ReplyLines.{answer_line, ok_line}

@@ -1,23 +1,13 @@
 -- All layers are those of all entries, so a query on all of them is one that asks for none.
-use Rattle.std.proofs.Common.{◌≡◌, ◌∙◌, ap, cond, Bool, true, false, not, List, [], ◌∷◌, ◌&&◌, ℕ, Option, length, map, refl, sym}
+use Rattle.std.proofs.Common.{◌≡◌, ◌∙◌, ap, cond, Bool, true, false, not, List, [], ◌∷◌, ◌&&◌, ℕ, Option, length, map, refl}
+use Rattle.std.proofs.{Common.{sym}, lemmas.List.Elements.{recursion_from_All}}
 use Rattle.std.specs.List.{All, AllByRecursion}
-use Rattle.std.proofs.lemmas.List.Elements.{recursion_from_All}
-use Rattle.rt_geo.specs.Entries.{HasLayer}
-use Rattle.rt_geo.specs.Layers.{all_layers, disjoint}
-use Rattle.rt_geo.specs.Laws.{Extent, Meaning, extent_of_entry}
-use Rattle.rt_geo.specs.Lemmas.Layers.{disjoint-only, has-all}
-use Rattle.rt_geo.specs.OnLayers.{on_layers_accepts}
-use Rattle.rt_geo.specs.declared.entry.Entry.{Entry}
-use Rattle.rt_geo.specs.declared.layers.Layers.{Layers}
-use Rattle.rt_geo.specs.Regions.{region_accepts}
-use Rattle.rt_geo.specs.Orders.{order_score}
-use Rattle.rt_geo.specs.declared.order.Order.{Order}
-use Rattle.rt_text.specs.declared.query.BoxQuery.{BoxQuery}
-use Rattle.rt_text.specs.ReplyLines.{ok_line}
-use Rattle.rt_filter.specs.Replies.{find_reply, meaning_of, report_of}
-use Rattle.rt_filter.specs.Reports.{report_on, scanned}
-use Rattle.rt_text.specs.declared.query.Report.{Report}
-use Rattle.rt_text.specs.declared.query.Report.TheVariants.{Answers, Count}
+use Rattle.rt_geo.specs.{Entries.{HasLayer}, Laws.{Extent, Meaning, extent_of_entry}, Layers.{all_layers, disjoint}}
+use Rattle.rt_geo.specs.{Lemmas.Layers.{disjoint-only, has-all}, OnLayers.{on_layers_accepts}, Orders.{order_score}}
+use Rattle.rt_geo.specs.{Regions.{region_accepts}, declared.{entry.Entry.{Entry}, layers.Layers.{Layers}, order.Order.{Order}}}
+use Rattle.rt_text.specs.{ReplyLines.{ok_line}, declared.query.{BoxQuery.{BoxQuery}, Report.{Report, TheVariants.{Answers}}}}
+use Rattle.rt_text.specs.declared.query.Report.TheVariants.{Count}
+use Rattle.rt_filter.specs.{Replies.{find_reply, meaning_of, report_of}, Reports.{report_on, scanned}}
 use Rattle.rt_tree.specs.Sorting.{limited, sorted}
 use Rattle.rt_search.specs.Answers.{accepted, answer_cmp, answer_of, answers}
 

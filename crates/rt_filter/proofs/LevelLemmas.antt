@@ -1,11 +1,9 @@
 -- The lines of the levels, from the top down.
-use Rattle.std.proofs.Common.{◌≡◌, ◌∙◌, ◌+◌, ◌-◌, ◌<◌, ◌≤◌, ℕ, List, ◌∷◌, ◌++◌, length, drop, get_or, Option, Some, ap, ap₂, zero-add, arith, append_assoc}
-use Rattle.std.specs.Prelude.{flat_map, reverse, slice_get}
-use Rattle.std.specs.List.{enumerate_from}
-use Rattle.std.proofs.lemmas.List.{drop_all, drop_more, get_or-reverse, length-reverse}
-use Rattle.std.proofs.lemmas.List.Concat.{flat_map-cons}
-use Rattle.std.proofs.lemmas.List.FromFn.{get_or-enumerate_from, length-enumerate_from}
-use Rattle.std.proofs.lemmas.Option.{get_or_from_slice_get}
+use Rattle.std.proofs.Common.{◌≡◌, ◌∙◌, ◌+◌, ◌-◌, ◌<◌, ◌≤◌, ℕ, List, ◌∷◌, ◌++◌, length, drop, get_or, Option, Some, ap, ap₂}
+use Rattle.std.proofs.{Common.{zero-add, arith, append_assoc}, lemmas.List.{drop_all, drop_more, get_or-reverse}}
+use Rattle.std.proofs.lemmas.List.{length-reverse, Concat.{flat_map-cons}, FromFn.{get_or-enumerate_from}}
+use Rattle.std.proofs.lemmas.{List.FromFn.{length-enumerate_from}, Option.{get_or_from_slice_get}}
+use Rattle.std.specs.{List.{enumerate_from}, Prelude.{flat_map, reverse, slice_get}}
 use Rattle.rt_text.specs.ReplyLines.{level_line, ok_line}
 use Rattle.rt_filter.specs.Pushes.{WasCut, WasPushed}
 use Rattle.rt_filter.proofs.PushLemmas.{AllBut, pushed_cut, pushed_next}

@@ -1,10 +1,8 @@
 -- The lines of query bytes, one after the other.
-use Rattle.std.proofs.Common.{◌≡◌, ◌∙◌, ◌+◌, ℕ, zero, suc, Bool, true, false, List, [], ◌∷◌, ◌++◌, length, take, drop, refl, sym, ap, arith, add-one, append_assoc, append-nil, Some, None}
-use Rattle.std.proofs.lemmas.Bool.Decides.{nat_tests}
+use Rattle.std.proofs.Common.{◌≡◌, ◌∙◌, ◌+◌, ℕ, zero, suc, Bool, true, false, List, [], ◌∷◌, ◌++◌, length, take, drop, refl}
+use Rattle.std.proofs.{Common.{sym, ap, arith, add-one, append_assoc, append-nil, Some, None}, Math.Seq.{drop-append_seam}}
+use Rattle.std.proofs.lemmas.{Bool.{false_from_ne_true, Decides.{nat_tests}}, List.FromFn.{length-enumerate_from}}
 use Rattle.std.specs.List.{enumerate_from, slice_split}
-use Rattle.std.proofs.lemmas.Bool.{false_from_ne_true}
-use Rattle.std.proofs.lemmas.List.FromFn.{length-enumerate_from}
-use Rattle.std.proofs.Math.Seq.{drop-append_seam}
 use Rattle.memchr.specs.Find.{IsFirstByte, is_byte}
 use Rattle.rt_filter.specs.Lines.{begun_line, completed, is_line_feed, last_part, lines_of_parts, numbered_lines}
 use Rattle.rt_filter.specs.Stages.{HasNoLineFeed, line_feed, lines_from}

@@ -1,9 +1,8 @@
 -- What pushes add up to.
-use Rattle.std.proofs.Common.{◌≡◌, ◌∙◌, ◌+◌, ℕ, List, [], ◌∷◌, ◌++◌, length, take, drop, Option, Some, None, refl, sym, ap, arith, append_assoc, append-nil}
-use Rattle.std.specs.Prelude.{IfSome, IsErrAnd, MatchResult, Result, Ok, Err}
-use Rattle.std.specs.Io.{StartsWith}
-use Rattle.std.proofs.Math.Seq.{take-append-add, take-append_seam}
+use Rattle.std.proofs.Common.{◌≡◌, ◌∙◌, ◌+◌, ℕ, List, [], ◌∷◌, ◌++◌, length, take, drop, Option, Some, None, refl, sym, ap}
+use Rattle.std.proofs.{Common.{arith, append_assoc, append-nil}, Math.Seq.{take-append-add, take-append_seam}}
 use Rattle.std.proofs.lemmas.List.{append_cancel_left, length-append, take-append-drop}
+use Rattle.std.specs.{Io.{StartsWith}, Prelude.{IfSome, IsErrAnd, MatchResult, Result, Ok, Err}}
 use Rattle.rt_device.specs.Devices.{IsSameIfTold}
 use Rattle.rt_filter.specs.Pushes.{Pushed, WasCut, WasPushed, WentPrefix}
 

@@ -1,29 +1,20 @@
 -- A run over a table that was loaded, and over one that was refused.
-use Rattle.std.proofs.Common.{◌≡◌, ◌≢◌, ◌∙◌, ◌+◌, ◌<◌, ℕ, Bool, true, arith, List, [], ◌++◌, length, Option, None, Some, refl, sym, ap, ap₂, subst, append-nil}
+use Rattle.std.proofs.Common.{◌≡◌, ◌≢◌, ◌∙◌, ◌+◌, ◌<◌, ℕ, Bool, true, arith, List, [], ◌++◌, length, Option, None, Some, refl}
+use Rattle.std.proofs.{Common.{sym, ap, ap₂, subst, append-nil}, lemmas.List.{length-append}}
 use Rattle.std.specs.Prelude.{Ok, Err, Result, if◌then◌else◌}
-use Rattle.std.proofs.lemmas.List.{length-append}
 use Rattle.rt_command.specs.Choices.{Choices}
 use Rattle.rt_geo.specs.declared.entry.Entry.{Entry}
-use Rattle.rt_text.specs.Steps.{◌>>=◌}
-use Rattle.rt_text.specs.Tables.{table_of}
-use Rattle.rt_text.specs.declared.tables.TableFault.{TableFault}
+use Rattle.rt_text.specs.{Steps.{◌>>=◌}, Tables.{table_of}, declared.tables.TableFault.{TableFault}}
+use Rattle.rt_tree.specs.{Packed.{Packed}, Packing.{pack_of}}
+use Rattle.rt_filter.specs.Endings.{ConsumedAtLeast, Ends, EndsWith, Happened, Serves, ServesWith, SinkTells, SourceTells}
+use Rattle.rt_filter.specs.{Endings.{StillTells}, Faults.{status_of}, Lines.{numbered_lines}, Replies.{Loaded, any_fault}}
+use Rattle.rt_filter.specs.{Replies.{output, tree_of}, Runs.{Run, loaded_of, run_of, run_over}, Stages.{HasLoaded, Stops}}
+use Rattle.rt_filter.specs.{Stages.{is_of_load, run_fault_of}, declared.filter.{Outcome.{Outcome}, RunFault.{RunFault}}}
+use Rattle.rt_filter.specs.declared.serving.{ServeFault.{ServeFault}, Served.{Served}}
+use Rattle.rt_filter.proofs.{ServingLemmas.{consumes_none, sink_tells, so_far, source_tells}, SessionLemmas.{pushed_same}}
 use Rattle.rt_text.specs.declared.tables.TableFault.TheVariants as load
-use Rattle.rt_tree.specs.Packed.{Packed}
-use Rattle.rt_tree.specs.Packing.{pack_of}
-use Rattle.rt_filter.specs.Endings.{ConsumedAtLeast, Ends, EndsWith, Happened, Serves, ServesWith, SinkTells, SourceTells, StillTells}
-use Rattle.rt_filter.specs.Faults.{status_of}
-use Rattle.rt_filter.specs.Lines.{numbered_lines}
-use Rattle.rt_filter.specs.Replies.{Loaded, any_fault, output, tree_of}
-use Rattle.rt_filter.specs.Runs.{Run, loaded_of, run_of, run_over}
-use Rattle.rt_filter.specs.Stages.{HasLoaded, Stops, is_of_load, run_fault_of}
-use Rattle.rt_filter.specs.declared.filter.Outcome.{Outcome}
-use Rattle.rt_filter.specs.declared.filter.RunFault.{RunFault}
 use Rattle.rt_filter.specs.declared.filter.RunFault.TheVariants as run
-use Rattle.rt_filter.specs.declared.serving.ServeFault.{ServeFault}
 use Rattle.rt_filter.specs.declared.serving.ServeFault.TheVariants as serve
-use Rattle.rt_filter.specs.declared.serving.Served.{Served}
-use Rattle.rt_filter.proofs.SessionLemmas.{pushed_same}
-use Rattle.rt_filter.proofs.ServingLemmas.{consumes_none, sink_tells, so_far, source_tells}
 
 -- what is loaded of a table's entries, or of its fault
 abbrev pub loaded_with : Choices → Result (List Entry) TableFault → Result Loaded TableFault

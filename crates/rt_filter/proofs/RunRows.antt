@@ -1,23 +1,16 @@
 -- Worked rows of runs: the definitions compute what is written, the fault and the status.
 use Rattle.std.proofs.Common.{◌≡◌, ◌∙◌, pos, false, true, ap, List, [], ◌∷◌, ◌++◌, ℕ, refl}
-use Rattle.std.specs.Prelude.{Ok, Err, Some, None, codes}
-use Rattle.std.specs.Fmt.{digits}
+use Rattle.std.specs.{Fmt.{digits}, Prelude.{Ok, Err, Some, None, codes}}
 use Rattle.rt_command.specs.Choices.{Choices}
-use Rattle.rt_geo.specs.Layers.{all_layers}
-use Rattle.rt_geo.specs.Orders.{near}
-use Rattle.rt_geo.specs.declared.order.Order.TheVariants.{ById}
+use Rattle.rt_geo.specs.{Layers.{all_layers}, Orders.{near}, declared.order.Order.TheVariants.{ById}}
 use Rattle.rt_geo.specs.declared.region.Region.TheVariants.{All, Circle}
 use Rattle.rt_text.proofs.Rows.{boxes, boxes_entries, boxes_load, line}
-use Rattle.rt_text.specs.declared.query.Query.TheVariants.{Boxes}
-use Rattle.rt_text.specs.declared.query.Report.TheVariants.{Answers}
-use Rattle.rt_text.specs.declared.tables.TableFault.TheVariants as fault
+use Rattle.rt_text.specs.declared.query.{Query.TheVariants.{Boxes}, Report.TheVariants.{Answers}}
 use Rattle.rt_search.specs.Answers.{answers}
-use Rattle.rt_filter.specs.Faults.{run_fault_line}
-use Rattle.rt_filter.specs.Lines.{numbered_lines}
-use Rattle.rt_filter.specs.Replies.{meaning_of, query_reply}
-use Rattle.rt_filter.specs.Runs.{Run, run_of, run_over}
-use Rattle.rt_filter.specs.declared.filter.RunFault.TheVariants.{Table}
+use Rattle.rt_filter.specs.{Faults.{run_fault_line}, Lines.{numbered_lines}, Replies.{meaning_of, query_reply}, Runs.{Run}}
+use Rattle.rt_filter.specs.{Runs.{run_of, run_over}, declared.filter.RunFault.TheVariants.{Table}}
 use Rattle.rt_filter.proofs.RunLemmas.{loaded_with, whole_run}
+use Rattle.rt_text.specs.declared.tables.TableFault.TheVariants as fault
 
 -- ---- lines
 

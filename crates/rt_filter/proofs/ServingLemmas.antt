@@ -1,23 +1,17 @@
 -- One turn after the other, and how serving ends.
-use Rattle.std.proofs.Common.{◌≡◌, ◌∙◌, ◌+◌, ◌≤◌, ℕ, true, false, List, [], ◌++◌, length, take, drop, Option, Some, None, refl, sym, ap, subst, arith, append_assoc, append-nil}
-use Rattle.std.specs.Prelude.{unwrap_or}
-use Rattle.std.specs.Io.{StartsWith}
-use Rattle.std.specs.Io.KnownBytes.{Consumes, IsAtEnd}
-use Rattle.std.proofs.Math.Seq.{take-append_seam}
+use Rattle.std.proofs.Common.{◌≡◌, ◌∙◌, ◌+◌, ◌≤◌, ℕ, true, false, List, [], ◌++◌, length, take, drop, Option, Some, None, refl}
+use Rattle.std.proofs.{Common.{sym, ap, subst, arith, append_assoc, append-nil}, Math.Seq.{take-append_seam}}
 use Rattle.std.proofs.lemmas.List.{length-append, length-take-le}
+use Rattle.std.specs.{Io.{StartsWith, KnownBytes.{Consumes, IsAtEnd}}, Prelude.{unwrap_or}}
 use Rattle.rt_device.specs.Devices.{IsSameIfTold, PulledTimes}
 use Rattle.rt_text.specs.Words.{is_empty}
-use Rattle.rt_filter.specs.Endings.{ConsumedAtLeast, Happened, Serves, SinkTells, SourceTells}
-use Rattle.rt_filter.specs.Lines.{completed, longest_line, numbered_lines}
-use Rattle.rt_filter.specs.Pushes.{WasCut, WasPushed, WentPrefix}
-use Rattle.rt_filter.specs.Replies.{Loaded, any_fault, output}
-use Rattle.rt_filter.specs.Sessions.{Heard, heard_of}
-use Rattle.rt_filter.specs.Stages.{IsServing}
-use Rattle.rt_filter.specs.declared.serving.ServeFault.TheVariants as serve
+use Rattle.rt_filter.specs.{Endings.{ConsumedAtLeast, Happened, Serves, SinkTells, SourceTells}, Lines.{completed}}
+use Rattle.rt_filter.specs.{Lines.{longest_line, numbered_lines}, Pushes.{WasCut, WasPushed, WentPrefix}, Replies.{Loaded}}
+use Rattle.rt_filter.specs.{Replies.{any_fault, output}, Sessions.{Heard, heard_of}, Stages.{IsServing}}
 use Rattle.rt_filter.specs.declared.serving.Served.{Served}
-use Rattle.rt_filter.proofs.LineLemmas.{completed-all}
-use Rattle.rt_filter.proofs.PushLemmas.{behind}
-use Rattle.rt_filter.proofs.SessionLemmas.{any_fault-append, or_first, output-append, pushed_same, pushed_then}
+use Rattle.rt_filter.proofs.{LineLemmas.{completed-all}, PushLemmas.{behind}, SessionLemmas.{any_fault-append, or_first}}
+use Rattle.rt_filter.proofs.SessionLemmas.{output-append, pushed_same, pushed_then}
+use Rattle.rt_filter.specs.declared.serving.ServeFault.TheVariants as serve
 
 -- ---- what a source and a sink tell
 

@@ -1,21 +1,17 @@
 -- What a session has heard, and what it has answered.
-use Rattle.std.proofs.Common.{◌≡◌, ◌∙◌, ◌+◌, ℕ, Bool, true, false, ◌||◌, List, [], ◌∷◌, ◌++◌, length, take, drop, Option, Some, None, refl, sym, ap, subst, arith, append_assoc, append-nil}
-use Rattle.std.specs.Prelude.{nat_lt, Err, MatchResult, Ok, Result}
-use Rattle.std.specs.Io.KnownBytes.{Keeps}
-use Rattle.std.proofs.Math.Bool.{or-false}
-use Rattle.std.proofs.lemmas.Bool.{lt-ltb, ltb-true}
-use Rattle.std.proofs.lemmas.Grind.{flat_map-append}
-use Rattle.std.proofs.lemmas.List.{length-append}
-use Rattle.std.proofs.lemmas.List.Folds.{list_any-append}
+use Rattle.std.proofs.Common.{◌≡◌, ◌∙◌, ◌+◌, ℕ, Bool, true, false, ◌||◌, List, [], ◌∷◌, ◌++◌, length, take, drop, Option, Some}
+use Rattle.std.proofs.{Common.{None, refl, sym, ap, subst, arith, append_assoc, append-nil}, Math.Bool.{or-false}}
+use Rattle.std.proofs.lemmas.{Bool.{lt-ltb, ltb-true}, Grind.{flat_map-append}, List.{length-append, Folds.{list_any-append}}}
+use Rattle.std.specs.{Io.KnownBytes.{Keeps}, Prelude.{nat_lt, Err, MatchResult, Ok, Result}}
 use Rattle.memchr.specs.Find.{IsFirstByte, is_byte}
 use Rattle.rt_device.specs.Devices.{IsSameIfTold}
-use Rattle.rt_filter.specs.Lines.{begun_line, completed, longest_line, numbered_lines}
-use Rattle.rt_filter.specs.Replies.{Loaded, any_fault, is_fault, judged_line, output, reply}
-use Rattle.rt_filter.specs.Pushes.{WasCut, WasPushed}
-use Rattle.rt_filter.specs.Sessions.{Heard, heard_of, kept_of}
-use Rattle.rt_filter.specs.Stages.{HasNoLineFeed, IsAnswered, is_nothing, kept_with, line_feed, lines_from, parsed_with}
-use Rattle.rt_filter.proofs.LineLemmas.{IsCutAt, begun-found, begun-none, completed-all, completed-append, completed-ended, completed-ended_none, completed-found, completed-none, found}
-use Rattle.rt_filter.proofs.PushLemmas.{pushed_cut, pushed_next, pushed_none, pushed_prefix, pushed_whole}
+use Rattle.rt_filter.specs.{Lines.{begun_line, completed, longest_line, numbered_lines}, Pushes.{WasCut, WasPushed}}
+use Rattle.rt_filter.specs.{Replies.{Loaded, any_fault, is_fault, judged_line, output, reply}, Sessions.{Heard, heard_of}}
+use Rattle.rt_filter.specs.{Sessions.{kept_of}, Stages.{HasNoLineFeed, IsAnswered, is_nothing, kept_with, line_feed}}
+use Rattle.rt_filter.specs.Stages.{lines_from, parsed_with}
+use Rattle.rt_filter.proofs.LineLemmas.{IsCutAt, begun-found, begun-none, completed-all, completed-append, completed-ended}
+use Rattle.rt_filter.proofs.{LineLemmas.{completed-ended_none, completed-found, completed-none, found}, PushLemmas.{pushed_cut}}
+use Rattle.rt_filter.proofs.PushLemmas.{pushed_next, pushed_none, pushed_prefix, pushed_whole}
 
 -- ---- how a line begins
 

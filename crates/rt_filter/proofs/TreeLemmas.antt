@@ -1,32 +1,18 @@
 -- Entries in another order are answered the same: what a tree holds is what was packed.
 use Rattle.std.proofs.Common.{◌≡◌, ◌≤◌, ◌∙◌, ◌++◌, ℕ, List, [], ◌∷◌, Option, refl, ap, ap₂, subst, sym}
-use Rattle.std.proofs.lemmas.List.Concat.{flat_map-cons}
-use Rattle.std.specs.List.{IsDistinct}
-use Rattle.std.specs.List.Sorted.{IsPermutation}
-use Rattle.std.specs.Ordering.{int_eq}
-use Rattle.std.proofs.lemmas.List.Sorted.{IsPermutation-sym, length_permutation}
-use Rattle.rt_geo.specs.Laws.{Meaning}
-use Rattle.rt_geo.specs.declared.entry.Entry.{Entry}
-use Rattle.rt_tree.specs.Packing.{pack_of}
-use Rattle.rt_tree.proofs.PackSound.{entries-IsPermutation}
-use Rattle.rt_tree.proofs.Repacked.{pack_of-IsPermutation}
-use Rattle.rt_tree.specs.Entries.{ids_of}
-use Rattle.rt_tree.specs.Levels.{level_sizes}
-use Rattle.rt_tree.specs.Packed.{IsSound, Packed}
+use Rattle.std.proofs.lemmas.List.{Concat.{flat_map-cons}, Sorted.{IsPermutation-sym, length_permutation}}
+use Rattle.std.specs.{List.{IsDistinct, Sorted.{IsPermutation}}, Ordering.{int_eq}}
+use Rattle.rt_geo.specs.{Laws.{Meaning}, declared.entry.Entry.{Entry}}
+use Rattle.rt_tree.specs.{Entries.{ids_of}, Levels.{level_sizes}, Packed.{IsSound, Packed}, Packing.{pack_of}}
 use Rattle.rt_tree.specs.Sorting.{limited}
-use Rattle.rt_text.specs.ReplyLines.{ok_line}
-use Rattle.rt_text.specs.declared.query.BoxQuery.{BoxQuery}
-use Rattle.rt_text.specs.declared.query.Parsed.{Parsed}
-use Rattle.rt_text.specs.declared.query.Parsed.TheVariants as parsed
-use Rattle.rt_text.specs.declared.query.Query.{Query}
-use Rattle.rt_text.specs.declared.query.Query.TheVariants.{Boxes, Cost, Levels}
-use Rattle.rt_text.specs.declared.query.Report.{Report}
-use Rattle.rt_text.specs.declared.query.Report.TheVariants.{Answers, Count}
+use Rattle.rt_tree.proofs.{PackSound.{entries-IsPermutation}, Repacked.{pack_of-IsPermutation}}
+use Rattle.rt_text.specs.{ReplyLines.{ok_line}, declared.query.{BoxQuery.{BoxQuery}, Parsed.{Parsed}, Query.{Query}}}
+use Rattle.rt_text.specs.declared.query.{Query.TheVariants.{Boxes, Cost, Levels}, Report.{Report, TheVariants.{Answers, Count}}}
 use Rattle.rt_search.specs.Answers.{answers}
 use Rattle.rt_filter.specs.Replies.{Loaded, find_reply, judged_line, levels_reply, meaning_of, opened_for, output, query_reply}
-use Rattle.rt_filter.specs.Replies.{reply, report_of, tree_of}
-use Rattle.rt_filter.specs.Stages.{loaded_tree}
+use Rattle.rt_filter.specs.{Replies.{reply, report_of, tree_of}, Stages.{loaded_tree}}
 use Rattle.rt_search.proofs.Answering.{accepted-IsPermutation, among-IsPermutation}
+use Rattle.rt_text.specs.declared.query.Parsed.TheVariants as parsed
 
 -- ---- answers
 

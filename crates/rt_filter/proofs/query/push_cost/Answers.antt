@@ -1,6 +1,5 @@
 use Rattle.std.proofs.Common.{◌≡◌, ◌∙◌, rules}
-use Rattle.rt_filter.specs.Replies.{query_reply}
-use Rattle.rt_filter.specs.Stages.{loaded_tree}
+use Rattle.rt_filter.specs.{Replies.{query_reply}, Stages.{loaded_tree}}
 use Rattle.rt_text.specs.declared.query.Query.TheVariants.{Cost}
 use Rattle.rt_filter.proofs.TreeLemmas.{cost_same}
 use Rattle.rt_filter.proofs.query.push_cost.Goals as goal

@@ -1,7 +1,6 @@
 use Rattle.std.proofs.Common.{subst}
 use Rattle.rt_search.specs.Answers.{answers}
-use Rattle.rt_filter.specs.Pushes.{Pushed}
-use Rattle.rt_filter.specs.Replies.{find_reply}
+use Rattle.rt_filter.specs.{Pushes.{Pushed}, Replies.{find_reply}}
 use Rattle.rt_filter.proofs.query.push_in_region.Goals as goal
 
 pub returns-in-Some-clause-pushed : goal.returns-in-Some-clause-pushed

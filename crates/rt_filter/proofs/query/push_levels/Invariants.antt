@@ -1,8 +1,7 @@
 use Rattle.std.proofs.Common.{◌≡◌, length}
 use Rattle.rt_tree.specs.Levels.{level_sizes}
 use Rattle.rt_filter.specs.Replies.{levels_reply}
-use Rattle.rt_filter.proofs.LevelLemmas.{levels_left}
-use Rattle.rt_filter.proofs.PushLemmas.{AllBut}
+use Rattle.rt_filter.proofs.{LevelLemmas.{levels_left}, PushLemmas.{AllBut}}
 use Rattle.rt_filter.proofs.query.push_levels.Given as goal
 
 -- no call has failed, and the lines of the levels so far have gone out

@@ -1,7 +1,6 @@
 use Rattle.std.proofs.Common.{◌≡◌, ◌+◌, length}
 use Rattle.rt_filter.specs.Replies.{find_reply}
-use Rattle.rt_filter.proofs.FindLemmas.{reply_left}
-use Rattle.rt_filter.proofs.PushLemmas.{AllBut}
+use Rattle.rt_filter.proofs.{FindLemmas.{reply_left}, PushLemmas.{AllBut}}
 use Rattle.rt_filter.proofs.reply.push_search.Given as goal
 
 -- the lines of the answers so far have gone out

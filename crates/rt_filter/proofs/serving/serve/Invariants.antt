@@ -1,8 +1,6 @@
 use Rattle.std.proofs.Common.{◌≡◌, ◌*◌, ◌≤◌, false, length}
 use Rattle.rt_device.specs.Devices.{PulledTimes}
-use Rattle.rt_filter.specs.Endings.{ConsumedAtLeast}
-use Rattle.rt_filter.specs.Replies.{Loaded, tree_of}
-use Rattle.rt_filter.specs.Stages.{IsServing, most_pulled}
+use Rattle.rt_filter.specs.{Endings.{ConsumedAtLeast}, Replies.{Loaded, tree_of}, Stages.{IsServing, most_pulled}}
 use Rattle.rt_filter.proofs.serving.serve.Given as goal
 
 -- no call has failed, each turn gave a byte at least, and what was pulled is answered and flushed

@@ -1,12 +1,9 @@
 use Rattle.std.proofs.Common.{false, rules, ◌+◌, ◌-◌, ◌≤◌, ◌≡◌, ◌∙◌, ◌++◌, ℕ, List, length, take, drop, ap, arith}
-use Rattle.std.proofs.lemmas.Grind.{common_steps}
-use Rattle.std.proofs.lemmas.List.{length-drop}
-use Rattle.rt_filter.specs.Lines.{completed}
-use Rattle.rt_filter.specs.Replies.{output}
-use Rattle.rt_filter.specs.Stages.{loaded_tree}
-use Rattle.rt_filter.proofs.LineLemmas.{found_none}
-use Rattle.rt_filter.proofs.PushLemmas.{as_failed, at_failure}
-use Rattle.rt_filter.proofs.SessionLemmas.{answered-all, answered-cut, answered-heard, answered-more, fault-cut, fault-kept, pushed_kept, pushed_lost}
+use Rattle.std.proofs.lemmas.{Grind.{common_steps}, List.{length-drop}}
+use Rattle.rt_filter.specs.{Lines.{completed}, Replies.{output}, Stages.{loaded_tree}}
+use Rattle.rt_filter.proofs.{LineLemmas.{found_none}, PushLemmas.{as_failed, at_failure}, SessionLemmas.{answered-all}}
+use Rattle.rt_filter.proofs.SessionLemmas.{answered-cut, answered-heard, answered-more, fault-cut, fault-kept, pushed_kept}
+use Rattle.rt_filter.proofs.SessionLemmas.{pushed_lost}
 use Rattle.rt_filter.proofs.session.Progress.answer.Goals as goal
 
 pub returns-in_err-frontier-clause-replies : goal.returns-in_err-frontier-clause-replies

@@ -1,8 +1,6 @@
 use Rattle.std.proofs.Common.{false, ◌∙◌, ap, take}
-use Rattle.rt_filter.specs.Lines.{completed}
-use Rattle.rt_filter.specs.Replies.{output}
-use Rattle.rt_filter.proofs.PushLemmas.{pushed_told}
-use Rattle.rt_filter.proofs.TreeLemmas.{output_same}
+use Rattle.rt_filter.specs.{Lines.{completed}, Replies.{output}}
+use Rattle.rt_filter.proofs.{PushLemmas.{pushed_told}, TreeLemmas.{output_same}}
 use Rattle.rt_filter.proofs.session.Session.answer.Goals as goal
 
 pub returns-clause-replies : goal.returns-clause-replies
