@@ -4,7 +4,10 @@ use Rattle.std.proofs.{Common.{sym}, lemmas.List.Elements.{recursion_from_All}}
 use Rattle.std.specs.List.{All, AllByRecursion}
 use Rattle.rt_geo.specs.{Entries.{HasLayer}, Laws.{Extent, Meaning, extent_of_entry}, Layers.{all_layers, disjoint}}
 use Rattle.rt_geo.specs.{Lemmas.Layers.{disjoint-only, has-all}, OnLayers.{on_layers_accepts}, Orders.{order_score}}
-use Rattle.rt_geo.specs.{Regions.{region_accepts}, declared.{entry.Entry.{Entry}, layers.Layers.{Layers}, order.Order.{Order}}}
+use Rattle.rt_geo.specs.{Discs.{MeansBoth, disc_meaning}, Regions.{region_accepts}, declared.{entry.Entry.{Entry}}}
+use Rattle.rt_geo.specs.declared.{disc.Disc.{Disc}, layers.Layers.{Layers}, order.Order.{Order}, region.Region.{Region}}
+use Rattle.rt_geo.specs.declared.shapes.Circle.{Circle}
+use Rattle.rt_geo.specs.declared.region.Region.TheVariants as region
 use Rattle.rt_text.specs.{ReplyLines.{ok_line}, declared.query.{BoxQuery.{BoxQuery}, Report.{Report, TheVariants.{Answers}}}}
 use Rattle.rt_text.specs.declared.query.Report.TheVariants.{Count}
 use Rattle.rt_filter.specs.{Replies.{find_reply, meaning_of, report_of}, Reports.{report_on, scanned}}
@@ -65,3 +68,10 @@ pub report_on-asked : (entries : List Entry) (line : ℕ) (asked : BoxQuery) (re
     ≡ report_of entries line (meaning_of asked) report
 report_on-asked entries line asked (Answers limit) = refl
 report_on-asked entries line asked Count = refl
+
+-- the report on a circle's boxes is that on its disc's, where that means both
+pub report_on-disc : (entries : List Entry) (line : ℕ) (asked : Region) (order : Order) (report : Report) (limit : Option ℕ)
+    (circle : Circle) (disc : Disc) → asked ≡ region.Circle circle → report ≡ Answers limit → MeansBoth disc circle order
+    → report_on entries (region_accepts asked) line order report ≡ find_reply line (answers entries (disc_meaning disc) limit)
+report_on-disc entries line asked order report limit circle disc r a means =
+    rw (r, a) (sym (ap (λ meaning. find_reply line (answers entries meaning limit)) means))
