@@ -145,6 +145,13 @@ ends_early choices table outcome cause h of_load own fault status coming written
 
 -- ---- where nothing fails outside
 
+-- a fault of the load is none of the queries' source or of the sink
+pub never_outside : (fault : Option RunFault) (cause : RunFault) → fault ≡ Some cause → is_of_load (Some cause) ≡ true
+    → (fault ≢ Some run.Read) × (fault ≢ Some run.Write)
+never_outside fault cause is of_load =
+    let h : is_of_load fault ≡ true = rw is of_load in
+    (λ e. absurd (grind (arith, (rw e at h))), λ e. absurd (grind (arith, (rw e at h))))
+
 row_whole : (loaded : Result Loaded TableFault) (whole : Run) (what : Happened) (outcome : Outcome) (fault : Option RunFault)
     → EndsWith loaded whole what outcome fault → fault ≢ Some run.Memory → fault ≢ Some (run.Table load.Read) → fault ≢ Some run.Read
     → fault ≢ Some run.Write → whole ≡ (what.out, outcome)
