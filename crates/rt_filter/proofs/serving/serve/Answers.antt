@@ -86,3 +86,7 @@ pub returns-clause-ending : goal.returns-clause-ending
 returns-clause-ending g c loaded packed =
     serves_read loaded _ _ _ _ _ (c.loop-turn.invariant.serving loaded packed) (g.S.Source.coming c.loop-turn.source) c.ended-2.result
     (unmoved_same (g.S.Source.coming c.loop-turn.source)) c.ended-2.ensures.bad c.ended-2.ensures.fault
+
+pub returns-clause-turns : goal.returns-clause-turns
+returns-clause-turns g c e same =
+    let given = c.loop-turn.invariant.given in (given.0, given.1, omega (arith, given.2, c.loop-turn-test.false))

@@ -1,4 +1,4 @@
-use Rattle.std.proofs.Common.{false, rules, ◌+◌, ◌-◌, ◌≤◌, ◌≡◌, ◌∙◌, ◌++◌, ℕ, List, length, take, drop, ap, arith}
+use Rattle.std.proofs.Common.{false, rules, ◌+◌, ◌-◌, ◌≤◌, ◌≡◌, ◌∙◌, ◌++◌, ℕ, List, length, take, drop, ap, sym, arith}
 use Rattle.std.proofs.lemmas.{Grind.{common_steps}, List.{length-drop}}
 use Rattle.rt_filter.specs.{Lines.{completed}, Replies.{output}, Stages.{loaded_tree}}
 use Rattle.rt_filter.proofs.{LineLemmas.{found_none}, PushLemmas.{as_failed, at_failure}, SessionLemmas.{answered-all}}
@@ -56,3 +56,7 @@ returns-clause-replies g c fed is = (
 pub returns-clause-heard : goal.returns-clause-heard
 returns-clause-heard g c =
     answered-heard _ _ _ _ _ _ _ c.loop-end.invariant.answered (found_none c.loop-end.rest.now c.in_default.ensures) c.flush.new.self.heard (search rules)
+
+pub returns-clause-flushed : goal.returns-clause-flushed
+returns-clause-flushed g c e = c.in_ok-flush.ensures.flushed
+    (λ none. c.loop-end.invariant.flushed (sym (ap (λ s. s.is_pushed) c.self.view_is) ∙ none) ∙ e)
