@@ -1,3 +1,4 @@
+use Rattle.std.proofs.Common.{arith}
 use Rattle.rt_filter.proofs.query.push_in_shape.Goals as goal
 
 pub returns-in-ById-clause-pushed : goal.returns-in-ById-clause-pushed
@@ -8,3 +9,6 @@ returns-in-Near-clause-pushed g c = rw (c.in-Answers.is, c.in-Near.is) c.find-in
 
 pub returns-in-Smallest-clause-pushed : goal.returns-in-Smallest-clause-pushed
 returns-in-Smallest-clause-pushed g c = rw (c.in-Answers.is, c.in-Smallest.is) c.find-in-Smallest.ensures.pushed
+
+pub find-requires-in-Near-clause-unscored : goal.find-requires-in-Near-clause-unscored
+find-requires-in-Near-clause-unscored g c e = absurd (grind (arith, e))

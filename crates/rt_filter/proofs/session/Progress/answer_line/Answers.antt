@@ -1,7 +1,16 @@
-use Rattle.std.proofs.Common.{refl}
+use Rattle.std.proofs.Common.{arith, refl}
 use Rattle.rt_filter.proofs.PushLemmas.{nothing_pushed}
 use Rattle.rt_filter.proofs.session.Progress.answer_line.Goals as goal
 
 pub returns-in-Skip-clause-pushed : goal.returns-in-Skip-clause-pushed
 returns-in-Skip-clause-pushed g c =
     rw (← c.self.view_is, ← c.in-Skip.ensures.parsed) (nothing_pushed (g.K.Sink.written c.args.sink.now), refl)
+
+pub returns-in_err-push_line-in-Fault-clause-untouched : goal.returns-in_err-push_line-in-Fault-clause-untouched
+returns-in_err-push_line-in-Fault-clause-untouched g c e = absurd (grind (arith, e))
+
+pub returns-in-Query-clause-untouched : goal.returns-in-Query-clause-untouched
+returns-in-Query-clause-untouched g c e = absurd (grind (arith, e))
+
+pub returns-in_ok-push_line-in-Fault-clause-untouched : goal.returns-in_ok-push_line-in-Fault-clause-untouched
+returns-in_ok-push_line-in-Fault-clause-untouched g c e = absurd (grind (arith, e))
