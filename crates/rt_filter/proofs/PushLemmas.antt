@@ -47,6 +47,11 @@ pushed_next all next rest old mid new p h = record {
       );
 }
 
+-- all that was left was pushed
+pub pushed_rest : (all last : List ℕ) (old mid new : Option (List ℕ)) → AllBut all old mid last → WasPushed mid new last → WasPushed old new all
+pushed_rest all last old mid new p h =
+    pushed_whole all old new [] (pushed_next all last [] old mid new (rw append-nil p) h) refl
+
 -- ---- what was cut short
 
 -- the front of a list is a prefix of it
@@ -128,7 +133,7 @@ module _ {T E K : Type 0} (written : K → Option (List ℕ)) (failed : K → �
   pub pushed_last : (all last : List ℕ) (r : Result T E) → AllBut all (written old) (written mid) last → failed mid ≡ failed old
       → Pushed written failed mid new r last → Pushed written failed old new r all
   pushed_last all last (Ok x) p count h = (
-    pushed_whole all _ _ [] (pushed_next all last [] _ _ _ (rw append-nil p) h.0) refl,
+    pushed_rest all last _ _ _ p h.0,
     h.1 ∙ count,
   )
   pushed_last all last (Err e) p count h = (
