@@ -1,5 +1,5 @@
 -- The lines of the answers, one after the other.
-use Rattle.std.proofs.Common.{◌≡◌, ◌<◌, ◌≤◌, ℕ, ℤ, List, ◌∷◌, ◌++◌, length, Option, Some, None, ap, arith, append_assoc}
+use Rattle.std.proofs.Common.{◌≡◌, ◌+◌, ◌<◌, ◌≤◌, ℕ, ℤ, List, [], ◌∷◌, ◌++◌, length, Option, Some, None, ap, arith, append_assoc}
 use Rattle.std.proofs.lemmas.List.{length-take, Concat.{flat_map-cons}, Sorted.{length_permutation}}
 use Rattle.rt_geo.specs.{Laws.{Meaning}, declared.entry.Entry.{Entry}}
 use Rattle.rt_tree.specs.Sorting.{limited, sorted}
@@ -30,6 +30,12 @@ few_answers entries meaning limit found n most is size few =
 -- what is left of a reply: the lines of these answers, and the number of all
 abbrev pub reply_left : (line count : ℕ) → List Answer → List ℕ
 reply_left line count found = answer_lines found ++ ok_line line count
+
+-- only their number is left
+pub reply_end : (all : List ℕ) (old mid : Option (List ℕ)) (line count n : ℕ) (found : List Answer) → found ≡ []
+    → n + length found ≡ count → AllBut all old mid (reply_left line count found) → AllBut all old mid (ok_line line n)
+reply_end all old mid line count n found none many left =
+    let same : n ≡ count = omega (arith, ap length none, many) in rw same (rw none at left)
 
 module _ (all : List ℕ) (old mid new : Option (List ℕ)) (line count : ℕ) (id : ℤ) (score : ℕ) (found more : List Answer) (is : found ≡ (id, score) ∷ more) (left : AllBut all old mid (reply_left line count found)) where
   next : AllBut all old mid (answer_line id score ++ reply_left line count more)

@@ -48,7 +48,8 @@ pushed_next all next rest old mid new p h = record {
 }
 
 -- all that was left was pushed
-pub pushed_rest : (all last : List ℕ) (old mid new : Option (List ℕ)) → AllBut all old mid last → WasPushed mid new last → WasPushed old new all
+pub pushed_rest : (all last : List ℕ) (old mid new : Option (List ℕ)) → AllBut all old mid last → WasPushed mid new last
+    → WasPushed old new all
 pushed_rest all last old mid new p h =
     pushed_whole all old new [] (pushed_next all last [] old mid new (rw append-nil p) h) refl
 

@@ -11,7 +11,7 @@ use Rattle.rt_filter.specs.{Endings.{StillTells}, Faults.{status_of}, Lines.{num
 use Rattle.rt_filter.specs.{Replies.{output, tree_of}, Runs.{Run, loaded_of, run_of, run_over}, Stages.{HasLoaded, Stops}}
 use Rattle.rt_filter.specs.{Stages.{is_of_load, run_fault_of}, declared.filter.{Outcome.{Outcome}, RunFault.{RunFault}}}
 use Rattle.rt_filter.specs.declared.serving.{ServeFault.{ServeFault}, Served.{Served}}
-use Rattle.rt_filter.proofs.{ServingLemmas.{consumes_none, sink_tells, so_far, source_tells}, SessionLemmas.{pushed_same}}
+use Rattle.rt_filter.proofs.{ServingLemmas.{consumes_none, sink_tells, so_far, source_tells}, PushLemmas.{nothing_pushed}}
 use Rattle.rt_text.specs.declared.tables.TableFault.TheVariants as load
 use Rattle.rt_filter.specs.declared.filter.RunFault.TheVariants as run
 use Rattle.rt_filter.specs.declared.serving.ServeFault.TheVariants as serve
@@ -29,8 +29,6 @@ ended_with written fault status = (written, record { status = status; fault = fa
 -- a run that reads and writes all
 abbrev pub whole_run : (written : List ℕ) → (bad : Bool) → Run
 whole_run written bad = ended_with written None (if bad then 1 else 0)
-
--- ---- the table was refused
 
 -- ---- the table was loaded
 
@@ -82,7 +80,7 @@ module _ (choices : Choices) (table : List ℕ) (status : ℕ) where
       let what = so_far [] coming [] in (
         what,
         source_tells (Some cause ≡ Some run.Read) coming coming [] [] (consumes_none coming),
-        sink_tells (Some cause ≡ Some run.Write) written written what (pushed_same written),
+        sink_tells (Some cause ≡ Some run.Write) written written what (nothing_pushed written),
         row what refl refl cause h of_load own is,
       )
 

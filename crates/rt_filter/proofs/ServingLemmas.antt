@@ -1,5 +1,5 @@
 -- One turn after the other, and how serving ends.
-use Rattle.std.proofs.Common.{◌≡◌, ◌∙◌, ◌+◌, ◌≤◌, ℕ, true, false, List, [], ◌++◌, length, take, drop, Option, Some, None, refl}
+use Rattle.std.proofs.Common.{◌≡◌, ◌∙◌, ◌+◌, ◌<◌, ◌≤◌, ℕ, true, false, List, [], ◌++◌, length, take, drop, Option, Some, None, refl}
 use Rattle.std.proofs.{Common.{sym, ap, subst, arith, append_assoc, append-nil}, Math.Seq.{take-append_seam}}
 use Rattle.std.proofs.lemmas.List.{length-append, length-take-le}
 use Rattle.std.specs.{Io.{StartsWith, KnownBytes.{Consumes, IsAtEnd}}, Prelude.{unwrap_or}}
@@ -9,8 +9,8 @@ use Rattle.rt_filter.specs.{Endings.{ConsumedAtLeast, Happened, Serves, SinkTell
 use Rattle.rt_filter.specs.{Lines.{longest_line, numbered_lines}, Pushes.{WasCut, WasPushed, WentPrefix}, Replies.{Loaded}}
 use Rattle.rt_filter.specs.{Replies.{any_fault, output}, Sessions.{Heard, heard_of}, Stages.{IsServing}}
 use Rattle.rt_filter.specs.declared.serving.Served.{Served}
-use Rattle.rt_filter.proofs.{LineLemmas.{completed-all}, PushLemmas.{behind}, SessionLemmas.{any_fault-append, or_first}}
-use Rattle.rt_filter.proofs.SessionLemmas.{output-append, pushed_same, pushed_then}
+use Rattle.rt_filter.proofs.{LineLemmas.{completed-all}, PushLemmas.{behind, nothing_pushed}, SessionLemmas.{any_fault-append, or_first}}
+use Rattle.rt_filter.proofs.SessionLemmas.{output-append, pushed_then}
 use Rattle.rt_filter.specs.declared.serving.ServeFault.TheVariants as serve
 
 -- ---- what a source and a sink tell
@@ -49,6 +49,11 @@ pulled_more times old (Some m) (Some n) h k = (h.0, h.1, by k.1)
   where
     by : Some m ≡ Some k.0 → n ≡ h.0 + (times + 1)
     by e = let same : m ≡ k.0 = cc in omega (arith, same, h.2, k.2)
+
+-- one pull more, where a turn is left
+pub pulled_within : (times turns : ℕ) (old mid new : Option ℕ) → PulledTimes times old mid → PulledTimes 1 mid new → times < turns
+    → (more : ℕ) × PulledTimes more old new × (more ≤ turns)
+pulled_within times turns old mid new h k left = (times + 1, pulled_more times old mid new h k, omega arith)
 
 -- what rests, where it is told
 abbrev pub rest_of : Option (List ℕ) → List ℕ
@@ -99,7 +104,7 @@ starts-between before xs front back h =
 -- ---- serving
 
 pub serving_first : (loaded : Loaded) (coming written : Option (List ℕ)) (heard : Heard) → heard ≡ heard_of [] → IsServing loaded coming coming written written heard
-serving_first loaded coming written heard e = record { consumed = []; given = consumes_none coming; so = e; pushed = pushed_same written }
+serving_first loaded coming written heard e = record { consumed = []; given = consumes_none coming; so = e; pushed = nothing_pushed written }
 
 module _ (loaded : Loaded) (coming0 coming written0 written : Option (List ℕ)) (heard : Heard) (s : IsServing loaded coming0 coming written0 written heard) where
   abbrev replied : List ℕ

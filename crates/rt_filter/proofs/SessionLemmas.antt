@@ -58,9 +58,6 @@ pub cut_then : (old mid new : Option (List ℕ)) (xs ys zs : List ℕ) → WasPu
 cut_then old mid new xs ys zs h k =
     pushed_cut (xs ++ (ys ++ zs)) ys zs old mid new (pushed_next (xs ++ (ys ++ zs)) xs (ys ++ zs) old old mid (pushed_none (xs ++ (ys ++ zs)) old) h) k
 
-pub pushed_same : (old : Option (List ℕ)) → WasPushed old old []
-pushed_same old = pushed_whole [] old old [] (pushed_none [] old) refl
-
 -- ---- what was heard
 
 heard_with : (fed : List ℕ) (lines : List (ℕ × List ℕ)) (begun : List ℕ) → numbered_lines fed false ≡ lines → begun_line fed ≡ begun

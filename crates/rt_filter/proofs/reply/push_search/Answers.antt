@@ -1,7 +1,7 @@
 use Rattle.std.proofs.Common.{◌≡◌, ◌∙◌, ◌+◌, ap, arith, length, rules}
 use Rattle.rt_text.specs.ReplyLines.{answer_line, ok_line}
 use Rattle.rt_filter.specs.Replies.{find_reply}
-use Rattle.rt_filter.proofs.{FindLemmas.{answer_cut, answer_pushed}, PushLemmas.{as_failed, pushed_last, pushed_rest}}
+use Rattle.rt_filter.proofs.{FindLemmas.{answer_cut, answer_pushed, reply_end}, PushLemmas.{as_failed, pushed_last, pushed_rest}}
 use Rattle.rt_filter.proofs.reply.push_search.Goals as goal
 
 pub returns-in_err-push_line-clause-pushed : goal.returns-in_err-push_line-clause-pushed
@@ -9,7 +9,8 @@ returns-in_err-push_line-clause-pushed g c =
     let line : c.set_answer_line.new.text ≡ answer_line c.in-Some.id c.in-Some.score = search rules in
     let cut = rw line at c.in_err-push_line.ensures.pushed in
     as_failed g.K.Sink.written g.K.Sink.failed _ c.loop-id.sink _ c.from_residual.result _ _ c.from_residual.ensures.1 (
-      answer_cut (find_reply c.args.line (g.A.AnswerStream.to_come c.args.search)) _ _ _ _ _ c.in-Some.id c.in-Some.score _ _ c.in-Some.ensures.answer c.loop-id.invariant.pushed cut.0,
+      answer_cut (find_reply c.args.line (g.A.AnswerStream.to_come c.args.search)) _ _ _ _ _ c.in-Some.id c.in-Some.score
+          _ _ c.in-Some.ensures.answer c.loop-id.invariant.pushed cut.0,
       cut.1 ∙ ap (λ n. n + 1) c.loop-id.invariant.count,
     )
 
@@ -20,29 +21,22 @@ loop-id-preserved g c =
       count = pushed.1 ∙ c.loop-id.invariant.count;
       capacity = c.in-Some.ensures.capacity ∙ c.loop-id.invariant.capacity;
       many = omega (arith, ap length c.in-Some.ensures.answer, c.loop-id.invariant.many);
-      pushed = answer_pushed (find_reply c.args.line (g.A.AnswerStream.to_come c.args.search)) _ _ _ _ _ c.in-Some.id c.in-Some.score _ _ c.in-Some.ensures.answer
-          c.loop-id.invariant.pushed pushed.0;
+      pushed = answer_pushed (find_reply c.args.line (g.A.AnswerStream.to_come c.args.search)) _ _ _ _ _ c.in-Some.id
+          c.in-Some.score _ _ c.in-Some.ensures.answer c.loop-id.invariant.pushed pushed.0;
     }
 
 pub returns-in_err-push_line-2-clause-pushed : goal.returns-in_err-push_line-2-clause-pushed
 returns-in_err-push_line-2-clause-pushed g c =
-    let all = g.A.AnswerStream.to_come c.args.search in
-    let left = rw c.in_default.ensures.answer at c.loop-id.invariant.pushed in
-    let many : c.loop-id.found ≡ length all =
-    omega (arith, ap length c.in_default.ensures.answer, c.loop-id.invariant.many) in
-    let cut = rw (c.set_ok_line.ensures ∙ ap (ok_line c.args.line) many) at c.in_err-push_line-2.ensures.pushed in
-    pushed_last g.K.Sink.written g.K.Sink.failed _ c.loop-id.sink _ (find_reply c.args.line all) (ok_line c.args.line (length all)) _ left
+    let all = find_reply c.args.line (g.A.AnswerStream.to_come c.args.search) in
+    let left = reply_end all _ _ c.args.line _ _ _ c.in_default.ensures.answer c.loop-id.invariant.many c.loop-id.invariant.pushed in
+    pushed_last g.K.Sink.written g.K.Sink.failed _ c.loop-id.sink _ all (ok_line c.args.line c.loop-id.found) _ left
     c.loop-id.invariant.count (as_failed g.K.Sink.written g.K.Sink.failed c.loop-id.sink c.loop-id.sink _
-    c.from_residual-in_err-push_line-2.result _ _ c.from_residual-in_err-push_line-2.ensures.1 cut)
+    c.from_residual-in_err-push_line-2.result _ _ c.from_residual-in_err-push_line-2.ensures.1
+    (rw c.set_ok_line.ensures at c.in_err-push_line-2.ensures.pushed))
 
 pub returns-clause-pushed : goal.returns-clause-pushed
 returns-clause-pushed g c =
-    let all = g.A.AnswerStream.to_come c.args.search in
-    let left = rw c.in_default.ensures.answer at c.loop-id.invariant.pushed in
-    let many : c.loop-id.found ≡ length all =
-    omega (arith, ap length c.in_default.ensures.answer, c.loop-id.invariant.many) in
-    let last = rw (c.set_ok_line.ensures ∙ ap (ok_line c.args.line) many) at c.in_ok-push_line-2.ensures.pushed in
-    (
-      pushed_rest (find_reply c.args.line all) (ok_line c.args.line (length all)) _ _ _ left last.0,
-      last.1 ∙ c.loop-id.invariant.count,
-    )
+    let all = find_reply c.args.line (g.A.AnswerStream.to_come c.args.search) in
+    let left = reply_end all _ _ c.args.line _ _ _ c.in_default.ensures.answer c.loop-id.invariant.many c.loop-id.invariant.pushed in
+    let last = rw c.set_ok_line.ensures at c.in_ok-push_line-2.ensures.pushed in
+    (pushed_rest all (ok_line c.args.line c.loop-id.found) _ _ _ left last.0, last.1 ∙ c.loop-id.invariant.count)

@@ -1,7 +1,7 @@
 use Rattle.std.proofs.{Common.{◌≡◌, ◌∙◌, ◌+◌, take, length, refl, sym, arith, rules}, lemmas.List.{length-take-le}}
 use Rattle.rt_filter.specs.Stages.{most_pulled}
 use Rattle.rt_filter.proofs.{PushLemmas.{told_cut, unmoved_same}, ServingLemmas.{consumed_more, consumed_none, no_bytes}}
-use Rattle.rt_filter.proofs.ServingLemmas.{pulled_more, pulled_none, serves_all, serves_cut, serves_cut_at_end, serves_read}
+use Rattle.rt_filter.proofs.ServingLemmas.{pulled_more, pulled_none, pulled_within, serves_all, serves_cut, serves_cut_at_end, serves_read}
 use Rattle.rt_filter.proofs.ServingLemmas.{serving_first, serving_more}
 use Rattle.rt_filter.proofs.serving.serve.Goals as goal
 
@@ -24,7 +24,7 @@ returns-in_default-clause-ending g c loaded packed =
 
 pub returns-in_default-clause-most : goal.returns-in_default-clause-most
 returns-in_default-clause-most g c =
-    (c.loop-turn._turn + 1, pulled_more c.loop-turn._turn _ _ _ c.loop-turn.invariant.pulled c.in_default.ensures.counted, omega (arith, c.loop-turn-test.true))
+    pulled_within _ _ _ _ _ c.loop-turn.invariant.pulled c.in_default.ensures.counted c.loop-turn-test.true
 
 pub returns-in_default-end-clause-ending : goal.returns-in_default-end-clause-ending
 returns-in_default-end-clause-ending g c loaded packed =
@@ -36,7 +36,7 @@ returns-in_default-end-clause-ending g c loaded packed =
 
 pub returns-in_default-end-clause-most : goal.returns-in_default-end-clause-most
 returns-in_default-end-clause-most g c =
-    (c.loop-turn._turn + 1, pulled_more c.loop-turn._turn _ _ _ c.loop-turn.invariant.pulled c.in-Ok.ensures.counted, omega (arith, c.loop-turn-test.true))
+    pulled_within _ _ _ _ _ c.loop-turn.invariant.pulled c.in-Ok.ensures.counted c.loop-turn-test.true
 
 pub returns-then-n-eq0-clause-ending : goal.returns-then-n-eq0-clause-ending
 returns-then-n-eq0-clause-ending g c loaded packed =
@@ -48,7 +48,7 @@ returns-then-n-eq0-clause-ending g c loaded packed =
 
 pub returns-then-n-eq0-clause-most : goal.returns-then-n-eq0-clause-most
 returns-then-n-eq0-clause-most g c =
-    (c.loop-turn._turn + 1, pulled_more c.loop-turn._turn _ _ _ c.loop-turn.invariant.pulled c.in-Ok.ensures.counted, omega (arith, c.loop-turn-test.true))
+    pulled_within _ _ _ _ _ c.loop-turn.invariant.pulled c.in-Ok.ensures.counted c.loop-turn-test.true
 
 pub returns-in_default-answer-clause-ending : goal.returns-in_default-answer-clause-ending
 returns-in_default-answer-clause-ending g c loaded packed =
@@ -61,7 +61,7 @@ returns-in_default-answer-clause-ending g c loaded packed =
 
 pub returns-in_default-answer-clause-most : goal.returns-in_default-answer-clause-most
 returns-in_default-answer-clause-most g c =
-    (c.loop-turn._turn + 1, pulled_more c.loop-turn._turn _ _ _ c.loop-turn.invariant.pulled c.in-Ok.ensures.counted, omega (arith, c.loop-turn-test.true))
+    pulled_within _ _ _ _ _ c.loop-turn.invariant.pulled c.in-Ok.ensures.counted c.loop-turn-test.true
 
 pub loop-turn-preserved : goal.loop-turn-preserved
 loop-turn-preserved g c =

@@ -1,12 +1,12 @@
 use Rattle.std.proofs.Common.{true, [], ◌∷◌, ◌++◌, ◌∙◌, sym, ap, rules}
 use Rattle.rt_filter.specs.{Lines.{completed}, Replies.{any_fault, output}, Stages.{line_feed}}
-use Rattle.rt_filter.proofs.{PushLemmas.{pushed_told}, SessionLemmas.{ended-bad, ended-lines_none, ended-lines_some}}
-use Rattle.rt_filter.proofs.{SessionLemmas.{ended-none, ended-some, pushed_same}, TreeLemmas.{output_same}}
+use Rattle.rt_filter.proofs.{PushLemmas.{nothing_pushed, pushed_told}, SessionLemmas.{ended-bad, ended-lines_none, ended-lines_some}}
+use Rattle.rt_filter.proofs.{SessionLemmas.{ended-none, ended-some}, TreeLemmas.{output_same}}
 use Rattle.rt_filter.proofs.session.Session.end.Goals as goal
 
 pub returns-then-is_empty-clause-replies : goal.returns-then-is_empty-clause-replies
 returns-then-is_empty-clause-replies g c loaded packed fed is =
-    rw (ended-none c.args.self.now.heard (search rules) fed is) (pushed_same (g.K.Sink.written c.args.sink.now))
+    rw (ended-none c.args.self.now.heard (search rules) fed is) (nothing_pushed (g.K.Sink.written c.args.sink.now))
 
 pub returns-then-is_empty-clause-bad : goal.returns-then-is_empty-clause-bad
 returns-then-is_empty-clause-bad g c fed is =
