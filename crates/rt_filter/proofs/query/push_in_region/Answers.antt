@@ -6,7 +6,7 @@ pub returns-in-Some-clause-pushed : goal.returns-in-Some-clause-pushed
 returns-in-Some-clause-pushed g c =
     let asked = c.args.asked in
     rw (report_on-disc c.args.tree.now.entries c.args.line asked.region asked.order asked.report c.in-Answers.limit
-        c.in-Circle.circle c.in-Some.disc c.in-Circle.is c.in-Answers.is c.in-Some.ensures.means) c.find.ensures.pushed
+    c.in-Circle.circle c.in-Some.disc c.in-Circle.is c.in-Answers.is c.in-Some.ensures.means) c.find.ensures.pushed
 
 pub find-requires-clause-unscored : goal.find-requires-clause-unscored
 find-requires-clause-unscored g c e = absurd (grind (arith, e))

@@ -1,4 +1,4 @@
-use Rattle.std.proofs.{Common.{◌≡◌, ◌∙◌, ◌+◌, take, length, refl, sym, arith, rules}, lemmas.List.{length-take-le}}
+use Rattle.std.proofs.{Common.{◌≡◌, ◌∙◌, take, length, refl, sym, arith, rules}, lemmas.List.{length-take-le}}
 use Rattle.rt_filter.specs.Stages.{most_pulled}
 use Rattle.rt_filter.proofs.{PushLemmas.{told_cut, unmoved_same}, ServingLemmas.{consumed_more, consumed_none, no_bytes}}
 use Rattle.rt_filter.proofs.ServingLemmas.{pulled_more, pulled_none, pulled_within, serves_all, serves_cut, serves_cut_at_end, serves_read}

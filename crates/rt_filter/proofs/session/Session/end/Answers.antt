@@ -1,7 +1,7 @@
 use Rattle.std.proofs.Common.{true, [], ◌∷◌, ◌++◌, ◌∙◌, sym, ap, rules}
 use Rattle.rt_filter.specs.{Lines.{completed}, Replies.{any_fault, output}, Stages.{line_feed}}
-use Rattle.rt_filter.proofs.{PushLemmas.{nothing_pushed, pushed_told}, SessionLemmas.{ended-bad, ended-lines_none, ended-lines_some}}
-use Rattle.rt_filter.proofs.{SessionLemmas.{ended-none, ended-some}, TreeLemmas.{output_same}}
+use Rattle.rt_filter.proofs.{PushLemmas.{nothing_pushed, pushed_told}, SessionLemmas.{ended-bad, ended-lines_none}}
+use Rattle.rt_filter.proofs.{SessionLemmas.{ended-lines_some, ended-none, ended-some}, TreeLemmas.{output_same}}
 use Rattle.rt_filter.proofs.session.Session.end.Goals as goal
 
 pub returns-then-is_empty-clause-replies : goal.returns-then-is_empty-clause-replies
