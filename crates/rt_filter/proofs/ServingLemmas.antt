@@ -1,6 +1,6 @@
 -- One turn after the other, and how serving ends.
-use Rattle.std.proofs.Common.{◌≡◌, ◌∙◌, ◌+◌, ◌<◌, ◌≤◌, ℕ, true, false, List, [], ◌++◌, length, take, drop, Option, Some, None, refl}
-use Rattle.std.proofs.{Common.{sym, ap, subst, arith, append_assoc, append-nil}, Math.Seq.{take-append_seam}}
+use Rattle.std.proofs.Common.{◌≡◌, ◌∙◌, ◌+◌, ◌<◌, ◌≤◌, ℕ, true, false, List, [], ◌++◌, length, take, drop, Option, Some, None}
+use Rattle.std.proofs.{Common.{refl, sym, ap, subst, arith, append_assoc, append-nil}, Math.Seq.{take-append_seam}}
 use Rattle.std.proofs.lemmas.List.{length-append, length-take-le}
 use Rattle.std.specs.{Io.{StartsWith, KnownBytes.{Consumes, IsAtEnd}}, Prelude.{unwrap_or}}
 use Rattle.rt_device.specs.Devices.{IsSameIfTold, PulledTimes}
@@ -9,8 +9,8 @@ use Rattle.rt_filter.specs.{Endings.{ConsumedAtLeast, Happened, Serves, SinkTell
 use Rattle.rt_filter.specs.{Lines.{longest_line, numbered_lines}, Pushes.{WasCut, WasPushed, WentPrefix}, Replies.{Loaded}}
 use Rattle.rt_filter.specs.{Replies.{any_fault, output}, Sessions.{Heard, heard_of}, Stages.{IsServing}}
 use Rattle.rt_filter.specs.declared.serving.Served.{Served}
-use Rattle.rt_filter.proofs.{LineLemmas.{completed-all}, PushLemmas.{behind, nothing_pushed}, SessionLemmas.{any_fault-append, or_first}}
-use Rattle.rt_filter.proofs.SessionLemmas.{output-append, pushed_then}
+use Rattle.rt_filter.proofs.{LineLemmas.{completed-all}, PushLemmas.{behind, nothing_pushed}, SessionLemmas.{any_fault-append}}
+use Rattle.rt_filter.proofs.SessionLemmas.{or_first, output-append, pushed_then}
 use Rattle.rt_filter.specs.declared.serving.ServeFault.TheVariants as serve
 
 -- ---- what a source and a sink tell

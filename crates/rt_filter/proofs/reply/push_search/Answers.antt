@@ -1,7 +1,8 @@
 use Rattle.std.proofs.Common.{◌≡◌, ◌∙◌, ◌+◌, ap, arith, length, rules}
 use Rattle.rt_text.specs.ReplyLines.{answer_line, ok_line}
 use Rattle.rt_filter.specs.Replies.{find_reply}
-use Rattle.rt_filter.proofs.{FindLemmas.{answer_cut, answer_pushed, reply_end}, PushLemmas.{as_failed, pushed_last, pushed_rest}}
+use Rattle.rt_filter.proofs.{FindLemmas.{answer_cut, answer_pushed, reply_end}, PushLemmas.{as_failed, pushed_last}}
+use Rattle.rt_filter.proofs.PushLemmas.{pushed_rest}
 use Rattle.rt_filter.proofs.reply.push_search.Goals as goal
 
 pub returns-in_err-push_line-clause-pushed : goal.returns-in_err-push_line-clause-pushed

@@ -1,8 +1,8 @@
 use Rattle.std.proofs.{Common.{◌≡◌, ◌∙◌, take, length, refl, sym, arith, rules}, lemmas.List.{length-take-le}}
 use Rattle.rt_filter.specs.Stages.{most_pulled}
 use Rattle.rt_filter.proofs.{PushLemmas.{told_cut, unmoved_same}, ServingLemmas.{consumed_more, consumed_none, no_bytes}}
-use Rattle.rt_filter.proofs.ServingLemmas.{pulled_more, pulled_none, pulled_within, serves_all, serves_cut, serves_cut_at_end, serves_read}
-use Rattle.rt_filter.proofs.ServingLemmas.{serving_first, serving_more}
+use Rattle.rt_filter.proofs.ServingLemmas.{pulled_more, pulled_none, pulled_within, serves_all, serves_cut, serves_cut_at_end}
+use Rattle.rt_filter.proofs.ServingLemmas.{serves_read, serving_first, serving_more}
 use Rattle.rt_filter.proofs.serving.serve.Goals as goal
 
 pub loop-turn-init : goal.loop-turn-init
