@@ -92,10 +92,10 @@ def timed(call: Callable[[], Result]) -> tuple[float, Result]:
 def most_resident(name: str) -> int:
     """The most memory, in MiB, that the processes with a name in their command have held, each by itself."""
     found = []
-    for status in Path("/proc").glob("[0-9]*/status"):
+    for process in Path("/proc").glob("[0-9]*"):
         with contextlib.suppress(OSError):
-            if os.fsencode(name) in status.with_name("cmdline").read_bytes():
-                words = dict(line.split(":", 1) for line in status.read_text().splitlines())
+            if os.fsencode(name) in (process / "cmdline").read_bytes():
+                words = dict(line.split(":", 1) for line in (process / "status").read_text().splitlines())
                 found.append(int(words["VmHWM"].split()[0]) // 1024)
     return max(found)
 

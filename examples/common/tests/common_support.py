@@ -26,12 +26,12 @@ def anything(*cases: Any) -> tuple[Any, ...]:
 def children_of(process: int) -> list[int]:
     """The processes that another one has started and that haven't ended, the one that was started last at the end."""
     found = []
-    for stat in Path("/proc").glob("[0-9]*/stat"):
+    for other in Path("/proc").glob("[0-9]*"):  # a file in its folder isn't globbed: that fails where it has just ended
         with contextlib.suppress(OSError):  # it has ended meanwhile
             # Behind the name, which is in brackets and may hold anything: from the third field of proc(5)'s stat on.
-            fields = stat.read_text().rpartition(")")[2].split()
+            fields = (other / "stat").read_text().rpartition(")")[2].split()
             if int(fields[1]) == process and fields[0] != "Z":
-                found.append(int(stat.parent.name))
+                found.append(int(other.name))
     return sorted(found)
 
 
