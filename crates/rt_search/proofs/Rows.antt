@@ -6,7 +6,7 @@ use Rattle.rt_geo.specs.declared.{entry.Entry.{Entry}, order.Order.{Order}}
 use Rattle.rt_geo.specs.declared.region.Region.{Region, TheVariants.{All, Window}}
 use Rattle.rt_tree.specs.{Packed.{Packed}, Packing.{pack_of}}
 use Rattle.rt_search.specs.Answers.{accepted, answers}
-use Rattle.rt_search.specs.Work.{asked_by_count, asked_by_search, opened_by_count, opened_by_search}
+use Rattle.rt_search.specs.Work.{asked_by_count, its_children, opened_by_count, opened_by_search, search_work}
 
 -- ---- the tree over five boxes, two children for each node
 
@@ -52,7 +52,7 @@ opened_near = opened_by_search (meaning_of all near_point) tree
 opened_for_three : opened_near (Some 3) ≡ 5
 opened_for_three = refl
 
-asked_for_three : asked_by_search (meaning_of all near_point) tree (Some 3) ≡ 9
+asked_for_three : search_work its_children (meaning_of all near_point) tree (Some 3) ≡ 9
 asked_for_three = refl
 
 opened_for_two : opened_near (Some 2) ≡ 3

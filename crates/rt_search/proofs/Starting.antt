@@ -7,14 +7,15 @@ use Rattle.std.specs.Prelude.{IfSome}
 use Rattle.rt_geo.specs.Laws.{Meaning}
 use Rattle.rt_search.specs.{Remaining.{remaining}, Answers.{answers}, Joining.{root_item, root_items}, Kept.{IsRising}}
 use Rattle.rt_search.specs.{Limits.{IsEnough}, Progress.{IsGiving, IsInLimit, IsOnCourse, IsSearching, work_left}}
-use Rattle.rt_search.specs.Work.{reached_from_root, HasWorked, is_reached, is_within_bound, its_children, one_node}
+use Rattle.rt_search.specs.Work.{reached_from_root, HasWorked, is_reached, its_children, one_node}
+use Rattle.std.specs.{Option.{option_map_or}, Prelude.{nat_le}}
 use Rattle.rt_search.specs.{Work.{root_verdict}, declared.item.Item.{Item}}
 use Rattle.rt_geo.specs.{declared.geometry.{Verdict.{Verdict}}}
 use Rattle.rt_tree.specs.{Packed.{Packed, IsSound}, declared.tree.Node.{Node}}
 use Rattle.rt_search.proofs.{Answering.{among-IsPermutation}, Elements.{all_each}, OrderedLists.{put_all-nil}}
 use Rattle.rt_search.proofs.{Orders.{answer_order}, Sizes.{size_under}}
 
-pub within_zero : (bound : Option ℕ) → is_within_bound bound 0 ≡ true
+pub within_zero : (bound : Option ℕ) → option_map_or (nat_le 0) bound true ≡ true
 within_zero None = refl
 within_zero (Some b) = grind (arith, nat_tests)
 

@@ -7,7 +7,8 @@ use Rattle.rt_geo.specs.{declared.geometry.{Within.TheVariants.{Partly, Fully}},
 use Rattle.rt_search.specs.Progress.{AddsUp, IsNodeStep, IsOnCourse, IsTaken, held, work_at, work_left}
 use Rattle.rt_search.specs.{Remaining.{AllSound, answers_at, height_at, put_all, remaining, verdict_on}, Work.{reached}}
 use Rattle.rt_search.specs.{Walking.{answers_among}, Items.{item_at, item_cmp}, declared.item.Place.{Place}}
-use Rattle.rt_search.specs.Work.{is_kept, is_reached, is_within_bound, its_children, one_node, reached_from_root}
+use Rattle.std.specs.{Option.{option_map_or}, Prelude.{nat_le}}
+use Rattle.rt_search.specs.Work.{is_kept, is_reached, its_children, one_node, reached_from_root}
 use Rattle.rt_search.specs.Answers.{answer_cmp}
 use Rattle.rt_search.specs.{Joining.{join_answers, join_nodes}, declared.item.{Item.{Item}, WaitingNode.{WaitingNode}}}
 use Rattle.rt_search.proofs.Sizes.{held_cons, work_cons}
@@ -27,7 +28,7 @@ kept_within false = refl
 
 -- a node that waits is opened where its score is within the bound
 pub reached_is : (bound : Option ℕ) (s : ℕ) (n : WaitingNode) → is_reached bound (verdict_on s n)
-    ≡ is_within_bound bound s
+    ≡ option_map_or (nat_le s) bound true
 reached_is bound s n = (let k = kept_within n.is_full in rw k refl)
 
 module _ {meaning : Meaning} (law : IsLawful meaning) (t : Packed) where

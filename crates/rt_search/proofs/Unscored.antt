@@ -8,7 +8,8 @@ use Rattle.rt_tree.specs.{Packed.{Packed, IsSound, IsSubtree, child_nodes}, decl
 use Rattle.rt_search.specs.{Progress.{AddsUp, IsGiving, IsOnCourse, work_left}}
 use Rattle.rt_search.specs.{Items.{item_of}, Limits.{IsEnough}, Remaining.{remaining}}
 use Rattle.rt_search.specs.{Joining.{join_answers}, Walking.{answers_in_tree}, declared.item.Item.{Item}}
-use Rattle.rt_search.specs.Work.{IsUnscored, info_of_node, is_kept, is_reached, is_within_bound}
+use Rattle.std.specs.{Option.{option_map_or}, Prelude.{nat_le, true}}
+use Rattle.rt_search.specs.Work.{IsUnscored, info_of_node, is_kept, is_reached}
 use Rattle.rt_search.specs.Work.{its_children, one_node, reached, reached_from_root, root_verdict, search_work}
 use Rattle.rt_search.proofs.{Children.{subtree_level}, Elements.{all_each}}
 use Rattle.rt_search.proofs.{Joined.{answers_joined, answers_sound}, Limits.{rising_put_all}}
@@ -32,7 +33,7 @@ module _ (meaning : Meaning) (unscored : IsUnscored meaning) (t : Packed) (withi
       let w = meaning.verdict i in
       let level = subtree_level t h k sub.0 in
       let same = ap (λ o. cond o (reached (is_reached within) cost meaning t h w k) 0) (
-      ap (λ s. is_kept w.within && is_within_bound within s) (unscored i (omega arith))
+      ap (λ s. is_kept w.within && option_map_or (nat_le s) within true) (unscored i (omega arith))
       ∙ ap (λ l. is_kept w.within && l) (within_zero within))
       ∙ ap (λ m. cond (is_reached None w) m 0) (f w k sub.0) in
       omega (

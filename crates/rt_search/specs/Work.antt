@@ -2,7 +2,7 @@
 use Rattle.std.specs.Prelude.{◌≡◌, ◌<◌, ℕ, zero, suc, ◌+◌, ◌-◌, ◌==◌, nat_le, Bool, true, false, ◌&&◌, if◌then◌else◌}
 use Rattle.std.specs.Prelude.{Option, Some, None, List, length, slice_get}
 use Rattle.std.specs.List.{sum_by}
-use Rattle.std.specs.Option.{option_map}
+use Rattle.std.specs.Option.{option_and_then, option_map, option_map_or}
 use Rattle.rt_geo.specs.Laws.{Extent, Meaning}
 use Rattle.rt_geo.specs.declared.geometry.Info.{Info}
 use Rattle.rt_geo.specs.declared.geometry.Verdict.{Verdict}
@@ -65,23 +65,17 @@ abbrev pub is_kept : Within → Bool
 is_kept Not = false
 is_kept other = true
 
--- the score is at most the bound, if there is one
-abbrev pub is_within_bound : (bound : Option ℕ) → (score : ℕ) → Bool
-is_within_bound None score = true
-is_within_bound (Some bound) score = nat_le score bound
-
 -- each node scores 0, as in the orders by id and by area
 abbrev pub IsUnscored : Meaning → Type 0
 IsUnscored meaning = (info : Info) → 0 < info.level → (meaning.verdict info).score ≡ 0
 
--- a search up to a bound opens what isn't NOT and scores at most the bound
+-- a search opens what isn't NOT and scores at most the bound, if there is one
 abbrev pub is_reached : (bound : Option ℕ) → Verdict → Bool
-is_reached bound v = is_kept v.within && is_within_bound bound v.score
+is_reached bound v = is_kept v.within && option_map_or (nat_le v.score) bound true
 
 -- the score of the last of so many answers: no bound where all are wanted, or fewer are found
 abbrev pub last_score : List Answer → (limit : Option ℕ) → Option ℕ
-last_score found None = None
-last_score found (Some limit) = option_map (λ a. a.1) (slice_get found (limit - 1))
+last_score found limit = option_and_then (λ limit. option_map (λ a. a.1) (slice_get found (limit - 1))) limit
 
 -- the sum of a cost over the nodes that a search opens for so many answers, or for all where there is no limit: what
 -- scores at most as the last of them. For no answer none is opened
@@ -94,14 +88,10 @@ search_work cost meaning t limit =
 abbrev pub opened_by_search : Meaning → Packed → (limit : Option ℕ) → ℕ
 opened_by_search = search_work one_node
 
--- how many checks it makes
-abbrev pub asked_by_search : Meaning → Packed → (limit : Option ℕ) → ℕ
-asked_by_search = search_work its_children
-
 -- so many nodes were opened and checks made as a search needs for so many answers
 pub record HasWorked (meaning : Meaning) (t : Packed) (limit : Option ℕ) (opened asked : ℕ) : Type 0 where
   pub in_nodes : opened ≡ opened_by_search meaning t limit
-  pub in_checks : asked ≡ asked_by_search meaning t limit
+  pub in_checks : asked ≡ search_work its_children meaning t limit
 
 -- ---- by a count
 

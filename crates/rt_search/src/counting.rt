@@ -5,12 +5,12 @@ ghost use Rattle.rt_search.specs.{Answers.{accepted}, Work.{asked_by_count, open
 
 use crate::counts::Count;
 use crate::frontier::Frontier;
-use crate::walk::{Collector, Visitor, visit_entries, walk};
+use crate::walk::{Collector, Visitor, walk};
 use rt_geo::{Counted, Geometry, Verdict, Within};
-use rt_tree::{Node, Tree};
+use rt_tree::Tree;
 
 /// How many entries were accepted so far.
-#[derive(Clone, Copy)]
+#[derive(Drop)]
 struct Tally {
     accepted: u64,
 }
@@ -47,19 +47,6 @@ impl Visitor for Tally {
                 false
             }
         }
-    }
-
-    // Counts in a tally of its own, which stays in a register.
-    fn visit_leaf<G: Geometry>(
-        &mut self,
-        tree: &Tree,
-        counted: &mut Counted<'_, G>,
-        node: Node,
-        parent: Verdict,
-    ) {
-        let mut tally = *self;
-        visit_entries(tree, &mut tally, counted, node, parent);
-        *self = tally;
     }
 }
 

@@ -106,9 +106,7 @@ impl Pool {
         ensures capacity { self.new.capacity ≡ self.old.capacity }
     {
         self.fill();
-        let Some(top) = self.near.pop() else {
-            return None;
-        };
+        let top = self.near.pop()?;
         Some(top.0)
     }
 
@@ -125,16 +123,9 @@ impl Pool {
         let Some(least) = self.least else {
             return;
         };
-        self.edge = edge_beyond(least);
+        self.edge = least.saturating_mul(FARTHER);
         self.least = move_near(&mut self.near, &mut self.far, self.edge);
     }
-}
-
-// How far the edge moves.
-fn edge_beyond(least: u64) -> u64
-    ensures { least ≤ result }
-{
-    least.saturating_mul(FARTHER)
 }
 
 // Moves the keys of scores up to the edge to those near, and returns the least score of the others. Out of line, as it

@@ -73,7 +73,7 @@ impl Queue {
         self.wide.clear();
     }
 
-    /// Puts a node in, with the verdict on it, unless no answer that is wanted can lie under it.
+    /// Puts a node in, with the verdict on it, unless the verdict is NOT.
     #[inline(always)]
     pub fn put_node(&mut self, verdict: Verdict, number: NodeNo)
         requires { length self.old.items < self.old.capacity }
@@ -98,9 +98,9 @@ impl Queue {
     pub fn take(&mut self) -> Taken
         ensures { IsTakenFrom self.old self.new (taken_item result) }
     {
-        let taken = take_narrow(&mut self.nodes, &mut self.entries);
-        if is_any(taken) {
-            return taken;
+        let (node, entry) = take_narrow(&mut self.nodes, &mut self.entries);
+        if node.is_some() || entry.is_some() {
+            return (node, entry);
         }
         take_wide(&mut self.entries, &mut self.wide)
     }
@@ -160,15 +160,6 @@ fn take_narrow(nodes: &mut Pool, entries: &mut WaitingEntries) -> Taken
         return (Some(node_of(key)), None);
     }
     (None, entries.take())
-}
-
-// Whether anything was taken out.
-#[inline(always)]
-fn is_any(taken: Taken) -> bool
-    ensures { MatchOption (taken_item taken) (result ≡ false) (λ _. result ≡ true) }
-{
-    let (node, entry) = taken;
-    node.is_some() || entry.is_some()
 }
 
 // Whether a node is next: one waits whose score is at most that of each entry found.

@@ -105,9 +105,8 @@ impl<'a, G: Geometry> Search<'a, G> {
         ensures capacity { result.capacity ≡ frontier.capacity }
     {
         let mut rooms = frontier.rooms;
-        let queue = &mut rooms.queue;
-        queue.clear(limit);
-        put_root(tree, queue);
+        rooms.queue.clear(limit);
+        put_root(tree, &mut rooms.queue);
         Search {
             tree,
             rooms,
@@ -146,9 +145,8 @@ impl<'a, G: Geometry> Search<'a, G> {
         }
         let mut rooms = frontier.rooms;
         let mut counted = counted;
-        let queue = &mut rooms.queue;
-        queue.clear(limit);
-        let opened = walk(tree, queue, &mut counted);
+        rooms.queue.clear(limit);
+        let opened = walk(tree, &mut rooms.queue, &mut counted);
         Search {
             tree,
             rooms,
@@ -232,7 +230,5 @@ pub fn cost<G: Geometry>(
     }
     let mut search = Search::start(tree, frontier, counted, limit);
     while search.next().is_some() {}
-    let opened = search.opened();
-    let (frontier, _) = search.finish();
-    (opened, frontier)
+    (search.opened(), search.finish().0)
 }

@@ -44,25 +44,6 @@ pub(crate) trait Visitor: Collector {
         ensures opens { result ≡ opens verdict }
         ensures taken { (answers : List Answer) → IsKnown verdict.within size answers
             → HasTaken Self.takes self.old (if result then [] else answers) self.new };
-
-    /// Takes what is accepted of the entries under a node of level 1, by [`visit_entries`].
-    fn visit_leaf<G: Geometry>(
-        &mut self,
-        tree: &Tree,
-        counted: &mut Counted<'_, G>,
-        node: Node,
-        parent: Verdict,
-    )
-        requires leaf { IsOpenableLeaf tree.now (G.meaning counted.old.geometry) node parent }
-        requires room { node.count ≤ Self.room self.old }
-        requires asked { counted.old.asked + node.count ≤ 2 ^ 64 - 1 }
-        ensures taken { let found = answers_among tree.now (G.meaning counted.old.geometry) node node.count in
-            HasTaken Self.takes self.old found self.new }
-        ensures geometry { counted.new.geometry ≡ counted.old.geometry }
-        ensures asked { counted.new.asked ≡ counted.old.asked + node.count }
-    {
-        visit_entries(tree, self, counted, node, parent);
-    }
 }
 
 /// What is asked about a child of a node that has this verdict.
@@ -86,11 +67,7 @@ pub fn info_under(tree: &Tree, parent: Verdict, bounds: Bounds, layers: Layers, 
 pub(crate) fn is_kept(within: Within) -> bool
     ensures { result ≡ is_kept within }
 {
-    match within {
-        Within::Not => false,
-        Within::Partly => true,
-        Within::Fully => true,
-    }
+    !matches!(within, Within::Not)
 }
 
 /// Asks about each entry under a node of level 1, and hands the verdict on it to the collector.
@@ -176,7 +153,7 @@ fn walk_under<V: Visitor, G: Geometry>(
     let node = tree.node(number);
     *opened += 1;
     if node.level == 1 {
-        visitor.visit_leaf(tree, counted, node, parent);
+        visit_entries(tree, visitor, counted, node, parent);
         return;
     }
     let first = node.first;

@@ -6,24 +6,25 @@ use Rattle.rt_search.specs.Pooling.{score_in}
 use Rattle.rt_search.proofs.{Elements.{all-append, all_moved}, Pools.{far_after}}
 use Rattle.rt_search.proofs.pool.Pool.take.Goals as goal
 
-pub returns-in_default-clause-keys : goal.returns-in_default-clause-keys
-returns-in_default-clause-keys c =
-    let none = c.in_default.ensures.none in
+pub returns-in_err-top-clause-keys : goal.returns-in_err-top-clause-keys
+returns-in_err-top-clause-keys c =
+    let none = c.in_err-top.ensures.none in
     let near : heap_items c.self.inside.near ≡ [] = nil_from_length _ (sym c.self.invariant.inside.counted ∙ none) in
     let far = rw (← c.self.view_is) at c.fill.ensures.filled near in
     let long = length_permutation _ _ (rw (← c.self.view_is) at c.fill.ensures.same) in
-    nil_from_length _ (omega (arith, ap length (ap (λ l. l ++ c.self.inside.far.items) near ∙ far)))
+    rw c.from_residual.ensures
+    (nil_from_length _ (omega (arith, ap length (ap (λ l. l ++ c.self.inside.far.items) near ∙ far))))
 
 pub invariant_of-self-2 : goal.invariant_of-self-2
 invariant_of-self-2 c =
     let k = c.self.invariant in
-    let e = c.in-Some.ensures in
+    let e = c.in_ok-top.ensures in
     let total = length_permutation _ _ (IsPermutation-append_left c.self.inside.far.items _ _ e.permutation) in
     record {
       inside = record {
         ordered = (e.heap_order k.inside.ordered).0;
         counted = omega (arith, length_permutation _ _ e.permutation);
-        low = (all_moved (λ j. score_in j ≤ c.self.inside.edge) (heap_items c.self.inside.near) (c.in-Some.top ∷ _)
+        low = (all_moved (λ j. score_in j ≤ c.self.inside.edge) (heap_items c.self.inside.near) (c.in_ok-top.top ∷ _)
             e.permutation k.inside.low).1;
       };
       outside = k.outside;
@@ -37,13 +38,13 @@ returns-clause-keys c =
     let near = heap_items c.self.inside.near in
     let far = c.self.inside.far.items in
     IsPermutation-trans _ (near ++ far) _ (rw (← c.self.view_is) at c.fill.ensures.same)
-    (IsPermutation-append_left far near (c.in-Some.top ∷ heap_items c.pop.new.self) c.in-Some.ensures.permutation)
+    (IsPermutation-append_left far near (c.in_ok-top.top ∷ heap_items c.pop.new.self) c.in_ok-top.ensures.permutation)
 
 pub returns-clause-least : goal.returns-clause-least
 returns-clause-least c =
     let k = c.self.invariant in
-    let e = c.in-Some.ensures in
-    let top = c.in-Some.top in
+    let e = c.in_ok-top.ensures in
+    let top = c.in_ok-top.top in
     let low = (all_moved (λ j. score_in j ≤ c.self.inside.edge) _ (top ∷ _) e.permutation k.inside.low).0 in
     all-append (λ j. is_lt (nat_cmp j.0 top.0) ≡ false) (heap_items c.pop.new.self) _ (e.below_top k.inside.ordered)
     (far_after c.self.inside.edge top.0 _ low k.outside.high)

@@ -7,48 +7,48 @@ use Rattle.rt_search.proofs.queue.Queue.take.Goals as goal
 
 pub invariant_of-self : goal.invariant_of-self
 invariant_of-self c =
-    let e = c.take_narrow-taken.ensures in
+    let e = c.take_narrow-node.ensures in
     let k = c.self.invariant in
     record {
       nodes_room = e.nodes ∙ k.nodes_room;
       entries_room = e.entries ∙ k.entries_room;
       wide_room = k.wide_room;
-      few = fewer_right (taken_item c.take_narrow-taken.result) c.self.inside.wide.items _ _ _ e.taken k.few;
+      few = fewer_right (taken_item c.take_narrow-node.result) c.self.inside.wide.items _ _ _ e.taken k.few;
       low = k.low;
       high = k.high;
     }
 
-pub returns-then-is_any : goal.returns-then-is_any
-returns-then-is_any c =
-    let r = taken_item c.take_narrow-taken.result in
-    let e = c.take_narrow-taken.ensures in
+pub returns-then-is_some : goal.returns-then-is_some
+returns-then-is_some c =
+    let r = taken_item c.take_narrow-node.result in
+    let e = c.take_narrow-node.ensures in
     let old = put_all item_cmp (in_order node_item (keys_in c.self.inside.nodes)) c.self.inside.entries.items in
-    let new = put_all item_cmp (in_order node_item (keys_in c.take_narrow-taken.new.nodes)) c.take_narrow-taken.new.entries.items in
+    let new = put_all item_cmp (in_order node_item (keys_in c.take_narrow-node.new.nodes)) c.take_narrow-node.new.entries.items in
     let wide = c.self.inside.wide.items in
     record {
       taken = subst (λ w. IsTakenOut r w.items (put_all item_cmp wide new)) c.self.view_is
           (taken_right r wide old new e.taken
-          (narrow_ahead r old new wide c.if-is_any.ensures e.taken e.low c.self.invariant.high));
+          (narrow_ahead r old new wide (search rules) e.taken e.low c.self.invariant.high));
       wanted = search rules;
       capacity = search rules;
     }
 
 pub take_wide-requires : goal.take_wide-requires
 take_wide-requires c =
-    none_merged (in_order node_item (keys_in c.take_narrow-taken.new.nodes)) c.take_narrow-taken.new.entries.items
-    (none_taken (taken_item c.take_narrow-taken.result) _ _ c.if-is_any.ensures c.take_narrow-taken.ensures.taken).1
+    none_merged (in_order node_item (keys_in c.take_narrow-node.new.nodes)) c.take_narrow-node.new.entries.items
+    (none_taken (taken_item c.take_narrow-node.result) _ _ (search rules) c.take_narrow-node.ensures.taken).1
 
 pub invariant_of-self-2 : goal.invariant_of-self-2
 invariant_of-self-2 c =
     let r = taken_item c.take_wide.result in
-    let e = c.take_narrow-taken.ensures in
+    let e = c.take_narrow-node.ensures in
     let w = c.take_wide.ensures in
     let k = c.self.invariant in
-    let nodes = in_order node_item (keys_in c.take_narrow-taken.new.nodes) in
+    let nodes = in_order node_item (keys_in c.take_narrow-node.new.nodes) in
     let wide = c.self.inside.wide.items in
     let n = c.self.inside.capacity in
-    let none = none_taken (taken_item c.take_narrow-taken.result) _ _ c.if-is_any.ensures e.taken in
-    let empty = still_none nodes c.take_narrow-taken.new.entries.items c.take_wide.new.entries.items none.1 w.entries in
+    let none = none_taken (taken_item c.take_narrow-node.result) _ _ (search rules) e.taken in
+    let empty = still_none nodes c.take_narrow-node.new.entries.items c.take_wide.new.entries.items none.1 w.entries in
     record {
       nodes_room = e.nodes ∙ k.nodes_room;
       entries_room = w.entries_capacity ∙ e.entries ∙ k.entries_room;
@@ -62,14 +62,14 @@ invariant_of-self-2 c =
 pub returns : goal.returns
 returns c =
     let r = taken_item c.take_wide.result in
-    let e = c.take_narrow-taken.ensures in
+    let e = c.take_narrow-node.ensures in
     let w = c.take_wide.ensures in
-    let nodes = in_order node_item (keys_in c.take_narrow-taken.new.nodes) in
+    let nodes = in_order node_item (keys_in c.take_narrow-node.new.nodes) in
     let wide = c.self.inside.wide.items in
     let new = c.take_wide.new.wide.items in
     let rest = put_all item_cmp nodes c.take_wide.new.entries.items in
-    let none = none_taken (taken_item c.take_narrow-taken.result) _ _ c.if-is_any.ensures e.taken in
-    let empty = still_none nodes c.take_narrow-taken.new.entries.items c.take_wide.new.entries.items none.1 w.entries in
+    let none = none_taken (taken_item c.take_narrow-node.result) _ _ (search rules) e.taken in
+    let empty = still_none nodes c.take_narrow-node.new.entries.items c.take_wide.new.entries.items none.1 w.entries in
     record {
       taken = subst (λ l. IsTakenOut r l (put_all item_cmp new rest))
           (ap (put_all item_cmp wide) (empty ∙ sym none.0) ∙ ap (λ w. w.items) c.self.view_is)

@@ -10,5 +10,5 @@ invariant_of-result g c =
     let geometry = c.args.counted.geometry in
     let begun = started (g.G.Geometry.meaning geometry)
     c.args.tree.now put.sound c.args.limit c.put_root.new.queue.capacity c.put_root.new.queue.wanted
-    c.put_root.new.queue.items room (rw put.root.wanted c.clear.ensures.wanted) (rw put.root.wanted put.root.items) in
+    c.put_root.new.queue.items room (rw (put.root.wanted, c.deref_mut-2.ensures.value) c.clear.ensures.wanted) (rw put.root.wanted put.root.items) in
     record { same_room = grind arith; giving = rw c.requires.asked begun }
