@@ -1,0 +1,88 @@
+#!/usr/bin/env python3
+"""Counts the lines and the functions of each crate, and the calls from `main` to the comparison that decides about a box.
+
+The calls are those that CONTRIBUTING.md tells under "The way of a line", crate by crate, each called by the one before;
+a file in brackets has the calls before it. Definitions that have to be believed are counted by tools/definitions.py.
+
+Run from anywhere: `python3 tools/counts.py`. `--check` fails where one of these calls isn't called by the one before it;
+its last line is `N passed, M failed`.
+"""
+
+import argparse
+import pathlib
+import re
+import sys
+
+ROOT = pathlib.Path(__file__).resolve().parent.parent
+CRATES = ROOT / "crates"
+
+ROW = re.compile(r"^\| `(\w+)` \| (.*) \|$", re.MULTILINE)
+CALL_OR_FILE = re.compile(r"`([\w:]+)`|\(`(\w+\.rt)`\)")
+FUNCTION = re.compile(r"^ *(?:pub(?:\(crate\))? )?(?:const )?fn \w", re.MULTILINE)
+
+
+def lines_of(crate, folder, pattern):
+    return sum(len(path.read_text(encoding="utf-8").splitlines()) for path in (CRATES / crate / folder).rglob(pattern))
+
+
+def sources_of(crate):
+    return [path.read_text(encoding="utf-8") for path in sorted((CRATES / crate / "src").glob("*.rt"))]
+
+
+def way_of_a_line():
+    """The calls in turn: of each its crate, its file and its name."""
+    page = (ROOT / "CONTRIBUTING.md").read_text(encoding="utf-8")
+    section = page.partition("\n## The way of a line\n")[2].partition("\n## ")[0]
+    for crate, cell in ROW.findall(section):
+        names = []
+        for name, file in CALL_OR_FILE.findall(cell):
+            if name:
+                names.append(name)
+            else:
+                yield from ((crate, file, name) for name in names)
+                names = []
+        yield from ((crate, "main.rt", name) for name in names)
+
+
+def body_of(crate, file, name):
+    """The text of a function, or `None` where it isn't there. A method is looked for in what is written for its type."""
+    path = CRATES / crate / "src" / file
+    text = re.sub(r"//.*", "", path.read_text(encoding="utf-8")) if path.is_file() else ""
+    owner, _, function = name.rpartition("::")
+    if owner:
+        impls = re.findall(rf"^impl\b[^{{]*\b{owner}\b[^{{]* {{\n.*?^}}", text, re.MULTILINE | re.DOTALL)
+        text = "\n".join(impls)
+    found = re.search(rf"^( *)(?:pub(?:\(crate\))? )?fn {function}\b.*?^\1}}", text, re.MULTILINE | re.DOTALL)
+    return found and found[0]
+
+
+def main():
+    parser = argparse.ArgumentParser(description=__doc__.splitlines()[0])
+    parser.add_argument("--check", action="store_true", help="fail where the way of a line isn't so")
+    check = parser.parse_args().check
+    way = list(way_of_a_line())
+    if not check:
+        print(f"{'':<12}{'source':>8}{'specs':>8}{'proofs':>8}{'functions':>11}")
+        for crate in sorted(path.name for path in CRATES.iterdir() if not path.name.endswith("_tests")):
+            source, specs, proofs = (
+                lines_of(crate, folder, pattern)
+                for folder, pattern in (("src", "*.rt"), ("specs", "*.antt"), ("proofs", "*.antt"))
+            )
+            functions = sum(len(FUNCTION.findall(text)) for text in sources_of(crate))
+            print(f"{crate:<12}{source:>8}{specs:>8}{proofs:>8}{functions:>11}")
+        print(f"from main to the comparison of a box with the window: {len(way) - 1} calls")
+        return 0
+    failed = 0
+    for (crate, file, name), (*_, called) in zip(way, way[1:] + [(None,)]):
+        body = body_of(crate, file, name)
+        word = called and called.rpartition("::")[2]
+        if body is None or word and not re.search(rf"\b{word}\b(?:::<[^>]*>)?\(", body.partition("(")[2]):
+            print(f"CONTRIBUTING.md: {name} of {crate}/src/{file} {'is not there' if body is None else f'calls no {word}'}")
+            failed += 1
+    passed = len(way) - failed
+    print(f"{passed} passed, {failed + (not way)} failed")
+    return 1 if failed or not way else 0
+
+
+if __name__ == "__main__":
+    sys.exit(main())
