@@ -10,8 +10,8 @@ use Rattle.rt_geo.specs.{Entries.{HasBox, HasLayer}, Laws.{extent_of_entry}, dec
 use Rattle.rt_tree.specs.{Entries.{IsTable, ids_of}, Levels.{level_sizes}, Packed.{IsSubtree}, Sorting.{sorted}}
 use Rattle.rt_tree.specs.Packed.{child_entries, entries_under, extent_of_node, no_node, node_at, root_of, Packed, IsSound}
 use Rattle.rt_tree.specs.{Packing.{groups, joined, nodes_from, nodes_over, pack_of}, declared.tree.Node.{Node}}
-use Rattle.rt_tree.proofs.Children.{AreOnce, all_child_entries, all_child_entries-is, all_child_nodes, all_child_nodes-is}
-use Rattle.rt_tree.proofs.{Children.{nodes_once, once_first, once_more}, ChunkLemmas.{le_or_lt}, EntryLemmas.{int_eq-sym}}
+use Rattle.rt_tree.proofs.Children.{AreOnce, nodes_once, nodes_under, once_first, once_more, right_under}
+use Rattle.rt_tree.proofs.{ChunkLemmas.{le_or_lt}, EntryLemmas.{int_eq-sym}}
 use Rattle.rt_tree.proofs.{LevelLemmas.{div_ceil-positive}, LoopLemmas.{get_or_behind}, SortingLemmas.{IsPermutation-sorted}}
 use Rattle.rt_tree.proofs.LevelOrder.{sizes_from_first, last_node-top, level_by_level, nodes_from-levels, nodes_over-AreOn}
 use Rattle.rt_tree.proofs.OrderLemmas.{all_append, all_moved, flat_map-IsPermutation}
@@ -31,8 +31,8 @@ at_its_level t h n s = subst (λ k. IsSubtree t k n) (let e = level_of t h n s i
 -- that a tree has each node and each entry once, and the nodes level by level. No search rests on it
 pub record IsWhole (t : Packed) : Type 0 where
   -- each entry is a child of exactly one node, and so is each node but the root
-  pub entries_once : IsPermutation (all_child_entries t) t.entries
-  pub nodes_once : 0 < length t.nodes → IsPermutation (root_of t ∷ all_child_nodes t) t.nodes
+  pub entries_once : IsPermutation (flat_map (right_under t) t.nodes) t.entries
+  pub nodes_once : 0 < length t.nodes → IsPermutation (root_of t ∷ flat_map (nodes_under t) t.nodes) t.nodes
   pub levels : map (λ n. n.level) t.nodes ≡ level_by_level 1 (drop 1 (level_sizes (length t.entries) t.fanout))
 
 module _ (fanout : ℕ) (several : 2 ≤ fanout) (es : List Entry) where
@@ -112,11 +112,10 @@ module _ (fanout : ℕ) (several : 2 ≤ fanout) (es : List Entry) where
           few_nodes = omega (arith, c.few_nodes, c.few_levels);
         },
         record {
-          entries_once = subst (λ l. IsPermutation l es) (all_child_entries-is new) b.once.entries;
-          nodes_once = λ _. subst (λ n. IsPermutation (n ∷ all_child_nodes new) ns) (sym is_root) (subst
-              (λ l. IsPermutation (r ∷ l) ns) (all_child_nodes-is new) (nodes_once fanout es numbered r
-              (all_append (λ n. IsSubtree old (n.level - 1) n) numbered (r ∷ []) b.lower
-              (at_its_level old h r b.nodes.0, tt)) b.once));
+          entries_once = b.once.entries;
+          nodes_once = λ _. subst (λ n. IsPermutation (n ∷ flat_map (nodes_under new) ns) ns) (sym is_root)
+              (nodes_once fanout es numbered r (all_append (λ n. IsSubtree old (n.level - 1) n) numbered (r ∷ []) b.lower
+              (at_its_level old h r b.nodes.0, tt)) b.once);
           levels = levels;
         },
       )
@@ -173,10 +172,7 @@ sound_empty t several none nothing table =
         few_nodes = omega arith;
       },
       record {
-        entries_once = let bare : all_child_entries t ≡ [] = ap (λ ns. flat_map (child_entries t) (filter (λ
-            (n : Node). n.level == 1) ns)) none in
-            subst (λ l. IsPermutation l t.entries) (sym bare) (subst (IsPermutation []) (sym nothing)
-            (IsPermutation-refl []));
+        entries_once = rw (none, nothing) (IsPermutation-refl []);
         nodes_once = λ h. absurd (omega arith);
         levels = rw (none, nothing) refl;
       },
