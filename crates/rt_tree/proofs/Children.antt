@@ -23,26 +23,18 @@ nodes_under t n = if nat_lt 1 n.level then child_nodes t n else []
 abbrev pub right_under : Packed → Node → List Entry
 right_under t n = if n.level == 1 then child_entries t n else []
 
+-- under each of these nodes is what its level asks for
+abbrev pub AreSubtrees : Packed → List Node → Type 0
+AreSubtrees t = AllByRecursion (λ n. IsSubtree t (n.level - 1) n)
+
 module _ (fanout : ℕ) (es : List Entry) where
   -- more nodes behind change nothing of that
-  under_by : (ns more : List Node) (n : Node) → IsSubtree (tree fanout es ns) (n.level - 1) n → (b : Bool)
-      → nat_lt 1 n.level ≡ b
-      → cond b (child_nodes (tree fanout es (ns ++ more)) n) [] ≡ cond b (child_nodes (tree fanout es ns) n) []
-  under_by ns more n s true e = children_more fanout es ns more n (inner-range (tree fanout es ns) (n.level - 1) n s
-      (grind (arith, nat_tests)))
-  under_by ns more n s false e = refl
-
   under_more : (ns more : List Node) (n : Node) → IsSubtree (tree fanout es ns) (n.level - 1) n
       → nodes_under (tree fanout es (ns ++ more)) n ≡ nodes_under (tree fanout es ns) n
-  under_more ns more n s = under_by ns more n s (nat_lt 1 n.level) refl
-
-  -- ---- right under the nodes over groups stand the groups
-
-  over_children : (ns : List Node) (level : ℕ) (gs : List (List Node)) (front : List Node) → ns ≡ front ++ joined gs
-      → flat_map (child_nodes (tree fanout es ns)) (nodes_over extent_of_node (λ n. n.size) level
-      (length front) gs) ≡ joined gs
-  over_children ns level = over_flat extent_of_node (λ n. n.size) level ns (child_nodes (tree fanout es ns)) (λ g. g)
-      (λ first g here. here)
+  under_more ns more n s =
+      let same : 1 < n.level → child_nodes (tree fanout es (ns ++ more)) n ≡ child_nodes (tree fanout es ns) n =
+      λ h. children_more fanout es ns more n (inner-range (tree fanout es ns) (n.level - 1) n s (omega arith)) in
+      grind (arith, nat_tests, same)
 
   -- ---- one level after another
 
@@ -63,7 +55,7 @@ module _ (fanout : ℕ) (es : List Entry) where
 
   -- one more level
   pub once_more : (h : ℕ) (numbered made : List Node) (gs : List (List Node)) → IsPermutation made (joined gs)
-      → AllByRecursion (λ n. IsSubtree (tree fanout es numbered) (n.level - 1) n) (numbered ++ joined gs)
+      → AreSubtrees (tree fanout es numbered) (numbered ++ joined gs)
       → AreOnce numbered made
       → AreOn (suc (suc h)) (nodes_over extent_of_node (λ n. n.size) (suc (suc h)) (length numbered) gs)
       → AreOnce (numbered ++ joined gs) (nodes_over extent_of_node (λ n. n.size) (suc (suc h)) (length numbered) gs)
@@ -76,7 +68,9 @@ module _ (fanout : ℕ) (es : List Entry) where
       let later = IsPermutation-append_right numbered made ordered moved in
       let over : flat_map (nodes_under now) new ≡ ordered =
       flat_map-same (nodes_under now) (child_nodes now) (λ n. n.level ≡ suc (suc h))
-      (λ n e. grind (arith, nat_tests)) new on ∙ over_children ns (suc (suc h)) gs numbered refl in
+      (λ n e. grind (arith, nat_tests)) new on
+      ∙ over_flat extent_of_node (λ n. n.size) (suc (suc h)) ns (child_nodes now) (λ g. g) (λ first g here. here)
+      gs numbered refl in
       let same : flat_map (nodes_under now) ns ≡ flat_map (nodes_under old) ns =
       flat_map-same (nodes_under now) (nodes_under old) (λ n. IsSubtree old (n.level - 1) n)
       (under_more numbered ordered) ns sound in
@@ -99,8 +93,8 @@ module _ (fanout : ℕ) (es : List Entry) where
       }
 
   -- the root is a child of none
-  pub nodes_once : (numbered : List Node) (r : Node) → AllByRecursion (λ n. IsSubtree (tree fanout es numbered)
-      (n.level - 1) n) (numbered ++ r ∷ []) → AreOnce numbered (r ∷ [])
+  pub nodes_once : (numbered : List Node) (r : Node) → AreSubtrees (tree fanout es numbered) (numbered ++ r ∷ [])
+      → AreOnce numbered (r ∷ [])
       → IsPermutation (r ∷ flat_map (nodes_under (tree fanout es (numbered ++ r ∷ []))) (numbered ++ r ∷ []))
       (numbered ++ r ∷ [])
   nodes_once numbered r sound once =

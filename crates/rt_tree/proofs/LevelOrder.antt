@@ -36,6 +36,11 @@ nodes_over-AreOn extent size level first (g ∷ gs) = (refl, nodes_over-AreOn ex
 abbrev pub sizes_from : (fanout len : ℕ) → List ℕ
 sizes_from fanout len = len ∷ (if nat_le len 1 then [] else sizes_above len fanout len)
 
+pub sizes_from-step : (fanout len : ℕ) → 2 ≤ fanout → 1 < len
+    → sizes_from fanout len ≡ len ∷ sizes_from fanout (div_ceil len fanout)
+sizes_from-step fanout len several more = let above : nat_le len 1 ≡ false = grind (arith, nat_tests) in
+    rw above (ap (λ l. len ∷ l) (sizes_above-step fanout len several (omega arith)))
+
 module _ (fanout : ℕ) (several : 2 ≤ fanout) where
   pub nodes_from-levels : (fuel level first : ℕ) (made : List Node) → length made ≤ fuel → 0 < length made
       → AreOn level made
@@ -48,7 +53,6 @@ module _ (fanout : ℕ) (several : 2 ≤ fanout) where
         ap (map (λ n. n.level)) (nodes_from-last fanout several (suc fuel) level first made h)
         ∙ levels_of level made on ∙ rw last (sym (append-nil (replicate (length made) level)))
     | inr h ↦
-        let more : nat_le (length made) 1 ≡ false = grind (arith, nat_tests) in
         let ordered = joined (cut fanout several made) in
         let new = above fanout several level first made in
         let moved = groups-moved (λ (n : Node). n.bounds) made fanout several in
@@ -62,86 +66,16 @@ module _ (fanout : ℕ) (several : 2 ≤ fanout) where
           div_ceil-positive (length made) fanout several there,
         )) (nodes_over-AreOn extent_of_node (λ n. n.size)
         (suc level) first (cut fanout several made)) in
-        let sizes : sizes_above (length made) fanout (length made) ≡ sizes_from fanout (length new) =
-        sizes_above-step fanout (length made) several there ∙ ap (sizes_from fanout) (sym count) in
+        let sizes : sizes_from fanout (length made) ≡ length made ∷ sizes_from fanout (length new) =
+        sizes_from-step fanout (length made) several h ∙ ap (λ n. length made ∷ sizes_from fanout n) (sym count) in
         ap (map (λ n. n.level)) (nodes_from-more fanout several fuel level first made h)
         ∙ map-append (λ (n : Node). n.level) ordered (nodes_from fuel fanout (suc level) (first + length made) new)
-        ∙ rw (here, later, more, sizes) refl
+        ∙ rw (here, later) (ap (level_by_level level) (sym sizes))
   ]
-
--- ---- the last level
-
-positive_from : (fuel fanout size : ℕ) → 2 ≤ fanout → 0 < size
-    → AllByRecursion (λ n. 0 < n) (sizes_above fuel fanout size)
-positive_from zero fanout size several there = tt
-positive_from (suc fuel) fanout size several there =
-    let here = div_ceil-positive size fanout several there in (
-      here,
-      elim (nat_le (div_ceil size fanout) 1) as (λ b. AllByRecursion (λ n. 0 < n) (cond b []
-          (sizes_above fuel fanout (div_ceil size fanout)))) [
-            | true ↦ tt
-            | false ↦ positive_from fuel fanout (div_ceil size fanout) several here
-          ],
-    )
-
-length-level_by_level : (level size : ℕ) (sizes : List ℕ) → 0 < size → 0 < length (level_by_level level (size ∷ sizes))
-length-level_by_level level size sizes there = omega (
-  arith,
-  length-append (replicate size level) (level_by_level (suc level) sizes),
-  length-replicate size level,
-)
-
--- the last of the levels is as far up as there are sizes
-last_level : (level size : ℕ) (sizes : List ℕ) → AllByRecursion (λ n. 0 < n) (size ∷ sizes)
-    → get_or (level_by_level level (size ∷ sizes)) (length (level_by_level level
-    (size ∷ sizes)) - 1) 0 ≡ level + length sizes
-last_level level size [] some =
-    let whole = append-nil (replicate size level) in
-    ap (λ l. get_or l (length l - 1) 0) whole
-    ∙ get_or-replicate size (length (replicate size level) - 1) level 0 (omega
-    (arith, some.0, length-replicate size level)) ∙ omega arith
-last_level level size (next ∷ sizes) some =
-    let front = replicate size level in
-    let rest = level_by_level (suc level) (next ∷ sizes) in
-    let long = length-append front rest in
-    let there = length-level_by_level (suc level) next sizes some.1.0 in
-    let back : length (front ++ rest) - 1 - size ≡ length rest - 1 = omega (arith, length-replicate size level) in
-    get_or-append_right front rest size (length (front ++ rest) - 1) 0 (length-replicate size level) (omega (arith, length-replicate size level))
-    ∙ ap (λ i. get_or rest i 0) back ∙ last_level (suc level) next sizes some.1 ∙ omega arith
-
--- the last node of a tree whose nodes stand level by level
-pub last_node-level : (ns : List Node) (level size : ℕ) (sizes : List ℕ)
-    → AllByRecursion (λ n. 0 < n) (size ∷ sizes) → map (λ n. n.level) ns ≡ level_by_level level (size ∷ sizes)
-    → (get_or ns (length ns - 1) no_node).level ≡ level + length sizes
-last_node-level ns level size sizes some is =
-    sym (get_or-map (λ (n : Node). n.level) ns (length ns - 1) no_node)
-    ∙ ap (λ i. get_or (map (λ (n : Node). n.level) ns) i 0) (ap (λ m. m - 1) (sym (length-map ns (λ
-    (n : Node). n.level))))
-    ∙ ap (λ l. get_or l (length l - 1) 0) is ∙ last_level level size sizes some
 
 -- ---- the sizes of the levels of nodes
 
-pub sizes_behind : (len fanout : ℕ) → 0 < len → drop 1 (level_sizes len fanout) ≡ sizes_above len fanout len
-sizes_behind zero fanout there = absurd (omega arith)
-sizes_behind (suc len) fanout there = refl
-
-length-level_sizes : (len fanout : ℕ) → 0 < len → length (level_sizes len fanout) ≡ 1 + length
-    (sizes_above len fanout len)
-length-level_sizes zero fanout there = absurd (omega arith)
-length-level_sizes (suc len) fanout there = omega arith
-
--- so many nodes of level 1 begin the levels of a tree
-module _ (fanout : ℕ) (several : 2 ≤ fanout) (len count : ℕ) (there : 0 < len) (is : count ≡ div_ceil len fanout) where
-  pub sizes_from_first : drop 1 (level_sizes len fanout) ≡ sizes_from fanout count
-  sizes_from_first = sizes_behind len fanout there ∙ sizes_above-step fanout len several there
-      ∙ ap (sizes_from fanout) (sym is)
-
-  pub last_node-top : (ns : List Node) → map (λ n. n.level) ns ≡ level_by_level 1 (drop 1 (level_sizes len fanout))
-      → (get_or ns (length ns - 1) no_node).level + 1 ≡ length (level_sizes len fanout)
-  last_node-top ns levels =
-      let positive = subst (AllByRecursion (λ n. 0 < n)) (sizes_above-step fanout len several there
-      ∙ ap (sizes_from fanout) (sym is)) (positive_from len fanout len several there) in
-      let sizes = sym (sizes_behind len fanout there) ∙ sizes_from_first in
-      let top = last_node-level ns 1 count (if nat_le count 1 then [] else sizes_above count fanout count) positive
-      (levels ∙ ap (level_by_level 1) sizes_from_first) in
-      omega (arith, length-level_sizes len fanout there, ap length sizes)
+pub sizes_from_first : (fanout len : ℕ) → 2 ≤ fanout → 0 < len
+    → drop 1 (level_sizes len fanout) ≡ sizes_from fanout (div_ceil len fanout)
+sizes_from_first fanout zero several there = absurd (omega arith)
+sizes_from_first fanout (suc len) several there = sizes_above-step fanout (suc len) several there
