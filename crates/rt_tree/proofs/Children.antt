@@ -1,6 +1,6 @@
 -- In a packed tree each node but the root is a child once, and so is each entry.
-use Rattle.std.proofs.Common.{◌≡◌, ◌<◌, ◌-◌, ℕ, suc, Bool, true, false, cond, nat_lt, ◌==◌, if◌then◌else◌, List, [], ◌∷◌, ◌++◌}
-use Rattle.std.proofs.{Common.{length, filter, refl, sym, ◌∙◌, ap, subst, arith, IsPermutation}, lemmas.Grind.{flat_map-append}}
+use Rattle.std.proofs.Common.{◌≡◌, ◌<◌, ◌-◌, ℕ, suc, nat_lt, ◌==◌, if◌then◌else◌, List, [], ◌∷◌, ◌++◌}
+use Rattle.std.proofs.{Common.{length, refl, sym, ◌∙◌, ap, subst, arith, IsPermutation}, lemmas.Grind.{flat_map-append}}
 use Rattle.std.proofs.lemmas.{Bool.Decides.{nat_tests}, List.{append-nil}}
 use Rattle.std.proofs.lemmas.List.Sorted.{IsPermutation-append, IsPermutation-append_right, IsPermutation-cons}
 use Rattle.std.proofs.lemmas.List.Sorted.{IsPermutation-refl, IsPermutation-sym, IsPermutation-to_front, IsPermutation-trans}

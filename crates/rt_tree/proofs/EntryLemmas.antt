@@ -1,8 +1,8 @@
 -- A table with one more entry.
 use Rattle.std.proofs.Common.{◌≡◌, ◌∙◌, ◌<◌, ◌+◌, ◌-◌, ℕ, ℤ, get_or, take, false, ◌||◌, List, [], ◌∷◌, ◌++◌, length, refl, sym}
-use Rattle.std.proofs.{Common.{ap, subst, arith, length-append}, Math.{Bool.{or-false}, Seq.{take-append_seam}}}
+use Rattle.std.proofs.{Common.{IsPermutation, ap, subst, arith, length-append}, Math.{Bool.{or-false}, Seq.{take-append_seam}}}
 use Rattle.std.proofs.lemmas.{Cmp.{int_eq_equiv}, Int.{ints}, List.{map-append, take_more, Elements.{All-nil, All-push}}}
-use Rattle.std.proofs.lemmas.{List.Folds.{list_any-append}, Map.Keys.{IsDistinct-push}}
+use Rattle.std.proofs.lemmas.{List.Folds.{list_any-append}, Map.Keys.{IsDistinct-IsPermutation, IsDistinct-push}, List.Sorted.{IsPermutation-map}}
 use Rattle.std.specs.{BTreeSet.{BTreeSet}, List.{IsDistinct, list_any}, Ordering.{int_eq}}
 use Rattle.rt_geo.specs.{Entries.{HasBox, HasLayer}, declared.entry.Entry.{Entry}}
 use Rattle.rt_tree.specs.{Entries.{IsTable, has_id, ids_of, most_entries}, Indexes.{IsIndexed, keeps}}
@@ -43,6 +43,12 @@ pushed-popped entries entry =
 
 pub int_eq-sym : (a b : ℤ) → int_eq a b ≡ int_eq b a
 int_eq-sym a b = grind (arith, ints)
+
+-- entries in another order have distinct ids too
+pub distinct-IsPermutation : (xs ys : List Entry) → IsPermutation xs ys → IsDistinct int_eq (ids_of xs)
+    → IsDistinct int_eq (ids_of ys)
+distinct-IsPermutation xs ys moved = IsDistinct-IsPermutation int_eq int_eq-sym (ids_of xs) (ids_of ys)
+    (IsPermutation-map (λ (e : Entry). e.id) xs ys moved)
 
 -- a table without entries
 pub IsIndexed-empty : (loaded : List ℤ) (later : BTreeSet ℤ) → ((id : ℤ) → keeps loaded later id ≡ false) → IsIndexed loaded later []

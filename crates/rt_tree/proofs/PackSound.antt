@@ -1,17 +1,17 @@
 -- The tree that is packed over a table is sound.
-use Rattle.std.proofs.Common.{◌≡◌, ◌<◌, ◌≤◌, ◌+◌, ◌-◌, ℕ, zero, suc, List, [], ◌∷◌, ◌++◌, length, map, filter, ◌==◌, drop}
-use Rattle.std.proofs.Common.{get_or, refl, sym, ◌∙◌, ap, subst, arith, inl, inr, length-append, IsPermutation, slice_get, Some}
-use Rattle.std.proofs.lemmas.List.{append-nil, length-drop, nil_from_length, Elements.{All-from_recursion, recursion_from_All}}
-use Rattle.std.proofs.lemmas.List.Sorted.{All-permutation, IsPermutation-map, IsPermutation-refl, IsPermutation-sym}
-use Rattle.std.proofs.lemmas.{List.Sorted.{IsPermutation-trans, length_permutation}, Map.Keys.{IsDistinct-IsPermutation}}
+use Rattle.std.proofs.Common.{◌≡◌, ◌<◌, ◌≤◌, ◌+◌, ◌-◌, ℕ, zero, suc, List, [], ◌∷◌, ◌++◌, length, map, drop}
+use Rattle.std.proofs.Common.{get_or, refl, sym, ◌∙◌, ap, subst, arith, length-append, IsPermutation, slice_get, Some}
+use Rattle.std.proofs.lemmas.List.{append-nil, length-drop, Elements.{All-from_recursion, recursion_from_All}}
+use Rattle.std.proofs.lemmas.List.Sorted.{All-permutation, IsPermutation-refl, IsPermutation-sym}
+use Rattle.std.proofs.lemmas.{List.Sorted.{IsPermutation-trans, length_permutation}}
 use Rattle.std.proofs.lemmas.Option.{get_or_from_slice_get}
-use Rattle.std.specs.{Int.{div_ceil}, List.{AllByRecursion, flat_map}, Ordering.{int_cmp, int_eq, on}}
+use Rattle.std.specs.{Int.{div_ceil}, List.{AllByRecursion, flat_map}, Ordering.{int_cmp, on}}
 use Rattle.rt_geo.specs.{Entries.{HasBox, HasLayer}, Laws.{extent_of_entry}, declared.entry.Entry.{Entry}}
-use Rattle.rt_tree.specs.{Entries.{IsTable, ids_of}, Levels.{level_sizes}, Packed.{IsSubtree}, Sorting.{sorted}}
-use Rattle.rt_tree.specs.Packed.{child_entries, entries_under, extent_of_node, no_node, node_at, root_of, Packed, IsSound}
+use Rattle.rt_tree.specs.{Entries.{IsTable}, Levels.{level_sizes}, Packed.{IsSubtree}, Sorting.{sorted}}
+use Rattle.rt_tree.specs.Packed.{entries_under, extent_of_node, no_node, node_at, root_of, Packed, IsSound}
 use Rattle.rt_tree.specs.{Packing.{groups, joined, nodes_from, nodes_over, pack_of}, declared.tree.Node.{Node}}
 use Rattle.rt_tree.proofs.Children.{AreOnce, AreSubtrees, nodes_once, nodes_under, once_first, once_more, right_under}
-use Rattle.rt_tree.proofs.{ChunkLemmas.{le_or_lt}, EntryLemmas.{int_eq-sym}}
+use Rattle.rt_tree.proofs.{EntryLemmas.{distinct-IsPermutation}}
 use Rattle.rt_tree.proofs.{LevelLemmas.{div_ceil-positive}, LoopLemmas.{get_or_behind}, SortingLemmas.{IsPermutation-sorted}}
 use Rattle.rt_tree.proofs.LevelOrder.{level_by_level, nodes_from-levels, nodes_over-AreOn, sizes_from, sizes_from-step}
 use Rattle.rt_tree.proofs.LevelOrder.{sizes_from_first}
@@ -164,8 +164,7 @@ entries-IsPermutation fanout entries several =
 -- what a table's entries have, the same entries have in another order
 pub IsTable-IsPermutation : (xs ys : List Entry) → IsPermutation xs ys → IsTable xs → IsTable ys
 IsTable-IsPermutation xs ys moved t = record {
-  distinct = IsDistinct-IsPermutation int_eq int_eq-sym (ids_of xs) (ids_of ys) (IsPermutation-map (λ
-      (e : Entry). e.id) xs ys moved) t.distinct;
+  distinct = distinct-IsPermutation xs ys moved t.distinct;
   boxes = All-permutation HasBox xs ys moved t.boxes;
   layers = All-permutation HasLayer xs ys moved t.layers;
   few = omega (arith, t.few, length_permutation xs ys moved);
