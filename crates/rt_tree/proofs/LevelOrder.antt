@@ -8,7 +8,7 @@ use Rattle.std.specs.{Int.{div_ceil}, List.{AllByRecursion}}
 use Rattle.rt_geo.specs.Laws.{Extent}
 use Rattle.rt_tree.specs.{Levels.{level_sizes, sizes_above}, Packed.{extent_of_node}, declared.tree.Node.{Node}}
 use Rattle.rt_tree.specs.Packing.{joined, nodes_from, nodes_over}
-use Rattle.rt_tree.proofs.{ChunkLemmas.{le_or_lt}, LevelLemmas.{div_ceil-positive, sizes_above-step}, OrderLemmas.{all_moved}}
+use Rattle.rt_tree.proofs.{ChunkLemmas.{le_or_lt}, LevelLemmas.{div_ceil-positive, sizes_above-step, sizes_from, sizes_from-step}, OrderLemmas.{all_moved}}
 use Rattle.rt_tree.proofs.PackCounts.{above, cut, fewer, length-above, nodes_from-last, nodes_from-more}
 use Rattle.rt_tree.proofs.TileLemmas.{groups-moved}
 
@@ -31,15 +31,6 @@ pub nodes_over-AreOn : {X : Type 0} (extent : X → Extent) (size : X → ℕ) (
     → AreOn level (nodes_over extent size level first gs)
 nodes_over-AreOn extent size level first [] = tt
 nodes_over-AreOn extent size level first (g ∷ gs) = (refl, nodes_over-AreOn extent size level (first + length g) gs)
-
--- the sizes of a level of so many nodes, and of those above it
-abbrev pub sizes_from : (fanout len : ℕ) → List ℕ
-sizes_from fanout len = len ∷ (if nat_le len 1 then [] else sizes_above len fanout len)
-
-pub sizes_from-step : (fanout len : ℕ) → 2 ≤ fanout → 1 < len
-    → sizes_from fanout len ≡ len ∷ sizes_from fanout (div_ceil len fanout)
-sizes_from-step fanout len several more = let above : nat_le len 1 ≡ false = grind (arith, nat_tests) in
-    rw above (ap (λ l. len ∷ l) (sizes_above-step fanout len several (omega arith)))
 
 module _ (fanout : ℕ) (several : 2 ≤ fanout) where
   pub nodes_from-levels : (fuel level first : ℕ) (made : List Node) → length made ≤ fuel → 0 < length made

@@ -12,9 +12,8 @@ use Rattle.rt_tree.specs.Packed.{entries_under, extent_of_node, no_node, node_at
 use Rattle.rt_tree.specs.{Packing.{groups, joined, nodes_from, nodes_over, pack_of}, declared.tree.Node.{Node}}
 use Rattle.rt_tree.proofs.Children.{AreOnce, AreSubtrees, nodes_once, nodes_under, once_first, once_more, right_under}
 use Rattle.rt_tree.proofs.{EntryLemmas.{distinct-IsPermutation}}
-use Rattle.rt_tree.proofs.{LevelLemmas.{div_ceil-positive}, LoopLemmas.{get_or_behind}, SortingLemmas.{IsPermutation-sorted}}
-use Rattle.rt_tree.proofs.LevelOrder.{level_by_level, nodes_from-levels, nodes_over-AreOn, sizes_from, sizes_from-step}
-use Rattle.rt_tree.proofs.LevelOrder.{sizes_from_first}
+use Rattle.rt_tree.proofs.{LevelLemmas.{div_ceil-positive, sizes_from, sizes_from-step}, LoopLemmas.{get_or_behind}, SortingLemmas.{IsPermutation-sorted}}
+use Rattle.rt_tree.proofs.LevelOrder.{level_by_level, nodes_from-levels, nodes_over-AreOn, sizes_from_first}
 use Rattle.rt_tree.proofs.OrderLemmas.{all_append, all_moved, flat_map-IsPermutation}
 use Rattle.rt_tree.proofs.PackCounts.{IsCounted, above, all_nodes, counted_first, counted_more, course, cut, fewer, length-above}
 use Rattle.rt_tree.proofs.PackCounts.{leaf_nodes-few, length-groups, nodes_from-last, some_above}
