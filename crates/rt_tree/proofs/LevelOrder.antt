@@ -1,14 +1,14 @@
 -- The nodes of a packed tree stand level by level, as many on each as its size asks for.
 use Rattle.std.proofs.Common.{◌≡◌, ◌<◌, ◌≤◌, ◌+◌, ℕ, zero, suc, true, false, nat_le, if◌then◌else◌, List, [], ◌∷◌}
 use Rattle.std.proofs.Common.{◌++◌, length, map, drop, replicate, refl, sym, ◌∙◌, ap, arith, inl, inr}
-use Rattle.std.proofs.{lemmas.Bool.Decides.{nat_tests}}
+use Rattle.std.proofs.{lemmas.{Bool.{cases_lt}, Bool.Decides.{nat_tests}}}
 use Rattle.std.proofs.lemmas.List.{append-nil, map-append}
 use Rattle.std.proofs.lemmas.List.Sorted.{length_permutation}
 use Rattle.std.specs.{Int.{div_ceil}, List.{AllByRecursion}}
 use Rattle.rt_geo.specs.Laws.{Extent}
 use Rattle.rt_tree.specs.{Levels.{level_sizes, sizes_above}, Packed.{extent_of_node}, declared.tree.Node.{Node}}
 use Rattle.rt_tree.specs.Packing.{joined, nodes_from, nodes_over}
-use Rattle.rt_tree.proofs.{ChunkLemmas.{le_or_lt}, LevelLemmas.{div_ceil-positive, sizes_above-step, sizes_from, sizes_from-step}, OrderLemmas.{all_moved}}
+use Rattle.rt_tree.proofs.{LevelLemmas.{div_ceil-positive, sizes_above-step, sizes_from, sizes_from-step}, OrderLemmas.{all_moved}}
 use Rattle.rt_tree.proofs.PackCounts.{above, cut, fewer, length-above, nodes_from-last, nodes_from-more}
 use Rattle.rt_tree.proofs.TileLemmas.{groups-moved}
 
@@ -38,12 +38,12 @@ module _ (fanout : ℕ) (several : 2 ≤ fanout) where
       → map (λ n. n.level) (nodes_from fuel fanout level first made) ≡ level_by_level level (sizes_from fanout
       (length made))
   nodes_from-levels zero level first made few there on = absurd (omega arith)
-  nodes_from-levels (suc fuel) level first made few there on = elim (le_or_lt (length made) 1) [
-    | inl h ↦
+  nodes_from-levels (suc fuel) level first made few there on = elim (cases_lt 1 (length made)) [
+    | inr h ↦
         let last : nat_le (length made) 1 ≡ true = grind (arith, nat_tests) in
         ap (map (λ n. n.level)) (nodes_from-last fanout several (suc fuel) level first made h)
         ∙ levels_of level made on ∙ rw last (sym (append-nil (replicate (length made) level)))
-    | inr h ↦
+    | inl h ↦
         let ordered = joined (cut fanout several made) in
         let new = above fanout several level first made in
         let moved = groups-moved (λ (n : Node). n.bounds) made fanout several in

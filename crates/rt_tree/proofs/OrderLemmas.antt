@@ -6,11 +6,7 @@ use Rattle.std.proofs.lemmas.List.Sorted.{All-permutation, IsPermutation-append_
 use Rattle.std.proofs.lemmas.List.Sorted.{IsPermutation-append_right, IsPermutation-refl, IsPermutation-trans}
 use Rattle.std.specs.{List.{All, AllByRecursion, flat_map}, Ordering.{is_gt, nat_cmp}}
 use Rattle.rt_tree.specs.Sorting.{put, sorted}
-use Rattle.rt_tree.proofs.{Permutations.{along_permutation}, SortingLemmas.{IsPermutation-sorted, sorted-unique_by_all}}
-
--- what a sort of numbers gives
-pub numbers_sorted : (xs ys : List ℕ) → IsPermutation xs ys → IsSorted nat_cmp ys → ys ≡ sorted nat_cmp xs
-numbers_sorted = sorted-unique_by_all nat_cmp nat_cmp_total exact_unsigned
+use Rattle.rt_tree.proofs.{Permutations.{along_permutation}, SortingLemmas.{IsPermutation-sorted}}
 
 pub all_moved : {X : Type 0} (P : X → Type 0) (xs ys : List X) → IsPermutation xs ys → AllByRecursion P xs
     → AllByRecursion P ys

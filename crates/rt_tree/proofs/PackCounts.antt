@@ -1,14 +1,14 @@
 -- How many nodes a packing makes, level by level.
 use Rattle.std.proofs.Common.{◌≡◌, ◌<◌, ◌≤◌, ◌+◌, ◌-◌, ◌*◌, ◌^◌, ℕ, zero, suc, true, false, nat_le, List, [], ◌∷◌, ◌++◌, length}
 use Rattle.std.proofs.Common.{refl, sym, ◌∙◌, ap, subst, arith, append_assoc, inl, inr, length-append}
-use Rattle.std.proofs.lemmas.{Bool.Decides.{nat_tests}, List.Elements.{All-from_recursion, recursion_from_All}}
+use Rattle.std.proofs.lemmas.{Bool.{cases_lt}, Bool.Decides.{nat_tests}, List.Elements.{All-from_recursion, recursion_from_All}}
 use Rattle.std.proofs.lemmas.List.Sorted.{All-permutation, length_permutation, sum_by-IsPermutation}
 use Rattle.std.proofs.lemmas.List.Sums.{sum_by-append, sum_by-cons}
 use Rattle.std.specs.{Int.{div_ceil}, List.{All, sum_by}}
 use Rattle.rt_geo.specs.{Boxes.{Rect}, Laws.{Extent, extent_of_entry}, declared.entry.Entry.{Entry}}
 use Rattle.rt_tree.specs.{Packed.{extent_of_node}, Packing.{groups, joined, node_over, nodes_from, nodes_over}}
 use Rattle.rt_tree.specs.{SortKeys.{IsInPlane}, declared.tree.Node.{Node}}
-use Rattle.rt_tree.proofs.{ChunkLemmas.{le_or_lt, length-chunks}, TileLemmas.{groups-chunks, groups-moved}}
+use Rattle.rt_tree.proofs.{ChunkLemmas.{length-chunks}, TileLemmas.{groups-chunks, groups-moved}}
 use Rattle.rt_tree.proofs.LevelLemmas.{div_ceil-halves, div_ceil-positive, power_left, power_more}
 use Rattle.rt_tree.proofs.Soundness.{chunk_groups, length-nodes_over, nodes_over-in_plane, sum_by-ones}
 
@@ -107,9 +107,9 @@ module _ (fanout : ℕ) (several : 2 ≤ fanout) where
       → nodes_from fuel fanout level first made ≡ nodes_from other fanout level first made
   nodes_from-fuel zero other level first made f g = sym (nodes_from-last other level first made (omega arith))
   nodes_from-fuel (suc fuel) zero level first made f g = nodes_from-last (suc fuel) level first made (omega arith)
-  nodes_from-fuel (suc fuel) (suc other) level first made f g = elim (le_or_lt (length made) 1) [
-    | inl h ↦ nodes_from-last (suc fuel) level first made h ∙ sym (nodes_from-last (suc other) level first made h)
-    | inr h ↦ nodes_from-more fuel level first made h
+  nodes_from-fuel (suc fuel) (suc other) level first made f g = elim (cases_lt 1 (length made)) [
+    | inr h ↦ nodes_from-last (suc fuel) level first made h ∙ sym (nodes_from-last (suc other) level first made h)
+    | inl h ↦ nodes_from-more fuel level first made h
         ∙ ap (λ l. joined (cut made) ++ l) (nodes_from-fuel fuel other (suc level) (first + length made)
         (above level first made) (fewer level first fuel made h f) (fewer level first other made h g))
         ∙ sym (nodes_from-more other level first made h)

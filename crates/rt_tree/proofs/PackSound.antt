@@ -1,7 +1,7 @@
 -- The tree that is packed over a table is sound.
 use Rattle.std.proofs.Common.{◌≡◌, ◌<◌, ◌≤◌, ◌+◌, ◌-◌, ℕ, zero, suc, List, [], ◌∷◌, ◌++◌, length, map, drop}
 use Rattle.std.proofs.Common.{get_or, refl, sym, ◌∙◌, ap, subst, arith, length-append, IsPermutation, slice_get, Some}
-use Rattle.std.proofs.lemmas.List.{append-nil, length-drop, Elements.{All-from_recursion, recursion_from_All}}
+use Rattle.std.proofs.lemmas.List.{append-nil, get_or_push, length-drop, Elements.{All-from_recursion, recursion_from_All}}
 use Rattle.std.proofs.lemmas.List.Sorted.{All-permutation, IsPermutation-refl, IsPermutation-sym}
 use Rattle.std.proofs.lemmas.{List.Sorted.{IsPermutation-trans, length_permutation}}
 use Rattle.std.proofs.lemmas.Option.{get_or_from_slice_get}
@@ -12,7 +12,7 @@ use Rattle.rt_tree.specs.Packed.{entries_under, extent_of_node, no_node, node_at
 use Rattle.rt_tree.specs.{Packing.{groups, joined, nodes_from, nodes_over, pack_of}, declared.tree.Node.{Node}}
 use Rattle.rt_tree.proofs.Children.{AreOnce, AreSubtrees, nodes_once, nodes_under, once_first, once_more, right_under}
 use Rattle.rt_tree.proofs.{EntryLemmas.{distinct-IsPermutation}}
-use Rattle.rt_tree.proofs.{LevelLemmas.{div_ceil-positive, sizes_from, sizes_from-step}, LoopLemmas.{get_or_behind}, SortingLemmas.{IsPermutation-sorted}}
+use Rattle.rt_tree.proofs.{LevelLemmas.{div_ceil-positive, sizes_from, sizes_from-step}, SortingLemmas.{IsPermutation-sorted}}
 use Rattle.rt_tree.proofs.LevelOrder.{level_by_level, nodes_from-levels, nodes_over-AreOn, sizes_from_first}
 use Rattle.rt_tree.proofs.OrderLemmas.{all_append, all_moved, flat_map-IsPermutation}
 use Rattle.rt_tree.proofs.PackCounts.{IsCounted, above, all_nodes, counted_first, counted_more, course, cut, fewer, length-above}
@@ -104,8 +104,7 @@ module _ (fanout : ℕ) (several : 2 ≤ fanout) (es : List Entry) where
       let old = tree fanout es numbered in
       let new = tree fanout es ns in
       let long = length-append numbered (r ∷ []) in
-      let is_root : root_of new ≡ r = ap (λ n. get_or ns n no_node) (omega arith)
-      ∙ get_or_behind numbered r no_node [] in
+      let is_root : root_of new ≡ r = get_or_push numbered r no_node (length ns - 1) (omega arith) in
       let sound = behind h numbered (r ∷ []) b.lower b.nodes in
       let sub = subtree_more fanout es numbered (r ∷ []) h r b.nodes.0 in
       let level : r.level ≡ suc h = level_of old h r b.nodes.0 in

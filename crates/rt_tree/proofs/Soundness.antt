@@ -1,5 +1,6 @@
 -- A packed tree is sound.
 use Rattle.std.proofs.Common.{◌≡◌, ◌<◌, ◌≤◌, ◌+◌, ℕ, zero, suc, Bool, true, List, [], ◌∷◌, ◌++◌, length, map, take, drop, refl}
+use Rattle.std.proofs.lemmas.List.{drop_at, take_at}
 use Rattle.std.proofs.{Common.{sym, ◌∙◌, ap, subst, arith, append_assoc, length-append, rules}, Math.Seq.{drop-append_seam}}
 use Rattle.std.proofs.lemmas.{Grind.{flat_map-append}, List.{drop-append-le, length-drop, take-append-le, take_all}}
 use Rattle.std.proofs.lemmas.List.Sums.{sum_by-cons}
@@ -21,8 +22,7 @@ use Rattle.rt_tree.proofs.{ChunkLemmas.{chunks-size}, OrderLemmas.{flat_map-same
 pub group_at : {X : Type 0} (front group rest : List X) → take (length group) (drop (length front) (front ++
     (group ++ rest))) ≡ group
 group_at front group rest =
-    ap (take (length group)) (drop-append_seam front (group ++ rest))
-    ∙ take-append-le (length group) group rest (omega arith) ∙ take_all (length group) group (omega arith)
+    ap (take (length group)) (drop_at front (group ++ rest) (length front) refl) ∙ take_at group rest (length group) refl
 
 pub all_map : {X : Type 0} (P Q : X → Type 0) → ((x : X) → P x → Q x) → (xs : List X) → AllByRecursion P xs
     → AllByRecursion Q xs

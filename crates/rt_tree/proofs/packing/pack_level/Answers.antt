@@ -1,7 +1,8 @@
 use Rattle.rt_tree.specs.SortKeys.{box_of}
 use Rattle.std.proofs.Common.{◌≡◌, ◌∙◌, ap, arith, length, min}
 use Rattle.std.specs.Slice.Iter.{chunks_rest, chunks_size}
-use Rattle.rt_tree.proofs.{LoopLemmas.{front_of}, TileLoops.{level_done, level_first, level_more, next_tile}}
+use Rattle.std.proofs.lemmas.List.{take_at}
+use Rattle.rt_tree.proofs.TileLoops.{level_done, level_first, level_more, next_tile}
 use Rattle.rt_tree.proofs.packing.pack_level.Goals as goal
 
 pub arrange-requires-clause-keys : goal.arrange-requires-clause-keys
@@ -13,7 +14,7 @@ loop-tile-init g c =
     let given = c.into_iter-tile-iterator.ensures.into_iter_gives in
     let rest : chunks_rest c.into_iter-tile-iterator.result ≡ keys = ap chunks_rest given
     ∙ c.chunks-tile-items.ensures.rest ∙ c.deref.ensures.value
-    ∙ front_of _ keys _ (c.arrange.auto.keys ∙ c.deref_mut.ensures.len) in
+    ∙ take_at keys _ _ (c.arrange.auto.keys ∙ c.deref_mut.ensures.len) in
     record {
       size = ap chunks_size given ∙ c.chunks-tile-items.ensures.size;
       part = rw (rest, c.in_ok-nodes.ensures) (level_first (g.T.Items.list c.args.items.now) g.T.Items.extent g.T.Items.size
