@@ -1,6 +1,6 @@
 -- Lists in the order of another list, or by another comparison.
-use Rattle.std.proofs.Common.{◌≡◌, ℕ, Ordering, List, [], ◌∷◌, ◌++◌, map, cond, true, false, refl, sym, ◌∙◌, ap, subst}
-use Rattle.std.proofs.{Common.{append_assoc, IsPermutation, IsSorted}, lemmas.{Cmp.{nat_cmp_total}, List.{map-append}}}
+use Rattle.std.proofs.Common.{◌≡◌, ℕ, Ordering, List, [], ◌∷◌, ◌++◌, map, inl, inr, refl, sym, ◌∙◌, ap, subst}
+use Rattle.std.proofs.{Common.{append_assoc, IsPermutation, IsSorted}, lemmas.{Bool.{cases_Bool}, List.{map-append}}}
 use Rattle.std.proofs.lemmas.{List.Elements.{All-append, All-from_recursion, All-nil, recursion_from_All}, Map.Lookups.{exact_unsigned}}
 use Rattle.std.proofs.lemmas.List.Sorted.{All-permutation, IsPermutation-append_comm, IsPermutation-append_left}
 use Rattle.std.proofs.lemmas.List.Sorted.{IsPermutation-append_right, IsPermutation-refl, IsPermutation-trans}
@@ -16,12 +16,10 @@ all_moved P xs ys h a = recursion_from_All P ys (All-permutation P xs ys h (All-
 module _ {X Y : Type 0} (cmp : Y → Y → Ordering) (f : X → Y) where
   put-map : (x : X) (xs : List X) → put cmp (f x) (map f xs) ≡ map f (put (λ a b. cmp (f a) (f b)) x xs)
   put-map x [] = refl
-  put-map x (y ∷ ys) =
-      elim (is_gt (cmp (f x) (f y))) as (λ b. cond b (f y ∷ put cmp (f x) (map f ys)) (f x ∷ f y ∷ map f ys) ≡ map f
-      (cond b (y ∷ put (λ a b. cmp (f a) (f b)) x ys) (x ∷ y ∷ ys))) [
-        | true ↦ ap (λ l. f y ∷ l) (put-map x ys)
-        | false ↦ refl
-      ]
+  put-map x (y ∷ ys) = elim (cases_Bool (is_gt (cmp (f x) (f y)))) [
+    | inl h ↦ rw h (ap (λ l. f y ∷ l) (put-map x ys))
+    | inr h ↦ rw h refl
+  ]
 
   pub sorted-map : (xs : List X) → sorted cmp (map f xs) ≡ map f (sorted (λ a b. cmp (f a) (f b)) xs)
   sorted-map [] = refl

@@ -8,9 +8,6 @@ pub record IsCeilSqrt (n root : ℕ) : Type 0 where
   pub enough : n ≤ root * root
   pub least : (s : ℕ) → n ≤ s * s → root ≤ s
 
-one_more : (n root : ℕ) → n ≤ root * root → suc n ≤ suc root * suc root
-one_more n root h = omega arith
-
 above : (n root s : ℕ) → root ≤ s → nat_le (suc n) (root * root) ≡ false → suc n ≤ s * s → suc root ≤ s
 above n root s low test h = elim (eq-or-lt_of_le low) [ inl e ↦ absurd (not_same e) | inr l ↦ l ]
   where
@@ -24,9 +21,8 @@ ceil_sqrt-step n root r true e = record {
   least = λ s h. r.least s (omega arith);
 }
 ceil_sqrt-step n root r false e = record {
-  enough = one_more n root r.enough;
-  least = λ s h. above n root s
-      (r.least s (omega arith)) e h;
+  enough = omega (arith, r.enough);
+  least = λ s h. above n root s (r.least s (omega arith)) e h;
 }
 
 pub ceil_sqrt-IsCeilSqrt : (n : ℕ) → IsCeilSqrt n (ceil_sqrt n)
@@ -44,8 +40,4 @@ ceil_sqrt-from_isqrt n below root some is low high =
     omega arith
 
 pub ceil_sqrt-positive : (n : ℕ) → 0 < n → 0 < ceil_sqrt n
-ceil_sqrt-positive n some = positive (ceil_sqrt n) (ceil_sqrt-IsCeilSqrt n).enough
-  where
-    positive : (root : ℕ) → n ≤ root * root → 0 < root
-    positive zero h = absurd (omega arith)
-    positive (suc root) h = omega arith
+ceil_sqrt-positive n some = let enough = (ceil_sqrt-IsCeilSqrt n).enough in grind arith
