@@ -3,7 +3,7 @@ use Rattle.std.proofs.Common.{◌≡◌, ◌<◌, ◌≤◌, ◌+◌, ◌-◌, �
 use Rattle.std.proofs.{Common.{sym, ◌∙◌, ap, arith, append_assoc, ℤ, ◌+ℤ◌, FitsSigned, of_z, to_z, w32}, lemmas.Int.{to_z-of_z}}
 use Rattle.std.proofs.lemmas.{Grind.{drop_more_same, take-set_at}, Slice.{drop-put_mid, take-put_mid}}
 use Rattle.std.proofs.lemmas.List.{drop-set-lt, get_or-drop, length-set, drop-drop, length-append, take-append-drop}
-use Rattle.std.proofs.lemmas.List.{drop_min, take_min, length-drop, length-take, map-append, take-append-le, take_all, take_more}
+use Rattle.std.proofs.lemmas.List.{map_more, drop_min, take_min, length-drop, length-take, map-append, take-append-le, take_all, take_more}
 use borrow.Rule.Slice.PartMut.{post_of, put_mid}
 use Rattle.std.specs.List.{enumerate_from}
 use Rattle.rt_tree.specs.Packing.{chunks}
@@ -57,8 +57,8 @@ mapped_more f old new i x there m is =
     record {
       long = length-set new i x ∙ m.long;
       done = take-set_at new i (i + 1) x refl (omega (arith, m.long)) ∙ ap (λ l. l ++ x ∷ []) m.done
-          ∙ ap (λ y. map f (take i old) ++ y ∷ []) (is ∙ ap f (unchanged i old new m.later i (omega arith))) ∙ sym (map-append f (take i old) (get_or old i 0 ∷ []))
-          ∙ ap (map f) (sym (take_more old i 0 there));
+          ∙ ap (λ y. map f (take i old) ++ y ∷ []) (is ∙ ap f (unchanged i old new m.later i (omega arith)))
+          ∙ sym (map_more f old i 0 there);
       later = drop-set-lt (i + 1) new i x (omega arith) ∙ drop_more_same new old i m.later;
     }
 

@@ -54,8 +54,7 @@ over_in_plane {X} extent size fanout level first items several a =
     All-from_recursion (λ n. IsInPlane n.bounds) (nodes_over extent size level first gs)
     (nodes_over-in_plane extent size fanout level first gs (chunk_groups fanout P gs (omega arith)
     (groups-chunks (λ x. (extent x).bounds) items fanout (omega arith))
-    (recursion_from_All P (joined gs) (All-permutation P items (joined gs)
-    (groups-moved (λ x. (extent x).bounds) items fanout several) a))))
+    (All-permutation P items (joined gs) (groups-moved (λ x. (extent x).bounds) items fanout several) a)))
 
 -- a loop that makes one level after another: it has made so many nodes, and then those of this level
 pub record IsCounted (level : ℕ) (nodes made : List Node) : Type 0 where

@@ -43,8 +43,3 @@ module _ (fanout : ℕ) (table entries before : List Entry) (same : entries ≡ 
       → nodes ≡ all_nodes fanout made
       → ◌≡◌ {A = Packed} (record { fanout = fanout; entries = leaves; nodes = nodes }) (pack_of fanout table)
   packed_is leaves made nodes leaves_are is over = rw (over, leaf_nodes_are made is, leaves_are, none, same) refl
-
-pub length-packed : (fanout : ℕ) (table : List Entry) → 2 ≤ fanout
-    → length (pack_of fanout table).entries ≡ length table
-length-packed fanout table several = length_permutation table (pack_of fanout table).entries
-    (entries-IsPermutation fanout table several)

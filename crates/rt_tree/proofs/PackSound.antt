@@ -78,7 +78,8 @@ module _ (fanout : ℕ) (several : 2 ≤ fanout) (es : List Entry) where
       here in
       record {
         nodes = over_sound fanout es ns h gs numbered refl (chunk_groups fanout (IsSubtree new h) gs (omega arith)
-            (groups-chunks (λ (n : Node). n.bounds) made fanout (omega arith)) later);
+            (groups-chunks (λ (n : Node). n.bounds) made fanout (omega arith))
+            (All-from_recursion (IsSubtree new h) ordered later));
         every = subst (λ l. IsPermutation l es) (sym same) (IsPermutation-trans _ _ _ (IsPermutation-sym _ _
             (flat_map-IsPermutation (entries_under old h) made ordered moved)) b.every);
         lower = with_more numbered ordered ns sound;
@@ -212,13 +213,12 @@ module _ (fanout : ℕ) (several : 2 ≤ fanout) (in_order : List Entry) where
       let some : 0 < length made = omega (arith, div_ceil-positive (length es) fanout several held) in
       let on = nodes_over-AreOn extent_of_entry (λ _. 1) 1 0 gs in
       let under = leaves_under fanout es [] gs [] refl in
-      let entries = recursion_from_All IsEntry es (λ i d h. (table.boxes i d h, table.layers i d h)) in
       let sizes : drop 1 (level_sizes (length es) fanout) ≡ sizes_from fanout (length made) =
       sizes_from_first fanout (length es) several held ∙ ap (sizes_from fanout) (sym count) in
       sound_from fanout several es table held (length made) 0 [] made (omega arith) some
       (record {
         nodes = leaves_sound fanout es [] gs [] refl (chunk_groups fanout IsEntry gs (omega arith) (groups-chunks (λ
-            (e : Entry). e.bounds) in_order fanout (omega arith)) entries);
+            (e : Entry). e.bounds) in_order fanout (omega arith)) (λ i d h. (table.boxes i d h, table.layers i d h)));
         every = subst (λ l. IsPermutation l es) (sym under) (IsPermutation-refl es);
         lower = tt;
         once = once_first fanout es made on under;

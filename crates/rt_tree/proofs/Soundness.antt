@@ -4,7 +4,8 @@ use Rattle.std.proofs.lemmas.List.{drop_at, take_at}
 use Rattle.std.proofs.{Common.{sym, ◌∙◌, ap, subst, arith, append_assoc, length-append, rules}, Math.Seq.{drop-append_seam}}
 use Rattle.std.proofs.lemmas.{Grind.{flat_map-append}, List.{drop-append-le, length-drop, take-append-le, take_all}}
 use Rattle.std.proofs.lemmas.List.Sums.{sum_by-cons}
-use Rattle.std.specs.{List.{AllByRecursion, flat_map, fold, reduce, sum_by}, Prelude.{unwrap_or}}
+use Rattle.std.proofs.lemmas.List.Elements.{recursion_from_All}
+use Rattle.std.specs.{List.{All, AllByRecursion, flat_map, fold, reduce, sum_by}, Prelude.{unwrap_or}}
 use Rattle.rt_geo.specs.{Boxes.{Rect, hull, inside, plane}, Entries.{HasBox, HasLayer}, Lemmas.Layers.{HasSome-only}}
 use Rattle.rt_geo.specs.{Laws.{Extent, IsBoxInside, IsPart, extent_of_entry}, Layers.{HasSome, no_layers, subset, union}}
 use Rattle.rt_geo.specs.Lemmas.Boxes.{IsRect-hull, hull-inside, inside-hull_left, inside-hull_right, inside-same, inside-trans}
@@ -14,7 +15,7 @@ use Rattle.rt_geo.specs.declared.layers.Layers.{Layers}
 use Rattle.rt_tree.specs.Packed.{Packed, IsLeafNode, IsSubtree, child_nodes, entries_under, extent_of_node, hull_of, no_box}
 use Rattle.rt_tree.specs.{Packed.{union_of}, Packing.{chunks, joined, node_over, nodes_over}, SortKeys.{IsInPlane}}
 use Rattle.rt_tree.specs.declared.tree.Node.{Node}
-use Rattle.rt_tree.proofs.{ChunkLemmas.{chunks-size}, OrderLemmas.{flat_map-same}}
+use Rattle.rt_tree.proofs.{ChunkLemmas.{chunks-All, chunks-size}, OrderLemmas.{flat_map-same}}
 
 -- ---- lists
 
@@ -121,23 +122,14 @@ sum_by-ones (x ∷ xs) = sum_by-cons (λ _. 1) x xs ∙ ap (λ n. 1 + n) (sum_by
 abbrev pub IsGroup : {X : Type 0} → (fanout : ℕ) → (X → Type 0) → List X → Type 0
 IsGroup fanout P g = ((0 < length g) × (length g ≤ fanout)) × AllByRecursion P g
 
-all_front : {X : Type 0} (P : X → Type 0) (xs ys : List X) → AllByRecursion P (xs ++ ys)
-    → AllByRecursion P xs × AllByRecursion P ys
-all_front P [] ys a = (tt, a)
-all_front P (x ∷ xs) ys a = let k = all_front P xs ys a.1 in ((a.0, k.0), k.1)
-
--- groups of the right size, of elements of which something holds
-all_groups : {X : Type 0} (fanout : ℕ) (P : X → Type 0) (gs : List (List X))
-    → AllByRecursion (λ g. (0 < length g) × (length g ≤ fanout)) gs → AllByRecursion P (joined gs)
-    → AllByRecursion (IsGroup fanout P) gs
-all_groups fanout P [] a b = tt
-all_groups fanout P (g ∷ gs) a b = let k = all_front P g (joined gs) b in ((a.0, k.0), all_groups fanout P gs a.1 k.1)
-
 -- chunks are such groups
 pub chunk_groups : {X : Type 0} (fanout : ℕ) (P : X → Type 0) (gs : List (List X)) → 0 < fanout
-    → gs ≡ chunks fanout (joined gs) → AllByRecursion P (joined gs) → AllByRecursion (IsGroup fanout P) gs
-chunk_groups fanout P gs some e a = all_groups fanout P gs (subst (AllByRecursion (λ g. (0 < length g) ×
-    (length g ≤ fanout))) (sym e) (chunks-size fanout (joined gs) some)) a
+    → gs ≡ chunks fanout (joined gs) → All P (joined gs) → AllByRecursion (IsGroup fanout P) gs
+chunk_groups fanout P gs some e a =
+    let xs = joined gs in
+    subst (AllByRecursion (IsGroup fanout P)) (sym e) (both_of_all (λ g. (0 < length g) × (length g ≤ fanout)) (All P)
+    (IsGroup fanout P) (λ g size all. (size, recursion_from_All P g all)) (chunks fanout xs) (chunks-size fanout xs some)
+    (chunks-All P fanout xs a))
 
 -- the children of a node above level 1 are nodes of the tree
 pub inner-range : (t : Packed) (below : ℕ) (n : Node) → IsSubtree t below n → 0 < below

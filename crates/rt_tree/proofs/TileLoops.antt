@@ -23,19 +23,13 @@ module _ {X : Type 0} (items : List X) where
   pub told-append : (keys more : List ℕ) → told items (keys ++ more) ≡ told items keys ++ told items more
   told-append keys more = filter_map-append (λ key. slice_get items (place_of key)) keys more
 
-  one_told : (key : ℕ) → Tells key → length (told items (key ∷ [])) ≡ 1
-  one_told key tells = elim (slice_get_cases items (place_of key)).1 [
-    | inl h ↦ rw h.2 refl
-    | inr h ↦ absurd (omega (arith, h.0))
-  ]
-
   -- as many as keys
   pub length-told : (keys : List ℕ) → All Tells keys → length (told items keys) ≡ length keys
   length-told [] tell = refl
-  length-told (key ∷ keys) tell =
-      ap length (told-append (key ∷ []) keys) ∙ length-append (told items (key ∷ [])) (told items keys)
-      ∙ ap (λ n. n + length (told items keys)) (one_told key (tell 0 0 (omega arith)))
-      ∙ ap (λ n. 1 + n) (length-told keys (λ k d h. tell (suc k) d (omega arith))) ∙ omega arith
+  length-told (key ∷ keys) tell = elim (slice_get_cases items (place_of key)).1 [
+    | inl h ↦ rw h.2 (ap (λ n. suc n) (length-told keys (λ k d h. tell (suc k) d (omega arith))))
+    | inr h ↦ absurd (omega (arith, h.0, tell 0 0 (omega arith)))
+  ]
 
   -- with one key more
   pub told_next : (keys : List ℕ) (i : ℕ) (x : X) → i < length keys → slice_get items (place_of (get_or keys i 0)) ≡ Some x
