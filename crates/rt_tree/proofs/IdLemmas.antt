@@ -7,7 +7,7 @@ use Rattle.std.proofs.lemmas.Map.Keys.{sorted_from_all_adjacent, IsDistinct-IsPe
 use Rattle.std.specs.{BTreeSet.{BTreeSet, contains}, List.{All, IsAllAdjacentAnswer, IsDistinct, list_any}}
 use Rattle.std.specs.List.Sorted.{IsBinarySearchResult, IsPermutation, IsSearchInRange, IsSorted, IsStrictlySortedBy}
 use Rattle.std.specs.{Ordering.{int_cmp, int_eq}, Prelude.{◌↔◌, int_lt, is_ok}}
-use Rattle.std.specs.declared.cmp.Ordering.TheVariants.{Less, Equal, Greater}
+use Rattle.std.specs.declared.cmp.Ordering.TheVariants.{Less, Equal}
 use Rattle.rt_geo.specs.declared.entry.Entry.{Entry}
 use Rattle.rt_tree.specs.{Entries.{ids_of}, Indexes.{AreIdsOf}}
 use Rattle.rt_tree.proofs.EntryLemmas.{has_id-ids_of, int_eq-sym}

@@ -1,12 +1,12 @@
 -- The nodes of a packed tree stand level by level, as many on each as its size asks for.
-use Rattle.std.proofs.Common.{◌≡◌, ◌<◌, ◌≤◌, ◌+◌, ℕ, zero, suc, true, false, nat_le, if◌then◌else◌, List, [], ◌∷◌}
+use Rattle.std.proofs.Common.{◌≡◌, ◌<◌, ◌≤◌, ◌+◌, ℕ, zero, suc, true, nat_le, List, [], ◌∷◌}
 use Rattle.std.proofs.Common.{◌++◌, length, map, drop, replicate, refl, sym, ◌∙◌, ap, arith, inl, inr}
 use Rattle.std.proofs.{lemmas.{Bool.{cases_lt}, Bool.Decides.{nat_tests}}}
 use Rattle.std.proofs.lemmas.List.{append-nil, map-append}
 use Rattle.std.proofs.lemmas.List.Sorted.{length_permutation}
 use Rattle.std.specs.{Int.{div_ceil}, List.{AllByRecursion}}
 use Rattle.rt_geo.specs.Laws.{Extent}
-use Rattle.rt_tree.specs.{Levels.{level_sizes, sizes_above}, Packed.{extent_of_node}, declared.tree.Node.{Node}}
+use Rattle.rt_tree.specs.{Levels.{level_sizes}, Packed.{extent_of_node}, declared.tree.Node.{Node}}
 use Rattle.rt_tree.specs.Packing.{joined, nodes_from, nodes_over}
 use Rattle.rt_tree.proofs.{LevelLemmas.{div_ceil-positive, sizes_above-step, sizes_from, sizes_from-step}, OrderLemmas.{all_moved}}
 use Rattle.rt_tree.proofs.PackCounts.{above, cut, fewer, length-above, nodes_from-last, nodes_from-more}

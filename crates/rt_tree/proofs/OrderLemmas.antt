@@ -1,10 +1,10 @@
 -- Lists in the order of another list, or by another comparison.
-use Rattle.std.proofs.Common.{◌≡◌, ℕ, Ordering, List, [], ◌∷◌, ◌++◌, map, inl, inr, refl, sym, ◌∙◌, ap, subst}
-use Rattle.std.proofs.{Common.{append_assoc, IsPermutation, IsSorted}, lemmas.{Bool.{cases_Bool}, List.{map-append}}}
-use Rattle.std.proofs.lemmas.{List.Elements.{All-append, All-from_recursion, All-nil, recursion_from_All}, Map.Lookups.{exact_unsigned}}
+use Rattle.std.proofs.Common.{◌≡◌, Ordering, List, [], ◌∷◌, ◌++◌, map, inl, inr, refl, sym, ◌∙◌, ap, subst}
+use Rattle.std.proofs.{Common.{append_assoc, IsPermutation}, lemmas.{Bool.{cases_Bool}, List.{map-append}}}
+use Rattle.std.proofs.lemmas.{List.Elements.{All-append, All-from_recursion, All-nil, recursion_from_All}}
 use Rattle.std.proofs.lemmas.List.Sorted.{All-permutation, IsPermutation-append_comm, IsPermutation-append_left}
 use Rattle.std.proofs.lemmas.List.Sorted.{IsPermutation-append_right, IsPermutation-refl, IsPermutation-trans}
-use Rattle.std.specs.{List.{All, AllByRecursion, flat_map}, Ordering.{is_gt, nat_cmp}}
+use Rattle.std.specs.{List.{All, AllByRecursion, flat_map}, Ordering.{is_gt}}
 use Rattle.rt_tree.specs.Sorting.{put, sorted}
 use Rattle.rt_tree.proofs.{Permutations.{along_permutation}, SortingLemmas.{IsPermutation-sorted}}
 

@@ -1,7 +1,7 @@
 -- The tree that is packed over a table is sound.
 use Rattle.std.proofs.Common.{◌≡◌, ◌<◌, ◌≤◌, ◌+◌, ◌-◌, ℕ, zero, suc, List, [], ◌∷◌, ◌++◌, length, map, drop}
-use Rattle.std.proofs.Common.{get_or, refl, sym, ◌∙◌, ap, subst, arith, length-append, IsPermutation, slice_get, Some}
-use Rattle.std.proofs.lemmas.List.{append-nil, get_or_push, length-drop, Elements.{All-from_recursion, recursion_from_All}}
+use Rattle.std.proofs.Common.{refl, sym, ◌∙◌, ap, subst, arith, length-append, IsPermutation, slice_get, Some}
+use Rattle.std.proofs.lemmas.List.{append-nil, get_or_push, length-drop, Elements.{All-from_recursion}}
 use Rattle.std.proofs.lemmas.List.Sorted.{All-permutation, IsPermutation-refl, IsPermutation-sym}
 use Rattle.std.proofs.lemmas.{List.Sorted.{IsPermutation-trans, length_permutation}}
 use Rattle.std.proofs.lemmas.Option.{get_or_from_slice_get}

@@ -1,5 +1,5 @@
 -- The first entry whose id an earlier one has.
-use Rattle.std.proofs.Common.{◌≡◌, ◌∙◌, ◌<◌, ◌+◌, ℕ, ℤ, Bool, true, false, ◌||◌, List, [], ◌∷◌, ◌++◌, length, length-append}
+use Rattle.std.proofs.Common.{◌≡◌, ◌∙◌, ◌<◌, ◌+◌, ℕ, ℤ, true, false, ◌||◌, List, [], ◌∷◌, ◌++◌, length, length-append}
 use Rattle.std.proofs.Common.{drop, take, Option, Some, None, refl, sym, subst, ap, add-one, append_assoc, arith, slice_get}
 use Rattle.std.proofs.lemmas.Bool.{cases_Bool}
 use Rattle.std.proofs.{Common.{suc, inl, inr}, Math.Seq.{drop-cons}, lemmas.{Cmp.{int_eq_equiv}, Map.Keys.{IsDistinct-push}}}

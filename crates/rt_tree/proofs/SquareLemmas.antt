@@ -1,6 +1,6 @@
 -- The square root, rounded up.
-use Rattle.std.proofs.Common.{◌≡◌, ◌<◌, ◌≤◌, ◌+◌, ◌*◌, ℕ, zero, suc, Bool, true, false, cond, nat_le, refl, ap, arith, inl, inr}
-use Rattle.std.proofs.{Common.{◌-◌}, Math.Nat.{eq-or-lt_of_le, mul-le-mul}, lemmas.{Bool.{cond_both}, Bool.Decides.{nat_tests}}}
+use Rattle.std.proofs.Common.{◌≡◌, ◌<◌, ◌≤◌, ◌+◌, ◌*◌, ℕ, zero, suc, false, nat_le, ap, arith}
+use Rattle.std.proofs.{Common.{◌-◌}, Math.Nat.{mul-le-mul}, lemmas.{Bool.{cond_both}, Bool.Decides.{nat_tests}}}
 use Rattle.rt_tree.specs.Packing.{ceil_sqrt}
 
 -- its square is enough, and it is the least such number
