@@ -57,10 +57,3 @@ IsIndexed-empty loaded later none = record {
   table = record { distinct = tt; boxes = All-nil HasBox; layers = All-nil HasLayer; few = omega arith };
   ids_are = none;
 }
-
--- the ids of one entry more
-pub ids_of-more : (entries : List Entry) (place : ℕ) (entry : Entry) → place < length entries → entry ≡ get_or entries place entry
-    → ids_of (take (place + 1) entries) ≡ ids_of (take place entries) ++ entry.id ∷ []
-ids_of-more entries place entry there is =
-    ap ids_of (take_more entries place entry there ∙ ap (λ (e : Entry). take place entries ++ e ∷ []) (sym is))
-    ∙ map-append (λ (e : Entry). e.id) (take place entries) (entry ∷ [])

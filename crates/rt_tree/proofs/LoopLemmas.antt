@@ -30,10 +30,8 @@ keys_more key items i k x keys there e k_is is =
     let long : 0 + length (take i items) ≡ i = omega (arith, length-take i items) in
     let more : take (i + 1) items ≡ take i items ++ x ∷ [] = take_more items i x there
     ∙ ap (λ y. take i items ++ y ∷ []) (sym e) in
-    sym (ap (λ l. map key (enumerate_from 0 l)) more ∙ ap (map key) (enumerate_from-push 0 (take i items) x)
-    ∙ map-append key (enumerate_from 0 (take i items)) ((0 + length (take i items), x) ∷ [])
-    ∙ ap (λ n. map key (enumerate_from 0 (take i items)) ++ key (n, x) ∷ []) long
-    ∙ ap (λ m. map key (enumerate_from 0 (take i items)) ++ m ∷ []) (sym k_is) ∙ ap (λ l. l ++ k ∷ []) (sym is))
+    rw (is, k_is, more, enumerate_from-push 0 (take i items) x, long)
+    (sym (map-append key (enumerate_from 0 (take i items)) ((i, x) ∷ [])))
 
 -- ---- each element is changed in its place
 

@@ -160,16 +160,6 @@ module _ (fanout : ℕ) (several : 2 ≤ fanout) where
         );
       }
 
-  -- the first level
-  pub counted_first : (made : List Node) → 2 * length made ≤ 16777217 → sum_by (λ n. n.size) made ≤ 16777216
-      → IsCounted 1 [] made
-  counted_first made few weight = record {
-    few_levels = omega arith;
-    few = omega (arith, few);
-    few_nodes = omega (arith, few);
-    weight = weight;
-  }
-
   -- the nodes of level 1, over the groups of entries
   pub leaf_nodes-few : (box : Entry → Rect) (entries : List Entry) → length entries ≤ 16777216
       → (2 * length (leaf_nodes (groups box fanout entries)) ≤ 16777217)
@@ -197,8 +187,3 @@ module _ (fanout : ℕ) (several : 2 ≤ fanout) where
       ap (λ l. after ++ l) (nodes_from-fuel (length new) fuel (suc level) (length after) new (omega arith)
       (fewer level (length nodes) fuel made some (omega arith))) ∙ course fuel level nodes made some
       ∙ ap (λ n. nodes ++ nodes_from n fanout level (length nodes) made) one_less ∙ so_far
-
-  pub course_done : (level : ℕ) (nodes made whole : List Node) → length made ≤ 1
-      → nodes ++ nodes_from (length made) fanout level (length nodes) made ≡ whole → nodes ++ made ≡ whole
-  course_done level nodes made whole last course = ap (λ l. nodes ++ l) (sym (nodes_from-last (length made) level
-      (length nodes) made last)) ∙ course

@@ -15,7 +15,7 @@ use Rattle.rt_tree.proofs.{EntryLemmas.{distinct-IsPermutation}}
 use Rattle.rt_tree.proofs.{LevelLemmas.{div_ceil-positive, sizes_from, sizes_from-step}, SortingLemmas.{IsPermutation-sorted}}
 use Rattle.rt_tree.proofs.LevelOrder.{level_by_level, nodes_from-levels, nodes_over-AreOn, sizes_from_first}
 use Rattle.rt_tree.proofs.OrderLemmas.{all_append, all_moved, flat_map-IsPermutation}
-use Rattle.rt_tree.proofs.PackCounts.{IsCounted, above, all_nodes, counted_first, counted_more, course, cut, fewer, length-above}
+use Rattle.rt_tree.proofs.PackCounts.{IsCounted, above, all_nodes, counted_more, course, cut, fewer, length-above}
 use Rattle.rt_tree.proofs.PackCounts.{leaf_nodes-few, length-groups, nodes_from-last, some_above}
 use Rattle.rt_tree.proofs.Soundness.{IsEntry, all_map, chunk_groups, all_under_more, inner-range, leaves_sound, leaves_under}
 use Rattle.rt_tree.proofs.Soundness.{length-nodes_over, over_sound, over_under, subtree_more, tree}
@@ -224,7 +224,7 @@ module _ (fanout : ℕ) (several : 2 ≤ fanout) (in_order : List Entry) where
         once = once_first fanout es made on under;
         levels = omega (arith, ap length sizes, length-drop 1 (level_sizes (length es) fanout));
       })
-      (counted_first fanout several made few.0 few.1)
+      (record { few_levels = omega arith; few = omega (arith, few.0); few_nodes = omega (arith, few.0); weight = few.1 })
       (nodes_from-levels fanout several (length made) 1 0 made (omega arith) some on ∙ ap (level_by_level 1) (sym sizes))
 
 -- a packed tree is sound, and whole

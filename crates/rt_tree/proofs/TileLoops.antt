@@ -1,6 +1,6 @@
 -- The loops that put items behind those that are packed, and make the nodes over them.
 use Rattle.std.proofs.Common.{◌≡◌, ◌<◌, ◌≤◌, ◌+◌, ◌^◌, ℕ, suc, Ordering, Some, List, [], ◌∷◌, ◌++◌, length, map, take, drop}
-use Rattle.std.proofs.Common.{get_or, slice_get, min, refl, sym, ◌∙◌, ap, subst, arith, append_assoc, inl, inr}
+use Rattle.std.proofs.Common.{ℤ, get_or, slice_get, min, refl, sym, ◌∙◌, ap, subst, arith, append_assoc, inl, inr}
 use Rattle.std.proofs.{Math.Seq.{drop-append_seam, take-append_seam}, lemmas.{Int.{ints}, Option.{slice_get_cases}}}
 use Rattle.std.proofs.lemmas.List.{append-nil, length-append, take-append-drop, take_all, take_more}
 use Rattle.std.proofs.lemmas.List.Elements.{All-drop, All-take, filter_map-append}
@@ -56,11 +56,8 @@ module _ {X : Type 0} (items : List X) where
 
 same_hull : (a : Rect) → hull a a ≡ a
 same_hull a =
-    let low_x : int_min a.min_x a.min_x ≡ a.min_x = grind (arith, ints) in
-    let high_x : int_max a.max_x a.max_x ≡ a.max_x = grind (arith, ints) in
-    let low_y : int_min a.min_y a.min_y ≡ a.min_y = grind (arith, ints) in
-    let high_y : int_max a.max_y a.max_y ≡ a.max_y = grind (arith, ints) in
-    rw (low_x, high_x, low_y, high_y) refl
+    let same : (z : ℤ) → int_min z z ≡ z = λ z. grind (arith, ints) in
+    simp same
 
 module _ {X : Type 0} (extent : X → Extent) (size : X → ℕ) where
   -- a node with items behind its children
@@ -210,13 +207,10 @@ module _ {X : Type 0} (items : List X) (extent : X → Extent) (size : X → ℕ
         tell = behind;
         weight = omega (arith, part.weight, ap (sum_by size) whole, sum_by-append size group rest);
         room = omega (arith, part.room, ap length is, length-append tile later);
-        packed_are = ap (λ l. l ++ rest) packed_is ∙ append_assoc packed group rest
-            ∙ ap (λ l. packed ++ l) (sym whole) ∙ part.packed_are;
-        nodes_are = ap (λ n. nodes' ++ nodes_over extent size level n (chunks fanout rest)) next
-            ∙ ap (λ l. l ++ nodes_over extent size level (length packed + length group) (chunks fanout rest)) nodes_is
-            ∙ append_assoc nodes (node ∷ []) (nodes_over extent size level (length packed + length group) (chunks fanout rest))
-            ∙ ap (λ n. nodes ++ n ∷ nodes_over extent size level (length packed + length group) (chunks fanout rest)) node_is
-            ∙ ap (λ gs. nodes ++ nodes_over extent size level (length packed) gs) (sym cut) ∙ part.nodes_are;
+        packed_are = rw (packed_is, append_assoc packed group rest, ← whole) part.packed_are;
+        nodes_are = rw (next, nodes_is, node_is)
+            (append_assoc nodes (_ ∷ []) (nodes_over extent size level (length packed + length group) (chunks fanout rest))
+            ∙ ap (λ gs. nodes ++ nodes_over extent size level (length packed) gs) (sym cut) ∙ part.nodes_are);
       }
 
   -- without later keys all is packed, and all nodes are made

@@ -2,7 +2,7 @@ use Rattle.std.proofs.Common.{◌≡◌, ◌<◌, ◌≤◌, ◌+◌, ◌-◌, �
 use Rattle.std.proofs.{Common.{subst, sym}, lemmas.{List.{append-nil, nil_from_length}, Option.{get_or_from_slice_get}}}
 use Rattle.std.specs.List.{All}
 use Rattle.rt_tree.specs.{Packed.{extent_of_node}, SortKeys.{IsInPlane}, declared.tree.Node.{Node}}
-use Rattle.rt_tree.proofs.PackCounts.{all_nodes, counted_more, over_in_plane, course_done, course_more, fewer}
+use Rattle.rt_tree.proofs.PackCounts.{counted_more, course_more, fewer, nodes_from-last, over_in_plane}
 use Rattle.rt_tree.proofs.{SortKeyLemmas.{nodes_packable}, tree.all_nodes.Goals.{then-len-eq1+in_ok-push, else-len-eq1}}
 use Rattle.rt_tree.proofs.tree.all_nodes.Goals as goal
 
@@ -53,8 +53,8 @@ levels-preserved c =
 pub returns : goal.returns
 returns c =
     let made = c.levels.made in
-    let done = λ (last : length made ≤ 1). course_done c.args.fanout c.requires.several c.levels.level c.levels.nodes made
-    (all_nodes c.args.fanout c.args.made) last c.levels.invariant.course in
+    let done = λ (last : length made ≤ 1). ap (λ l. c.levels.nodes ++ l) (sym (nodes_from-last c.args.fanout
+    c.requires.several (length made) c.levels.level (length c.levels.nodes) made last)) ∙ c.levels.invariant.course in
     elim c.if-len-eq1.branch [
       | then-len-eq1+in_ok-push w ↦
           w.nodes-is ∙ w.in_ok-push.ensures
