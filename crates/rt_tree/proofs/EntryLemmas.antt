@@ -1,7 +1,7 @@
 -- A table with one more entry.
-use Rattle.std.proofs.Common.{◌≡◌, ◌∙◌, ◌<◌, ◌+◌, ◌-◌, ℕ, ℤ, get_or, take, false, ◌||◌, List, [], ◌∷◌, ◌++◌, length, refl, sym}
+use Rattle.std.proofs.Common.{◌≡◌, ◌∙◌, ◌<◌, ◌-◌, ℤ, take, false, ◌||◌, List, [], ◌∷◌, ◌++◌, length, refl, sym}
 use Rattle.std.proofs.{Common.{IsPermutation, ap, subst, arith, length-append}, Math.{Bool.{or-false}, Seq.{take-append_seam}}}
-use Rattle.std.proofs.lemmas.{Cmp.{int_eq_equiv}, Int.{ints}, List.{map-append, take_more, Elements.{All-nil, All-push}}}
+use Rattle.std.proofs.lemmas.{Cmp.{int_eq_equiv}, Int.{ints}, List.{map-append, Elements.{All-nil, All-push}}}
 use Rattle.std.proofs.lemmas.{List.Folds.{list_any-append}, Map.Keys.{IsDistinct-IsPermutation, IsDistinct-push}, List.Sorted.{IsPermutation-map}}
 use Rattle.std.specs.{BTreeSet.{BTreeSet}, List.{IsDistinct, list_any}, Ordering.{int_eq}}
 use Rattle.rt_geo.specs.{Entries.{HasBox, HasLayer}, declared.entry.Entry.{Entry}}

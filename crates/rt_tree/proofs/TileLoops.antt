@@ -6,7 +6,7 @@ use Rattle.std.proofs.lemmas.List.{append-nil, length-append, take-append-drop, 
 use Rattle.std.proofs.lemmas.List.Elements.{All-drop, All-take, filter_map-append}
 use Rattle.std.proofs.lemmas.List.Sorted.{IsPermutation-trans, length_permutation, sum_by-IsPermutation}
 use Rattle.std.proofs.lemmas.List.Sums.{fold-append, sum_by-append, sum_by_from}
-use Rattle.std.specs.{Int.{int_min, int_max}, List.{All, fold, sum_by}}
+use Rattle.std.specs.{Int.{int_min}, List.{All, fold, sum_by}}
 use Rattle.rt_tree.proofs.{ChunkLemmas.{chunks-front, chunks-nil}, Soundness.{sum_by-ones}}
 use Rattle.rt_tree.proofs.TileLemmas.{groups-chunks, groups-moved}
 use Rattle.rt_geo.specs.{Boxes.{Rect, hull}, Laws.{Extent}, Layers.{no_layers, union}, declared.layers.Layers.{Layers}}
