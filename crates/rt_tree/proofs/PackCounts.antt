@@ -129,9 +129,8 @@ module _ (fanout : ℕ) (several : 2 ≤ fanout) where
       let moved = groups-moved (λ (n : Node). n.bounds) made fanout several in
       let long : length (nodes ++ ordered) ≡ length nodes + length made = omega
       (arith, length-append nodes ordered, length_permutation made ordered moved) in
-      append_assoc nodes ordered (nodes_from fuel fanout (suc level) (length (nodes ++ ordered)) new)
-      ∙ ap (λ n. nodes ++ (ordered ++ nodes_from fuel fanout (suc level) n new)) long
-      ∙ ap (λ l. nodes ++ l) (sym (nodes_from-more fuel level (length nodes) made some))
+      rw (long, nodes_from-more fuel level (length nodes) made some)
+      (append_assoc nodes ordered (nodes_from fuel fanout (suc level) (length nodes + length made) new))
 
   -- ---- a loop that makes one level after another
 

@@ -5,7 +5,7 @@ use Rattle.std.specs.{Cmp.{IsTotalOrder}, List.{All, sum_by}, Ordering.{int_cmp,
 use Rattle.rt_geo.specs.{Laws.{extent_of_entry}, declared.entry.Entry.{Entry}}
 use Rattle.rt_tree.specs.{Entries.{IsTable}, Packed.{Packed}, Packing.{groups, joined, nodes_over, pack_of}, Sorting.{sorted}}
 use Rattle.rt_tree.specs.{SortKeys.{IsInPlane}, declared.tree.Node.{Node}}
-use Rattle.rt_tree.proofs.{PackCounts.{all_nodes, leaf_nodes, leaf_nodes-few, over_in_plane}}
+use Rattle.rt_tree.proofs.PackCounts.{all_nodes, leaf_nodes, leaf_nodes-few, over_in_plane}
 use Rattle.rt_tree.proofs.SortingLemmas.{All-sorted, IsPermutation-sorted}
 
 -- the order of ids

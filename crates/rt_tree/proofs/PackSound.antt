@@ -3,15 +3,14 @@ use Rattle.std.proofs.Common.{◌≡◌, ◌<◌, ◌≤◌, ◌+◌, ◌-◌, �
 use Rattle.std.proofs.Common.{refl, sym, ◌∙◌, ap, subst, arith, length-append, IsPermutation, slice_get, Some}
 use Rattle.std.proofs.lemmas.List.{append-nil, get_or_push, length-drop, Elements.{All-from_recursion}}
 use Rattle.std.proofs.lemmas.List.Sorted.{All-permutation, IsPermutation-refl, IsPermutation-sym}
-use Rattle.std.proofs.lemmas.{List.Sorted.{IsPermutation-trans, length_permutation}}
-use Rattle.std.proofs.lemmas.Option.{get_or_from_slice_get}
+use Rattle.std.proofs.lemmas.{List.Sorted.{IsPermutation-trans, length_permutation}, Option.{get_or_from_slice_get}}
 use Rattle.std.specs.{Int.{div_ceil}, List.{AllByRecursion, flat_map}, Ordering.{int_cmp, on}}
 use Rattle.rt_geo.specs.{Entries.{HasBox, HasLayer}, Laws.{extent_of_entry}, declared.entry.Entry.{Entry}}
 use Rattle.rt_tree.specs.{Entries.{IsTable}, Levels.{level_sizes}, Packed.{IsSubtree}, Sorting.{sorted}}
 use Rattle.rt_tree.specs.Packed.{entries_under, extent_of_node, no_node, node_at, root_of, Packed, IsSound}
 use Rattle.rt_tree.specs.{Packing.{groups, joined, nodes_from, nodes_over, pack_of}, declared.tree.Node.{Node}}
 use Rattle.rt_tree.proofs.Children.{AreOnce, AreSubtrees, nodes_once, nodes_under, once_first, once_more, right_under}
-use Rattle.rt_tree.proofs.{EntryLemmas.{distinct-IsPermutation}}
+use Rattle.rt_tree.proofs.{EntryLemmas.{distinct-IsPermutation}, TileLemmas.{groups-chunks, groups-moved, groups-nil}}
 use Rattle.rt_tree.proofs.{LevelLemmas.{div_ceil-positive, sizes_from, sizes_from-step}, SortingLemmas.{IsPermutation-sorted}}
 use Rattle.rt_tree.proofs.LevelOrder.{level_by_level, nodes_from-levels, nodes_over-AreOn, sizes_from_first}
 use Rattle.rt_tree.proofs.OrderLemmas.{all_append, all_moved, flat_map-IsPermutation}
@@ -19,7 +18,6 @@ use Rattle.rt_tree.proofs.PackCounts.{IsCounted, above, all_nodes, counted_more,
 use Rattle.rt_tree.proofs.PackCounts.{leaf_nodes-few, length-groups, nodes_from-last, some_above}
 use Rattle.rt_tree.proofs.Soundness.{IsEntry, all_map, chunk_groups, all_under_more, inner-range, leaves_sound, leaves_under}
 use Rattle.rt_tree.proofs.Soundness.{length-nodes_over, over_sound, over_under, subtree_more, tree}
-use Rattle.rt_tree.proofs.TileLemmas.{groups-chunks, groups-moved, groups-nil}
 
 level_of : (t : Packed) (h : ℕ) (n : Node) → IsSubtree t h n → n.level ≡ suc h
 level_of t zero n s = s.level

@@ -1,10 +1,8 @@
 -- A packed tree is sound.
 use Rattle.std.proofs.Common.{◌≡◌, ◌<◌, ◌≤◌, ◌+◌, ℕ, zero, suc, Bool, true, List, [], ◌∷◌, ◌++◌, length, map, take, drop, refl}
-use Rattle.std.proofs.lemmas.List.{drop_at, take_at}
+use Rattle.std.proofs.lemmas.List.{drop_at, take_at, Elements.{recursion_from_All}, Sums.{sum_by-cons}}
 use Rattle.std.proofs.{Common.{sym, ◌∙◌, ap, subst, arith, append_assoc, length-append, rules}}
 use Rattle.std.proofs.lemmas.{Grind.{flat_map-append}, List.{drop-append-le, length-drop, take-append-le}}
-use Rattle.std.proofs.lemmas.List.Sums.{sum_by-cons}
-use Rattle.std.proofs.lemmas.List.Elements.{recursion_from_All}
 use Rattle.std.specs.{List.{All, AllByRecursion, flat_map, fold, reduce, sum_by}, Prelude.{unwrap_or}}
 use Rattle.rt_geo.specs.{Boxes.{Rect, hull, inside, plane}, Entries.{HasBox, HasLayer}, Lemmas.Layers.{HasSome-only}}
 use Rattle.rt_geo.specs.{Laws.{Extent, IsBoxInside, IsPart, extent_of_entry}, Layers.{HasSome, no_layers, subset, union}}

@@ -1,11 +1,11 @@
 -- The loops that put items behind those that are packed, and make the nodes over them.
 use Rattle.std.proofs.Common.{◌≡◌, ◌<◌, ◌≤◌, ◌+◌, ◌^◌, ℕ, suc, Ordering, Some, List, [], ◌∷◌, ◌++◌, length, map, take, drop}
 use Rattle.std.proofs.Common.{ℤ, get_or, slice_get, min, refl, sym, ◌∙◌, ap, subst, arith, append_assoc, inl, inr}
-use Rattle.std.proofs.{Math.Seq.{drop-append_seam, take-append_seam}, lemmas.{Int.{ints}, Option.{slice_get_cases}}}
+use Rattle.std.proofs.lemmas.{Int.{ints}, List.{drop_at, take_at}, Option.{slice_get_cases}}
 use Rattle.std.proofs.lemmas.List.{append-nil, length-append, take-append-drop, take_all, take_more}
 use Rattle.std.proofs.lemmas.List.Elements.{All-drop, All-take, filter_map-append}
 use Rattle.std.proofs.lemmas.List.Sorted.{IsPermutation-trans, length_permutation, sum_by-IsPermutation}
-use Rattle.std.proofs.lemmas.List.Sums.{fold-append, sum_by-append, sum_by_from}
+use Rattle.std.proofs.lemmas.List.Sums.{fold_push, sum_by-append, sum_by_from, sum_by_push}
 use Rattle.std.specs.{Int.{int_min}, List.{All, fold, sum_by}}
 use Rattle.rt_tree.proofs.{ChunkLemmas.{chunks-front, chunks-nil}, Soundness.{sum_by-ones}}
 use Rattle.rt_tree.proofs.TileLemmas.{groups-chunks, groups-moved}
@@ -48,8 +48,7 @@ module _ {X : Type 0} (items : List X) where
       ∙ ap (sum_by size) (told-append front (drop (i + 1) keys))
       ∙ sum_by-append size (told items front) (told items (drop (i + 1) keys)) in
       let next : sum_by size (told items front) ≡ sum_by size (told items (take i keys)) + size x =
-      ap (sum_by size) (told_next keys i x there is) ∙ sum_by-append size (told items (take i keys)) (x ∷ [])
-      ∙ ap (λ n. sum_by size (told items (take i keys)) + n) (omega arith) in
+      ap (sum_by size) (told_next keys i x there is) ∙ sum_by_push size (told items (take i keys)) x in
       omega arith
 
 -- ---- the node over the items of a tile
@@ -93,7 +92,7 @@ module _ {X : Type 0} (extent : X → Extent) (size : X → ℕ) where
       × (packed ++ x ∷ [] ≡ before ++ told items (take (i + 1) keys))
   tile_more items keys i x start node before packed there at is packed_is =
       rw (told_next items keys i x there at, is, packed_is) (
-        sym (fold-append (with_child extent size) start (told items (take i keys)) (x ∷ [])),
+        sym (fold_push (with_child extent size) start (told items (take i keys)) x),
         append_assoc before (told items (take i keys)) (x ∷ []),
       )
 
@@ -128,11 +127,11 @@ module _ {X : Type 0} (extent : X → Extent) (size : X → ℕ) where
 -- ---- the loop over tiles
 
 All-front : {X : Type 0} (P : X → Type 0) (front behind : List X) → All P (front ++ behind) → All P front
-All-front P front behind all = subst (All P) (take-append_seam front behind) (All-take P (length front) (front ++ behind) all)
+All-front P front behind all = subst (All P) (take_at front behind (length front) refl) (All-take P (length front) (front ++ behind) all)
 
 All-behind : {X : Type 0} (P : X → Type 0) (front behind : List X) → All P (front ++ behind) → All P behind
 All-behind P front behind all =
-    subst (All P) (drop-append_seam front behind) (All-drop P (length front) (front ++ behind) all)
+    subst (All P) (drop_at front behind (length front) refl) (All-drop P (length front) (front ++ behind) all)
 
 module _ {X : Type 0} (items : List X) (extent : X → Extent) (size : X → ℕ) (level fanout : ℕ) where
   -- the items of the first keys are packed, and the nodes over them made: those of the later keys are still to come
