@@ -57,15 +57,15 @@ chunks-alike m n [] same = chunks-nil m ∙ sym (chunks-nil n)
 chunks-alike m n (x ∷ xs) same = ap (λ k. chunks k (x ∷ xs)) (same (omega arith))
 
 -- what holds of no elements, and of some where it holds of those behind the first chunk, holds of all lists
-chunk_by_chunk : {X : Type 0} (n : ℕ) (P : List X → Type 0) → 0 < n → P []
-    → ((xs : List X) → 0 < length xs → P (drop n xs) → P xs) → (xs : List X) → P xs
-chunk_by_chunk {X} n P some none more xs = within (length xs) xs (omega arith)
+chunk_by_chunk : {X : Type 0} (n : ℕ) (P : List X → Type 0) → P []
+    → ((xs : List X) → 0 < n → 0 < length xs → P (drop n xs) → P xs) → (xs : List X) → (0 < length xs → 0 < n) → P xs
+chunk_by_chunk {X} n P none more xs = within (length xs) xs (omega arith)
   where
-    within : (most : ℕ) (xs : List X) → length xs ≤ most → P xs
-    within most [] few = none
-    within zero (x ∷ xs) few = absurd (omega arith)
-    within (suc most) (x ∷ xs) few = more (x ∷ xs) (omega arith)
-        (within most (drop n (x ∷ xs)) (omega (arith, length-drop n (x ∷ xs))))
+    within : (most : ℕ) (xs : List X) → length xs ≤ most → (0 < length xs → 0 < n) → P xs
+    within most [] few some = none
+    within zero (x ∷ xs) few some = absurd (omega arith)
+    within (suc most) (x ∷ xs) few some = let size = some (omega arith) in more (x ∷ xs) size (omega arith)
+        (within most (drop n (x ∷ xs)) (omega (arith, length-drop n (x ∷ xs))) (λ _. size))
 
 -- the chunk in front, which is as long as it may be
 pub chunks-front : {X : Type 0} (n : ℕ) (front behind : List X) → 0 < n → 0 < length front
@@ -88,22 +88,21 @@ length-chunks n xs = length-first_chunks n (div_ceil (length xs) n) xs
 
 -- all of the list, in its order
 pub joined-chunks : {X : Type 0} (n : ℕ) (xs : List X) → (0 < length xs → 0 < n) → joined (chunks n xs) ≡ xs
-joined-chunks n [] some = ap joined (chunks-nil n)
-joined-chunks n (x ∷ xs) some = chunk_by_chunk n (λ ys. joined (chunks n ys) ≡ ys) (some (omega arith)) (ap joined
-    (chunks-nil n)) (λ ys there rest. ap joined (chunks-step n ys (some (omega arith)) there)
-    ∙ ap (λ l. take n ys ++ l) rest ∙ take-append-drop n ys) (x ∷ xs)
+joined-chunks n = chunk_by_chunk n (λ ys. joined (chunks n ys) ≡ ys) (ap joined (chunks-nil n))
+    (λ ys size there rest. ap joined (chunks-step n ys size there) ∙ ap (λ l. take n ys ++ l) rest
+    ∙ take-append-drop n ys)
 
 -- a chunk has an element, and no more than the size
 pub chunks-size : {X : Type 0} (n : ℕ) (xs : List X) → 0 < n
     → AllByRecursion (λ chunk. (0 < length chunk) × (length chunk ≤ n)) (chunks n xs)
 chunks-size {X} n xs some =
     let Fits = λ (chunk : List X). (0 < length chunk) × (length chunk ≤ n) in
-    chunk_by_chunk n (λ ys. AllByRecursion Fits (chunks n ys)) some (subst (AllByRecursion Fits) (sym (chunks-nil n)) tt)
-    (λ ys there rest. subst (AllByRecursion Fits) (sym (chunks-step n ys some there)) (
+    chunk_by_chunk n (λ ys. AllByRecursion Fits (chunks n ys)) (subst (AllByRecursion Fits) (sym (chunks-nil n)) tt)
+    (λ ys size there rest. subst (AllByRecursion Fits) (sym (chunks-step n ys size there)) (
       let long = length-take n ys in
           (omega arith, omega arith),
       rest,
-    )) xs
+    )) xs (λ _. some)
 
 map-first_chunks : {X Y : Type 0} (f : X → Y) (n k : ℕ) (xs : List X)
     → first_chunks n k (map f xs) ≡ map (map f) (first_chunks n k xs)
@@ -160,10 +159,7 @@ module _ {X : Type 0} (h : List X → List X) (keeps : (s : List X)
       (append-nil (chunks n (h (take (side * n) ys))) ∙ ap (chunks n) (sym (append-nil (h (take (side * n) ys)))))
 
   pub chunks_of-chunks : (xs : List X) → (0 < length xs → 0 < side * n) → of_slices xs ≡ chunks n (of_all xs)
-  chunks_of-chunks [] wide = rw (chunks-nil {X = X} (side * n)) (sym (chunks-nil n))
-  chunks_of-chunks (x ∷ xs) wide =
-      let size = wide (omega arith) in
-      chunk_by_chunk (side * n) (λ ys. of_slices ys ≡ chunks n (of_all ys)) size
+  chunks_of-chunks = chunk_by_chunk (side * n) (λ ys. of_slices ys ≡ chunks n (of_all ys))
       (rw (chunks-nil {X = X} (side * n)) (sym (chunks-nil n)))
-      (λ ys there rest. rw (chunks-step (side * n) ys size there)
-      (one_more_slice ys (cases_lt (length ys) (side * n)) rest)) (x ∷ xs)
+      (λ ys size there rest. rw (chunks-step (side * n) ys size there)
+      (one_more_slice ys (cases_lt (length ys) (side * n)) rest))

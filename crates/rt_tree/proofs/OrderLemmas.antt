@@ -60,10 +60,8 @@ all_flat_map P f holds [] a = All-nil P
 all_flat_map P f holds (x ∷ xs) a = All-append P (f x) (flat_map f xs) (holds x a.0) (all_flat_map P f holds xs a.1)
 
 exchanged : {Y : Type 0} (a b c : List Y) → IsPermutation (a ++ (b ++ c)) (b ++ (a ++ c))
-exchanged a b c =
-    subst (λ l. IsPermutation l (b ++ (a ++ c))) (append_assoc a b c)
-    (subst (IsPermutation ((a ++ b) ++ c)) (append_assoc b a c) (IsPermutation-append_left c (a ++ b) (b ++ a)
-    (IsPermutation-append_comm a b)))
+exchanged a b c = rw (← append_assoc a b c, ← append_assoc b a c)
+    (IsPermutation-append_left c (a ++ b) (b ++ a) (IsPermutation-append_comm a b))
 
 -- what stands under elements is moved with them
 pub flat_map-IsPermutation : {X Y : Type 0} (f : X → List Y) (xs ys : List X) → IsPermutation xs ys

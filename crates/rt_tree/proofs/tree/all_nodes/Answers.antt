@@ -25,13 +25,12 @@ pub levels-smaller : goal.levels-smaller
 levels-smaller c =
     let made = c.levels.made in
     let more : 1 < length made = omega (arith, c.levels-test.true, c.len.ensures) in
-    let smaller : length c.in_ok-made.made < length made = omega (
+    omega (
       arith,
       ap length (rw (add-one c.levels.level) at c.in_ok-made.ensures.nodes),
       fewer c.args.fanout c.requires.several c.levels.level (length c.levels.nodes) (length made - 1) made more
           (omega (arith, more)),
-    ) in
-    smaller
+    )
 
 pub levels-preserved : goal.levels-preserved
 levels-preserved c =
