@@ -4,9 +4,6 @@ use Rattle.rt_tree.specs.SortKeys.{place_of}
 use Rattle.rt_tree.proofs.TileLoops.{next_fits, over_tile, tile_more}
 use Rattle.rt_tree.proofs.packing.pack_tile.Goals as goal
 
-pub loop-key-init : goal.loop-key-init
-loop-key-init g c = record { count = refl; node = refl; packed = sym (append-nil (g.T.Items.list c.args.packed.now)) }
-
 pub with_child-node-requires-clause-layers : goal.with_child-node-requires-clause-layers
 with_child-node-requires-clause-layers g c =
     let items = g.T.Items.list c.args.items.now in

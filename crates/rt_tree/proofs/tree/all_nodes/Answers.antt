@@ -15,11 +15,8 @@ one_node (m ∷ k ∷ nodes) n long is = absurd (omega arith)
 pub pack_level-requires-clause-packable : goal.pack_level-requires-clause-packable
 pack_level-requires-clause-packable c =
     let counted = c.levels.invariant.counted in
-    nodes_packable c.levels.made (record {
-      few = omega (arith, counted.few_nodes, counted.few_levels);
-      weight = omega (arith, counted.weight);
-      boxes = c.levels.invariant.boxes;
-    })
+    nodes_packable c.levels.made (omega (arith, counted.few_nodes, counted.few_levels)) (omega (arith, counted.weight))
+    c.levels.invariant.boxes
 
 pub levels-smaller : goal.levels-smaller
 levels-smaller c =
