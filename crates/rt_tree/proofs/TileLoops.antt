@@ -162,15 +162,11 @@ module _ {X : Type 0} (items : List X) (extent : X → Extent) (size : X → ℕ
             ∙ sym (groups-chunks box in_order fanout (omega arith)));
       }
 
-  -- what is asked of the next tile: that it has a key, and few, what they tell, what that weighs, and room for it
+  -- what is asked of the next tile: what its keys tell, and what that weighs
   pub next_tile : (all_packed : List X) (all_nodes : List Node) (packed : List X) (nodes : List Node)
       (keys tile later : List ℕ) → IsLevelPart all_packed all_nodes packed nodes keys → keys ≡ tile ++ later
-      → length tile ≡ min fanout (length keys) → 0 < length keys → 2 ≤ fanout → fanout ≤ 64
-      → (0 < length tile) × (length tile < 256) × All (Tells items) tile × (sum_by size (told items tile) < 2 ^ 32)
-      × (length packed < 2 ^ 32)
-  next_tile all_packed all_nodes packed nodes keys tile later part is long there several most = (
-    omega arith,
-    omega arith,
+      → All (Tells items) tile × (sum_by size (told items tile) < 2 ^ 32)
+  next_tile all_packed all_nodes packed nodes keys tile later part is = (
     All-front (Tells items) tile later (subst (All (Tells items)) is part.tell),
     omega (
       arith,
@@ -179,7 +175,6 @@ module _ {X : Type 0} (items : List X) (extent : X → Extent) (size : X → ℕ
       ap (sum_by size) (told-append items tile later),
       sum_by-append size (told items tile) (told items later),
     ),
-    omega (arith, part.room),
   )
 
   pub level_more : (all_packed : List X) (all_nodes : List Node) (packed packed' : List X) (nodes nodes' : List Node)
@@ -212,12 +207,9 @@ module _ {X : Type 0} (items : List X) (extent : X → Extent) (size : X → ℕ
             ∙ ap (λ gs. nodes ++ nodes_over extent size level (length packed) gs) (sym cut) ∙ part.nodes_are);
       }
 
-  -- without later keys all is packed, and all nodes are made
+  -- without later keys all nodes are made
   pub level_done : (all_packed : List X) (all_nodes : List Node) (packed : List X) (nodes : List Node) (later : List ℕ)
-      → length later ≡ 0 → IsLevelPart all_packed all_nodes packed nodes later → (packed ≡ all_packed) × (nodes ≡ all_nodes)
-  level_done all_packed all_nodes packed nodes [] none part = (
-    sym (append-nil packed) ∙ part.packed_are,
-    sym (append-nil nodes) ∙ ap (λ gs. nodes ++ nodes_over extent size level (length packed) gs) (sym (chunks-nil fanout))
-        ∙ part.nodes_are,
-  )
+      → length later ≡ 0 → IsLevelPart all_packed all_nodes packed nodes later → nodes ≡ all_nodes
+  level_done all_packed all_nodes packed nodes [] none part = sym (append-nil nodes)
+      ∙ ap (λ gs. nodes ++ nodes_over extent size level (length packed) gs) (sym (chunks-nil fanout)) ∙ part.nodes_are
   level_done all_packed all_nodes packed nodes (key ∷ later) none part = absurd (omega arith)

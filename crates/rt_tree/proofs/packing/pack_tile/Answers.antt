@@ -4,15 +4,6 @@ use Rattle.rt_tree.specs.SortKeys.{place_of}
 use Rattle.rt_tree.proofs.TileLoops.{next_fits, over_tile, tile_more}
 use Rattle.rt_tree.proofs.packing.pack_tile.Goals as goal
 
-pub with_child-node-requires-clause-layers : goal.with_child-node-requires-clause-layers
-with_child-node-requires-clause-layers g c =
-    let items = g.T.Items.list c.args.items.now in
-    let place = place_of (get_or c.args.tile.now c.loop-key.key-index 0) in
-    let x = c.in_ok-item.item in
-    let at = c.in_ok-item.ensures.item in
-    subst g.T.Items.has_layers (get_or_from_slice_get items place x x at)
-    (c.requires.layers place x (slice_get_within items place x at))
-
 pub with_child-node-requires-clause-size : goal.with_child-node-requires-clause-size
 with_child-node-requires-clause-size g c = omega (
   arith,
