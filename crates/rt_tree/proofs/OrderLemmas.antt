@@ -1,5 +1,5 @@
 -- Lists in the order of another list, or by another comparison.
-use Rattle.std.proofs.Common.{◌≡◌, Ordering, List, [], ◌∷◌, ◌++◌, map, inl, inr, refl, sym, ◌∙◌, ap, subst}
+use Rattle.std.proofs.Common.{◌≡◌, Ordering, List, [], ◌∷◌, ◌++◌, map, inl, inr, refl, sym, ◌∙◌, ap}
 use Rattle.std.proofs.{Common.{append_assoc, IsPermutation}, lemmas.{Bool.{cases_Bool}, List.{map-append}}}
 use Rattle.std.proofs.lemmas.{List.Elements.{All-append, All-from_recursion, All-nil, recursion_from_All}}
 use Rattle.std.proofs.lemmas.List.Sorted.{All-permutation, IsPermutation-append_comm, IsPermutation-append_left}
