@@ -50,7 +50,8 @@ module _ (fanout : ℕ) (es : List Entry) where
     nodes = subst (λ l. IsPermutation l []) (sym (flat_map-none (nodes_under (tree fanout es [])) (λ n. n.level ≡ 1)
         (λ n e. grind (arith, nat_tests)) made on)) (IsPermutation-refl []);
     entries = subst (λ l. IsPermutation l es) (sym (flat_map-same (right_under (tree fanout es [])) (child_entries
-        (tree fanout es [])) (λ n. n.level ≡ 1) (λ n e. grind (arith, nat_tests)) made on ∙ all)) (IsPermutation-refl es);
+        (tree fanout es [])) (λ n. n.level ≡ 1) (λ n e. grind (arith, nat_tests)) made on ∙ all))
+        (IsPermutation-refl es);
   }
 
   -- one more level

@@ -2,7 +2,8 @@
 use Rattle.std.proofs.Common.{◌≡◌, ◌∙◌, ◌<◌, ◌-◌, ℤ, take, false, ◌||◌, List, [], ◌∷◌, ◌++◌, length, refl, sym}
 use Rattle.std.proofs.{Common.{IsPermutation, ap, subst, arith, length-append}, Math.Bool.{or-false}}
 use Rattle.std.proofs.lemmas.{Cmp.{int_eq_equiv}, Int.{ints}, List.{map-append, take_at, Elements.{All-nil, All-push}}}
-use Rattle.std.proofs.lemmas.{List.Folds.{list_any-append}, Map.Keys.{IsDistinct-IsPermutation, IsDistinct-push}, List.Sorted.{IsPermutation-map}}
+use Rattle.std.proofs.lemmas.{List.{Folds.{list_any-append}, Sorted.{IsPermutation-map}}}
+use Rattle.std.proofs.lemmas.Map.Keys.{IsDistinct-IsPermutation, IsDistinct-push}
 use Rattle.std.specs.{BTreeSet.{BTreeSet}, List.{IsDistinct, list_any}, Ordering.{int_eq}}
 use Rattle.rt_geo.specs.{Entries.{HasBox, HasLayer}, declared.entry.Entry.{Entry}}
 use Rattle.rt_tree.specs.{Entries.{IsTable, has_id, ids_of, most_entries}, Indexes.{IsIndexed, keeps}}
@@ -38,7 +39,8 @@ pushed loaded new_loaded later new_later entries entry kept box few absent added
 pub pushed-popped : (entries : List Entry) (entry : Entry)
     → take (length (entries ++ entry ∷ []) - 1) (entries ++ entry ∷ []) ≡ entries
 pushed-popped entries entry =
-    take_at entries (entry ∷ []) (length (entries ++ entry ∷ []) - 1) (omega (arith, length-append entries (entry ∷ [])))
+    take_at entries (entry ∷ []) (length (entries ++ entry ∷ []) - 1)
+    (omega (arith, length-append entries (entry ∷ [])))
 
 pub int_eq-sym : (a b : ℤ) → int_eq a b ≡ int_eq b a
 int_eq-sym a b = grind (arith, ints)

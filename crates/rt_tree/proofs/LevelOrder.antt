@@ -7,9 +7,9 @@ use Rattle.std.specs.{Int.{div_ceil}, List.{AllByRecursion}}
 use Rattle.rt_geo.specs.Laws.{Extent}
 use Rattle.rt_tree.specs.{Levels.{level_sizes}, Packed.{extent_of_node}, declared.tree.Node.{Node}}
 use Rattle.rt_tree.specs.Packing.{joined, nodes_from, nodes_over}
-use Rattle.rt_tree.proofs.{LevelLemmas.{div_ceil-positive, sizes_above-step, sizes_from, sizes_from-step}, OrderLemmas.{all_moved}}
+use Rattle.rt_tree.proofs.LevelLemmas.{div_ceil-positive, sizes_above-step, sizes_from, sizes_from-step}
 use Rattle.rt_tree.proofs.PackCounts.{above, cut, fewer, length-above, nodes_from-last, nodes_from-more}
-use Rattle.rt_tree.proofs.TileLemmas.{groups-moved}
+use Rattle.rt_tree.proofs.{OrderLemmas.{all_moved}, TileLemmas.{groups-moved}}
 
 -- ---- level by level
 

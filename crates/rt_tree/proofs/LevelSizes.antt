@@ -1,9 +1,10 @@
 -- What the sizes of levels are, told without the recursion that computes them.
-use Rattle.std.proofs.Common.{◌≡◌, ◌<◌, ◌≤◌, ◌+◌, ◌↔◌, ℕ, zero, suc, List, [], ◌∷◌, length, slice_get, Some, refl, sym, ap, subst}
-use Rattle.std.proofs.{Common.{arith, inl, inr}, lemmas.{Bool.{cases_lt}, Option.{none-some}}}
+use Rattle.std.proofs.Common.{◌≡◌, ◌<◌, ◌≤◌, ◌+◌, ◌↔◌, ℕ, zero, suc, List, [], ◌∷◌, length, slice_get, Some, refl}
+use Rattle.std.proofs.{Common.{sym, ap, subst, arith, inl, inr}, lemmas.{Bool.{cases_lt}, Option.{none-some}}}
 use Rattle.std.specs.Int.{div_ceil}
 use Rattle.rt_tree.specs.Levels.{level_sizes, sizes_above}
-use Rattle.rt_tree.proofs.LevelLemmas.{div_ceil-halves, div_ceil-positive, sizes_above-step, sizes_from, sizes_from-step}
+use Rattle.rt_tree.proofs.LevelLemmas.{div_ceil-halves, div_ceil-positive, sizes_above-step, sizes_from}
+use Rattle.rt_tree.proofs.LevelLemmas.{sizes_from-step}
 
 -- a level of one is the last, and the last has one; each is told by the one below it
 record AreLevels (fanout : ℕ) (sizes : List ℕ) : Type 0 where
@@ -28,7 +29,8 @@ module _ (fanout size : ℕ) (rest : List ℕ) (levels : AreLevels fanout rest)
 
   last_more : 1 < size → 0 < length rest → (level s : ℕ) → slice_get (size ∷ rest) level ≡ Some s
       → (s ≡ 1) ↔ (suc level ≡ length (size ∷ rest))
-  last_more more some zero s e = let same : size ≡ s = cc in ((λ one. absurd (omega arith)), (λ top. absurd (omega arith)))
+  last_more more some zero s e =
+      let same : size ≡ s = cc in ((λ one. absurd (omega arith)), (λ top. absurd (omega arith)))
   last_more more some (suc level) s e =
       let told = levels.last level s e in ((λ one. ap suc (told.0 one)), (λ top. told.1 (omega arith)))
 
@@ -61,7 +63,8 @@ level_above len fanout level zero below above several is e f = absurd (omega ari
 level_above zero fanout level (suc next) below above several is e f = absurd (none-some above f)
 level_above (suc n) fanout level (suc next) below above several is e f =
     let same : level ≡ next = omega arith in
-    above_more fanout (suc n) _ (above_entries fanout (suc n) several (omega arith)) refl next below above (rw (← same) e) f
+    above_more fanout (suc n) _ (above_entries fanout (suc n) several (omega arith)) refl next below above
+    (rw (← same) e) f
 
 -- above the entries a level of one is the last, and the last has one
 pub level_last : (len fanout level size count : ℕ) → 2 ≤ fanout → 0 < level

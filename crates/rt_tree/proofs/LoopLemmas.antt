@@ -2,8 +2,8 @@
 use Rattle.std.proofs.Common.{◌≡◌, ◌<◌, ◌≤◌, ◌+◌, ◌-◌, ℕ, List, [], ◌∷◌, ◌++◌, length, map, take, drop, set, get_or, min, refl}
 use Rattle.std.proofs.{Common.{sym, ◌∙◌, ap, arith, append_assoc, ℤ, ◌+ℤ◌, FitsSigned, of_z, to_z, w32}, lemmas.Int.{to_z-of_z}}
 use Rattle.std.proofs.lemmas.{Grind.{drop_more_same, take-set_at}, Slice.{drop-put_mid, take-put_mid}}
-use Rattle.std.proofs.lemmas.List.{drop-set-lt, get_or-drop, length-set, drop-drop, length-append}
-use Rattle.std.proofs.lemmas.List.{map_more, drop_min, take_min, length-drop, length-take, map-append, take_all, take_more}
+use Rattle.std.proofs.lemmas.List.{map_more, drop-set-lt, get_or-drop, length-set, drop-drop, length-append}
+use Rattle.std.proofs.lemmas.List.{drop_min, take_min, length-drop, length-take, map-append, take_all, take_more}
 use borrow.Rule.Slice.PartMut.{post_of, put_mid}
 use Rattle.std.specs.List.{enumerate_from}
 use Rattle.rt_tree.specs.Packing.{chunks}

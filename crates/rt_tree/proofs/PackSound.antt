@@ -11,7 +11,8 @@ use Rattle.rt_tree.specs.Packed.{entries_under, extent_of_node, no_node, node_at
 use Rattle.rt_tree.specs.{Packing.{groups, joined, nodes_from, nodes_over, pack_of}, declared.tree.Node.{Node}}
 use Rattle.rt_tree.proofs.Children.{AreOnce, AreSubtrees, nodes_once, nodes_under, once_first, once_more, right_under}
 use Rattle.rt_tree.proofs.{EntryLemmas.{distinct-IsPermutation}, TileLemmas.{groups-chunks, groups-moved, groups-nil}}
-use Rattle.rt_tree.proofs.{LevelLemmas.{div_ceil-positive, sizes_from, sizes_from-step}, SortingLemmas.{IsPermutation-sorted}}
+use Rattle.rt_tree.proofs.LevelLemmas.{div_ceil-positive, sizes_from, sizes_from-step}
+use Rattle.rt_tree.proofs.SortingLemmas.{IsPermutation-sorted}
 use Rattle.rt_tree.proofs.LevelOrder.{level_by_level, nodes_from-levels, nodes_over-AreOn, sizes_from_first}
 use Rattle.rt_tree.proofs.OrderLemmas.{all_append, all_moved, flat_map-IsPermutation}
 use Rattle.rt_tree.proofs.PackCounts.{IsCounted, above, all_nodes, counted_more, course, cut, fewer, length-above}
@@ -44,7 +45,8 @@ module _ (fanout : ℕ) (several : 2 ≤ fanout) (es : List Entry) where
 
   -- nodes of one level stand behind those of the lower levels
   behind : (h : ℕ) (numbered more : List Node) → AreSubtrees (tree fanout es numbered) numbered
-      → AllByRecursion (IsSubtree (tree fanout es numbered) h) more → AreSubtrees (tree fanout es numbered) (numbered ++ more)
+      → AllByRecursion (IsSubtree (tree fanout es numbered) h) more
+      → AreSubtrees (tree fanout es numbered) (numbered ++ more)
   behind h numbered more lower here =
       let t = tree fanout es numbered in
       all_append (λ n. IsSubtree t (n.level - 1) n) numbered more lower
@@ -87,7 +89,8 @@ module _ (fanout : ℕ) (several : 2 ≤ fanout) (es : List Entry) where
           arith,
           b.levels,
           ap length (sizes_from-step fanout (length made) several more),
-          ap (λ n. length (sizes_from fanout n)) (length-above fanout several (suc h) (length numbered) made (omega arith)),
+          ap (λ n. length (sizes_from fanout n)) (length-above fanout several (suc h) (length numbered) made
+              (omega arith)),
         );
       }
 
@@ -120,7 +123,8 @@ module _ (fanout : ℕ) (several : 2 ≤ fanout) (es : List Entry) where
           root = λ _. subst (λ n. IsSubtree new (n.level - 1) n) (sym is_root) (at_its_level new h r sub);
           every = λ _. subst (λ n. IsPermutation (entries_under new (n.level - 1) n) es) (sym is_root) whole;
           nodes = All-from_recursion (λ n. IsSubtree new (n.level - 1) n) ns (with_more numbered (r ∷ []) ns sound);
-          top = subst (λ n. n.level + 1 ≡ length (level_sizes (length es) fanout)) (sym is_root) (omega (arith, b.levels));
+          top = subst (λ n. n.level + 1 ≡ length (level_sizes (length es) fanout)) (sym is_root)
+              (omega (arith, b.levels));
           few_levels = subst (λ n. n.level ≤ 24) (sym is_root) (omega (arith, c.few_levels));
           few_nodes = omega (arith, c.few_nodes, c.few_levels);
         },
@@ -222,13 +226,20 @@ module _ (fanout : ℕ) (several : 2 ≤ fanout) (in_order : List Entry) where
         once = once_first fanout es made on under;
         levels = omega (arith, ap length sizes, length-drop 1 (level_sizes (length es) fanout));
       })
-      (record { few_levels = omega arith; few = omega (arith, few.0); few_nodes = omega (arith, few.0); weight = few.1 })
-      (nodes_from-levels fanout several (length made) 1 0 made (omega arith) some on ∙ ap (level_by_level 1) (sym sizes))
+      (record {
+        few_levels = omega arith;
+        few = omega (arith, few.0);
+        few_nodes = omega (arith, few.0);
+        weight = few.1;
+      })
+      (nodes_from-levels fanout several (length made) 1 0 made (omega arith) some on
+      ∙ ap (level_by_level 1) (sym sizes))
 
 -- a packed tree is sound, and whole
 pub pack_of-IsSound : (fanout : ℕ) (entries : List Entry) → 2 ≤ fanout → IsTable entries
     → IsSound (pack_of fanout entries) × IsWhole (pack_of fanout entries)
-pack_of-IsSound fanout [] several table = rw (groups-nil (λ (e : Entry). e.bounds) fanout) (sound_empty fanout several table)
+pack_of-IsSound fanout [] several table =
+    rw (groups-nil (λ (e : Entry). e.bounds) fanout) (sound_empty fanout several table)
 pack_of-IsSound fanout (e ∷ entries) several table =
     let all = e ∷ entries in
     let by_id = on (λ (e : Entry). e.id) int_cmp in

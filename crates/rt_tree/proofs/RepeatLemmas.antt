@@ -1,8 +1,9 @@
 -- The first entry whose id an earlier one has.
 use Rattle.std.proofs.Common.{◌≡◌, ◌∙◌, ◌<◌, ◌+◌, ℕ, ℤ, true, false, ◌||◌, List, [], ◌∷◌, ◌++◌, length, length-append}
 use Rattle.std.proofs.Common.{drop, take, Option, Some, None, refl, sym, subst, ap, add-one, append_assoc, arith, slice_get}
-use Rattle.std.proofs.lemmas.{Bool.{cases_Bool}, Option.{get_or_from_slice_get, slice_get_within}}
-use Rattle.std.proofs.{Common.{suc, inl, inr}, Math.Seq.{drop-cons}, lemmas.{Cmp.{int_eq_equiv}, Map.Keys.{IsDistinct-push}}}
+use Rattle.std.proofs.lemmas.{Bool.{cases_Bool}, Map.Keys.{IsDistinct-push}}
+use Rattle.std.proofs.lemmas.Option.{get_or_from_slice_get, slice_get_within}
+use Rattle.std.proofs.{Common.{suc, inl, inr}, Math.Seq.{drop-cons}, lemmas.Cmp.{int_eq_equiv}}
 use Rattle.std.proofs.lemmas.List.{append-nil, length-take-le, map-append, take_more}
 use Rattle.std.specs.{List.{AllByRecursion, IsDistinct}, Ordering.{int_eq}, Prelude.{if◌then◌else◌}}
 use Rattle.rt_geo.specs.declared.entry.Entry.{Entry}

@@ -21,7 +21,8 @@ use Rattle.rt_tree.proofs.{ChunkLemmas.{chunks-All, chunks-size}, OrderLemmas.{f
 pub group_at : {X : Type 0} (front group rest : List X) → take (length group) (drop (length front) (front ++
     (group ++ rest))) ≡ group
 group_at front group rest =
-    ap (take (length group)) (drop_at front (group ++ rest) (length front) refl) ∙ take_at group rest (length group) refl
+    ap (take (length group)) (drop_at front (group ++ rest) (length front) refl)
+    ∙ take_at group rest (length group) refl
 
 pub all_map : {X : Type 0} (P Q : X → Type 0) → ((x : X) → P x → Q x) → (xs : List X) → AllByRecursion P xs
     → AllByRecursion Q xs
@@ -96,7 +97,8 @@ module _ {X : Type 0} (extent : X → Extent) where
       both_of_all (λ x. inside (extent x).bounds (whole_of xs).bounds ≡ true)
       (λ x. subset (extent x).layers (whole_of xs).layers ≡ true) (λ x. IsPart (extent x) (whole_of xs))
       (λ x h k. record { bounds = h; layers = k }) xs
-      (parts-reduced (λ x. (extent x).bounds) hull inside inside-same inside-trans inside-hull_left inside-hull_right no_box xs)
+      (parts-reduced (λ x. (extent x).bounds) hull inside inside-same inside-trans inside-hull_left inside-hull_right
+      no_box xs)
       (parts-reduced (λ x. (extent x).layers) union subset subset-same subset-trans subset-union_left subset-union_right
       no_layers xs)
 
@@ -126,8 +128,8 @@ pub chunk_groups : {X : Type 0} (fanout : ℕ) (P : X → Type 0) (gs : List (Li
 chunk_groups fanout P gs some e a =
     let xs = joined gs in
     subst (AllByRecursion (IsGroup fanout P)) (sym e) (both_of_all (λ g. (0 < length g) × (length g ≤ fanout)) (All P)
-    (IsGroup fanout P) (λ g size all. (size, recursion_from_All P g all)) (chunks fanout xs) (chunks-size fanout xs some)
-    (chunks-All P fanout xs a))
+    (IsGroup fanout P) (λ g size all. (size, recursion_from_All P g all)) (chunks fanout xs)
+    (chunks-size fanout xs some) (chunks-All P fanout xs a))
 
 -- the children of a node above level 1 are nodes of the tree
 pub inner-range : (t : Packed) (below : ℕ) (n : Node) → IsSubtree t below n → 0 < below
@@ -245,8 +247,8 @@ module _ (fanout : ℕ) (es : List Entry) where
         exact_layers = ap (λ l. union_of (map layers l)) (sym here);
         within = subst (AllByRecursion (λ e. IsBoxInside (extent_of_entry e) whole)) (sym here)
             (both_of_all IsEntry (λ e. IsPart (extent_of_entry e) whole) (λ e. IsBoxInside (extent_of_entry e) whole)
-            (λ e b part. IsBoxInside-part (extent_of_entry e) (extent_of_entry e) whole part (IsBoxInside-entry e b.0 b.1))
-            g a.1 (parts_of-whole extent_of_entry g));
+            (λ e b part. IsBoxInside-part (extent_of_entry e) (extent_of_entry e) whole part
+            (IsBoxInside-entry e b.0 b.1)) g a.1 (parts_of-whole extent_of_entry g));
         size = sum_by-ones g;
       })
 

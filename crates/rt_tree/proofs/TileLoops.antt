@@ -127,7 +127,8 @@ module _ {X : Type 0} (extent : X → Extent) (size : X → ℕ) where
 -- ---- the loop over tiles
 
 All-front : {X : Type 0} (P : X → Type 0) (front behind : List X) → All P (front ++ behind) → All P front
-All-front P front behind all = subst (All P) (take_at front behind (length front) refl) (All-take P (length front) (front ++ behind) all)
+All-front P front behind all =
+    subst (All P) (take_at front behind (length front) refl) (All-take P (length front) (front ++ behind) all)
 
 All-behind : {X : Type 0} (P : X → Type 0) (front behind : List X) → All P (front ++ behind) → All P behind
 All-behind P front behind all =
@@ -203,7 +204,8 @@ module _ {X : Type 0} (items : List X) (extent : X → Extent) (size : X → ℕ
         room = omega (arith, part.room, ap length is, length-append tile later);
         packed_are = rw (packed_is, append_assoc packed group rest, ← whole) part.packed_are;
         nodes_are = rw (next, nodes_is, node_is)
-            (append_assoc nodes (_ ∷ []) (nodes_over extent size level (length packed + length group) (chunks fanout rest))
+            (append_assoc nodes (_ ∷ [])
+            (nodes_over extent size level (length packed + length group) (chunks fanout rest))
             ∙ ap (λ gs. nodes ++ nodes_over extent size level (length packed) gs) (sym cut) ∙ part.nodes_are);
       }
 

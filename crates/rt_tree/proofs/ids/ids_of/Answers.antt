@@ -1,5 +1,6 @@
-use Rattle.std.proofs.{Common.{◌∙◌, ◌++◌, ◌∷◌, [], FitsSigned, ap, rules, subst, sym, take, w64}, lemmas.Int.{to_z-of_z}}
-use Rattle.std.proofs.lemmas.{List.{map_more}, List.Elements.{All-more}, Option.{get_or_from_slice_get, slice_get_within}}
+use Rattle.std.proofs.Common.{◌∙◌, ◌++◌, ◌∷◌, [], FitsSigned, ap, rules, subst, sym, take, w64}
+use Rattle.std.proofs.lemmas.{Int.{to_z-of_z}, List.{map_more, Elements.{All-more}}}
+use Rattle.std.proofs.lemmas.Option.{get_or_from_slice_get, slice_get_within}
 use Rattle.rt_geo.specs.Entries.{HasBox}
 use Rattle.rt_geo.specs.declared.entry.Entry.{Entry}
 use Rattle.rt_tree.specs.Entries.{ids_of}

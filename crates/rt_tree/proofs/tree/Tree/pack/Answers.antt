@@ -47,7 +47,8 @@ invariant_of-result c =
     let fanout = c.args.fanout in
     let sound = c.into_entries-entries.ensures.table in
     let long : length c.pack_level.new.packed ≡ length table = ap (λ (t : Packed). length t.entries) (tree_is c)
-    ∙ length_permutation table (pack_of fanout table).entries (entries-IsPermutation fanout table c.requires.several) in (
+    ∙ length_permutation table (pack_of fanout table).entries
+    (entries-IsPermutation fanout table c.requires.several) in (
       subst IsSound (sym (tree_is c)) (pack_of-IsSound fanout table c.requires.several sound).0,
       tree_is c ∙ pack_of-repacked fanout table c.requires.several sound.distinct
           ∙ ap (λ (t : Packed). pack_of fanout t.entries) (sym (tree_is c)),
