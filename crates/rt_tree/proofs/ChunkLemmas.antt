@@ -2,9 +2,9 @@
 use Rattle.std.proofs.Common.{◌≡◌, ◌<◌, ◌≤◌, ◌+◌, ◌-◌, ◌*◌, ℕ, zero, suc, List, [], ◌∷◌, ◌++◌, length, map, take, drop, min}
 use Rattle.std.proofs.{Common.{refl, sym, ◌∙◌, ap, subst, arith, add-one, inl, inr, ◌⊎◌}, lemmas.Bool.{cases_lt}}
 use Rattle.std.proofs.Math.{Nat.{zero-div, zero-mod, mul-le-mul_right}}
-use Rattle.std.proofs.lemmas.{Grind.{div_ceil_times}, List.Elements.{All-drop, All-take}}
+use Rattle.std.proofs.lemmas.{Grind.{div_ceil_times}, List.{append-nil, take-map, Elements.{All-drop, All-take}}}
 use Rattle.std.proofs.lemmas.List.{drop_at, drop_min, take_at, take_min, length-take, take-append-drop, take-append-le}
-use Rattle.std.proofs.lemmas.List.{append-nil, take-map, drop-append-le, drop-map, drop_all, length-append, length-drop, length-map}
+use Rattle.std.proofs.lemmas.List.{drop-append-le, drop-map, drop_all, length-append, length-drop, length-map}
 use Rattle.std.specs.{Int.{div_ceil}, List.{All, AllByRecursion, flat_map}, Simd.{first_chunks}}
 use native.Mathlib.Nat.{add-mul}
 use Rattle.rt_tree.specs.Packing.{chunks, joined}
