@@ -1,6 +1,6 @@
 -- In a packed tree each node but the root is a child once, and so is each entry.
-use Rattle.std.proofs.Common.{◌≡◌, ◌<◌, ◌-◌, ℕ, suc, Bool, true, false, cond, nat_lt, ◌==◌, if◌then◌else◌, List, [], ◌∷◌, ◌++◌}
-use Rattle.std.proofs.{Common.{length, filter, refl, sym, ◌∙◌, ap, subst, arith, IsPermutation}, lemmas.Grind.{flat_map-append}}
+use Rattle.std.proofs.Common.{◌≡◌, ◌<◌, ◌-◌, ℕ, suc, nat_lt, ◌==◌, if◌then◌else◌, List, [], ◌∷◌, ◌++◌}
+use Rattle.std.proofs.{Common.{length, refl, sym, ◌∙◌, ap, subst, arith, IsPermutation}, lemmas.Grind.{flat_map-append}}
 use Rattle.std.proofs.lemmas.{Bool.Decides.{nat_tests}, List.{append-nil}}
 use Rattle.std.proofs.lemmas.List.Sorted.{IsPermutation-append, IsPermutation-append_right, IsPermutation-cons}
 use Rattle.std.proofs.lemmas.List.Sorted.{IsPermutation-refl, IsPermutation-sym, IsPermutation-to_front, IsPermutation-trans}
@@ -11,29 +11,10 @@ use Rattle.rt_tree.specs.declared.tree.Node.{Node}
 use Rattle.rt_tree.proofs.{LevelOrder.{AreOn}, OrderLemmas.{flat_map-IsPermutation, flat_map-same}}
 use Rattle.rt_tree.proofs.Soundness.{children_more, inner-range, over_flat, tree}
 
--- the nodes right under all nodes above level 1
-abbrev pub all_child_nodes : Packed → List Node
-all_child_nodes t = flat_map (child_nodes t) (filter (λ n. nat_lt 1 n.level) t.nodes)
-
--- the entries right under all nodes of level 1
-abbrev pub all_child_entries : Packed → List Entry
-all_child_entries t = flat_map (child_entries t) (filter (λ n. n.level == 1) t.nodes)
-
--- what a function gives of the elements that pass a test
-passing : {X Y : Type 0} (f : X → List Y) (p : X → Bool) (xs : List X)
-    → flat_map f (filter p xs) ≡ flat_map (λ x. if p x then f x else []) xs
-passing f p [] = refl
-passing f p (x ∷ xs) = by_test (p x) (passing f p xs)
-  where
-    by_test : (b : Bool) → flat_map f (filter p xs) ≡ flat_map (λ x. if p x then f x else []) xs
-        → flat_map f (cond b (x ∷ filter p xs) (filter p xs)) ≡ cond b (f x) [] ++ flat_map
-        (λ x. if p x then f x else []) xs
-    by_test true e = ap (λ l. f x ++ l) e
-    by_test false e = e
-
-flat_map-none : {X Y : Type 0} (f : X → List Y) (xs : List X) → AllByRecursion (λ x. f x ≡ []) xs → flat_map f xs ≡ []
-flat_map-none f [] a = refl
-flat_map-none f (x ∷ xs) a = rw a.0 (flat_map-none f xs a.1)
+flat_map-none : {X Y : Type 0} (f : X → List Y) (P : X → Type 0) → ((x : X) → P x → f x ≡ []) → (xs : List X)
+    → AllByRecursion P xs → flat_map f xs ≡ []
+flat_map-none f P none [] a = refl
+flat_map-none f P none (x ∷ xs) a = rw (none x a.0) (flat_map-none f P none xs a.1)
 
 -- the nodes right under a node above level 1, and the entries right under a node of level 1
 abbrev pub nodes_under : Packed → Node → List Node
@@ -42,32 +23,18 @@ nodes_under t n = if nat_lt 1 n.level then child_nodes t n else []
 abbrev pub right_under : Packed → Node → List Entry
 right_under t n = if n.level == 1 then child_entries t n else []
 
+-- under each of these nodes is what its level asks for
+abbrev pub AreSubtrees : Packed → List Node → Type 0
+AreSubtrees t = AllByRecursion (λ n. IsSubtree t (n.level - 1) n)
+
 module _ (fanout : ℕ) (es : List Entry) where
   -- more nodes behind change nothing of that
-  under_by : (ns more : List Node) (n : Node) → IsSubtree (tree fanout es ns) (n.level - 1) n → (b : Bool)
-      → nat_lt 1 n.level ≡ b
-      → cond b (child_nodes (tree fanout es (ns ++ more)) n) [] ≡ cond b (child_nodes (tree fanout es ns) n) []
-  under_by ns more n s true e = children_more fanout es ns more n (inner-range (tree fanout es ns) (n.level - 1) n s
-      (grind (arith, nat_tests)))
-  under_by ns more n s false e = refl
-
   under_more : (ns more : List Node) (n : Node) → IsSubtree (tree fanout es ns) (n.level - 1) n
       → nodes_under (tree fanout es (ns ++ more)) n ≡ nodes_under (tree fanout es ns) n
-  under_more ns more n s = under_by ns more n s (nat_lt 1 n.level) refl
-
-  -- ---- right under the nodes over groups stand the groups
-
-  over_children : (ns : List Node) (level : ℕ) (gs : List (List Node)) (front : List Node) → ns ≡ front ++ joined gs
-      → flat_map (child_nodes (tree fanout es ns)) (nodes_over extent_of_node (λ n. n.size) level
-      (length front) gs) ≡ joined gs
-  over_children ns level = over_flat extent_of_node (λ n. n.size) level ns (child_nodes (tree fanout es ns)) (λ g. g)
-      (λ first g here. here)
-
-  high : (t : Packed) (level : ℕ) (n : Node) → 1 < level → n.level ≡ level → nodes_under t n ≡ child_nodes t n
-  high t level n h e = let test : nat_lt 1 n.level ≡ true = grind (arith, nat_tests) in rw test refl
-
-  low : (t : Packed) (n : Node) → n.level ≡ 1 → nodes_under t n ≡ []
-  low t n e = let test : nat_lt 1 n.level ≡ false = grind (arith, nat_tests) in rw test refl
+  under_more ns more n s =
+      let same : 1 < n.level → child_nodes (tree fanout es (ns ++ more)) n ≡ child_nodes (tree fanout es ns) n =
+      λ h. children_more fanout es ns more n (inner-range (tree fanout es ns) (n.level - 1) n s (omega arith)) in
+      grind (arith, nat_tests, same)
 
   -- ---- one level after another
 
@@ -80,22 +47,16 @@ module _ (fanout : ℕ) (es : List Entry) where
   pub once_first : (made : List Node) → AreOn 1 made → flat_map (child_entries (tree fanout es [])) made ≡ es
       → AreOnce [] made
   once_first made on all = record {
-    nodes = subst (λ l. IsPermutation l []) (sym (flat_map-none (nodes_under (tree fanout es [])) made
-        (lows made on))) (IsPermutation-refl []);
+    nodes = subst (λ l. IsPermutation l []) (sym (flat_map-none (nodes_under (tree fanout es [])) (λ n. n.level ≡ 1)
+        (λ n e. grind (arith, nat_tests)) made on)) (IsPermutation-refl []);
     entries = subst (λ l. IsPermutation l es) (sym (flat_map-same (right_under (tree fanout es [])) (child_entries
-        (tree fanout es [])) (λ n. n.level ≡ 1) (λ n e. leaf n e) made on ∙ all)) (IsPermutation-refl es);
+        (tree fanout es [])) (λ n. n.level ≡ 1) (λ n e. grind (arith, nat_tests)) made on ∙ all))
+        (IsPermutation-refl es);
   }
-    where
-      lows : (ns : List Node) → AreOn 1 ns → AllByRecursion (λ n. nodes_under (tree fanout es []) n ≡ []) ns
-      lows [] a = tt
-      lows (n ∷ ns) a = (low (tree fanout es []) n a.0, lows ns a.1)
-
-      leaf : (n : Node) → n.level ≡ 1 → right_under (tree fanout es []) n ≡ child_entries (tree fanout es []) n
-      leaf n e = let test : (n.level == 1) ≡ true = grind (arith, nat_tests) in rw test refl
 
   -- one more level
   pub once_more : (h : ℕ) (numbered made : List Node) (gs : List (List Node)) → IsPermutation made (joined gs)
-      → AllByRecursion (λ n. IsSubtree (tree fanout es numbered) (n.level - 1) n) (numbered ++ joined gs)
+      → AreSubtrees (tree fanout es numbered) (numbered ++ joined gs)
       → AreOnce numbered made
       → AreOn (suc (suc h)) (nodes_over extent_of_node (λ n. n.size) (suc (suc h)) (length numbered) gs)
       → AreOnce (numbered ++ joined gs) (nodes_over extent_of_node (λ n. n.size) (suc (suc h)) (length numbered) gs)
@@ -107,8 +68,10 @@ module _ (fanout : ℕ) (es : List Entry) where
       let new = nodes_over extent_of_node (λ n. n.size) (suc (suc h)) (length numbered) gs in
       let later = IsPermutation-append_right numbered made ordered moved in
       let over : flat_map (nodes_under now) new ≡ ordered =
-      flat_map-same (nodes_under now) (child_nodes now) (λ n. n.level ≡ suc (suc h)) (λ n e. high now (suc
-      (suc h)) n (omega arith) e) new on ∙ over_children ns (suc (suc h)) gs numbered refl in
+      flat_map-same (nodes_under now) (child_nodes now) (λ n. n.level ≡ suc (suc h))
+      (λ n e. grind (arith, nat_tests)) new on
+      ∙ over_flat extent_of_node (λ n. n.size) (suc (suc h)) ns (child_nodes now) (λ g. g) (λ first g here. here)
+      gs numbered refl in
       let same : flat_map (nodes_under now) ns ≡ flat_map (nodes_under old) ns =
       flat_map-same (nodes_under now) (nodes_under old) (λ n. IsSubtree old (n.level - 1) n)
       (under_more numbered ordered) ns sound in
@@ -125,21 +88,14 @@ module _ (fanout : ℕ) (es : List Entry) where
             (IsPermutation-append (flat_map (nodes_under now) ns) numbered ordered ordered below
             (IsPermutation-refl ordered));
         entries = subst (λ l. IsPermutation l es) (sym (flat_map-append (right_under now) ns new
-            ∙ ap (λ l. flat_map (right_under now) ns ++ l) (flat_map-none (right_under now) new (no_leaves new on))
+            ∙ ap (λ l. flat_map (right_under now) ns ++ l) (flat_map-none (right_under now)
+            (λ n. n.level ≡ suc (suc h)) (λ n e. grind (arith, nat_tests)) new on)
             ∙ append-nil (flat_map (right_under now) ns))) held;
       }
-    where
-      no_leaves : (ns : List Node) → AreOn (suc (suc h)) ns → AllByRecursion (λ n. right_under (tree fanout es
-          (numbered ++ joined gs)) n ≡ []) ns
-      no_leaves [] a = tt
-      no_leaves (n ∷ ns) a = (inner n a.0, no_leaves ns a.1)
-        where
-          inner : (n : Node) → n.level ≡ suc (suc h) → right_under (tree fanout es (numbered ++ joined gs)) n ≡ []
-          inner n e = let test : (n.level == 1) ≡ false = grind (arith, nat_tests) in rw test refl
 
   -- the root is a child of none
-  pub nodes_once : (numbered : List Node) (r : Node) → AllByRecursion (λ n. IsSubtree (tree fanout es numbered)
-      (n.level - 1) n) (numbered ++ r ∷ []) → AreOnce numbered (r ∷ [])
+  pub nodes_once : (numbered : List Node) (r : Node) → AreSubtrees (tree fanout es numbered) (numbered ++ r ∷ [])
+      → AreOnce numbered (r ∷ [])
       → IsPermutation (r ∷ flat_map (nodes_under (tree fanout es (numbered ++ r ∷ []))) (numbered ++ r ∷ []))
       (numbered ++ r ∷ [])
   nodes_once numbered r sound once =
@@ -151,11 +107,3 @@ module _ (fanout : ℕ) (es : List Entry) where
       let below = subst (λ l. IsPermutation l numbered) (sym same) once.nodes in
       IsPermutation-trans _ _ _ (IsPermutation-cons r (flat_map (nodes_under now) ns) numbered below)
       (IsPermutation-sym _ _ (IsPermutation-to_front numbered r))
-
--- ---- in the words of the tree
-
-pub all_child_nodes-is : (t : Packed) → flat_map (nodes_under t) t.nodes ≡ all_child_nodes t
-all_child_nodes-is t = sym (passing (child_nodes t) (λ n. nat_lt 1 n.level) t.nodes)
-
-pub all_child_entries-is : (t : Packed) → flat_map (right_under t) t.nodes ≡ all_child_entries t
-all_child_entries-is t = sym (passing (child_entries t) (λ n. n.level == 1) t.nodes)

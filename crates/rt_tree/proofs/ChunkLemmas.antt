@@ -1,19 +1,15 @@
 -- Lists cut into chunks.
 use Rattle.std.proofs.Common.{◌≡◌, ◌<◌, ◌≤◌, ◌+◌, ◌-◌, ◌*◌, ℕ, zero, suc, List, [], ◌∷◌, ◌++◌, length, map, take, drop, min}
 use Rattle.std.proofs.{Common.{refl, sym, ◌∙◌, ap, subst, arith, add-one, inl, inr, ◌⊎◌}, lemmas.Bool.{cases_lt}}
-use Rattle.std.proofs.Math.{Nat.{zero-div, zero-mod, mul-le-mul_right}, Seq.{drop-append_seam, take-append_seam}}
-use Rattle.std.proofs.lemmas.{Grind.{div_ceil_times}, List.Elements.{All-drop, All-take}}
-use Rattle.std.proofs.lemmas.List.{length-take, take-append-drop, take-append-le, take_all, take-map, append-nil}
+use Rattle.std.proofs.Math.{Nat.{zero-div, zero-mod, mul-le-mul_right}}
+use Rattle.std.proofs.lemmas.{Grind.{div_ceil_times}, List.{append-nil, take-map, Elements.{All-drop, All-take}}}
+use Rattle.std.proofs.lemmas.List.{drop_at, drop_min, take_at, take_min, length-take, take-append-drop, take-append-le}
 use Rattle.std.proofs.lemmas.List.{drop-append-le, drop-map, drop_all, length-append, length-drop, length-map}
 use Rattle.std.specs.{Int.{div_ceil}, List.{All, AllByRecursion, flat_map}, Simd.{first_chunks}}
 use native.Mathlib.Nat.{add-mul}
 use Rattle.rt_tree.specs.Packing.{chunks, joined}
 
 -- ---- how many there are
-
--- one is at most the other, or above it
-pub le_or_lt : (a b : ℕ) → (a ≤ b) ⊎ (b < a)
-le_or_lt a b = elim (cases_lt b a) [ inl l ↦ inr l | inr h ↦ inl h ]
 
 not_above : (d e n len : ℕ) → len ≤ d * n → e * n < len + n → d < e → ⊥
 not_above d e n len low high above = omega (arith, mul-le-mul_right n above)
@@ -28,9 +24,9 @@ ceil_unique d e n len low high low' high' =
 one_more : (d e n len : ℕ) → len ≤ d * n → d * n < len + n → len - n ≤ e * n → e * n < len - n + n → 0 < len → d ≡ e + 1
 one_more d e n len low high low' high' there =
     let times = add-mul e 1 n in
-    elim (le_or_lt n len) [
-      | inl h ↦ ceil_unique d (e + 1) n len low high (omega arith) (omega arith)
-      | inr h ↦ let none : e ≡ 0 = ceil_unique e 0 n 0 (omega arith) (omega arith) (omega arith) (omega arith) in
+    elim (cases_lt len n) [
+      | inr h ↦ ceil_unique d (e + 1) n len low high (omega arith) (omega arith)
+      | inl h ↦ let none : e ≡ 0 = ceil_unique e 0 n 0 (omega arith) (omega arith) (omega arith) (omega arith) in
           let nothing = ap (λ k. k * n) none in ceil_unique d (e + 1) n len low high (omega arith) (omega arith)
     ]
 
@@ -61,31 +57,25 @@ chunks-alike m n [] same = chunks-nil m ∙ sym (chunks-nil n)
 chunks-alike m n (x ∷ xs) same = ap (λ k. chunks k (x ∷ xs)) (same (omega arith))
 
 -- what holds of no elements, and of some where it holds of those behind the first chunk, holds of all lists
-chunk_by_chunk : {X : Type 0} (n : ℕ) (P : List X → Type 0) → 0 < n → P []
-    → ((xs : List X) → 0 < length xs → P (drop n xs) → P xs) → (xs : List X) → P xs
-chunk_by_chunk {X} n P some none more xs = within (length xs) xs (omega arith)
+chunk_by_chunk : {X : Type 0} (n : ℕ) (P : List X → Type 0) → P []
+    → ((xs : List X) → 0 < n → 0 < length xs → P (drop n xs) → P xs) → (xs : List X) → (0 < length xs → 0 < n) → P xs
+chunk_by_chunk {X} n P none more xs = within (length xs) xs (omega arith)
   where
-    within : (most : ℕ) (xs : List X) → length xs ≤ most → P xs
-    within most [] few = none
-    within zero (x ∷ xs) few = absurd (omega arith)
-    within (suc most) (x ∷ xs) few = more (x ∷ xs) (omega arith)
-        (within most (drop n (x ∷ xs)) (omega (arith, length-drop n (x ∷ xs))))
+    within : (most : ℕ) (xs : List X) → length xs ≤ most → (0 < length xs → 0 < n) → P xs
+    within most [] few some = none
+    within zero (x ∷ xs) few some = absurd (omega arith)
+    within (suc most) (x ∷ xs) few some = let size = some (omega arith) in more (x ∷ xs) size (omega arith)
+        (within most (drop n (x ∷ xs)) (omega (arith, length-drop n (x ∷ xs))) (λ _. size))
 
 -- the chunk in front, which is as long as it may be
 pub chunks-front : {X : Type 0} (n : ℕ) (front behind : List X) → 0 < n → 0 < length front
     → length front ≡ min n (length (front ++ behind)) → chunks n (front ++ behind) ≡ front ∷ chunks n behind
-chunks-front n front [] some there long =
-    let bare = append-nil front in
-    let few : length front ≤ n = omega arith in
-    ap (chunks n) bare ∙ chunks-step n front some there
-    ∙ ap (λ l. l ∷ chunks n (drop n front)) (take_all n front few)
-    ∙ ap (λ l. front ∷ chunks n l) (drop_all n front few)
-chunks-front n front (x ∷ behind) some there long =
-    let full : length front ≡ n = omega (arith, length-append front (x ∷ behind)) in
-    let whole = front ++ x ∷ behind in
-    chunks-step n whole some (omega (arith, length-append front (x ∷ behind)))
-    ∙ ap (λ l. l ∷ chunks n (drop n whole)) (subst (λ k. take k whole ≡ front) full (take-append_seam front (x ∷ behind)))
-    ∙ ap (λ l. front ∷ chunks n l) (subst (λ k. drop k whole ≡ x ∷ behind) full (drop-append_seam front (x ∷ behind)))
+chunks-front n front behind some there long =
+    let whole = front ++ behind in
+    let size = min n (length whole) in
+    chunks-step n whole some (omega (arith, length-append front behind))
+    ∙ ap (λ l. l ∷ chunks n (drop n whole)) (sym (take_min n whole) ∙ take_at front behind size long)
+    ∙ ap (λ l. front ∷ chunks n l) (sym (drop_min n whole) ∙ drop_at front behind size long)
 
 length-first_chunks : {X : Type 0} (n k : ℕ) (xs : List X) → length (first_chunks n k xs) ≡ k
 length-first_chunks n zero xs = refl
@@ -98,22 +88,21 @@ length-chunks n xs = length-first_chunks n (div_ceil (length xs) n) xs
 
 -- all of the list, in its order
 pub joined-chunks : {X : Type 0} (n : ℕ) (xs : List X) → (0 < length xs → 0 < n) → joined (chunks n xs) ≡ xs
-joined-chunks n [] some = ap joined (chunks-nil n)
-joined-chunks n (x ∷ xs) some = chunk_by_chunk n (λ ys. joined (chunks n ys) ≡ ys) (some (omega arith)) (ap joined
-    (chunks-nil n)) (λ ys there rest. ap joined (chunks-step n ys (some (omega arith)) there)
-    ∙ ap (λ l. take n ys ++ l) rest ∙ take-append-drop n ys) (x ∷ xs)
+joined-chunks n = chunk_by_chunk n (λ ys. joined (chunks n ys) ≡ ys) (ap joined (chunks-nil n))
+    (λ ys size there rest. ap joined (chunks-step n ys size there) ∙ ap (λ l. take n ys ++ l) rest
+    ∙ take-append-drop n ys)
 
 -- a chunk has an element, and no more than the size
 pub chunks-size : {X : Type 0} (n : ℕ) (xs : List X) → 0 < n
     → AllByRecursion (λ chunk. (0 < length chunk) × (length chunk ≤ n)) (chunks n xs)
 chunks-size {X} n xs some =
     let Fits = λ (chunk : List X). (0 < length chunk) × (length chunk ≤ n) in
-    chunk_by_chunk n (λ ys. AllByRecursion Fits (chunks n ys)) some (subst (AllByRecursion Fits) (sym (chunks-nil n)) tt)
-    (λ ys there rest. subst (AllByRecursion Fits) (sym (chunks-step n ys some there)) (
+    chunk_by_chunk n (λ ys. AllByRecursion Fits (chunks n ys)) (subst (AllByRecursion Fits) (sym (chunks-nil n)) tt)
+    (λ ys size there rest. subst (AllByRecursion Fits) (sym (chunks-step n ys size there)) (
       let long = length-take n ys in
           (omega arith, omega arith),
       rest,
-    )) xs
+    )) xs (λ _. some)
 
 map-first_chunks : {X Y : Type 0} (f : X → Y) (n k : ℕ) (xs : List X)
     → first_chunks n k (map f xs) ≡ map (map f) (first_chunks n k xs)
@@ -158,22 +147,19 @@ module _ {X : Type 0} (h : List X → List X) (keeps : (s : List X)
   abbrev of_all : List X → List X
   of_all xs = flat_map h (chunks (side * n) xs)
 
-  one_more_slice : (ys : List X) → (side * n ≤ length ys) ⊎ (length ys < side * n)
+  one_more_slice : (ys : List X) → (length ys < side * n) ⊎ (side * n ≤ length ys)
       → of_slices (drop (side * n) ys) ≡ chunks n (of_all (drop (side * n) ys))
       → chunks n (h (take (side * n) ys)) ++ of_slices (drop (side * n) ys)
       ≡ chunks n (h (take (side * n) ys) ++ of_all (drop (side * n) ys))
-  one_more_slice ys (inl wide) rest =
+  one_more_slice ys (inr wide) rest =
       let slice = h (take (side * n) ys) in
       let full : length slice ≡ side * n = omega (arith, keeps (take (side * n) ys), length-take (side * n) ys) in
       ap (λ l. chunks n slice ++ l) rest ∙ sym (chunks-append n side slice (of_all (drop (side * n) ys)) some full)
-  one_more_slice ys (inr narrow) rest = rw (drop_all (side * n) ys (omega arith), chunks-nil {X = X} (side * n))
+  one_more_slice ys (inl narrow) rest = rw (drop_all (side * n) ys (omega arith), chunks-nil {X = X} (side * n))
       (append-nil (chunks n (h (take (side * n) ys))) ∙ ap (chunks n) (sym (append-nil (h (take (side * n) ys)))))
 
   pub chunks_of-chunks : (xs : List X) → (0 < length xs → 0 < side * n) → of_slices xs ≡ chunks n (of_all xs)
-  chunks_of-chunks [] wide = rw (chunks-nil {X = X} (side * n)) (sym (chunks-nil n))
-  chunks_of-chunks (x ∷ xs) wide =
-      let size = wide (omega arith) in
-      chunk_by_chunk (side * n) (λ ys. of_slices ys ≡ chunks n (of_all ys)) size
+  chunks_of-chunks = chunk_by_chunk (side * n) (λ ys. of_slices ys ≡ chunks n (of_all ys))
       (rw (chunks-nil {X = X} (side * n)) (sym (chunks-nil n)))
-      (λ ys there rest. rw (chunks-step (side * n) ys size there)
-      (one_more_slice ys (le_or_lt (side * n) (length ys)) rest)) (x ∷ xs)
+      (λ ys size there rest. rw (chunks-step (side * n) ys size there)
+      (one_more_slice ys (cases_lt (length ys) (side * n)) rest))

@@ -1,8 +1,9 @@
 -- A table with one more entry.
-use Rattle.std.proofs.Common.{◌≡◌, ◌∙◌, ◌<◌, ◌+◌, ◌-◌, ℕ, ℤ, get_or, take, false, ◌||◌, List, [], ◌∷◌, ◌++◌, length, refl, sym}
-use Rattle.std.proofs.{Common.{ap, subst, arith, length-append}, Math.{Bool.{or-false}, Seq.{take-append_seam}}}
-use Rattle.std.proofs.lemmas.{Cmp.{int_eq_equiv}, Int.{ints}, List.{map-append, take_more, Elements.{All-nil, All-push}}}
-use Rattle.std.proofs.lemmas.{List.Folds.{list_any-append}, Map.Keys.{IsDistinct-push}}
+use Rattle.std.proofs.Common.{◌≡◌, ◌∙◌, ◌<◌, ◌-◌, ℤ, take, false, ◌||◌, List, [], ◌∷◌, ◌++◌, length, refl, sym}
+use Rattle.std.proofs.{Common.{IsPermutation, ap, subst, arith, length-append}, Math.Bool.{or-false}}
+use Rattle.std.proofs.lemmas.{Cmp.{int_eq_equiv}, Int.{ints}, List.{map-append, take_at, Elements.{All-nil, All-push}}}
+use Rattle.std.proofs.lemmas.{List.{Folds.{list_any-append}, Sorted.{IsPermutation-map}}}
+use Rattle.std.proofs.lemmas.Map.Keys.{IsDistinct-IsPermutation, IsDistinct-push}
 use Rattle.std.specs.{BTreeSet.{BTreeSet}, List.{IsDistinct, list_any}, Ordering.{int_eq}}
 use Rattle.rt_geo.specs.{Entries.{HasBox, HasLayer}, declared.entry.Entry.{Entry}}
 use Rattle.rt_tree.specs.{Entries.{IsTable, has_id, ids_of, most_entries}, Indexes.{IsIndexed, keeps}}
@@ -38,11 +39,17 @@ pushed loaded new_loaded later new_later entries entry kept box few absent added
 pub pushed-popped : (entries : List Entry) (entry : Entry)
     → take (length (entries ++ entry ∷ []) - 1) (entries ++ entry ∷ []) ≡ entries
 pushed-popped entries entry =
-    ap (λ n. take n (entries ++ entry ∷ [])) (omega (arith, length-append entries (entry ∷ [])))
-    ∙ take-append_seam entries (entry ∷ [])
+    take_at entries (entry ∷ []) (length (entries ++ entry ∷ []) - 1)
+    (omega (arith, length-append entries (entry ∷ [])))
 
 pub int_eq-sym : (a b : ℤ) → int_eq a b ≡ int_eq b a
 int_eq-sym a b = grind (arith, ints)
+
+-- entries in another order have distinct ids too
+pub distinct-IsPermutation : (xs ys : List Entry) → IsPermutation xs ys → IsDistinct int_eq (ids_of xs)
+    → IsDistinct int_eq (ids_of ys)
+distinct-IsPermutation xs ys moved = IsDistinct-IsPermutation int_eq int_eq-sym (ids_of xs) (ids_of ys)
+    (IsPermutation-map (λ (e : Entry). e.id) xs ys moved)
 
 -- a table without entries
 pub IsIndexed-empty : (loaded : List ℤ) (later : BTreeSet ℤ) → ((id : ℤ) → keeps loaded later id ≡ false) → IsIndexed loaded later []
@@ -51,10 +58,3 @@ IsIndexed-empty loaded later none = record {
   table = record { distinct = tt; boxes = All-nil HasBox; layers = All-nil HasLayer; few = omega arith };
   ids_are = none;
 }
-
--- the ids of one entry more
-pub ids_of-more : (entries : List Entry) (place : ℕ) (entry : Entry) → place < length entries → entry ≡ get_or entries place entry
-    → ids_of (take (place + 1) entries) ≡ ids_of (take place entries) ++ entry.id ∷ []
-ids_of-more entries place entry there is =
-    ap ids_of (take_more entries place entry there ∙ ap (λ (e : Entry). take place entries ++ e ∷ []) (sym is))
-    ∙ map-append (λ (e : Entry). e.id) (take place entries) (entry ∷ [])

@@ -7,48 +7,43 @@ use Rattle.std.proofs.lemmas.Map.Keys.{sorted_from_all_adjacent, IsDistinct-IsPe
 use Rattle.std.specs.{BTreeSet.{BTreeSet, contains}, List.{All, IsAllAdjacentAnswer, IsDistinct, list_any}}
 use Rattle.std.specs.List.Sorted.{IsBinarySearchResult, IsPermutation, IsSearchInRange, IsSorted, IsStrictlySortedBy}
 use Rattle.std.specs.{Ordering.{int_cmp, int_eq}, Prelude.{◌↔◌, int_lt, is_ok}}
-use Rattle.std.specs.declared.cmp.Ordering.TheVariants.{Less, Equal, Greater}
+use Rattle.std.specs.declared.cmp.Ordering.TheVariants.{Less, Equal}
 use Rattle.rt_geo.specs.declared.entry.Entry.{Entry}
 use Rattle.rt_tree.specs.{Entries.{ids_of}, Indexes.{AreIdsOf}}
 use Rattle.rt_tree.proofs.EntryLemmas.{has_id-ids_of, int_eq-sym}
 
 -- ---- what a binary search finds
 
-equal : (a id : ℤ) → int_cmp a id ≡ Equal → int_eq id a ≡ true
-equal a id h = grind (arith, ints)
+tied : (a id : ℤ) → int_cmp a id ≡ Equal → int_eq id a ≡ true
+tied a id h = grind (arith, ints)
 
-less : (a id : ℤ) → int_cmp a id ≡ Less → int_eq id a ≡ false
-less a id h = grind (arith, ints)
-
-greater : (a id : ℤ) → int_cmp a id ≡ Greater → int_eq id a ≡ false
-greater a id h = grind (arith, ints)
+apart : (a b : ℤ) → (int_cmp a b ≡ Equal → ⊥) → int_eq b a ≡ false
+apart a b h = grind (arith, ints, h)
 
 pub searched-is : (ids : List ℤ) (id : ℤ) (r : Result ℕ ℕ) → IsSorted int_cmp ids → IsSearchInRange r (length ids) → IsBinarySearchResult (λ other. int_cmp other id) ids r
     → is_ok r ≡ list_any (int_eq id) ids
 searched-is ids id (Ok place) sorted bound found =
-    sym (list_any_at (int_eq id) ids place (pos 0) bound (equal (get_or ids place (pos 0)) id (found (pos 0))))
+    sym (list_any_at (int_eq id) ids place (pos 0) bound (tied (get_or ids place (pos 0)) id (found (pos 0))))
 searched-is ids id (Err place) sorted bound found = sym (list_any_none (int_eq id) ids here)
   where
     here : All (λ a. int_eq id a ≡ false) ids
     here k d h =
         let point = found (searchable_from_sorted int_cmp_total (λ (x : ℤ). x) ids id sorted) in
         elim (cases_lt k place) [
-          | inl before ↦ less (get_or ids k d) id (point.0 k d (omega arith) before)
-          | inr after ↦ greater (get_or ids k d) id (point.1 k d after h)
+          | inl before ↦ apart (get_or ids k d) id (λ e. let is = point.0 k d (omega arith) before in absurd cc)
+          | inr after ↦ apart (get_or ids k d) id (λ e. let is = point.1 k d after h in absurd cc)
         ]
 
 -- ---- ids that rise differ
-
-apart : (a b : ℤ) → int_cmp a b ≡ Less → int_eq a b ≡ false
-apart a b h = grind (arith, ints)
 
 -- those that rise once they are sorted
 pub distinct-from_rising : (ids sorted : List ℤ) → IsPermutation ids sorted → IsStrictlySortedBy int_cmp sorted
     → IsDistinct int_eq ids
 distinct-from_rising ids sorted moved rising =
     IsDistinct-IsPermutation int_eq int_eq-sym sorted ids (IsPermutation-sym ids sorted moved)
-    (IsDistinct-from_apart int_eq sorted (λ i j d h k. apart (get_or sorted i d) (get_or sorted j d)
-    (Less-from_sorted int_cmp sorted i j d rising h k)))
+    (IsDistinct-from_apart int_eq sorted (λ i j d h k. int_eq-sym (get_or sorted i d) (get_or sorted j d)
+    ∙ apart (get_or sorted i d) (get_or sorted j d) (λ e. let is = Less-from_sorted int_cmp sorted i j d rising h k in
+    absurd cc)))
 
 -- the ids of entries, sorted, are kept where nothing was pushed
 pub ids_are-sorted : (entries : List Entry) (ids sorted : List ℤ) (none : BTreeSet ℤ) → ids ≡ ids_of entries → IsPermutation ids sorted

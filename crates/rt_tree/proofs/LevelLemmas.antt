@@ -33,10 +33,13 @@ sizes_above-fuel (suc fuel) (suc more) fanout size two some f g =
     ap (λ rest. above ∷ rest) (further (nat_le above 1) _ _ (λ e. sizes_above-fuel fuel more fanout above two
     positive (less_fuel above size fuel halves f e) (less_fuel above size more halves g e)))
 
+-- the sizes of a level of so many, and of those above it
+abbrev pub sizes_from : (fanout size : ℕ) → List ℕ
+sizes_from fanout size = size ∷ (if nat_le size 1 then [] else sizes_above size fanout size)
+
 -- one level after another: the level above one of so many items, and those above that
 pub sizes_above-step : (fanout size : ℕ) → 2 ≤ fanout → 0 < size
-    → let above = div_ceil size fanout in sizes_above size fanout size ≡ above ∷
-    (if nat_le above 1 then [] else sizes_above above fanout above)
+    → sizes_above size fanout size ≡ sizes_from fanout (div_ceil size fanout)
 sizes_above-step fanout zero two some = absurd (omega arith)
 sizes_above-step fanout (suc size) two some =
     let above = div_ceil (suc size) fanout in
@@ -44,6 +47,11 @@ sizes_above-step fanout (suc size) two some =
     let positive = div_ceil-positive (suc size) fanout two some in
     ap (λ rest. above ∷ rest) (further (nat_le above 1) _ _ (λ e. sizes_above-fuel size above fanout above two
     positive (less_fuel above (suc size) size halves (omega arith) e) (omega arith)))
+
+pub sizes_from-step : (fanout size : ℕ) → 2 ≤ fanout → 1 < size
+    → sizes_from fanout size ≡ size ∷ sizes_from fanout (div_ceil size fanout)
+sizes_from-step fanout size several more = let above : nat_le size 1 ≡ false = grind (arith, nat_tests) in
+    rw above (ap (λ l. size ∷ l) (sizes_above-step fanout size several (omega arith)))
 
 -- ---- a loop that has told the levels up to one of so many
 

@@ -2,12 +2,12 @@
 use Rattle.std.proofs.Common.{◌≡◌, ◌<◌, ◌≤◌, ◌+◌, ◌-◌, ℕ, List, [], ◌∷◌, ◌++◌, length, map, take, drop, set, get_or, min, refl}
 use Rattle.std.proofs.{Common.{sym, ◌∙◌, ap, arith, append_assoc, ℤ, ◌+ℤ◌, FitsSigned, of_z, to_z, w32}, lemmas.Int.{to_z-of_z}}
 use Rattle.std.proofs.lemmas.{Grind.{drop_more_same, take-set_at}, Slice.{drop-put_mid, take-put_mid}}
-use Rattle.std.proofs.lemmas.List.{drop-set-lt, get_or-drop, length-set, drop-drop, length-append, take-append-drop}
-use Rattle.std.proofs.lemmas.List.{length-drop, length-take, map-append, take-append-le, take_all, take_more}
+use Rattle.std.proofs.lemmas.List.{map_more, drop-set-lt, get_or-drop, length-set, drop-drop, length-append}
+use Rattle.std.proofs.lemmas.List.{drop_min, take_min, length-drop, length-take, map-append, take_all, take_more}
 use borrow.Rule.Slice.PartMut.{post_of, put_mid}
 use Rattle.std.specs.List.{enumerate_from}
 use Rattle.rt_tree.specs.Packing.{chunks}
-use Rattle.rt_tree.proofs.ChunkLemmas.{chunks-front}
+use Rattle.rt_tree.proofs.ChunkLemmas.{chunks-step}
 
 -- ---- each element gets a key
 
@@ -30,17 +30,10 @@ keys_more key items i k x keys there e k_is is =
     let long : 0 + length (take i items) ≡ i = omega (arith, length-take i items) in
     let more : take (i + 1) items ≡ take i items ++ x ∷ [] = take_more items i x there
     ∙ ap (λ y. take i items ++ y ∷ []) (sym e) in
-    sym (ap (λ l. map key (enumerate_from 0 l)) more ∙ ap (map key) (enumerate_from-push 0 (take i items) x)
-    ∙ map-append key (enumerate_from 0 (take i items)) ((0 + length (take i items), x) ∷ [])
-    ∙ ap (λ n. map key (enumerate_from 0 (take i items)) ++ key (n, x) ∷ []) long
-    ∙ ap (λ m. map key (enumerate_from 0 (take i items)) ++ m ∷ []) (sym k_is) ∙ ap (λ l. l ++ k ∷ []) (sym is))
+    rw (is, k_is, more, enumerate_from-push 0 (take i items) x, long)
+    (sym (map-append key (enumerate_from 0 (take i items)) ((i, x) ∷ [])))
 
 -- ---- each element is changed in its place
-
-pub get_or_behind : {X : Type 0} (front : List X) (y d : X) (back : List X)
-    → get_or (front ++ y ∷ back) (length front) d ≡ y
-get_or_behind [] y d back = refl
-get_or_behind (z ∷ front) y d back = get_or_behind front y d back
 
 -- the elements from a place on, where they are the same from there on
 pub unchanged : (start : ℕ) (old keys : List ℕ) → drop start keys ≡ drop start old → (i : ℕ) → start ≤ i
@@ -62,8 +55,8 @@ mapped_more f old new i x there m is =
     record {
       long = length-set new i x ∙ m.long;
       done = take-set_at new i (i + 1) x refl (omega (arith, m.long)) ∙ ap (λ l. l ++ x ∷ []) m.done
-          ∙ ap (λ y. map f (take i old) ++ y ∷ []) (is ∙ ap f (unchanged i old new m.later i (omega arith))) ∙ sym (map-append f (take i old) (get_or old i 0 ∷ []))
-          ∙ ap (map f) (sym (take_more old i 0 there));
+          ∙ ap (λ y. map f (take i old) ++ y ∷ []) (is ∙ ap f (unchanged i old new m.later i (omega arith)))
+          ∙ sym (map_more f old i 0 there);
       later = drop-set-lt (i + 1) new i x (omega arith) ∙ drop_more_same new old i m.later;
     }
 
@@ -112,15 +105,10 @@ pub chunks-at : {X : Type 0} (size start n : ℕ) (xs : List X) → 0 < size →
     → chunks size (drop start xs) ≡ take (start + n - start) (drop start xs) ∷ chunks size (drop (start + n) xs)
 chunks-at size start n xs some there e =
     let rest = drop start xs in
-    let whole = take-append-drop n rest in
-    let long = length-take n rest in
     let left = length-drop start xs in
+    let size_is : min size (length rest) ≡ n = omega arith in
     let taken : n ≡ start + n - start = omega arith in
-    ap (chunks size) (sym whole) ∙ chunks-front size (take n rest) (drop n rest) some
-    (omega arith) (omega (arith, ap length whole))
-    ∙ ap (λ l. take n rest ∷ chunks size l) (drop-drop n start xs)
-    ∙ ap (λ k. take k rest ∷ chunks size (drop (start + n) xs)) taken
-
--- the front of a list that is as long as what is taken
-pub front_of : {X : Type 0} (n : ℕ) (xs ys : List X) → length xs ≡ n → take n (xs ++ ys) ≡ xs
-front_of n xs ys long = take-append-le n xs ys (omega arith) ∙ take_all n xs (omega arith)
+    chunks-step size rest some (omega arith)
+    ∙ ap (λ l. l ∷ chunks size (drop size rest)) (sym (take_min size rest) ∙ ap (λ k. take k rest) (size_is ∙ taken))
+    ∙ ap (λ l. take (start + n - start) rest ∷ chunks size l) (sym (drop_min size rest) ∙ ap (λ k. drop k rest) size_is
+    ∙ drop-drop n start xs)

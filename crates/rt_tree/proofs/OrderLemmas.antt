@@ -1,27 +1,25 @@
 -- Lists in the order of another list, or by another comparison.
-use Rattle.std.proofs.Common.{◌≡◌, ℕ, Ordering, List, [], ◌∷◌, ◌++◌, map, cond, true, false, refl, sym, ◌∙◌, ap, subst}
-use Rattle.std.proofs.{Common.{append_assoc, IsPermutation, IsSorted}, lemmas.{Cmp.{nat_cmp_total}, List.{map-append}}}
-use Rattle.std.proofs.lemmas.{List.Elements.{All-from_recursion, recursion_from_All}, Map.Lookups.{exact_unsigned}}
+use Rattle.std.proofs.Common.{◌≡◌, Ordering, List, [], ◌∷◌, ◌++◌, map, inl, inr, refl, sym, ◌∙◌, ap}
+use Rattle.std.proofs.{Common.{append_assoc, IsPermutation}, lemmas.{Bool.{cases_Bool}, List.{map-append}}}
+use Rattle.std.proofs.lemmas.{List.Elements.{All-append, All-from_recursion, All-nil, recursion_from_All}}
 use Rattle.std.proofs.lemmas.List.Sorted.{All-permutation, IsPermutation-append_comm, IsPermutation-append_left}
 use Rattle.std.proofs.lemmas.List.Sorted.{IsPermutation-append_right, IsPermutation-refl, IsPermutation-trans}
-use Rattle.std.specs.{List.{AllByRecursion, flat_map}, Ordering.{is_gt, nat_cmp}}
+use Rattle.std.specs.{List.{All, AllByRecursion, flat_map}, Ordering.{is_gt}}
 use Rattle.rt_tree.specs.Sorting.{put, sorted}
-use Rattle.rt_tree.proofs.{Permutations.{along_permutation}, SortingLemmas.{sorted-unique_by_all}}
+use Rattle.rt_tree.proofs.{Permutations.{along_permutation}, SortingLemmas.{IsPermutation-sorted}}
 
--- what a sort of numbers gives
-pub numbers_sorted : (xs ys : List ℕ) → IsPermutation xs ys → IsSorted nat_cmp ys → ys ≡ sorted nat_cmp xs
-numbers_sorted = sorted-unique_by_all nat_cmp nat_cmp_total exact_unsigned
+pub all_moved : {X : Type 0} (P : X → Type 0) (xs ys : List X) → IsPermutation xs ys → AllByRecursion P xs
+    → AllByRecursion P ys
+all_moved P xs ys h a = recursion_from_All P ys (All-permutation P xs ys h (All-from_recursion P xs a))
 
 -- ---- by what a function gives
 module _ {X Y : Type 0} (cmp : Y → Y → Ordering) (f : X → Y) where
   put-map : (x : X) (xs : List X) → put cmp (f x) (map f xs) ≡ map f (put (λ a b. cmp (f a) (f b)) x xs)
   put-map x [] = refl
-  put-map x (y ∷ ys) =
-      elim (is_gt (cmp (f x) (f y))) as (λ b. cond b (f y ∷ put cmp (f x) (map f ys)) (f x ∷ f y ∷ map f ys) ≡ map f
-      (cond b (y ∷ put (λ a b. cmp (f a) (f b)) x ys) (x ∷ y ∷ ys))) [
-        | true ↦ ap (λ l. f y ∷ l) (put-map x ys)
-        | false ↦ refl
-      ]
+  put-map x (y ∷ ys) = elim (cases_Bool (is_gt (cmp (f x) (f y)))) [
+    | inl h ↦ rw h (ap (λ l. f y ∷ l) (put-map x ys))
+    | inr h ↦ rw h refl
+  ]
 
   pub sorted-map : (xs : List X) → sorted cmp (map f xs) ≡ map f (sorted (λ a b. cmp (f a) (f b)) xs)
   sorted-map [] = refl
@@ -34,21 +32,10 @@ module _ {X : Type 0} (cmp other : X → X → Ordering) (P : X → Type 0) (sam
   put-same x [] p a = refl
   put-same x (y ∷ ys) p a = rw (same x y p a.0, put-same x ys p a.1) refl
 
-  all-put : (x : X) (ys : List X) → P x → AllByRecursion P ys → AllByRecursion P (put other x ys)
-  all-put x [] p a = (p, tt)
-  all-put x (y ∷ ys) p a = elim (is_gt (other x y)) as (λ b. AllByRecursion P (cond b (y ∷ put other x ys)
-      (x ∷ y ∷ ys))) [
-        | true ↦ (a.0, all-put x ys p a.1)
-        | false ↦ (p, a)
-      ]
-
-  all-sorted : (xs : List X) → AllByRecursion P xs → AllByRecursion P (sorted other xs)
-  all-sorted [] a = tt
-  all-sorted (x ∷ xs) a = all-put x (sorted other xs) a.0 (all-sorted xs a.1)
-
   pub sorted-same : (xs : List X) → AllByRecursion P xs → sorted cmp xs ≡ sorted other xs
   sorted-same [] a = refl
-  sorted-same (x ∷ xs) a = ap (put cmp x) (sorted-same xs a.1) ∙ put-same x (sorted other xs) a.0 (all-sorted xs a.1)
+  sorted-same (x ∷ xs) a = ap (put cmp x) (sorted-same xs a.1) ∙ put-same x (sorted other xs) a.0
+      (all_moved P xs (sorted other xs) (IsPermutation-sorted other xs) a.1)
 
 -- ---- lists of lists
 
@@ -67,20 +54,14 @@ pub all_append : {X : Type 0} (P : X → Type 0) (xs ys : List X) → AllByRecur
 all_append P [] ys a b = b
 all_append P (x ∷ xs) ys a b = (a.0, all_append P xs ys a.1 b)
 
-pub all_flat_map : {X Y : Type 0} (P : Y → Type 0) {Q : X → Type 0} (f : X → List Y) → ((x : X) → Q x
-    → AllByRecursion P (f x)) → (xs : List X) → AllByRecursion Q xs → AllByRecursion P (flat_map f xs)
-all_flat_map P f holds [] a = tt
-all_flat_map P f holds (x ∷ xs) a = all_append P (f x) (flat_map f xs) (holds x a.0) (all_flat_map P f holds xs a.1)
-
-pub all_moved : {X : Type 0} (P : X → Type 0) (xs ys : List X) → IsPermutation xs ys → AllByRecursion P xs
-    → AllByRecursion P ys
-all_moved P xs ys h a = recursion_from_All P ys (All-permutation P xs ys h (All-from_recursion P xs a))
+pub all_flat_map : {X Y : Type 0} (P : Y → Type 0) {Q : X → Type 0} (f : X → List Y) → ((x : X) → Q x → All P (f x))
+    → (xs : List X) → AllByRecursion Q xs → All P (flat_map f xs)
+all_flat_map P f holds [] a = All-nil P
+all_flat_map P f holds (x ∷ xs) a = All-append P (f x) (flat_map f xs) (holds x a.0) (all_flat_map P f holds xs a.1)
 
 exchanged : {Y : Type 0} (a b c : List Y) → IsPermutation (a ++ (b ++ c)) (b ++ (a ++ c))
-exchanged a b c =
-    subst (λ l. IsPermutation l (b ++ (a ++ c))) (append_assoc a b c)
-    (subst (IsPermutation ((a ++ b) ++ c)) (append_assoc b a c) (IsPermutation-append_left c (a ++ b) (b ++ a)
-    (IsPermutation-append_comm a b)))
+exchanged a b c = rw (← append_assoc a b c, ← append_assoc b a c)
+    (IsPermutation-append_left c (a ++ b) (b ++ a) (IsPermutation-append_comm a b))
 
 -- what stands under elements is moved with them
 pub flat_map-IsPermutation : {X Y : Type 0} (f : X → List Y) (xs ys : List X) → IsPermutation xs ys

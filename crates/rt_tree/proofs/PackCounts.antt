@@ -1,14 +1,14 @@
 -- How many nodes a packing makes, level by level.
 use Rattle.std.proofs.Common.{◌≡◌, ◌<◌, ◌≤◌, ◌+◌, ◌-◌, ◌*◌, ◌^◌, ℕ, zero, suc, true, false, nat_le, List, [], ◌∷◌, ◌++◌, length}
 use Rattle.std.proofs.Common.{refl, sym, ◌∙◌, ap, subst, arith, append_assoc, inl, inr, length-append}
-use Rattle.std.proofs.lemmas.{Bool.Decides.{nat_tests}, List.Elements.{All-from_recursion, recursion_from_All}}
+use Rattle.std.proofs.lemmas.{Bool.{cases_lt}, Bool.Decides.{nat_tests}, List.Elements.{All-from_recursion}}
 use Rattle.std.proofs.lemmas.List.Sorted.{All-permutation, length_permutation, sum_by-IsPermutation}
 use Rattle.std.proofs.lemmas.List.Sums.{sum_by-append, sum_by-cons}
 use Rattle.std.specs.{Int.{div_ceil}, List.{All, sum_by}}
 use Rattle.rt_geo.specs.{Boxes.{Rect}, Laws.{Extent, extent_of_entry}, declared.entry.Entry.{Entry}}
 use Rattle.rt_tree.specs.{Packed.{extent_of_node}, Packing.{groups, joined, node_over, nodes_from, nodes_over}}
 use Rattle.rt_tree.specs.{SortKeys.{IsInPlane}, declared.tree.Node.{Node}}
-use Rattle.rt_tree.proofs.{ChunkLemmas.{le_or_lt, length-chunks}, TileLemmas.{groups-chunks, groups-moved}}
+use Rattle.rt_tree.proofs.{ChunkLemmas.{length-chunks}, TileLemmas.{groups-chunks, groups-moved}}
 use Rattle.rt_tree.proofs.LevelLemmas.{div_ceil-halves, div_ceil-positive, power_left, power_more}
 use Rattle.rt_tree.proofs.Soundness.{chunk_groups, length-nodes_over, nodes_over-in_plane, sum_by-ones}
 
@@ -54,8 +54,7 @@ over_in_plane {X} extent size fanout level first items several a =
     All-from_recursion (λ n. IsInPlane n.bounds) (nodes_over extent size level first gs)
     (nodes_over-in_plane extent size fanout level first gs (chunk_groups fanout P gs (omega arith)
     (groups-chunks (λ x. (extent x).bounds) items fanout (omega arith))
-    (recursion_from_All P (joined gs) (All-permutation P items (joined gs)
-    (groups-moved (λ x. (extent x).bounds) items fanout several) a))))
+    (All-permutation P items (joined gs) (groups-moved (λ x. (extent x).bounds) items fanout several) a)))
 
 -- a loop that makes one level after another: it has made so many nodes, and then those of this level
 pub record IsCounted (level : ℕ) (nodes made : List Node) : Type 0 where
@@ -107,9 +106,9 @@ module _ (fanout : ℕ) (several : 2 ≤ fanout) where
       → nodes_from fuel fanout level first made ≡ nodes_from other fanout level first made
   nodes_from-fuel zero other level first made f g = sym (nodes_from-last other level first made (omega arith))
   nodes_from-fuel (suc fuel) zero level first made f g = nodes_from-last (suc fuel) level first made (omega arith)
-  nodes_from-fuel (suc fuel) (suc other) level first made f g = elim (le_or_lt (length made) 1) [
-    | inl h ↦ nodes_from-last (suc fuel) level first made h ∙ sym (nodes_from-last (suc other) level first made h)
-    | inr h ↦ nodes_from-more fuel level first made h
+  nodes_from-fuel (suc fuel) (suc other) level first made f g = elim (cases_lt 1 (length made)) [
+    | inr h ↦ nodes_from-last (suc fuel) level first made h ∙ sym (nodes_from-last (suc other) level first made h)
+    | inl h ↦ nodes_from-more fuel level first made h
         ∙ ap (λ l. joined (cut made) ++ l) (nodes_from-fuel fuel other (suc level) (first + length made)
         (above level first made) (fewer level first fuel made h f) (fewer level first other made h g))
         ∙ sym (nodes_from-more other level first made h)
@@ -130,9 +129,8 @@ module _ (fanout : ℕ) (several : 2 ≤ fanout) where
       let moved = groups-moved (λ (n : Node). n.bounds) made fanout several in
       let long : length (nodes ++ ordered) ≡ length nodes + length made = omega
       (arith, length-append nodes ordered, length_permutation made ordered moved) in
-      append_assoc nodes ordered (nodes_from fuel fanout (suc level) (length (nodes ++ ordered)) new)
-      ∙ ap (λ n. nodes ++ (ordered ++ nodes_from fuel fanout (suc level) n new)) long
-      ∙ ap (λ l. nodes ++ l) (sym (nodes_from-more fuel level (length nodes) made some))
+      rw (long, nodes_from-more fuel level (length nodes) made some)
+      (append_assoc nodes ordered (nodes_from fuel fanout (suc level) (length nodes + length made) new))
 
   -- ---- a loop that makes one level after another
 
@@ -161,16 +159,6 @@ module _ (fanout : ℕ) (several : 2 ≤ fanout) where
         );
       }
 
-  -- the first level
-  pub counted_first : (made : List Node) → 2 * length made ≤ 16777217 → sum_by (λ n. n.size) made ≤ 16777216
-      → IsCounted 1 [] made
-  counted_first made few weight = record {
-    few_levels = omega arith;
-    few = omega (arith, few);
-    few_nodes = omega (arith, few);
-    weight = weight;
-  }
-
   -- the nodes of level 1, over the groups of entries
   pub leaf_nodes-few : (box : Entry → Rect) (entries : List Entry) → length entries ≤ 16777216
       → (2 * length (leaf_nodes (groups box fanout entries)) ≤ 16777217)
@@ -198,8 +186,3 @@ module _ (fanout : ℕ) (several : 2 ≤ fanout) where
       ap (λ l. after ++ l) (nodes_from-fuel (length new) fuel (suc level) (length after) new (omega arith)
       (fewer level (length nodes) fuel made some (omega arith))) ∙ course fuel level nodes made some
       ∙ ap (λ n. nodes ++ nodes_from n fanout level (length nodes) made) one_less ∙ so_far
-
-  pub course_done : (level : ℕ) (nodes made whole : List Node) → length made ≤ 1
-      → nodes ++ nodes_from (length made) fanout level (length nodes) made ≡ whole → nodes ++ made ≡ whole
-  course_done level nodes made whole last course = ap (λ l. nodes ++ l) (sym (nodes_from-last (length made) level
-      (length nodes) made last)) ∙ course

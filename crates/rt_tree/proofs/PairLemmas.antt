@@ -55,7 +55,4 @@ pub lent_part : {X Y : Type 0} (f : X → Y) (first count : ℕ) (lent : List Y)
     → take (first + count - first) (drop first lent) ≡ map f (take count (drop first xs))
 lent_part f first count lent xs is =
     let same : first + count - first ≡ count = omega arith in
-    ap (λ l. take (first + count - first) (drop first l)) is
-    ∙ ap (λ n. take n (drop first (map f xs))) same
-    ∙ ap (take count) (drop-map f first xs)
-    ∙ take-map f count (drop first xs)
+    rw (is, same, drop-map f first xs) (take-map f count (drop first xs))

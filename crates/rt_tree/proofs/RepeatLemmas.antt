@@ -1,9 +1,10 @@
 -- The first entry whose id an earlier one has.
-use Rattle.std.proofs.Common.{◌≡◌, ◌∙◌, ◌<◌, ◌+◌, ℕ, ℤ, Bool, true, false, ◌||◌, List, [], ◌∷◌, ◌++◌, length, length-append}
+use Rattle.std.proofs.Common.{◌≡◌, ◌∙◌, ◌<◌, ◌+◌, ℕ, ℤ, true, false, ◌||◌, List, [], ◌∷◌, ◌++◌, length, length-append}
 use Rattle.std.proofs.Common.{drop, take, Option, Some, None, refl, sym, subst, ap, add-one, append_assoc, arith, slice_get}
-use Rattle.std.proofs.{Common.{suc}, Math.Seq.{drop-cons}, lemmas.{Cmp.{int_eq_equiv}, Map.Keys.{IsDistinct-push}}}
-use Rattle.std.proofs.lemmas.List.{append-nil, length-take-le, map-append, take_more}
+use Rattle.std.proofs.lemmas.{Bool.{cases_Bool}, Map.Keys.{IsDistinct-push}}
 use Rattle.std.proofs.lemmas.Option.{get_or_from_slice_get, slice_get_within}
+use Rattle.std.proofs.{Common.{suc, inl, inr}, Math.Seq.{drop-cons}, lemmas.Cmp.{int_eq_equiv}}
+use Rattle.std.proofs.lemmas.List.{append-nil, length-take-le, map-append, take_more}
 use Rattle.std.specs.{List.{AllByRecursion, IsDistinct}, Ordering.{int_eq}, Prelude.{if◌then◌else◌}}
 use Rattle.rt_geo.specs.declared.entry.Entry.{Entry}
 use Rattle.rt_tree.specs.Entries.{first_repeat, has_id, ids_of, repeat_after}
@@ -19,13 +20,10 @@ repeat_with so_far entry None = if has_id so_far entry.id then Some (length so_f
 repeat_after-push : (so_far entries : List Entry) (entry : Entry)
     → repeat_after so_far (entries ++ entry ∷ []) ≡ repeat_with (so_far ++ entries) entry (repeat_after so_far entries)
 repeat_after-push so_far [] entry = rw (append-nil so_far) refl
-repeat_after-push so_far (e ∷ entries) entry = by (has_id so_far e.id) refl (repeat_after-push (so_far ++ e ∷ []) entries entry)
-  where
-    by : (b : Bool) → has_id so_far e.id ≡ b
-        → repeat_after (so_far ++ e ∷ []) (entries ++ entry ∷ []) ≡ repeat_with ((so_far ++ e ∷ []) ++ entries) entry (repeat_after (so_far ++ e ∷ []) entries)
-        → repeat_after so_far (e ∷ (entries ++ entry ∷ [])) ≡ repeat_with (so_far ++ e ∷ entries) entry (repeat_after so_far (e ∷ entries))
-    by true h later = rw h refl
-    by false h later = rw (h, ← append_assoc so_far (e ∷ []) entries) later
+repeat_after-push so_far (e ∷ entries) entry = elim (cases_Bool (has_id so_far e.id)) [
+  | inl h ↦ rw h refl
+  | inr h ↦ rw (h, ← append_assoc so_far (e ∷ []) entries) (repeat_after-push (so_far ++ e ∷ []) entries entry)
+]
 
 pub first_repeat-push : (entries : List Entry) (entry : Entry)
     → first_repeat (entries ++ entry ∷ []) ≡ repeat_with entries entry (first_repeat entries)
@@ -41,16 +39,11 @@ distinct_more so_far e d new =
 distinct_after : (so_far entries : List Entry) → IsDistinct int_eq (ids_of so_far) → repeat_after so_far entries ≡ None
     → IsDistinct int_eq (ids_of (so_far ++ entries))
 distinct_after so_far [] d once = rw (append-nil so_far) d
-distinct_after so_far (e ∷ entries) d once = by (has_id so_far e.id) refl (distinct_after (so_far ++ e ∷ []) entries)
-  where
-    by : (b : Bool) → has_id so_far e.id ≡ b
-        → (IsDistinct int_eq (ids_of (so_far ++ e ∷ [])) → repeat_after (so_far ++ e ∷ []) entries ≡ None → IsDistinct int_eq (ids_of ((so_far ++ e ∷ []) ++ entries)))
-        → IsDistinct int_eq (ids_of (so_far ++ e ∷ entries))
-    by true h more = let bad : Some (length so_far) ≡ None = rw h at once in absurd cc
-    by false h more =
-        let later : repeat_after (so_far ++ e ∷ []) entries ≡ None = rw h at once in
-        subst (λ es. IsDistinct int_eq (ids_of es)) (append_assoc so_far (e ∷ []) entries)
-        (more (distinct_more so_far e d h) later)
+distinct_after so_far (e ∷ entries) d once = elim (cases_Bool (has_id so_far e.id)) [
+  | inl h ↦ let bad : Some (length so_far) ≡ None = rw h at once in absurd cc
+  | inr h ↦ subst (λ es. IsDistinct int_eq (ids_of es)) (append_assoc so_far (e ∷ []) entries)
+      (distinct_after (so_far ++ e ∷ []) entries (distinct_more so_far e d h) (rw h at once))
+]
 
 pub distinct-from_once : (entries : List Entry) → first_repeat entries ≡ None → IsDistinct int_eq (ids_of entries)
 unfolding IsDistinct
@@ -103,16 +96,13 @@ module _ (entries : List Entry) (place : ℕ) (entry : Entry) (at : slice_get en
 
 repeat_after-below : (so_far entries : List Entry) (place : ℕ) → repeat_after so_far entries ≡ Some place → place < length so_far + length entries
 repeat_after-below so_far [] place e = absurd cc
-repeat_after-below so_far (entry ∷ more) place e = by (has_id so_far entry.id) refl (repeat_after-below (so_far ++ entry ∷ []) more place)
-  where
-    by : (b : Bool) → has_id so_far entry.id ≡ b
-        → (repeat_after (so_far ++ entry ∷ []) more ≡ Some place → place < length (so_far ++ entry ∷ []) + length more)
-        → place < length so_far + length (entry ∷ more)
-    by true h later =
-        let here : Some (length so_far) ≡ Some place = rw h at e in
-        let is : length so_far ≡ place = cc in
-        omega arith
-    by false h later = omega (arith, later (rw h at e), length-append so_far (entry ∷ []))
+repeat_after-below so_far (entry ∷ more) place e = elim (cases_Bool (has_id so_far entry.id)) [
+  | inl h ↦
+      let here : Some (length so_far) ≡ Some place = rw h at e in
+      let is : length so_far ≡ place = cc in omega arith
+  | inr h ↦
+      omega (arith, repeat_after-below (so_far ++ entry ∷ []) more place (rw h at e), length-append so_far (entry ∷ []))
+]
 
 pub first_repeat-below : (entries : List Entry) (place : ℕ) → first_repeat entries ≡ Some place → place < length entries
 first_repeat-below entries place e = omega (arith, repeat_after-below [] entries place e)

@@ -1,9 +1,9 @@
 -- A packed tree is sound.
 use Rattle.std.proofs.Common.{◌≡◌, ◌<◌, ◌≤◌, ◌+◌, ℕ, zero, suc, Bool, true, List, [], ◌∷◌, ◌++◌, length, map, take, drop, refl}
-use Rattle.std.proofs.{Common.{sym, ◌∙◌, ap, subst, arith, append_assoc, length-append}, Math.Seq.{drop-append_seam}}
-use Rattle.std.proofs.lemmas.{Grind.{flat_map-append}, List.{drop-append-le, length-drop, take-append-le, take_all}}
-use Rattle.std.proofs.lemmas.List.Sums.{sum_by-cons}
-use Rattle.std.specs.{List.{AllByRecursion, flat_map, fold, reduce, sum_by}, Prelude.{unwrap_or}}
+use Rattle.std.proofs.lemmas.List.{drop_at, take_at, Elements.{recursion_from_All}, Sums.{sum_by-cons}}
+use Rattle.std.proofs.{Common.{sym, ◌∙◌, ap, subst, arith, append_assoc, length-append, rules}}
+use Rattle.std.proofs.lemmas.{Grind.{flat_map-append}, List.{drop-append-le, length-drop, take-append-le}}
+use Rattle.std.specs.{List.{All, AllByRecursion, flat_map, fold, reduce, sum_by}, Prelude.{unwrap_or}}
 use Rattle.rt_geo.specs.{Boxes.{Rect, hull, inside, plane}, Entries.{HasBox, HasLayer}, Lemmas.Layers.{HasSome-only}}
 use Rattle.rt_geo.specs.{Laws.{Extent, IsBoxInside, IsPart, extent_of_entry}, Layers.{HasSome, no_layers, subset, union}}
 use Rattle.rt_geo.specs.Lemmas.Boxes.{IsRect-hull, hull-inside, inside-hull_left, inside-hull_right, inside-same, inside-trans}
@@ -13,23 +13,16 @@ use Rattle.rt_geo.specs.declared.layers.Layers.{Layers}
 use Rattle.rt_tree.specs.Packed.{Packed, IsLeafNode, IsSubtree, child_nodes, entries_under, extent_of_node, hull_of, no_box}
 use Rattle.rt_tree.specs.{Packed.{union_of}, Packing.{chunks, joined, node_over, nodes_over}, SortKeys.{IsInPlane}}
 use Rattle.rt_tree.specs.declared.tree.Node.{Node}
-use Rattle.rt_tree.proofs.ChunkLemmas.{chunks-size}
+use Rattle.rt_tree.proofs.{ChunkLemmas.{chunks-All, chunks-size}, OrderLemmas.{flat_map-same}}
 
 -- ---- lists
-
--- a part of a list is the same where more stands behind the list
-part_more : {X : Type 0} (xs more : List X) (first count : ℕ) → first + count ≤ length xs
-    → take count (drop first (xs ++ more)) ≡ take count (drop first xs)
-part_more xs more first count h =
-    ap (take count) (drop-append-le first xs more (omega arith))
-    ∙ take-append-le count (drop first xs) more (omega (arith, length-drop first xs))
 
 -- a group that stands behind others
 pub group_at : {X : Type 0} (front group rest : List X) → take (length group) (drop (length front) (front ++
     (group ++ rest))) ≡ group
 group_at front group rest =
-    ap (take (length group)) (drop-append_seam front (group ++ rest))
-    ∙ take-append-le (length group) group rest (omega arith) ∙ take_all (length group) group (omega arith)
+    ap (take (length group)) (drop_at front (group ++ rest) (length front) refl)
+    ∙ take_at group rest (length group) refl
 
 pub all_map : {X : Type 0} (P Q : X → Type 0) → ((x : X) → P x → Q x) → (xs : List X) → AllByRecursion P xs
     → AllByRecursion Q xs
@@ -42,55 +35,47 @@ all_map P Q f (x ∷ xs) a = (f x a.0, all_map P Q f xs a.1)
 abbrev reduced : {X : Type 0} → (X → X → X) → (none : X) → List X → X
 reduced f none xs = unwrap_or (reduce f xs) none
 
-module _ {X : Type 0} (f : X → X → X) where
-  -- what two have and what is made of them, all have and what is made of all
-  kept-fold : (P : X → Type 0) → ((a b : X) → P a → P b → P (f a b)) → (x : X) (xs : List X) → P x
-      → AllByRecursion P xs → P (fold f x xs)
-  kept-fold P kept x [] h a = h
-  kept-fold P kept x (y ∷ xs) h a = kept-fold P kept (f x y) xs (kept x y h a.0) a.1
+module _ {X Y : Type 0} (show : X → Y) (f : Y → Y → Y) where
+  -- what each of a group shows, and what two make of it, the whole group makes
+  kept-fold : (P : Y → Type 0) → ((a b : Y) → P a → P b → P (f a b)) → (y : Y) (xs : List X) → P y
+      → AllByRecursion (λ x. P (show x)) xs → P (fold f y (map show xs))
+  kept-fold P kept y [] h a = h
+  kept-fold P kept y (x ∷ xs) h a = kept-fold P kept (f y (show x)) xs (kept y (show x) h a.0) a.1
 
-  module _ (is_part : X → X → Bool) (same : (a : X) → is_part a a ≡ true)
-      (trans : (a b c : X) → is_part a b ≡ true → is_part b c ≡ true → is_part a c ≡ true)
-      (left : (a b : X) → is_part a (f a b) ≡ true) (right : (a b : X) → is_part b (f a b) ≡ true) where
+  kept-reduced : (P : Y → Type 0) → ((a b : Y) → P a → P b → P (f a b)) → (none : Y) (xs : List X) → 0 < length xs
+      → AllByRecursion (λ x. P (show x)) xs → P (reduced f none (map show xs))
+  kept-reduced P kept none [] some a = absurd (omega arith)
+  kept-reduced P kept none (x ∷ xs) some a = kept-fold P kept (show x) xs a.0 a.1
+
+  module _ (is_part : Y → Y → Bool) (same : (a : Y) → is_part a a ≡ true)
+      (trans : (a b c : Y) → is_part a b ≡ true → is_part b c ≡ true → is_part a c ≡ true)
+      (left : (a b : Y) → is_part a (f a b) ≡ true) (right : (a b : Y) → is_part b (f a b) ≡ true) where
     -- the first is part of what is made of all, and so is each later one
-    part-fold : (x : X) (xs : List X) → is_part x (fold f x xs) ≡ true
-    part-fold x [] = same x
-    part-fold x (y ∷ xs) = trans x (f x y) (fold f (f x y) xs) (left x y) (part-fold (f x y) xs)
+    part-fold : (y : Y) (xs : List X) → is_part y (fold f y (map show xs)) ≡ true
+    part-fold y [] = same y
+    part-fold y (x ∷ xs) = trans y (f y (show x)) _ (left y (show x)) (part-fold (f y (show x)) xs)
 
-    all_part-fold : (x : X) (xs : List X) → AllByRecursion (λ y. is_part y (fold f x xs) ≡ true) xs
-    all_part-fold x [] = tt
-    all_part-fold x (y ∷ xs) = (
-      trans y (f x y) (fold f (f x y) xs) (right x y) (part-fold (f x y) xs),
-      all_part-fold (f x y) xs,
+    all_part-fold : (y : Y) (xs : List X) → AllByRecursion (λ x. is_part (show x) (fold f y (map show xs)) ≡ true) xs
+    all_part-fold y [] = tt
+    all_part-fold y (x ∷ xs) = (
+      trans (show x) (f y (show x)) _ (right y (show x)) (part-fold (f y (show x)) xs),
+      all_part-fold (f y (show x)) xs,
     )
 
-    pub parts-reduced : (none : X) (xs : List X) → AllByRecursion (λ x. is_part x (reduced f none xs) ≡ true) xs
+    parts-reduced : (none : Y) (xs : List X)
+        → AllByRecursion (λ x. is_part (show x) (reduced f none (map show xs)) ≡ true) xs
     parts-reduced none [] = tt
-    parts-reduced none (x ∷ xs) = (part-fold x xs, all_part-fold x xs)
-
-module _ {X Y : Type 0} (show : X → Y) where
-  all_mapped : (P : Y → Type 0) (xs : List X) → AllByRecursion (λ x. P (show x)) xs → AllByRecursion P (map show xs)
-  all_mapped P [] a = tt
-  all_mapped P (x ∷ xs) a = (a.0, all_mapped P xs a.1)
-
-  all_unmapped : (P : Y → Type 0) (xs : List X) → AllByRecursion P (map show xs) → AllByRecursion (λ x. P (show x)) xs
-  all_unmapped P [] a = tt
-  all_unmapped P (x ∷ xs) a = (a.0, all_unmapped P xs a.1)
-
-  -- what each of a group shows, and what two make of it, the whole group makes
-  kept-reduced : (f : Y → Y → Y) (none : Y) (P : Y → Type 0) → ((a b : Y) → P a → P b → P (f a b)) → (xs : List X)
-      → 0 < length xs → AllByRecursion (λ x. P (show x)) xs → P (reduced f none (map show xs))
-  kept-reduced f none P kept [] some a = absurd (omega arith)
-  kept-reduced f none P kept (x ∷ xs) some a = kept-fold f P kept (show x) (map show xs) a.0 (all_mapped P xs a.1)
+    parts-reduced none (x ∷ xs) = (part-fold (show x) xs, all_part-fold (show x) xs)
 
 -- the hull of boxes in the plane is one
 hull-in_plane : {X : Type 0} (box : X → Rect) (xs : List X) → 0 < length xs → AllByRecursion (λ x. IsInPlane (box x)) xs
     → IsInPlane (hull_of (map box xs))
-hull-in_plane box = kept-reduced box hull no_box IsInPlane (λ a b p q. (IsRect-hull a b p.0 q.0, hull-inside a b plane p.1 q.1))
+hull-in_plane box =
+    kept-reduced box hull IsInPlane (λ a b p q. (IsRect-hull a b p.0 q.0, hull-inside a b plane p.1 q.1)) no_box
 
 union-HasSome : {X : Type 0} (layers : X → Layers) (xs : List X) → 0 < length xs
     → AllByRecursion (λ x. HasSome (layers x)) xs → HasSome (union_of (map layers xs))
-union-HasSome layers = kept-reduced layers union no_layers HasSome HasSome-union
+union-HasSome layers = kept-reduced layers union HasSome HasSome-union no_layers
 
 -- two facts of each element, as one
 both_of_all : {X : Type 0} (P Q R : X → Type 0) → ((x : X) → P x → Q x → R x) → (xs : List X) → AllByRecursion P xs
@@ -99,37 +84,27 @@ both_of_all P Q R f [] a b = tt
 both_of_all P Q R f (x ∷ xs) a b = (f x a.0 b.0, both_of_all P Q R f xs a.1 b.1)
 
 module _ {X : Type 0} (extent : X → Extent) where
-  -- each of a group is part of the extent whose bounds are their hull, and whose layers are their union
-  parts_of-whole : (whole : Extent) (xs : List X) → whole.bounds ≡ hull_of (map (λ x. (extent x).bounds) xs)
-      → whole.layers ≡ union_of (map (λ x. (extent x).layers) xs)
-      → AllByRecursion (λ x. IsPart (extent x) whole) xs
-  parts_of-whole whole xs around of_all =
-      let box = λ (x : X). (extent x).bounds in
-      let layers = λ (x : X). (extent x).layers in
-      let In = λ (b : Rect) (x : X). inside (box x) b ≡ true in
-      let Among = λ (s : Layers) (x : X). subset (layers x) s ≡ true in
-      both_of_all (In whole.bounds) (Among whole.layers) (λ x. IsPart (extent x) whole)
+  -- the extent of a group: the hull of their bounds, and the union of their layers
+  abbrev whole_of : List X → Extent
+  whole_of xs = record {
+    bounds = hull_of (map (λ x. (extent x).bounds) xs);
+    layers = union_of (map (λ x. (extent x).layers) xs);
+  }
+
+  -- each of them is part of it
+  parts_of-whole : (xs : List X) → AllByRecursion (λ x. IsPart (extent x) (whole_of xs)) xs
+  parts_of-whole xs =
+      both_of_all (λ x. inside (extent x).bounds (whole_of xs).bounds ≡ true)
+      (λ x. subset (extent x).layers (whole_of xs).layers ≡ true) (λ x. IsPart (extent x) (whole_of xs))
       (λ x h k. record { bounds = h; layers = k }) xs
-      (subst (λ b. AllByRecursion (In b) xs) (sym around) (all_unmapped box (λ c. inside c (hull_of (map box xs)) ≡ true)
-      xs (parts-reduced hull inside inside-same inside-trans inside-hull_left inside-hull_right no_box (map box xs))))
-      (subst (λ s. AllByRecursion (Among s) xs) (sym of_all) (all_unmapped layers
-      (λ s. subset s (union_of (map layers xs)) ≡ true) xs
-      (parts-reduced union subset subset-same subset-trans subset-union_left subset-union_right no_layers
-      (map layers xs))))
+      (parts-reduced (λ x. (extent x).bounds) hull inside inside-same inside-trans inside-hull_left inside-hull_right
+      no_box xs)
+      (parts-reduced (λ x. (extent x).layers) union subset subset-same subset-trans subset-union_left subset-union_right
+      no_layers xs)
 
 -- an entry as tables have them
 abbrev pub IsEntry : Entry → Type 0
 IsEntry e = HasBox e × HasLayer e
-
--- entries that are parts of an extent are boxes inside it
-entries_inside : (whole : Extent) (es : List Entry) → AllByRecursion IsEntry es
-    → AllByRecursion (λ e. IsPart (extent_of_entry e) whole) es
-    → AllByRecursion (λ e. IsBoxInside (extent_of_entry e) whole) es
-entries_inside whole [] a p = tt
-entries_inside whole (e ∷ es) a p = (
-  IsBoxInside-part (extent_of_entry e) (extent_of_entry e) whole p.0 (IsBoxInside-entry e a.0.0 a.0.1),
-  entries_inside whole es a.1 p.1,
-)
 
 -- ---- what the nodes of a level stand for
 
@@ -147,23 +122,14 @@ sum_by-ones (x ∷ xs) = sum_by-cons (λ _. 1) x xs ∙ ap (λ n. 1 + n) (sum_by
 abbrev pub IsGroup : {X : Type 0} → (fanout : ℕ) → (X → Type 0) → List X → Type 0
 IsGroup fanout P g = ((0 < length g) × (length g ≤ fanout)) × AllByRecursion P g
 
-all_front : {X : Type 0} (P : X → Type 0) (xs ys : List X) → AllByRecursion P (xs ++ ys)
-    → AllByRecursion P xs × AllByRecursion P ys
-all_front P [] ys a = (tt, a)
-all_front P (x ∷ xs) ys a = let k = all_front P xs ys a.1 in ((a.0, k.0), k.1)
-
--- groups of the right size, of elements of which something holds
-all_groups : {X : Type 0} (fanout : ℕ) (P : X → Type 0) (gs : List (List X))
-    → AllByRecursion (λ g. (0 < length g) × (length g ≤ fanout)) gs → AllByRecursion P (joined gs)
-    → AllByRecursion (IsGroup fanout P) gs
-all_groups fanout P [] a b = tt
-all_groups fanout P (g ∷ gs) a b = let k = all_front P g (joined gs) b in ((a.0, k.0), all_groups fanout P gs a.1 k.1)
-
 -- chunks are such groups
 pub chunk_groups : {X : Type 0} (fanout : ℕ) (P : X → Type 0) (gs : List (List X)) → 0 < fanout
-    → gs ≡ chunks fanout (joined gs) → AllByRecursion P (joined gs) → AllByRecursion (IsGroup fanout P) gs
-chunk_groups fanout P gs some e a = all_groups fanout P gs (subst (AllByRecursion (λ g. (0 < length g) ×
-    (length g ≤ fanout))) (sym e) (chunks-size fanout (joined gs) some)) a
+    → gs ≡ chunks fanout (joined gs) → All P (joined gs) → AllByRecursion (IsGroup fanout P) gs
+chunk_groups fanout P gs some e a =
+    let xs = joined gs in
+    subst (AllByRecursion (IsGroup fanout P)) (sym e) (both_of_all (λ g. (0 < length g) × (length g ≤ fanout)) (All P)
+    (IsGroup fanout P) (λ g size all. (size, recursion_from_All P g all)) (chunks fanout xs)
+    (chunks-size fanout xs some) (chunks-All P fanout xs a))
 
 -- the children of a node above level 1 are nodes of the tree
 pub inner-range : (t : Packed) (below : ℕ) (n : Node) → IsSubtree t below n → 0 < below
@@ -215,23 +181,13 @@ module _ (fanout : ℕ) (es : List Entry) where
 
   pub children_more : (ns more : List Node) (n : Node) → n.first + n.count ≤ length ns
       → child_nodes (tree (ns ++ more)) n ≡ child_nodes (tree ns) n
-  children_more ns more n h = part_more ns more n.first n.count h
+  children_more ns more n h =
+      ap (take n.count) (drop-append-le n.first ns more (omega arith))
+      ∙ take-append-le n.count (drop n.first ns) more (omega (arith, length-drop n.first ns))
 
   pub subtree_more : (ns more : List Node) (h : ℕ) (n : Node) → IsSubtree (tree ns) h n
       → IsSubtree (tree (ns ++ more)) h n
-  subtree_more ns more zero n s = record {
-    level = s.level;
-    some = s.some;
-    few = s.few;
-    range = s.range;
-    valid = s.valid;
-    coordinates = s.coordinates;
-    layers = s.layers;
-    exact = s.exact;
-    exact_layers = s.exact_layers;
-    within = s.within;
-    size = s.size;
-  }
+  subtree_more ns more zero n s = search rules
   subtree_more ns more (suc h) n s =
       let same = sym (children_more ns more n s.range) in
       record {
@@ -250,24 +206,16 @@ module _ (fanout : ℕ) (es : List Entry) where
         size = s.size ∙ ap (sum_by (λ k. k.size)) same;
       }
 
-  flat_same : (ns more : List Node) (h : ℕ) → ((k : Node) → IsSubtree (tree ns) h k
-      → entries_under (tree (ns ++ more)) h k ≡ entries_under (tree ns) h k)
-      → (ks : List Node) → AllByRecursion (IsSubtree (tree ns) h) ks
-      → flat_map (entries_under (tree (ns ++ more)) h) ks ≡ flat_map (entries_under (tree ns) h) ks
-  flat_same ns more h f [] a = refl
-  flat_same ns more h f (k ∷ ks) a = rw (f k a.0) (ap (λ l. entries_under (tree ns) h k ++ l)
-      (flat_same ns more h f ks a.1))
-
   under_more : (ns more : List Node) (h : ℕ) (n : Node) → IsSubtree (tree ns) h n
       → entries_under (tree (ns ++ more)) h n ≡ entries_under (tree ns) h n
   under_more ns more zero n s = refl
   under_more ns more (suc h) n s =
       ap (flat_map (entries_under (tree (ns ++ more)) h)) (children_more ns more n s.range)
-      ∙ flat_same ns more h (λ k. under_more ns more h k) (child_nodes (tree ns) n) s.below
+      ∙ flat_map-same _ _ (IsSubtree (tree ns) h) (λ k. under_more ns more h k) (child_nodes (tree ns) n) s.below
 
   pub all_under_more : (ns more : List Node) (h : ℕ) (ks : List Node) → AllByRecursion (IsSubtree (tree ns) h) ks
       → flat_map (entries_under (tree (ns ++ more)) h) ks ≡ flat_map (entries_under (tree ns) h) ks
-  all_under_more ns more h ks a = flat_same ns more h (λ k. under_more ns more h k) ks a
+  all_under_more ns more h = flat_map-same _ _ (IsSubtree (tree ns) h) (under_more ns more h)
 
   subtree_in_plane : (t : Packed) (h : ℕ) (n : Node) → IsSubtree t h n → IsInPlane n.bounds
   subtree_in_plane t zero n s = (s.valid, s.coordinates)
@@ -285,7 +233,7 @@ module _ (fanout : ℕ) (es : List Entry) where
   leaves_sound ns = over_each extent_of_entry (λ _. 1) 1 es (IsLeafNode (tree ns)) (IsGroup fanout IsEntry) (λ first g a here range.
       let box = λ (e : Entry). e.bounds in
       let layers = λ (e : Entry). (extent_of_entry e).layers in
-      let whole = extent_of_node (node_over extent_of_entry (λ _. 1) 1 first g) in
+      let whole = whole_of extent_of_entry g in
       let around = hull-in_plane box g a.0.0 (all_map IsEntry (λ e. IsInPlane e.bounds) (λ e b. (b.0.box, b.0.coordinates)) g a.1) in
       record {
         level = refl;
@@ -298,7 +246,9 @@ module _ (fanout : ℕ) (es : List Entry) where
         exact = ap (λ l. hull_of (map box l)) (sym here);
         exact_layers = ap (λ l. union_of (map layers l)) (sym here);
         within = subst (AllByRecursion (λ e. IsBoxInside (extent_of_entry e) whole)) (sym here)
-            (entries_inside whole g a.1 (parts_of-whole extent_of_entry whole g refl refl));
+            (both_of_all IsEntry (λ e. IsPart (extent_of_entry e) whole) (λ e. IsBoxInside (extent_of_entry e) whole)
+            (λ e b part. IsBoxInside-part (extent_of_entry e) (extent_of_entry e) whole part
+            (IsBoxInside-entry e b.0 b.1)) g a.1 (parts_of-whole extent_of_entry g));
         size = sum_by-ones g;
       })
 
@@ -316,7 +266,6 @@ module _ (fanout : ℕ) (es : List Entry) where
       (IsGroup fanout (IsSubtree (tree ns) h)) (λ first g a here range.
       let box = λ (n : Node). n.bounds in
       let layers = λ (n : Node). n.layers in
-      let whole = extent_of_node (node_over extent_of_node (λ k. k.size) (suc (suc h)) first g) in
       let around = hull-in_plane box g a.0.0 (all_map (IsSubtree (tree ns) h) (λ n. IsInPlane n.bounds)
       (subtree_in_plane (tree ns) h) g a.1) in
       record {
@@ -331,8 +280,8 @@ module _ (fanout : ℕ) (es : List Entry) where
             (subtree_layers (tree ns) h) g a.1);
         exact = ap (λ l. hull_of (map box l)) (sym here);
         exact_layers = ap (λ l. union_of (map layers l)) (sym here);
-        within = subst (AllByRecursion (λ k. IsPart (extent_of_node k) whole)) (sym here)
-            (parts_of-whole extent_of_node whole g refl refl);
+        within = subst (AllByRecursion (λ k. IsPart (extent_of_node k) (whole_of extent_of_node g))) (sym here)
+            (parts_of-whole extent_of_node g);
         size = ap (sum_by (λ k. k.size)) (sym here);
       })
 

@@ -72,9 +72,6 @@ module _ {X : Type 0} (box : X → Rect) (items : List X) where
       ap (map (map (λ p. p.1))) (tiles-chunks fanout some) ∙ sym (map-chunks (λ p. p.1) fanout (tiled_of
       (slice_size fanout))) ∙ ap (chunks fanout) (sym (joined-groups fanout some))
 
-  by_x-IsPermutation : IsPermutation (enumerate_from 0 items) by_x_of
-  by_x-IsPermutation = IsPermutation-sorted (by_middle box twice_middle_x) (enumerate_from 0 items)
-
   -- the groups have the items, each once
   pub groups-moved : (fanout : ℕ) → 2 ≤ fanout → IsPermutation items (joined (groups box fanout items))
   groups-moved fanout several =
@@ -85,7 +82,8 @@ module _ {X : Type 0} (box : X → Rect) (items : List X) where
         sorted-length (by_middle box twice_middle_x) numbered,
         length-enumerate_from 0 items,
       ))) in
-      let tiled = IsPermutation-trans _ _ _ by_x-IsPermutation (subst (λ l. IsPermutation l (tiled_of size)) whole
+      let tiled = IsPermutation-trans _ _ _
+      (IsPermutation-sorted (by_middle box twice_middle_x) numbered) (subst (λ l. IsPermutation l (tiled_of size)) whole
       (sorted_each (by_middle box twice_middle_y) (chunks size by_x_of))) in
       let moved = IsPermutation-map (λ (p : ℕ × X). p.1) _ _ tiled in
       subst (λ l. IsPermutation l (joined (groups box fanout items))) (numbered_items 0 items) (subst (IsPermutation
@@ -93,7 +91,4 @@ module _ {X : Type 0} (box : X → Rect) (items : List X) where
 
 -- no items have no groups
 pub groups-nil : {X : Type 0} (box : X → Rect) (fanout : ℕ) → groups box fanout [] ≡ []
-groups-nil {X} box fanout =
-    ap (λ slices. map (map (λ (p : ℕ × X). p.1)) (flat_map (λ slice. chunks fanout (sorted
-    (by_middle box twice_middle_y) slice)) slices))
-    (chunks-nil (ceil_sqrt (div_ceil 0 fanout) * fanout))
+groups-nil {X} box fanout = rw (chunks-nil {X = ℕ × X} (ceil_sqrt (div_ceil 0 fanout) * fanout)) refl

@@ -1,12 +1,12 @@
 -- The loops that put items behind those that are packed, and make the nodes over them.
 use Rattle.std.proofs.Common.{◌≡◌, ◌<◌, ◌≤◌, ◌+◌, ◌^◌, ℕ, suc, Ordering, Some, List, [], ◌∷◌, ◌++◌, length, map, take, drop}
-use Rattle.std.proofs.Common.{get_or, slice_get, min, refl, sym, ◌∙◌, ap, subst, arith, append_assoc, inl, inr}
-use Rattle.std.proofs.{Math.Seq.{drop-append_seam, take-append_seam}, lemmas.{Int.{ints}, Option.{slice_get_cases}}}
+use Rattle.std.proofs.Common.{ℤ, get_or, slice_get, min, refl, sym, ◌∙◌, ap, subst, arith, append_assoc, inl, inr}
+use Rattle.std.proofs.lemmas.{Int.{ints}, List.{drop_at, take_at}, Option.{slice_get_cases}}
 use Rattle.std.proofs.lemmas.List.{append-nil, length-append, take-append-drop, take_all, take_more}
 use Rattle.std.proofs.lemmas.List.Elements.{All-drop, All-take, filter_map-append}
 use Rattle.std.proofs.lemmas.List.Sorted.{IsPermutation-trans, length_permutation, sum_by-IsPermutation}
-use Rattle.std.proofs.lemmas.List.Sums.{fold-append, sum_by-append, sum_by_from}
-use Rattle.std.specs.{Int.{int_min, int_max}, List.{All, fold, sum_by}}
+use Rattle.std.proofs.lemmas.List.Sums.{fold_push, sum_by-append, sum_by_from, sum_by_push}
+use Rattle.std.specs.{Int.{int_min}, List.{All, fold, sum_by}}
 use Rattle.rt_tree.proofs.{ChunkLemmas.{chunks-front, chunks-nil}, Soundness.{sum_by-ones}}
 use Rattle.rt_tree.proofs.TileLemmas.{groups-chunks, groups-moved}
 use Rattle.rt_geo.specs.{Boxes.{Rect, hull}, Laws.{Extent}, Layers.{no_layers, union}, declared.layers.Layers.{Layers}}
@@ -23,19 +23,13 @@ module _ {X : Type 0} (items : List X) where
   pub told-append : (keys more : List ℕ) → told items (keys ++ more) ≡ told items keys ++ told items more
   told-append keys more = filter_map-append (λ key. slice_get items (place_of key)) keys more
 
-  one_told : (key : ℕ) → Tells key → length (told items (key ∷ [])) ≡ 1
-  one_told key tells = elim (slice_get_cases items (place_of key)).1 [
-    | inl h ↦ rw h.2 refl
-    | inr h ↦ absurd (omega (arith, h.0))
-  ]
-
   -- as many as keys
   pub length-told : (keys : List ℕ) → All Tells keys → length (told items keys) ≡ length keys
   length-told [] tell = refl
-  length-told (key ∷ keys) tell =
-      ap length (told-append (key ∷ []) keys) ∙ length-append (told items (key ∷ [])) (told items keys)
-      ∙ ap (λ n. n + length (told items keys)) (one_told key (tell 0 0 (omega arith)))
-      ∙ ap (λ n. 1 + n) (length-told keys (λ k d h. tell (suc k) d (omega arith))) ∙ omega arith
+  length-told (key ∷ keys) tell = elim (slice_get_cases items (place_of key)).1 [
+    | inl h ↦ rw h.2 (ap (λ n. suc n) (length-told keys (λ k d h. tell (suc k) d (omega arith))))
+    | inr h ↦ absurd (omega (arith, h.0, tell 0 0 (omega arith)))
+  ]
 
   -- with one key more
   pub told_next : (keys : List ℕ) (i : ℕ) (x : X) → i < length keys → slice_get items (place_of (get_or keys i 0)) ≡ Some x
@@ -54,19 +48,15 @@ module _ {X : Type 0} (items : List X) where
       ∙ ap (sum_by size) (told-append front (drop (i + 1) keys))
       ∙ sum_by-append size (told items front) (told items (drop (i + 1) keys)) in
       let next : sum_by size (told items front) ≡ sum_by size (told items (take i keys)) + size x =
-      ap (sum_by size) (told_next keys i x there is) ∙ sum_by-append size (told items (take i keys)) (x ∷ [])
-      ∙ ap (λ n. sum_by size (told items (take i keys)) + n) (omega arith) in
+      ap (sum_by size) (told_next keys i x there is) ∙ sum_by_push size (told items (take i keys)) x in
       omega arith
 
 -- ---- the node over the items of a tile
 
 same_hull : (a : Rect) → hull a a ≡ a
 same_hull a =
-    let low_x : int_min a.min_x a.min_x ≡ a.min_x = grind (arith, ints) in
-    let high_x : int_max a.max_x a.max_x ≡ a.max_x = grind (arith, ints) in
-    let low_y : int_min a.min_y a.min_y ≡ a.min_y = grind (arith, ints) in
-    let high_y : int_max a.max_y a.max_y ≡ a.max_y = grind (arith, ints) in
-    rw (low_x, high_x, low_y, high_y) refl
+    let same : (z : ℤ) → int_min z z ≡ z = λ z. grind (arith, ints) in
+    simp same
 
 module _ {X : Type 0} (extent : X → Extent) (size : X → ℕ) where
   -- a node with items behind its children
@@ -102,7 +92,7 @@ module _ {X : Type 0} (extent : X → Extent) (size : X → ℕ) where
       × (packed ++ x ∷ [] ≡ before ++ told items (take (i + 1) keys))
   tile_more items keys i x start node before packed there at is packed_is =
       rw (told_next items keys i x there at, is, packed_is) (
-        sym (fold-append (with_child extent size) start (told items (take i keys)) (x ∷ [])),
+        sym (fold_push (with_child extent size) start (told items (take i keys)) x),
         append_assoc before (told items (take i keys)) (x ∷ []),
       )
 
@@ -137,11 +127,12 @@ module _ {X : Type 0} (extent : X → Extent) (size : X → ℕ) where
 -- ---- the loop over tiles
 
 All-front : {X : Type 0} (P : X → Type 0) (front behind : List X) → All P (front ++ behind) → All P front
-All-front P front behind all = subst (All P) (take-append_seam front behind) (All-take P (length front) (front ++ behind) all)
+All-front P front behind all =
+    subst (All P) (take_at front behind (length front) refl) (All-take P (length front) (front ++ behind) all)
 
 All-behind : {X : Type 0} (P : X → Type 0) (front behind : List X) → All P (front ++ behind) → All P behind
 All-behind P front behind all =
-    subst (All P) (drop-append_seam front behind) (All-drop P (length front) (front ++ behind) all)
+    subst (All P) (drop_at front behind (length front) refl) (All-drop P (length front) (front ++ behind) all)
 
 module _ {X : Type 0} (items : List X) (extent : X → Extent) (size : X → ℕ) (level fanout : ℕ) where
   -- the items of the first keys are packed, and the nodes over them made: those of the later keys are still to come
@@ -172,15 +163,11 @@ module _ {X : Type 0} (items : List X) (extent : X → Extent) (size : X → ℕ
             ∙ sym (groups-chunks box in_order fanout (omega arith)));
       }
 
-  -- what is asked of the next tile: that it has a key, and few, what they tell, what that weighs, and room for it
+  -- what is asked of the next tile: what its keys tell, and what that weighs
   pub next_tile : (all_packed : List X) (all_nodes : List Node) (packed : List X) (nodes : List Node)
       (keys tile later : List ℕ) → IsLevelPart all_packed all_nodes packed nodes keys → keys ≡ tile ++ later
-      → length tile ≡ min fanout (length keys) → 0 < length keys → 2 ≤ fanout → fanout ≤ 64
-      → (0 < length tile) × (length tile < 256) × All (Tells items) tile × (sum_by size (told items tile) < 2 ^ 32)
-      × (length packed < 2 ^ 32)
-  next_tile all_packed all_nodes packed nodes keys tile later part is long there several most = (
-    omega arith,
-    omega arith,
+      → All (Tells items) tile × (sum_by size (told items tile) < 2 ^ 32)
+  next_tile all_packed all_nodes packed nodes keys tile later part is = (
     All-front (Tells items) tile later (subst (All (Tells items)) is part.tell),
     omega (
       arith,
@@ -189,7 +176,6 @@ module _ {X : Type 0} (items : List X) (extent : X → Extent) (size : X → ℕ
       ap (sum_by size) (told-append items tile later),
       sum_by-append size (told items tile) (told items later),
     ),
-    omega (arith, part.room),
   )
 
   pub level_more : (all_packed : List X) (all_nodes : List Node) (packed packed' : List X) (nodes nodes' : List Node)
@@ -216,21 +202,16 @@ module _ {X : Type 0} (items : List X) (extent : X → Extent) (size : X → ℕ
         tell = behind;
         weight = omega (arith, part.weight, ap (sum_by size) whole, sum_by-append size group rest);
         room = omega (arith, part.room, ap length is, length-append tile later);
-        packed_are = ap (λ l. l ++ rest) packed_is ∙ append_assoc packed group rest
-            ∙ ap (λ l. packed ++ l) (sym whole) ∙ part.packed_are;
-        nodes_are = ap (λ n. nodes' ++ nodes_over extent size level n (chunks fanout rest)) next
-            ∙ ap (λ l. l ++ nodes_over extent size level (length packed + length group) (chunks fanout rest)) nodes_is
-            ∙ append_assoc nodes (node ∷ []) (nodes_over extent size level (length packed + length group) (chunks fanout rest))
-            ∙ ap (λ n. nodes ++ n ∷ nodes_over extent size level (length packed + length group) (chunks fanout rest)) node_is
-            ∙ ap (λ gs. nodes ++ nodes_over extent size level (length packed) gs) (sym cut) ∙ part.nodes_are;
+        packed_are = rw (packed_is, append_assoc packed group rest, ← whole) part.packed_are;
+        nodes_are = rw (next, nodes_is, node_is)
+            (append_assoc nodes (_ ∷ [])
+            (nodes_over extent size level (length packed + length group) (chunks fanout rest))
+            ∙ ap (λ gs. nodes ++ nodes_over extent size level (length packed) gs) (sym cut) ∙ part.nodes_are);
       }
 
-  -- without later keys all is packed, and all nodes are made
+  -- without later keys all nodes are made
   pub level_done : (all_packed : List X) (all_nodes : List Node) (packed : List X) (nodes : List Node) (later : List ℕ)
-      → length later ≡ 0 → IsLevelPart all_packed all_nodes packed nodes later → (packed ≡ all_packed) × (nodes ≡ all_nodes)
-  level_done all_packed all_nodes packed nodes [] none part = (
-    sym (append-nil packed) ∙ part.packed_are,
-    sym (append-nil nodes) ∙ ap (λ gs. nodes ++ nodes_over extent size level (length packed) gs) (sym (chunks-nil fanout))
-        ∙ part.nodes_are,
-  )
+      → length later ≡ 0 → IsLevelPart all_packed all_nodes packed nodes later → nodes ≡ all_nodes
+  level_done all_packed all_nodes packed nodes [] none part = sym (append-nil nodes)
+      ∙ ap (λ gs. nodes ++ nodes_over extent size level (length packed) gs) (sym (chunks-nil fanout)) ∙ part.nodes_are
   level_done all_packed all_nodes packed nodes (key ∷ later) none part = absurd (omega arith)

@@ -31,7 +31,7 @@ most_entries = 16777216
 -- the entries of a table: no two have one id, each has its box and a layer that there is, and they are no more than the
 -- most
 pub record IsTable (entries : List Entry) : Type 0 where
-  pub distinct : IsDistinct int_eq (ids_of entries)
+  pub distinct : IsDistinct int_eq (map (λ e. e.id) entries)
   pub boxes : All HasBox entries
   pub layers : All HasLayer entries
   pub few : length entries ≤ most_entries

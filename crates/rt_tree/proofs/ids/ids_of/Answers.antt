@@ -1,7 +1,9 @@
-use Rattle.std.proofs.{Common.{◌∙◌, ◌++◌, ◌∷◌, [], FitsSigned, ap, rules, subst, sym, w64}, lemmas.Int.{to_z-of_z}}
-use Rattle.std.proofs.lemmas.{List.Elements.{All-more}, Option.{get_or_from_slice_get, slice_get_within}}
+use Rattle.std.proofs.Common.{◌∙◌, ◌++◌, ◌∷◌, [], FitsSigned, ap, rules, subst, sym, take, w64}
+use Rattle.std.proofs.lemmas.{Int.{to_z-of_z}, List.{map_more, Elements.{All-more}}}
+use Rattle.std.proofs.lemmas.Option.{get_or_from_slice_get, slice_get_within}
 use Rattle.rt_geo.specs.Entries.{HasBox}
-use Rattle.rt_tree.proofs.EntryLemmas.{ids_of-more}
+use Rattle.rt_geo.specs.declared.entry.Entry.{Entry}
+use Rattle.rt_tree.specs.Entries.{ids_of}
 use Rattle.rt_tree.proofs.ids.ids_of.Goals as goal
 
 pub loop-place-preserved : goal.loop-place-preserved
@@ -16,7 +18,8 @@ loop-place-preserved c =
     record { box = c.min_x-least.ensures.valid; coordinates = c.min_x-least.ensures.coordinates } in
     record {
       ids = (simp (to_z-of_z, fits) at c.in_ok-push.ensures.items) ∙ ap (λ ids. ids ++ entry.id ∷ []) c.loop-place.invariant.ids
-          ∙ sym (ids_of-more entries place entry there is);
+          ∙ sym (map_more (λ (e : Entry). e.id) entries place entry there
+          ∙ ap (λ (e : Entry). ids_of (take place entries) ++ e.id ∷ []) (sym is));
       boxes = All-more HasBox entries place entry there c.loop-place.invariant.boxes
           (subst HasBox is box);
     }

@@ -1,11 +1,9 @@
 use Rattle.rt_tree.specs.SortKeys.{box_of}
 use Rattle.std.proofs.Common.{◌≡◌, ◌∙◌, ap, arith, length, min}
 use Rattle.std.specs.Slice.Iter.{chunks_rest, chunks_size}
-use Rattle.rt_tree.proofs.{LoopLemmas.{front_of}, TileLoops.{level_done, level_first, level_more, next_tile}}
+use Rattle.std.proofs.lemmas.List.{take_at}
+use Rattle.rt_tree.proofs.TileLoops.{level_done, level_first, level_more, next_tile}
 use Rattle.rt_tree.proofs.packing.pack_level.Goals as goal
-
-pub arrange-requires-clause-keys : goal.arrange-requires-clause-keys
-arrange-requires-clause-keys g c = c.deref_mut.ensures.value ∙ c.in_ok-keys.ensures
 
 pub loop-tile-init : goal.loop-tile-init
 loop-tile-init g c =
@@ -13,7 +11,7 @@ loop-tile-init g c =
     let given = c.into_iter-tile-iterator.ensures.into_iter_gives in
     let rest : chunks_rest c.into_iter-tile-iterator.result ≡ keys = ap chunks_rest given
     ∙ c.chunks-tile-items.ensures.rest ∙ c.deref.ensures.value
-    ∙ front_of _ keys _ (c.arrange.auto.keys ∙ c.deref_mut.ensures.len) in
+    ∙ take_at keys _ _ (c.arrange.auto.keys ∙ c.deref_mut.ensures.len) in
     record {
       size = ap chunks_size given ∙ c.chunks-tile-items.ensures.size;
       part = rw (rest, c.in_ok-nodes.ensures) (level_first (g.T.Items.list c.args.items.now) g.T.Items.extent g.T.Items.size
@@ -23,21 +21,13 @@ loop-tile-init g c =
           c.arrange.ensures.places c.requires.room);
     }
 
-pub pack_tile-requires : goal.pack_tile-requires
-pack_tile-requires g c =
-    let steps = c.in-Some.ensures.steps in
-    let rest = chunks_rest c.loop-tile.tile-iterator in
-    let asked = next_tile (g.T.Items.list c.args.items.now) g.T.Items.extent g.T.Items.size c.args.level c.args.fanout
-    _ _ _ _ rest c.in-Some.tile.now _ c.loop-tile.invariant.part steps.1.0
-    (steps.1.1 ∙ ap (λ n. min n (length rest)) c.loop-tile.invariant.size) steps.1.2 c.requires.several c.requires.most in
-    record {
-      some = asked.0;
-      few = asked.1;
-      places = asked.2;
-      layers = c.requires.packable.layers;
-      weight = asked.3;
-      room = asked.4;
-    }
+pub pack_tile-requires-clause-places : goal.pack_tile-requires-clause-places
+pack_tile-requires-clause-places g c = (next_tile (g.T.Items.list c.args.items.now) g.T.Items.extent g.T.Items.size
+    c.args.level c.args.fanout _ _ _ _ _ c.in-Some.tile.now _ c.loop-tile.invariant.part c.in-Some.ensures.steps.1.0).0
+
+pub pack_tile-requires-clause-weight : goal.pack_tile-requires-clause-weight
+pack_tile-requires-clause-weight g c = (next_tile (g.T.Items.list c.args.items.now) g.T.Items.extent g.T.Items.size
+    c.args.level c.args.fanout _ _ _ _ _ c.in-Some.tile.now _ c.loop-tile.invariant.part c.in-Some.ensures.steps.1.0).1
 
 pub loop-tile-preserved : goal.loop-tile-preserved
 loop-tile-preserved g c =
@@ -51,8 +41,7 @@ loop-tile-preserved g c =
           steps.1.2 c.in_ok-pack_tile.ensures.packed c.in_ok-pack_tile.ensures.node c.in_ok-push.ensures;
     }
 
-pub returns : goal.returns
-returns g c =
-    let done = level_done (g.T.Items.list c.args.items.now) g.T.Items.extent g.T.Items.size c.args.level c.args.fanout
-    _ _ _ c.loop-tile.nodes _ c.in-None.ensures.steps.1.0 c.loop-tile.invariant.part in
-    record { packed = done.0; nodes = done.1 }
+pub returns-clause-nodes : goal.returns-clause-nodes
+returns-clause-nodes g c =
+    level_done (g.T.Items.list c.args.items.now) g.T.Items.extent g.T.Items.size c.args.level c.args.fanout
+    _ _ _ c.loop-tile.nodes _ c.in-None.ensures.steps.1.0 c.loop-tile.invariant.part

@@ -1,20 +1,6 @@
-use Rattle.std.proofs.Common.{◌+◌, ◌∙◌, ap, append-nil, arith, get_or, refl, slice_get, subst, sym}
-use Rattle.std.proofs.lemmas.Option.{get_or_from_slice_get, slice_get_within}
-use Rattle.rt_tree.specs.SortKeys.{place_of}
+use Rattle.std.proofs.Common.{◌+◌, ◌∙◌, ap, arith, refl, slice_get, sym}
 use Rattle.rt_tree.proofs.TileLoops.{next_fits, over_tile, tile_more}
 use Rattle.rt_tree.proofs.packing.pack_tile.Goals as goal
-
-pub loop-key-init : goal.loop-key-init
-loop-key-init g c = record { count = refl; node = refl; packed = sym (append-nil (g.T.Items.list c.args.packed.now)) }
-
-pub with_child-node-requires-clause-layers : goal.with_child-node-requires-clause-layers
-with_child-node-requires-clause-layers g c =
-    let items = g.T.Items.list c.args.items.now in
-    let place = place_of (get_or c.args.tile.now c.loop-key.key-index 0) in
-    let x = c.in_ok-item.item in
-    let at = c.in_ok-item.ensures.item in
-    subst g.T.Items.has_layers (get_or_from_slice_get items place x x at)
-    (c.requires.layers place x (slice_get_within items place x at))
 
 pub with_child-node-requires-clause-size : goal.with_child-node-requires-clause-size
 with_child-node-requires-clause-size g c = omega (

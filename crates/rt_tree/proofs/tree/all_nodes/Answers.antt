@@ -2,7 +2,7 @@ use Rattle.std.proofs.Common.{◌≡◌, ◌<◌, ◌≤◌, ◌+◌, ◌-◌, �
 use Rattle.std.proofs.{Common.{subst, sym}, lemmas.{List.{append-nil, nil_from_length}, Option.{get_or_from_slice_get}}}
 use Rattle.std.specs.List.{All}
 use Rattle.rt_tree.specs.{Packed.{extent_of_node}, SortKeys.{IsInPlane}, declared.tree.Node.{Node}}
-use Rattle.rt_tree.proofs.PackCounts.{all_nodes, counted_more, over_in_plane, course_done, course_more, fewer}
+use Rattle.rt_tree.proofs.PackCounts.{counted_more, course_more, fewer, nodes_from-last, over_in_plane}
 use Rattle.rt_tree.proofs.{SortKeyLemmas.{nodes_packable}, tree.all_nodes.Goals.{then-len-eq1+in_ok-push, else-len-eq1}}
 use Rattle.rt_tree.proofs.tree.all_nodes.Goals as goal
 
@@ -15,23 +15,19 @@ one_node (m ∷ k ∷ nodes) n long is = absurd (omega arith)
 pub pack_level-requires-clause-packable : goal.pack_level-requires-clause-packable
 pack_level-requires-clause-packable c =
     let counted = c.levels.invariant.counted in
-    nodes_packable c.levels.made (record {
-      few = omega (arith, counted.few_nodes, counted.few_levels);
-      weight = omega (arith, counted.weight);
-      boxes = c.levels.invariant.boxes;
-    })
+    nodes_packable c.levels.made (omega (arith, counted.few_nodes, counted.few_levels)) (omega (arith, counted.weight))
+    c.levels.invariant.boxes
 
 pub levels-smaller : goal.levels-smaller
 levels-smaller c =
     let made = c.levels.made in
     let more : 1 < length made = omega (arith, c.levels-test.true, c.len.ensures) in
-    let smaller : length c.in_ok-made.made < length made = omega (
+    omega (
       arith,
       ap length (rw (add-one c.levels.level) at c.in_ok-made.ensures.nodes),
       fewer c.args.fanout c.requires.several c.levels.level (length c.levels.nodes) (length made - 1) made more
           (omega (arith, more)),
-    ) in
-    smaller
+    )
 
 pub levels-preserved : goal.levels-preserved
 levels-preserved c =
@@ -53,8 +49,8 @@ levels-preserved c =
 pub returns : goal.returns
 returns c =
     let made = c.levels.made in
-    let done = λ (last : length made ≤ 1). course_done c.args.fanout c.requires.several c.levels.level c.levels.nodes made
-    (all_nodes c.args.fanout c.args.made) last c.levels.invariant.course in
+    let done = λ (last : length made ≤ 1). ap (λ l. c.levels.nodes ++ l) (sym (nodes_from-last c.args.fanout
+    c.requires.several (length made) c.levels.level (length c.levels.nodes) made last)) ∙ c.levels.invariant.course in
     elim c.if-len-eq1.branch [
       | then-len-eq1+in_ok-push w ↦
           w.nodes-is ∙ w.in_ok-push.ensures

@@ -32,7 +32,8 @@ returns-then-size-eq1-clause-sizes c = grind (arith, common_steps)
 pub returns-then-size-eq1-clause-above : goal.returns-then-size-eq1-clause-above
 returns-then-size-eq1-clause-above c level below above e f =
     let sizes = returns-then-size-eq1-clause-sizes c in
-    level_above c.args.len c.args.fanout level (level + 1) below above refl (rw (← sizes) e) (rw (← sizes) f)
+    level_above c.args.len c.args.fanout level (level + 1) below above c.requires.several refl (rw (← sizes) e)
+    (rw (← sizes) f)
 
 pub returns-then-size-eq1-clause-last : goal.returns-then-size-eq1-clause-last
 returns-then-size-eq1-clause-last c level size e =

@@ -9,8 +9,9 @@ returns-clause-value c = search rules
 pub returns-clause-above : goal.returns-clause-above
 returns-clause-above c below some e =
     let tree = c.args.self.now in
-    level_above (length tree.entries) tree.fanout (c.args.level - 1) c.args.level below c.size.result (omega arith)
-    e (returns-clause-value c)
+    let sound : IsSound tree = rw (← c.self.view_is) c.self.invariant.0 in
+    level_above (length tree.entries) tree.fanout (c.args.level - 1) c.args.level below c.size.result sound.several
+    (omega arith) e (returns-clause-value c)
 
 pub returns-clause-root : goal.returns-clause-root
 returns-clause-root c some =

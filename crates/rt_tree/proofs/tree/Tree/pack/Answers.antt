@@ -1,8 +1,9 @@
 use Rattle.std.proofs.Common.{◌≡◌, ◌≤◌, ◌*◌, ◌∙◌, ap, length, subst, sym}
+use Rattle.std.proofs.lemmas.List.Sorted.{length_permutation}
 use Rattle.std.specs.List.{All, sum_by, Sorted.{IsPermutation}}
 use Rattle.rt_tree.specs.{Entries.{IsTable}, Levels.{level_sizes}, Packed.{IsSound, Packed}, Packing.{pack_of}}
 use Rattle.rt_tree.specs.SortKeys.{IsInPlane}
-use Rattle.rt_tree.proofs.{PackLemmas.{leaf_nodes_few, length-packed, packed_is}, Repacked.{pack_of-repacked}}
+use Rattle.rt_tree.proofs.{PackLemmas.{leaf_nodes_few, packed_is}, Repacked.{pack_of-repacked}}
 use Rattle.rt_tree.proofs.{PackSound.{entries-IsPermutation, pack_of-IsSound}, TieOrders.{entries_packable}}
 use Rattle.rt_tree.proofs.tree.Tree.pack.Goals.{After-drop, In_ok-nodes}
 use Rattle.rt_tree.proofs.tree.Tree.pack.Goals as goal
@@ -46,7 +47,8 @@ invariant_of-result c =
     let fanout = c.args.fanout in
     let sound = c.into_entries-entries.ensures.table in
     let long : length c.pack_level.new.packed ≡ length table = ap (λ (t : Packed). length t.entries) (tree_is c)
-    ∙ length-packed fanout table c.requires.several in (
+    ∙ length_permutation table (pack_of fanout table).entries
+    (entries-IsPermutation fanout table c.requires.several) in (
       subst IsSound (sym (tree_is c)) (pack_of-IsSound fanout table c.requires.several sound).0,
       tree_is c ∙ pack_of-repacked fanout table c.requires.several sound.distinct
           ∙ ap (λ (t : Packed). pack_of fanout t.entries) (sym (tree_is c)),
