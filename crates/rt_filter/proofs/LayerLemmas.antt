@@ -1,5 +1,5 @@
 -- All layers are those of all entries, so a query on all of them is one that asks for none.
-use Rattle.std.proofs.Common.{◌≡◌, ◌∙◌, ap, cond, Bool, true, false, not, List, [], ◌∷◌, ◌&&◌, ℕ, Option, length, map, refl}
+use Rattle.std.proofs.Common.{◌≡◌, ◌∙◌, ap, Bool, true, false, not, List, [], ◌∷◌, ◌&&◌, ℕ, Option, length, map, refl}
 use Rattle.std.proofs.{Common.{sym}, lemmas.List.Elements.{recursion_from_All}}
 use Rattle.std.specs.List.{All, AllByRecursion}
 use Rattle.rt_geo.specs.{Entries.{HasLayer}, Laws.{Extent, Meaning, extent_of_entry}, Layers.{all_layers, disjoint}}
@@ -40,10 +40,7 @@ module _ (accepts : Extent → Bool) (score : Extent → ℕ) where
       → accepted entries (on_layers all_layers) ≡ accepted entries plain
   same_by_recursion [] a = refl
   same_by_recursion (entry ∷ entries) a =
-      let test = and_not (accepts (extent_of_entry entry)) _ (on_some entry a.0) in
-      let rest = same_by_recursion entries a.1 in
-      ap (λ b. cond b (entry ∷ accepted entries (on_layers all_layers)) (accepted entries (on_layers all_layers))) test
-      ∙ ap (λ l. cond (accepts (extent_of_entry entry)) (entry ∷ l) l) rest
+      rw (and_not (accepts (extent_of_entry entry)) _ (on_some entry a.0), same_by_recursion entries a.1) refl
 
   module _ (entries : List Entry) (few : All HasLayer entries) (layers : Layers) (all : layers ≡ all_layers) where
     accepted-all : accepted entries (on_layers layers) ≡ accepted entries plain

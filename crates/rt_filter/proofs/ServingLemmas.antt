@@ -10,7 +10,7 @@ use Rattle.rt_filter.specs.{Lines.{longest_line, numbered_lines}, Pushes.{WasCut
 use Rattle.rt_filter.specs.{Replies.{any_fault, output}, Sessions.{Heard, heard_of}, Stages.{IsServing}}
 use Rattle.rt_filter.specs.declared.serving.Served.{Served}
 use Rattle.rt_filter.proofs.{LineLemmas.{completed-all}, PushLemmas.{behind, nothing_pushed}, SessionLemmas.{any_fault-append}}
-use Rattle.rt_filter.proofs.SessionLemmas.{or_first, output-append, pushed_then}
+use Rattle.rt_filter.proofs.SessionLemmas.{ended-lines, or_first, output-append, pushed_then}
 use Rattle.rt_filter.specs.declared.serving.ServeFault.TheVariants as serve
 
 -- ---- what a source and a sink tell
@@ -58,6 +58,10 @@ pulled_within times turns old mid new h k left = (times + 1, pulled_more times o
 -- what rests, where it is told
 abbrev pub rest_of : Option (List ℕ) → List ℕ
 rest_of coming = unwrap_or coming []
+
+ended : (now : Option (List ℕ)) → IsAtEnd now → rest_of now ≡ []
+ended None at = refl
+ended (Some rest) at = at
 
 abbrev pub so_far : (consumed : List ℕ) (coming : Option (List ℕ)) (out : List ℕ) → Happened
 so_far consumed coming out = record { consumed = consumed; rest = rest_of coming; out = out }
@@ -134,20 +138,14 @@ module _ (loaded : Loaded) (coming0 coming written0 written : Option (List ℕ))
   pub serves_all : (now out : Option (List ℕ)) (served : Served) → Consumes coming now [] → IsAtEnd now → WasPushed written out (output loaded (completed s.consumed [] true))
       → served.bad ≡ any_fault (numbered_lines s.consumed true) → served.fault ≡ None → Serves loaded coming0 now written0 out served
   serves_all now out served h at w b f =
-      let lines : numbered_lines s.consumed true ≡ numbered_lines s.consumed false ++ completed s.consumed [] true =
-      ap (λ zs. numbered_lines zs true) (sym (append-nil s.consumed)) ∙ completed-all s.consumed [] true in
       let all : WasPushed written0 out (output loaded (numbered_lines s.consumed true)) =
-      rw (lines, output-append loaded (numbered_lines s.consumed false)) (pushed_then written0 written out _ _ s.pushed w) in
+      rw (ended-lines s.consumed, output-append loaded (numbered_lines s.consumed false)) (pushed_then written0 written out _ _ s.pushed w) in
       rw (b, f) (
         so_far s.consumed now (output loaded (numbered_lines s.consumed true)),
         source_tells (None ≡ Some serve.Read) coming0 now s.consumed (output loaded (numbered_lines s.consumed true)) (subst (Consumes coming0 now) (append-nil s.consumed) (consumes_more coming0 coming now s.consumed [] s.given h)),
         sink_tells (None ≡ Some serve.Write) written0 out (so_far s.consumed now (output loaded (numbered_lines s.consumed true))) all,
         (ended now at, record { replies = refl; faults = refl }),
       )
-    where
-      ended : (now : Option (List ℕ)) → IsAtEnd now → rest_of now ≡ []
-      ended None at = refl
-      ended (Some rest) at = at
 
   -- a push or a flush failed on the way
   cut_row : (now out : Option (List ℕ)) (served : Served) (given : List ℕ) (lines later : List (ℕ × List ℕ)) → Consumes coming now given → length given ≤ longest_line + 1
@@ -187,16 +185,6 @@ module _ (loaded : Loaded) (coming0 coming written0 written : Option (List ℕ))
   pub serves_cut_at_end : (now out : Option (List ℕ)) (served : Served) → Consumes coming now [] → IsAtEnd now → WasCut written out (output loaded (completed s.consumed [] true))
       → (served.bad ≡ true → any_fault (numbered_lines s.consumed true) ≡ true) → served.fault ≡ Some serve.Write → Serves loaded coming0 now written0 out served
   serves_cut_at_end now out served h at cut b f =
-      by now h at
-    where
-      whole : numbered_lines s.consumed true ≡ numbered_lines (s.consumed ++ []) true
-      whole = ap (λ zs. numbered_lines zs true) (sym (append-nil s.consumed))
-
-      all : numbered_lines (s.consumed ++ []) true ≡ numbered_lines s.consumed false ++ (completed s.consumed [] true ++ [])
-      all = completed-all s.consumed [] true ∙ ap (λ ls. numbered_lines s.consumed false ++ ls) (sym (append-nil _))
-
-      by : (now : Option (List ℕ)) → Consumes coming now [] → IsAtEnd now → Serves loaded coming0 now written0 out served
-      by None h at = cut_row None out served [] (completed s.consumed [] true) [] h (omega arith) cut all (λ e. sym (ap any_fault whole) ∙ b e) f
-      by (Some rest) h at =
-          let k : Consumes coming (Some []) [] = rw at at h in
-          rw at (cut_row (Some []) out served [] (completed s.consumed [] true) [] k (omega arith) cut all (λ e. sym (ap any_fault whole) ∙ b e) f)
+      cut_row now out served [] (completed s.consumed [] true) [] h (omega arith) cut
+      (rw (ended now at, append-nil (completed s.consumed [] true)) (completed-all s.consumed [] true))
+      (rw (ended now at, append-nil s.consumed) b) f
