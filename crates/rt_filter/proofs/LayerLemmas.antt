@@ -1,6 +1,6 @@
 -- All layers are those of all entries, so a query on all of them is one that asks for none.
 use Rattle.std.proofs.Common.{◌≡◌, ◌∙◌, ap, Bool, true, false, not, List, [], ◌∷◌, ◌&&◌, ℕ, Option, length, map, refl}
-use Rattle.std.proofs.{Common.{sym}, lemmas.List.Elements.{recursion_from_All}}
+use Rattle.std.proofs.{Common.{arith, sym}, lemmas.List.Elements.{recursion_from_All}}
 use Rattle.std.specs.List.{All, AllByRecursion}
 use Rattle.rt_geo.specs.{Entries.{HasLayer}, Laws.{Extent, Meaning, extent_of_entry}, Layers.{all_layers, disjoint}}
 use Rattle.rt_geo.specs.{Lemmas.Layers.{disjoint-only, has-all}, OnLayers.{on_layers_accepts}, Orders.{order_score}}
@@ -26,8 +26,7 @@ on_some : (entry : Entry) → HasLayer entry → disjoint (extent_of_entry entry
 on_some entry few = disjoint-only entry.layer all_layers ∙ ap not (has-all entry.layer few)
 
 and_not : (a b : Bool) → b ≡ false → (a && not b) ≡ a
-and_not true b h = ap not h
-and_not false b h = refl
+and_not a b h = grind (arith, h)
 
 module _ (accepts : Extent → Bool) (score : Extent → ℕ) where
   abbrev on_layers : Layers → Meaning

@@ -20,10 +20,7 @@ consumes_none None = tt
 consumes_none (Some all) = refl
 
 consumes_more : (old mid new : Option (List ℕ)) (xs ys : List ℕ) → Consumes old mid xs → Consumes mid new ys → Consumes old new (xs ++ ys)
-consumes_more None mid new xs ys h k = tt
-consumes_more (Some all) None new xs ys h k = absurd h
-consumes_more (Some all) (Some left) None xs ys h k = absurd k
-consumes_more (Some all) (Some left) (Some rest) xs ys h k = h ∙ ap (λ zs. xs ++ zs) k ∙ sym (append_assoc xs ys rest)
+consumes_more old mid new xs ys h k = grind (arith, append_assoc xs ys)
 
 -- a pull that gave none
 pub no_bytes : (old new : Option (List ℕ)) (n : ℕ) (room : List ℕ) → n ≡ 0 → Consumes old new (take n room) → Consumes old new []
@@ -43,12 +40,7 @@ pulled_none None = tt
 pulled_none (Some n) = (n, refl, omega arith)
 
 pub pulled_more : (times : ℕ) (old mid new : Option ℕ) → PulledTimes times old mid → PulledTimes 1 mid new → PulledTimes (times + 1) old new
-pulled_more times old mid None h k = tt
-pulled_more times old None (Some n) h k = absurd (grind (arith, k.1))
-pulled_more times old (Some m) (Some n) h k = (h.0, h.1, by k.1)
-  where
-    by : Some m ≡ Some k.0 → n ≡ h.0 + (times + 1)
-    by e = let same : m ≡ k.0 = cc in omega (arith, same, h.2, k.2)
+pulled_more times old mid new h k = grind (arith, h, k)
 
 -- one pull more, where a turn is left
 pub pulled_within : (times turns : ℕ) (old mid new : Option ℕ) → PulledTimes times old mid → PulledTimes 1 mid new → times < turns
@@ -67,20 +59,14 @@ abbrev pub so_far : (consumed : List ℕ) (coming : Option (List ℕ)) (out : Li
 so_far consumed coming out = record { consumed = consumed; rest = rest_of coming; out = out }
 
 pub source_tells : (failed : Type 0) (old now : Option (List ℕ)) (consumed out : List ℕ) → Consumes old now consumed → SourceTells failed old now (so_far consumed now out)
-source_tells failed None now consumed out h = tt
-source_tells failed (Some all) None consumed out h = absurd h
-source_tells failed (Some all) (Some rest) consumed out h = (h, (refl, λ _. refl))
+source_tells failed old now consumed out h = grind (arith, h)
 
 source_failed : (failed : Type 0) → failed → (old mid now : Option (List ℕ)) (consumed out : List ℕ) → Consumes old mid consumed → IsSameIfTold mid now
     → SourceTells failed old now (so_far consumed mid out)
-source_failed failed f None mid now consumed out h k = tt
-source_failed failed f (Some all) None now consumed out h k = absurd h
-source_failed failed f (Some all) (Some rest) None consumed out h k = (h, (tt, λ other. absurd (other f)))
-source_failed failed f (Some all) (Some rest) (Some left) consumed out h k = (h, (k, λ _. refl))
+source_failed failed f old mid now consumed out h k = grind (arith, f, h, k)
 
 pub sink_tells : (failed : Type 0) (old now : Option (List ℕ)) (what : Happened) → WasPushed old now what.out → SinkTells failed old now what
-sink_tells failed None now what h = tt
-sink_tells failed (Some before) now what h = rw h (refl, λ _. refl)
+sink_tells failed old now what h = grind (arith, h)
 
 -- some went out whole, and of the next bytes a prefix
 record WentOut (failed : Type 0) (old now : Option (List ℕ)) (consumed rest xs ys : List ℕ) : Type 0 where

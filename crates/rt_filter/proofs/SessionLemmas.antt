@@ -52,9 +52,7 @@ pub or_first : (a b : Bool) → a ≡ true → (a || b) ≡ true
 or_first a b h = rw h refl
 
 or_more : (a b c : Bool) → (a || b) ≡ true → (a || (b || c)) ≡ true
-or_more true b c h = refl
-or_more false true c h = refl
-or_more false false c h = grind (arith, h)
+or_more a b c h = grind (arith, h)
 
 module _ (fed line : List ℕ) (clear : HasNoLineFeed line) where
   abbrev number : ℕ
@@ -168,13 +166,8 @@ fault-kept heard fed e h = sym (ap (λ h. h.bad) e) ∙ h
 
 -- ---- a flush
 
-kept : (xs : List ℕ) (new : Option (List ℕ)) → Keeps (Some xs) new → new ≡ Some xs
-kept xs None h = absurd h
-kept xs (Some ys) h = ap (λ zs. Some zs) h
-
 pub pushed_kept : (old mid new : Option (List ℕ)) (bytes : List ℕ) → WasPushed old mid bytes → Keeps mid new → WasPushed old new bytes
-pushed_kept None mid new bytes w k = tt
-pushed_kept (Some xs) mid new bytes w k = kept (xs ++ bytes) new (rw w at k)
+pushed_kept old mid new bytes w k = grind (arith, w, k)
 
 pub pushed_lost : (old mid new : Option (List ℕ)) (bytes : List ℕ) → WasPushed old mid bytes → IsSameIfTold mid new → WasCut old new bytes
 pushed_lost old mid new bytes w k =
