@@ -71,13 +71,11 @@ module _ (choices : Choices) (table : List ℕ) (coming coming' written written'
   -- a fault of serving is told as one of the run
   source_so : (cause : Option ServeFault) (what : Happened) (coming coming' : Option (List ℕ)) → SourceTells (cause ≡ Some serve.Read) coming coming' what
       → SourceTells (run_fault_of cause ≡ Some run.Read) coming coming' what
-  source_so cause what None coming' t = tt
-  source_so cause what (Some queries) coming' t = (t.0, (t.1.0, λ other. t.1.1 (λ e. other (ap run_fault_of e))))
+  source_so cause what coming coming' t = grind (arith, t)
 
   sink_so : (cause : Option ServeFault) (what : Happened) (written written' : Option (List ℕ)) → SinkTells (cause ≡ Some serve.Write) written written' what
       → SinkTells (run_fault_of cause ≡ Some run.Write) written written' what
-  sink_so cause what None written' t = tt
-  sink_so cause what (Some before) written' t = (t.0, λ other. t.1 (λ e. other (ap run_fault_of e)))
+  sink_so cause what written written' t = grind (arith, t)
 
   served_row : (loaded : Loaded) (what : Happened) (bad : Bool) (cause : Option ServeFault) (status : ℕ)
       → loaded_of choices table ≡ Ok loaded → ServesWith loaded what bad cause → (cause ≡ None → status ≡ (if bad then 1 else 0))
@@ -117,12 +115,10 @@ row_whole l w o (Some run.Write) h m t p q = absurd (q refl)
 row_whole l w o (Some run.Memory) h m t p q = absurd (m refl)
 
 told_whole : (failed : Type 0) (now : Option (List ℕ)) (bytes : List ℕ) → StillTells failed now bytes → ¬ failed → now ≡ Some bytes
-told_whole failed None bytes h other = absurd (grind (arith, h.1 other))
-told_whole failed (Some known) bytes h other = ap (λ zs. Some zs) h.0
+told_whole failed now bytes h other = grind (arith, h, other)
 
 used_up : (turns : ℕ) (queries : List ℕ) (now : Option (List ℕ)) → ConsumedAtLeast turns (Some queries) now → length queries < turns → ⊥
-used_up turns queries None h less = absurd h.1
-used_up turns queries (Some rest) h less = absurd (omega (arith, ap length h.1 ∙ length-append h.0 rest, h.2, less))
+used_up turns queries now h less = grind (arith, h, length-append h.0)
 
 -- the turns aren't used up by fewer bytes, and no push fails where none is counted
 pub ends_whole : (choices : Choices) (table queries before : List ℕ) (old now written written' : Option (List ℕ)) (outcome : Outcome)

@@ -206,5 +206,4 @@ ended-lines_some heard h fed e =
 pub ended-bad : {T E : Type 0} (r : Result T E) (heard : Heard) (fed : List ℕ)
     → MatchResult r (λ _. heard ≡ heard_of fed) (λ _. heard.bad ≡ true → any_fault (numbered_lines fed false) ≡ true)
     → MatchResult r (λ _. heard.bad ≡ any_fault (numbered_lines fed false)) (λ _. heard.bad ≡ true → any_fault (numbered_lines fed false) ≡ true)
-ended-bad (Ok x) heard fed h = ap (λ h. h.bad) h
-ended-bad (Err e) heard fed h = h
+ended-bad r heard fed h = grind (arith, h)
