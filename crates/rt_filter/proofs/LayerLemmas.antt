@@ -62,8 +62,7 @@ module _ (accepts : Extent → Bool) (entries : List Entry) (few : All HasLayer 
 pub report_on-asked : (entries : List Entry) (line : ℕ) (asked : BoxQuery) (report : Report)
     → report_on entries (on_layers_accepts (region_accepts asked.region) asked.layers) line asked.order report
     ≡ report_of entries line (meaning_of asked) report
-report_on-asked entries line asked (Answers limit) = refl
-report_on-asked entries line asked Count = refl
+report_on-asked entries line asked report = grind arith
 
 -- the report on a circle's boxes is that on its disc's, where that means both
 pub report_on-disc : (entries : List Entry) (line : ℕ) (asked : Region) (order : Order) (report : Report) (limit : Option ℕ)

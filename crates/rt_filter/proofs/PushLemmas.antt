@@ -145,9 +145,5 @@ pub pushed_told : {T E K : Type 0} (written : K → Option (List ℕ)) (failed :
     → IfSome (written old) (λ before. MatchResult r (λ _. written new ≡ Some (before ++ bytes))
     (λ _. IfSome (written new) (λ known. StartsWith known before × StartsWith (before ++ bytes) known)))
 pushed_told written failed old new (Ok x) bytes h = h.0
-pushed_told written failed old new (Err e) bytes h = by (written old) h.0
-  where
-    by : (o : Option (List ℕ)) → WasCut o (written new) bytes
-        → IfSome o (λ before. IfSome (written new) (λ known. StartsWith known before × StartsWith (before ++ bytes) known))
-    by None k = tt
-    by (Some before) k = cut_told before bytes (written new) k
+pushed_told written failed old new (Err e) bytes h =
+    if_some _ (written old) (λ before is. cut_told before bytes (written new) (rw is at h.0))

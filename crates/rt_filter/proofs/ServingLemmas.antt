@@ -22,10 +22,6 @@ consumes_none (Some all) = refl
 consumes_more : (old mid new : Option (List ℕ)) (xs ys : List ℕ) → Consumes old mid xs → Consumes mid new ys → Consumes old new (xs ++ ys)
 consumes_more old mid new xs ys h k = grind (arith, append_assoc xs ys)
 
--- a pull that gave none
-pub no_bytes : (old new : Option (List ℕ)) (n : ℕ) (room : List ℕ) → n ≡ 0 → Consumes old new (take n room) → Consumes old new []
-no_bytes old new n room e h = rw e at h
-
 pub consumed_none : (old : Option (List ℕ)) → ConsumedAtLeast 0 old old
 consumed_none old = ([], consumes_none old, omega arith)
 
