@@ -1,5 +1,5 @@
 -- The lines of the answers, one after the other.
-use Rattle.std.proofs.Common.{◌≡◌, ◌+◌, ◌<◌, ◌≤◌, ℕ, ℤ, List, [], ◌∷◌, ◌++◌, length, Option, Some, None, ap, arith}
+use Rattle.std.proofs.Common.{◌≡◌, ◌+◌, ◌<◌, ◌≤◌, ℕ, ℤ, List, [], ◌∷◌, ◌++◌, length, Option, ap, arith}
 use Rattle.std.proofs.{Common.{append_assoc}, lemmas.List.{length-take, Concat.{flat_map-cons}, Sorted.{length_permutation}}}
 use Rattle.rt_geo.specs.{Laws.{Meaning}, declared.entry.Entry.{Entry}}
 use Rattle.rt_tree.specs.Sorting.{limited, sorted}

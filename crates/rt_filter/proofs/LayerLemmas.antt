@@ -1,5 +1,5 @@
 -- All layers are those of all entries, so a query on all of them is one that asks for none.
-use Rattle.std.proofs.Common.{◌≡◌, ◌∙◌, ap, Bool, true, false, not, List, [], ◌∷◌, ◌&&◌, ℕ, Option, length, map, refl}
+use Rattle.std.proofs.Common.{◌≡◌, ◌∙◌, ap, Bool, false, not, List, [], ◌∷◌, ◌&&◌, ℕ, Option, length, map, refl}
 use Rattle.std.proofs.{Common.{arith, sym}, lemmas.List.Elements.{recursion_from_All}}
 use Rattle.std.specs.List.{All, AllByRecursion}
 use Rattle.rt_geo.specs.{Entries.{HasLayer}, Laws.{Extent, Meaning, extent_of_entry}, Layers.{all_layers, disjoint}}

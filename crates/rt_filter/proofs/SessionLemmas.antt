@@ -1,8 +1,8 @@
 -- What a session has heard, and what it has answered.
 use Rattle.std.proofs.Common.{◌≡◌, ◌∙◌, ◌+◌, ℕ, Bool, true, false, ◌||◌, List, [], ◌∷◌, ◌++◌, length, take, drop, Option, Some}
-use Rattle.std.proofs.{Common.{None, refl, sym, ap, subst, arith, append_assoc, append-nil}, Math.Bool.{or-false}}
+use Rattle.std.proofs.{Common.{refl, sym, ap, subst, arith, append_assoc, append-nil}, Math.Bool.{or-false}}
 use Rattle.std.proofs.lemmas.{Bool.{Decides.{nat_tests}}, Grind.{flat_map-append}, List.{length-append, Folds.{list_any-append}}}
-use Rattle.std.specs.{Io.KnownBytes.{Keeps}, Prelude.{Err, MatchResult, Ok, Result}}
+use Rattle.std.specs.{Io.KnownBytes.{Keeps}, Prelude.{MatchResult, Result}}
 use Rattle.memchr.specs.Find.{IsFirstByte, is_byte}
 use Rattle.rt_device.specs.Devices.{IsSameIfTold}
 use Rattle.rt_filter.specs.{Lines.{begun_line, completed, numbered_lines}, Pushes.{WasCut, WasPushed}}
