@@ -1,6 +1,7 @@
 -- What the words of the command line ask for, by clap's own definition of a simple command.
 use Rattle.std.specs.Option.{option_and_then, option_map_or}
-use Rattle.std.specs.Prelude.{◌≡◌, ◌⊎◌, ℕ, ℤ, pos, Bool, true, false, List, [], ◌∷◌, fold, codes, Option, Some, None, is_some}
+use Rattle.std.specs.Prelude.{◌≡◌, ◌⊎◌, ℕ, pos, Bool, true, false, List, [], ◌∷◌, fold, codes, Option, Some, is_some}
+use Rattle.std.specs.Prelude.{option_map, unsigned_abs}
 use Rattle.std.specs.Str.{bytes_eq}
 use Rattle.std.specs.Str.Parse.{signed_digits_value}
 use Rattle.clap.specs.Words.{App, IsAmong, IsSignedIn, Kinds, Row, Rule, first_of, matches_of, new_app, new_rule, one_of, with_rule, without_minus}
@@ -54,14 +55,9 @@ found >>= next = option_and_then next found
 abbrev pub is_given : (id : List ℕ) → List Row → Bool
 is_given id rows = option_map_or (λ text. bytes_eq text (codes "true")) (first_of id rows) false
 
--- a number that isn't below 0
-abbrev pub natural : ℤ → Option ℕ
-natural (pos n) = Some n
-natural other = None
-
--- the number that the text of an option writes, which clap has taken: a sign and digits
+-- the number that the text of an option writes, a sign and digits: clap has checked that it stands in its range
 abbrev pub option_number : (id : List ℕ) → List Row → Option ℕ
-option_number id rows = first_of id rows >>= λ text. natural (signed_digits_value 10 text)
+option_number id rows = option_map (λ text. unsigned_abs (signed_digits_value 10 text)) (first_of id rows)
 
 -- the invocation that the matches give, where both numbers and the table are there
 abbrev pub invocation_in : List Row → Option Invocation

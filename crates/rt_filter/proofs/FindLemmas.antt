@@ -1,5 +1,5 @@
 -- The lines of the answers, one after the other.
-use Rattle.std.proofs.Common.{◌≡◌, ◌+◌, ◌<◌, ◌≤◌, ℕ, ℤ, List, [], ◌∷◌, ◌++◌, length, Option, Some, None, ap, arith}
+use Rattle.std.proofs.Common.{◌≡◌, ◌+◌, ◌<◌, ◌≤◌, ℕ, ℤ, List, [], ◌∷◌, ◌++◌, length, Option, ap, arith}
 use Rattle.std.proofs.{Common.{append_assoc}, lemmas.List.{length-take, Concat.{flat_map-cons}, Sorted.{length_permutation}}}
 use Rattle.rt_geo.specs.{Laws.{Meaning}, declared.entry.Entry.{Entry}}
 use Rattle.rt_tree.specs.Sorting.{limited, sorted}
@@ -11,8 +11,7 @@ use Rattle.rt_filter.specs.Pushes.{WasCut, WasPushed, answer_lines}
 use Rattle.rt_filter.proofs.PushLemmas.{AllBut, pushed_cut, pushed_next}
 
 length-limited : {X : Type 0} (limit : Option ℕ) (xs : List X) → length (limited limit xs) ≤ length xs
-length-limited None xs = omega arith
-length-limited (Some limit) xs = omega (arith, length-take limit xs)
+length-limited limit xs = grind (arith, length-take)
 
 -- there are at most as many answers as entries
 length-answers : (entries : List Entry) (meaning : Meaning) (limit : Option ℕ)

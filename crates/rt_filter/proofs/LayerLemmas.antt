@@ -1,6 +1,6 @@
 -- All layers are those of all entries, so a query on all of them is one that asks for none.
-use Rattle.std.proofs.Common.{◌≡◌, ◌∙◌, ap, cond, Bool, true, false, not, List, [], ◌∷◌, ◌&&◌, ℕ, Option, length, map, refl}
-use Rattle.std.proofs.{Common.{sym}, lemmas.List.Elements.{recursion_from_All}}
+use Rattle.std.proofs.Common.{◌≡◌, ◌∙◌, ap, Bool, false, not, List, [], ◌∷◌, ◌&&◌, ℕ, Option, length, map, refl}
+use Rattle.std.proofs.{Common.{arith, sym}, lemmas.List.Elements.{recursion_from_All}}
 use Rattle.std.specs.List.{All, AllByRecursion}
 use Rattle.rt_geo.specs.{Entries.{HasLayer}, Laws.{Extent, Meaning, extent_of_entry}, Layers.{all_layers, disjoint}}
 use Rattle.rt_geo.specs.{Lemmas.Layers.{disjoint-only, has-all}, OnLayers.{on_layers_accepts}, Orders.{order_score}}
@@ -26,8 +26,7 @@ on_some : (entry : Entry) → HasLayer entry → disjoint (extent_of_entry entry
 on_some entry few = disjoint-only entry.layer all_layers ∙ ap not (has-all entry.layer few)
 
 and_not : (a b : Bool) → b ≡ false → (a && not b) ≡ a
-and_not true b h = ap not h
-and_not false b h = refl
+and_not a b h = grind (arith, h)
 
 module _ (accepts : Extent → Bool) (score : Extent → ℕ) where
   abbrev on_layers : Layers → Meaning
@@ -40,10 +39,7 @@ module _ (accepts : Extent → Bool) (score : Extent → ℕ) where
       → accepted entries (on_layers all_layers) ≡ accepted entries plain
   same_by_recursion [] a = refl
   same_by_recursion (entry ∷ entries) a =
-      let test = and_not (accepts (extent_of_entry entry)) _ (on_some entry a.0) in
-      let rest = same_by_recursion entries a.1 in
-      ap (λ b. cond b (entry ∷ accepted entries (on_layers all_layers)) (accepted entries (on_layers all_layers))) test
-      ∙ ap (λ l. cond (accepts (extent_of_entry entry)) (entry ∷ l) l) rest
+      rw (and_not (accepts (extent_of_entry entry)) _ (on_some entry a.0), same_by_recursion entries a.1) refl
 
   module _ (entries : List Entry) (few : All HasLayer entries) (layers : Layers) (all : layers ≡ all_layers) where
     accepted-all : accepted entries (on_layers layers) ≡ accepted entries plain
@@ -66,8 +62,7 @@ module _ (accepts : Extent → Bool) (entries : List Entry) (few : All HasLayer 
 pub report_on-asked : (entries : List Entry) (line : ℕ) (asked : BoxQuery) (report : Report)
     → report_on entries (on_layers_accepts (region_accepts asked.region) asked.layers) line asked.order report
     ≡ report_of entries line (meaning_of asked) report
-report_on-asked entries line asked (Answers limit) = refl
-report_on-asked entries line asked Count = refl
+report_on-asked entries line asked report = grind arith
 
 -- the report on a circle's boxes is that on its disc's, where that means both
 pub report_on-disc : (entries : List Entry) (line : ℕ) (asked : Region) (order : Order) (report : Report) (limit : Option ℕ)

@@ -13,8 +13,7 @@ if_some P (Some xs) h = h xs refl
 
 -- what holds anyway holds of a failure
 pub at_failure : {T E B : Type 0} (r : Result T E) (P : E → Type 0) (A : T → Type 0) → IsErrAnd r P → B → MatchResult r A (λ _. B)
-at_failure (Ok x) P A is h = absurd is
-at_failure (Err e) P A is h = h
+at_failure r P A is h = grind (arith, is, h)
 
 -- a sink that is left alone
 pub nothing_pushed : (written : Option (List ℕ)) → WasPushed written written []
@@ -95,8 +94,7 @@ pushed_prefix all old mid new rest p h =
     pushed_cut all rest [] old mid new (rw (append-nil rest) p) (unmoved mid new rest h)
 
 pub unmoved_same : (now : Option (List ℕ)) → IsSameIfTold now now
-unmoved_same None = tt
-unmoved_same (Some xs) = refl
+unmoved_same now = grind arith
 
 -- what came out before, and then a prefix of the bytes: told by prefixes alone
 pub cut_told : (before bytes : List ℕ) (now : Option (List ℕ)) → WentPrefix before now bytes
@@ -127,8 +125,7 @@ module _ {T E K : Type 0} (written : K → Option (List ℕ)) (failed : K → �
   -- a failure is one at each type
   pub as_failed : (r : Result T E) (P : E → Type 0) (bytes : List ℕ) → IsErrAnd r P
       → WasCut (written old) (written new) bytes × (failed new ≡ failed old + 1) → Pushed written failed old new r bytes
-  as_failed (Ok x) P bytes is h = absurd is
-  as_failed (Err e) P bytes is h = h
+  as_failed r P bytes is h = grind (arith, is, h)
 
   -- what was left was pushed
   pub pushed_last : (all last : List ℕ) (r : Result T E) → AllBut all (written old) (written mid) last → failed mid ≡ failed old
@@ -148,9 +145,5 @@ pub pushed_told : {T E K : Type 0} (written : K → Option (List ℕ)) (failed :
     → IfSome (written old) (λ before. MatchResult r (λ _. written new ≡ Some (before ++ bytes))
     (λ _. IfSome (written new) (λ known. StartsWith known before × StartsWith (before ++ bytes) known)))
 pushed_told written failed old new (Ok x) bytes h = h.0
-pushed_told written failed old new (Err e) bytes h = by (written old) h.0
-  where
-    by : (o : Option (List ℕ)) → WasCut o (written new) bytes
-        → IfSome o (λ before. IfSome (written new) (λ known. StartsWith known before × StartsWith (before ++ bytes) known))
-    by None k = tt
-    by (Some before) k = cut_told before bytes (written new) k
+pushed_told written failed old new (Err e) bytes h =
+    if_some _ (written old) (λ before is. cut_told before bytes (written new) (rw is at h.0))

@@ -7,8 +7,8 @@ use Rattle.rt_geo.specs.declared.region.Region.TheVariants.{All, Circle}
 use Rattle.rt_text.proofs.Rows.{boxes, boxes_entries, boxes_load, line}
 use Rattle.rt_text.specs.declared.query.{Query.TheVariants.{Boxes}, Report.TheVariants.{Answers}}
 use Rattle.rt_search.specs.Answers.{answers}
-use Rattle.rt_filter.specs.{Faults.{run_fault_line}, Lines.{numbered_lines}, Replies.{meaning_of, query_reply}, Runs.{Run}}
-use Rattle.rt_filter.specs.{Runs.{run_of, run_over}, declared.filter.RunFault.TheVariants.{Table}}
+use Rattle.rt_filter.specs.{Faults.{run_fault_line}, Lines.{numbered_lines}, Replies.{meaning_of, query_reply}, Runs.{run_of, run_over}}
+use Rattle.rt_filter.specs.declared.filter.{Outcome.{Outcome}, RunFault.TheVariants.{Table}}
 use Rattle.rt_filter.proofs.RunLemmas.{loaded_with, whole_run}
 use Rattle.rt_text.specs.declared.tables.TableFault.TheVariants as fault
 
@@ -30,7 +30,7 @@ row_nearest = refl
 
 -- ---- replies over the five boxes, at most two children for each node
 
-abbrev answered : List ℕ → Run
+abbrev answered : List ℕ → List ℕ × Outcome
 answered queries = run_over (Ok (record { entries = boxes_entries; fanout = 2 })) queries
 
 row_window : answered (codes "find window 0 10 0 10") ≡ whole_run (line (codes "1 0") ++ line (codes "2 0") ++ line (codes "ok 1 2")) false

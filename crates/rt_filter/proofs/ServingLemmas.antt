@@ -10,7 +10,7 @@ use Rattle.rt_filter.specs.{Lines.{longest_line, numbered_lines}, Pushes.{WasCut
 use Rattle.rt_filter.specs.{Replies.{any_fault, output}, Sessions.{Heard, heard_of}, Stages.{IsServing}}
 use Rattle.rt_filter.specs.declared.serving.Served.{Served}
 use Rattle.rt_filter.proofs.{LineLemmas.{completed-all}, PushLemmas.{behind, nothing_pushed}, SessionLemmas.{any_fault-append}}
-use Rattle.rt_filter.proofs.SessionLemmas.{or_first, output-append, pushed_then}
+use Rattle.rt_filter.proofs.SessionLemmas.{ended-lines, or_first, output-append, pushed_then}
 use Rattle.rt_filter.specs.declared.serving.ServeFault.TheVariants as serve
 
 -- ---- what a source and a sink tell
@@ -20,14 +20,7 @@ consumes_none None = tt
 consumes_none (Some all) = refl
 
 consumes_more : (old mid new : Option (List ℕ)) (xs ys : List ℕ) → Consumes old mid xs → Consumes mid new ys → Consumes old new (xs ++ ys)
-consumes_more None mid new xs ys h k = tt
-consumes_more (Some all) None new xs ys h k = absurd h
-consumes_more (Some all) (Some left) None xs ys h k = absurd k
-consumes_more (Some all) (Some left) (Some rest) xs ys h k = h ∙ ap (λ zs. xs ++ zs) k ∙ sym (append_assoc xs ys rest)
-
--- a pull that gave none
-pub no_bytes : (old new : Option (List ℕ)) (n : ℕ) (room : List ℕ) → n ≡ 0 → Consumes old new (take n room) → Consumes old new []
-no_bytes old new n room e h = rw e at h
+consumes_more old mid new xs ys h k = grind (arith, append_assoc xs ys)
 
 pub consumed_none : (old : Option (List ℕ)) → ConsumedAtLeast 0 old old
 consumed_none old = ([], consumes_none old, omega arith)
@@ -43,12 +36,7 @@ pulled_none None = tt
 pulled_none (Some n) = (n, refl, omega arith)
 
 pub pulled_more : (times : ℕ) (old mid new : Option ℕ) → PulledTimes times old mid → PulledTimes 1 mid new → PulledTimes (times + 1) old new
-pulled_more times old mid None h k = tt
-pulled_more times old None (Some n) h k = absurd (grind (arith, k.1))
-pulled_more times old (Some m) (Some n) h k = (h.0, h.1, by k.1)
-  where
-    by : Some m ≡ Some k.0 → n ≡ h.0 + (times + 1)
-    by e = let same : m ≡ k.0 = cc in omega (arith, same, h.2, k.2)
+pulled_more times old mid new h k = grind (arith, h, k)
 
 -- one pull more, where a turn is left
 pub pulled_within : (times turns : ℕ) (old mid new : Option ℕ) → PulledTimes times old mid → PulledTimes 1 mid new → times < turns
@@ -59,24 +47,22 @@ pulled_within times turns old mid new h k left = (times + 1, pulled_more times o
 abbrev pub rest_of : Option (List ℕ) → List ℕ
 rest_of coming = unwrap_or coming []
 
+ended : (now : Option (List ℕ)) → IsAtEnd now → rest_of now ≡ []
+ended None at = refl
+ended (Some rest) at = at
+
 abbrev pub so_far : (consumed : List ℕ) (coming : Option (List ℕ)) (out : List ℕ) → Happened
 so_far consumed coming out = record { consumed = consumed; rest = rest_of coming; out = out }
 
 pub source_tells : (failed : Type 0) (old now : Option (List ℕ)) (consumed out : List ℕ) → Consumes old now consumed → SourceTells failed old now (so_far consumed now out)
-source_tells failed None now consumed out h = tt
-source_tells failed (Some all) None consumed out h = absurd h
-source_tells failed (Some all) (Some rest) consumed out h = (h, (refl, λ _. refl))
+source_tells failed old now consumed out h = grind (arith, h)
 
 source_failed : (failed : Type 0) → failed → (old mid now : Option (List ℕ)) (consumed out : List ℕ) → Consumes old mid consumed → IsSameIfTold mid now
     → SourceTells failed old now (so_far consumed mid out)
-source_failed failed f None mid now consumed out h k = tt
-source_failed failed f (Some all) None now consumed out h k = absurd h
-source_failed failed f (Some all) (Some rest) None consumed out h k = (h, (tt, λ other. absurd (other f)))
-source_failed failed f (Some all) (Some rest) (Some left) consumed out h k = (h, (k, λ _. refl))
+source_failed failed f old mid now consumed out h k = grind (arith, f, h, k)
 
 pub sink_tells : (failed : Type 0) (old now : Option (List ℕ)) (what : Happened) → WasPushed old now what.out → SinkTells failed old now what
-sink_tells failed None now what h = tt
-sink_tells failed (Some before) now what h = rw h (refl, λ _. refl)
+sink_tells failed old now what h = grind (arith, h)
 
 -- some went out whole, and of the next bytes a prefix
 record WentOut (failed : Type 0) (old now : Option (List ℕ)) (consumed rest xs ys : List ℕ) : Type 0 where
@@ -134,20 +120,14 @@ module _ (loaded : Loaded) (coming0 coming written0 written : Option (List ℕ))
   pub serves_all : (now out : Option (List ℕ)) (served : Served) → Consumes coming now [] → IsAtEnd now → WasPushed written out (output loaded (completed s.consumed [] true))
       → served.bad ≡ any_fault (numbered_lines s.consumed true) → served.fault ≡ None → Serves loaded coming0 now written0 out served
   serves_all now out served h at w b f =
-      let lines : numbered_lines s.consumed true ≡ numbered_lines s.consumed false ++ completed s.consumed [] true =
-      ap (λ zs. numbered_lines zs true) (sym (append-nil s.consumed)) ∙ completed-all s.consumed [] true in
       let all : WasPushed written0 out (output loaded (numbered_lines s.consumed true)) =
-      rw (lines, output-append loaded (numbered_lines s.consumed false)) (pushed_then written0 written out _ _ s.pushed w) in
+      rw (ended-lines s.consumed, output-append loaded (numbered_lines s.consumed false)) (pushed_then written0 written out _ _ s.pushed w) in
       rw (b, f) (
         so_far s.consumed now (output loaded (numbered_lines s.consumed true)),
         source_tells (None ≡ Some serve.Read) coming0 now s.consumed (output loaded (numbered_lines s.consumed true)) (subst (Consumes coming0 now) (append-nil s.consumed) (consumes_more coming0 coming now s.consumed [] s.given h)),
         sink_tells (None ≡ Some serve.Write) written0 out (so_far s.consumed now (output loaded (numbered_lines s.consumed true))) all,
         (ended now at, record { replies = refl; faults = refl }),
       )
-    where
-      ended : (now : Option (List ℕ)) → IsAtEnd now → rest_of now ≡ []
-      ended None at = refl
-      ended (Some rest) at = at
 
   -- a push or a flush failed on the way
   cut_row : (now out : Option (List ℕ)) (served : Served) (given : List ℕ) (lines later : List (ℕ × List ℕ)) → Consumes coming now given → length given ≤ longest_line + 1
@@ -187,16 +167,6 @@ module _ (loaded : Loaded) (coming0 coming written0 written : Option (List ℕ))
   pub serves_cut_at_end : (now out : Option (List ℕ)) (served : Served) → Consumes coming now [] → IsAtEnd now → WasCut written out (output loaded (completed s.consumed [] true))
       → (served.bad ≡ true → any_fault (numbered_lines s.consumed true) ≡ true) → served.fault ≡ Some serve.Write → Serves loaded coming0 now written0 out served
   serves_cut_at_end now out served h at cut b f =
-      by now h at
-    where
-      whole : numbered_lines s.consumed true ≡ numbered_lines (s.consumed ++ []) true
-      whole = ap (λ zs. numbered_lines zs true) (sym (append-nil s.consumed))
-
-      all : numbered_lines (s.consumed ++ []) true ≡ numbered_lines s.consumed false ++ (completed s.consumed [] true ++ [])
-      all = completed-all s.consumed [] true ∙ ap (λ ls. numbered_lines s.consumed false ++ ls) (sym (append-nil _))
-
-      by : (now : Option (List ℕ)) → Consumes coming now [] → IsAtEnd now → Serves loaded coming0 now written0 out served
-      by None h at = cut_row None out served [] (completed s.consumed [] true) [] h (omega arith) cut all (λ e. sym (ap any_fault whole) ∙ b e) f
-      by (Some rest) h at =
-          let k : Consumes coming (Some []) [] = rw at at h in
-          rw at (cut_row (Some []) out served [] (completed s.consumed [] true) [] k (omega arith) cut all (λ e. sym (ap any_fault whole) ∙ b e) f)
+      cut_row now out served [] (completed s.consumed [] true) [] h (omega arith) cut
+      (rw (ended now at, append-nil (completed s.consumed [] true)) (completed-all s.consumed [] true))
+      (rw (ended now at, append-nil s.consumed) b) f

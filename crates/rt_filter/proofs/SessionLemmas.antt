@@ -1,11 +1,11 @@
 -- What a session has heard, and what it has answered.
 use Rattle.std.proofs.Common.{◌≡◌, ◌∙◌, ◌+◌, ℕ, Bool, true, false, ◌||◌, List, [], ◌∷◌, ◌++◌, length, take, drop, Option, Some}
-use Rattle.std.proofs.{Common.{None, refl, sym, ap, subst, arith, append_assoc, append-nil}, Math.Bool.{or-false}}
-use Rattle.std.proofs.lemmas.{Bool.{lt-ltb, ltb-true}, Grind.{flat_map-append}, List.{length-append, Folds.{list_any-append}}}
-use Rattle.std.specs.{Io.KnownBytes.{Keeps}, Prelude.{nat_lt, Err, MatchResult, Ok, Result}}
+use Rattle.std.proofs.{Common.{refl, sym, ap, subst, arith, append_assoc, append-nil}, Math.Bool.{or-false}}
+use Rattle.std.proofs.lemmas.{Bool.{Decides.{nat_tests}}, Grind.{flat_map-append}, List.{length-append, Folds.{list_any-append}}}
+use Rattle.std.specs.{Io.KnownBytes.{Keeps}, Prelude.{MatchResult, Result}}
 use Rattle.memchr.specs.Find.{IsFirstByte, is_byte}
 use Rattle.rt_device.specs.Devices.{IsSameIfTold}
-use Rattle.rt_filter.specs.{Lines.{begun_line, completed, longest_line, numbered_lines}, Pushes.{WasCut, WasPushed}}
+use Rattle.rt_filter.specs.{Lines.{begun_line, completed, numbered_lines}, Pushes.{WasCut, WasPushed}}
 use Rattle.rt_filter.specs.{Replies.{Loaded, any_fault, is_fault, judged_line, output, reply}, Sessions.{Heard, heard_of}}
 use Rattle.rt_filter.specs.{Sessions.{kept_of}, Stages.{HasNoLineFeed, IsAnswered, is_nothing, kept_with, line_feed}}
 use Rattle.rt_filter.specs.Stages.{lines_from, parsed_with}
@@ -17,29 +17,13 @@ use Rattle.rt_filter.proofs.PushLemmas.{pushed_next, pushed_none, pushed_prefix,
 
 -- what is kept of it is of more bytes a line's, or too long already
 kept_more : (begun more : List ℕ) → kept_with (kept_of begun) more ≡ kept_of (begun ++ more)
-kept_more begun more = by (nat_lt longest_line (length begun)) refl
-  where
-    by : (b : Bool) → nat_lt longest_line (length begun) ≡ b → kept_with (kept_of begun) more ≡ kept_of (begun ++ more)
-    by true e =
-        let over : nat_lt longest_line (length (begun ++ more)) ≡ true = lt-ltb longest_line (length (begun ++ more)) (omega (arith, length-append begun more, ltb-true longest_line (length begun) e)) in
-        rw (e, over) refl
-    by false e = rw e refl
+kept_more begun more = grind (arith, nat_tests, length-append begun more)
 
 kept_parsed : (begun end : List ℕ) → parsed_with (kept_of begun) end ≡ judged_line (begun ++ end)
-kept_parsed begun end = by (nat_lt longest_line (length begun)) refl
-  where
-    by : (b : Bool) → nat_lt longest_line (length begun) ≡ b → parsed_with (kept_of begun) end ≡ judged_line (begun ++ end)
-    by true e =
-        let over : nat_lt longest_line (length (begun ++ end)) ≡ true = lt-ltb longest_line (length (begun ++ end)) (omega (arith, length-append begun end, ltb-true longest_line (length begun) e)) in
-        rw (e, over) refl
-    by false e = rw e refl
+kept_parsed begun end = grind (arith, nat_tests, length-append begun end)
 
 kept_some : (x : ℕ) (begun : List ℕ) → is_nothing (kept_of (x ∷ begun)) ≡ false
-kept_some x begun = by (nat_lt longest_line (length (x ∷ begun))) refl
-  where
-    by : (b : Bool) → nat_lt longest_line (length (x ∷ begun)) ≡ b → is_nothing (kept_of (x ∷ begun)) ≡ false
-    by true e = rw e refl
-    by false e = rw e refl
+kept_some x begun = grind (arith, nat_tests)
 
 -- ---- replies to some lines and then others
 
@@ -68,9 +52,7 @@ pub or_first : (a b : Bool) → a ≡ true → (a || b) ≡ true
 or_first a b h = rw h refl
 
 or_more : (a b c : Bool) → (a || b) ≡ true → (a || (b || c)) ≡ true
-or_more true b c h = refl
-or_more false true c h = refl
-or_more false false c h = grind (arith, h)
+or_more a b c h = grind (arith, h)
 
 module _ (fed line : List ℕ) (clear : HasNoLineFeed line) where
   abbrev number : ℕ
@@ -184,13 +166,8 @@ fault-kept heard fed e h = sym (ap (λ h. h.bad) e) ∙ h
 
 -- ---- a flush
 
-kept : (xs : List ℕ) (new : Option (List ℕ)) → Keeps (Some xs) new → new ≡ Some xs
-kept xs None h = absurd h
-kept xs (Some ys) h = ap (λ zs. Some zs) h
-
 pub pushed_kept : (old mid new : Option (List ℕ)) (bytes : List ℕ) → WasPushed old mid bytes → Keeps mid new → WasPushed old new bytes
-pushed_kept None mid new bytes w k = tt
-pushed_kept (Some xs) mid new bytes w k = kept (xs ++ bytes) new (rw w at k)
+pushed_kept old mid new bytes w k = grind (arith, w, k)
 
 pub pushed_lost : (old mid new : Option (List ℕ)) (bytes : List ℕ) → WasPushed old mid bytes → IsSameIfTold mid new → WasCut old new bytes
 pushed_lost old mid new bytes w k =
@@ -199,12 +176,12 @@ pushed_lost old mid new bytes w k =
 -- ---- the end
 
 -- nothing stands behind the last line feed
+none_kept : (begun : List ℕ) → is_nothing (kept_of begun) ≡ true → begun ≡ []
+none_kept [] k = refl
+none_kept (x ∷ begun) k = absurd (grind (arith, k, kept_some x begun))
+
 pub ended-none : (heard : Heard) → is_nothing heard.begun ≡ true → (fed : List ℕ) → heard ≡ heard_of fed → completed fed [] true ≡ []
-ended-none heard h fed e = by (begun_line fed) refl (sym (ap (λ h. is_nothing h.begun) e) ∙ h)
-  where
-    by : (begun : List ℕ) → begun_line fed ≡ begun → is_nothing (kept_of (begun_line fed)) ≡ true → completed fed [] true ≡ []
-    by [] b k = completed-ended_none fed b
-    by (x ∷ begun) b k = absurd (grind (arith, k, kept_some x begun, b))
+ended-none heard h fed e = completed-ended_none fed (none_kept (begun_line fed) (sym (ap (λ h. is_nothing h.begun) e) ∙ h))
 
 -- something does
 pub ended-some : (heard : Heard) → is_nothing heard.begun ≡ false → (fed : List ℕ) → heard ≡ heard_of fed → completed fed [] true ≡ completed fed (line_feed ∷ []) false
@@ -215,7 +192,7 @@ ended-some heard h fed e = by (begun_line fed) refl (sym (ap (λ h. is_nothing h
     by (x ∷ begun) b k = completed-ended fed x begun b
 
 -- all lines, those that the end completes with them
-ended-lines : (fed : List ℕ) → numbered_lines fed true ≡ numbered_lines fed false ++ completed fed [] true
+pub ended-lines : (fed : List ℕ) → numbered_lines fed true ≡ numbered_lines fed false ++ completed fed [] true
 ended-lines fed = ap (λ zs. numbered_lines zs true) (sym (append-nil fed)) ∙ completed-all fed [] true
 
 pub ended-lines_none : (heard : Heard) → is_nothing heard.begun ≡ true → (fed : List ℕ) → heard ≡ heard_of fed → numbered_lines fed true ≡ numbered_lines fed false
@@ -229,5 +206,4 @@ ended-lines_some heard h fed e =
 pub ended-bad : {T E : Type 0} (r : Result T E) (heard : Heard) (fed : List ℕ)
     → MatchResult r (λ _. heard ≡ heard_of fed) (λ _. heard.bad ≡ true → any_fault (numbered_lines fed false) ≡ true)
     → MatchResult r (λ _. heard.bad ≡ any_fault (numbered_lines fed false)) (λ _. heard.bad ≡ true → any_fault (numbered_lines fed false) ≡ true)
-ended-bad (Ok x) heard fed h = ap (λ h. h.bad) h
-ended-bad (Err e) heard fed h = h
+ended-bad r heard fed h = grind (arith, h)

@@ -3,7 +3,7 @@ use Rattle.std.proofs.Common.{◌≡◌, ◌≤◌, ◌∙◌, ◌++◌, ℕ, Li
 use Rattle.std.proofs.lemmas.List.{Concat.{flat_map-cons}, Sorted.{IsPermutation-sym, length_permutation}}
 use Rattle.std.specs.{List.{IsDistinct, Sorted.{IsPermutation}}, Ordering.{int_eq}}
 use Rattle.rt_geo.specs.{Laws.{Meaning}, declared.entry.Entry.{Entry}}
-use Rattle.rt_tree.specs.{Entries.{ids_of}, Levels.{level_sizes}, Packed.{IsSound, Packed}, Packing.{pack_of}}
+use Rattle.rt_tree.specs.{Entries.{ids_of}, Levels.{level_sizes}, Packed.{IsSound, Packed}}
 use Rattle.rt_tree.specs.Sorting.{limited}
 use Rattle.rt_tree.proofs.{PackSound.{entries-IsPermutation}, Repacked.{pack_of-IsPermutation}}
 use Rattle.rt_text.specs.{ReplyLines.{ok_line}, declared.query.{BoxQuery.{BoxQuery}, Parsed.{Parsed}, Query.{Query}}}
@@ -72,12 +72,7 @@ module _ (tree : Packed) (loaded : Loaded) (sound : IsSound tree) (packed : tree
       output-IsPermutation loaded.fanout loaded.entries tree.entries sound.table.distinct moved lines
       ∙ ap (λ fanout. output (record { entries = tree.entries; fanout = fanout }) lines) (sym fanout_same)
 
--- ---- what a report costs
-
--- how many nodes are opened of the tree is its cost line's answer
-pub cost_same : (tree : Packed) (line opened : ℕ) (asked : BoxQuery) (report : Report) → asked.report ≡ report
-    → tree ≡ pack_of tree.fanout tree.entries → opened ≡ opened_for tree (meaning_of asked) report
-    → ok_line line opened ≡ query_reply (loaded_tree tree) line (Cost asked)
-cost_same tree line opened asked report reported packed is =
-    ap (ok_line line) (is ∙ ap (λ tree. opened_for tree (meaning_of asked) report) packed
-    ∙ ap (opened_for (tree_of (loaded_tree tree)) (meaning_of asked)) (sym reported))
+-- a cost is told of the tree itself
+pub cost_same : (tree : Packed) (line : ℕ) (asked : BoxQuery) → tree ≡ tree_of (loaded_tree tree)
+    → query_reply (loaded_tree tree) line (Cost asked) ≡ ok_line line (opened_for tree (meaning_of asked) asked.report)
+cost_same tree line asked packed = ap (λ tree. ok_line line (opened_for tree (meaning_of asked) asked.report)) (sym packed)

@@ -8,7 +8,7 @@ use Rattle.rt_text.specs.declared.tables.TableFault.{TableFault}
 use Rattle.rt_text.specs.declared.tables.TableFault.TheVariants as load
 use Rattle.rt_filter.specs.Lines.{longest_line, numbered_lines}
 use Rattle.rt_filter.specs.Replies.{Loaded, any_fault, output}
-use Rattle.rt_filter.specs.Runs.{Run, loaded_of, run_of}
+use Rattle.rt_filter.specs.Runs.{loaded_of, run_over}
 use Rattle.rt_filter.specs.declared.filter.Outcome.{Outcome}
 use Rattle.rt_filter.specs.declared.filter.RunFault.{RunFault}
 use Rattle.rt_filter.specs.declared.filter.RunFault.TheVariants.{Table, Read, Write, Memory}
@@ -77,18 +77,19 @@ Serves loaded coming coming' written written' served =
 abbrev pub EndsServing : Result Loaded TableFault → Happened → ServeFault → Type 0
 EndsServing loaded what cause = IsOkAnd loaded (λ loaded. (bad : Bool) × ServesWith loaded what bad (Some cause))
 
--- the row of each fault; `run` is the run in which nothing fails outside
-abbrev pub EndsWith : Result Loaded TableFault → (run : Run) → Happened → Outcome → Option RunFault → Type 0
-EndsWith loaded run what outcome None = (what.rest ≡ []) × (run ≡ (what.out, outcome))
-EndsWith loaded run what outcome (Some (Table load.Read)) = (what.consumed ≡ []) × (what.out ≡ [])
-EndsWith loaded run what outcome (Some (Table of_text)) = (what.consumed ≡ []) × (run ≡ (what.out, outcome))
-EndsWith loaded run what outcome (Some Read) = EndsServing loaded what serve.Read
-EndsWith loaded run what outcome (Some Write) = EndsServing loaded what serve.Write
-EndsWith loaded run what outcome (Some Memory) = (what.consumed ≡ []) × (what.out ≡ [])
+-- the row of each fault; where nothing fails outside, it is the run over what was loaded or over the table's fault
+abbrev pub EndsWith : Result Loaded TableFault → Happened → Outcome → Option RunFault → Type 0
+EndsWith loaded what outcome None = (what.rest ≡ []) × (run_over loaded what.consumed ≡ (what.out, outcome))
+EndsWith loaded what outcome (Some (Table load.Read)) = (what.consumed ≡ []) × (what.out ≡ [])
+EndsWith loaded what outcome (Some (Table of_text)) =
+    (what.consumed ≡ []) × (run_over loaded what.rest ≡ (what.out, outcome))
+EndsWith loaded what outcome (Some Read) = EndsServing loaded what serve.Read
+EndsWith loaded what outcome (Some Write) = EndsServing loaded what serve.Write
+EndsWith loaded what outcome (Some Memory) = (what.consumed ≡ []) × (what.out ≡ [])
 
 -- how a run over a table's bytes may end, as far as source and sink tell
 abbrev pub Ends : Choices → (table : List ℕ) → (coming coming' written written' : Option (List ℕ)) → Outcome → Type 0
 Ends choices table coming coming' written written' outcome =
     (what : Happened) × SourceTells (outcome.fault ≡ Some Read) coming coming' what
     × SinkTells (outcome.fault ≡ Some Write) written written' what
-    × EndsWith (loaded_of choices table) (run_of choices table (what.consumed ++ what.rest)) what outcome outcome.fault
+    × EndsWith (loaded_of choices table) what outcome outcome.fault

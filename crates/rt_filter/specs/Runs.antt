@@ -9,12 +9,9 @@ use Rattle.rt_filter.specs.Replies.{Loaded, any_fault, output}
 use Rattle.rt_filter.specs.declared.filter.Outcome.{Outcome}
 use Rattle.rt_filter.specs.declared.filter.RunFault.TheVariants.{Table}
 
--- what a run writes, and its status and the fault that it reports
-abbrev pub Run : Type 0
-Run = List ℕ × Outcome
-
--- a run over the fault of the table, or over what was loaded: its status is then 1 where some line is faulty, else 0
-abbrev pub run_over : Result Loaded TableFault → List ℕ → Run
+-- what a run writes, and its status and the fault that it reports: of the fault of the table, or over what was loaded,
+-- where the status is 1 if some line is faulty, else 0
+abbrev pub run_over : Result Loaded TableFault → (queries : List ℕ) → List ℕ × Outcome
 run_over (Err cause) queries = ([], record { status = 3; fault = Some (Table cause) })
 run_over (Ok loaded) queries =
     let lines = numbered_lines queries true in
@@ -27,5 +24,5 @@ loaded_of choices table = do
   Ok (record { entries = entries; fanout = choices.fanout })
 
 -- the run of settings over a table's bytes and query bytes
-abbrev pub run_of : Choices → (table queries : List ℕ) → Run
+abbrev pub run_of : Choices → (table queries : List ℕ) → List ℕ × Outcome
 run_of choices table queries = run_over (loaded_of choices table) queries

@@ -8,8 +8,8 @@ ghost use Rattle.rt_geo.specs.Regions.{region_accepts};
 ghost use Rattle.rt_tree.specs.Levels.{level_sizes};
 ghost use Rattle.rt_text.specs.ReplyLines.{ok_line};
 ghost use Rattle.rt_search.specs.{Answers.{answers}, Work.{IsUnscored}};
-ghost use Rattle.rt_filter.specs.{Pushes.{Pushed}, Replies.{find_reply, levels_reply, query_reply}};
-ghost use Rattle.rt_filter.specs.{Reports.{report_on}, Stages.{loaded_tree}};
+ghost use Rattle.rt_filter.specs.{Pushes.{Pushed}, Reports.{report_on}, Stages.{loaded_tree}};
+ghost use Rattle.rt_filter.specs.Replies.{find_reply, levels_reply, meaning_of, opened_for, query_reply};
 
 use crate::reply::{push_line, push_search};
 use rt_device::{Sink, WriteFault};
@@ -35,22 +35,17 @@ pub(crate) fn push_reply<K: Sink>(
         (query_reply (loaded_tree tree.now) line query.entry) }
     ensures capacity { IfOk result (λ left. left.capacity ≡ frontier.capacity) }
 {
+    // (called, so that it is known which layers the entries have, and that the tree is the packed one of them)
+    let _most = tree.len();
     match query {
         Query::Boxes(asked) => {
-            // (called, so that it is known which layers the entries have)
-            let _most = tree.len();
             // (all layers are those of all entries: none is checked)
             if asked.layers.bits() == u64::MAX {
                 return push_in_region(tree, frontier, line, asked, sink);
             }
-            let BoxQuery {
-                region: shape,
-                layers,
-                order,
-                report,
-            } = asked;
+            let (shape, layers) = (asked.region, asked.layers);
             let shape = OnLayers { shape, layers };
-            push_in_shape(tree, frontier, line, shape, order, report, sink)
+            push_in_shape(tree, frontier, line, shape, asked.order, asked.report, sink)
         }
         Query::Cost(asked) => push_cost(tree, frontier, line, asked, sink),
         Query::Levels => {
@@ -90,13 +85,8 @@ fn push_in_region<K: Sink>(
         (report_on tree.now.entries (region_accepts asked.entry.region) line asked.entry.order asked.entry.report) }
     ensures capacity { IfOk result (λ left. left.capacity ≡ frontier.capacity) }
 {
-    let BoxQuery {
-        region,
-        order,
-        report,
-        ..
-    } = asked;
-    match region {
+    let BoxQuery { order, report, .. } = asked;
+    match asked.region {
         Region::All(shape) => push_in_shape(tree, frontier, line, shape, order, report, sink),
         Region::Window(shape) => push_in_shape(tree, frontier, line, shape, order, report, sink),
         Region::Inside(shape) => push_in_shape(tree, frontier, line, shape, order, report, sink),
@@ -205,21 +195,14 @@ fn push_cost<K: Sink>(
     requires room { length tree.now.entries ≤ frontier.capacity }
     requires count { K.failed sink.old < 2 ^ 64 - 1 }
     ensures pushed { Pushed K.written K.failed sink.old sink.new result
-        (query_reply (loaded_tree tree.now) line (Query.Cost asked.entry)) }
+        (ok_line line (opened_for tree.now (meaning_of asked.entry) asked.entry.report)) }
     ensures capacity { IfOk result (λ left. left.capacity ≡ frontier.capacity) }
 {
-    // (called, so that it is known that the tree is the packed one of its own entries)
-    let _most = tree.len();
-    let BoxQuery {
-        region: shape,
-        layers,
-        order: rank,
-        report,
-    } = asked;
+    let (shape, layers, rank) = (asked.region, asked.layers, asked.order);
     let shape = OnLayers { shape, layers };
     let geometry = Guided { shape, rank };
     let mut counted = Counted::new(&geometry);
-    match report {
+    match asked.report {
         Report::Answers { limit } => {
             let (opened, frontier) = cost(tree, frontier, counted, limit);
             push_line(&ok_line(line, opened), sink)?;

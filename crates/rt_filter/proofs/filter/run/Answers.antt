@@ -1,5 +1,5 @@
-use Rattle.std.proofs.Common.{rules}
-use Rattle.rt_filter.proofs.RunLemmas.{ends_early, ends_served, ends_whole, never_outside}
+use Rattle.std.proofs.{Common.{arith, rules}, lemmas.Grind.{common_steps}}
+use Rattle.rt_filter.proofs.RunLemmas.{ends_early, ends_served, ends_whole}
 use Rattle.rt_filter.proofs.filter.run.Goals as goal
 
 pub returns-in-Ok-clause-ending : goal.returns-in-Ok-clause-ending
@@ -17,15 +17,14 @@ returns-in-Ok-clause-headline g c table queries before is_table is_queries is_be
 
 pub returns-in-Err-clause-ending : goal.returns-in-Err-clause-ending
 returns-in-Err-clause-ending g c table is_table =
-    ends_early c.args.settings.now table c.outcome-in-Err.result c.in-Err.fault (c.in-Err.ensures.stops table is_table)
-    c.in-Err.ensures.of_load c.in-Err.ensures.memory c.outcome-in-Err.ensures.fault c.outcome-in-Err.ensures.status
-    (g.S.Source.coming c.args.source.now) (g.K.Sink.written c.args.sink.now)
+    ends_early c.args.settings.now table (g.S.Source.coming c.args.source.now) (g.K.Sink.written c.args.sink.now)
+    c.outcome-in-Err.result c.in-Err.fault (c.in-Err.ensures.stops table is_table) c.in-Err.ensures.of_load c.in-Err.ensures.memory
+    c.outcome-in-Err.ensures.fault c.outcome-in-Err.ensures.status
 
 pub returns-in-Err-clause-headline : goal.returns-in-Err-clause-headline
 returns-in-Err-clause-headline g c table queries before is_table is_queries is_before =
-    let never = never_outside c.outcome-in-Err.result.fault c.in-Err.fault c.outcome-in-Err.ensures.fault c.in-Err.ensures.of_load in
     let coming = g.S.Source.coming c.args.source.now in
     let written = g.K.Sink.written c.args.sink.now in
     ends_whole c.args.settings.now table queries before coming coming written written c.outcome-in-Err.result c.args.turns
     (g.S.Source.failed c.args.source.now) (g.S.Source.failed c.args.source.now) (g.K.Sink.failed c.args.sink.now) (g.K.Sink.failed c.args.sink.now)
-    (returns-in-Err-clause-ending g c table is_table) is_queries is_before (λ e. absurd (never.0 e)) (λ e. absurd (never.1 e))
+    (returns-in-Err-clause-ending g c table is_table) is_queries is_before (grind (arith, common_steps)) (grind (arith, common_steps))

@@ -1,6 +1,6 @@
 use Rattle.std.proofs.{Common.{◌≡◌, ◌∙◌, take, length, refl, sym, arith, rules}, lemmas.List.{length-take-le}}
 use Rattle.rt_filter.specs.Stages.{most_pulled}
-use Rattle.rt_filter.proofs.{PushLemmas.{told_cut, unmoved_same}, ServingLemmas.{consumed_more, consumed_none, no_bytes}}
+use Rattle.rt_filter.proofs.{PushLemmas.{told_cut, unmoved_same}, ServingLemmas.{consumed_more, consumed_none}}
 use Rattle.rt_filter.proofs.ServingLemmas.{pulled_more, pulled_none, pulled_within, serves_all, serves_cut, serves_cut_at_end}
 use Rattle.rt_filter.proofs.ServingLemmas.{serves_read, serving_first, serving_more}
 use Rattle.rt_filter.proofs.serving.serve.Goals as goal
@@ -30,7 +30,7 @@ pub returns-in_default-end-clause-ending : goal.returns-in_default-end-clause-en
 returns-in_default-end-clause-ending g c loaded packed =
     let s = c.loop-turn.invariant.serving loaded packed in
     serves_cut_at_end loaded _ _ _ _ _ s (g.S.Source.coming c.pull.new.self) (g.K.Sink.written c.end.new.sink) c.ended-in_default-end.result
-    (no_bytes _ _ c.in-Ok.n c.pull.new.room (search rules) c.in-Ok.ensures.bytes.0) (c.in-Ok.ensures.bytes.1 (search rules))
+    (rw c.if-n-eq0.true at c.in-Ok.ensures.bytes.0) (c.in-Ok.ensures.bytes.1 (search rules))
     (told_cut _ _ _ (c.in_default-end.ensures.replies loaded packed s.consumed s.so))
     (λ e. c.in_default-end.ensures.bad s.consumed s.so (sym c.ended-in_default-end.ensures.bad ∙ e)) c.ended-in_default-end.ensures.fault
 
@@ -42,7 +42,7 @@ pub returns-then-n-eq0-clause-ending : goal.returns-then-n-eq0-clause-ending
 returns-then-n-eq0-clause-ending g c loaded packed =
     let s = c.loop-turn.invariant.serving loaded packed in
     serves_all loaded _ _ _ _ _ s (g.S.Source.coming c.pull.new.self) (g.K.Sink.written c.end.new.sink) c.ended-then-n-eq0.result
-    (no_bytes _ _ c.in-Ok.n c.pull.new.room (search rules) c.in-Ok.ensures.bytes.0) (c.in-Ok.ensures.bytes.1 (search rules))
+    (rw c.if-n-eq0.true at c.in-Ok.ensures.bytes.0) (c.in-Ok.ensures.bytes.1 (search rules))
     (c.in-Ok-end.ensures.replies loaded packed s.consumed s.so)
     (c.ended-then-n-eq0.ensures.bad ∙ c.in-Ok-end.ensures.bad s.consumed s.so) c.ended-then-n-eq0.ensures.fault
 
