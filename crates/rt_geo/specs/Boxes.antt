@@ -23,8 +23,7 @@ pub record Rect : Type 0 where
 
 -- the box with these sides
 abbrev pub rect_of : ℤ → ℤ → ℤ → ℤ → Rect
-rect_of min_x max_x min_y max_y =
-    record { min_x = min_x; max_x = max_x; min_y = min_y; max_y = max_y }
+rect_of min_x max_x min_y max_y = record { min_x = min_x; max_x = max_x; min_y = min_y; max_y = max_y }
 
 -- each minimum is at most its maximum
 pub record IsRect (b : Rect) : Type 0 where

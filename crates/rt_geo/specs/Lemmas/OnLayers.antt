@@ -37,11 +37,6 @@ at_most_partly-Not Not = (λ e. refl, λ e. refl)
 at_most_partly-Not Partly = (λ e. cc, λ e. cc)
 at_most_partly-Not Fully = (λ e. cc, λ e. cc)
 
-at_most_partly-Fully : (state : Within) → at_most_partly state ≡ Fully → state ≡ Fully
-at_most_partly-Fully Not e = cc
-at_most_partly-Fully Partly e = cc
-at_most_partly-Fully Fully e = cc
-
 -- it is NOT exactly where the shape is, or none of the layers is asked for
 state_with-Not : (apart part : Bool) (state : Within) (shape : Bool) → (state ≡ Not) ↔ (shape ≡ false)
     → (state_with apart part state ≡ Not) ↔ ((shape && not apart) ≡ false)
