@@ -9,7 +9,7 @@ ghost use Rattle.rt_tree.specs.Levels.{level_sizes};
 ghost use Rattle.rt_text.specs.ReplyLines.{ok_line};
 ghost use Rattle.rt_search.specs.{Answers.{answers}, Work.{IsUnscored}};
 ghost use Rattle.rt_filter.specs.{Pushes.{Pushed}, Reports.{report_on}, Stages.{loaded_tree}};
-ghost use Rattle.rt_filter.specs.Replies.{find_reply, levels_reply, meaning_of, opened_for, query_reply};
+ghost use Rattle.rt_filter.specs.Replies.{find_reply, levels_reply, query_reply};
 
 use crate::reply::{push_line, push_search};
 use rt_device::{Sink, WriteFault};
@@ -35,10 +35,10 @@ pub(crate) fn push_reply<K: Sink>(
         (query_reply (loaded_tree tree.now) line query.entry) }
     ensures capacity { IfOk result (λ left. left.capacity ≡ frontier.capacity) }
 {
-    // (called, so that it is known which layers the entries have, and that the tree is the packed one of them)
-    let _most = tree.len();
     match query {
         Query::Boxes(asked) => {
+            // (called, so that it is known which layers the entries have)
+            let _most = tree.len();
             // (all layers are those of all entries: none is checked)
             if asked.layers.bits() == u64::MAX {
                 return push_in_region(tree, frontier, line, asked, sink);
@@ -195,9 +195,11 @@ fn push_cost<K: Sink>(
     requires room { length tree.now.entries ≤ frontier.capacity }
     requires count { K.failed sink.old < 2 ^ 64 - 1 }
     ensures pushed { Pushed K.written K.failed sink.old sink.new result
-        (ok_line line (opened_for tree.now (meaning_of asked.entry) asked.entry.report)) }
+        (query_reply (loaded_tree tree.now) line (Query.Cost asked.entry)) }
     ensures capacity { IfOk result (λ left. left.capacity ≡ frontier.capacity) }
 {
+    // (called, so that it is known that the tree is the packed one of its own entries)
+    let _most = tree.len();
     let (shape, layers, rank) = (asked.region, asked.layers, asked.order);
     let shape = OnLayers { shape, layers };
     let geometry = Guided { shape, rank };

@@ -1,6 +1,6 @@
 use Rattle.std.proofs.Common.{◌∙◌, sym}
 use Rattle.rt_geo.specs.Regions.{region_accepts}
-use Rattle.rt_filter.proofs.{LayerLemmas.{all_from, report_on-all, report_on-asked}, TreeLemmas.{cost_same}}
+use Rattle.rt_filter.proofs.LayerLemmas.{all_from, report_on-all, report_on-asked}
 use Rattle.rt_filter.proofs.query.push_reply.Goals as goal
 
 pub returns-then-bits-clause-pushed : goal.returns-then-bits-clause-pushed
@@ -19,7 +19,3 @@ pub returns-else-bits-clause-pushed : goal.returns-else-bits-clause-pushed
 returns-else-bits-clause-pushed g c =
     rw (c.in-Boxes.is, sym (report_on-asked c.args.tree.now.entries c.args.line c.in-Boxes.asked c.in-Boxes.asked.report))
     c.push_in_shape.ensures.pushed
-
-pub returns-in-Cost-clause-pushed : goal.returns-in-Cost-clause-pushed
-returns-in-Cost-clause-pushed g c =
-    rw (c.in-Cost.is, cost_same c.args.tree.now c.args.line c.in-Cost.asked c.len-most.ensures.packed) c.push_cost.ensures.pushed
