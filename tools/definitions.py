@@ -24,7 +24,7 @@ ROOT = pathlib.Path(__file__).resolve().parent.parent
 CRATES = ROOT / "crates"
 
 # The most lines that public contracts may reach, and that the headline alone may.
-MOST_LINES = {"contracts": 900, "headline": 700}
+MOST_LINES = {"contracts": 890, "headline": 700}
 
 # The headline: its crate, its call and its clause.
 HEADLINE = ("rt_filter", "run", "headline")
