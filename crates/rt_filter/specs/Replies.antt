@@ -47,8 +47,7 @@ levels_reply line sizes =
 
 -- what is asked for: the boxes of the region that are on these layers, in this order
 abbrev pub meaning_of : BoxQuery → Meaning
-meaning_of asked =
-    guided (on_layers_accepts (region_accepts asked.region) asked.layers)
+meaning_of asked = guided (on_layers_accepts (region_accepts asked.region) asked.layers)
     (on_layers_state (region_state asked.region) asked.layers) (order_score asked.order) (order_estimate asked.order)
 
 -- what is reported of the boxes
