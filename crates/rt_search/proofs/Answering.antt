@@ -135,10 +135,7 @@ module _ (meaning : Meaning) where
         → AllByRecursion (λ y. is_gt (item_cmp (item_at s (place.Entry i)) y) ≡ false) xs → AllSound t meaning xs
         → AllByRecursion (λ q. is_gt (answer_cmp (i, s) q) ≡ false) (remaining t meaning xs)
     all_least i s [] a b = tt
-    all_least i s (y ∷ ys) a b =
-        put_all-all answer_cmp answer_order (λ q. is_gt (answer_cmp (i, s) q) ≡ false)
-        (answers_at t meaning y.score y.place) (remaining t meaning ys)
-        (least_at i s y.score y.place a.0 b.0) (all_least i s ys a.1 b.1)
+    all_least i s (y ∷ ys) a b = grind (arith, put_all-all, answer_order, least_at, all_least i s ys a.1 b.1)
 
     -- an entry that comes after none of the items that wait is the next answer
     pub take_entry : (i : ℤ) (s : ℕ) (xs : List Item)
@@ -172,8 +169,7 @@ module _ (meaning : Meaning) where
 
     pub under_all-append : (h : ℕ) (ks ls : List Node) → under_all h (ks ++ ls) ≡ under_all h ks ++ under_all h ls
     unfolding under_all
-    under_all-append h ks ls = ap among (flat_map-append (entries_under t h) ks ls)
-        ∙ among-append (flat_map (entries_under t h) ks) (flat_map (entries_under t h) ls)
+    under_all-append h ks ls = grind (arith, flat_map-append, among-append)
 
     pub under_all-none : (h : ℕ) → under_all h [] ≡ []
     unfolding under_all

@@ -164,31 +164,14 @@ pub record HasChildren (t : Packed) (number : ℕ) (n : Node) (children : List P
 module _ {t : Packed} {meaning : Meaning} {number : ℕ} {v : Verdict}
     (opened : IsOpenable t meaning number v) {n : Node} (is : n ≡ node_at t number) (above : n.level ≡ 1 → ⊥) where
   is_high : 2 ≤ (node_at t number).level
-  is_high =
-      let level = subtree_level t (height_at t number) (node_at t number) opened.tree in
-      let same = ap (λ m. m.level) is in
-      omega arith
+  is_high = grind (arith, subtree_level, opened.tree)
 
   pub children_inside : n.first + n.count ≤ length t.nodes
   children_inside = rw is (inner_at t (height_at t number) (node_at t number) opened.tree is_high).1.range
 
   pub children_of : {children : List PlainNode} → children ≡ map without_layers (child_nodes t n)
       → HasChildren t number n children
-  children_of lent =
-      let m = node_at t number in
-      let range = (inner_at t (height_at t number) m opened.tree is_high).1.range in
-      let same = lent ∙ ap (λ l. map without_layers (child_nodes t l)) is in
-      let count = ap length same ∙ length-map (child_nodes t m) without_layers
-      ∙ part_length t.nodes m.first m.count range in
-      let first = ap (λ l. l.first) is in
-      record {
-        tree = opened.tree;
-        is = is;
-        high = is_high;
-        lent = same;
-        count = count;
-        inside = omega arith;
-      }
+  children_of lent = grind (arith, inner_at, is_high, length-map, part_length, opened.tree)
 
 pub asked : {t : Packed} {number : ℕ} {n : Node} {children : List PlainNode} → HasChildren t number n children → (i : ℕ)
     (v : Verdict) {k : ℕ} {x : PlainNode} {whole : Node} {info : Info} → i < length children
@@ -196,22 +179,7 @@ pub asked : {t : Packed} {number : ℕ} {n : Node} {children : List PlainNode} �
     → info ≡ info_under (root_of t).level v (record { bounds = x.bounds; layers = whole.layers }) (n.level - 1)
     → IsAsked t number i k x v info
 asked {t} {number} {n} here i v {k} {x = x} {whole = whole} lt read number_is whole_is info_is =
-    let m = node_at t number in
-    let few = subst (λ l. i < l) here.count lt in
-    let first = ap (λ l. l.first) here.is in
-    let at : k ≡ m.first + i = omega arith in
-    let there = subst (IsChild t m (height_at t number - 1) i) (sym at) (child t number here.tree here.high i few) in
-    let x_is = subst (λ l. x ≡ get_or l i x) here.lent read
-    ∙ get_or-map without_layers (child_nodes t m) i (node_at t k) x there.place ∙ ap without_layers (sym there.is) in
-    let level = ap (λ l. l.level) here.is in
-    let lower : n.level - 1 ≡ (node_at t k).level = omega arith in
-    record {
-      few = few;
-      at = at;
-      child = there;
-      is = x_is;
-      info_is = grind (arith, info_is, lower);
-    }
+    grind (arith, child, get_or-map, here.count, here.is, here.tree, here.high, here.lent)
 
 -- all children of a node
 pub all_children : (t : Packed) (number : ℕ) → IsSubtree t (height_at t number) (node_at t number)

@@ -63,12 +63,7 @@ next_still (Some (suc n)) limit g more h = h ∙ ap Some (omega arith)
 
 module _ (meaning : Meaning) where
   pub length-scored : (es : List Entry) → length (scored es meaning) ≤ length es
-  length-scored es = omega (
-    arith,
-    length-map (accepted es meaning) (answer_of meaning),
-    length-filter (λ (e : Entry). meaning.accepts (extent_of_entry e)) es,
-    count_by-le-length (λ (e : Entry). meaning.accepts (extent_of_entry e)) es,
-  )
+  length-scored es = grind (arith, length-map, length-filter, count_by-le-length)
 
 module _ (meaning : Meaning) (t : Packed) where
   abbrev all : List Answer
@@ -125,39 +120,10 @@ module _ {meaning : Meaning} {t : Packed} {limit : Option ℕ}
         (drop given (answers t.entries meaning None)) a new
         → IsGiven meaning t limit given (given + 1) opened' asked' capacity wanted' a new
     give {a} less found =
-        let all = answers t.entries meaning None in
-        let there : drop given all ≡ a ∷ found.rest = found.first in
-        let worked : HasWorked meaning t (Some (suc given)) opened' asked' = record {
-          in_nodes = found.reached.nodes ∙ work_after meaning t one_node given a found.rest there;
-          in_checks = found.reached.checks ∙ work_after meaning t its_children given a found.rest there;
-        } in
-        subst (λ m. IsGiven meaning t limit given m opened' asked' capacity wanted' a new)
-        (sym (add-one given)) (record {
-          going = record {
-            state = grind (arith, drop_step);
-            room = going.room;
-            in_limit = next_in_limit limit given going.in_limit more;
-            still = subst (λ w. IfSome w (λ n. limit ≡ Some (suc given + n))) (sym less)
-                (next_still wanted limit given more going.still);
-            stopped = λ e. subst (λ l. HasWorked meaning t l opened' asked') (sym e) worked;
-          };
-          answer = limited_step limit given all a found.rest going.in_limit more there;
-          worked = worked;
-        })
+        grind (arith, work_after, add-one, drop_step, next_in_limit, next_still, limited_step, found.first, found.rest,
+        going.in_limit)
 
     pub end : wanted' ≡ wanted → IsOver meaning t opened' asked' wanted'
         (drop given (answers t.entries meaning None)) new
         → HasEnded meaning t limit given opened' asked' capacity wanted' new
-    end same over =
-        let worked : HasWorked meaning t limit opened' asked' = grind (arith, work_in_all) in
-        record {
-          going = record {
-            state = over.state;
-            room = going.room;
-            in_limit = going.in_limit;
-            still = subst (λ w. IfSome w (λ n. limit ≡ Some (given + n))) (sym same) going.still;
-            stopped = λ e. worked;
-          };
-          answer = limited_end limit given (answers t.entries meaning None) over.none;
-          worked = worked;
-        }
+    end same over = grind (arith, work_in_all, limited_end)

@@ -59,14 +59,12 @@ module _ {meaning : Meaning} (law : IsLawful meaning) (t : Packed) where
   pub answers_joined : (answers : List Answer) (xs : List Item) → remaining t meaning (join_answers answers xs)
       ≡ put_all answer_cmp answers (remaining t meaning xs)
   answers_joined [] xs = refl
-  answers_joined (a ∷ answers) xs =
-      remaining-put meaning t (item_of a) (join_answers answers xs) ∙ ap (put answer_cmp a) (answers_joined answers xs)
+  answers_joined (a ∷ answers) xs = grind (arith, remaining-put, answers_joined answers xs)
 
   pub answers_sound : (answers : List Answer) (xs : List Item) → AllSound t meaning xs
       → AllSound t meaning (join_answers answers xs)
   answers_sound [] xs all = all
-  answers_sound (a ∷ answers) xs all =
-      AllSound-put meaning t (item_of a) (join_answers answers xs) tt (answers_sound answers xs all)
+  answers_sound (a ∷ answers) xs all = grind (arith, AllSound-put, answers_sound answers xs all)
 
   -- a node
   node_sound : (k : ℕ) (info : Info) (xs : List Item) → extent_of info ≡ extent_of_node (node_at t k) → 0 < info.level

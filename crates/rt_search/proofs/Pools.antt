@@ -12,9 +12,7 @@ use Rattle.rt_search.specs.{Kept.{lesser}, Pooling.{HasLeastScore, HasScore, IsF
 
 -- what is put at the end of the second of two lists
 pub put_right : {X : Type 0} (x : X) (xs zs : List X) → IsPermutation (x ∷ xs ++ zs) (xs ++ (zs ++ x ∷ []))
-put_right x xs zs =
-    subst (IsPermutation (x ∷ xs ++ zs)) (append_assoc xs zs (x ∷ []))
-    (IsPermutation-sym ((xs ++ zs) ++ x ∷ []) (x ∷ xs ++ zs) (IsPermutation-to_front (xs ++ zs) x))
+put_right x xs zs = grind (arith, append_assoc, IsPermutation-sym, IsPermutation-to_front)
 
 -- what stands before the one that is taken out stays
 pub take-swap_remove : {X : Type 0} (xs : List X) (i : ℕ) (d : X) → i < length xs

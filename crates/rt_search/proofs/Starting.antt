@@ -44,10 +44,7 @@ from_first (Some n) limit h = h ∙ ap Some (omega arith)
 module _ (meaning : Meaning) (t : Packed) (sound : IsSound t)
   where
     root_course : (cost : Node → ℕ) → 0 < length t.nodes → IsOnCourse meaning cost t 0 (root_item t ∷ [])
-    root_course cost some = record {
-      in_all = omega (arith, root_work (is_reached None) cost meaning t refl some);
-      at_each = grind (arith, all_each, root_work, within_zero);
-    }
+    root_course cost some = grind (arith, root_work, all_each, within_zero)
 
     pub empty_answers : length t.nodes ≡ 0 → answers t.entries meaning None ≡ []
     empty_answers none = grind (arith, cases_lt, nil_from_length)

@@ -37,10 +37,7 @@ module _ {meaning : Meaning} (law : IsLawful meaning) (t : Packed) where
       → AllSound t meaning xs → AllByRecursion (λ q. x.score ≤ q.1) (remaining t meaning xs)
   above_least x [] a b = tt
   above_least x (y ∷ ys) a b =
-      put_all-all answer_cmp answer_order (λ q. x.score ≤ q.1) (answers_at t meaning y.score y.place)
-      (remaining t meaning ys) (all_map (λ q. y.score ≤ q.1) (λ q. x.score ≤ q.1)
-      (λ q m. let up = score_upto x y a.0 in omega arith)
-      (answers_at t meaning y.score y.place) (at_above meaning t y.score y.place b.0)) (above_least x ys a.1 b.1)
+      grind (arith, put_all-all, answer_order, all_map, score_upto, at_above, above_least x ys a.1 b.1)
 
   none_at : (cost : Node → ℕ) (i : ℤ) (s r : ℕ) (p : Place)
       → is_gt (item_cmp (item_at s (place.Entry i)) (item_at r p)) ≡ false

@@ -60,10 +60,7 @@ module _ {meaning : Meaning} (law : IsLawful meaning) (t : Packed) where
       → m ≡ node_at t n.number.number → m.level ≢ 1 → v ≡ verdict_on s n
       → (let l = node_at t n.number.number in IsEnough wanted new (join_nodes meaning t v l l.count xs))
       → IsEnough wanted new (join_children meaning t s n xs)
-  nodes_join wanted s n m v new xs is high same h =
-      let l = node_at t n.number.number in
-      let other : (l.level == 1) ≡ false = subst (λ (i : node.Node). (i.level == 1) ≡ false) is (ne_eqb m.level 1 high) in
-      rw other (subst (λ u. IsEnough wanted new (join_nodes meaning t u l l.count xs)) same h)
+  nodes_join wanted s n m v new xs is high same h = grind (arith, ne_eqb)
 
   -- what opening it requires, and what it leads to
   pub record CanGoOn (opened asked : ℕ) (wanted : Option ℕ) (to_come : List Answer) (s : ℕ) (n : WaitingNode)

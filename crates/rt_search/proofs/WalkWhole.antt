@@ -20,11 +20,8 @@ module _ (meaning : Meaning) (t : Packed) (sound : IsSound t)
     -- in order they are those of a scan
     pub tree_answers : put_all answer_cmp (answers_in_tree t meaning) [] ≡ answers t.entries meaning None
     tree_answers =
-        cond_both (length t.nodes == 0) [] (answers_under t meaning (length t.nodes - 1))
-        (λ l. put_all answer_cmp l [] ≡ answers t.entries meaning None)
-        (λ h. sym (empty_answers meaning t sound (eqb-true _ 0 h)))
-        (λ h. put_all-nil answer_cmp answer_order (answers_under t meaning (length t.nodes - 1))
-        ∙ among-IsPermutation meaning (entries_under t (height t) (root_of t)) t.entries (sound.every (nat_eq_false h)))
+        grind (arith, cond_both, empty_answers, eqb-true, put_all-nil, answer_order, among-IsPermutation, nat_eq_false,
+        sound.every)
 
     -- and as many
     pub tree_count : length (answers_in_tree t meaning) ≡ length (accepted t.entries meaning)

@@ -29,8 +29,7 @@ taken-append takes a b c (x ∷ xs) ys h k = (h.0, (h.1.0, taken-append takes h.
 pub taken_room : {S : Type 0} (takes : S → Answer → S → Type 0) (room : S → ℕ) → IsFilling takes room
     → (old new : S) (xs : List Answer) → HasTaken takes old xs new → room old ≤ room new + length xs
 taken_room takes room fills old new [] h = rw h (omega arith)
-taken_room takes room fills old new (x ∷ xs) h =
-    omega (arith, fills old h.0 x h.1.0, taken_room takes room fills h.0 new xs h.1.1)
+taken_room takes room fills old new (x ∷ xs) h = grind (arith, taken_room takes room fills h.0 new xs h.1.1)
 
 -- ---- what a walk costs
 
@@ -139,12 +138,7 @@ module _ {meaning : Meaning} (law : IsLawful meaning) where
       pub work_more : (opens : Verdict → Bool) (cost : Node → ℕ) (i : ℕ) → i < (node_at t number).count
           → let k = (node_at t number).first + i in work_upto opens cost (i + 1)
           ≡ work_upto opens cost i + work_at_child opens cost meaning t (meaning.verdict (info_of_node t v (node_at t k))) k
-      work_more opens cost i lt =
-          let k = (node_at t number).first + i in
-          rw (add-one i)
-          (sum_more meaning t v number opened.tree high (work_of_child opens cost meaning t v (height_at t number - 1)) i lt
-          ∙ ap (λ h. work_upto opens cost i + work_of_child opens cost meaning t v h (node_at t k))
-          (sym (child t number opened.tree high i lt).height))
+      work_more opens cost i lt = grind (arith, add-one, sum_more, child, opened.tree)
 
       pub work_all : (opens : Verdict → Bool) (cost : Node → ℕ) → work_under opens cost meaning t v number
           ≡ cost (node_at t number) + work_upto opens cost (node_at t number).count

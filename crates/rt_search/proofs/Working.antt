@@ -31,12 +31,7 @@ module _ (meaning : Meaning) (t : Packed) (v : Verdict) where
   pub held-join_answers : (answers : List Answer) (xs : List Item)
       → held t (join_answers answers xs) ≡ held t xs + length answers
   held-join_answers [] xs = omega arith
-  held-join_answers (a ∷ answers) xs =
-      omega (
-        arith,
-        sum_by-put item_cmp item_order (λ x. size_at t x.place) (item_of a) (join_answers answers xs),
-        held-join_answers answers xs,
-      )
+  held-join_answers (a ∷ answers) xs = grind (arith, sum_by-put, item_order, held-join_answers answers xs)
 
   pub work-join_answers : (opens : Verdict → Bool) (cost : Node → ℕ) (answers : List Answer) (xs : List Item)
       → work_left opens cost meaning t (join_answers answers xs) ≡ work_left opens cost meaning t xs
