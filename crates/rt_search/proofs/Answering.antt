@@ -79,23 +79,14 @@ module _ (meaning : Meaning) where
   abbrev kept : List Entry → List Entry
   kept es = accepted es meaning
 
-  skip : (e : Entry) (es fs : List Entry) → IsPermutation (kept es) (kept fs)
-      → IsPermutation (kept (e ∷ es)) (kept (e ∷ fs))
-  skip e es fs h = grind (arith, cond_both, IsPermutation-cons)
-
   turn : (d e : Entry) (es : List Entry) → IsPermutation (kept (d ∷ e ∷ es)) (kept (e ∷ d ∷ es))
-  turn d e es = by (meaning.accepts (extent_of_entry d)) (meaning.accepts (extent_of_entry e))
-    where
-      by : (p q : Bool) → IsPermutation (cond p (d ∷ cond q (e ∷ kept es) (kept es)) (cond q (e ∷ kept es) (kept es)))
-          (cond q (e ∷ cond p (d ∷ kept es) (kept es)) (cond p (d ∷ kept es) (kept es)))
-      by true true = IsPermutation-middle (d ∷ []) e (kept es)
-      by true false = IsPermutation-refl _
-      by false q = IsPermutation-refl _
+  turn d e es = grind (arith, IsPermutation-middle (d ∷ []) e (kept es), IsPermutation-refl)
 
   pub accepted-IsPermutation : (es fs : List Entry) → IsPermutation es fs
       → IsPermutation (accepted es meaning) (accepted fs meaning)
-  accepted-IsPermutation = along_permutation (λ es fs. IsPermutation (kept es) (kept fs))
-      (λ es. IsPermutation-refl (kept es)) skip turn (λ es fs gs h k. IsPermutation-trans _ _ _ h k)
+  accepted-IsPermutation =
+      along_permutation (λ es fs. IsPermutation (kept es) (kept fs)) (λ es. IsPermutation-refl (kept es))
+      (λ e es fs h. grind (arith, cond_both, IsPermutation-cons)) turn (λ es fs gs h k. IsPermutation-trans _ _ _ h k)
 
   pub among-IsPermutation : (es fs : List Entry) → IsPermutation es fs
       → sorted answer_cmp (among es) ≡ sorted answer_cmp (among fs)
@@ -145,21 +136,12 @@ module _ (meaning : Meaning) where
 
     -- ---- and where entries alone wait
 
-    entry_sound : (s : ℕ) (p : Place) → IsEntry p → IsSoundAt t meaning s p
-    entry_sound s (place.Node n) h = absurd h
-    entry_sound s (place.Entry id) h = tt
-
     -- what is taken out is given, or nothing is left
     pub given : (out : Option Answer) (items new : List Item) → AllEntries items → IsTakenOut (taken_entry out) items new
         → MatchOption out (remaining t meaning items ≡ [])
         (λ a. remaining t meaning items ≡ a ∷ remaining t meaning new)
     given None items new all out = ap (remaining t meaning) out.0
-    given (Some a) items new all out = grind (arith, take_entry, all_map, entry_sound)
-
-    pub none_left : (out : Option Answer) (items new : List Item) → IsTakenOut (taken_entry out) items new
-        → IfNone out (remaining t meaning new ≡ [])
-    none_left None items new out = ap (remaining t meaning) out.1
-    none_left (Some a) items new out = tt
+    given (Some a) items new all out = grind (arith, take_entry, all_map)
 
     -- ---- a node that joins
 

@@ -21,7 +21,7 @@ length-merged xs ys = length-put_all item_cmp item_order xs ys
 
 pub length-queued : (nodes : List (Reverse ℕ)) (entries wide : List Item) → length (queued nodes entries wide)
     ≡ length nodes + length entries + length wide
-length-queued nodes entries wide = grind (arith, length-merged, length-in_order)
+length-queued nodes entries wide = grind (arith, length-put_all, item_order, length-in_order)
 
 pub length-hits : (ids : List (Reverse ℤ)) (keys : List (Reverse ℕ)) (wide : List Item) → length (hits_in ids keys wide)
     ≡ length ids + length keys + length wide
@@ -34,10 +34,6 @@ pub offered_left : (b : Bool) (x : Item) (xs ys : List Item)
     → put_all item_cmp (offered b x xs) ys ≡ offered b x (put_all item_cmp xs ys)
 offered_left true x xs ys = put-put_all item_cmp item_order x xs ys
 offered_left false x xs ys = refl
-
-pub one_longer : (b : Bool) (x : Item) (xs ys : List Item) → ys ≡ offered b x xs → length ys ≤ length xs + 1
-one_longer true x xs ys e = omega (arith, ap length e, length-put item_cmp item_order x xs)
-one_longer false x xs ys e = omega (arith, ap length e)
 
 -- ---- what a call that takes from one of the lists takes from both
 
@@ -108,8 +104,8 @@ low_ahead r x old new wide e low high = subst (λ l. IsAhead l wide) (sym e) (lo
 pub narrow_ahead : (r : Option Item) (old new wide : List Item) → MatchOption r (true ≡ false) (λ _. true ≡ true)
     → IsTakenOut r old new → IfSome r (λ x. x.score < 2 ^ 64) → AllByRecursion (λ y. 2 ^ 64 ≤ y.score) wide
     → IsAhead old wide
-narrow_ahead None old new wide some t low high = absurd (false≢true (sym some))
-narrow_ahead (Some x) old new wide some t low high = low_ahead (2 ^ 64) x old new wide t.0 low high
+narrow_ahead None old new wide some t low high = cc
+narrow_ahead (Some x) old new wide some t low high = grind (arith, lower_least)
 
 -- where there was none, the wide items are
 pub wide_ahead : (narrow wide : List Item) → narrow ≡ [] → IsAhead wide narrow
