@@ -88,15 +88,11 @@ subtree_box : (t : Packed) (h : ℕ) (n : Node) → IsSubtree t h n
 subtree_box t zero n s = (s.valid, s.coordinates, s.layers)
 subtree_box t (suc h) n s = (s.valid, s.coordinates, s.layers)
 
-one_less : (h : ℕ) → suc h - 1 ≡ h
-one_less h = omega arith
-
 -- a node above level 1
 pub inner_at : (t : Packed) (h : ℕ) (n : Node) → IsSubtree t h n → 2 ≤ n.level → h ≡ suc (h - 1)
     × IsInnerNode t (h - 1) (IsSubtree t (h - 1)) n
 inner_at t zero n s level = absurd (let e = s.level in omega arith)
-inner_at t (suc h) n s level =
-    (ap suc (sym (one_less h)), subst (λ m. IsInnerNode t m (IsSubtree t m) n) (sym (one_less h)) s)
+inner_at t (suc h) n s level = let same : suc h - 1 ≡ h = omega arith in rw same (refl, s)
 
 -- a node of level 1
 pub leaf_node : (t : Packed) (h : ℕ) (n : Node) → IsSubtree t h n → n.level ≡ 1 → (h ≡ 0) × IsLeafNode t n

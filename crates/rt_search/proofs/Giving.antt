@@ -40,7 +40,7 @@ below_limit k g le n = grind arith
 limited_step : {X : Type 0} (limit : Option ℕ) (g : ℕ) (xs : List X) (x : X) (rest : List X) → IsInLimit limit g
     → limit ≢ Some g → drop g xs ≡ x ∷ rest → drop g (limited limit xs) ≡ x ∷ drop (suc g) (limited limit xs)
 limited_step None g xs x rest le n h = h ∙ ap (λ l. x ∷ l) (sym (drop_step xs g x rest h).1)
-limited_step (Some k) g xs x rest le n h = take_step k g xs x rest (below_limit k g le n) h
+limited_step (Some k) g xs x rest le n h = grind (arith, take_step)
 
 limited_end : {X : Type 0} (limit : Option ℕ) (g : ℕ) (xs : List X) → drop g xs ≡ [] → drop g (limited limit xs) ≡ []
 limited_end None g xs h = h
@@ -79,7 +79,7 @@ module _ (meaning : Meaning) (t : Packed) where
       → reached_from_root (is_reached None) cost meaning t ≡ search_work cost meaning t limit
   work_in_all cost None g le n h = refl
   work_in_all cost (Some zero) g le n h = absurd (let lt = below_limit zero g le n in omega arith)
-  work_in_all cost (Some (suc k)) g le n h = grind (arith, suc_less, past_end, below_limit)
+  work_in_all cost (Some (suc k)) g le n h = grind (arith, suc_less, past_end)
 
 -- ---- the steps
 

@@ -28,10 +28,9 @@ positive_sum (k ∷ ks) a = omega (arith, sum_by-cons (λ (k : Node). k.size) k 
 pub size_counts : (t : Packed) (h : ℕ) (n : Node) → IsSubtree t h n → (0 < n.size) × (n.count ≤ n.size)
 size_counts t zero n s = let e = s.size in let p = s.some in (omega arith, omega arith)
 size_counts t (suc h) n s =
-    let long = part_length t.nodes n.first n.count s.range in
     let sum = positive_sum (child_nodes t n)
     (all_map (IsSubtree t h) (λ k. 0 < k.size) (λ k b. (size_counts t h k b).0) (child_nodes t n) s.below) in
-    (omega arith, omega arith)
+    grind (arith, part_length)
 
 sizes_under : (t : Packed) (h : ℕ) → ((k : Node) → IsSubtree t h k → k.size ≡ length (entries_under t h k))
     → (ks : List Node) → AllByRecursion (IsSubtree t h) ks → sum_by (λ k. k.size) ks

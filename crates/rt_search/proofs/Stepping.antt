@@ -22,14 +22,10 @@ use Rattle.rt_search.specs.declared.item.Place.TheVariants as place
 
 -- ---- what is opened
 
-kept_within : (b : Bool) → is_kept (cond b Fully Partly) ≡ true
-kept_within true = refl
-kept_within false = refl
-
 -- a node that waits is opened where its score is within the bound
 pub reached_is : (bound : Option ℕ) (s : ℕ) (n : WaitingNode) → is_reached bound (verdict_on s n)
     ≡ option_map_or (nat_le s) bound true
-reached_is bound s n = (let k = kept_within n.is_full in rw k refl)
+reached_is bound s n = grind arith
 
 module _ {meaning : Meaning} (law : IsLawful meaning) (t : Packed) where
   -- no answer to come is below the least item's score
@@ -39,18 +35,12 @@ module _ {meaning : Meaning} (law : IsLawful meaning) (t : Packed) where
   above_least x (y ∷ ys) a b =
       grind (arith, put_all-all, answer_order, all_map, score_upto, at_above, above_least x ys a.1 b.1)
 
-  none_at : (cost : Node → ℕ) (i : ℤ) (s r : ℕ) (p : Place)
-      → is_gt (item_cmp (item_at s (place.Entry i)) (item_at r p)) ≡ false
-      → work_at (is_reached (Some s)) cost meaning t r p ≡ 0
-  none_at cost i s r (place.Entry j) h = refl
-  none_at cost i s r (place.Node n) h = grind (arith, cond-false, reached_is, lt-leb, nat_tests)
-
   -- behind an entry that is least, no node is within its score
   no_work : (cost : Node → ℕ) (i : ℤ) (s : ℕ) (xs : List Item)
       → AllByRecursion (λ y. is_gt (item_cmp (item_at s (place.Entry i)) y) ≡ false) xs
       → work_left (is_reached (Some s)) cost meaning t xs ≡ 0
   no_work cost i s [] a = refl
-  no_work cost i s (y ∷ ys) a = grind (arith, none_at, work_cons, no_work cost i s ys a.1)
+  no_work cost i s (y ∷ ys) a = grind (arith, nat_tests, work_cons, no_work cost i s ys a.1)
 
   -- ---- an entry is taken out
 
@@ -60,18 +50,10 @@ module _ {meaning : Meaning} (law : IsLawful meaning) (t : Packed) where
       → IsOnCourse meaning cost t done xs × (done ≡ reached_from_root (is_reached (Some s)) cost meaning t)
   entry_course cost i s done xs least sound course =
       let x = item_at s (place.Entry i) in
-      let next : remaining t meaning (x ∷ xs) ≡ (i, s) ∷ remaining t meaning xs =
-      take_entry meaning t i s xs least sound in
+      let next : remaining t meaning (x ∷ xs) ≡ (i, s) ∷ remaining t meaning xs = take_entry meaning t i s xs least sound in
       let each = subst (AllByRecursion (λ p. AddsUp meaning cost t done (x ∷ xs) (Some p.1))) next course.at_each in
-      let head : AddsUp meaning cost t done (x ∷ xs) (Some s) = each.0 in
       let none = no_work cost i s xs least in
-      let first = work_cons (is_reached (Some s)) cost meaning t x xs in (
-        record {
-          in_all = (let h = course.in_all in let k = work_cons (is_reached None) cost meaning t x xs in omega arith);
-          at_each = grind (arith, all_map, work_cons);
-        },
-        omega arith,
-      )
+      grind (arith, work_cons, all_map, each.0, each.1)
 
   -- ---- a node is opened: what is told of `new` comes from the children that joined
 

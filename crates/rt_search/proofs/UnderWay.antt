@@ -51,10 +51,7 @@ module _ {meaning : Meaning} (law : IsLawful meaning) (t : Packed) where
       → m ≡ node_at t n.number.number → m.level ≡ 1
       → IsEnough wanted new (join_answers (answers_among t meaning m m.count) xs)
       → IsEnough wanted new (join_children meaning t s n xs)
-  leaf_joins wanted s n m new xs is low h =
-      subst (λ (l : node.Node). IsEnough wanted new (cond (l.level == 1)
-      (join_answers (answers_among t meaning l l.count) xs) (join_nodes meaning t (verdict_on s n) l l.count xs)))
-      is (rw (eq-eqb m.level 1 low) h)
+  leaf_joins wanted s n m new xs is low h = grind (arith, eq-eqb)
 
   pub nodes_join : (wanted : Option ℕ) (s : ℕ) (n : WaitingNode) (m : node.Node) (v : Verdict) (new xs : List Item)
       → m ≡ node_at t n.number.number → m.level ≢ 1 → v ≡ verdict_on s n

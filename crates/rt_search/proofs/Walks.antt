@@ -67,23 +67,8 @@ module _ {meaning : Meaning} (law : IsLawful meaning) where
       → answer_if (is_kept (meaning.verdict info).within) e.id (meaning.verdict info).score ≡ among meaning (e ∷ [])
   entry_answer e info at low question =
       let v = meaning.verdict info in
-      let one : List Answer = (e.id, v.score) ∷ [] in
-      let split : (b : Bool) → meaning.accepts (extent_of_entry e) ≡ b
-      → answer_if (is_kept v.within) e.id v.score ≡ among meaning (e ∷ []) = elim [
-        | true ↦ λ h.
-            let here = subst (λ c. meaning.accepts c ≡ true) (sym at) h in
-            cond-true (is_kept v.within) one [] (kept (is_kept v.within) h refl)
-            ∙ ap (λ s. (e.id, s) ∷ []) (law.exact info question low here ∙ ap meaning.score at)
-            ∙ sym (among_accepted meaning e [] h)
-        | false ↦ λ h.
-            let none = (law.faithful.leaf info question low).1 (subst (λ c. meaning.accepts c ≡ false) (sym at) h) in
-            cond-false (is_kept v.within) one [] (ap is_kept none) ∙ sym (among_refused meaning e [] h)
-      ] in
-      split (meaning.accepts (extent_of_entry e)) refl
-    where
-      kept : (b : Bool) → meaning.accepts (extent_of_entry e) ≡ true → is_kept (meaning.verdict info).within ≡ b → b ≡ true
-      kept true h k = refl
-      kept false h k = grind (arith, kept_not)
+      let leaf = law.faithful.leaf info question low in
+      grind (arith, kept_not, among_accepted, among_refused, law.exact info question low)
 
   -- ---- a node that was asked about
 
@@ -106,23 +91,17 @@ module _ {meaning : Meaning} (law : IsLawful meaning) where
         → IsLeafAt t n i (get_or (child_entries t n) i no_entry)
     entry_at n i leaf lt =
         let e = get_or (child_entries t n) i no_entry in
-        let same : e ≡ get_or t.entries (n.first + i) no_entry = part_at t.entries n.first n.count i no_entry lt in
-        let read : get_or t.entries (n.first + i) e ≡ e =
-        get_or_default t.entries (n.first + i) e no_entry (omega arith) ∙ sym same in
-        leaf_at t n i e sound.table leaf lt read
+        leaf_at t n i e sound.table leaf lt (grind (arith, part_at, get_or_default))
 
     pub one_entry : {v : Verdict} → v.score < 2 ^ 128 → {n : Node} → IsLeafNode t n
         → IsBelow meaning (extent_of_node n) v → (i : ℕ) → i < n.count
         → let e = get_or (child_entries t n) i no_entry in let w = meaning.verdict (info_of_child t v e) in
         answers_among t meaning n i ++ answer_if (is_kept w.within) e.id w.score ≡ answers_among t meaning n (i + 1)
     one_entry {v} small {n} leaf below i lt =
-        let es = child_entries t n in
-        let e = get_or es i no_entry in
+        let e = get_or (child_entries t n) i no_entry in
         let at = entry_at n i leaf lt in
-        let one = entry_answer e (info_of_child t v e) refl refl
-        (entry_question meaning t sound v small n e i below at) in
-        ap (λ l. among meaning (take i es) ++ l) one ∙ sym (among-append meaning (take i es) (e ∷ []))
-        ∙ ap (among meaning) (sym (take_more_at es i e at.place at.is))
+        let one = entry_answer e (info_of_child t v e) refl refl (entry_question meaning t sound v small n e i below at) in
+        rw (one, take_more_at (child_entries t n) i e at.place at.is, among-append) refl
 
     -- ---- the children of a higher node
 
@@ -150,13 +129,9 @@ module _ {meaning : Meaning} (law : IsLawful meaning) where
           → length (answers_upto opened high i) ≤ sum_by (λ k. k.size) (take i (child_nodes t (node_at t number)))
       few_upto zero le = omega (arith, ap length (under_all-none meaning t (height_at t number - 1)))
       few_upto (suc i) le =
-          let lt : i < (node_at t number).count = omega arith in
           let k = (node_at t number).first + i in
-          let more = rw (add-one i) at (ap length (upto_more opened high i lt)) in
-          let long = length-append (answers_upto opened high i) (answers_under t meaning k) in
-          let sizes = sum_more meaning t v number opened.tree high (λ k. k.size) i lt in
-          let few = few_under meaning t k (child t number opened.tree high i lt).tree in
-          omega (arith, few_upto i (omega arith))
+          let more = rw (add-one i) at (ap length (upto_more opened high i (omega arith))) in
+          grind (arith, length-append, sum_more, few_under meaning t k, child, few_upto i (omega arith))
 
       -- ---- the loop over them
 
@@ -174,12 +149,7 @@ module _ {meaning : Meaning} (law : IsLawful meaning) where
             → let k = (node_at t number).first + i in cost (node_at t number) + work_upto opens cost i
             + work_at_child opens cost meaning t (meaning.verdict (info_of_node t v (node_at t k))) k
             ≤ work_under opens cost meaning t v number
-        within cost i lt =
-            let part = sum_by-take-drop (work_of_child opens cost meaning t v (height_at t number - 1))
-            (child_nodes t (node_at t number)) (i + 1) in
-            let whole = ap (λ h. reached opens cost meaning t h v (node_at t number))
-            (height_suc t number opened.tree high) in
-            omega (arith, work_more opens cost i lt)
+        within cost i lt = grind (arith, sum_by-take-drop, height_suc, work_more opens cost i lt)
 
         pub visit : {i k : ℕ} {x : PlainNode} {info : Info} → IsAsked t number i k x v info → {S : Type 0}
             (takes : S → Answer → S → Type 0) (room : S → ℕ) → IsFilling takes room → (old new : S)
