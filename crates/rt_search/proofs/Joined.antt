@@ -17,18 +17,10 @@ use Rattle.rt_search.proofs.{OrderedLists.{put_all-append, put_all-put_all}, Ord
 use Rattle.rt_search.specs.declared.item.Place.TheVariants as place
 
 pub kept_not : (w : Within) → is_kept w ≡ false → w ≡ Not
-kept_not Not h = refl
-kept_not Partly h = cc
-kept_not Fully h = cc
-
--- a verdict that isn't NOT is told by the node that waits
-within_told : (w : Within) → is_kept w ≡ true → (cond (is_fully w) Fully Partly) ≡ w
-within_told Not h = cc
-within_told Partly h = refl
-within_told Fully h = refl
+kept_not w h = grind arith
 
 pub verdict_told : (v : Verdict) (k : ℕ) → is_kept v.within ≡ true → verdict_on v.score (waiting_node k v.within) ≡ v
-verdict_told v k h = ap (λ w. record { within = w; score = v.score }) (within_told v.within h)
+verdict_told v k h = grind arith
 
 -- ---- the answers under the children of a higher node
 
@@ -41,15 +33,8 @@ module _ {t : Packed} {meaning : Meaning} {number : ℕ} {v : Verdict}
   pub upto_more : (i : ℕ) → i < (node_at t number).count
       → answers_upto i ++ answers_under t meaning ((node_at t number).first + i) ≡ answers_upto (i + 1)
   upto_more i lt =
-      let ks = child_nodes t (node_at t number) in
-      let m = node_at t ((node_at t number).first + i) in
-      let h = height_at t number - 1 in
       let k = child t number opened.tree high i lt in
-      let there : under_all meaning t h (m ∷ []) ≡ answers_under t meaning ((node_at t number).first + i) =
-      under_all-one meaning t h m ∙ ap (λ l. among meaning (entries_under t l m)) (sym k.height) in
-      ap (λ l. under_all meaning t h (take i ks) ++ l) (sym there)
-      ∙ sym (under_all-append meaning t h (take i ks) (m ∷ []))
-      ∙ ap (under_all meaning t h) (sym (take_more_at ks i m k.place k.is))
+      grind (arith, under_all-one, under_all-append, take_more_at (child_nodes t (node_at t number)) i (node_at t ((node_at t number).first + i)) k.place k.is)
 
   pub upto_all : answers_upto (node_at t number).count ≡ answers_under t meaning number
   upto_all = grind (arith, under_all, all_children, under_all-whole, among, height_suc)

@@ -86,8 +86,7 @@ still_none xs ys zs h e = ap (put_all item_cmp xs) (e ∙ sym (none_merged xs ys
 
 enough_one : (b : Bool) (wanted : Option ℕ) (x : Item) (xs ys : List Item) → IsEnough wanted xs ys
     → IsEnough wanted (cond b (put item_cmp x xs) xs) (cond b (put item_cmp x ys) ys)
-enough_one true wanted x xs ys h = enough_put wanted x xs ys h
-enough_one false wanted x xs ys h = h
+enough_one b wanted x xs ys h = grind (arith, enough_put wanted x xs ys h)
 
 pub rising_put_all : (zs xs : List Item) → IsRising xs → IsRising (put_all item_cmp zs xs)
 rising_put_all [] xs h = h

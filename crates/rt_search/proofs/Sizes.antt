@@ -15,8 +15,7 @@ use Rattle.rt_search.proofs.{Children.{part_length}, Elements.{all_map}}
 use Rattle.rt_search.specs.declared.item.Place.TheVariants as place
 
 cond_le : (b : Bool) (m n : ℕ) → m ≤ n → cond b m 0 ≤ n
-cond_le true m n h = h
-cond_le false m n h = omega arith
+cond_le b m n h = grind arith
 
 -- ---- sizes
 
@@ -94,8 +93,7 @@ module _ (opens : Verdict → Bool) (cost : Node → ℕ) (meaning : Meaning) (t
   work_le sound = grind (arith, nat_tests, length_permutation, size_under, mul-le, work_from_le)
 
   cost_le_work : (h : ℕ) (v : Verdict) (n : Node) → cost n ≤ reached opens cost meaning t h v n
-  cost_le_work zero v n = omega arith
-  cost_le_work (suc h) v n = omega arith
+  cost_le_work h v n = grind arith
 
   -- opening a node that waits is part of the work
   pub done_upto : (done s : ℕ) (n : WaitingNode) (xs : List Item) → opens (verdict_on s n) ≡ true
@@ -121,8 +119,7 @@ module _ (meaning : Meaning) (t : Packed) where
   held_cons x xs = sum_by-cons (λ (y : Item). size_at t y.place) x xs
 
   size_of : (s : ℕ) (p : Place) → IsSoundAt t meaning s p → 0 < size_at t p
-  size_of s (place.Node n) h = (size_counts t (height_at t n.number.number) (node_at t n.number.number) h.tree).0
-  size_of s (place.Entry i) h = omega arith
+  size_of s p h = grind (arith, size_counts)
 
   -- each item stands for an entry of its own
   pub length_le_held : (xs : List Item) → AllSound t meaning xs → length xs ≤ held t xs

@@ -16,8 +16,7 @@ use Rattle.rt_search.proofs.{Answering.{among-IsPermutation}, Elements.{all_each
 use Rattle.rt_search.proofs.{Orders.{answer_order}, Sizes.{size_under}}
 
 pub within_zero : (bound : Option ℕ) → option_map_or (nat_le 0) bound true ≡ true
-within_zero None = refl
-within_zero (Some b) = grind (arith, nat_tests)
+within_zero bound = grind (arith, nat_tests)
 
 -- ---- the root, which waits
 
@@ -33,13 +32,11 @@ pub nat_eq_false : {n : ℕ} → (n == 0) ≡ false → 0 < n
 nat_eq_false h = grind (arith, nat_tests)
 
 pub none_given : (limit : Option ℕ) → IsInLimit limit 0
-none_given None = tt
-none_given (Some k) = omega arith
+none_given limit = grind arith
 
 pub from_first : (wanted limit : Option ℕ) → IfSome wanted (λ n. limit ≡ Some n)
     → IfSome wanted (λ n. limit ≡ Some (0 + n))
-from_first None limit h = tt
-from_first (Some n) limit h = h ∙ ap Some (omega arith)
+from_first wanted limit h = grind arith
 
 module _ (meaning : Meaning) (t : Packed) (sound : IsSound t)
   where
