@@ -43,13 +43,6 @@ pub entries_join : (old new : Limited) (xs : List Answer)
     → KeepsEnough (join_answers xs old.items) old new
 entries_join old new [] h = grind (arith, enough_itself)
 entries_join old new (a ∷ xs) h =
-    let one = h.1.0 in
     let rest = entries_join h.0 new xs h.1.1 in
-    record {
-      items = subst (IsEnough old.wanted new.items) (join_next a xs old.items)
-          (enough_trans old.wanted new.items (join_answers xs h.0.items) (join_answers xs (put item_cmp (item_of a) old.items))
-          (subst (λ w. IsEnough w new.items (join_answers xs h.0.items)) one.wanted rest.items)
-          (enough_put_all old.wanted (map item_of xs) h.0.items (put item_cmp (item_of a) old.items) one.items));
-      wanted = rest.wanted ∙ one.wanted;
-      capacity = rest.capacity ∙ one.capacity;
-    }
+    let one = enough_put_all old.wanted (map item_of xs) h.0.items (put item_cmp (item_of a) old.items) h.1.0.items in
+    grind (arith, join_next, enough_trans)

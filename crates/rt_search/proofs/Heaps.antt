@@ -11,8 +11,7 @@ use Rattle.rt_search.specs.{contracts.item.ItemOrd.TheImpl.{ghosts as item_ghost
 use Rattle.rt_search.proofs.{Elements.{all_each, all_map, all_moved}, OrderedLists.{put_least}}
 
 pub on_ok : {T E P : Type 0} (r : Result T E) → IsOk r → OnOk r P → P
-on_ok (Ok x) h p = p
-on_ok (Err e) h p = cc
+on_ok r h p = grind arith
 
 pub map-all : {X : Type 0} (item : X → Item) (P : Item → Type 0) (xs : List X) → AllByRecursion (λ x. P (item x)) xs
     → AllByRecursion P (map item xs)

@@ -26,7 +26,7 @@ some_nodes t some = grind (arith, nat_tests)
 pub root_work : (opens : Verdict → Bool) (cost : Node → ℕ) (meaning : Meaning) (t : Packed)
     → opens root_verdict ≡ true → 0 < length t.nodes → work_left opens cost meaning t (root_item t ∷ [])
     ≡ reached_from_root opens cost meaning t
-root_work opens cost meaning t open' some = grind (arith, sum_by-cons, some_nodes)
+root_work opens cost meaning t open' some = grind (arith, sum_by-cons, nat_tests)
 
 pub nat_eq_false : {n : ℕ} → (n == 0) ≡ false → 0 < n
 nat_eq_false h = grind (arith, nat_tests)
