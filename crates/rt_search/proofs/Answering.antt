@@ -146,21 +146,8 @@ module _ (meaning : Meaning) where
     -- ---- a node that joins
 
     -- what the nodes of a list bring
-    pub under_all : ℕ → List Node → List Answer
+    abbrev pub under_all : ℕ → List Node → List Answer
     under_all h ks = among (flat_map (entries_under t h) ks)
 
     pub under_all-append : (h : ℕ) (ks ls : List Node) → under_all h (ks ++ ls) ≡ under_all h ks ++ under_all h ls
-    unfolding under_all
     under_all-append h ks ls = grind (arith, flat_map-append, among-append)
-
-    pub under_all-none : (h : ℕ) → under_all h [] ≡ []
-    unfolding under_all
-    under_all-none h = refl
-
-    pub under_all-one : (h : ℕ) (k : Node) → under_all h (k ∷ []) ≡ among (entries_under t h k)
-    unfolding under_all
-    under_all-one h k = ap among (append-nil (entries_under t h k))
-
-    pub under_all-whole : (h : ℕ) (n : Node) → under_all h (child_nodes t n) ≡ among (entries_under t (suc h) n)
-    unfolding under_all
-    under_all-whole h n = refl

@@ -34,20 +34,23 @@ pub record IsLeafAt (t : Packed) (n : Node) (i : ℕ) (e : Entry) : Type 0 where
   pub within : IsPart (extent_of_entry e) (extent_of_node n)
   pub box : HasBox e
   pub few : HasLayer e
+  pub found : slice_get t.entries (n.first + i) ≡ Some e
 
-pub leaf_at : (t : Packed) (n : Node) (i : ℕ) (e : Entry) → IsTable t.entries → IsLeafNode t n → i < n.count
-    → get_or t.entries (n.first + i) e ≡ e → IsLeafAt t n i e
-leaf_at t n i e table s lt read =
+pub leaf_at : (t : Packed) (n : Node) (i : ℕ) → IsTable t.entries → IsLeafNode t n → i < n.count
+    → IsLeafAt t n i (get_or (child_entries t n) i no_entry)
+leaf_at t n i table s lt =
+    let e = get_or (child_entries t n) i no_entry in
     let here : i < length (child_entries t n) = omega (arith, part_length t.entries n.first n.count s.range) in
-    let is : get_or (child_entries t n) i e ≡ e = part_at t.entries n.first n.count i e lt ∙ read in
-    let within = All-from_recursion (IsEntryInside (extent_of_node n)) (child_entries t n) s.within i e here in
     let inside : n.first + i < length t.entries = omega arith in
+    let read : get_or t.entries (n.first + i) e ≡ e = grind (arith, part_at, get_or_default) in
+    let within = All-from_recursion (IsEntryInside (extent_of_node n)) (child_entries t n) s.within i no_entry here in
     record {
       place = here;
-      is = sym is;
-      within = IsPart-box (extent_of_entry e) (extent_of_node n) (subst (IsEntryInside (extent_of_node n)) is within);
+      is = sym (get_or_default (child_entries t n) i e no_entry here);
+      within = IsPart-box (extent_of_entry e) (extent_of_node n) within;
       box = subst HasBox read (table.boxes (n.first + i) e inside);
       few = subst HasLayer read (table.layers (n.first + i) e inside);
+      found = slice_get-get_or t.entries (n.first + i) e inside ∙ ap Some read;
     }
 
 -- how many entries are lent
@@ -59,23 +62,15 @@ entries_count t n lent s entries = grind (arith, length-map, part_length)
 pub record IsLeafRead (t : Packed) (n : Node) (i : ℕ) (x : LeafEntry) (e : Entry) : Type 0 where
   pub at : IsLeafAt t n i e
   pub is : x ≡ without_layer e
-  pub found : slice_get t.entries (n.first + i) ≡ Some e
 
 pub leaf_read : (t : Packed) (n : Node) (i : ℕ) (x : LeafEntry) (lent : List LeafEntry) → IsTable t.entries
     → IsLeafNode t n → lent ≡ map without_layer (child_entries t n) → i < length lent → x ≡ get_or lent i x
     → IsLeafRead t n i x (get_or (child_entries t n) i no_entry)
 leaf_read t n i x lent table s entries lt read =
-    let children = child_entries t n in
-    let e = get_or children i no_entry in
-    let few = subst (λ m. i < m) (entries_count t n lent s entries) lt in
-    let there : i < length children = omega (arith, part_length t.entries n.first n.count s.range) in
-    let same : get_or t.entries (n.first + i) e ≡ e = sym (part_at t.entries n.first n.count i e few)
-    ∙ get_or_default children i e no_entry there in
-    record {
-      at = leaf_at t n i e table s few same;
-      is = subst (λ l. x ≡ get_or l i x) entries read ∙ get_or-map without_layer children i no_entry x there;
-      found = slice_get-get_or t.entries (n.first + i) e (omega arith) ∙ ap Some same;
-    }
+    let few = entries_count t n lent s entries in
+    let at = leaf_at t n i table s (omega arith) in
+    let is = get_or-map without_layer (child_entries t n) i no_entry x at.place in
+    record { at = at; is = subst (λ l. x ≡ get_or l i x) entries read ∙ is }
 
 -- ---- a child of a higher node
 

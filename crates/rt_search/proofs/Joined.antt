@@ -1,6 +1,6 @@
 -- What opening a node means for the answers to come.
 use Rattle.std.proofs.Common.{◌≡◌, ◌<◌, ◌≤◌, ◌+◌, ◌-◌, ◌^◌, ℕ, zero, suc, true, false, cond, List, [], ◌∷◌, ◌++◌}
-use Rattle.std.proofs.{Common.{length, take, refl, sym, ◌∙◌, ap, subst, arith, add-one}, lemmas.Bool.{cond_both}}
+use Rattle.std.proofs.{Common.{length, take, refl, sym, ◌∙◌, ap, subst, arith, add-one}, lemmas.{Bool.{cond_both}, List.{append-nil}}}
 use Rattle.rt_geo.specs.Laws.{Meaning}
 use Rattle.rt_geo.specs.{Laws.{IsLawful, IsQuestion, extent_of}, declared.geometry.Info.{Info}}
 use Rattle.rt_geo.specs.declared.geometry.{Verdict.{Verdict}, Within.{Within, TheVariants.{Not, Partly, Fully}}}
@@ -11,7 +11,7 @@ use Rattle.rt_search.specs.Joining.{join_answers, join_node, join_nodes}
 use Rattle.rt_search.specs.Remaining.{verdict_on, waiting_node, AllSound, IsBelow, IsOpenable, height_at, is_fully}
 use Rattle.rt_search.specs.{Remaining.{put_all, remaining}, Walking.{answers_under}, Work.{info_of_node, is_kept}}
 use Rattle.rt_search.proofs.Answering.{AllSound-put, among, among_none, all_inside, remaining-put, take_more_at}
-use Rattle.rt_search.proofs.Answering.{under_all, under_all-append, under_all-none, under_all-one, under_all-whole}
+use Rattle.rt_search.proofs.Answering.{under_all, under_all-append}
 use Rattle.rt_search.proofs.Children.{all_children, child, height_suc, node_question}
 use Rattle.rt_search.proofs.{OrderedLists.{put_all-append, put_all-put_all}, Orders.{answer_order}}
 use Rattle.rt_search.specs.declared.item.Place.TheVariants as place
@@ -33,11 +33,16 @@ module _ {t : Packed} {meaning : Meaning} {number : ℕ} {v : Verdict}
   pub upto_more : (i : ℕ) → i < (node_at t number).count
       → answers_upto i ++ answers_under t meaning ((node_at t number).first + i) ≡ answers_upto (i + 1)
   upto_more i lt =
+      let h = height_at t number - 1 in
+      let m = node_at t ((node_at t number).first + i) in
       let k = child t number opened.tree high i lt in
-      grind (arith, under_all-one, under_all-append, take_more_at (child_nodes t (node_at t number)) i (node_at t ((node_at t number).first + i)) k.place k.is)
+      let one : under_all meaning t h (m ∷ []) ≡ answers_under t meaning ((node_at t number).first + i) =
+      rw (append-nil, k.height) refl in
+      rw (take_more_at (child_nodes t (node_at t number)) i m k.place k.is)
+      (ap (λ l. answers_upto i ++ l) (sym one) ∙ sym (under_all-append meaning t h _ (m ∷ [])))
 
   pub upto_all : answers_upto (node_at t number).count ≡ answers_under t meaning number
-  upto_all = grind (arith, under_all, all_children, under_all-whole, among, height_suc)
+  upto_all = grind (arith, under_all, all_children, among, height_suc)
 
 module _ {meaning : Meaning} (law : IsLawful meaning) (t : Packed) where
   -- answers
@@ -86,7 +91,7 @@ module _ {meaning : Meaning} (law : IsLawful meaning) (t : Packed) where
       pub nodes_upto : (xs : List Item) (i : ℕ) → i ≤ (node_at t number).count
           → remaining t meaning (join_nodes meaning t v (node_at t number) i xs)
           ≡ put_all answer_cmp (answers_upto opened high i) (remaining t meaning xs)
-      nodes_upto xs zero le = grind (arith, under_all-none)
+      nodes_upto xs zero le = grind arith
       nodes_upto xs (suc i) le =
           let lt : i < (node_at t number).count = omega arith in
           let m = (node_at t number).first + i in

@@ -101,10 +101,9 @@ module _ (opens : Verdict → Bool) (cost : Node → ℕ) (meaning : Meaning) (t
       → done + cost (node_at t n.number.number) ≤ reached_from_root opens cost meaning t
   done_upto done s n xs open' course =
       let k = node_at t n.number.number in
-      let whole : work_at opens cost meaning t s (place.Node n)
-      ≡ reached opens cost meaning t (height_at t n.number.number) (verdict_on s n) k = rw open' refl in
       let least = cost_le_work (height_at t n.number.number) (verdict_on s n) k in
-      omega (arith, work_cons opens cost meaning t (item_at s (place.Node n)) xs)
+      let whole = work_cons opens cost meaning t (item_at s (place.Node n)) xs in
+      grind (arith, open')
 
   -- and keeps the work done small
   pub done_le : IsSound t → (done s : ℕ) (n : WaitingNode) (xs : List Item) → opens (verdict_on s n) ≡ true
@@ -118,10 +117,7 @@ module _ (meaning : Meaning) (t : Packed) where
   pub held_cons : (x : Item) (xs : List Item) → held t (x ∷ xs) ≡ size_at t x.place + held t xs
   held_cons x xs = sum_by-cons (λ (y : Item). size_at t y.place) x xs
 
-  size_of : (s : ℕ) (p : Place) → IsSoundAt t meaning s p → 0 < size_at t p
-  size_of s p h = grind (arith, size_counts)
-
   -- each item stands for an entry of its own
   pub length_le_held : (xs : List Item) → AllSound t meaning xs → length xs ≤ held t xs
   length_le_held [] a = omega arith
-  length_le_held (x ∷ xs) a = omega (arith, held_cons x xs, size_of x.score x.place a.0, length_le_held xs a.1)
+  length_le_held (x ∷ xs) a = grind (arith, held_cons, size_counts, length_le_held xs a.1)

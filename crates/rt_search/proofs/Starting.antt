@@ -62,10 +62,8 @@ module _ (meaning : Meaning) (t : Packed) (sound : IsSound t)
               opening = root_course one_node some;
               asking = root_course its_children some;
             });
-        rising = cond_both (length t.nodes == 0) [] (root_item t ∷ []) IsRising (λ h. tt) (λ h. (tt, tt));
-        follows = cond_both (length t.nodes == 0) [] (root_item t ∷ [])
-            (λ l. remaining t meaning l ≡ answers t.entries meaning None) (λ h. sym (empty_answers (eqb-true _ 0 h)))
-            (λ h. let some = nat_eq_false h in grind (arith, put_all-nil, answer_order, among-IsPermutation));
+        rising = grind arith;
+        follows = grind (arith, empty_answers, eqb-true, nat_eq_false, put_all-nil, answer_order, among-IsPermutation);
         enough = enough;
       };
       room = room;

@@ -35,13 +35,9 @@ module _ (meaning : Meaning) (t : Packed) (wanted : Option ℕ) (s : ℕ) (n : W
       → IsEnough wanted (join_children meaning t s n xs) (join_children meaning t s n ys)
   enough_children xs ys h =
       let m = node_at t n.number.number in
-      let v = verdict_on s n in
-      elim (m.level == 1) as
-      (λ b. IsEnough wanted (cond b (join_answers (answers_among t meaning m m.count) xs) (join_nodes meaning t v m m.count xs))
-      (cond b (join_answers (answers_among t meaning m m.count) ys) (join_nodes meaning t v m m.count ys))) [
-        | true ↦ enough_put_all wanted (map item_of (answers_among t meaning m m.count)) xs ys h
-        | false ↦ enough_nodes meaning t v m wanted m.count xs ys h
-      ]
+      let leaf = enough_put_all wanted (map item_of (answers_among t meaning m m.count)) xs ys h in
+      let inner = enough_nodes meaning t (verdict_on s n) m wanted m.count xs ys h in
+      grind arith
 
 module _ {meaning : Meaning} (law : IsLawful meaning) (t : Packed) where
   -- ---- a node is opened

@@ -13,7 +13,7 @@ use Rattle.rt_search.specs.{Joining.{info_of_child, no_entry}, Walking.{work_at_
 use Rattle.rt_search.specs.Remaining.{IsBelow, IsOpenable, height_at}
 use Rattle.rt_search.specs.Walking.{HasTaken, IsCheckable, IsFilling, IsKnown, answer_if, answers_among, answers_under}
 use Rattle.rt_search.proofs.Answering.{IsEntryInside, all_inside, among, among-append, among_accepted, among_none}
-use Rattle.rt_search.proofs.Answering.{among_refused, take_more_at, under_all-none}
+use Rattle.rt_search.proofs.Answering.{among_refused, take_more_at}
 use Rattle.rt_search.proofs.Children.{IsAsked, IsLeafAt, all_children, child, entry_question, height_suc, inner_at}
 use Rattle.rt_search.proofs.{Children.{leaf_at, leaf_node, node_question, part_at, part_length}, Giving.{length-scored}}
 use Rattle.rt_search.proofs.{Joined.{answers_upto, kept_not, upto_more}, Sizes.{size_under}, Working.{sum_more}}
@@ -75,23 +75,14 @@ module _ {meaning : Meaning} (law : IsLawful meaning) where
   module _ {t : Packed} {k : ℕ} {info : Info} (can : IsCheckable t meaning k info) where
     pub known : IsKnown (meaning.verdict info).within (node_at t k).size (answers_under t meaning k)
     known =
-        let n = node_at t k in
-        let es = entries_under t (height_at t k) n in
-        let inside = all_inside t (height_at t k) n can.tree in
+        let inside = all_inside t (height_at t k) (node_at t k) can.tree in
         record {
-          none = λ is. among_none meaning (extent_of_node n)
-              (subst (NoneAccepted meaning.accepts) can.extent (law.faithful.pruning info can.question can.high is)) es inside;
+          none = λ is. grind (arith, among_none, can.extent, law.faithful.pruning info can.question can.high is);
           all = grind (arith, all_among, size_under);
         }
 
   module _ {t : Packed} (sound : IsSound t) where
     -- ---- one more entry
-
-    entry_at : (n : Node) (i : ℕ) → IsLeafNode t n → i < n.count
-        → IsLeafAt t n i (get_or (child_entries t n) i no_entry)
-    entry_at n i leaf lt =
-        let e = get_or (child_entries t n) i no_entry in
-        leaf_at t n i e sound.table leaf lt (grind (arith, part_at, get_or_default))
 
     pub one_entry : {v : Verdict} → v.score < 2 ^ 128 → {n : Node} → IsLeafNode t n
         → IsBelow meaning (extent_of_node n) v → (i : ℕ) → i < n.count
@@ -99,7 +90,7 @@ module _ {meaning : Meaning} (law : IsLawful meaning) where
         answers_among t meaning n i ++ answer_if (is_kept w.within) e.id w.score ≡ answers_among t meaning n (i + 1)
     one_entry {v} small {n} leaf below i lt =
         let e = get_or (child_entries t n) i no_entry in
-        let at = entry_at n i leaf lt in
+        let at = leaf_at t n i sound.table leaf lt in
         let one = entry_answer e (info_of_child t v e) refl refl (entry_question meaning t sound v small n e i below at) in
         rw (one, take_more_at (child_entries t n) i e at.place at.is, among-append) refl
 
@@ -127,7 +118,7 @@ module _ {meaning : Meaning} (law : IsLawful meaning) where
 
       few_upto : (i : ℕ) → i ≤ (node_at t number).count
           → length (answers_upto opened high i) ≤ sum_by (λ k. k.size) (take i (child_nodes t (node_at t number)))
-      few_upto zero le = omega (arith, ap length (under_all-none meaning t (height_at t number - 1)))
+      few_upto zero le = omega arith
       few_upto (suc i) le =
           let k = (node_at t number).first + i in
           let more = rw (add-one i) at (ap length (upto_more opened high i (omega arith))) in
