@@ -79,23 +79,14 @@ module _ (meaning : Meaning) where
   abbrev kept : List Entry → List Entry
   kept es = accepted es meaning
 
-  skip : (e : Entry) (es fs : List Entry) → IsPermutation (kept es) (kept fs)
-      → IsPermutation (kept (e ∷ es)) (kept (e ∷ fs))
-  skip e es fs h = grind (arith, cond_both, IsPermutation-cons)
-
   turn : (d e : Entry) (es : List Entry) → IsPermutation (kept (d ∷ e ∷ es)) (kept (e ∷ d ∷ es))
-  turn d e es = by (meaning.accepts (extent_of_entry d)) (meaning.accepts (extent_of_entry e))
-    where
-      by : (p q : Bool) → IsPermutation (cond p (d ∷ cond q (e ∷ kept es) (kept es)) (cond q (e ∷ kept es) (kept es)))
-          (cond q (e ∷ cond p (d ∷ kept es) (kept es)) (cond p (d ∷ kept es) (kept es)))
-      by true true = IsPermutation-middle (d ∷ []) e (kept es)
-      by true false = IsPermutation-refl _
-      by false q = IsPermutation-refl _
+  turn d e es = grind (arith, IsPermutation-middle (d ∷ []) e (kept es), IsPermutation-refl)
 
   pub accepted-IsPermutation : (es fs : List Entry) → IsPermutation es fs
       → IsPermutation (accepted es meaning) (accepted fs meaning)
-  accepted-IsPermutation = along_permutation (λ es fs. IsPermutation (kept es) (kept fs))
-      (λ es. IsPermutation-refl (kept es)) skip turn (λ es fs gs h k. IsPermutation-trans _ _ _ h k)
+  accepted-IsPermutation =
+      along_permutation (λ es fs. IsPermutation (kept es) (kept fs)) (λ es. IsPermutation-refl (kept es))
+      (λ e es fs h. grind (arith, cond_both, IsPermutation-cons)) turn (λ es fs gs h k. IsPermutation-trans _ _ _ h k)
 
   pub among-IsPermutation : (es fs : List Entry) → IsPermutation es fs
       → sorted answer_cmp (among es) ≡ sorted answer_cmp (among fs)
@@ -135,10 +126,7 @@ module _ (meaning : Meaning) where
         → AllByRecursion (λ y. is_gt (item_cmp (item_at s (place.Entry i)) y) ≡ false) xs → AllSound t meaning xs
         → AllByRecursion (λ q. is_gt (answer_cmp (i, s) q) ≡ false) (remaining t meaning xs)
     all_least i s [] a b = tt
-    all_least i s (y ∷ ys) a b =
-        put_all-all answer_cmp answer_order (λ q. is_gt (answer_cmp (i, s) q) ≡ false)
-        (answers_at t meaning y.score y.place) (remaining t meaning ys)
-        (least_at i s y.score y.place a.0 b.0) (all_least i s ys a.1 b.1)
+    all_least i s (y ∷ ys) a b = grind (arith, put_all-all, answer_order, least_at, all_least i s ys a.1 b.1)
 
     -- an entry that comes after none of the items that wait is the next answer
     pub take_entry : (i : ℤ) (s : ℕ) (xs : List Item)
@@ -148,41 +136,18 @@ module _ (meaning : Meaning) where
 
     -- ---- and where entries alone wait
 
-    entry_sound : (s : ℕ) (p : Place) → IsEntry p → IsSoundAt t meaning s p
-    entry_sound s (place.Node n) h = absurd h
-    entry_sound s (place.Entry id) h = tt
-
     -- what is taken out is given, or nothing is left
     pub given : (out : Option Answer) (items new : List Item) → AllEntries items → IsTakenOut (taken_entry out) items new
         → MatchOption out (remaining t meaning items ≡ [])
         (λ a. remaining t meaning items ≡ a ∷ remaining t meaning new)
     given None items new all out = ap (remaining t meaning) out.0
-    given (Some a) items new all out = grind (arith, take_entry, all_map, entry_sound)
-
-    pub none_left : (out : Option Answer) (items new : List Item) → IsTakenOut (taken_entry out) items new
-        → IfNone out (remaining t meaning new ≡ [])
-    none_left None items new out = ap (remaining t meaning) out.1
-    none_left (Some a) items new out = tt
+    given (Some a) items new all out = grind (arith, take_entry, all_map)
 
     -- ---- a node that joins
 
     -- what the nodes of a list bring
-    pub under_all : ℕ → List Node → List Answer
+    abbrev pub under_all : ℕ → List Node → List Answer
     under_all h ks = among (flat_map (entries_under t h) ks)
 
     pub under_all-append : (h : ℕ) (ks ls : List Node) → under_all h (ks ++ ls) ≡ under_all h ks ++ under_all h ls
-    unfolding under_all
-    under_all-append h ks ls = ap among (flat_map-append (entries_under t h) ks ls)
-        ∙ among-append (flat_map (entries_under t h) ks) (flat_map (entries_under t h) ls)
-
-    pub under_all-none : (h : ℕ) → under_all h [] ≡ []
-    unfolding under_all
-    under_all-none h = refl
-
-    pub under_all-one : (h : ℕ) (k : Node) → under_all h (k ∷ []) ≡ among (entries_under t h k)
-    unfolding under_all
-    under_all-one h k = ap among (append-nil (entries_under t h k))
-
-    pub under_all-whole : (h : ℕ) (n : Node) → under_all h (child_nodes t n) ≡ among (entries_under t (suc h) n)
-    unfolding under_all
-    under_all-whole h n = refl
+    under_all-append h ks ls = grind (arith, flat_map-append, among-append)

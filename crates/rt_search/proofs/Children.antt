@@ -34,20 +34,23 @@ pub record IsLeafAt (t : Packed) (n : Node) (i : ℕ) (e : Entry) : Type 0 where
   pub within : IsPart (extent_of_entry e) (extent_of_node n)
   pub box : HasBox e
   pub few : HasLayer e
+  pub found : slice_get t.entries (n.first + i) ≡ Some e
 
-pub leaf_at : (t : Packed) (n : Node) (i : ℕ) (e : Entry) → IsTable t.entries → IsLeafNode t n → i < n.count
-    → get_or t.entries (n.first + i) e ≡ e → IsLeafAt t n i e
-leaf_at t n i e table s lt read =
+pub leaf_at : (t : Packed) (n : Node) (i : ℕ) → IsTable t.entries → IsLeafNode t n → i < n.count
+    → IsLeafAt t n i (get_or (child_entries t n) i no_entry)
+leaf_at t n i table s lt =
+    let e = get_or (child_entries t n) i no_entry in
     let here : i < length (child_entries t n) = omega (arith, part_length t.entries n.first n.count s.range) in
-    let is : get_or (child_entries t n) i e ≡ e = part_at t.entries n.first n.count i e lt ∙ read in
-    let within = All-from_recursion (IsEntryInside (extent_of_node n)) (child_entries t n) s.within i e here in
     let inside : n.first + i < length t.entries = omega arith in
+    let read : get_or t.entries (n.first + i) e ≡ e = grind (arith, part_at, get_or_default) in
+    let within = All-from_recursion (IsEntryInside (extent_of_node n)) (child_entries t n) s.within i no_entry here in
     record {
       place = here;
-      is = sym is;
-      within = IsPart-box (extent_of_entry e) (extent_of_node n) (subst (IsEntryInside (extent_of_node n)) is within);
+      is = sym (get_or_default (child_entries t n) i e no_entry here);
+      within = IsPart-box (extent_of_entry e) (extent_of_node n) within;
       box = subst HasBox read (table.boxes (n.first + i) e inside);
       few = subst HasLayer read (table.layers (n.first + i) e inside);
+      found = slice_get-get_or t.entries (n.first + i) e inside ∙ ap Some read;
     }
 
 -- how many entries are lent
@@ -59,23 +62,15 @@ entries_count t n lent s entries = grind (arith, length-map, part_length)
 pub record IsLeafRead (t : Packed) (n : Node) (i : ℕ) (x : LeafEntry) (e : Entry) : Type 0 where
   pub at : IsLeafAt t n i e
   pub is : x ≡ without_layer e
-  pub found : slice_get t.entries (n.first + i) ≡ Some e
 
 pub leaf_read : (t : Packed) (n : Node) (i : ℕ) (x : LeafEntry) (lent : List LeafEntry) → IsTable t.entries
     → IsLeafNode t n → lent ≡ map without_layer (child_entries t n) → i < length lent → x ≡ get_or lent i x
     → IsLeafRead t n i x (get_or (child_entries t n) i no_entry)
 leaf_read t n i x lent table s entries lt read =
-    let children = child_entries t n in
-    let e = get_or children i no_entry in
-    let few = subst (λ m. i < m) (entries_count t n lent s entries) lt in
-    let there : i < length children = omega (arith, part_length t.entries n.first n.count s.range) in
-    let same : get_or t.entries (n.first + i) e ≡ e = sym (part_at t.entries n.first n.count i e few)
-    ∙ get_or_default children i e no_entry there in
-    record {
-      at = leaf_at t n i e table s few same;
-      is = subst (λ l. x ≡ get_or l i x) entries read ∙ get_or-map without_layer children i no_entry x there;
-      found = slice_get-get_or t.entries (n.first + i) e (omega arith) ∙ ap Some same;
-    }
+    let few = entries_count t n lent s entries in
+    let at = leaf_at t n i table s (omega arith) in
+    let is = get_or-map without_layer (child_entries t n) i no_entry x at.place in
+    record { at = at; is = subst (λ l. x ≡ get_or l i x) entries read ∙ is }
 
 -- ---- a child of a higher node
 
@@ -88,15 +83,11 @@ subtree_box : (t : Packed) (h : ℕ) (n : Node) → IsSubtree t h n
 subtree_box t zero n s = (s.valid, s.coordinates, s.layers)
 subtree_box t (suc h) n s = (s.valid, s.coordinates, s.layers)
 
-one_less : (h : ℕ) → suc h - 1 ≡ h
-one_less h = omega arith
-
 -- a node above level 1
 pub inner_at : (t : Packed) (h : ℕ) (n : Node) → IsSubtree t h n → 2 ≤ n.level → h ≡ suc (h - 1)
     × IsInnerNode t (h - 1) (IsSubtree t (h - 1)) n
 inner_at t zero n s level = absurd (let e = s.level in omega arith)
-inner_at t (suc h) n s level =
-    (ap suc (sym (one_less h)), subst (λ m. IsInnerNode t m (IsSubtree t m) n) (sym (one_less h)) s)
+inner_at t (suc h) n s level = let same : suc h - 1 ≡ h = omega arith in rw same (refl, s)
 
 -- a node of level 1
 pub leaf_node : (t : Packed) (h : ℕ) (n : Node) → IsSubtree t h n → n.level ≡ 1 → (h ≡ 0) × IsLeafNode t n
@@ -164,31 +155,14 @@ pub record HasChildren (t : Packed) (number : ℕ) (n : Node) (children : List P
 module _ {t : Packed} {meaning : Meaning} {number : ℕ} {v : Verdict}
     (opened : IsOpenable t meaning number v) {n : Node} (is : n ≡ node_at t number) (above : n.level ≡ 1 → ⊥) where
   is_high : 2 ≤ (node_at t number).level
-  is_high =
-      let level = subtree_level t (height_at t number) (node_at t number) opened.tree in
-      let same = ap (λ m. m.level) is in
-      omega arith
+  is_high = grind (arith, subtree_level, opened.tree)
 
   pub children_inside : n.first + n.count ≤ length t.nodes
   children_inside = rw is (inner_at t (height_at t number) (node_at t number) opened.tree is_high).1.range
 
   pub children_of : {children : List PlainNode} → children ≡ map without_layers (child_nodes t n)
       → HasChildren t number n children
-  children_of lent =
-      let m = node_at t number in
-      let range = (inner_at t (height_at t number) m opened.tree is_high).1.range in
-      let same = lent ∙ ap (λ l. map without_layers (child_nodes t l)) is in
-      let count = ap length same ∙ length-map (child_nodes t m) without_layers
-      ∙ part_length t.nodes m.first m.count range in
-      let first = ap (λ l. l.first) is in
-      record {
-        tree = opened.tree;
-        is = is;
-        high = is_high;
-        lent = same;
-        count = count;
-        inside = omega arith;
-      }
+  children_of lent = grind (arith, inner_at, is_high, length-map, part_length, opened.tree)
 
 pub asked : {t : Packed} {number : ℕ} {n : Node} {children : List PlainNode} → HasChildren t number n children → (i : ℕ)
     (v : Verdict) {k : ℕ} {x : PlainNode} {whole : Node} {info : Info} → i < length children
@@ -196,22 +170,7 @@ pub asked : {t : Packed} {number : ℕ} {n : Node} {children : List PlainNode} �
     → info ≡ info_under (root_of t).level v (record { bounds = x.bounds; layers = whole.layers }) (n.level - 1)
     → IsAsked t number i k x v info
 asked {t} {number} {n} here i v {k} {x = x} {whole = whole} lt read number_is whole_is info_is =
-    let m = node_at t number in
-    let few = subst (λ l. i < l) here.count lt in
-    let first = ap (λ l. l.first) here.is in
-    let at : k ≡ m.first + i = omega arith in
-    let there = subst (IsChild t m (height_at t number - 1) i) (sym at) (child t number here.tree here.high i few) in
-    let x_is = subst (λ l. x ≡ get_or l i x) here.lent read
-    ∙ get_or-map without_layers (child_nodes t m) i (node_at t k) x there.place ∙ ap without_layers (sym there.is) in
-    let level = ap (λ l. l.level) here.is in
-    let lower : n.level - 1 ≡ (node_at t k).level = omega arith in
-    record {
-      few = few;
-      at = at;
-      child = there;
-      is = x_is;
-      info_is = grind (arith, info_is, lower);
-    }
+    grind (arith, child, get_or-map, here.count, here.is, here.tree, here.high, here.lent)
 
 -- all children of a node
 pub all_children : (t : Packed) (number : ℕ) → IsSubtree t (height_at t number) (node_at t number)

@@ -36,25 +36,13 @@ hits_join old new [] h = (ap (λ w. w.items) h, ap (λ w. w.capacity) h)
 hits_join old new (a ∷ xs) h = grind (arith, join_next, hits_join h.0 new xs h.1.1)
 
 pub length-joined : (xs : List Answer) (items : List Item) → length (join_answers xs items) ≡ length xs + length items
-length-joined xs items = omega
-    (arith, length-put_all item_cmp item_order (map item_of xs) items, length-map xs item_of)
+length-joined xs items = grind (arith, length-put_all, item_order, length-map)
 
 pub entries_join : (old new : Limited) (xs : List Answer)
     → HasTaken (λ old a new. IsPut (item_of a) old new) old xs new
     → KeepsEnough (join_answers xs old.items) old new
-entries_join old new [] h = record {
-  items = subst (λ r. IsEnough old.wanted r.items old.items) (sym h) (enough_itself old.wanted old.items);
-  wanted = ap (λ r. r.wanted) h;
-  capacity = ap (λ r. r.capacity) h;
-}
+entries_join old new [] h = grind (arith, enough_itself)
 entries_join old new (a ∷ xs) h =
-    let one = h.1.0 in
     let rest = entries_join h.0 new xs h.1.1 in
-    record {
-      items = subst (IsEnough old.wanted new.items) (join_next a xs old.items)
-          (enough_trans old.wanted new.items (join_answers xs h.0.items) (join_answers xs (put item_cmp (item_of a) old.items))
-          (subst (λ w. IsEnough w new.items (join_answers xs h.0.items)) one.wanted rest.items)
-          (enough_put_all old.wanted (map item_of xs) h.0.items (put item_cmp (item_of a) old.items) one.items));
-      wanted = rest.wanted ∙ one.wanted;
-      capacity = rest.capacity ∙ one.capacity;
-    }
+    let one = enough_put_all old.wanted (map item_of xs) h.0.items (put item_cmp (item_of a) old.items) h.1.0.items in
+    grind (arith, join_next, enough_trans)

@@ -1,5 +1,5 @@
 -- What is kept in any order, seen as items in order.
-use Rattle.std.proofs.Common.{Some, ◌≡◌, ℕ, false, List, [], ◌∷◌, map, length, sym, ◌∙◌, Result, Ok, Err}
+use Rattle.std.proofs.Common.{Some, ◌≡◌, ℕ, false, List, [], ◌∷◌, map, length, sym, ◌∙◌, arith, Result, Ok, Err}
 use Rattle.std.specs.declared.cmp.Reverse.{Reverse}
 use Rattle.rt_tree.proofs.SortingLemmas.{IsPermutation-sorted}
 use Rattle.rt_tree.specs.Sorting.{put}
@@ -11,8 +11,7 @@ use Rattle.rt_search.specs.{contracts.item.ItemOrd.TheImpl.{ghosts as item_ghost
 use Rattle.rt_search.proofs.{Elements.{all_each, all_map, all_moved}, OrderedLists.{put_least}}
 
 pub on_ok : {T E P : Type 0} (r : Result T E) → IsOk r → OnOk r P → P
-on_ok (Ok x) h p = p
-on_ok (Err e) h p = cc
+on_ok r h p = grind arith
 
 pub map-all : {X : Type 0} (item : X → Item) (P : Item → Type 0) (xs : List X) → AllByRecursion (λ x. P (item x)) xs
     → AllByRecursion P (map item xs)
@@ -63,8 +62,7 @@ entries_after k = all_map (λ j. is_lt (nat_cmp j.0 k) ≡ false)
 
 pub wide_after : (top : Reverse Item) (xs : List (Reverse Item))
     → AllByRecursion (λ y. is_lt (item_ghosts.cmp y.0 top.0) ≡ false) xs → IsLeastOf wide_item (wide_item top) xs
-wide_after top = all_map (λ y. is_lt (item_ghosts.cmp y.0 top.0) ≡ false)
-    (λ y. is_gt (item_cmp (wide_item top) (wide_item y)) ≡ false) (λ x a. wide_derived x top ∙ a)
+wide_after top = grind (arith, all_map, wide_derived)
 
 pub all_entries : (ns : List (Reverse ℕ)) → AllByRecursion (λ n. IsEntry (entry_item n).place) ns
 all_entries = all_each (λ n. IsEntry (entry_item n).place) (λ n. tt)

@@ -1,6 +1,6 @@
 -- What opening a node means for the answers to come.
 use Rattle.std.proofs.Common.{◌≡◌, ◌<◌, ◌≤◌, ◌+◌, ◌-◌, ◌^◌, ℕ, zero, suc, true, false, cond, List, [], ◌∷◌, ◌++◌}
-use Rattle.std.proofs.{Common.{length, take, refl, sym, ◌∙◌, ap, subst, arith, add-one}, lemmas.Bool.{cond_both}}
+use Rattle.std.proofs.{Common.{length, take, refl, sym, ◌∙◌, ap, subst, arith, add-one}, lemmas.{Bool.{cond_both}, List.{append-nil}}}
 use Rattle.rt_geo.specs.Laws.{Meaning}
 use Rattle.rt_geo.specs.{Laws.{IsLawful, IsQuestion, extent_of}, declared.geometry.Info.{Info}}
 use Rattle.rt_geo.specs.declared.geometry.{Verdict.{Verdict}, Within.{Within, TheVariants.{Not, Partly, Fully}}}
@@ -11,24 +11,16 @@ use Rattle.rt_search.specs.Joining.{join_answers, join_node, join_nodes}
 use Rattle.rt_search.specs.Remaining.{verdict_on, waiting_node, AllSound, IsBelow, IsOpenable, height_at, is_fully}
 use Rattle.rt_search.specs.{Remaining.{put_all, remaining}, Walking.{answers_under}, Work.{info_of_node, is_kept}}
 use Rattle.rt_search.proofs.Answering.{AllSound-put, among, among_none, all_inside, remaining-put, take_more_at}
-use Rattle.rt_search.proofs.Answering.{under_all, under_all-append, under_all-none, under_all-one, under_all-whole}
+use Rattle.rt_search.proofs.Answering.{under_all, under_all-append}
 use Rattle.rt_search.proofs.Children.{all_children, child, height_suc, node_question}
 use Rattle.rt_search.proofs.{OrderedLists.{put_all-append, put_all-put_all}, Orders.{answer_order}}
 use Rattle.rt_search.specs.declared.item.Place.TheVariants as place
 
 pub kept_not : (w : Within) → is_kept w ≡ false → w ≡ Not
-kept_not Not h = refl
-kept_not Partly h = cc
-kept_not Fully h = cc
-
--- a verdict that isn't NOT is told by the node that waits
-within_told : (w : Within) → is_kept w ≡ true → (cond (is_fully w) Fully Partly) ≡ w
-within_told Not h = cc
-within_told Partly h = refl
-within_told Fully h = refl
+kept_not w h = grind arith
 
 pub verdict_told : (v : Verdict) (k : ℕ) → is_kept v.within ≡ true → verdict_on v.score (waiting_node k v.within) ≡ v
-verdict_told v k h = ap (λ w. record { within = w; score = v.score }) (within_told v.within h)
+verdict_told v k h = grind arith
 
 -- ---- the answers under the children of a higher node
 
@@ -41,32 +33,28 @@ module _ {t : Packed} {meaning : Meaning} {number : ℕ} {v : Verdict}
   pub upto_more : (i : ℕ) → i < (node_at t number).count
       → answers_upto i ++ answers_under t meaning ((node_at t number).first + i) ≡ answers_upto (i + 1)
   upto_more i lt =
-      let ks = child_nodes t (node_at t number) in
-      let m = node_at t ((node_at t number).first + i) in
       let h = height_at t number - 1 in
+      let m = node_at t ((node_at t number).first + i) in
       let k = child t number opened.tree high i lt in
-      let there : under_all meaning t h (m ∷ []) ≡ answers_under t meaning ((node_at t number).first + i) =
-      under_all-one meaning t h m ∙ ap (λ l. among meaning (entries_under t l m)) (sym k.height) in
-      ap (λ l. under_all meaning t h (take i ks) ++ l) (sym there)
-      ∙ sym (under_all-append meaning t h (take i ks) (m ∷ []))
-      ∙ ap (under_all meaning t h) (sym (take_more_at ks i m k.place k.is))
+      let one : under_all meaning t h (m ∷ []) ≡ answers_under t meaning ((node_at t number).first + i) =
+      rw (append-nil, k.height) refl in
+      rw (take_more_at (child_nodes t (node_at t number)) i m k.place k.is)
+      (ap (λ l. answers_upto i ++ l) (sym one) ∙ sym (under_all-append meaning t h _ (m ∷ [])))
 
   pub upto_all : answers_upto (node_at t number).count ≡ answers_under t meaning number
-  upto_all = grind (arith, under_all, all_children, under_all-whole, among, height_suc)
+  upto_all = grind (arith, under_all, all_children, among, height_suc)
 
 module _ {meaning : Meaning} (law : IsLawful meaning) (t : Packed) where
   -- answers
   pub answers_joined : (answers : List Answer) (xs : List Item) → remaining t meaning (join_answers answers xs)
       ≡ put_all answer_cmp answers (remaining t meaning xs)
   answers_joined [] xs = refl
-  answers_joined (a ∷ answers) xs =
-      remaining-put meaning t (item_of a) (join_answers answers xs) ∙ ap (put answer_cmp a) (answers_joined answers xs)
+  answers_joined (a ∷ answers) xs = grind (arith, remaining-put, answers_joined answers xs)
 
   pub answers_sound : (answers : List Answer) (xs : List Item) → AllSound t meaning xs
       → AllSound t meaning (join_answers answers xs)
   answers_sound [] xs all = all
-  answers_sound (a ∷ answers) xs all =
-      AllSound-put meaning t (item_of a) (join_answers answers xs) tt (answers_sound answers xs all)
+  answers_sound (a ∷ answers) xs all = grind (arith, AllSound-put, answers_sound answers xs all)
 
   -- a node
   node_sound : (k : ℕ) (info : Info) (xs : List Item) → extent_of info ≡ extent_of_node (node_at t k) → 0 < info.level
@@ -103,7 +91,7 @@ module _ {meaning : Meaning} (law : IsLawful meaning) (t : Packed) where
       pub nodes_upto : (xs : List Item) (i : ℕ) → i ≤ (node_at t number).count
           → remaining t meaning (join_nodes meaning t v (node_at t number) i xs)
           ≡ put_all answer_cmp (answers_upto opened high i) (remaining t meaning xs)
-      nodes_upto xs zero le = grind (arith, under_all-none)
+      nodes_upto xs zero le = grind arith
       nodes_upto xs (suc i) le =
           let lt : i < (node_at t number).count = omega arith in
           let m = (node_at t number).first + i in

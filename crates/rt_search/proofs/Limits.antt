@@ -33,13 +33,8 @@ front-put : (x : Item) (xs : List Item) (n : ℕ) → front (put item_cmp x (fro
 front-put x [] n = refl
 front-put x (y ∷ ys) zero = front_zero (put item_cmp x []) ∙ sym (front_zero (put item_cmp x (y ∷ ys)))
 front-put x (y ∷ ys) (suc n) =
-    let m = suc n - entries_at y.place in
-    elim (is_gt (item_cmp x y)) as
-    (λ b. front (cond b (y ∷ put item_cmp x (front ys m)) (x ∷ y ∷ front ys m)) (suc n)
-    ≡ front (cond b (y ∷ put item_cmp x ys) (x ∷ y ∷ ys)) (suc n)) [
-      | true ↦ ap (λ l. y ∷ l) (front-put x ys m)
-      | false ↦ ap (λ l. x ∷ l) (front-front (y ∷ ys) (suc n - entries_at x.place) (suc n) (omega arith))
-    ]
+    grind (arith, front-put x ys (suc n - entries_at y.place), front-front (y ∷ ys) (suc n - entries_at x.place) (suc
+    n))
 
 -- so that lists with the same front stay so where x joins
 same_put : (x : Item) (xs ys : List Item) (wanted : Option ℕ) → front_of wanted xs ≡ front_of wanted ys
@@ -73,8 +68,7 @@ enough_same wanted xs ys e = subst (IsEnough wanted xs) e (enough_itself wanted 
 pub enough_joined : (wanted : Option ℕ) (x : Item) (zs old new : List Item) → IsEnough wanted new (put item_cmp x old)
     → IsEnough wanted (put_all item_cmp zs new) (put item_cmp x (put_all item_cmp zs old))
 enough_joined wanted x zs old new h =
-    subst (IsEnough wanted (put_all item_cmp zs new)) (put_all-put item_cmp item_order zs x old)
-    (enough_put_all wanted zs new (put item_cmp x old) h)
+    grind (arith, put_all-put, item_order, enough_put_all wanted zs new (put item_cmp x old) h)
 
 pub enough_fits : (wanted : Option ℕ) (x : Item) (old new : List Item) (capacity : ℕ)
     → IsEnough wanted new (put item_cmp x old) → length old < capacity → length new ≤ capacity
@@ -92,22 +86,16 @@ still_none xs ys zs h e = ap (put_all item_cmp xs) (e ∙ sym (none_merged xs ys
 
 enough_one : (b : Bool) (wanted : Option ℕ) (x : Item) (xs ys : List Item) → IsEnough wanted xs ys
     → IsEnough wanted (cond b (put item_cmp x xs) xs) (cond b (put item_cmp x ys) ys)
-enough_one true wanted x xs ys h = enough_put wanted x xs ys h
-enough_one false wanted x xs ys h = h
+enough_one b wanted x xs ys h = grind (arith, enough_put wanted x xs ys h)
 
 pub rising_put_all : (zs xs : List Item) → IsRising xs → IsRising (put_all item_cmp zs xs)
 rising_put_all [] xs h = h
 rising_put_all (z ∷ zs) xs h = rising_put z (put_all item_cmp zs xs) (rising_put_all zs xs h)
 
-rising_one : (b : Bool) (x : Item) (xs : List Item) → IsRising xs → IsRising (cond b (put item_cmp x xs) xs)
-rising_one true x xs h = rising_put x xs h
-rising_one false x xs h = h
-
 pub enough_node : (wanted : Option ℕ) (v : Verdict) (number : ℕ) (new xs ys : List Item) → IsEnough wanted xs ys
     → IsEnough wanted new (join_node v number xs) → IsEnough wanted new (join_node v number ys)
 enough_node wanted v number new xs ys h k =
-    enough_trans wanted new (join_node v number xs) (join_node v number ys) k
-    (enough_one (is_kept v.within) wanted (item_at v.score (Node (waiting_node number v.within))) xs ys h)
+    grind (arith, enough_trans wanted new (join_node v number xs) (join_node v number ys) k, enough_put)
 
 module _ (meaning : Meaning) (t : Packed) (v : Verdict) (n : node.Node) (wanted : Option ℕ) where
   pub enough_nodes : (i : ℕ) (xs ys : List Item) → IsEnough wanted xs ys
@@ -120,30 +108,19 @@ module _ (meaning : Meaning) (t : Packed) (v : Verdict) (n : node.Node) (wanted 
 
   pub rising_nodes : (i : ℕ) (xs : List Item) → IsRising xs → IsRising (join_nodes meaning t v n i xs)
   rising_nodes zero xs h = h
-  rising_nodes (suc i) xs h = grind (arith, rising_one, rising_nodes i xs h)
+  rising_nodes (suc i) xs h = grind (arith, rising_put, rising_nodes i xs h)
 
 -- ---- the first is taken out
-
-nil_is_not_cons : (x : Item) (xs : List Item) → ◌≡◌ {A = List Item} [] (x ∷ xs) → ⊥
-nil_is_not_cons x xs h = cc
-
-less_none : (p : Place) → less_at p None ≡ None
-less_none (Node w) = refl
-less_none (Entry id) = refl
 
 pub none_left : (wanted : Option ℕ) (all : List Item) → wanted ≢ Some 0 → IsEnough wanted [] all → all ≡ []
 none_left None all more h = sym h.same
 none_left (Some zero) all more h = absurd (more refl)
 none_left (Some (suc n)) [] more h = refl
-none_left (Some (suc n)) (x ∷ all) more h = absurd (nil_is_not_cons _ _ h.same)
-
-less_entries : (p : Place) (n : ℕ) → less_at p (Some n) ≡ Some (n - entries_at p)
-less_entries (Node w) n = ap Some (omega arith)
-less_entries (Entry id) n = refl
+none_left (Some (suc n)) (x ∷ all) more h = grind arith
 
 pub first_kept : (wanted : Option ℕ) (x : Item) (xs all : List Item) → wanted ≢ Some 0 → IsEnough wanted (x ∷ xs) all
     → (ys : List Item) × ((all ≡ x ∷ ys) × IsEnough (less_at x.place wanted) xs ys)
-first_kept None x xs all more h = grind (arith, less_none, enough_itself)
+first_kept None x xs all more h = grind (arith, enough_itself)
 first_kept (Some zero) x xs all more h = absurd (more refl)
-first_kept (Some (suc n)) x xs [] more h = absurd (nil_is_not_cons _ _ (sym h.same))
-first_kept (Some (suc n)) x xs (y ∷ ys) more h = grind (arith, less_entries)
+first_kept (Some (suc n)) x xs [] more h = grind arith
+first_kept (Some (suc n)) x xs (y ∷ ys) more h = grind arith

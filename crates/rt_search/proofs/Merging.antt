@@ -6,7 +6,7 @@ use Rattle.std.specs.Ordering.{is_gt}
 use Rattle.rt_tree.specs.Sorting.{put}
 use Rattle.rt_search.specs.{Items.{item_cmp}, Kept.{queued}, Remaining.{put_all}, declared.item.Item.{Item}}
 use Rattle.rt_search.specs.Kept.{IsAhead, IsEntry, IsFirstScore, IsLeast, IsNode, IsTakenOut, hits_in, narrow, offered}
-use Rattle.rt_search.proofs.{Heaps.{length-in_order}, Orders.{item_order, lower_before, node_before}}
+use Rattle.rt_search.proofs.{Heaps.{length-in_order}, Orders.{item_order, node_before}}
 use Rattle.rt_search.proofs.{Elements.{all_both, all_map}, OrderedLists.{put_all-put, put_cases, put_least}}
 use Rattle.rt_search.proofs.OrderedLists.{IsOrder, length-put, length-put_all, put-put, put_all-all}
 
@@ -14,37 +14,28 @@ use Rattle.rt_search.proofs.OrderedLists.{IsOrder, length-put, length-put_all, p
 pub put-put_all : {X : Type 0} (cmp : X → X → Ordering) (o : IsOrder cmp) (x : X) (xs zs : List X)
     → put_all cmp (put cmp x xs) zs ≡ put cmp x (put_all cmp xs zs)
 put-put_all cmp o x [] zs = refl
-put-put_all cmp o x (y ∷ xs) zs = grind (arith, put_cases, put-put, put-put_all cmp o x xs zs)
-
-pub length-merged : (xs ys : List Item) → length (put_all item_cmp xs ys) ≡ length xs + length ys
-length-merged xs ys = length-put_all item_cmp item_order xs ys
+put-put_all cmp o x (y ∷ xs) zs = grind (arith, put-put, put-put_all cmp o x xs zs)
 
 pub length-queued : (nodes : List (Reverse ℕ)) (entries wide : List Item) → length (queued nodes entries wide)
     ≡ length nodes + length entries + length wide
-length-queued nodes entries wide = grind (arith, length-merged, length-in_order)
+length-queued nodes entries wide = grind (arith, length-put_all, item_order, length-in_order)
 
 pub length-hits : (ids : List (Reverse ℤ)) (keys : List (Reverse ℕ)) (wide : List Item) → length (hits_in ids keys wide)
     ≡ length ids + length keys + length wide
-length-hits ids keys wide = grind (arith, length-merged, length-in_order)
+length-hits ids keys wide = grind (arith, length-put_all, item_order, length-in_order)
 
 -- ---- an item that joins where it is wanted
 
 -- it joins the left list, or the right one, or the whole
 pub offered_left : (b : Bool) (x : Item) (xs ys : List Item)
     → put_all item_cmp (offered b x xs) ys ≡ offered b x (put_all item_cmp xs ys)
-offered_left true x xs ys = put-put_all item_cmp item_order x xs ys
-offered_left false x xs ys = refl
-
-pub one_longer : (b : Bool) (x : Item) (xs ys : List Item) → ys ≡ offered b x xs → length ys ≤ length xs + 1
-one_longer true x xs ys e = omega (arith, ap length e, length-put item_cmp item_order x xs)
-one_longer false x xs ys e = omega (arith, ap length e)
+offered_left b x xs ys = grind (arith, put-put_all, item_order)
 
 -- ---- what a call that takes from one of the lists takes from both
 
 pub taken_left : (r : Option Item) (old xs ys : List Item) → IsTakenOut r old xs → IsAhead old ys
     → IsTakenOut r (put_all item_cmp old ys) (put_all item_cmp xs ys)
-taken_left None old xs ys t h = grind arith
-taken_left (Some x) old xs ys t h = grind (arith, put_least, item_order, put_all-all)
+taken_left r old xs ys t h = grind (arith, put_least, item_order, put_all-all)
 
 pub taken_right : (r : Option Item) (xs old ys : List Item) → IsTakenOut r old ys → IsAhead old xs
     → IsTakenOut r (put_all item_cmp xs old) (put_all item_cmp xs ys)
@@ -58,16 +49,15 @@ taken_right (Some x) xs old ys t h =
 
 -- no more are left than there were
 pub fewer : (r : Option Item) (old new : List Item) → IsTakenOut r old new → length new ≤ length old
-fewer None old new t = (let none = ap length t.1 in omega arith)
-fewer (Some x) old new t = (let long = ap length t.0 in omega arith)
+fewer r old new t = grind arith
 
 pub fewer_left : (r : Option Item) (old xs ys : List Item) (capacity : ℕ) → IsTakenOut r old xs
     → length (put_all item_cmp old ys) ≤ capacity → length (put_all item_cmp xs ys) ≤ capacity
-fewer_left r old xs ys capacity t h = omega (arith, fewer r old xs t, length-merged old ys, length-merged xs ys)
+fewer_left r old xs ys capacity t h = grind (arith, fewer, length-put_all, item_order)
 
 pub fewer_right : (r : Option Item) (xs old ys : List Item) (capacity : ℕ) → IsTakenOut r old ys
     → length (put_all item_cmp xs old) ≤ capacity → length (put_all item_cmp xs ys) ≤ capacity
-fewer_right r xs old ys capacity t h = omega (arith, fewer r old ys t, length-merged xs old, length-merged xs ys)
+fewer_right r xs old ys capacity t h = grind (arith, fewer, length-put_all, item_order)
 
 -- ---- which list is ahead
 
@@ -76,17 +66,15 @@ pub all_after : (x y : Item) (ys : List Item) → is_gt (item_cmp x y) ≡ false
 all_after x y ys h = grind (arith, all_map, item_order)
 
 all_scores : (s : ℕ) (xs : List Item) → IsFirstScore s xs → AllByRecursion (λ y. s ≤ y.score) xs
-all_scores s [] h = tt
-all_scores s (x ∷ xs) h = let e = h.0 in (omega arith, h.1)
+all_scores s xs h = grind arith
 
 pub lower_least : (x : Item) (ys : List Item) (r : ℕ) → x.score < r → AllByRecursion (λ y. r ≤ y.score) ys → IsLeast x ys
-lower_least x ys r h = grind (arith, all_map, lower_before)
+lower_least x ys r h = grind (arith, all_map)
 
 -- nodes before entries of no lower score
 pub nodes_ahead : (s r : ℕ) (xs ys : List Item) → IsFirstScore s xs → IsFirstScore r ys
     → AllByRecursion (λ x. IsNode x.place) xs → AllByRecursion (λ y. IsEntry y.place) ys → s ≤ r → IsAhead xs ys
-nodes_ahead s r [] ys f g p q h = absurd f
-nodes_ahead s r (x ∷ xs) ys f g p q h = grind (arith, all_both, node_before, all_scores)
+nodes_ahead s r xs ys f g p q h = grind (arith, all_both, node_before, all_scores)
 
 -- entries before nodes of higher scores
 pub entries_ahead : (s r : ℕ) (xs ys : List Item) → IsFirstScore s xs → IsFirstScore r ys → r < s → IsAhead ys xs
@@ -108,23 +96,19 @@ low_ahead r x old new wide e low high = subst (λ l. IsAhead l wide) (sym e) (lo
 pub narrow_ahead : (r : Option Item) (old new wide : List Item) → MatchOption r (true ≡ false) (λ _. true ≡ true)
     → IsTakenOut r old new → IfSome r (λ x. x.score < 2 ^ 64) → AllByRecursion (λ y. 2 ^ 64 ≤ y.score) wide
     → IsAhead old wide
-narrow_ahead None old new wide some t low high = absurd (false≢true (sym some))
-narrow_ahead (Some x) old new wide some t low high = low_ahead (2 ^ 64) x old new wide t.0 low high
+narrow_ahead r old new wide some t low high = grind (arith, lower_least)
 
 -- where there was none, the wide items are
 pub wide_ahead : (narrow wide : List Item) → narrow ≡ [] → IsAhead wide narrow
-wide_ahead narrow [] e = e
-wide_ahead narrow (x ∷ wide) e = subst (IsLeast x) (sym e) tt
+wide_ahead narrow wide e = grind arith
 
 pub none_taken : (r : Option Item) (old new : List Item) → MatchOption r (false ≡ false) (λ _. false ≡ true)
     → IsTakenOut r old new → (old ≡ []) × (new ≡ [])
-none_taken None old new none t = t
-none_taken (Some x) old new none t = absurd (false≢true none)
+none_taken r old new none t = grind arith
 
 -- ---- what holds of each item
 
 -- also of those left
 pub left-all : (P : Item → Type 0) (r : Option Item) (old new : List Item) → IsTakenOut r old new
     → AllByRecursion P old → AllByRecursion P new
-left-all P None old new t a = subst (AllByRecursion P) (sym t.1) tt
-left-all P (Some x) old new t a = (subst (AllByRecursion P) t.0 a).1
+left-all P r old new t a = grind arith

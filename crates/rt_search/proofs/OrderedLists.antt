@@ -17,13 +17,7 @@ pub record IsOrder {X : Type 0} (cmp : X → X → Ordering) : Type 0 where
 
 -- a total order that tells all elements apart
 pub order_of : {X : Type 0} (cmp : X → X → Ordering) → IsTotalOrder cmp → CmpEqualImpliesEq cmp → IsOrder cmp
-order_of cmp total apart = record {
-  one_way = grind (arith, total.antisymm);
-  tie = grind (arith, total.antisymm, apart);
-  trans = upto total;
-  turned = grind (arith, total.antisymm);
-  rearranged = grind (arith, sorted-IsPermutation);
-}
+order_of cmp total apart = grind (arith, upto, sorted-IsPermutation)
 
 -- what holds wherever x is put
 pub put_cases : {X : Type 0} (cmp : X → X → Ordering) (P : List X → Type 0) (x y : X) (ys : List X)

@@ -36,5 +36,4 @@ module _ (item : Reverse ℕ → Item) (scored : (k : Reverse ℕ) → score_in 
 
   pub firsts : (r : Option ℕ) (ks : List (Reverse ℕ)) → MatchOption r (ks ≡ []) (λ s. HasLeastScore s ks)
       → MatchOption r (in_order item ks ≡ []) (λ s. IsFirstScore s (in_order item ks))
-  firsts None ks h = ap (in_order item) h
-  firsts (Some s) ks h = grind (arith, first_of_least)
+  firsts r ks h = grind (arith, first_of_least)

@@ -12,9 +12,7 @@ use Rattle.rt_search.specs.{Kept.{lesser}, Pooling.{HasLeastScore, HasScore, IsF
 
 -- what is put at the end of the second of two lists
 pub put_right : {X : Type 0} (x : X) (xs zs : List X) → IsPermutation (x ∷ xs ++ zs) (xs ++ (zs ++ x ∷ []))
-put_right x xs zs =
-    subst (IsPermutation (x ∷ xs ++ zs)) (append_assoc xs zs (x ∷ []))
-    (IsPermutation-sym ((xs ++ zs) ++ x ∷ []) (x ∷ xs ++ zs) (IsPermutation-to_front (xs ++ zs) x))
+put_right x xs zs = grind (arith, append_assoc, IsPermutation-sym, IsPermutation-to_front)
 
 -- what stands before the one that is taken out stays
 pub take-swap_remove : {X : Type 0} (xs : List X) (i : ℕ) (d : X) → i < length xs
@@ -23,8 +21,7 @@ take-swap_remove xs i d h =
     let n = length xs - 1 in
     let ys = set xs i (get_or xs n d) in
     let cut = length-take-le n ys (omega (arith, length-set xs i (get_or xs n d))) in
-    sym (take-append-le i (take n ys) (drop n ys) (omega arith)) ∙ ap (take i) (take-append-drop n ys)
-    ∙ take-set xs i (get_or xs n d)
+    grind (arith, take-append-le i (take n ys) (drop n ys), take-append-drop n ys, take-set)
 
 -- ---- keys by their scores
 
@@ -52,10 +49,7 @@ top_of e top [] far some h a low high = absurd (omega arith)
 top_of e top (k ∷ near) far some h a low high = grind (arith, all-append, far_after)
 
 pub top_score : (k : ℕ) (ks : List (Reverse ℕ)) → IsTop k ks → HasLeastScore (k / 2 ^ 64) ks
-top_score k [] h = absurd h
-top_score k (j ∷ js) h =
-    let e : k ≡ j.0 = ap (λ r. r.0) h.0 in
-    (inl (ap (λ n. n / 2 ^ 64) (sym e)), (omega (arith, ap (λ n. n / 2 ^ 64) e), lowest_scores k js h.1))
+top_score k ks h = grind (arith, lowest_scores)
 
 -- ---- the least score of those far
 
@@ -73,8 +67,7 @@ has_last ks k = has_right (score_in k) ks (k ∷ []) (inl refl)
 -- after one more
 least_more : (r : Option ℕ) (ks : List (Reverse ℕ)) (k : Reverse ℕ) → MatchOption r (ks ≡ []) (λ s. HasLeastScore s ks)
     → HasLeastScore (lesser r (score_in k)) (ks ++ k ∷ [])
-least_more None ks k h = subst (λ l. HasLeastScore (score_in k) (l ++ k ∷ [])) (sym h) (inl refl, (omega arith, tt))
-least_more (Some r) ks k h = grind (arith, nat_lt, ltb-true, has_last, all-append, all_map, ltb-false, has_left)
+least_more r ks k h = grind (arith, nat_lt, ltb-true, has_last, all-append, all_map, ltb-false, has_left)
 
 pub far_more : (e : ℕ) (r : Option ℕ) (ks : List (Reverse ℕ)) (k : Reverse ℕ) → IsFar ks e r → e < score_in k
     → IsFar (ks ++ k ∷ []) e (Some (lesser r (score_in k)))
@@ -89,6 +82,4 @@ not_far s e (k ∷ ks) h le a = ⊎_elim (λ i. absurd (omega arith)) (λ r. not
 pub some_near : (s e : ℕ) (near far ks js : List (Reverse ℕ)) → HasScore s far → s ≤ e
     → IsPermutation (near ++ far) (ks ++ js) → AllByRecursion (λ k. e < score_in k) js → ks ≡ [] → js ≡ []
 some_near s e near far ks js h le p a none =
-    let q : IsPermutation js (near ++ far) =
-    IsPermutation-sym (near ++ far) js (subst (λ l. IsPermutation (near ++ far) (l ++ js)) none p) in
-    absurd (not_far s e (near ++ far) (has_right s near far h) le (all_moved (λ k. e < score_in k) js (near ++ far) q a))
+    let all = all_moved (λ k. e < score_in k) js (near ++ far) in grind (arith, not_far, has_right, IsPermutation-sym)

@@ -15,8 +15,7 @@ use Rattle.rt_search.proofs.{Children.{part_length}, Elements.{all_map}}
 use Rattle.rt_search.specs.declared.item.Place.TheVariants as place
 
 cond_le : (b : Bool) (m n : ℕ) → m ≤ n → cond b m 0 ≤ n
-cond_le true m n h = h
-cond_le false m n h = omega arith
+cond_le b m n h = grind arith
 
 -- ---- sizes
 
@@ -28,10 +27,9 @@ positive_sum (k ∷ ks) a = omega (arith, sum_by-cons (λ (k : Node). k.size) k 
 pub size_counts : (t : Packed) (h : ℕ) (n : Node) → IsSubtree t h n → (0 < n.size) × (n.count ≤ n.size)
 size_counts t zero n s = let e = s.size in let p = s.some in (omega arith, omega arith)
 size_counts t (suc h) n s =
-    let long = part_length t.nodes n.first n.count s.range in
     let sum = positive_sum (child_nodes t n)
     (all_map (IsSubtree t h) (λ k. 0 < k.size) (λ k b. (size_counts t h k b).0) (child_nodes t n) s.below) in
-    (omega arith, omega arith)
+    grind (arith, part_length)
 
 sizes_under : (t : Packed) (h : ℕ) → ((k : Node) → IsSubtree t h k → k.size ≡ length (entries_under t h k))
     → (ks : List Node) → AllByRecursion (IsSubtree t h) ks → sum_by (λ k. k.size) ks
@@ -95,8 +93,7 @@ module _ (opens : Verdict → Bool) (cost : Node → ℕ) (meaning : Meaning) (t
   work_le sound = grind (arith, nat_tests, length_permutation, size_under, mul-le, work_from_le)
 
   cost_le_work : (h : ℕ) (v : Verdict) (n : Node) → cost n ≤ reached opens cost meaning t h v n
-  cost_le_work zero v n = omega arith
-  cost_le_work (suc h) v n = omega arith
+  cost_le_work h v n = grind arith
 
   -- opening a node that waits is part of the work
   pub done_upto : (done s : ℕ) (n : WaitingNode) (xs : List Item) → opens (verdict_on s n) ≡ true
@@ -104,10 +101,9 @@ module _ (opens : Verdict → Bool) (cost : Node → ℕ) (meaning : Meaning) (t
       → done + cost (node_at t n.number.number) ≤ reached_from_root opens cost meaning t
   done_upto done s n xs open' course =
       let k = node_at t n.number.number in
-      let whole : work_at opens cost meaning t s (place.Node n)
-      ≡ reached opens cost meaning t (height_at t n.number.number) (verdict_on s n) k = rw open' refl in
       let least = cost_le_work (height_at t n.number.number) (verdict_on s n) k in
-      omega (arith, work_cons opens cost meaning t (item_at s (place.Node n)) xs)
+      let whole = work_cons opens cost meaning t (item_at s (place.Node n)) xs in
+      grind (arith, open')
 
   -- and keeps the work done small
   pub done_le : IsSound t → (done s : ℕ) (n : WaitingNode) (xs : List Item) → opens (verdict_on s n) ≡ true
@@ -121,11 +117,7 @@ module _ (meaning : Meaning) (t : Packed) where
   pub held_cons : (x : Item) (xs : List Item) → held t (x ∷ xs) ≡ size_at t x.place + held t xs
   held_cons x xs = sum_by-cons (λ (y : Item). size_at t y.place) x xs
 
-  size_of : (s : ℕ) (p : Place) → IsSoundAt t meaning s p → 0 < size_at t p
-  size_of s (place.Node n) h = (size_counts t (height_at t n.number.number) (node_at t n.number.number) h.tree).0
-  size_of s (place.Entry i) h = omega arith
-
   -- each item stands for an entry of its own
   pub length_le_held : (xs : List Item) → AllSound t meaning xs → length xs ≤ held t xs
   length_le_held [] a = omega arith
-  length_le_held (x ∷ xs) a = omega (arith, held_cons x xs, size_of x.score x.place a.0, length_le_held xs a.1)
+  length_le_held (x ∷ xs) a = grind (arith, held_cons, size_counts, length_le_held xs a.1)

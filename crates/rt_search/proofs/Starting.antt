@@ -16,8 +16,7 @@ use Rattle.rt_search.proofs.{Answering.{among-IsPermutation}, Elements.{all_each
 use Rattle.rt_search.proofs.{Orders.{answer_order}, Sizes.{size_under}}
 
 pub within_zero : (bound : Option ℕ) → option_map_or (nat_le 0) bound true ≡ true
-within_zero None = refl
-within_zero (Some b) = grind (arith, nat_tests)
+within_zero bound = grind (arith, nat_tests)
 
 -- ---- the root, which waits
 
@@ -27,27 +26,22 @@ some_nodes t some = grind (arith, nat_tests)
 pub root_work : (opens : Verdict → Bool) (cost : Node → ℕ) (meaning : Meaning) (t : Packed)
     → opens root_verdict ≡ true → 0 < length t.nodes → work_left opens cost meaning t (root_item t ∷ [])
     ≡ reached_from_root opens cost meaning t
-root_work opens cost meaning t open' some = grind (arith, sum_by-cons, some_nodes)
+root_work opens cost meaning t open' some = grind (arith, sum_by-cons, nat_tests)
 
 pub nat_eq_false : {n : ℕ} → (n == 0) ≡ false → 0 < n
 nat_eq_false h = grind (arith, nat_tests)
 
 pub none_given : (limit : Option ℕ) → IsInLimit limit 0
-none_given None = tt
-none_given (Some k) = omega arith
+none_given limit = grind arith
 
 pub from_first : (wanted limit : Option ℕ) → IfSome wanted (λ n. limit ≡ Some n)
     → IfSome wanted (λ n. limit ≡ Some (0 + n))
-from_first None limit h = tt
-from_first (Some n) limit h = h ∙ ap Some (omega arith)
+from_first wanted limit h = grind arith
 
 module _ (meaning : Meaning) (t : Packed) (sound : IsSound t)
   where
     root_course : (cost : Node → ℕ) → 0 < length t.nodes → IsOnCourse meaning cost t 0 (root_item t ∷ [])
-    root_course cost some = record {
-      in_all = omega (arith, root_work (is_reached None) cost meaning t refl some);
-      at_each = grind (arith, all_each, root_work, within_zero);
-    }
+    root_course cost some = grind (arith, root_work, all_each, within_zero)
 
     pub empty_answers : length t.nodes ≡ 0 → answers t.entries meaning None ≡ []
     empty_answers none = grind (arith, cases_lt, nil_from_length)
@@ -68,10 +62,8 @@ module _ (meaning : Meaning) (t : Packed) (sound : IsSound t)
               opening = root_course one_node some;
               asking = root_course its_children some;
             });
-        rising = cond_both (length t.nodes == 0) [] (root_item t ∷ []) IsRising (λ h. tt) (λ h. (tt, tt));
-        follows = cond_both (length t.nodes == 0) [] (root_item t ∷ [])
-            (λ l. remaining t meaning l ≡ answers t.entries meaning None) (λ h. sym (empty_answers (eqb-true _ 0 h)))
-            (λ h. let some = nat_eq_false h in grind (arith, put_all-nil, answer_order, among-IsPermutation));
+        rising = grind arith;
+        follows = grind (arith, empty_answers, eqb-true, nat_eq_false, put_all-nil, answer_order, among-IsPermutation);
         enough = enough;
       };
       room = room;

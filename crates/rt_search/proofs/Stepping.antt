@@ -22,14 +22,10 @@ use Rattle.rt_search.specs.declared.item.Place.TheVariants as place
 
 -- ---- what is opened
 
-kept_within : (b : Bool) → is_kept (cond b Fully Partly) ≡ true
-kept_within true = refl
-kept_within false = refl
-
 -- a node that waits is opened where its score is within the bound
 pub reached_is : (bound : Option ℕ) (s : ℕ) (n : WaitingNode) → is_reached bound (verdict_on s n)
     ≡ option_map_or (nat_le s) bound true
-reached_is bound s n = (let k = kept_within n.is_full in rw k refl)
+reached_is bound s n = grind arith
 
 module _ {meaning : Meaning} (law : IsLawful meaning) (t : Packed) where
   -- no answer to come is below the least item's score
@@ -37,23 +33,14 @@ module _ {meaning : Meaning} (law : IsLawful meaning) (t : Packed) where
       → AllSound t meaning xs → AllByRecursion (λ q. x.score ≤ q.1) (remaining t meaning xs)
   above_least x [] a b = tt
   above_least x (y ∷ ys) a b =
-      put_all-all answer_cmp answer_order (λ q. x.score ≤ q.1) (answers_at t meaning y.score y.place)
-      (remaining t meaning ys) (all_map (λ q. y.score ≤ q.1) (λ q. x.score ≤ q.1)
-      (λ q m. let up = score_upto x y a.0 in omega arith)
-      (answers_at t meaning y.score y.place) (at_above meaning t y.score y.place b.0)) (above_least x ys a.1 b.1)
-
-  none_at : (cost : Node → ℕ) (i : ℤ) (s r : ℕ) (p : Place)
-      → is_gt (item_cmp (item_at s (place.Entry i)) (item_at r p)) ≡ false
-      → work_at (is_reached (Some s)) cost meaning t r p ≡ 0
-  none_at cost i s r (place.Entry j) h = refl
-  none_at cost i s r (place.Node n) h = grind (arith, cond-false, reached_is, lt-leb, nat_tests)
+      grind (arith, put_all-all, answer_order, all_map, score_upto, at_above, above_least x ys a.1 b.1)
 
   -- behind an entry that is least, no node is within its score
   no_work : (cost : Node → ℕ) (i : ℤ) (s : ℕ) (xs : List Item)
       → AllByRecursion (λ y. is_gt (item_cmp (item_at s (place.Entry i)) y) ≡ false) xs
       → work_left (is_reached (Some s)) cost meaning t xs ≡ 0
   no_work cost i s [] a = refl
-  no_work cost i s (y ∷ ys) a = grind (arith, none_at, work_cons, no_work cost i s ys a.1)
+  no_work cost i s (y ∷ ys) a = grind (arith, nat_tests, work_cons, no_work cost i s ys a.1)
 
   -- ---- an entry is taken out
 
@@ -63,18 +50,10 @@ module _ {meaning : Meaning} (law : IsLawful meaning) (t : Packed) where
       → IsOnCourse meaning cost t done xs × (done ≡ reached_from_root (is_reached (Some s)) cost meaning t)
   entry_course cost i s done xs least sound course =
       let x = item_at s (place.Entry i) in
-      let next : remaining t meaning (x ∷ xs) ≡ (i, s) ∷ remaining t meaning xs =
-      take_entry meaning t i s xs least sound in
+      let next : remaining t meaning (x ∷ xs) ≡ (i, s) ∷ remaining t meaning xs = take_entry meaning t i s xs least sound in
       let each = subst (AllByRecursion (λ p. AddsUp meaning cost t done (x ∷ xs) (Some p.1))) next course.at_each in
-      let head : AddsUp meaning cost t done (x ∷ xs) (Some s) = each.0 in
       let none = no_work cost i s xs least in
-      let first = work_cons (is_reached (Some s)) cost meaning t x xs in (
-        record {
-          in_all = (let h = course.in_all in let k = work_cons (is_reached None) cost meaning t x xs in omega arith);
-          at_each = grind (arith, all_map, work_cons);
-        },
-        omega arith,
-      )
+      grind (arith, work_cons, all_map, each.0, each.1)
 
   -- ---- a node is opened: what is told of `new` comes from the children that joined
 
@@ -89,25 +68,20 @@ module _ {meaning : Meaning} (law : IsLawful meaning) (t : Packed) where
       → IsOnCourse meaning cost t (done + cost (node_at t n.number.number)) new
   node_course cost s n done xs new least sound same moves course =
       let x = item_at s (place.Node n) in
+      let v = verdict_on s n in
       let after = done + cost (node_at t n.number.number) in
-      let W : Option ℕ → ℕ =
-      λ bound. reached (is_reached bound) cost meaning t (height_at t n.number.number) (verdict_on s n)
-      (node_at t n.number.number) in
+      let adds : (b : Option ℕ) → is_reached b v ≡ true → AddsUp meaning cost t done (x ∷ xs) b → AddsUp meaning cost t after new b =
+      λ b opens h.
+      let W = reached (is_reached b) cost meaning t (height_at t n.number.number) v (node_at t n.number.number) in
+      let all = cond-true (is_reached b v) W 0 opens in
+      omega (arith, work_cons (is_reached b) cost meaning t x xs, moves b) in
+      let low = put_all-all answer_cmp answer_order (λ p. s ≤ p.1) (answers_at t meaning s (place.Node n)) _
+      (at_above meaning t s (place.Node n) sound.0) (above_least x xs least sound.1) in
       record {
-        in_all = (
-            let all : cond (is_reached None (verdict_on s n)) (W None) 0 ≡ W None =
-            cond-true (is_reached None (verdict_on s n)) (W None) 0 (reached_is None s n) in
-            omega (arith, work_cons (is_reached None) cost meaning t x xs, moves None));
-        at_each = subst (AllByRecursion (λ p. AddsUp meaning cost t after new (Some p.1))) (sym same)
-            (all_both (λ p. AddsUp meaning cost t done (x ∷ xs) (Some p.1)) (λ p. s ≤ p.1)
-            (λ p. AddsUp meaning cost t after new (Some p.1)) (λ p h le.
-            let all : cond (is_reached (Some p.1) (verdict_on s n)) (W (Some p.1)) 0 ≡ W (Some p.1) =
-            cond-true (is_reached (Some p.1) (verdict_on s n)) (W (Some p.1)) 0
-            (reached_is (Some p.1) s n ∙ le-leb s p.1 le) in
-            omega (arith, work_cons (is_reached (Some p.1)) cost meaning t x xs, moves (Some p.1)))
-            (remaining t meaning (x ∷ xs)) course.at_each
-            (put_all-all answer_cmp answer_order (λ p. s ≤ p.1) (answers_at t meaning s (place.Node n)) _
-            (at_above meaning t s (place.Node n) sound.0) (above_least x xs least sound.1)));
+        in_all = adds None (reached_is None s n) course.in_all;
+        at_each = rw same (all_both (λ p. AddsUp meaning cost t done (x ∷ xs) (Some p.1)) (λ p. s ≤ p.1)
+            (λ p. AddsUp meaning cost t after new (Some p.1))
+            (λ p h le. adds (Some p.1) (reached_is (Some p.1) s n ∙ le-leb s p.1 le) h) _ course.at_each low);
       }
 
   node_step : {opened asked s : ℕ} {n : WaitingNode} {xs : List Item} (new : List Item)
@@ -138,25 +112,13 @@ module _ {meaning : Meaning} (law : IsLawful meaning) (t : Packed) where
   leaf_step {s = s} {n = n} {xs = xs} small low k =
       let number = n.number.number in
       let node = node_at t number in
-      let v = verdict_on s n in
       let here = k.state.sound.0 in
-      let flat : height_at t number ≡ 0 = (leaf_node t (height_at t number) node here.tree low).0 in
+      let flat = (leaf_node t (height_at t number) node here.tree low).0 in
       let found = answers_among t meaning node node.count in
-      node_step _ k
-      (answers_joined law t found xs
-      ∙ ap (λ l. put_all answer_cmp l (remaining t meaning xs)) (answers_all meaning t number here.tree low))
-      (answers_sound law t found xs k.state.sound.1)
-      (omega (
-        arith,
-        held-join_answers meaning t v found xs,
-        few_under meaning t number here.tree,
-        ap length (answers_all meaning t number here.tree low),
-      ))
-      (λ cost bound.
-      let e = work-join_answers meaning t v (is_reached bound) cost found xs in
-      let z : reached (is_reached bound) cost meaning t (height_at t number) v node ≡ cost node =
-      ap (λ h. reached (is_reached bound) cost meaning t h v node) flat in
-      omega arith)
+      let all = answers_all meaning t number here.tree low in
+      node_step _ k (grind (arith, answers_joined)) (answers_sound law t found xs k.state.sound.1)
+      (grind (arith, held-join_answers meaning t (verdict_on s n), few_under))
+      (λ cost bound. grind (arith, work-join_answers meaning t (verdict_on s n)))
 
   pub inner_step : {opened asked s : ℕ} {n : WaitingNode} {xs : List Item} → s < 2 ^ 128
       → 2 ≤ (node_at t n.number.number).level → IsTaken meaning t opened asked (item_at s (place.Node n)) xs

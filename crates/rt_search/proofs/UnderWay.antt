@@ -35,13 +35,9 @@ module _ (meaning : Meaning) (t : Packed) (wanted : Option ℕ) (s : ℕ) (n : W
       → IsEnough wanted (join_children meaning t s n xs) (join_children meaning t s n ys)
   enough_children xs ys h =
       let m = node_at t n.number.number in
-      let v = verdict_on s n in
-      elim (m.level == 1) as
-      (λ b. IsEnough wanted (cond b (join_answers (answers_among t meaning m m.count) xs) (join_nodes meaning t v m m.count xs))
-      (cond b (join_answers (answers_among t meaning m m.count) ys) (join_nodes meaning t v m m.count ys))) [
-        | true ↦ enough_put_all wanted (map item_of (answers_among t meaning m m.count)) xs ys h
-        | false ↦ enough_nodes meaning t v m wanted m.count xs ys h
-      ]
+      let leaf = enough_put_all wanted (map item_of (answers_among t meaning m m.count)) xs ys h in
+      let inner = enough_nodes meaning t (verdict_on s n) m wanted m.count xs ys h in
+      grind arith
 
 module _ {meaning : Meaning} (law : IsLawful meaning) (t : Packed) where
   -- ---- a node is opened
@@ -51,19 +47,13 @@ module _ {meaning : Meaning} (law : IsLawful meaning) (t : Packed) where
       → m ≡ node_at t n.number.number → m.level ≡ 1
       → IsEnough wanted new (join_answers (answers_among t meaning m m.count) xs)
       → IsEnough wanted new (join_children meaning t s n xs)
-  leaf_joins wanted s n m new xs is low h =
-      subst (λ (l : node.Node). IsEnough wanted new (cond (l.level == 1)
-      (join_answers (answers_among t meaning l l.count) xs) (join_nodes meaning t (verdict_on s n) l l.count xs)))
-      is (rw (eq-eqb m.level 1 low) h)
+  leaf_joins wanted s n m new xs is low h = grind (arith, eq-eqb)
 
   pub nodes_join : (wanted : Option ℕ) (s : ℕ) (n : WaitingNode) (m : node.Node) (v : Verdict) (new xs : List Item)
       → m ≡ node_at t n.number.number → m.level ≢ 1 → v ≡ verdict_on s n
       → (let l = node_at t n.number.number in IsEnough wanted new (join_nodes meaning t v l l.count xs))
       → IsEnough wanted new (join_children meaning t s n xs)
-  nodes_join wanted s n m v new xs is high same h =
-      let l = node_at t n.number.number in
-      let other : (l.level == 1) ≡ false = subst (λ (i : node.Node). (i.level == 1) ≡ false) is (ne_eqb m.level 1 high) in
-      rw other (subst (λ u. IsEnough wanted new (join_nodes meaning t u l l.count xs)) same h)
+  nodes_join wanted s n m v new xs is high same h = grind (arith, ne_eqb)
 
   -- what opening it requires, and what it leads to
   pub record CanGoOn (opened asked : ℕ) (wanted : Option ℕ) (to_come : List Answer) (s : ℕ) (n : WaitingNode)

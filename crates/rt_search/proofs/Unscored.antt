@@ -47,7 +47,7 @@ module _ (meaning : Meaning) (unscored : IsUnscored meaning) (t : Packed) (withi
       → reached (is_reached within) cost meaning t h v n ≡ reached (is_reached None) cost meaning t h v n
   reached_alike zero v n sub = refl
   reached_alike (suc h) v n sub =
-      ap (λ m. cost n + m) (children_alike h (λ w k. reached_alike h w k) v (child_nodes t n) sub.below)
+      grind (arith, children_alike h (λ w k. reached_alike h w k) v (child_nodes t n) sub.below)
 
   whole_alike : IsSound t
       → reached_from_root (is_reached within) cost meaning t ≡ reached_from_root (is_reached None) cost meaning t
@@ -63,9 +63,7 @@ module _ {meaning : Meaning} (law : IsLawful meaning) (t : Packed) (sound : IsSo
   -- the work of a search for so many answers is the whole, unless it is for none
   pub work : (limit : Option ℕ) → limit ≢ Some 0 → (cost : Node → ℕ)
       → search_work cost meaning t limit ≡ reached_from_root (is_reached None) cost meaning t
-  work None some cost = refl
-  work (Some zero) some cost = absurd (some refl)
-  work (Some (suc more)) some cost = grind (arith, whole_alike)
+  work limit some cost = grind (arith, whole_alike)
 
   none_left : (bound : Option ℕ) (cost : Node → ℕ) → work_left (is_reached bound) cost meaning t gathered ≡ 0
   none_left bound cost = work-join_answers meaning t root_verdict (is_reached bound) cost (answers_in_tree t meaning) []
@@ -90,11 +88,7 @@ module _ {meaning : Meaning} (law : IsLawful meaning) (t : Packed) (sound : IsSo
       state = record {
         tree = sound;
         sound = answers_sound law t (answers_in_tree t meaning) [] tt;
-        room = omega (
-          arith,
-          held-join_answers meaning t root_verdict (answers_in_tree t meaning) [],
-          tree_few meaning t sound,
-        );
+        room = grind (arith, held-join_answers, tree_few);
         opening = course one_node opened nodes;
         asking = course its_children asked checks;
       };

@@ -20,19 +20,14 @@ module _ (meaning : Meaning) (t : Packed) (sound : IsSound t)
     -- in order they are those of a scan
     pub tree_answers : put_all answer_cmp (answers_in_tree t meaning) [] ≡ answers t.entries meaning None
     tree_answers =
-        cond_both (length t.nodes == 0) [] (answers_under t meaning (length t.nodes - 1))
-        (λ l. put_all answer_cmp l [] ≡ answers t.entries meaning None)
-        (λ h. sym (empty_answers meaning t sound (eqb-true _ 0 h)))
-        (λ h. put_all-nil answer_cmp answer_order (answers_under t meaning (length t.nodes - 1))
-        ∙ among-IsPermutation meaning (entries_under t (height t) (root_of t)) t.entries (sound.every (nat_eq_false h)))
+        grind (arith, cond_both, empty_answers, eqb-true, put_all-nil, answer_order, among-IsPermutation, nat_eq_false,
+        sound.every)
 
     -- and as many
     pub tree_count : length (answers_in_tree t meaning) ≡ length (accepted t.entries meaning)
     tree_count =
         let all = ap length (tree_answers ∙ sym (put_all-nil answer_cmp answer_order (scored t.entries meaning))) in
-        let here = length-put_all answer_cmp answer_order (answers_in_tree t meaning) [] in
-        let there = length-put_all answer_cmp answer_order (scored t.entries meaning) [] in
-        omega (arith, length-map (accepted t.entries meaning) (answer_of meaning))
+        grind (arith, length-put_all, answer_order, length-map)
 
     -- of which there are no more than entries
     pub tree_few : length (answers_in_tree t meaning) ≤ length t.entries
@@ -56,11 +51,9 @@ module _ (meaning : Meaning) (t : Packed) (sound : IsSound t)
     whole opens number is =
         let some : 0 < length t.nodes = omega arith in
         let all = length_permutation _ _ (sound.every some) in
-        let one = whole_work opens one_node some in
-        let its = whole_work opens its_children some in
         subst (IsWhole opens) {x = length t.nodes - 1} (omega arith) (record {
           node = grind arith;
           few = omega (arith, size_under t (height t) (root_of t) (sound.root some));
-          opened_few = omega (arith, work_le opens one_node meaning t (one_is_fair t) sound);
-          asked_few = omega (arith, work_le opens its_children meaning t (count_is_fair t) sound);
+          opened_few = grind (arith, whole_work, work_le, one_is_fair);
+          asked_few = grind (arith, whole_work, work_le, count_is_fair);
         })

@@ -13,7 +13,7 @@ use Rattle.rt_search.specs.{Joining.{info_of_child, no_entry}, Walking.{work_at_
 use Rattle.rt_search.specs.Remaining.{IsBelow, IsOpenable, height_at}
 use Rattle.rt_search.specs.Walking.{HasTaken, IsCheckable, IsFilling, IsKnown, answer_if, answers_among, answers_under}
 use Rattle.rt_search.proofs.Answering.{IsEntryInside, all_inside, among, among-append, among_accepted, among_none}
-use Rattle.rt_search.proofs.Answering.{among_refused, take_more_at, under_all-none}
+use Rattle.rt_search.proofs.Answering.{among_refused, take_more_at}
 use Rattle.rt_search.proofs.Children.{IsAsked, IsLeafAt, all_children, child, entry_question, height_suc, inner_at}
 use Rattle.rt_search.proofs.{Children.{leaf_at, leaf_node, node_question, part_at, part_length}, Giving.{length-scored}}
 use Rattle.rt_search.proofs.{Joined.{answers_upto, kept_not, upto_more}, Sizes.{size_under}, Working.{sum_more}}
@@ -29,8 +29,7 @@ taken-append takes a b c (x ∷ xs) ys h k = (h.0, (h.1.0, taken-append takes h.
 pub taken_room : {S : Type 0} (takes : S → Answer → S → Type 0) (room : S → ℕ) → IsFilling takes room
     → (old new : S) (xs : List Answer) → HasTaken takes old xs new → room old ≤ room new + length xs
 taken_room takes room fills old new [] h = rw h (omega arith)
-taken_room takes room fills old new (x ∷ xs) h =
-    omega (arith, fills old h.0 x h.1.0, taken_room takes room fills h.0 new xs h.1.1)
+taken_room takes room fills old new (x ∷ xs) h = grind (arith, taken_room takes room fills h.0 new xs h.1.1)
 
 -- ---- what a walk costs
 
@@ -68,62 +67,32 @@ module _ {meaning : Meaning} (law : IsLawful meaning) where
       → answer_if (is_kept (meaning.verdict info).within) e.id (meaning.verdict info).score ≡ among meaning (e ∷ [])
   entry_answer e info at low question =
       let v = meaning.verdict info in
-      let one : List Answer = (e.id, v.score) ∷ [] in
-      let split : (b : Bool) → meaning.accepts (extent_of_entry e) ≡ b
-      → answer_if (is_kept v.within) e.id v.score ≡ among meaning (e ∷ []) = elim [
-        | true ↦ λ h.
-            let here = subst (λ c. meaning.accepts c ≡ true) (sym at) h in
-            cond-true (is_kept v.within) one [] (kept (is_kept v.within) h refl)
-            ∙ ap (λ s. (e.id, s) ∷ []) (law.exact info question low here ∙ ap meaning.score at)
-            ∙ sym (among_accepted meaning e [] h)
-        | false ↦ λ h.
-            let none = (law.faithful.leaf info question low).1 (subst (λ c. meaning.accepts c ≡ false) (sym at) h) in
-            cond-false (is_kept v.within) one [] (ap is_kept none) ∙ sym (among_refused meaning e [] h)
-      ] in
-      split (meaning.accepts (extent_of_entry e)) refl
-    where
-      kept : (b : Bool) → meaning.accepts (extent_of_entry e) ≡ true → is_kept (meaning.verdict info).within ≡ b → b ≡ true
-      kept true h k = refl
-      kept false h k = grind (arith, kept_not)
+      let leaf = law.faithful.leaf info question low in
+      grind (arith, kept_not, among_accepted, among_refused, law.exact info question low)
 
   -- ---- a node that was asked about
 
   module _ {t : Packed} {k : ℕ} {info : Info} (can : IsCheckable t meaning k info) where
     pub known : IsKnown (meaning.verdict info).within (node_at t k).size (answers_under t meaning k)
     known =
-        let n = node_at t k in
-        let es = entries_under t (height_at t k) n in
-        let inside = all_inside t (height_at t k) n can.tree in
+        let inside = all_inside t (height_at t k) (node_at t k) can.tree in
         record {
-          none = λ is. among_none meaning (extent_of_node n)
-              (subst (NoneAccepted meaning.accepts) can.extent (law.faithful.pruning info can.question can.high is)) es inside;
+          none = λ is. grind (arith, among_none, can.extent, law.faithful.pruning info can.question can.high is);
           all = grind (arith, all_among, size_under);
         }
 
   module _ {t : Packed} (sound : IsSound t) where
     -- ---- one more entry
 
-    entry_at : (n : Node) (i : ℕ) → IsLeafNode t n → i < n.count
-        → IsLeafAt t n i (get_or (child_entries t n) i no_entry)
-    entry_at n i leaf lt =
-        let e = get_or (child_entries t n) i no_entry in
-        let same : e ≡ get_or t.entries (n.first + i) no_entry = part_at t.entries n.first n.count i no_entry lt in
-        let read : get_or t.entries (n.first + i) e ≡ e =
-        get_or_default t.entries (n.first + i) e no_entry (omega arith) ∙ sym same in
-        leaf_at t n i e sound.table leaf lt read
-
     pub one_entry : {v : Verdict} → v.score < 2 ^ 128 → {n : Node} → IsLeafNode t n
         → IsBelow meaning (extent_of_node n) v → (i : ℕ) → i < n.count
         → let e = get_or (child_entries t n) i no_entry in let w = meaning.verdict (info_of_child t v e) in
         answers_among t meaning n i ++ answer_if (is_kept w.within) e.id w.score ≡ answers_among t meaning n (i + 1)
     one_entry {v} small {n} leaf below i lt =
-        let es = child_entries t n in
-        let e = get_or es i no_entry in
-        let at = entry_at n i leaf lt in
-        let one = entry_answer e (info_of_child t v e) refl refl
-        (entry_question meaning t sound v small n e i below at) in
-        ap (λ l. among meaning (take i es) ++ l) one ∙ sym (among-append meaning (take i es) (e ∷ []))
-        ∙ ap (among meaning) (sym (take_more_at es i e at.place at.is))
+        let e = get_or (child_entries t n) i no_entry in
+        let at = leaf_at t n i sound.table leaf lt in
+        let one = entry_answer e (info_of_child t v e) refl refl (entry_question meaning t sound v small n e i below at) in
+        rw (one, take_more_at (child_entries t n) i e at.place at.is, among-append) refl
 
     -- ---- the children of a higher node
 
@@ -139,12 +108,7 @@ module _ {meaning : Meaning} (law : IsLawful meaning) where
       pub work_more : (opens : Verdict → Bool) (cost : Node → ℕ) (i : ℕ) → i < (node_at t number).count
           → let k = (node_at t number).first + i in work_upto opens cost (i + 1)
           ≡ work_upto opens cost i + work_at_child opens cost meaning t (meaning.verdict (info_of_node t v (node_at t k))) k
-      work_more opens cost i lt =
-          let k = (node_at t number).first + i in
-          rw (add-one i)
-          (sum_more meaning t v number opened.tree high (work_of_child opens cost meaning t v (height_at t number - 1)) i lt
-          ∙ ap (λ h. work_upto opens cost i + work_of_child opens cost meaning t v h (node_at t k))
-          (sym (child t number opened.tree high i lt).height))
+      work_more opens cost i lt = grind (arith, add-one, sum_more, child, opened.tree)
 
       pub work_all : (opens : Verdict → Bool) (cost : Node → ℕ) → work_under opens cost meaning t v number
           ≡ cost (node_at t number) + work_upto opens cost (node_at t number).count
@@ -154,15 +118,11 @@ module _ {meaning : Meaning} (law : IsLawful meaning) where
 
       few_upto : (i : ℕ) → i ≤ (node_at t number).count
           → length (answers_upto opened high i) ≤ sum_by (λ k. k.size) (take i (child_nodes t (node_at t number)))
-      few_upto zero le = omega (arith, ap length (under_all-none meaning t (height_at t number - 1)))
+      few_upto zero le = omega arith
       few_upto (suc i) le =
-          let lt : i < (node_at t number).count = omega arith in
           let k = (node_at t number).first + i in
-          let more = rw (add-one i) at (ap length (upto_more opened high i lt)) in
-          let long = length-append (answers_upto opened high i) (answers_under t meaning k) in
-          let sizes = sum_more meaning t v number opened.tree high (λ k. k.size) i lt in
-          let few = few_under meaning t k (child t number opened.tree high i lt).tree in
-          omega (arith, few_upto i (omega arith))
+          let more = rw (add-one i) at (ap length (upto_more opened high i (omega arith))) in
+          grind (arith, length-append, sum_more, few_under meaning t k, child, few_upto i (omega arith))
 
       -- ---- the loop over them
 
@@ -180,12 +140,7 @@ module _ {meaning : Meaning} (law : IsLawful meaning) where
             → let k = (node_at t number).first + i in cost (node_at t number) + work_upto opens cost i
             + work_at_child opens cost meaning t (meaning.verdict (info_of_node t v (node_at t k))) k
             ≤ work_under opens cost meaning t v number
-        within cost i lt =
-            let part = sum_by-take-drop (work_of_child opens cost meaning t v (height_at t number - 1))
-            (child_nodes t (node_at t number)) (i + 1) in
-            let whole = ap (λ h. reached opens cost meaning t h v (node_at t number))
-            (height_suc t number opened.tree high) in
-            omega (arith, work_more opens cost i lt)
+        within cost i lt = grind (arith, sum_by-take-drop, height_suc, work_more opens cost i lt)
 
         pub visit : {i k : ℕ} {x : PlainNode} {info : Info} → IsAsked t number i k x v info → {S : Type 0}
             (takes : S → Answer → S → Type 0) (room : S → ℕ) → IsFilling takes room → (old new : S)

@@ -16,45 +16,26 @@ use Rattle.rt_search.specs.declared.item.Place.TheVariants as place
 -- an item that joins where a test holds, in a sum and in the length
 joined_adds : (f : Item → ℕ) (b : Bool) (x : Item) (xs : List Item) → sum_by f (cond b (put item_cmp x xs) xs)
     ≡ cond b (f x) 0 + sum_by f xs
-joined_adds f true x xs = sum_by-put item_cmp item_order f x xs
-joined_adds f false x xs = omega arith
-
-one_longer : (b : Bool) (x : Item) (xs : List Item) → length (cond b (put item_cmp x xs) xs) ≤ length xs + 1
-one_longer true x xs = omega (arith, length-put item_cmp item_order x xs)
-one_longer false x xs = omega arith
-
-cond_at_most : (b : Bool) (n : ℕ) → cond b n 0 ≤ n
-cond_at_most true n = omega arith
-cond_at_most false n = omega arith
+joined_adds f b x xs = grind (arith, sum_by-put, item_order)
 
 module _ (meaning : Meaning) (t : Packed) (v : Verdict) where
   pub held-join_answers : (answers : List Answer) (xs : List Item)
       → held t (join_answers answers xs) ≡ held t xs + length answers
   held-join_answers [] xs = omega arith
-  held-join_answers (a ∷ answers) xs =
-      omega (
-        arith,
-        sum_by-put item_cmp item_order (λ x. size_at t x.place) (item_of a) (join_answers answers xs),
-        held-join_answers answers xs,
-      )
+  held-join_answers (a ∷ answers) xs = grind (arith, sum_by-put, item_order, held-join_answers answers xs)
 
   pub work-join_answers : (opens : Verdict → Bool) (cost : Node → ℕ) (answers : List Answer) (xs : List Item)
       → work_left opens cost meaning t (join_answers answers xs) ≡ work_left opens cost meaning t xs
   work-join_answers opens cost [] xs = refl
   work-join_answers opens cost (a ∷ answers) xs =
-      omega (
-        arith,
-        sum_by-put item_cmp item_order (λ x. work_at opens cost meaning t x.score x.place) (item_of a)
-            (join_answers answers xs),
-        work-join_answers opens cost answers xs,
-      )
+      grind (arith, sum_by-put, item_order, work-join_answers opens cost answers xs)
 
   abbrev waiting : Verdict → ℕ → Item
   waiting w m = item_at w.score (place.Node (waiting_node m w.within))
 
   pub length-join_nodes : (n : Node) (i : ℕ) (xs : List Item) → length (join_nodes meaning t v n i xs) ≤ length xs + i
   length-join_nodes n zero xs = omega arith
-  length-join_nodes n (suc i) xs = grind (arith, one_longer, length-join_nodes n i xs)
+  length-join_nodes n (suc i) xs = grind (arith, length-put, item_order, length-join_nodes n i xs)
 
   module _ (number : ℕ) (tree : IsSubtree t (height_at t number) (node_at t number))
       (high : 2 ≤ (node_at t number).level) where
@@ -72,7 +53,7 @@ module _ (meaning : Meaning) (t : Packed) (v : Verdict) where
         → held t (join_nodes meaning t v (node_at t number) i xs) ≤ held t xs + sum_by (λ k. k.size)
         (take i (child_nodes t (node_at t number)))
     held_upto xs zero le = omega arith
-    held_upto xs (suc i) le = grind (arith, joined_adds, cond_at_most, sum_more, held_upto xs i (omega arith))
+    held_upto xs (suc i) le = grind (arith, sum_by-put, item_order, sum_more, held_upto xs i (omega arith))
 
     pub held-join_nodes : (xs : List Item)
         → held t (join_nodes meaning t v (node_at t number) (node_at t number).count xs) ≤ held t xs +
@@ -87,7 +68,7 @@ module _ (meaning : Meaning) (t : Packed) (v : Verdict) where
       brought : (m : ℕ) → let w = meaning.verdict (info_of_node t v (node_at t m)) in
           cond (is_kept w.within) (work_at opens cost meaning t w.score (place.Node (waiting_node m w.within))) 0
           ≡ brings (height_at t m) (node_at t m)
-      brought m = grind (arith, cond_both, verdict_told)
+      brought m = grind (arith, verdict_told)
 
       work_upto : (xs : List Item) (i : ℕ) → i ≤ (node_at t number).count
           → work_left opens cost meaning t (join_nodes meaning t v (node_at t number) i xs)

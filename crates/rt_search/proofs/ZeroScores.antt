@@ -10,11 +10,9 @@ use Rattle.rt_search.proofs.{OrderedLists.{put_all-all}, Orders.{item_order}}
 pub hits_entries : (ids : List (Reverse ℤ)) (keys : List (Reverse ℕ)) (wide : List Item)
     → AllByRecursion (λ x. IsEntry x.place) wide → AllByRecursion (λ x. IsEntry x.place) (hits_in ids keys wide)
 hits_entries ids keys wide a =
-    put_all-all item_cmp item_order (λ x. IsEntry x.place) (in_order zero_item ids) _
-    (in_order-all zero_item (λ x. IsEntry x.place) ids
-    (all_each (λ r. IsEntry (zero_item r).place) (λ r. tt) ids))
-    (put_all-all item_cmp item_order (λ x. IsEntry x.place) (in_order entry_item keys) wide
-    (in_order-all entry_item (λ x. IsEntry x.place) keys (all_entries keys)) a)
+    let zero = in_order-all zero_item (λ x. IsEntry x.place) ids (all_each (λ r. IsEntry (zero_item r).place) (λ r. tt) ids) in
+    let rest = in_order-all entry_item (λ x. IsEntry x.place) keys (all_entries keys) in
+    grind (arith, put_all-all, item_order)
 
 -- those of other scores all score more than 0
 pub rest_above : (xs ys : List Item) → AllByRecursion (λ x. 0 < x.score) xs → AllByRecursion (λ x. 2 ^ 64 ≤ x.score) ys

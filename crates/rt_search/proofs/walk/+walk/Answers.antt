@@ -1,7 +1,7 @@
 use Rattle.std.proofs.Common.{ℕ, ◌≡◌, ◌∙◌, ap, refl, sym, arith, rules}
 use Rattle.rt_tree.specs.{Packed.{node_at}, declared.tree.Node.{Node}}
 use Rattle.rt_search.specs.Work.{its_children, one_node}
-use Rattle.rt_search.proofs.{Answering.{under_all-none}, Children.{asked, children_of}}
+use Rattle.rt_search.proofs.{Answering.{among}, Children.{asked, children_of}}
 use Rattle.rt_search.proofs.Joined.{upto_all, upto_more}
 use Rattle.rt_search.proofs.Walks.{at_child, known, taken-append, visit, work_all, work_more}
 use Rattle.rt_search.proofs.walk.+walk.Goals as goal
@@ -44,7 +44,7 @@ walk_under-loop-i-init g t c =
     let geometry = c.args.counted.now.geometry in
     let tree = c.args.tree.now in
     record {
-      taken = grind (arith, under_all-none);
+      taken = grind arith;
       opened = omega arith;
       asked = omega arith;
       geometry = refl;

@@ -10,7 +10,7 @@ check-verdict-requires-clause-honest g c =
     let k = leaf_read c.args.tree.now c.args.node c.loop-i.i c.index-entries-i.result
     c.child_entries-entries.result.now c.requires.leaf.sound.table c.requires.leaf.node c.child_entries-entries.ensures
     c.loop-i-test.true c.index-entries-i.is in
-    let layers = subst (λ o. IfSome o (λ e. c.layers_at-layers.result ≡ (extent_of_entry e).layers)) k.found
+    let layers = subst (λ o. IfSome o (λ e. c.layers_at-layers.result ≡ (extent_of_entry e).layers)) k.at.found
     c.layers_at-layers.ensures in
     rw (c.loop-i.invariant.geometry, c.info_under-info.ensures, k.is, layers)
     (entry_question (g.G.Geometry.meaning c.args.counted.now.geometry) c.args.tree.now c.requires.leaf.sound
@@ -41,7 +41,7 @@ loop-i-preserved g c =
     let lt = c.loop-i-test.true in
     let k = leaf_read tree c.args.node i c.index-entries-i.result c.child_entries-entries.result.now
     c.requires.leaf.sound.table c.requires.leaf.node c.child_entries-entries.ensures lt c.index-entries-i.is in
-    let layers = subst (λ o. IfSome o (λ e. c.layers_at-layers.result ≡ (extent_of_entry e).layers)) k.found
+    let layers = subst (λ o. IfSome o (λ e. c.layers_at-layers.result ≡ (extent_of_entry e).layers)) k.at.found
     c.layers_at-layers.ensures in
     let inv = c.loop-i.invariant in
     let e = rw inv.geometry at c.check-verdict.ensures in
