@@ -1,19 +1,14 @@
+use Rattle.std.proofs.Common.{arith, rules}
 use Rattle.std.specs.{Ordering.{is_lt, nat_cmp}, BinaryHeap.{heap_items}}
 use Rattle.std.proofs.lemmas.List.Sorted.{IsPermutation-append_left, IsPermutation-trans, length_permutation}
-use Rattle.std.proofs.Common.{length, false, ◌≡◌, ◌≤◌, [], ◌∷◌, ◌++◌, ap, sym, ◌∙◌, arith}
+use Rattle.std.proofs.Common.{length, false, ◌≡◌, ◌≤◌, [], ◌∷◌, ◌++◌, ap, sym, ◌∙◌}
 use Rattle.std.proofs.lemmas.List.{nil_from_length}
 use Rattle.rt_search.specs.Pooling.{score_in}
 use Rattle.rt_search.proofs.{Elements.{all-append, all_moved}, Pools.{far_after}}
 use Rattle.rt_search.proofs.pool.Pool.take.Goals as goal
 
 pub returns-in_err-top-clause-keys : goal.returns-in_err-top-clause-keys
-returns-in_err-top-clause-keys c =
-    let none = c.in_err-top.ensures.none in
-    let near : heap_items c.self.inside.near ≡ [] = nil_from_length _ (sym c.self.invariant.inside.counted ∙ none) in
-    let far = rw (← c.self.view_is) at c.fill.ensures.filled near in
-    let long = length_permutation _ _ (rw (← c.self.view_is) at c.fill.ensures.same) in
-    rw c.from_residual.ensures
-    (nil_from_length _ (omega (arith, ap length (ap (λ l. l ++ c.self.inside.far.items) near ∙ far))))
+returns-in_err-top-clause-keys c = grind (arith, length_permutation, nil_from_length)
 
 pub invariant_of-self-2 : goal.invariant_of-self-2
 invariant_of-self-2 c =

@@ -1,4 +1,5 @@
-use Rattle.std.proofs.{Common.{◌≡◌, ◌∙◌, ap, arith, rules}, lemmas.List.Sorted.{length_permutation}}
+use Rattle.std.proofs.Common.{arith, rules}
+use Rattle.std.proofs.{Common.{◌≡◌, ◌∙◌, ap}, lemmas.List.Sorted.{length_permutation}}
 use Rattle.rt_tree.specs.Sorting.{put}
 use Rattle.rt_search.specs.{Items.{item_at, item_cmp}, Kept.{in_order, node_item}, Pooling.{keys_in}}
 use Rattle.rt_search.specs.{Joining.{join_node}, Remaining.{put_all}}
@@ -8,26 +9,16 @@ use Rattle.rt_search.specs.declared.item.Place.TheVariants as place
 use Rattle.rt_search.proofs.queue.Queue.put_node.Goals as goal
 
 pub put-requires : goal.put-requires
-put-requires c =
-    let h = rw (← c.self.view_is) at c.requires in
-    let long = length-queued (keys_in c.self.inside.nodes) c.self.inside.entries.items c.self.inside.wide.items in
-    omega arith
+put-requires c = grind (arith, length-queued)
 
 pub invariant_of-self : goal.invariant_of-self
 invariant_of-self c = grind (arith, length-queued, length-put, item_order, put-all)
 
 pub returns-then-score-ge-WIDE : goal.returns-then-score-ge-WIDE
-returns-then-score-ge-WIDE c =
-    let x = item_at c.args.verdict.score (place.Node (record { number = c.args.number; is_full = c.eq-is_full.result })) in
-    let joins : join_node c.args.verdict c.args.number.number c.args.self.now.items ≡ put item_cmp x c.args.self.now.items =
-    search rules in
-    rw joins (grind (arith, enough_same, put-put_all, item_order))
+returns-then-score-ge-WIDE c = grind (arith, enough_same, item_order, put-put_all)
 
 pub put-requires-2 : goal.put-requires-2
-put-requires-2 c =
-    let h = rw (← c.self.view_is) at c.requires in
-    let long = length-queued (keys_in c.self.inside.nodes) c.self.inside.entries.items c.self.inside.wide.items in
-    omega arith
+put-requires-2 c = grind (arith, length-queued)
 
 pub invariant_of-self-2 : goal.invariant_of-self-2
 invariant_of-self-2 c =

@@ -1,4 +1,5 @@
-use Rattle.std.proofs.Common.{◌≤◌, rules, ◌^◌, length, ◌∙◌, ap, sym, subst}
+use Rattle.std.proofs.Common.{arith, rules}
+use Rattle.std.proofs.Common.{◌≤◌, ◌^◌, length, ◌∙◌, ap, sym, subst}
 use Rattle.rt_search.specs.{Items.{item_cmp}, Kept.{IsTakenOut, in_order, node_item, taken_item}, Pooling.{keys_in}}
 use Rattle.rt_search.specs.Remaining.{put_all}
 use Rattle.rt_search.proofs.{Limits.{none_merged, still_none}, Merging.{taken_right, wide_ahead}}
@@ -19,24 +20,10 @@ invariant_of-self c =
     }
 
 pub returns-then-is_some : goal.returns-then-is_some
-returns-then-is_some c =
-    let r = taken_item c.take_narrow-node.result in
-    let e = c.take_narrow-node.ensures in
-    let old = put_all item_cmp (in_order node_item (keys_in c.self.inside.nodes)) c.self.inside.entries.items in
-    let new = put_all item_cmp (in_order node_item (keys_in c.take_narrow-node.new.nodes)) c.take_narrow-node.new.entries.items in
-    let wide = c.self.inside.wide.items in
-    record {
-      taken = subst (λ w. IsTakenOut r w.items (put_all item_cmp wide new)) c.self.view_is
-          (taken_right r wide old new e.taken
-          (narrow_ahead r old new wide (search rules) e.taken e.low c.self.invariant.high));
-      wanted = search rules;
-      capacity = search rules;
-    }
+returns-then-is_some c = grind (arith, narrow_ahead, taken_right)
 
 pub take_wide-requires : goal.take_wide-requires
-take_wide-requires c =
-    none_merged (in_order node_item (keys_in c.take_narrow-node.new.nodes)) c.take_narrow-node.new.entries.items
-    (none_taken (taken_item c.take_narrow-node.result) _ _ (search rules) c.take_narrow-node.ensures.taken).1
+take_wide-requires c = grind (arith, none_merged, none_taken)
 
 pub invariant_of-self-2 : goal.invariant_of-self-2
 invariant_of-self-2 c =
@@ -60,20 +47,4 @@ invariant_of-self-2 c =
     }
 
 pub returns : goal.returns
-returns c =
-    let r = taken_item c.take_wide.result in
-    let e = c.take_narrow-node.ensures in
-    let w = c.take_wide.ensures in
-    let nodes = in_order node_item (keys_in c.take_narrow-node.new.nodes) in
-    let wide = c.self.inside.wide.items in
-    let new = c.take_wide.new.wide.items in
-    let rest = put_all item_cmp nodes c.take_wide.new.entries.items in
-    let none = none_taken (taken_item c.take_narrow-node.result) _ _ (search rules) e.taken in
-    let empty = still_none nodes c.take_narrow-node.new.entries.items c.take_wide.new.entries.items none.1 w.entries in
-    record {
-      taken = subst (λ l. IsTakenOut r l (put_all item_cmp new rest))
-          (ap (put_all item_cmp wide) (empty ∙ sym none.0) ∙ ap (λ w. w.items) c.self.view_is)
-          (taken_left r wide new rest w.taken (wide_ahead rest wide empty));
-      wanted = search rules;
-      capacity = search rules;
-    }
+returns c = grind (arith, none_taken, still_none, taken_left, wide_ahead)

@@ -1,4 +1,5 @@
-use Rattle.std.proofs.{Common.{◌≡◌, ◌≤◌, ◌+◌, length, arith, refl, ℤ, ◌∙◌, ap, rules, subst, w64}, lemmas.Int.{to_z-of_z}}
+use Rattle.std.proofs.Common.{arith, rules}
+use Rattle.std.proofs.{Common.{◌≡◌, ◌≤◌, ◌+◌, length, refl, ℤ, ◌∙◌, ap, subst, w64}, lemmas.Int.{to_z-of_z}}
 use Rattle.rt_tree.specs.Sorting.{put}
 use Rattle.rt_search.specs.{Items.{item_at, item_cmp}, Kept.{in_order, node_item, queued}, Pooling.{keys_in}}
 use Rattle.rt_search.specs.{Limits.{IsEnough, IsPut}, Remaining.{put_all}}
@@ -8,32 +9,16 @@ use Rattle.rt_search.specs.declared.item.Place.TheVariants as place
 use Rattle.rt_search.proofs.queue.QueueCollector.visit_entry.Goals as goal
 
 pub put-requires : goal.put-requires
-put-requires c =
-    let h = rw (← c.self.view_is) at c.requires in
-    let long = length-queued (keys_in c.self.inside.nodes) c.self.inside.entries.items c.self.inside.wide.items in
-    omega arith
+put-requires c = grind (arith, length-queued)
 
 pub invariant_of-self : goal.invariant_of-self
 invariant_of-self c = grind (arith, length-queued, length-put, item_order, put-all)
 
 pub returns-then-score-ge-WIDE : goal.returns-then-score-ge-WIDE
-returns-then-score-ge-WIDE c =
-    let wide = c.self.inside.wide.items in
-    let joins : c.put.new.self.items ≡ put item_cmp (item_at c.args.score (place.Entry c.args.id)) wide =
-    subst (λ i. c.put.new.self.items ≡ put item_cmp (item_at c.args.score (place.Entry i)) wide)
-    (to_z-of_z w64 c.args.id (search rules)) c.put.ensures.items in
-    let kept : IsPut (item_at c.args.score (place.Entry c.args.id)) c.args.self.now (record {
-      items = queued (keys_in c.self.inside.nodes) c.self.inside.entries.items c.put.new.self.items;
-      wanted = c.self.inside.entries.wanted;
-      capacity = c.self.inside.capacity;
-    }) = grind (arith, enough_same, put-put_all, item_order) in
-    rw c.if-not-is_accepted.false (_, (kept, refl))
+returns-then-score-ge-WIDE c = grind (arith, enough_same, item_order, put-put_all, to_z-of_z)
 
 pub put-requires-2 : goal.put-requires-2
-put-requires-2 c =
-    let h = rw (← c.self.view_is) at c.requires in
-    let long = length-queued (keys_in c.self.inside.nodes) c.self.inside.entries.items c.self.inside.wide.items in
-    omega arith
+put-requires-2 c = grind (arith, length-queued)
 
 pub invariant_of-self-2 : goal.invariant_of-self-2
 invariant_of-self-2 c =
