@@ -62,20 +62,11 @@ module _ {meaning : Meaning} (law : IsLawful meaning) (t : Packed) where
       → (node_at t k).level ≤ 24 → AllSound t meaning xs → AllSound t meaning (join_node (meaning.verdict info) k xs)
   node_sound k info xs at high question inside tree low a =
       let v = meaning.verdict info in
-      let put_in = put item_cmp (item_at v.score (place.Node (waiting_node k v.within))) xs in
-      let below : IsBelow meaning (extent_of info) v =
-      record {
-        full = λ f. law.faithful.fullness info question high f;
-        least = grind arith;
-      } in
-      cond_both (is_kept v.within) put_in xs (AllSound t meaning)
+      let below : IsBelow meaning (extent_of_node (node_at t k)) v =
+      rw (← at) (record { full = λ f. law.faithful.fullness info question high f; least = grind arith }) in
+      cond_both (is_kept v.within) _ xs (AllSound t meaning)
       (λ h. AllSound-put meaning t (item_at v.score (place.Node (waiting_node k v.within))) xs
-      (subst (IsOpenable t meaning k) (sym (verdict_told v k h)) (record {
-        inside = inside;
-        tree = tree;
-        low = low;
-        below = subst (λ c. IsBelow meaning c v) at below;
-      })) a)
+      (rw (verdict_told v k h) (record { inside = inside; tree = tree; low = low; below = below })) a)
       (λ h. a)
 
   module _ (sound : IsSound t) (v : Verdict) (small : v.score < 2 ^ 128) where

@@ -76,11 +76,10 @@ module _ (opens : Verdict → Bool) (cost : Node → ℕ) (meaning : Meaning) (t
   each_le h f v [] a = omega arith
   each_le h f v (k ∷ ks) a =
       let w = meaning.verdict (info_of_node t v k) in
-      let here = cond_le (opens w) (reached opens cost meaning t h w k) ((h + 1) * k.size) (f k w a.0) in
-      let more = sum_by-cons (λ (k : Node). let w = meaning.verdict (info_of_node t v k) in
-      cond (opens w) (reached opens cost meaning t h w k) 0) k ks in
+      let here = f k w a.0 in
       let sizes = ap (λ n. (h + 1) * n) (sum_by-cons (λ (k : Node). k.size) k ks) in
-      omega (arith, each_le h f v ks a.1)
+      let split : cond (opens w) (reached opens cost meaning t h w k) 0 ≤ (h + 1) * k.size = grind arith in
+      omega (arith, sum_by-cons {X = Node}, each_le h f v ks a.1)
 
   work_from_le : (h : ℕ) (n : Node) (v : Verdict) → IsSubtree t h n
       → reached opens cost meaning t h v n ≤ (h + 1) * n.size

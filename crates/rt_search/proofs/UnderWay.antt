@@ -112,9 +112,7 @@ module _ {meaning : Meaning} (law : IsLawful meaning) (t : Packed) where
         next = λ new h. record {
           all = next;
           state = step.state;
-          rising = cond_both (k'.level == 1) (join_answers found ys) (join_nodes meaning t v k' k'.count ys) IsRising
-              (λ e. rising_put_all (map item_of found) ys up.1)
-              (λ e. rising_nodes meaning t v k' wanted k'.count ys up.1);
+          rising = grind (arith, rising_put_all, rising_nodes);
           follows = step.same ∙ ap (remaining t meaning) (sym k.1.0) ∙ u.follows;
           enough = enough_trans wanted new (join_children meaning t s n xs) next h
               (enough_children meaning t wanted s n xs ys k.1.1);
@@ -133,21 +131,18 @@ module _ {meaning : Meaning} (law : IsLawful meaning) (t : Packed) where
       let k = first_kept wanted x xs u.all more (subst (λ l. IsEnough wanted l u.all) took.0 u.enough) in
       let ys = k.0 in
       let up = subst IsRising k.1.0 u.rising in
-      let taken : IsTaken meaning t opened asked x ys = record {
-        least = up.0;
-        state = subst (IsSearching meaning t opened asked) k.1.0 u.state;
-      } in
-      let sound = taken.state.sound.1 in
-      let o = entry_course law t one_node a.0 a.1 opened ys taken.least sound taken.state.opening in
-      let b = entry_course law t its_children a.0 a.1 asked ys taken.least sound taken.state.asking in
+      let state = subst (IsSearching meaning t opened asked) k.1.0 u.state in
+      let sound = state.sound.1 in
+      let o = entry_course law t one_node a.0 a.1 opened ys up.0 sound state.opening in
+      let b = entry_course law t its_children a.0 a.1 asked ys up.0 sound state.asking in
       let h = held_cons meaning t x ys in
-      let r = taken.state.room in
-      subst (λ w. IsFound meaning t opened asked w to_come a xs) (sym same) (record {
+      let r = state.room in
+      rw same (record {
         rest = remaining t meaning ys;
-        first = sym u.follows ∙ ap (remaining t meaning) k.1.0 ∙ take_entry meaning t a.0 a.1 ys taken.least sound;
+        first = sym u.follows ∙ ap (remaining t meaning) k.1.0 ∙ take_entry meaning t a.0 a.1 ys up.0 sound;
         state = record {
           all = ys;
-          state = record { tree = taken.state.tree; sound = sound; room = omega arith; opening = o.0; asking = b.0 };
+          state = record { tree = state.tree; sound = sound; room = omega arith; opening = o.0; asking = b.0 };
           rising = up.1;
           follows = refl;
           enough = k.1.1;

@@ -66,9 +66,8 @@ module _ {meaning : Meaning} (law : IsLawful meaning) where
       → IsQuestion meaning.accepts info
       → answer_if (is_kept (meaning.verdict info).within) e.id (meaning.verdict info).score ≡ among meaning (e ∷ [])
   entry_answer e info at low question =
-      let v = meaning.verdict info in
       let leaf = law.faithful.leaf info question low in
-      grind (arith, kept_not, among_accepted, among_refused, law.exact info question low)
+      grind (arith, kept_not, law.exact info question low)
 
   -- ---- a node that was asked about
 
