@@ -1,14 +1,14 @@
 -- A search goes on: an entry is taken out, or a node is opened.
-use Rattle.std.proofs.{lemmas.Bool.Decides.{nat_tests}, Common.{false, cond, List, [], ◌∷◌, length, Option}}
-use Rattle.std.proofs.Common.{Some, None, refl, sym, ◌∙◌, ap, subst, arith, ◌≡◌, ◌<◌, ◌≤◌, ◌+◌, ◌^◌, ℕ, ℤ, Bool, true}
-use Rattle.std.proofs.lemmas.Bool.{cond-false, cond-true, le-leb, lt-leb}
+use Rattle.std.proofs.{lemmas.Bool.Decides.{nat_tests}, Common.{false, List, [], ◌∷◌, Option}}
+use Rattle.std.proofs.Common.{Some, None, refl, ◌∙◌, ap, subst, arith, ◌≡◌, ◌<◌, ◌≤◌, ◌+◌, ◌^◌, ℕ, ℤ, true}
+use Rattle.std.proofs.lemmas.Bool.{cond-true, le-leb}
 use Rattle.rt_geo.specs.Laws.{Meaning}
-use Rattle.rt_geo.specs.{declared.geometry.{Within.TheVariants.{Partly, Fully}}, Laws.{IsLawful}}
-use Rattle.rt_search.specs.Progress.{AddsUp, IsNodeStep, IsOnCourse, IsTaken, held, work_at, work_left}
+use Rattle.rt_geo.specs.{Laws.{IsLawful}}
+use Rattle.rt_search.specs.Progress.{AddsUp, IsNodeStep, IsOnCourse, IsTaken, held, work_left}
 use Rattle.rt_search.specs.{Remaining.{AllSound, answers_at, height_at, put_all, remaining, verdict_on}, Work.{reached}}
-use Rattle.rt_search.specs.{Walking.{answers_among}, Items.{item_at, item_cmp}, declared.item.Place.{Place}}
+use Rattle.rt_search.specs.{Walking.{answers_among}, Items.{item_at, item_cmp}}
 use Rattle.std.specs.{Option.{option_map_or}, Prelude.{nat_le}}
-use Rattle.rt_search.specs.Work.{is_kept, is_reached, its_children, one_node, reached_from_root}
+use Rattle.rt_search.specs.Work.{is_reached, its_children, one_node, reached_from_root}
 use Rattle.rt_search.specs.Answers.{answer_cmp}
 use Rattle.rt_search.specs.{Joining.{join_answers, join_nodes}, declared.item.{Item.{Item}, WaitingNode.{WaitingNode}}}
 use Rattle.rt_search.proofs.Sizes.{held_cons, work_cons}

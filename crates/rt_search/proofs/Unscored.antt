@@ -1,5 +1,5 @@
 -- A search whose nodes all score 0: those that may hold answers were opened before the first answer.
-use Rattle.std.proofs.Common.{◌≡◌, ◌≢◌, ◌≤◌, ◌+◌, ◌&&◌, ℕ, zero, suc, cond, List, [], ◌∷◌, length, map}
+use Rattle.std.proofs.Common.{◌≡◌, ◌≢◌, ◌≤◌, ◌&&◌, ℕ, zero, suc, cond, List, [], ◌∷◌, length, map}
 use Rattle.std.proofs.{Common.{Option, Some, None, refl, ◌∙◌, ap, arith}, lemmas.List.{Sums.{sum_by-cons}}}
 use Rattle.std.specs.{Prelude.{IfSome}, List.{AllByRecursion, sum_by}}
 use Rattle.rt_geo.specs.Laws.{Meaning}
