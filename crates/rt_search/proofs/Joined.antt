@@ -1,19 +1,17 @@
 -- What opening a node means for the answers to come.
-use Rattle.std.proofs.Common.{◌≡◌, ◌<◌, ◌≤◌, ◌+◌, ◌-◌, ◌^◌, ℕ, zero, suc, true, false, List, [], ◌∷◌, ◌++◌}
-use Rattle.std.proofs.{Common.{length, take, refl, sym, ◌∙◌, ap, arith, add-one}, lemmas.{Bool.{cond_both}, List.{append-nil}}}
-use Rattle.rt_geo.specs.Laws.{Meaning}
-use Rattle.rt_geo.specs.{Laws.{IsLawful, IsQuestion, extent_of}, declared.geometry.Info.{Info}}
+use Rattle.std.proofs.Common.{◌≡◌, ◌<◌, ◌≤◌, ◌+◌, ◌-◌, ◌^◌, ℕ, zero, suc, true, false, List, [], ◌∷◌, ◌++◌, length}
+use Rattle.std.proofs.{Common.{take, refl, sym, ◌∙◌, ap, arith, add-one}, lemmas.{Bool.{cond_both}, List.{append-nil}}}
+use Rattle.rt_geo.specs.{Laws.{Meaning, IsLawful, IsQuestion, extent_of}, declared.geometry.Info.{Info}}
 use Rattle.rt_geo.specs.declared.geometry.{Verdict.{Verdict}, Within.{Within, TheVariants.{Not}}}
-use Rattle.rt_tree.specs.Packed.{Packed, IsSound, IsSubtree, child_nodes, extent_of_node, node_at}
-use Rattle.rt_tree.specs.Sorting.{put}
-use Rattle.rt_search.specs.{Answers.{Answer, answer_cmp}, Items.{item_at, item_cmp}, declared.item.Item.{Item}}
-use Rattle.rt_search.specs.Joining.{join_answers, join_node, join_nodes}
-use Rattle.rt_search.specs.Remaining.{verdict_on, waiting_node, AllSound, IsBelow, IsOpenable, height_at}
-use Rattle.rt_search.specs.{Remaining.{put_all, remaining}, Walking.{answers_under}, Work.{info_of_node, is_kept}}
+use Rattle.rt_tree.specs.{Packed.{Packed, IsSound, IsSubtree, child_nodes, extent_of_node, node_at}, Sorting.{put}}
+use Rattle.rt_search.specs.{Answers.{Answer, answer_cmp}, Items.{item_at, item_cmp}, Joining.{join_answers, join_node}}
+use Rattle.rt_search.specs.{Joining.{join_nodes}, Remaining.{verdict_on, waiting_node, AllSound, IsBelow, IsOpenable}}
+use Rattle.rt_search.specs.{Remaining.{height_at, put_all, remaining}, Walking.{answers_under}, Work.{info_of_node}}
+use Rattle.rt_search.specs.{Work.{is_kept}, declared.item.Item.{Item}}
 use Rattle.rt_search.proofs.Answering.{AllSound-put, among, among_none, all_inside, remaining-put, take_more_at}
-use Rattle.rt_search.proofs.Answering.{under_all, under_all-append}
-use Rattle.rt_search.proofs.Children.{all_children, child, height_suc, node_question}
-use Rattle.rt_search.proofs.{OrderedLists.{put_all-append, put_all-put_all}, Orders.{answer_order}}
+use Rattle.rt_search.proofs.{Answering.{under_all, under_all-append}, Children.{all_children, child, height_suc}}
+use Rattle.rt_search.proofs.{Children.{node_question}, OrderedLists.{put_all-append, put_all-put_all}}
+use Rattle.rt_search.proofs.Orders.{answer_order}
 use Rattle.rt_search.specs.declared.item.Place.TheVariants as place
 
 pub kept_not : (w : Within) → is_kept w ≡ false → w ≡ Not

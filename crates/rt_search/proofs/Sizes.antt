@@ -1,16 +1,14 @@
 -- How large the numbers of a search and of a count are.
-use Rattle.std.proofs.Common.{◌≡◌, ◌<◌, ◌≤◌, ◌+◌, ◌*◌, ◌^◌, ℕ, zero, suc, Bool, true, cond, List, [], ◌∷◌}
-use Rattle.std.proofs.{Common.{length, refl, ◌∙◌, ap, arith, length-append}, lemmas.Bool.Decides.{nat_tests}}
+use Rattle.std.proofs.Common.{◌≡◌, ◌<◌, ◌≤◌, ◌+◌, ◌*◌, ◌^◌, ℕ, zero, suc, Bool, true, cond, List, [], ◌∷◌, length, refl}
+use Rattle.std.proofs.{Common.{◌∙◌, ap, arith, length-append}, lemmas.Bool.Decides.{nat_tests}}
 use Rattle.std.proofs.lemmas.{List.{Sorted.{length_permutation}, Sums.{sum_by-cons}}, Nat.{mul-le}}
 use Rattle.std.specs.List.{AllByRecursion, flat_map, sum_by}
-use Rattle.rt_geo.specs.Laws.{Meaning}
-use Rattle.rt_geo.specs.{declared.geometry.{Verdict.{Verdict}}}
+use Rattle.rt_geo.specs.{Laws.{Meaning}, declared.geometry.Verdict.{Verdict}}
 use Rattle.rt_tree.specs.Packed.{Packed, IsSound, IsSubtree, child_nodes, entries_under, node_at}
 use Rattle.rt_tree.specs.declared.tree.Node.{Node}
-use Rattle.rt_search.specs.{Items.{item_at}, Progress.{held, size_at, work_at, work_left}}
-use Rattle.rt_search.specs.Remaining.{AllSound, height_at, verdict_on}
-use Rattle.rt_search.specs.Work.{info_of_node, its_children, one_node, reached_from_root, reached}
-use Rattle.rt_search.specs.declared.item.{Item.{Item}, WaitingNode.{WaitingNode}}
+use Rattle.rt_search.specs.{Items.{item_at}, Progress.{held, size_at, work_at, work_left}, Remaining.{AllSound}}
+use Rattle.rt_search.specs.{Remaining.{height_at, verdict_on}, Work.{info_of_node, its_children, one_node}}
+use Rattle.rt_search.specs.{Work.{reached_from_root, reached}, declared.item.{Item.{Item}, WaitingNode.{WaitingNode}}}
 use Rattle.rt_search.proofs.{Children.{part_length}, Elements.{all_map}}
 use Rattle.rt_search.specs.declared.item.Place.TheVariants as place
 

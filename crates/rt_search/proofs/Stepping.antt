@@ -1,23 +1,19 @@
 -- A search goes on: an entry is taken out, or a node is opened.
-use Rattle.std.proofs.{lemmas.Bool.Decides.{nat_tests}, Common.{false, List, [], ◌∷◌, Option}}
-use Rattle.std.proofs.Common.{Some, None, refl, ◌∙◌, ap, subst, arith, ◌≡◌, ◌<◌, ◌≤◌, ◌+◌, ◌^◌, ℕ, ℤ, true}
-use Rattle.std.proofs.lemmas.Bool.{cond-true, le-leb}
-use Rattle.rt_geo.specs.Laws.{Meaning}
-use Rattle.rt_geo.specs.{Laws.{IsLawful}}
-use Rattle.rt_search.specs.Progress.{AddsUp, IsNodeStep, IsOnCourse, IsTaken, held, work_left}
-use Rattle.rt_search.specs.{Remaining.{AllSound, answers_at, height_at, put_all, remaining, verdict_on}, Work.{reached}}
-use Rattle.rt_search.specs.{Walking.{answers_among}, Items.{item_at, item_cmp}}
-use Rattle.std.specs.{Option.{option_map_or}, Prelude.{nat_le}}
-use Rattle.rt_search.specs.Work.{is_reached, its_children, one_node, reached_from_root}
-use Rattle.rt_search.specs.Answers.{answer_cmp}
-use Rattle.rt_search.specs.{Joining.{join_answers, join_nodes}, declared.item.{Item.{Item}, WaitingNode.{WaitingNode}}}
-use Rattle.rt_search.proofs.Sizes.{held_cons, work_cons}
-use Rattle.rt_search.proofs.Working.{held-join_answers, held-join_nodes, work-join_answers, work-join_nodes}
-use Rattle.rt_search.proofs.{Answering.{at_above, take_entry}, Orders.{answer_order, score_upto}, Children.{leaf_node}}
-use Rattle.rt_search.proofs.Joined.{answers_joined, answers_sound, nodes_sound, nodes_upto, upto_all}
-use Rattle.rt_search.proofs.{Elements.{all_both, all_map}, OrderedLists.{put_all-all}, Walks.{answers_all, few_under}}
-use Rattle.std.specs.{List.{AllByRecursion}, Ordering.{is_gt}}
+use Rattle.std.proofs.Common.{false, List, [], ◌∷◌, Option, Some, None, refl, ◌∙◌, ap, subst, arith, ◌≡◌, ◌<◌, ◌≤◌, ◌+◌}
+use Rattle.std.proofs.{Common.{◌^◌, ℕ, ℤ, true}, lemmas.Bool.{cond-true, le-leb, Decides.{nat_tests}}}
+use Rattle.std.specs.{List.{AllByRecursion}, Option.{option_map_or}, Ordering.{is_gt}, Prelude.{nat_le}}
+use Rattle.rt_geo.specs.Laws.{Meaning, IsLawful}
 use Rattle.rt_tree.specs.{Packed.{Packed, node_at}, declared.tree.Node.{Node}}
+use Rattle.rt_search.specs.{Answers.{answer_cmp}, Items.{item_at, item_cmp}, Joining.{join_answers, join_nodes}}
+use Rattle.rt_search.specs.{Progress.{AddsUp, IsNodeStep, IsOnCourse, IsTaken, held, work_left}, Remaining.{AllSound}}
+use Rattle.rt_search.specs.{Remaining.{answers_at, height_at, put_all, remaining, verdict_on}, Walking.{answers_among}}
+use Rattle.rt_search.specs.Work.{reached, is_reached, its_children, one_node, reached_from_root}
+use Rattle.rt_search.specs.declared.item.{Item.{Item}, WaitingNode.{WaitingNode}}
+use Rattle.rt_search.proofs.{Answering.{at_above, take_entry}, Children.{leaf_node}, Elements.{all_both, all_map}}
+use Rattle.rt_search.proofs.Joined.{answers_joined, answers_sound, nodes_sound, nodes_upto, upto_all}
+use Rattle.rt_search.proofs.{OrderedLists.{put_all-all}, Orders.{answer_order, score_upto}, Sizes.{held_cons}}
+use Rattle.rt_search.proofs.{Sizes.{work_cons}, Walks.{answers_all, few_under}, Working.{held-join_answers}}
+use Rattle.rt_search.proofs.Working.{held-join_nodes, work-join_answers, work-join_nodes}
 use Rattle.rt_search.specs.declared.item.Place.TheVariants as place
 
 -- ---- what is opened

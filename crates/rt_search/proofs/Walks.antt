@@ -1,22 +1,21 @@
 -- What a walk finds under a node, child by child.
-use Rattle.std.proofs.Common.{◌≡◌, ◌<◌, ◌≤◌, ◌+◌, ◌-◌, ◌^◌, ℕ, zero, suc, Bool, true, List, [], ◌∷◌, ◌++◌}
-use Rattle.std.proofs.Common.{length, take, get_or, refl, sym, ap, subst, arith, add-one, length-append}
-use Rattle.std.proofs.lemmas.{List.{length-take, take_all}}
-use Rattle.std.proofs.lemmas.List.Sums.{sum_by-take-drop}
+use Rattle.std.proofs.Common.{◌≡◌, ◌<◌, ◌≤◌, ◌+◌, ◌-◌, ◌^◌, ℕ, zero, suc, Bool, true, List, [], ◌∷◌, ◌++◌, length, take}
+use Rattle.std.proofs.{Common.{get_or, refl, sym, ap, subst, arith, add-one, length-append}, lemmas.List.{length-take}}
+use Rattle.std.proofs.lemmas.List.{take_all, Sums.{sum_by-take-drop}}
 use Rattle.std.specs.List.{AllByRecursion, sum_by}
 use Rattle.rt_geo.specs.Laws.{AllAccepted, Extent, IsLawful, IsQuestion, extent_of, extent_of_entry, Meaning}
 use Rattle.rt_geo.specs.declared.{entry.Entry.{Entry}, geometry.{Info.{Info}, Verdict.{Verdict}}}
-use Rattle.rt_tree.specs.Packed.{Packed, IsLeafNode, IsSound, IsSubtree, child_entries, child_nodes}
-use Rattle.rt_tree.specs.{Packed.{extent_of_node, node_at}, declared.{nodes.PlainNode.{PlainNode}, tree.Node.{Node}}}
-use Rattle.rt_search.specs.{Answers.{Answer}, Work.{info_of_node, is_kept, its_children, one_node}}
-use Rattle.rt_search.specs.{Joining.{info_of_child, no_entry}, Walking.{work_at_child, work_of_child, work_under}}
-use Rattle.rt_search.specs.Remaining.{IsBelow, IsOpenable, height_at}
-use Rattle.rt_search.specs.Walking.{HasTaken, IsCheckable, IsFilling, IsKnown, answer_if, answers_among, answers_under}
+use Rattle.rt_tree.specs.Packed.{Packed, IsLeafNode, IsSound, IsSubtree, child_entries, child_nodes, extent_of_node}
+use Rattle.rt_tree.specs.{Packed.{node_at}, declared.{nodes.PlainNode.{PlainNode}, tree.Node.{Node}}}
+use Rattle.rt_search.specs.{Answers.{Answer}, Joining.{info_of_child, no_entry}, Remaining.{IsBelow, IsOpenable}}
+use Rattle.rt_search.specs.{Remaining.{height_at}, Walking.{work_at_child, work_of_child, work_under, HasTaken}}
+use Rattle.rt_search.specs.Walking.{IsCheckable, IsFilling, IsKnown, answer_if, answers_among, answers_under}
+use Rattle.rt_search.specs.Work.{info_of_node, is_kept, its_children, one_node}
 use Rattle.rt_search.proofs.Answering.{IsEntryInside, all_inside, among, among-append, among_accepted, among_none}
-use Rattle.rt_search.proofs.Answering.{take_more_at}
-use Rattle.rt_search.proofs.Children.{IsAsked, all_children, child, entry_question, height_suc, inner_at}
-use Rattle.rt_search.proofs.{Children.{leaf_at, leaf_node, node_question, part_length}, Giving.{length-scored}}
-use Rattle.rt_search.proofs.{Joined.{answers_upto, kept_not, upto_more}, Sizes.{size_under}, Working.{sum_more}}
+use Rattle.rt_search.proofs.{Answering.{take_more_at}, Children.{IsAsked, all_children, child, entry_question}}
+use Rattle.rt_search.proofs.Children.{height_suc, inner_at, leaf_at, leaf_node, node_question, part_length}
+use Rattle.rt_search.proofs.{Giving.{length-scored}, Joined.{answers_upto, kept_not, upto_more}, Sizes.{size_under}}
+use Rattle.rt_search.proofs.Working.{sum_more}
 
 -- ---- answers that are taken
 
