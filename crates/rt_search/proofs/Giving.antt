@@ -84,13 +84,9 @@ module _ {meaning : Meaning} {t : Packed} {limit : Option ℕ}
       (drop given (answers t.entries meaning None)) a new → given + 1 ≤ 16777216
   given_low found =
       let sound = going.state.state.tree in
-      omega (
-        arith,
-        ap length found.first,
-        length-drop given (answers t.entries meaning None),
-        length_permutation _ _ (IsPermutation-sorted answer_cmp (scored t.entries meaning)),
-        length-scored meaning t.entries,
-      )
+      let left = length-drop given (answers t.entries meaning None) in
+      let all = length_permutation _ _ (IsPermutation-sorted answer_cmp (scored t.entries meaning)) in
+      omega (arith, ap length found.first, length-scored meaning t.entries)
 
   module _ (more : limit ≢ Some given) {opened' asked' : ℕ} {wanted' : Option ℕ} {new : List Item} where
     pub give : {a : Answer} → wanted' ≡ one_less wanted → IsFound meaning t opened' asked' wanted'

@@ -29,13 +29,7 @@ front-front (x ∷ xs) (suc m) (suc n) h =
 front-put : (x : Item) (xs : List Item) (n : ℕ) → front (put item_cmp x (front xs n)) n ≡ front (put item_cmp x xs) n
 front-put x [] n = refl
 front-put x (y ∷ ys) zero = front_zero (put item_cmp x []) ∙ sym (front_zero (put item_cmp x (y ∷ ys)))
-front-put x (y ∷ ys) (suc n) =
-    grind (
-      arith,
-      front-put x ys (suc n - entries_at y.place),
-      front-front (y ∷ ys) (suc n - entries_at x.place) (suc
-          n),
-    )
+front-put x (y ∷ ys) (suc n) = grind (arith, front-put x ys, front-front)
 
 -- so that lists with the same front stay so where x joins
 same_put : (x : Item) (xs ys : List Item) (wanted : Option ℕ) → front_of wanted xs ≡ front_of wanted ys

@@ -34,14 +34,8 @@ sizes_under : (t : Packed) (h : ℕ) → ((k : Node) → IsSubtree t h k → k.s
     ≡ length (flat_map (entries_under t h) ks)
 sizes_under t h f [] a = refl
 sizes_under t h f (k ∷ ks) a =
-    omega (
-      arith,
-      sum_by-cons (λ (k : Node). k.size) k ks,
-      f k a.0,
-      sizes_under t h f ks a.1,
-      length-append
-          (entries_under t h k) (flat_map (entries_under t h) ks),
-    )
+    let long = length-append (entries_under t h k) (flat_map (entries_under t h) ks) in
+    omega (arith, sum_by-cons (λ (k : Node). k.size) k ks, f k a.0, sizes_under t h f ks a.1)
 
 -- a node's size is the number of entries under it
 pub size_under : (t : Packed) (h : ℕ) (n : Node) → IsSubtree t h n → n.size ≡ length (entries_under t h n)

@@ -32,12 +32,8 @@ module _ (meaning : Meaning) (unscored : IsUnscored meaning) (t : Packed) (withi
       ap (λ s. is_kept w.within && option_map_or (nat_le s) within true) (unscored i (omega arith))
       ∙ ap (λ l. is_kept w.within && l) (within_zero within))
       ∙ ap (λ m. cond (is_reached None w) m 0) (f w k sub.0) in
-      omega (
-        arith,
-        sum_by-cons (below within h v) k ks,
-        sum_by-cons (below None h v) k ks,
-        children_alike h f v ks sub.1,
-      )
+      let here = sum_by-cons (below within h v) k ks in
+      omega (arith, sum_by-cons (below None h v) k ks, children_alike h f v ks sub.1)
 
   reached_alike : (h : ℕ) (v : Verdict) (n : Node) → IsSubtree t h n
       → reached (is_reached within) cost meaning t h v n ≡ reached (is_reached None) cost meaning t h v n

@@ -17,17 +17,7 @@ module _ (meaning : Meaning) (t : Packed) (sound : IsSound t)
     -- in order they are those of a scan
     pub tree_answers : put_all answer_cmp (answers_in_tree t meaning) [] ≡ answers t.entries meaning None
     tree_answers =
-        grind (
-          arith,
-          cond_both,
-          empty_answers,
-          eqb-true,
-          put_all-nil,
-          answer_order,
-          among-IsPermutation,
-          nat_eq_false,
-          sound.every,
-        )
+        grind (arith, empty_answers, put_all-nil, answer_order, among-IsPermutation, nat_eq_false, sound.every)
 
     -- and as many
     pub tree_count : length (answers_in_tree t meaning) ≡ length (accepted t.entries meaning)
