@@ -12,9 +12,6 @@ use Rattle.rt_search.specs.{Work.{reached_from_root, reached}, declared.item.{It
 use Rattle.rt_search.proofs.{Children.{part_length}, Elements.{all_map}}
 use Rattle.rt_search.specs.declared.item.Place.TheVariants as place
 
-cond_le : (b : Bool) (m n : ℕ) → m ≤ n → cond b m 0 ≤ n
-cond_le b m n h = grind arith
-
 -- ---- sizes
 
 positive_sum : (ks : List Node) → AllByRecursion (λ k. 0 < k.size) ks → length ks ≤ sum_by (λ k. k.size) ks

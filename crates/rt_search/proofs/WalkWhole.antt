@@ -1,6 +1,6 @@
 -- A walk over a whole tree, from its root.
 use Rattle.std.proofs.Common.{◌≡◌, ◌<◌, ◌≤◌, ◌+◌, ◌-◌, ◌^◌, ◌∙◌, ℕ, Bool, None, [], length, refl, sym, ap, subst, arith}
-use Rattle.std.proofs.lemmas.{Bool.{cond_both, eqb-true}, List.{length-map, Sorted.{length_permutation}}}
+use Rattle.std.proofs.lemmas.{List.{length-map, Sorted.{length_permutation}}}
 use Rattle.rt_geo.specs.{Laws.{Meaning}, declared.geometry.Verdict.{Verdict}}
 use Rattle.rt_tree.specs.{Packed.{Packed, IsSound, height, node_at, root_of}, declared.tree.Node.{Node}}
 use Rattle.rt_search.specs.{Answers.{accepted, answer_cmp, answer_of, answers, scored}, Remaining.{IsOpenable, put_all}}

@@ -89,7 +89,8 @@ module _ {meaning : Meaning} (law : IsLawful meaning) where
     one_entry {v} small {n} leaf below i lt =
         let e = get_or (child_entries t n) i no_entry in
         let at = leaf_at t n i sound.table leaf lt in
-        let one = entry_answer e (info_of_child t v e) refl refl (entry_question meaning t sound v small n e i below at) in
+        let one = entry_answer e (info_of_child t v e) refl refl
+        (entry_question meaning t sound v small n e i below at) in
         rw (one, take_more_at (child_entries t n) i e at.place at.is, among-append) refl
 
     -- ---- the children of a higher node

@@ -10,7 +10,8 @@ use Rattle.rt_search.proofs.{OrderedLists.{put_all-all}, Orders.{item_order}}
 pub hits_entries : (ids : List (Reverse ℤ)) (keys : List (Reverse ℕ)) (wide : List Item)
     → AllByRecursion (λ x. IsEntry x.place) wide → AllByRecursion (λ x. IsEntry x.place) (hits_in ids keys wide)
 hits_entries ids keys wide a =
-    let zero = in_order-all zero_item (λ x. IsEntry x.place) ids (all_each (λ r. IsEntry (zero_item r).place) (λ r. tt) ids) in
+    let zero = in_order-all zero_item (λ x. IsEntry x.place) ids
+    (all_each (λ r. IsEntry (zero_item r).place) (λ r. tt) ids) in
     let rest = in_order-all entry_item (λ x. IsEntry x.place) keys (all_entries keys) in
     grind (arith, put_all-all, item_order)
 
