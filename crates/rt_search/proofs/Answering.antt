@@ -1,22 +1,20 @@
 -- The answers among entries, and those that items stand for.
-use Rattle.std.proofs.Common.{◌≡◌, ◌<◌, ◌≤◌, ◌+◌, ℕ, ℤ, zero, suc, Bool, true, false, cond, List, [], ◌∷◌, ◌++◌, Option}
-use Rattle.std.proofs.Common.{Some, None, length, take, get_or, refl, sym, ◌∙◌, ap, arith, IsPermutation}
-use Rattle.std.proofs.lemmas.{Bool.{cond_both, Decides.{nat_tests}}, Grind.{flat_map-append}}
-use Rattle.std.proofs.lemmas.List.{append-nil, map-append, take_more, Elements.{filter-append}}
-use Rattle.std.proofs.lemmas.List.Sorted.{IsPermutation-cons, IsPermutation-map, IsPermutation-middle}
-use Rattle.std.proofs.lemmas.List.Sorted.{IsPermutation-refl, IsPermutation-trans}
-use Rattle.std.specs.{Prelude.{IfNone, MatchOption}, List.{AllByRecursion, flat_map}, Ordering.{is_gt}}
+use Rattle.std.proofs.Common.{◌≡◌, ◌<◌, ◌≤◌, ◌+◌, ℕ, ℤ, zero, suc, true, false, List, [], ◌∷◌, ◌++◌, Option, Some, None}
+use Rattle.std.proofs.{Common.{length, take, get_or, refl, sym, ◌∙◌, ap, arith, IsPermutation}, lemmas.Bool.{cond_both}}
+use Rattle.std.proofs.lemmas.{Bool.Decides.{nat_tests}, Grind.{flat_map-append}, List.{map-append, take_more}}
+use Rattle.std.proofs.lemmas.List.{Elements.{filter-append}, Sorted.{IsPermutation-cons, IsPermutation-map}}
+use Rattle.std.proofs.lemmas.List.Sorted.{IsPermutation-middle, IsPermutation-refl, IsPermutation-trans}
+use Rattle.std.specs.{List.{AllByRecursion, flat_map}, Ordering.{is_gt}, Prelude.{MatchOption}}
 use Rattle.rt_geo.specs.Laws.{Extent, IsBoxInside, IsPart, NoneAccepted, extent_of_entry, Meaning}
 use Rattle.rt_geo.specs.{Lemmas.Laws.{IsBoxInside-part}, declared.entry.Entry.{Entry}}
 use Rattle.rt_tree.specs.Packed.{Packed, IsSubtree, child_nodes, entries_under, extent_of_node, node_at}
 use Rattle.rt_tree.specs.{Sorting.{put, sorted}, declared.tree.Node.{Node}}
 use Rattle.rt_tree.proofs.Permutations.{along_permutation}
 use Rattle.rt_search.specs.{Answers.{Answer, accepted, answer_cmp, answer_of, scored}, Items.{item_at, item_cmp}}
-use Rattle.rt_search.specs.Kept.{AllEntries, IsEntry, IsTakenOut, taken_entry}
-use Rattle.rt_search.specs.Remaining.{AllSound, IsSoundAt, answers_at, height_at, put_all, remaining}
-use Rattle.rt_search.specs.declared.item.{Item.{Item}, Place.{Place}}
-use Rattle.rt_search.proofs.{Elements.{all-append, all_map}, Orders.{answer_order, item_order}}
-use Rattle.rt_search.proofs.OrderedLists.{put-all, put_all-all, put_all-put_all, put_cases, put_least}
+use Rattle.rt_search.specs.{Kept.{AllEntries, IsTakenOut, taken_entry}, Remaining.{AllSound, IsSoundAt, answers_at}}
+use Rattle.rt_search.specs.{Remaining.{height_at, put_all, remaining}, declared.item.{Item.{Item}, Place.{Place}}}
+use Rattle.rt_search.proofs.{Elements.{all-append, all_map}, OrderedLists.{put-all, put_all-all, put_all-put_all}}
+use Rattle.rt_search.proofs.{OrderedLists.{put_cases, put_least}, Orders.{answer_order, item_order}}
 use Rattle.rt_search.specs.declared.item.Place.TheVariants as place
 
 pub take_more_at : {X : Type 0} (xs : List X) (i : ℕ) (x : X) → i < length xs → x ≡ get_or xs i x → take (i + 1) xs

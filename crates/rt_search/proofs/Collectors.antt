@@ -1,12 +1,11 @@
 -- What a collector becomes with answers.
-use Rattle.std.proofs.Common.{◌≡◌, ◌+◌, ◌∷◌, ◌∙◌, [], ℕ, List, length, map, sym, ap, subst, arith}
-use Rattle.std.proofs.lemmas.List.{length-map}
+use Rattle.std.proofs.{Common.{◌≡◌, ◌+◌, ◌∷◌, [], ℕ, List, length, map, ap, arith}, lemmas.List.{length-map}}
 use Rattle.rt_tree.specs.Sorting.{put}
-use Rattle.rt_search.specs.{Answers.{Answer}, Items.{Limited, Waiting, item_cmp, item_of}}
-use Rattle.rt_search.specs.{Joining.{KeepsHit, join_answers}, Limits.{IsEnough, IsPut, KeepsEnough}, Walking.{HasTaken}}
+use Rattle.rt_search.specs.{Answers.{Answer}, Items.{Limited, Waiting, item_cmp, item_of}, Joining.{KeepsHit}}
+use Rattle.rt_search.specs.{Joining.{join_answers}, Limits.{IsPut, KeepsEnough}, Walking.{HasTaken}}
 use Rattle.rt_search.specs.declared.{counting.Tally.{Tally}, item.Item.{Item}}
-use Rattle.rt_search.proofs.{Limits.{enough_itself, enough_put_all, enough_trans}, OrderedLists.{length-put_all, put_all-put}}
-use Rattle.rt_search.proofs.Orders.{item_order}
+use Rattle.rt_search.proofs.{Limits.{enough_itself, enough_put_all, enough_trans}, OrderedLists.{length-put_all}}
+use Rattle.rt_search.proofs.{OrderedLists.{put_all-put}, Orders.{item_order}}
 
 -- ---- a tally: so many more
 

@@ -1,18 +1,15 @@
 -- A search gives its answers one after the other, up to its limit.
-use Rattle.std.proofs.Common.{◌≡◌, ◌≢◌, ◌<◌, ◌≤◌, ◌+◌, ◌-◌, ℕ, zero, suc, List, [], ◌∷◌, length, take, drop}
-use Rattle.std.proofs.Common.{Option, Some, None, refl, sym, ◌∙◌, ap, subst, arith, add-one}
-use Rattle.std.proofs.lemmas.List.{drop_all, length-drop, length-map, length-take}
+use Rattle.std.proofs.Common.{◌≡◌, ◌≢◌, ◌<◌, ◌≤◌, ◌+◌, ◌-◌, ℕ, zero, suc, List, [], ◌∷◌, length, take, drop, Option}
+use Rattle.std.proofs.{Common.{Some, None, ap, arith, add-one}, lemmas.List.{drop_all, length-drop, length-map}}
+use Rattle.std.proofs.lemmas.List.{length-take, Sorted.{length_permutation}, Sums.{count_by-le-length, length-filter}}
 use Rattle.std.proofs.lemmas.Option.{slice_get_past}
-use Rattle.std.proofs.lemmas.List.{Sums.{count_by-le-length, length-filter}}
-use Rattle.std.proofs.lemmas.List.Sorted.{length_permutation}
-use Rattle.std.specs.Prelude.{IfSome, slice_get}
-use Rattle.rt_geo.specs.Laws.{Meaning}
-use Rattle.rt_geo.specs.{Laws.{extent_of_entry}, declared.{entry.Entry.{Entry}}}
+use Rattle.std.specs.Prelude.{slice_get}
+use Rattle.rt_geo.specs.{Laws.{Meaning}, declared.entry.Entry.{Entry}}
 use Rattle.rt_tree.specs.{Packed.{Packed}, Sorting.{limited}, declared.tree.Node.{Node}}
 use Rattle.rt_tree.proofs.SortingLemmas.{IsPermutation-sorted}
-use Rattle.rt_search.specs.{Answers.{Answer, accepted, answer_cmp, answer_of, answers, scored}, Limits.{one_less}}
-use Rattle.rt_search.specs.{Progress.{IsFound, IsGiving, IsInLimit, IsOver}, declared.item.Item.{Item}}
-use Rattle.rt_search.specs.Work.{HasWorked, is_reached, its_children, one_node, search_work, reached_from_root}
+use Rattle.rt_search.specs.{Answers.{Answer, answer_cmp, answers, scored}, Limits.{one_less}, Progress.{IsFound}}
+use Rattle.rt_search.specs.{Progress.{IsGiving, IsInLimit, IsOver}, Work.{HasWorked, is_reached, search_work}}
+use Rattle.rt_search.specs.{Work.{reached_from_root}, declared.item.Item.{Item}}
 
 -- ---- lists that are given one by one
 
@@ -87,13 +84,9 @@ module _ {meaning : Meaning} {t : Packed} {limit : Option ℕ}
       (drop given (answers t.entries meaning None)) a new → given + 1 ≤ 16777216
   given_low found =
       let sound = going.state.state.tree in
-      omega (
-        arith,
-        ap length found.first,
-        length-drop given (answers t.entries meaning None),
-        length_permutation _ _ (IsPermutation-sorted answer_cmp (scored t.entries meaning)),
-        length-scored meaning t.entries,
-      )
+      let left = length-drop given (answers t.entries meaning None) in
+      let all = length_permutation _ _ (IsPermutation-sorted answer_cmp (scored t.entries meaning)) in
+      omega (arith, ap length found.first, length-scored meaning t.entries)
 
   module _ (more : limit ≢ Some given) {opened' asked' : ℕ} {wanted' : Option ℕ} {new : List Item} where
     pub give : {a : Answer} → wanted' ≡ one_less wanted → IsFound meaning t opened' asked' wanted'

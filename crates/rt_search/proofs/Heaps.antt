@@ -1,5 +1,5 @@
 -- What is kept in any order, seen as items in order.
-use Rattle.std.proofs.Common.{Some, ◌≡◌, ℕ, false, List, [], ◌∷◌, map, length, sym, ◌∙◌, arith, Result, Ok, Err}
+use Rattle.std.proofs.Common.{Some, ◌≡◌, ℕ, false, List, [], ◌∷◌, map, length, sym, ◌∙◌, arith, Result}
 use Rattle.std.specs.declared.cmp.Reverse.{Reverse}
 use Rattle.rt_tree.proofs.SortingLemmas.{IsPermutation-sorted}
 use Rattle.rt_tree.specs.Sorting.{put}

@@ -1,19 +1,17 @@
 -- What opening a node means for the answers to come.
-use Rattle.std.proofs.Common.{◌≡◌, ◌<◌, ◌≤◌, ◌+◌, ◌-◌, ◌^◌, ℕ, zero, suc, true, false, cond, List, [], ◌∷◌, ◌++◌}
-use Rattle.std.proofs.{Common.{length, take, refl, sym, ◌∙◌, ap, subst, arith, add-one}, lemmas.{Bool.{cond_both}, List.{append-nil}}}
-use Rattle.rt_geo.specs.Laws.{Meaning}
-use Rattle.rt_geo.specs.{Laws.{IsLawful, IsQuestion, extent_of}, declared.geometry.Info.{Info}}
-use Rattle.rt_geo.specs.declared.geometry.{Verdict.{Verdict}, Within.{Within, TheVariants.{Not, Partly, Fully}}}
-use Rattle.rt_tree.specs.Packed.{Packed, IsSound, IsSubtree, child_nodes, entries_under, extent_of_node, node_at}
-use Rattle.rt_tree.specs.Sorting.{put}
-use Rattle.rt_search.specs.{Answers.{Answer, answer_cmp}, Items.{item_at, item_cmp, item_of}, declared.item.Item.{Item}}
-use Rattle.rt_search.specs.Joining.{join_answers, join_node, join_nodes}
-use Rattle.rt_search.specs.Remaining.{verdict_on, waiting_node, AllSound, IsBelow, IsOpenable, height_at, is_fully}
-use Rattle.rt_search.specs.{Remaining.{put_all, remaining}, Walking.{answers_under}, Work.{info_of_node, is_kept}}
+use Rattle.std.proofs.Common.{◌≡◌, ◌<◌, ◌≤◌, ◌+◌, ◌-◌, ◌^◌, ℕ, zero, suc, true, false, List, [], ◌∷◌, ◌++◌, length}
+use Rattle.std.proofs.{Common.{take, refl, sym, ◌∙◌, ap, arith, add-one}, lemmas.{Bool.{cond_both}, List.{append-nil}}}
+use Rattle.rt_geo.specs.{Laws.{Meaning, IsLawful, IsQuestion, extent_of}, declared.geometry.Info.{Info}}
+use Rattle.rt_geo.specs.declared.geometry.{Verdict.{Verdict}, Within.{Within, TheVariants.{Not}}}
+use Rattle.rt_tree.specs.{Packed.{Packed, IsSound, IsSubtree, child_nodes, extent_of_node, node_at}, Sorting.{put}}
+use Rattle.rt_search.specs.{Answers.{Answer, answer_cmp}, Items.{item_at, item_cmp}, Joining.{join_answers, join_node}}
+use Rattle.rt_search.specs.{Joining.{join_nodes}, Remaining.{verdict_on, waiting_node, AllSound, IsBelow, IsOpenable}}
+use Rattle.rt_search.specs.{Remaining.{height_at, put_all, remaining}, Walking.{answers_under}, Work.{info_of_node}}
+use Rattle.rt_search.specs.{Work.{is_kept}, declared.item.Item.{Item}}
 use Rattle.rt_search.proofs.Answering.{AllSound-put, among, among_none, all_inside, remaining-put, take_more_at}
-use Rattle.rt_search.proofs.Answering.{under_all, under_all-append}
-use Rattle.rt_search.proofs.Children.{all_children, child, height_suc, node_question}
-use Rattle.rt_search.proofs.{OrderedLists.{put_all-append, put_all-put_all}, Orders.{answer_order}}
+use Rattle.rt_search.proofs.{Answering.{under_all, under_all-append}, Children.{all_children, child, height_suc}}
+use Rattle.rt_search.proofs.{Children.{node_question}, OrderedLists.{put_all-append, put_all-put_all}}
+use Rattle.rt_search.proofs.Orders.{answer_order}
 use Rattle.rt_search.specs.declared.item.Place.TheVariants as place
 
 pub kept_not : (w : Within) → is_kept w ≡ false → w ≡ Not
@@ -62,20 +60,11 @@ module _ {meaning : Meaning} (law : IsLawful meaning) (t : Packed) where
       → (node_at t k).level ≤ 24 → AllSound t meaning xs → AllSound t meaning (join_node (meaning.verdict info) k xs)
   node_sound k info xs at high question inside tree low a =
       let v = meaning.verdict info in
-      let put_in = put item_cmp (item_at v.score (place.Node (waiting_node k v.within))) xs in
-      let below : IsBelow meaning (extent_of info) v =
-      record {
-        full = λ f. law.faithful.fullness info question high f;
-        least = grind arith;
-      } in
-      cond_both (is_kept v.within) put_in xs (AllSound t meaning)
+      let below : IsBelow meaning (extent_of_node (node_at t k)) v =
+      rw (← at) (record { full = λ f. law.faithful.fullness info question high f; least = grind arith }) in
+      cond_both (is_kept v.within) _ xs (AllSound t meaning)
       (λ h. AllSound-put meaning t (item_at v.score (place.Node (waiting_node k v.within))) xs
-      (subst (IsOpenable t meaning k) (sym (verdict_told v k h)) (record {
-        inside = inside;
-        tree = tree;
-        low = low;
-        below = subst (λ c. IsBelow meaning c v) at below;
-      })) a)
+      (rw (verdict_told v k h) (record { inside = inside; tree = tree; low = low; below = below })) a)
       (λ h. a)
 
   module _ (sound : IsSound t) (v : Verdict) (small : v.score < 2 ^ 128) where

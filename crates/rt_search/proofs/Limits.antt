@@ -1,16 +1,13 @@
 -- What may be left out where a limit is known.
-use Rattle.std.proofs.Common.{◌≡◌, ◌≢◌, ◌≤◌, ◌<◌, ◌+◌, ◌-◌, ℕ, zero, suc, Bool, true, false, cond, Option, Some, None}
-use Rattle.std.proofs.Common.{List, [], ◌∷◌, length, refl, sym, ◌∙◌, ap, subst, arith}
-use Rattle.std.specs.{Ordering.{is_gt}}
-use Rattle.rt_geo.specs.Laws.{Meaning}
-use Rattle.rt_geo.specs.declared.geometry.{Verdict.{Verdict}}
+use Rattle.std.proofs.Common.{◌≡◌, ◌≢◌, ◌≤◌, ◌<◌, ◌+◌, ◌-◌, ℕ, zero, suc, Bool, cond, Option, Some, None, List, [], ◌∷◌}
+use Rattle.std.proofs.Common.{length, refl, sym, ◌∙◌, ap, subst, arith}
+use Rattle.rt_geo.specs.{Laws.{Meaning}, declared.geometry.Verdict.{Verdict}}
 use Rattle.rt_tree.specs.{Packed.{Packed, node_at}, Sorting.{put}}
-use Rattle.rt_search.specs.{Items.{item_at, item_cmp}, Work.{info_of_node, is_kept}, declared.item.Item.{Item}}
-use Rattle.rt_search.specs.{Joining.{join_node, join_nodes}, declared.item.Place.{Place, TheVariants.{Node, Entry}}}
-use Rattle.rt_search.specs.{Kept.{IsRising}, Remaining.{put_all, waiting_node}}
-use Rattle.rt_search.specs.Limits.{IsEnough, entries_at, front, front_of, less_at}
-use Rattle.rt_search.proofs.{SortedLists.{rising_put}, OrderedLists.{length-put, length-put_all, put_all-put}}
-use Rattle.rt_search.proofs.Orders.{item_order}
+use Rattle.rt_search.specs.{Items.{item_at, item_cmp}, Joining.{join_node, join_nodes}, Kept.{IsRising}}
+use Rattle.rt_search.specs.{Limits.{IsEnough, entries_at, front, front_of, less_at}, Remaining.{put_all, waiting_node}}
+use Rattle.rt_search.specs.{Work.{info_of_node, is_kept}, declared.item.{Item.{Item}, Place.TheVariants.{Node}}}
+use Rattle.rt_search.proofs.{OrderedLists.{length-put, length-put_all, put_all-put}, Orders.{item_order}}
+use Rattle.rt_search.proofs.SortedLists.{rising_put}
 use Rattle.rt_tree.specs.declared.tree.Node as node
 
 -- ---- the front of a list
@@ -32,9 +29,7 @@ front-front (x ∷ xs) (suc m) (suc n) h =
 front-put : (x : Item) (xs : List Item) (n : ℕ) → front (put item_cmp x (front xs n)) n ≡ front (put item_cmp x xs) n
 front-put x [] n = refl
 front-put x (y ∷ ys) zero = front_zero (put item_cmp x []) ∙ sym (front_zero (put item_cmp x (y ∷ ys)))
-front-put x (y ∷ ys) (suc n) =
-    grind (arith, front-put x ys (suc n - entries_at y.place), front-front (y ∷ ys) (suc n - entries_at x.place) (suc
-    n))
+front-put x (y ∷ ys) (suc n) = grind (arith, front-put x ys, front-front)
 
 -- so that lists with the same front stay so where x joins
 same_put : (x : Item) (xs ys : List Item) (wanted : Option ℕ) → front_of wanted xs ≡ front_of wanted ys

@@ -1,14 +1,14 @@
 -- Two lists in order, seen as one.
 use Rattle.std.proofs.Common.{◌≡◌, ◌<◌, ◌≤◌, ◌+◌, ◌^◌, ℕ, ℤ, Bool, true, false, Option, Some, None, List, [], ◌∷◌}
-use Rattle.std.proofs.{Common.{length, refl, sym, ◌∙◌, ap, subst, arith, Ordering}, lemmas.Bool.{false≢true}}
+use Rattle.std.proofs.{Common.{length, refl, sym, ◌∙◌, ap, subst, arith, Ordering}}
 use Rattle.std.specs.{Prelude.{IfSome, MatchBool, MatchOption}, List.{AllByRecursion}, declared.cmp.Reverse.{Reverse}}
 use Rattle.std.specs.Ordering.{is_gt}
 use Rattle.rt_tree.specs.Sorting.{put}
 use Rattle.rt_search.specs.{Items.{item_cmp}, Kept.{queued}, Remaining.{put_all}, declared.item.Item.{Item}}
 use Rattle.rt_search.specs.Kept.{IsAhead, IsEntry, IsFirstScore, IsLeast, IsNode, IsTakenOut, hits_in, narrow, offered}
 use Rattle.rt_search.proofs.{Heaps.{length-in_order}, Orders.{item_order, node_before}}
-use Rattle.rt_search.proofs.{Elements.{all_both, all_map}, OrderedLists.{put_all-put, put_cases, put_least}}
-use Rattle.rt_search.proofs.OrderedLists.{IsOrder, length-put, length-put_all, put-put, put_all-all}
+use Rattle.rt_search.proofs.{Elements.{all_both, all_map}, OrderedLists.{put_all-put, put_least}}
+use Rattle.rt_search.proofs.OrderedLists.{IsOrder, length-put_all, put-put, put_all-all}
 
 -- x joins the left list, or the whole
 pub put-put_all : {X : Type 0} (cmp : X → X → Ordering) (o : IsOrder cmp) (x : X) (xs zs : List X)

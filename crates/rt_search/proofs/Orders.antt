@@ -1,14 +1,14 @@
 -- The orders of answers and of items: total, and they tell all apart.
-use Rattle.std.proofs.Common.{◌≡◌, ◌≤◌, ℕ, ℤ, Bool, true, false, Ordering, Less, Equal, Greater, refl, sym, ◌∙◌, ap}
-use Rattle.std.proofs.{Common.{◌<◌, ◌+◌, ◌*◌, ◌/◌, ◌%◌, ◌^◌, arith}, Math.Nat.{mod-lt}}
+use Rattle.std.proofs.Common.{◌≡◌, ◌≤◌, ℕ, ℤ, false, Ordering, Equal, sym}
+use Rattle.std.proofs.{Common.{arith}, Math.Nat.{mod-lt}}
 use Rattle.std.proofs.lemmas.{Bool.Decides.{nat_tests}, Map.Lookups.{CmpEqualImpliesEq, exact_signed, exact_unsigned}}
 use Rattle.std.proofs.lemmas.{Int.{ints}, Nat.{div-add-mod'}, Cmp.{int_cmp_total, nat_cmp_total, on_total, then_total}}
-use Rattle.std.specs.{Prelude.{nat_lt}, Cmp.{IsTotalOrder}, declared.cmp.Reverse.{Reverse}}
-use Rattle.std.specs.Ordering.{bool_cmp, int_cmp, is_gt, is_lt, nat_cmp, ordering_reverse, ordering_then}
+use Rattle.std.specs.{Cmp.{IsTotalOrder}, declared.cmp.Reverse.{Reverse}}
+use Rattle.std.specs.Ordering.{bool_cmp, int_cmp, is_gt, is_lt, nat_cmp, ordering_then}
 use Rattle.rt_search.specs.{Answers.{Answer, answer_cmp}, Items.{item_at, item_cmp, node_cmp, place_cmp}}
-use Rattle.rt_search.specs.Kept.{IsEntry, IsNode, entry_item, node_item, tail_node, wide_item, zero_item}
+use Rattle.rt_search.specs.Kept.{IsEntry, IsNode, entry_item, node_item, wide_item, zero_item}
 use Rattle.rt_search.specs.{contracts.item.ItemOrd.TheImpl.{ghosts as item_ghosts}, declared.item.Item.{Item}}
-use Rattle.rt_search.specs.declared.item.{Place.{Place, TheVariants.{Node, Entry}}, WaitingNode.{WaitingNode}}
+use Rattle.rt_search.specs.declared.item.{Place.{Place}}
 use Rattle.rt_search.proofs.OrderedLists.{IsOrder, order_of}
 
 then_equal : (o p : Ordering) → ordering_then o p ≡ Equal → (o ≡ Equal) × (p ≡ Equal)

@@ -1,5 +1,5 @@
 -- Keys, seen as items in order.
-use Rattle.std.proofs.Common.{◌≡◌, ◌≤◌, ℕ, Option, Some, None, List, [], ◌∷◌, ⊎_elim, sym, ◌∙◌, ap, arith}
+use Rattle.std.proofs.Common.{◌≡◌, ◌≤◌, ℕ, Option, List, [], ◌∷◌, ⊎_elim, sym, ◌∙◌, arith}
 use Rattle.std.specs.{Prelude.{MatchOption}, List.{AllByRecursion}, declared.cmp.Reverse.{Reverse}}
 use Rattle.rt_tree.specs.Sorting.{put}
 use Rattle.rt_search.specs.{Items.{item_cmp}, Kept.{IsFirstScore, in_order}, Pooling.{HasLeastScore, score_in}}

@@ -1,12 +1,11 @@
 -- Answers that were worked out by hand: the definitions give them by computing.
 use Rattle.std.proofs.Common.{◌≡◌, refl, ℕ, ℤ, pos, negsuc, zero, suc, Option, [], ◌∷◌, Some, None, length}
-use Rattle.rt_geo.specs.{Boxes.{Rect, rect_of}, Laws.{Meaning, guided}}
-use Rattle.rt_geo.specs.{Orders.{by_id, near, order_estimate, order_score}, Regions.{region_accepts, region_state}}
-use Rattle.rt_geo.specs.declared.{entry.Entry.{Entry}, order.Order.{Order}}
-use Rattle.rt_geo.specs.declared.region.Region.{Region, TheVariants.{All, Window}}
+use Rattle.rt_geo.specs.{Boxes.{Rect, rect_of}, Laws.{Meaning, guided}, Orders.{by_id, near, order_estimate}}
+use Rattle.rt_geo.specs.{Orders.{order_score}, Regions.{region_accepts, region_state}, declared.entry.Entry.{Entry}}
+use Rattle.rt_geo.specs.declared.{order.Order.{Order}, region.Region.{Region, TheVariants.{All, Window}}}
 use Rattle.rt_tree.specs.{Packed.{Packed}, Packing.{pack_of}}
-use Rattle.rt_search.specs.Answers.{accepted, answers}
-use Rattle.rt_search.specs.Work.{asked_by_count, its_children, opened_by_count, opened_by_search, search_work}
+use Rattle.rt_search.specs.{Answers.{accepted, answers}, Work.{asked_by_count, its_children, opened_by_count}}
+use Rattle.rt_search.specs.Work.{opened_by_search, search_work}
 
 -- ---- the tree over five boxes, two children for each node
 

@@ -1,21 +1,16 @@
 -- How large the numbers of a search and of a count are.
-use Rattle.std.proofs.Common.{◌≡◌, ◌<◌, ◌≤◌, ◌+◌, ◌*◌, ◌^◌, ℕ, zero, suc, Bool, true, false, cond, List, [], ◌∷◌}
-use Rattle.std.proofs.{Common.{length, refl, ◌∙◌, ap, arith, length-append}, lemmas.Bool.Decides.{nat_tests}}
+use Rattle.std.proofs.Common.{◌≡◌, ◌<◌, ◌≤◌, ◌+◌, ◌*◌, ◌^◌, ℕ, zero, suc, Bool, true, cond, List, [], ◌∷◌, length, refl}
+use Rattle.std.proofs.{Common.{◌∙◌, ap, arith, length-append}, lemmas.Bool.Decides.{nat_tests}}
 use Rattle.std.proofs.lemmas.{List.{Sorted.{length_permutation}, Sums.{sum_by-cons}}, Nat.{mul-le}}
 use Rattle.std.specs.List.{AllByRecursion, flat_map, sum_by}
-use Rattle.rt_geo.specs.Laws.{Meaning}
-use Rattle.rt_geo.specs.{declared.geometry.{Verdict.{Verdict}}}
+use Rattle.rt_geo.specs.{Laws.{Meaning}, declared.geometry.Verdict.{Verdict}}
 use Rattle.rt_tree.specs.Packed.{Packed, IsSound, IsSubtree, child_nodes, entries_under, node_at}
 use Rattle.rt_tree.specs.declared.tree.Node.{Node}
-use Rattle.rt_search.specs.{Items.{item_at}, Progress.{held, size_at, work_at, work_left}}
-use Rattle.rt_search.specs.Remaining.{AllSound, IsSoundAt, height_at, verdict_on}
-use Rattle.rt_search.specs.Work.{info_of_node, its_children, one_node, reached_from_root, reached}
-use Rattle.rt_search.specs.declared.item.{Item.{Item}, Place.{Place}, WaitingNode.{WaitingNode}}
+use Rattle.rt_search.specs.{Items.{item_at}, Progress.{held, size_at, work_at, work_left}, Remaining.{AllSound}}
+use Rattle.rt_search.specs.{Remaining.{height_at, verdict_on}, Work.{info_of_node, its_children, one_node}}
+use Rattle.rt_search.specs.{Work.{reached_from_root, reached}, declared.item.{Item.{Item}, WaitingNode.{WaitingNode}}}
 use Rattle.rt_search.proofs.{Children.{part_length}, Elements.{all_map}}
 use Rattle.rt_search.specs.declared.item.Place.TheVariants as place
-
-cond_le : (b : Bool) (m n : ℕ) → m ≤ n → cond b m 0 ≤ n
-cond_le b m n h = grind arith
 
 -- ---- sizes
 
@@ -36,14 +31,8 @@ sizes_under : (t : Packed) (h : ℕ) → ((k : Node) → IsSubtree t h k → k.s
     ≡ length (flat_map (entries_under t h) ks)
 sizes_under t h f [] a = refl
 sizes_under t h f (k ∷ ks) a =
-    omega (
-      arith,
-      sum_by-cons (λ (k : Node). k.size) k ks,
-      f k a.0,
-      sizes_under t h f ks a.1,
-      length-append
-          (entries_under t h k) (flat_map (entries_under t h) ks),
-    )
+    let long = length-append (entries_under t h k) (flat_map (entries_under t h) ks) in
+    omega (arith, sum_by-cons (λ (k : Node). k.size) k ks, f k a.0, sizes_under t h f ks a.1)
 
 -- a node's size is the number of entries under it
 pub size_under : (t : Packed) (h : ℕ) (n : Node) → IsSubtree t h n → n.size ≡ length (entries_under t h n)
@@ -76,11 +65,10 @@ module _ (opens : Verdict → Bool) (cost : Node → ℕ) (meaning : Meaning) (t
   each_le h f v [] a = omega arith
   each_le h f v (k ∷ ks) a =
       let w = meaning.verdict (info_of_node t v k) in
-      let here = cond_le (opens w) (reached opens cost meaning t h w k) ((h + 1) * k.size) (f k w a.0) in
-      let more = sum_by-cons (λ (k : Node). let w = meaning.verdict (info_of_node t v k) in
-      cond (opens w) (reached opens cost meaning t h w k) 0) k ks in
+      let here = f k w a.0 in
       let sizes = ap (λ n. (h + 1) * n) (sum_by-cons (λ (k : Node). k.size) k ks) in
-      omega (arith, each_le h f v ks a.1)
+      let split : cond (opens w) (reached opens cost meaning t h w k) 0 ≤ (h + 1) * k.size = grind arith in
+      omega (arith, sum_by-cons {X = Node}, each_le h f v ks a.1)
 
   work_from_le : (h : ℕ) (n : Node) (v : Verdict) → IsSubtree t h n
       → reached opens cost meaning t h v n ≤ (h + 1) * n.size

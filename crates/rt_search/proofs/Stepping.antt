@@ -1,23 +1,19 @@
 -- A search goes on: an entry is taken out, or a node is opened.
-use Rattle.std.proofs.{lemmas.Bool.Decides.{nat_tests}, Common.{false, cond, List, [], ◌∷◌, length, Option}}
-use Rattle.std.proofs.Common.{Some, None, refl, sym, ◌∙◌, ap, subst, arith, ◌≡◌, ◌<◌, ◌≤◌, ◌+◌, ◌^◌, ℕ, ℤ, Bool, true}
-use Rattle.std.proofs.lemmas.Bool.{cond-false, cond-true, le-leb, lt-leb}
-use Rattle.rt_geo.specs.Laws.{Meaning}
-use Rattle.rt_geo.specs.{declared.geometry.{Within.TheVariants.{Partly, Fully}}, Laws.{IsLawful}}
-use Rattle.rt_search.specs.Progress.{AddsUp, IsNodeStep, IsOnCourse, IsTaken, held, work_at, work_left}
-use Rattle.rt_search.specs.{Remaining.{AllSound, answers_at, height_at, put_all, remaining, verdict_on}, Work.{reached}}
-use Rattle.rt_search.specs.{Walking.{answers_among}, Items.{item_at, item_cmp}, declared.item.Place.{Place}}
-use Rattle.std.specs.{Option.{option_map_or}, Prelude.{nat_le}}
-use Rattle.rt_search.specs.Work.{is_kept, is_reached, its_children, one_node, reached_from_root}
-use Rattle.rt_search.specs.Answers.{answer_cmp}
-use Rattle.rt_search.specs.{Joining.{join_answers, join_nodes}, declared.item.{Item.{Item}, WaitingNode.{WaitingNode}}}
-use Rattle.rt_search.proofs.Sizes.{held_cons, work_cons}
-use Rattle.rt_search.proofs.Working.{held-join_answers, held-join_nodes, work-join_answers, work-join_nodes}
-use Rattle.rt_search.proofs.{Answering.{at_above, take_entry}, Orders.{answer_order, score_upto}, Children.{leaf_node}}
-use Rattle.rt_search.proofs.Joined.{answers_joined, answers_sound, nodes_sound, nodes_upto, upto_all}
-use Rattle.rt_search.proofs.{Elements.{all_both, all_map}, OrderedLists.{put_all-all}, Walks.{answers_all, few_under}}
-use Rattle.std.specs.{List.{AllByRecursion}, Ordering.{is_gt}}
+use Rattle.std.proofs.Common.{false, List, [], ◌∷◌, Option, Some, None, refl, ◌∙◌, ap, subst, arith, ◌≡◌, ◌<◌, ◌≤◌, ◌+◌}
+use Rattle.std.proofs.{Common.{◌^◌, ℕ, ℤ, true}, lemmas.Bool.{cond-true, le-leb, Decides.{nat_tests}}}
+use Rattle.std.specs.{List.{AllByRecursion}, Option.{option_map_or}, Ordering.{is_gt}, Prelude.{nat_le}}
+use Rattle.rt_geo.specs.Laws.{Meaning, IsLawful}
 use Rattle.rt_tree.specs.{Packed.{Packed, node_at}, declared.tree.Node.{Node}}
+use Rattle.rt_search.specs.{Answers.{answer_cmp}, Items.{item_at, item_cmp}, Joining.{join_answers, join_nodes}}
+use Rattle.rt_search.specs.{Progress.{AddsUp, IsNodeStep, IsOnCourse, IsTaken, held, work_left}, Remaining.{AllSound}}
+use Rattle.rt_search.specs.{Remaining.{answers_at, height_at, put_all, remaining, verdict_on}, Walking.{answers_among}}
+use Rattle.rt_search.specs.Work.{reached, is_reached, its_children, one_node, reached_from_root}
+use Rattle.rt_search.specs.declared.item.{Item.{Item}, WaitingNode.{WaitingNode}}
+use Rattle.rt_search.proofs.{Answering.{at_above, take_entry}, Children.{leaf_node}, Elements.{all_both, all_map}}
+use Rattle.rt_search.proofs.Joined.{answers_joined, answers_sound, nodes_sound, nodes_upto, upto_all}
+use Rattle.rt_search.proofs.{OrderedLists.{put_all-all}, Orders.{answer_order, score_upto}, Sizes.{held_cons}}
+use Rattle.rt_search.proofs.{Sizes.{work_cons}, Walks.{answers_all, few_under}, Working.{held-join_answers}}
+use Rattle.rt_search.proofs.Working.{held-join_nodes, work-join_answers, work-join_nodes}
 use Rattle.rt_search.specs.declared.item.Place.TheVariants as place
 
 -- ---- what is opened
@@ -50,7 +46,8 @@ module _ {meaning : Meaning} (law : IsLawful meaning) (t : Packed) where
       → IsOnCourse meaning cost t done xs × (done ≡ reached_from_root (is_reached (Some s)) cost meaning t)
   entry_course cost i s done xs least sound course =
       let x = item_at s (place.Entry i) in
-      let next : remaining t meaning (x ∷ xs) ≡ (i, s) ∷ remaining t meaning xs = take_entry meaning t i s xs least sound in
+      let next : remaining t meaning (x ∷ xs) ≡ (i, s) ∷ remaining t meaning xs =
+      take_entry meaning t i s xs least sound in
       let each = subst (AllByRecursion (λ p. AddsUp meaning cost t done (x ∷ xs) (Some p.1))) next course.at_each in
       let none = no_work cost i s xs least in
       grind (arith, work_cons, all_map, each.0, each.1)
@@ -70,7 +67,8 @@ module _ {meaning : Meaning} (law : IsLawful meaning) (t : Packed) where
       let x = item_at s (place.Node n) in
       let v = verdict_on s n in
       let after = done + cost (node_at t n.number.number) in
-      let adds : (b : Option ℕ) → is_reached b v ≡ true → AddsUp meaning cost t done (x ∷ xs) b → AddsUp meaning cost t after new b =
+      let adds : (b : Option ℕ) → is_reached b v ≡ true → AddsUp meaning cost t done (x ∷ xs) b
+      → AddsUp meaning cost t after new b =
       λ b opens h.
       let W = reached (is_reached b) cost meaning t (height_at t n.number.number) v (node_at t n.number.number) in
       let all = cond-true (is_reached b v) W 0 opens in

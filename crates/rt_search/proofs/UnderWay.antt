@@ -1,21 +1,20 @@
 -- A search goes on, and keeps no more than its limit makes necessary.
-use Rattle.std.proofs.Common.{◌≡◌, ◌≢◌, ◌<◌, ◌≤◌, ◌+◌, ◌^◌, ◌==◌, ℕ, true, false, cond, List, length, map, Option}
-use Rattle.std.proofs.Common.{Some, None, refl, sym, ◌∙◌, ap, subst, arith}
-use Rattle.std.proofs.lemmas.Bool.{cond_both, eq-eqb, eqb-false, eqb-true, ne_eqb}
+use Rattle.std.proofs.Common.{◌≡◌, ◌≢◌, ◌<◌, ◌≤◌, ◌+◌, ◌^◌, ◌==◌, ℕ, List, length, map, Option, Some, None, refl, sym}
+use Rattle.std.proofs.{Common.{◌∙◌, ap, subst, arith}, lemmas.Bool.{cond_both, eq-eqb, eqb-false, eqb-true, ne_eqb}}
 use Rattle.std.specs.Prelude.{MatchOption}
-use Rattle.rt_geo.specs.Laws.{Meaning}
-use Rattle.rt_geo.specs.{Laws.{IsLawful}, declared.geometry.{Verdict.{Verdict}}}
+use Rattle.rt_geo.specs.{Laws.{Meaning, IsLawful}, declared.geometry.Verdict.{Verdict}}
 use Rattle.rt_tree.specs.Packed.{Packed, IsSound, node_at}
-use Rattle.rt_search.specs.{Answers.{Answer}, Joining.{join_answers, join_nodes}}
-use Rattle.rt_search.specs.{Items.{item_at, item_of}, Work.{is_reached, its_children, one_node, reached_from_root}}
-use Rattle.rt_search.specs.{Remaining.{IsOpenable, height_at, remaining, verdict_on}, Limits.{IsEnough, wanted_after}}
-use Rattle.rt_search.specs.{Kept.{IsRising, IsTakenOut, node_or, taken_entry, taken_item}, declared.item.Item.{Item}}
-use Rattle.rt_search.specs.Progress.{IsFound, IsNodeStep, IsOver, IsSearching, IsTaken, IsUnderWay, join_children}
-use Rattle.rt_search.specs.{Walking.{answers_among}, declared.item.{ScoredNode.{ScoredNode}, WaitingNode.{WaitingNode}}}
-use Rattle.rt_search.proofs.{Children.{subtree_level}, Stepping.{entry_course, inner_step, leaf_step, reached_is}}
-use Rattle.rt_search.proofs.Limits.{rising_put_all, enough_nodes, enough_put_all, enough_trans, first_kept, none_left}
-use Rattle.rt_search.proofs.{Limits.{rising_nodes}, Sizes.{size_counts}, Answering.{take_entry}}
-use Rattle.rt_search.proofs.Sizes.{count_is_fair, done_le, done_upto, held_cons, length_le_held, one_is_fair}
+use Rattle.rt_search.specs.{Answers.{Answer}, Items.{item_at, item_of}, Joining.{join_answers, join_nodes}}
+use Rattle.rt_search.specs.{Kept.{IsRising, IsTakenOut, node_or, taken_entry, taken_item}, Limits.{IsEnough}}
+use Rattle.rt_search.specs.{Limits.{wanted_after}, Progress.{IsFound, IsNodeStep, IsOver, IsSearching, IsTaken}}
+use Rattle.rt_search.specs.{Progress.{IsUnderWay, join_children}, Remaining.{IsOpenable, height_at, remaining}}
+use Rattle.rt_search.specs.{Remaining.{verdict_on}, Walking.{answers_among}, Work.{is_reached, its_children, one_node}}
+use Rattle.rt_search.specs.{Work.{reached_from_root}, declared.item.{Item.{Item}, ScoredNode.{ScoredNode}}}
+use Rattle.rt_search.specs.declared.item.WaitingNode.{WaitingNode}
+use Rattle.rt_search.proofs.{Answering.{take_entry}, Children.{subtree_level}, Limits.{rising_put_all, enough_nodes}}
+use Rattle.rt_search.proofs.Limits.{enough_put_all, enough_trans, first_kept, none_left, rising_nodes}
+use Rattle.rt_search.proofs.Sizes.{size_counts, count_is_fair, done_le, done_upto, held_cons, length_le_held}
+use Rattle.rt_search.proofs.{Sizes.{one_is_fair}, Stepping.{entry_course, inner_step, leaf_step, reached_is}}
 use Rattle.rt_tree.specs.declared.tree.Node as node
 use Rattle.rt_search.specs.declared.item.Place.TheVariants as place
 
@@ -112,9 +111,7 @@ module _ {meaning : Meaning} (law : IsLawful meaning) (t : Packed) where
         next = λ new h. record {
           all = next;
           state = step.state;
-          rising = cond_both (k'.level == 1) (join_answers found ys) (join_nodes meaning t v k' k'.count ys) IsRising
-              (λ e. rising_put_all (map item_of found) ys up.1)
-              (λ e. rising_nodes meaning t v k' wanted k'.count ys up.1);
+          rising = grind (arith, rising_put_all, rising_nodes);
           follows = step.same ∙ ap (remaining t meaning) (sym k.1.0) ∙ u.follows;
           enough = enough_trans wanted new (join_children meaning t s n xs) next h
               (enough_children meaning t wanted s n xs ys k.1.1);
@@ -133,21 +130,18 @@ module _ {meaning : Meaning} (law : IsLawful meaning) (t : Packed) where
       let k = first_kept wanted x xs u.all more (subst (λ l. IsEnough wanted l u.all) took.0 u.enough) in
       let ys = k.0 in
       let up = subst IsRising k.1.0 u.rising in
-      let taken : IsTaken meaning t opened asked x ys = record {
-        least = up.0;
-        state = subst (IsSearching meaning t opened asked) k.1.0 u.state;
-      } in
-      let sound = taken.state.sound.1 in
-      let o = entry_course law t one_node a.0 a.1 opened ys taken.least sound taken.state.opening in
-      let b = entry_course law t its_children a.0 a.1 asked ys taken.least sound taken.state.asking in
+      let state = subst (IsSearching meaning t opened asked) k.1.0 u.state in
+      let sound = state.sound.1 in
+      let o = entry_course law t one_node a.0 a.1 opened ys up.0 sound state.opening in
+      let b = entry_course law t its_children a.0 a.1 asked ys up.0 sound state.asking in
       let h = held_cons meaning t x ys in
-      let r = taken.state.room in
-      subst (λ w. IsFound meaning t opened asked w to_come a xs) (sym same) (record {
+      let r = state.room in
+      rw same (record {
         rest = remaining t meaning ys;
-        first = sym u.follows ∙ ap (remaining t meaning) k.1.0 ∙ take_entry meaning t a.0 a.1 ys taken.least sound;
+        first = sym u.follows ∙ ap (remaining t meaning) k.1.0 ∙ take_entry meaning t a.0 a.1 ys up.0 sound;
         state = record {
           all = ys;
-          state = record { tree = taken.state.tree; sound = sound; room = omega arith; opening = o.0; asking = b.0 };
+          state = record { tree = state.tree; sound = sound; room = omega arith; opening = o.0; asking = b.0 };
           rising = up.1;
           follows = refl;
           enough = k.1.1;

@@ -1,19 +1,15 @@
 -- A search whose nodes all score 0: those that may hold answers were opened before the first answer.
-use Rattle.std.proofs.Common.{◌≡◌, ◌≢◌, ◌≤◌, ◌+◌, ◌&&◌, ℕ, zero, suc, cond, List, [], ◌∷◌, length, map}
-use Rattle.std.proofs.{Common.{Option, Some, None, refl, ◌∙◌, ap, arith}, lemmas.List.{Sums.{sum_by-cons}}}
-use Rattle.std.specs.{Prelude.{IfSome}, List.{AllByRecursion, sum_by}}
-use Rattle.rt_geo.specs.Laws.{Meaning}
-use Rattle.rt_geo.specs.{Laws.{IsLawful}, declared.geometry.{Verdict.{Verdict}}}
+use Rattle.std.proofs.Common.{◌≡◌, ◌≢◌, ◌≤◌, ◌&&◌, ℕ, zero, suc, cond, List, [], ◌∷◌, length, map, Option, Some, None}
+use Rattle.std.proofs.{Common.{refl, ◌∙◌, ap, arith}, lemmas.List.Sums.{sum_by-cons}}
+use Rattle.std.specs.{List.{AllByRecursion, sum_by}, Option.{option_map_or}, Prelude.{IfSome, nat_le, true}}
+use Rattle.rt_geo.specs.{Laws.{Meaning, IsLawful}, declared.geometry.Verdict.{Verdict}}
 use Rattle.rt_tree.specs.{Packed.{Packed, IsSound, IsSubtree, child_nodes}, declared.tree.Node.{Node}}
-use Rattle.rt_search.specs.{Progress.{AddsUp, IsGiving, IsOnCourse, work_left}}
-use Rattle.rt_search.specs.{Items.{item_of}, Limits.{IsEnough}, Remaining.{remaining}}
-use Rattle.rt_search.specs.{Joining.{join_answers}, Walking.{answers_in_tree}, declared.item.Item.{Item}}
-use Rattle.std.specs.{Option.{option_map_or}, Prelude.{nat_le, true}}
-use Rattle.rt_search.specs.Work.{IsUnscored, info_of_node, is_kept, is_reached}
-use Rattle.rt_search.specs.Work.{its_children, one_node, reached, reached_from_root, root_verdict, search_work}
-use Rattle.rt_search.proofs.{Children.{subtree_level}, Elements.{all_each}}
-use Rattle.rt_search.proofs.{Joined.{answers_joined, answers_sound}, Limits.{rising_put_all}}
-use Rattle.rt_search.proofs.Starting.{from_first, nat_eq_false, none_given, within_zero}
+use Rattle.rt_search.specs.{Items.{item_of}, Joining.{join_answers}, Limits.{IsEnough}, Progress.{AddsUp, IsGiving}}
+use Rattle.rt_search.specs.{Progress.{IsOnCourse, work_left}, Remaining.{remaining}, Walking.{answers_in_tree}}
+use Rattle.rt_search.specs.Work.{IsUnscored, info_of_node, is_kept, is_reached, its_children, one_node, reached}
+use Rattle.rt_search.specs.{Work.{reached_from_root, root_verdict, search_work}, declared.item.Item.{Item}}
+use Rattle.rt_search.proofs.{Children.{subtree_level}, Elements.{all_each}, Joined.{answers_joined, answers_sound}}
+use Rattle.rt_search.proofs.{Limits.{rising_put_all}, Starting.{from_first, nat_eq_false, none_given, within_zero}}
 use Rattle.rt_search.proofs.{WalkWhole.{tree_answers, tree_few}, Working.{held-join_answers, work-join_answers}}
 
 -- ---- any bound opens what none does
@@ -36,12 +32,8 @@ module _ (meaning : Meaning) (unscored : IsUnscored meaning) (t : Packed) (withi
       ap (λ s. is_kept w.within && option_map_or (nat_le s) within true) (unscored i (omega arith))
       ∙ ap (λ l. is_kept w.within && l) (within_zero within))
       ∙ ap (λ m. cond (is_reached None w) m 0) (f w k sub.0) in
-      omega (
-        arith,
-        sum_by-cons (below within h v) k ks,
-        sum_by-cons (below None h v) k ks,
-        children_alike h f v ks sub.1,
-      )
+      let here = sum_by-cons (below within h v) k ks in
+      omega (arith, sum_by-cons (below None h v) k ks, children_alike h f v ks sub.1)
 
   reached_alike : (h : ℕ) (v : Verdict) (n : Node) → IsSubtree t h n
       → reached (is_reached within) cost meaning t h v n ≡ reached (is_reached None) cost meaning t h v n

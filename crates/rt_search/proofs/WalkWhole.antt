@@ -1,17 +1,14 @@
 -- A walk over a whole tree, from its root.
-use Rattle.std.proofs.Common.{◌≡◌, ◌<◌, ◌≤◌, ◌+◌, ◌-◌, ◌^◌, ◌==◌, ◌∙◌, ℕ, Bool, None, [], length, refl, sym, ap, subst}
-use Rattle.std.proofs.{Common.{arith}, lemmas.{Bool.{cond_both, eqb-true}, List.Sorted.{length_permutation}}}
-use Rattle.std.proofs.lemmas.List.{length-map}
-use Rattle.rt_geo.specs.Laws.{Meaning}
-use Rattle.rt_geo.specs.{declared.geometry.{Verdict.{Verdict}}}
-use Rattle.rt_tree.specs.{Packed.{Packed, IsSound, entries_under, height, node_at, root_of}, declared.tree.Node.{Node}}
+use Rattle.std.proofs.Common.{◌≡◌, ◌<◌, ◌≤◌, ◌+◌, ◌-◌, ◌^◌, ◌∙◌, ℕ, Bool, None, [], length, refl, sym, ap, subst, arith}
+use Rattle.std.proofs.lemmas.{List.{length-map, Sorted.{length_permutation}}}
+use Rattle.rt_geo.specs.{Laws.{Meaning}, declared.geometry.Verdict.{Verdict}}
+use Rattle.rt_tree.specs.{Packed.{Packed, IsSound, height, node_at, root_of}, declared.tree.Node.{Node}}
 use Rattle.rt_search.specs.{Answers.{accepted, answer_cmp, answer_of, answers, scored}, Remaining.{IsOpenable, put_all}}
-use Rattle.rt_search.specs.Walking.{answers_in_tree, answers_under, work_under}
-use Rattle.rt_search.specs.Work.{its_children, one_node, reached_from_root, root_verdict}
-use Rattle.rt_search.proofs.{Answering.{among-IsPermutation}, Giving.{length-scored}}
-use Rattle.rt_search.proofs.{OrderedLists.{length-put_all, put_all-nil}}
-use Rattle.rt_search.proofs.{Orders.{answer_order}, Sizes.{count_is_fair, one_is_fair, size_under, work_le}}
-use Rattle.rt_search.proofs.Starting.{empty_answers, nat_eq_false, some_nodes}
+use Rattle.rt_search.specs.{Walking.{answers_in_tree, work_under}, Work.{its_children, one_node, reached_from_root}}
+use Rattle.rt_search.specs.Work.{root_verdict}
+use Rattle.rt_search.proofs.{Answering.{among-IsPermutation}, Giving.{length-scored}, OrderedLists.{length-put_all}}
+use Rattle.rt_search.proofs.{OrderedLists.{put_all-nil}, Orders.{answer_order}, Sizes.{count_is_fair, one_is_fair}}
+use Rattle.rt_search.proofs.{Sizes.{size_under, work_le}, Starting.{empty_answers, nat_eq_false, some_nodes}}
 
 module _ (meaning : Meaning) (t : Packed) (sound : IsSound t)
   where
@@ -20,8 +17,7 @@ module _ (meaning : Meaning) (t : Packed) (sound : IsSound t)
     -- in order they are those of a scan
     pub tree_answers : put_all answer_cmp (answers_in_tree t meaning) [] ≡ answers t.entries meaning None
     tree_answers =
-        grind (arith, cond_both, empty_answers, eqb-true, put_all-nil, answer_order, among-IsPermutation, nat_eq_false,
-        sound.every)
+        grind (arith, empty_answers, put_all-nil, answer_order, among-IsPermutation, nat_eq_false, sound.every)
 
     -- and as many
     pub tree_count : length (answers_in_tree t meaning) ≡ length (accepted t.entries meaning)

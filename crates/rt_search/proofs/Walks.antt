@@ -1,22 +1,21 @@
 -- What a walk finds under a node, child by child.
-use Rattle.std.proofs.Common.{◌≡◌, ◌<◌, ◌≤◌, ◌+◌, ◌-◌, ◌^◌, ℕ, zero, suc, Bool, true, false, List, [], ◌∷◌, ◌++◌}
-use Rattle.std.proofs.Common.{length, take, get_or, refl, sym, ◌∙◌, ap, subst, arith, add-one, length-append}
-use Rattle.std.proofs.lemmas.{Bool.{cond-false, cond-true}, List.{get_or_default, length-take, take_all}}
-use Rattle.std.proofs.lemmas.List.Sums.{sum_by-take-drop}
+use Rattle.std.proofs.Common.{◌≡◌, ◌<◌, ◌≤◌, ◌+◌, ◌-◌, ◌^◌, ℕ, zero, suc, Bool, true, List, [], ◌∷◌, ◌++◌, length, take}
+use Rattle.std.proofs.{Common.{get_or, refl, sym, ap, subst, arith, add-one, length-append}, lemmas.List.{length-take}}
+use Rattle.std.proofs.lemmas.List.{take_all, Sums.{sum_by-take-drop}}
 use Rattle.std.specs.List.{AllByRecursion, sum_by}
-use Rattle.rt_geo.specs.Laws.{AllAccepted, Extent, IsLawful, IsQuestion, NoneAccepted, extent_of, extent_of_entry, Meaning}
+use Rattle.rt_geo.specs.Laws.{AllAccepted, Extent, IsLawful, IsQuestion, extent_of, extent_of_entry, Meaning}
 use Rattle.rt_geo.specs.declared.{entry.Entry.{Entry}, geometry.{Info.{Info}, Verdict.{Verdict}}}
-use Rattle.rt_tree.specs.Packed.{Packed, IsLeafNode, IsSound, IsSubtree, child_entries, child_nodes, entries_under}
-use Rattle.rt_tree.specs.{Packed.{extent_of_node, node_at}, declared.{nodes.PlainNode.{PlainNode}, tree.Node.{Node}}}
-use Rattle.rt_search.specs.{Answers.{Answer}, Work.{info_of_node, is_kept, its_children, one_node, reached}}
-use Rattle.rt_search.specs.{Joining.{info_of_child, no_entry}, Walking.{work_at_child, work_of_child, work_under}}
-use Rattle.rt_search.specs.Remaining.{IsBelow, IsOpenable, height_at}
-use Rattle.rt_search.specs.Walking.{HasTaken, IsCheckable, IsFilling, IsKnown, answer_if, answers_among, answers_under}
+use Rattle.rt_tree.specs.Packed.{Packed, IsLeafNode, IsSound, IsSubtree, child_entries, child_nodes, extent_of_node}
+use Rattle.rt_tree.specs.{Packed.{node_at}, declared.{nodes.PlainNode.{PlainNode}, tree.Node.{Node}}}
+use Rattle.rt_search.specs.{Answers.{Answer}, Joining.{info_of_child, no_entry}, Remaining.{IsBelow, IsOpenable}}
+use Rattle.rt_search.specs.{Remaining.{height_at}, Walking.{work_at_child, work_of_child, work_under, HasTaken}}
+use Rattle.rt_search.specs.Walking.{IsCheckable, IsFilling, IsKnown, answer_if, answers_among, answers_under}
+use Rattle.rt_search.specs.Work.{info_of_node, is_kept, its_children, one_node}
 use Rattle.rt_search.proofs.Answering.{IsEntryInside, all_inside, among, among-append, among_accepted, among_none}
-use Rattle.rt_search.proofs.Answering.{among_refused, take_more_at}
-use Rattle.rt_search.proofs.Children.{IsAsked, IsLeafAt, all_children, child, entry_question, height_suc, inner_at}
-use Rattle.rt_search.proofs.{Children.{leaf_at, leaf_node, node_question, part_at, part_length}, Giving.{length-scored}}
-use Rattle.rt_search.proofs.{Joined.{answers_upto, kept_not, upto_more}, Sizes.{size_under}, Working.{sum_more}}
+use Rattle.rt_search.proofs.{Answering.{take_more_at}, Children.{IsAsked, all_children, child, entry_question}}
+use Rattle.rt_search.proofs.Children.{height_suc, inner_at, leaf_at, leaf_node, node_question, part_length}
+use Rattle.rt_search.proofs.{Giving.{length-scored}, Joined.{answers_upto, kept_not, upto_more}, Sizes.{size_under}}
+use Rattle.rt_search.proofs.Working.{sum_more}
 
 -- ---- answers that are taken
 
@@ -66,9 +65,8 @@ module _ {meaning : Meaning} (law : IsLawful meaning) where
       → IsQuestion meaning.accepts info
       → answer_if (is_kept (meaning.verdict info).within) e.id (meaning.verdict info).score ≡ among meaning (e ∷ [])
   entry_answer e info at low question =
-      let v = meaning.verdict info in
       let leaf = law.faithful.leaf info question low in
-      grind (arith, kept_not, among_accepted, among_refused, law.exact info question low)
+      grind (arith, kept_not, law.exact info question low)
 
   -- ---- a node that was asked about
 
@@ -91,7 +89,8 @@ module _ {meaning : Meaning} (law : IsLawful meaning) where
     one_entry {v} small {n} leaf below i lt =
         let e = get_or (child_entries t n) i no_entry in
         let at = leaf_at t n i sound.table leaf lt in
-        let one = entry_answer e (info_of_child t v e) refl refl (entry_question meaning t sound v small n e i below at) in
+        let one = entry_answer e (info_of_child t v e) refl refl
+        (entry_question meaning t sound v small n e i below at) in
         rw (one, take_more_at (child_entries t n) i e at.place at.is, among-append) refl
 
     -- ---- the children of a higher node

@@ -1,13 +1,11 @@
 -- What opening a node means for the work to come and for the room that is used.
-use Rattle.std.proofs.Common.{◌≡◌, ◌<◌, ◌≤◌, ◌+◌, ◌-◌, ℕ, zero, suc, Bool, true, false, cond, List, [], ◌∷◌, length}
-use Rattle.std.proofs.{Common.{take, refl, ◌∙◌, ap, arith, add-one}, lemmas.Bool.{cond_both}}
-use Rattle.std.proofs.lemmas.List.Sums.{sum_by-append}
+use Rattle.std.proofs.Common.{◌≡◌, ◌<◌, ◌≤◌, ◌+◌, ◌-◌, ℕ, zero, suc, Bool, false, cond, List, [], ◌∷◌, length, take}
+use Rattle.std.proofs.{Common.{refl, ◌∙◌, ap, arith, add-one}, lemmas.List.Sums.{sum_by-append}}
 use Rattle.std.specs.List.{sum_by}
-use Rattle.rt_geo.specs.Laws.{Meaning}
-use Rattle.rt_geo.specs.declared.geometry.{Verdict.{Verdict}}
+use Rattle.rt_geo.specs.{Laws.{Meaning}, declared.geometry.Verdict.{Verdict}}
 use Rattle.rt_tree.specs.{Packed.{Packed, IsSubtree, child_nodes, node_at}, Sorting.{put}, declared.tree.Node.{Node}}
-use Rattle.rt_search.specs.{Answers.{Answer}, Items.{item_at, item_cmp, item_of}, Joining.{join_answers, join_nodes}}
-use Rattle.rt_search.specs.{Progress.{held, size_at, work_at, work_left}, Remaining.{height_at, waiting_node}}
+use Rattle.rt_search.specs.{Answers.{Answer}, Items.{item_at, item_cmp}, Joining.{join_answers, join_nodes}}
+use Rattle.rt_search.specs.{Progress.{held, work_at, work_left}, Remaining.{height_at, waiting_node}}
 use Rattle.rt_search.specs.{Walking.{work_of_child}, Work.{info_of_node, is_kept, reached}, declared.item.Item.{Item}}
 use Rattle.rt_search.proofs.{Answering.{take_more_at}, Children.{all_children, child, height_suc, inner_at}}
 use Rattle.rt_search.proofs.{Joined.{verdict_told}, OrderedLists.{length-put, sum_by-put}, Orders.{item_order}}

@@ -1,7 +1,7 @@
 use Rattle.std.proofs.Common.{ℕ, ◌≡◌, ◌∙◌, ap, refl, sym, arith, rules}
 use Rattle.rt_tree.specs.{Packed.{node_at}, declared.tree.Node.{Node}}
 use Rattle.rt_search.specs.Work.{its_children, one_node}
-use Rattle.rt_search.proofs.{Answering.{among}, Children.{asked, children_of}}
+use Rattle.rt_search.proofs.{Children.{asked, children_of}}
 use Rattle.rt_search.proofs.Joined.{upto_all, upto_more}
 use Rattle.rt_search.proofs.Walks.{at_child, known, taken-append, visit, work_all, work_more}
 use Rattle.rt_search.proofs.walk.+walk.Goals as goal
