@@ -76,10 +76,6 @@ item_order = order_of item_cmp
 pub score_upto : (x y : Item) → is_gt (item_cmp x y) ≡ false → x.score ≤ y.score
 score_upto x y h = grind (arith, nat_tests)
 
--- what scores lower doesn't come after
-pub lower_before : (x y : Item) → x.score < y.score → is_gt (item_cmp x y) ≡ false
-lower_before x y h = grind (arith, nat_tests)
-
 -- a node doesn't come after an entry of no lower score
 pub node_before : (s r : ℕ) (p q : Place) → IsNode p → IsEntry q → s ≤ r
     → is_gt (item_cmp (item_at s p) (item_at r q)) ≡ false

@@ -1,7 +1,7 @@
-use Rattle.std.proofs.Common.{arith, rules}
+use Rattle.std.proofs.Common.{arith}
 use Rattle.std.specs.{Ordering.{is_lt, nat_cmp}, BinaryHeap.{heap_items}}
 use Rattle.std.proofs.lemmas.List.Sorted.{IsPermutation-append_left, IsPermutation-trans, length_permutation}
-use Rattle.std.proofs.Common.{length, false, ◌≡◌, ◌≤◌, [], ◌∷◌, ◌++◌, ap, sym, ◌∙◌}
+use Rattle.std.proofs.Common.{false, ◌≡◌, ◌≤◌, ◌∷◌, ◌++◌}
 use Rattle.std.proofs.lemmas.List.{nil_from_length}
 use Rattle.rt_search.specs.Pooling.{score_in}
 use Rattle.rt_search.proofs.{Elements.{all-append, all_moved}, Pools.{far_after}}

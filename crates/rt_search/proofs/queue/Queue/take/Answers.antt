@@ -1,6 +1,6 @@
 use Rattle.std.proofs.Common.{arith, rules}
-use Rattle.std.proofs.Common.{◌≤◌, ◌^◌, length, ◌∙◌, ap, sym, subst}
-use Rattle.rt_search.specs.{Items.{item_cmp}, Kept.{IsTakenOut, in_order, node_item, taken_item}, Pooling.{keys_in}}
+use Rattle.std.proofs.Common.{◌≤◌, ◌^◌, length, ◌∙◌, sym, subst}
+use Rattle.rt_search.specs.{Items.{item_cmp}, Kept.{in_order, node_item, taken_item}, Pooling.{keys_in}}
 use Rattle.rt_search.specs.Remaining.{put_all}
 use Rattle.rt_search.proofs.{Limits.{none_merged, still_none}, Merging.{taken_right, wide_ahead}}
 use Rattle.rt_search.proofs.Merging.{fewer_left, fewer_right, left-all, narrow_ahead, none_taken, taken_left}

@@ -1,8 +1,8 @@
 use Rattle.std.proofs.Common.{arith, rules}
-use Rattle.std.proofs.{Common.{◌≡◌, ◌≤◌, ◌+◌, length, refl, ℤ, ◌∙◌, ap, subst, w64}, lemmas.Int.{to_z-of_z}}
+use Rattle.std.proofs.{Common.{◌≤◌, ◌+◌, length, refl, ℤ, ◌∙◌, ap, subst, w64}, lemmas.Int.{to_z-of_z}}
 use Rattle.rt_tree.specs.Sorting.{put}
 use Rattle.rt_search.specs.{Items.{item_at, item_cmp}, Kept.{in_order, node_item, queued}, Pooling.{keys_in}}
-use Rattle.rt_search.specs.{Limits.{IsEnough, IsPut}, Remaining.{put_all}}
+use Rattle.rt_search.specs.{Limits.{IsEnough}, Remaining.{put_all}}
 use Rattle.rt_search.proofs.{Limits.{enough_fits, enough_joined, enough_same}, Merging.{length-queued, put-put_all}}
 use Rattle.rt_search.proofs.{OrderedLists.{length-put, put-all}, Orders.{item_order}}
 use Rattle.rt_search.specs.declared.item.Place.TheVariants as place
