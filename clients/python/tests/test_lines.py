@@ -127,7 +127,8 @@ class Exactness(unittest.TestCase):
                         self.assertEqual(roads.nearest(k, *point), scanned(geometries, k, *point))
 
     def test_many_crossing_diagonals(self) -> None:
-        """In time, in whatever order they are: by all boxes that hold a point it took 0.75 s each."""
+        """In time, in whatever order they are: 20 points in less time than one takes by a look at each line, on any
+        machine. By all boxes that hold a point it took as long for one."""
         chance, far, count = random.Random(7), 10**9, 20_000
         ends = [(chance.randint(-far, far), chance.randint(-far, far)) for _ in range(count)]
         even = range(-far, far, 2 * far // count)
@@ -143,8 +144,9 @@ class Exactness(unittest.TestCase):
                 points = [(chance.randint(-far, far), chance.randint(-far, far)) for _ in range(20)]
                 begun = time.process_time()
                 found = [roads.nearest(3, *point) for point in points]
-                self.assertLess((time.process_time() - begun) / len(points), 0.03)
+                asked = time.process_time()
                 self.assertEqual(found[0], scanned(geometries, 3, *points[0]))
+                self.assertLess(asked - begun, time.process_time() - asked)
 
     def test_ties_come_by_number(self) -> None:
         """More boxes at one distance than are asked for at once. Slanted pieces as far away have nearer boxes, and come
