@@ -387,9 +387,10 @@ class Pools(Case):
         with Pool(2, self.table(), program=self.alone, timeout=0.5) as boxes:
             for process in programs() - self.before[0]:
                 stop(process)
-            for _ in range(2):
-                with self.assertRaises(TimedOut):
-                    boxes.count(All())
+            with self.assertRaises(TimedOut):
+                boxes.count(All())
+            with contextlib.suppress(TimedOut):  # unless the first is mended before the other is asked
+                self.assertEqual(boxes.count(All()), 5)
             self.assertEqual([boxes.count(All()) for _ in range(50)], [5] * 50)
 
 
