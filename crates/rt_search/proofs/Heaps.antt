@@ -42,23 +42,20 @@ module _ {X : Type 0} (item : X → Item) where
   pub popped_out : (top : X) (old new : List X) → IsPermutation old (top ∷ new) → IsLeastOf item (item top) new
       → IsTakenOut (Some (item top)) (in_order item old) (in_order item new)
   popped_out top old new h a =
-      let least = in_order-all (λ y. is_gt (item_cmp (item top) y) ≡ false) new a in (
-        sym (same_order old (top ∷ new) h) ∙ put_least item_cmp item_order (item top) (in_order item new) least,
-        least,
-      )
+      let least = in_order-all (λ y. is_gt (item_cmp (item top) y) ≡ false) new a in
+      let same = same_order old (top ∷ new) h in
+      let first = put_least item_cmp item_order (item top) (in_order item new) least in
+      (grind arith, least)
 
 -- ---- keys and items, by the orders that they derive
 
 pub nodes_after : (k : ℕ) (ns : List (Reverse ℕ)) → AllByRecursion (λ j. is_lt (nat_cmp j.0 k) ≡ false) ns
     → IsLeastOf node_item (node_item (record { 0 = k })) ns
-nodes_after k = all_map (λ j. is_lt (nat_cmp j.0 k) ≡ false)
-    (λ n. is_gt (item_cmp (node_item (record { 0 = k })) (node_item n)) ≡ false) (λ n. node_derived n (record { 0 = k }))
+nodes_after k = all_map _ _ (λ n. node_derived n (record { 0 = k }))
 
 pub entries_after : (k : ℕ) (es : List (Reverse ℕ)) → AllByRecursion (λ j. is_lt (nat_cmp j.0 k) ≡ false) es
     → IsLeastOf entry_item (entry_item (record { 0 = k })) es
-entries_after k = all_map (λ j. is_lt (nat_cmp j.0 k) ≡ false)
-    (λ e. is_gt (item_cmp (entry_item (record { 0 = k })) (entry_item e)) ≡ false)
-    (λ e a. entry_derived e (record { 0 = k }) ∙ a)
+entries_after k = all_map _ _ (λ e a. entry_derived e (record { 0 = k }) ∙ a)
 
 pub wide_after : (top : Reverse Item) (xs : List (Reverse Item))
     → AllByRecursion (λ y. is_lt (item_ghosts.cmp y.0 top.0) ≡ false) xs → IsLeastOf wide_item (wide_item top) xs

@@ -31,13 +31,9 @@ module _ {t : Packed} {meaning : Meaning} {number : ℕ} {v : Verdict}
   pub upto_more : (i : ℕ) → i < (node_at t number).count
       → answers_upto i ++ answers_under t meaning ((node_at t number).first + i) ≡ answers_upto (i + 1)
   upto_more i lt =
-      let h = height_at t number - 1 in
       let m = node_at t ((node_at t number).first + i) in
       let k = child t number opened.tree high i lt in
-      let one : under_all meaning t h (m ∷ []) ≡ answers_under t meaning ((node_at t number).first + i) =
-      rw (append-nil, k.height) refl in
-      rw (take_more_at (child_nodes t (node_at t number)) i m k.place k.is)
-      (ap (λ l. answers_upto i ++ l) (sym one) ∙ sym (under_all-append meaning t h _ (m ∷ [])))
+      rw (take_more_at (child_nodes t (node_at t number)) i m k.place k.is, under_all-append) (grind (arith, append-nil, k.height))
 
   pub upto_all : answers_upto (node_at t number).count ≡ answers_under t meaning number
   upto_all = grind (arith, under_all, all_children, among, height_suc)

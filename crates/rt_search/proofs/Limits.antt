@@ -1,11 +1,11 @@
 -- What may be left out where a limit is known.
-use Rattle.std.proofs.Common.{◌≡◌, ◌≢◌, ◌≤◌, ◌<◌, ◌+◌, ◌-◌, ℕ, zero, suc, Bool, cond, Option, Some, None, List, [], ◌∷◌}
-use Rattle.std.proofs.Common.{length, refl, sym, ◌∙◌, ap, subst, arith}
+use Rattle.std.proofs.Common.{◌≡◌, ◌≢◌, ◌≤◌, ◌<◌, ◌-◌, ℕ, zero, suc, Bool, cond, Option, Some, None, List, [], ◌∷◌}
+use Rattle.std.proofs.Common.{length, refl, sym, ◌∙◌, ap, arith}
 use Rattle.rt_geo.specs.{Laws.{Meaning}, declared.geometry.Verdict.{Verdict}}
-use Rattle.rt_tree.specs.{Packed.{Packed, node_at}, Sorting.{put}}
-use Rattle.rt_search.specs.{Items.{item_at, item_cmp}, Joining.{join_node, join_nodes}, Kept.{IsRising}}
-use Rattle.rt_search.specs.{Limits.{IsEnough, entries_at, front, front_of, less_at}, Remaining.{put_all, waiting_node}}
-use Rattle.rt_search.specs.{Work.{info_of_node, is_kept}, declared.item.{Item.{Item}, Place.TheVariants.{Node}}}
+use Rattle.rt_tree.specs.{Packed.{Packed}, Sorting.{put}}
+use Rattle.rt_search.specs.{Items.{item_cmp}, Joining.{join_node, join_nodes}, Kept.{IsRising}}
+use Rattle.rt_search.specs.{Limits.{IsEnough, entries_at, front, front_of, less_at}, Remaining.{put_all}}
+use Rattle.rt_search.specs.{declared.item.{Item.{Item}}}
 use Rattle.rt_search.proofs.{OrderedLists.{length-put, length-put_all, put_all-put}, Orders.{item_order}}
 use Rattle.rt_search.proofs.SortedLists.{rising_put}
 use Rattle.rt_tree.specs.declared.tree.Node as node
@@ -19,8 +19,7 @@ front_zero (x ∷ xs) = refl
 -- a longer front has the same front
 front-front : (xs : List Item) (m n : ℕ) → m ≤ n → front (front xs n) m ≡ front xs m
 front-front [] m n h = refl
-front-front (x ∷ xs) zero zero h = refl
-front-front (x ∷ xs) zero (suc n) h = refl
+front-front (x ∷ xs) zero n h = front_zero (front (x ∷ xs) n)
 front-front (x ∷ xs) (suc m) zero h = absurd (omega arith)
 front-front (x ∷ xs) (suc m) (suc n) h =
     ap (λ l. x ∷ l) (front-front xs (suc m - entries_at x.place) (suc n - entries_at x.place) (omega arith))
@@ -28,7 +27,7 @@ front-front (x ∷ xs) (suc m) (suc n) h =
 -- what joins the front joins the list
 front-put : (x : Item) (xs : List Item) (n : ℕ) → front (put item_cmp x (front xs n)) n ≡ front (put item_cmp x xs) n
 front-put x [] n = refl
-front-put x (y ∷ ys) zero = front_zero (put item_cmp x []) ∙ sym (front_zero (put item_cmp x (y ∷ ys)))
+front-put x (y ∷ ys) zero = grind (arith, front_zero)
 front-put x (y ∷ ys) (suc n) = grind (arith, front-put x ys, front-front)
 
 -- so that lists with the same front stay so where x joins
@@ -57,7 +56,7 @@ enough_put_all wanted (z ∷ zs) xs ys h =
     enough_put wanted z (put_all item_cmp zs xs) (put_all item_cmp zs ys) (enough_put_all wanted zs xs ys h)
 
 pub enough_same : (wanted : Option ℕ) (xs ys : List Item) → xs ≡ ys → IsEnough wanted xs ys
-enough_same wanted xs ys e = subst (IsEnough wanted xs) e (enough_itself wanted xs)
+enough_same wanted xs ys e = grind arith
 
 -- what joins one list joins both
 pub enough_joined : (wanted : Option ℕ) (x : Item) (zs old new : List Item) → IsEnough wanted new (put item_cmp x old)
@@ -75,7 +74,7 @@ none_merged xs [] h = refl
 none_merged xs (y ∷ ys) h = absurd (omega (arith, ap length h, length-put_all item_cmp item_order xs (y ∷ ys)))
 
 pub still_none : (xs ys zs : List Item) → put_all item_cmp xs ys ≡ [] → zs ≡ [] → put_all item_cmp xs zs ≡ []
-still_none xs ys zs h e = ap (put_all item_cmp xs) (e ∙ sym (none_merged xs ys h)) ∙ h
+still_none xs ys zs h e = grind (arith, none_merged)
 
 -- ---- the children of a node join
 
@@ -96,10 +95,7 @@ module _ (meaning : Meaning) (t : Packed) (v : Verdict) (n : node.Node) (wanted 
   pub enough_nodes : (i : ℕ) (xs ys : List Item) → IsEnough wanted xs ys
       → IsEnough wanted (join_nodes meaning t v n i xs) (join_nodes meaning t v n i ys)
   enough_nodes zero xs ys h = h
-  enough_nodes (suc i) xs ys h =
-      let w = meaning.verdict (info_of_node t v (node_at t (n.first + i))) in
-      enough_one (is_kept w.within) wanted (item_at w.score (Node (waiting_node (n.first + i) w.within))) _ _
-      (enough_nodes i xs ys h)
+  enough_nodes (suc i) xs ys h = enough_one _ wanted _ _ _ (enough_nodes i xs ys h)
 
   pub rising_nodes : (i : ℕ) (xs : List Item) → IsRising xs → IsRising (join_nodes meaning t v n i xs)
   rising_nodes zero xs h = h

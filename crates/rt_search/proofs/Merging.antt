@@ -1,14 +1,13 @@
 -- Two lists in order, seen as one.
 use Rattle.std.proofs.Common.{◌≡◌, ◌<◌, ◌≤◌, ◌+◌, ◌^◌, ℕ, ℤ, Bool, true, false, Option, Some, None, List, [], ◌∷◌}
-use Rattle.std.proofs.{Common.{length, refl, sym, ◌∙◌, ap, subst, arith, Ordering}}
+use Rattle.std.proofs.Common.{length, refl, sym, ◌∙◌, ap, arith, Ordering}
 use Rattle.std.specs.{Prelude.{IfSome, MatchBool, MatchOption}, List.{AllByRecursion}, declared.cmp.Reverse.{Reverse}}
 use Rattle.std.specs.Ordering.{is_gt}
 use Rattle.rt_tree.specs.Sorting.{put}
-use Rattle.rt_search.specs.{Items.{item_cmp}, Kept.{queued}, Remaining.{put_all}, declared.item.Item.{Item}}
-use Rattle.rt_search.specs.Kept.{IsAhead, IsEntry, IsFirstScore, IsLeast, IsNode, IsTakenOut, hits_in, narrow, offered}
-use Rattle.rt_search.proofs.{Heaps.{length-in_order}, Orders.{item_order, node_before}}
-use Rattle.rt_search.proofs.{Elements.{all_both, all_map}, OrderedLists.{put_all-put, put_least}}
-use Rattle.rt_search.proofs.OrderedLists.{IsOrder, length-put_all, put-put, put_all-all}
+use Rattle.rt_search.specs.{Items.{item_cmp}, Kept.{queued, IsAhead, IsEntry, IsFirstScore, IsLeast, IsNode}}
+use Rattle.rt_search.specs.{Kept.{IsTakenOut, hits_in, narrow, offered}, Remaining.{put_all}, declared.item.Item.{Item}}
+use Rattle.rt_search.proofs.{Heaps.{length-in_order}, Orders.{item_order, node_before}, Elements.{all_both, all_map}}
+use Rattle.rt_search.proofs.OrderedLists.{put_all-put, put_least, IsOrder, length-put_all, put-put, put_all-all}
 
 -- x joins the left list, or the whole
 pub put-put_all : {X : Type 0} (cmp : X → X → Ordering) (o : IsOrder cmp) (x : X) (xs zs : List X)
@@ -82,15 +81,14 @@ entries_ahead s r xs [] f g h = absurd g
 entries_ahead s r xs (y ∷ ys) f g h = lower_least y xs s (omega arith) (all_scores s xs f)
 
 pub by_test : (b : Bool) (P Q : Type 0) → (b ≡ true → P) → (b ≡ false → Q) → MatchBool b P Q
-by_test true P Q p q = p refl
-by_test false P Q p q = q refl
+by_test b P Q p q = grind arith
 
 -- ---- items whose score is one word, and others, which come after them
 
 -- items behind one that scores less
 pub low_ahead : (r : ℕ) (x : Item) (old new wide : List Item) → old ≡ x ∷ new → x.score < r
     → AllByRecursion (λ y. r ≤ y.score) wide → IsAhead old wide
-low_ahead r x old new wide e low high = subst (λ l. IsAhead l wide) (sym e) (lower_least x wide r low high)
+low_ahead r x old new wide e low high = grind (arith, lower_least)
 
 -- where one was taken from the narrow items, these are ahead
 pub narrow_ahead : (r : Option Item) (old new wide : List Item) → MatchOption r (true ≡ false) (λ _. true ≡ true)

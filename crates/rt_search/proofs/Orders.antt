@@ -1,26 +1,21 @@
 -- The orders of answers and of items: total, and they tell all apart.
-use Rattle.std.proofs.Common.{◌≡◌, ◌≤◌, ℕ, ℤ, Bool, true, false, Ordering, Less, Equal, Greater, refl, sym, ◌∙◌, ap}
-use Rattle.std.proofs.{Common.{◌<◌, ◌+◌, ◌*◌, ◌/◌, ◌%◌, ◌^◌, arith}, Math.Nat.{mod-lt}}
-use Rattle.std.proofs.lemmas.{Bool.Decides.{nat_tests}, Map.Lookups.{CmpEqualImpliesEq, exact_signed, exact_unsigned}}
-use Rattle.std.proofs.lemmas.{Int.{ints}, Nat.{div-add-mod'}, Cmp.{int_cmp_total, nat_cmp_total, on_total, then_total}}
-use Rattle.std.specs.{Prelude.{nat_lt}, Cmp.{IsTotalOrder}, declared.cmp.Reverse.{Reverse}}
-use Rattle.std.specs.Ordering.{bool_cmp, int_cmp, is_gt, is_lt, nat_cmp, ordering_reverse, ordering_then}
+use Rattle.std.proofs.Common.{◌≡◌, ◌≤◌, ℕ, ℤ, false, Ordering, Equal, refl, sym, ◌∙◌, ap, ◌<◌, ◌+◌, ◌*◌, ◌/◌, ◌%◌, ◌^◌}
+use Rattle.std.proofs.{Common.{arith, subst}, Math.Nat.{mod-lt}, lemmas.Bool.Decides.{nat_tests}}
+use Rattle.std.proofs.lemmas.{Map.Lookups.{CmpEqualImpliesEq, exact_signed, exact_unsigned}, Int.{ints}}
+use Rattle.std.proofs.lemmas.{Nat.{div-add-mod'}, Cmp.{int_cmp_total, nat_cmp_total, on_total, then_total}}
+use Rattle.std.specs.{Prelude.{nat_lt}, Cmp.{IsTotalOrder}, declared.cmp.Reverse.{Reverse}, Ordering.{bool_cmp}}
+use Rattle.std.specs.Ordering.{int_cmp, is_gt, is_lt, nat_cmp, ordering_then}
 use Rattle.rt_search.specs.{Answers.{Answer, answer_cmp}, Items.{item_at, item_cmp, node_cmp, place_cmp}}
 use Rattle.rt_search.specs.Kept.{IsEntry, IsNode, entry_item, node_item, tail_node, wide_item, zero_item}
-use Rattle.rt_search.specs.{contracts.item.ItemOrd.TheImpl.{ghosts as item_ghosts}, declared.item.Item.{Item}}
-use Rattle.rt_search.specs.declared.item.{Place.{Place, TheVariants.{Node, Entry}}, WaitingNode.{WaitingNode}}
+use Rattle.rt_search.specs.contracts.item.ItemOrd.TheImpl.{ghosts as item_ghosts, Laws.{total-law}}
+use Rattle.rt_search.specs.declared.item.{Item.{Item}, Place.{Place, TheVariants.{Node, Entry}}}
 use Rattle.rt_search.proofs.OrderedLists.{IsOrder, order_of}
 
 then_equal : (o p : Ordering) → ordering_then o p ≡ Equal → (o ≡ Equal) × (p ≡ Equal)
-then_equal Less p h = cc
-then_equal Equal p h = (refl, h)
-then_equal Greater p h = cc
+then_equal o p h = grind arith
 
 exact_bool : CmpEqualImpliesEq bool_cmp
-exact_bool false false h = refl
-exact_bool false true h = cc
-exact_bool true false h = cc
-exact_bool true true h = refl
+exact_bool b c h = grind arith
 
 -- ---- answers
 
@@ -31,34 +26,15 @@ answer_order = order_of answer_cmp
 
 -- ---- items
 
-node_total : IsTotalOrder node_cmp
-node_total = grind (arith, then_total, on_total, nat_cmp_total)
+items_derived : (s r : ℕ) (p q : Place) → item_ghosts.cmp (item_at s p) (item_at r q)
+    ≡ item_cmp (item_at s p) (item_at r q)
+items_derived s r (Node m) (Node n) = refl
+items_derived s r (Node m) (Entry j) = refl
+items_derived s r (Entry i) (Node n) = refl
+items_derived s r (Entry i) (Entry j) = refl
 
-abbrev waiting : ℕ → Bool → WaitingNode
-waiting number is_full = record { number = record { number = number }; is_full = is_full }
-
-place_antisymm : (p q : Place) → place_cmp p q ≡ ordering_reverse (place_cmp q p)
-place_antisymm (Node m) (Node n) = node_total.antisymm m n
-place_antisymm (Node m) (Entry j) = refl
-place_antisymm (Entry i) (Node n) = refl
-place_antisymm (Entry i) (Entry j) = int_cmp_total.antisymm i j
-
-place_trans : (p q r : Place) → place_cmp p q ≡ Less → place_cmp q r ≡ Less → place_cmp p r ≡ Less
-place_trans (Node m) (Node n) (Node k) = node_total.trans m n k
-place_trans (Node m) (Node n) (Entry k) = λ h l. refl
-place_trans (Node m) (Entry j) (Node k) = λ h l. cc
-place_trans (Node m) (Entry j) (Entry k) = λ h l. refl
-place_trans (Entry i) (Node n) r = λ h l. cc
-place_trans (Entry i) (Entry j) (Node k) = λ h l. cc
-place_trans (Entry i) (Entry j) (Entry k) = int_cmp_total.trans i j k
-
-place_congr : (p q r : Place) → place_cmp p q ≡ Equal → place_cmp p r ≡ place_cmp q r
-place_congr (Node m) (Node n) (Node k) = node_total.congr m n k
-place_congr (Node m) (Node n) (Entry k) = λ h. refl
-place_congr (Node m) (Entry j) r = λ h. cc
-place_congr (Entry i) (Node n) r = λ h. cc
-place_congr (Entry i) (Entry j) (Node k) = λ h. refl
-place_congr (Entry i) (Entry j) (Entry k) = int_cmp_total.congr i j k
+item_total : IsTotalOrder item_cmp
+item_total = subst IsTotalOrder (λ i x y. items_derived x.score y.score x.place y.place i) total-law
 
 place_exact : CmpEqualImpliesEq place_cmp
 place_exact (Node m) (Node n) h = grind (arith, then_equal, exact_unsigned, exact_bool)
@@ -67,10 +43,7 @@ place_exact (Entry i) (Node n) h = cc
 place_exact (Entry i) (Entry j) h = ap Entry (exact_signed i j h)
 
 pub item_order : IsOrder item_cmp
-item_order = order_of item_cmp
-    (then_total (on_total (λ (x : Item). x.score) nat_cmp_total) (on_total (λ (x : Item). x.place)
-    (record { antisymm = place_antisymm; trans = place_trans; congr = place_congr })))
-    (λ x y h. grind (arith, then_equal, exact_unsigned, place_exact))
+item_order = order_of item_cmp item_total (λ x y h. grind (arith, then_equal, exact_unsigned, place_exact))
 
 -- what doesn't come after another scores no higher
 pub score_upto : (x y : Item) → is_gt (item_cmp x y) ≡ false → x.score ≤ y.score
@@ -114,13 +87,6 @@ pub entry_derived : (d e : Reverse ℕ) → is_gt (item_cmp (entry_item e) (entr
 entry_derived d e = grind (arith, not_after, ints, nat_tests, mod-lt, div-add-mod')
 
 -- and an item as it is
-items_derived : (s r : ℕ) (p q : Place) → item_ghosts.cmp (item_at s p) (item_at r q)
-    ≡ item_cmp (item_at s p) (item_at r q)
-items_derived s r (Node m) (Node n) = refl
-items_derived s r (Node m) (Entry j) = refl
-items_derived s r (Entry i) (Node n) = refl
-items_derived s r (Entry i) (Entry j) = refl
-
 pub wide_derived : (d e : Reverse Item) → is_gt (item_cmp (wide_item e) (wide_item d)) ≡ is_lt (item_ghosts.cmp d.0 e.0)
 wide_derived d e = grind (arith, not_after, items_derived)
 

@@ -26,13 +26,10 @@ module _ (item : Reverse ℕ → Item) (scored : (k : Reverse ℕ) → score_in 
   pub first_of_least : (s : ℕ) (ks : List (Reverse ℕ)) → HasLeastScore s ks → IsFirstScore s (in_order item ks)
   first_of_least s [] h = absurd h.0
   first_of_least s (k ∷ ks) h =
-      let m = h.1.0 in
-      ⊎_elim
-      (λ e. put_first s (item k) (in_order item ks) (sym e ∙ scored k)
-      (in_order-all item (λ y. s ≤ y.score) ks
-      (all_map (λ j. s ≤ score_in j) (λ j. s ≤ (item j).score) (λ j m. omega (arith, scored j)) ks h.1.1)))
-      (λ r. first_stays s (item k) (in_order item ks) (omega (arith, scored k)) (first_of_least s ks (r, h.1.1)))
-      h.0
+      let scores = in_order-all item (λ y. s ≤ y.score) ks
+      (all_map (λ j. s ≤ score_in j) (λ j. s ≤ (item j).score) (λ j m. omega (arith, scored j)) ks h.1.1) in
+      ⊎_elim (λ e. put_first s (item k) (in_order item ks) (sym e ∙ scored k) scores)
+      (λ r. first_stays s (item k) (in_order item ks) (omega (arith, h.1.0, scored k)) (first_of_least s ks (r, h.1.1))) h.0
 
   pub firsts : (r : Option ℕ) (ks : List (Reverse ℕ)) → MatchOption r (ks ≡ []) (λ s. HasLeastScore s ks)
       → MatchOption r (in_order item ks ≡ []) (λ s. IsFirstScore s (in_order item ks))

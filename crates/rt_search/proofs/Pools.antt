@@ -1,6 +1,6 @@
 -- Keys, those that are near and those that are far.
 use Rattle.std.proofs.Common.{◌≡◌, ◌<◌, ◌≤◌, ◌-◌, ◌/◌, ◌^◌, inl, inr, ℕ, nat_lt, Option, Some, List, [], ◌∷◌}
-use Rattle.std.proofs.Common.{◌++◌, length, take, drop, set, get_or, refl, ⊎_elim, arith}
+use Rattle.std.proofs.Common.{◌++◌, length, take, drop, set, get_or, refl, arith}
 use Rattle.std.proofs.{Common.{IsPermutation}, Math.Nat.{mod-lt}, lemmas.{Bool.Decides.{nat_tests}, Nat.{div-add-mod'}}}
 use Rattle.std.proofs.lemmas.List.{append_assoc, length-set, length-take-le, take-append-drop, take-append-le, take-set}
 use Rattle.std.proofs.lemmas.{List.Sorted.{IsPermutation-to_front, IsPermutation-sym}, Bool.{ltb-false, ltb-true}}
@@ -28,12 +28,10 @@ take-swap_remove xs i d h =
 -- none that is far is lower than one that is near
 pub far_after : (e k : ℕ) (js : List (Reverse ℕ)) → k / 2 ^ 64 ≤ e → AllByRecursion (λ j. e < score_in j) js
     → IsLowest k js
-far_after e k [] h a = tt
-far_after e k (j ∷ js) h a = grind (arith, div-add-mod', nat_tests, mod-lt, far_after e k js h a.1)
+far_after e k js h a = grind (arith, all_map, nat_tests, mod-lt, div-add-mod')
 
 lowest_scores : (k : ℕ) (js : List (Reverse ℕ)) → IsLowest k js → AllByRecursion (λ j. k / 2 ^ 64 ≤ score_in j) js
-lowest_scores k [] a = tt
-lowest_scores k (j ∷ js) a = grind (arith, nat_tests, mod-lt, div-add-mod', lowest_scores k js a.1)
+lowest_scores k js a = grind (arith, all_map, nat_tests, mod-lt, div-add-mod')
 
 -- ---- the first of those near is the least of all
 
@@ -55,7 +53,7 @@ top_score k ks h = grind (arith, lowest_scores)
 
 has_left : (s : ℕ) (ks js : List (Reverse ℕ)) → HasScore s ks → HasScore s (ks ++ js)
 has_left s [] js h = absurd h
-has_left s (k ∷ ks) js h = ⊎_elim inl (λ r. inr (has_left s ks js r)) h
+has_left s (k ∷ ks) js h = grind (arith, has_left s ks js)
 
 has_right : (s : ℕ) (ks js : List (Reverse ℕ)) → HasScore s js → HasScore s (ks ++ js)
 has_right s [] js h = h
@@ -76,7 +74,7 @@ far_more e r ks k h m = grind (arith, all-append, least_more)
 -- a score up to the edge isn't far
 not_far : (s e : ℕ) (ks : List (Reverse ℕ)) → HasScore s ks → s ≤ e → AllByRecursion (λ k. e < score_in k) ks → ⊥
 not_far s e [] h le a = h
-not_far s e (k ∷ ks) h le a = ⊎_elim (λ i. absurd (omega arith)) (λ r. not_far s e ks r le a.1) h
+not_far s e (k ∷ ks) h le a = grind (arith, not_far s e ks)
 
 -- once the edge has passed the least score some are near
 pub some_near : (s e : ℕ) (near far ks js : List (Reverse ℕ)) → HasScore s far → s ≤ e

@@ -20,7 +20,7 @@ positive_sum (k ∷ ks) a = omega (arith, sum_by-cons (λ (k : Node). k.size) k 
 
 -- a node has an entry under it, and no fewer than it has children
 pub size_counts : (t : Packed) (h : ℕ) (n : Node) → IsSubtree t h n → (0 < n.size) × (n.count ≤ n.size)
-size_counts t zero n s = let e = s.size in let p = s.some in (omega arith, omega arith)
+size_counts t zero n s = grind arith
 size_counts t (suc h) n s =
     let sum = positive_sum (child_nodes t n)
     (all_map (IsSubtree t h) (λ k. 0 < k.size) (λ k b. (size_counts t h k b).0) (child_nodes t n) s.below) in

@@ -1,20 +1,19 @@
 -- A search goes on, and keeps no more than its limit makes necessary.
-use Rattle.std.proofs.Common.{◌≡◌, ◌≢◌, ◌<◌, ◌≤◌, ◌+◌, ◌^◌, ◌==◌, ℕ, List, length, map, Option, Some, None, refl, sym}
-use Rattle.std.proofs.{Common.{◌∙◌, ap, subst, arith}, lemmas.Bool.{cond_both, eq-eqb, eqb-false, eqb-true, ne_eqb}}
+use Rattle.std.proofs.Common.{◌≡◌, ◌≢◌, ◌<◌, ◌≤◌, ◌+◌, ◌^◌, ℕ, List, length, map, Option, Some, None, refl, sym, ◌∙◌}
+use Rattle.std.proofs.{Common.{ap, subst, arith}, lemmas.Bool.{eq-eqb, ne_eqb}}
 use Rattle.std.specs.Prelude.{MatchOption}
 use Rattle.rt_geo.specs.{Laws.{Meaning, IsLawful}, declared.geometry.Verdict.{Verdict}}
 use Rattle.rt_tree.specs.Packed.{Packed, IsSound, node_at}
 use Rattle.rt_search.specs.{Answers.{Answer}, Items.{item_at, item_of}, Joining.{join_answers, join_nodes}}
 use Rattle.rt_search.specs.{Kept.{IsRising, IsTakenOut, node_or, taken_entry, taken_item}, Limits.{IsEnough}}
-use Rattle.rt_search.specs.{Limits.{wanted_after}, Progress.{IsFound, IsNodeStep, IsOver, IsSearching, IsTaken}}
-use Rattle.rt_search.specs.{Progress.{IsUnderWay, join_children}, Remaining.{IsOpenable, height_at, remaining}}
-use Rattle.rt_search.specs.{Remaining.{verdict_on}, Walking.{answers_among}, Work.{is_reached, its_children, one_node}}
-use Rattle.rt_search.specs.{Work.{reached_from_root}, declared.item.{Item.{Item}, ScoredNode.{ScoredNode}}}
-use Rattle.rt_search.specs.declared.item.WaitingNode.{WaitingNode}
-use Rattle.rt_search.proofs.{Answering.{take_entry}, Children.{subtree_level}, Limits.{rising_put_all, enough_nodes}}
-use Rattle.rt_search.proofs.Limits.{enough_put_all, enough_trans, first_kept, none_left, rising_nodes}
-use Rattle.rt_search.proofs.Sizes.{size_counts, count_is_fair, done_le, done_upto, held_cons, length_le_held}
-use Rattle.rt_search.proofs.{Sizes.{one_is_fair}, Stepping.{entry_course, inner_step, leaf_step, reached_is}}
+use Rattle.rt_search.specs.{Limits.{wanted_after}, Progress.{IsFound, IsOver, IsSearching, IsTaken, IsUnderWay}}
+use Rattle.rt_search.specs.{Progress.{join_children}, Remaining.{IsOpenable, height_at, remaining, verdict_on}}
+use Rattle.rt_search.specs.{Walking.{answers_among}, Work.{is_reached, its_children, one_node, reached_from_root}}
+use Rattle.rt_search.specs.declared.item.{Item.{Item}, ScoredNode.{ScoredNode}, WaitingNode.{WaitingNode}}
+use Rattle.rt_search.proofs.{Answering.{take_entry}, Limits.{rising_put_all, enough_nodes, enough_put_all}}
+use Rattle.rt_search.proofs.{Limits.{enough_trans, first_kept, none_left, rising_nodes}, Sizes.{size_counts}}
+use Rattle.rt_search.proofs.Sizes.{count_is_fair, done_le, done_upto, held_cons, length_le_held, one_is_fair}
+use Rattle.rt_search.proofs.Stepping.{children_step, entry_course, reached_is}
 use Rattle.rt_tree.specs.declared.tree.Node as node
 use Rattle.rt_search.specs.declared.item.Place.TheVariants as place
 
@@ -85,14 +84,7 @@ module _ {meaning : Meaning} (law : IsLawful meaning) (t : Packed) where
         state = subst (IsSearching meaning t opened asked) k.1.0 u.state;
       } in
       let k' = node_at t n.number.number in
-      let v = verdict_on s n in
-      let found = answers_among t meaning k' k'.count in
-      let level = subtree_level t (height_at t n.number.number) k' taken.state.sound.0.tree in
-      let next = join_children meaning t s n ys in
-      let step : IsNodeStep meaning t opened asked s n ys next =
-      cond_both (k'.level == 1) (join_answers found ys) (join_nodes meaning t v k' k'.count ys)
-      (IsNodeStep meaning t opened asked s n ys) (λ e. leaf_step law t small (eqb-true k'.level 1 e) taken)
-      (λ e. let other = eqb-false k'.level 1 e in inner_step law t small (omega arith) taken) in
+      let step = children_step law t small taken in
       let h = held_cons meaning t x ys in
       let few = length_le_held meaning t ys taken.state.sound.1 in
       let count = (size_counts t (height_at t n.number.number) k' taken.state.sound.0.tree).1 in
@@ -109,11 +101,11 @@ module _ {meaning : Meaning} (law : IsLawful meaning) (t : Packed) where
         opened_upto = done_upto (is_reached None) one_node meaning t (one_is_fair t) opened s n ys opens
             taken.state.opening.in_all;
         next = λ new h. record {
-          all = next;
+          all = join_children meaning t s n ys;
           state = step.state;
           rising = grind (arith, rising_put_all, rising_nodes);
           follows = step.same ∙ ap (remaining t meaning) (sym k.1.0) ∙ u.follows;
-          enough = enough_trans wanted new (join_children meaning t s n xs) next h
+          enough = enough_trans wanted new (join_children meaning t s n xs) (join_children meaning t s n ys) h
               (enough_children meaning t wanted s n xs ys k.1.1);
         };
       }

@@ -2,8 +2,8 @@ use Rattle.std.proofs.lemmas.List.Sorted.{IsPermutation-append_left, IsPermutati
 use Rattle.std.proofs.Common.{◌≡◌, ◌<◌, ◌≤◌, [], ◌∷◌, ◌++◌, length, take, ap, sym, ◌∙◌, subst, arith, IsPermutation}
 use Rattle.std.proofs.lemmas.List.{get_or_default, length-append, take_more}
 use Rattle.std.proofs.lemmas.List.Sorted.{IsPermutation-swap_remove, IsPermutation-trans, length_permutation}
-use Rattle.std.specs.{Prelude.{IsOk}, BinaryHeap.{heap_items}}
-use Rattle.rt_search.specs.Pooling.{IsFar, score_in}
+use Rattle.std.specs.{BinaryHeap.{heap_items}}
+use Rattle.rt_search.specs.Pooling.{score_in}
 use Rattle.rt_search.proofs.{Heaps.{on_ok}, Elements.{all_moved}, Pools.{far_more, take-swap_remove}}
 use Rattle.rt_search.proofs.pool.move_near.Goals as goal
 
@@ -18,46 +18,28 @@ loop-at-preserved-then-score-edge c =
     let key = c.swap_remove-key.result in
     let out : IsPermutation far (key ∷ c.swap_remove-key.new.self.items) =
     subst (λ l. IsPermutation far (key ∷ l)) (sym e.items) (IsPermutation-swap_remove far at key inside e.value) in
-    let counted = i.near.counted in
     let total = length_permutation _ _ i.same in
-    let ok : IsOk c.push-pushed.result =
-    c.push-pushed.ensures.succeeds (omega (arith, length-append near far)) in
-    let joined = on_ok c.push-pushed.result ok c.push-pushed.ensures.permutation in
+    let ok = c.push-pushed.ensures.succeeds (omega (arith, i.near.counted, length-append near far)) in
+    let joined = on_ok _ ok c.push-pushed.ensures.permutation in
     let longer = length_permutation _ _ joined in
-    let long = on_ok c.push-pushed.result ok c.push-pushed.ensures.len in
+    let long = on_ok _ ok c.push-pushed.ensures.len in
     let read : c.index.result.now ≡ key =
     c.index.ensures ∙ get_or_default far at c.index.result.now key inside ∙ sym e.value in
     let low : score_in key ≤ c.args.edge = rw (← read) (omega arith) in
     let left = length_permutation _ _ out in
-    record {
-      near = record {
-        ordered = on_ok c.push-pushed.result ok c.push-pushed.ensures.heap_order i.near.ordered;
-        counted = omega arith;
-        low = all_moved (λ k. score_in k ≤ c.args.edge) (key ∷ near) _ joined (low, i.near.low);
-      };
-      far = subst (λ l. IsFar l c.args.edge c.loop-at.least) (sym (ap (take at) e.items ∙ take-swap_remove far at key inside)) i.far;
-      reached = omega arith;
-      same = IsPermutation-trans _ _ _ i.same
-          (IsPermutation-trans _ _ _ (IsPermutation-append_right near far (key ∷ _) out)
-          (IsPermutation-trans _ _ _ (IsPermutation-middle near key _)
-          (IsPermutation-append_left _ (key ∷ near) _ joined)));
-      near_capacity = omega arith;
-      far_capacity = e.capacity ∙ i.far_capacity;
-    }
+    let ordered = on_ok _ ok c.push-pushed.ensures.heap_order i.near.ordered in
+    let lows = all_moved (λ k. score_in k ≤ c.args.edge) (key ∷ near) _ joined (low, i.near.low) in
+    let before = take-swap_remove far at key inside in
+    let same = IsPermutation-trans _ _ _ i.same
+    (IsPermutation-trans _ _ _ (IsPermutation-append_right near far (key ∷ _) out)
+    (IsPermutation-trans _ _ _ (IsPermutation-middle near key _)
+    (IsPermutation-append_left _ (key ∷ near) _ joined))) in
+    grind arith
 
 pub loop-at-preserved : goal.loop-at-preserved
 loop-at-preserved c =
-    let i = c.loop-at.invariant in
     let far = c.loop-at.far.items in
     let at = c.loop-at.at in
     let inside : at < length far = omega arith in
-    let score = c.score_of-score.ensures in
     let next = take_more far at c.index.result.now inside ∙ ap (λ k. take at far ++ k ∷ []) (sym c.index.ensures) in
-    record {
-      near = i.near;
-      far = grind (arith, far_more);
-      reached = omega arith;
-      same = i.same;
-      near_capacity = i.near_capacity;
-      far_capacity = i.far_capacity;
-    }
+    grind (arith, far_more)

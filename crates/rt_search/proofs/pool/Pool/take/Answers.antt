@@ -1,8 +1,6 @@
-use Rattle.std.proofs.Common.{arith}
+use Rattle.std.proofs.{Common.{arith, false, ◌≡◌, ◌≤◌, ◌∷◌, ◌++◌}, lemmas.List.Sorted.{IsPermutation-append_left}}
+use Rattle.std.proofs.lemmas.List.{Sorted.{IsPermutation-trans, length_permutation}, nil_from_length}
 use Rattle.std.specs.{Ordering.{is_lt, nat_cmp}, BinaryHeap.{heap_items}}
-use Rattle.std.proofs.lemmas.List.Sorted.{IsPermutation-append_left, IsPermutation-trans, length_permutation}
-use Rattle.std.proofs.Common.{false, ◌≡◌, ◌≤◌, ◌∷◌, ◌++◌}
-use Rattle.std.proofs.lemmas.List.{nil_from_length}
 use Rattle.rt_search.specs.Pooling.{score_in}
 use Rattle.rt_search.proofs.{Elements.{all-append, all_moved}, Pools.{far_after}}
 use Rattle.rt_search.proofs.pool.Pool.take.Goals as goal
@@ -12,21 +10,13 @@ returns-in_err-top-clause-keys c = grind (arith, length_permutation, nil_from_le
 
 pub invariant_of-self-2 : goal.invariant_of-self-2
 invariant_of-self-2 c =
-    let k = c.self.invariant in
+    let k = c.self.invariant.inside in
     let e = c.in_ok-top.ensures in
+    let one_less = length_permutation _ _ e.permutation in
     let total = length_permutation _ _ (IsPermutation-append_left c.self.inside.far.items _ _ e.permutation) in
-    record {
-      inside = record {
-        ordered = (e.heap_order k.inside.ordered).0;
-        counted = omega (arith, length_permutation _ _ e.permutation);
-        low = (all_moved (λ j. score_in j ≤ c.self.inside.edge) (heap_items c.self.inside.near) (c.in_ok-top.top ∷ _)
-            e.permutation k.inside.low).1;
-      };
-      outside = k.outside;
-      near_room = rw e.capacity k.near_room;
-      far_room = k.far_room;
-      few = omega arith;
-    }
+    let low = all_moved (λ j. score_in j ≤ c.self.inside.edge) _ (c.in_ok-top.top ∷ _) e.permutation k.low in
+    let ordered = e.heap_order k.ordered in
+    grind arith
 
 pub returns-clause-keys : goal.returns-clause-keys
 returns-clause-keys c =

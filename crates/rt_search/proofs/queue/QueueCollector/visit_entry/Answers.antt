@@ -1,5 +1,4 @@
-use Rattle.std.proofs.Common.{arith, rules}
-use Rattle.std.proofs.{Common.{◌≤◌, ◌+◌, length, refl, ℤ, ◌∙◌, ap, subst, w64}, lemmas.Int.{to_z-of_z}}
+use Rattle.std.proofs.{Common.{arith, rules, ◌+◌, length, refl, ℤ, ◌∙◌, ap, subst, w64}, lemmas.Int.{to_z-of_z}}
 use Rattle.rt_tree.specs.Sorting.{put}
 use Rattle.rt_search.specs.{Items.{item_at, item_cmp}, Kept.{in_order, node_item, queued}, Pooling.{keys_in}}
 use Rattle.rt_search.specs.{Limits.{IsEnough}, Remaining.{put_all}}
@@ -22,23 +21,9 @@ put-requires-2 c = grind (arith, length-queued)
 
 pub invariant_of-self-2 : goal.invariant_of-self-2
 invariant_of-self-2 c =
-    let h = rw (← c.self.view_is) at c.requires in
-    let k = c.self.invariant in
-    let e = c.put-2.ensures in
-    let nodes = keys_in c.self.inside.nodes in
-    let long = length-queued nodes c.self.inside.entries.items c.self.inside.wide.items in
-    let longer = length-queued nodes c.put-2.new.self.items c.self.inside.wide.items in
-    let one_more : length c.put-2.new.self.items ≤ length c.self.inside.entries.items + 1 =
-    enough_fits c.self.inside.entries.wanted _ c.self.inside.entries.items _ (length c.self.inside.entries.items + 1)
-    e.items (omega arith) in
-    record {
-      nodes_room = k.nodes_room;
-      entries_room = e.capacity ∙ k.entries_room;
-      wide_room = k.wide_room;
-      few = omega arith;
-      low = k.low;
-      high = k.high;
-    }
+    let one_more = enough_fits c.self.inside.entries.wanted _ c.self.inside.entries.items _ (length c.self.inside.entries.items + 1)
+    c.put-2.ensures.items (omega arith) in
+    grind (arith, length-queued)
 
 pub returns : goal.returns
 returns c =
