@@ -1,5 +1,5 @@
 use Rattle.std.proofs.lemmas.List.Sorted.{IsPermutation-append_left, IsPermutation-append_right, IsPermutation-middle}
-use Rattle.std.proofs.Common.{◌≡◌, ◌<◌, ◌≤◌, [], ◌∷◌, ◌++◌, length, take, ap, sym, ◌∙◌, subst, arith, IsPermutation}
+use Rattle.std.proofs.Common.{◌<◌, ◌≤◌, [], ◌∷◌, ◌++◌, length, take, ap, sym, ◌∙◌, arith}
 use Rattle.std.proofs.lemmas.List.{get_or_default, length-append, take_more}
 use Rattle.std.proofs.lemmas.List.Sorted.{IsPermutation-swap_remove, IsPermutation-trans, length_permutation}
 use Rattle.std.specs.{BinaryHeap.{heap_items}}
@@ -16,18 +16,16 @@ loop-at-preserved-then-score-edge c =
     let inside : at < length far = omega arith in
     let e = c.swap_remove-key.ensures in
     let key = c.swap_remove-key.result in
-    let out : IsPermutation far (key ∷ c.swap_remove-key.new.self.items) =
-    subst (λ l. IsPermutation far (key ∷ l)) (sym e.items) (IsPermutation-swap_remove far at key inside e.value) in
+    let out = rw (← e.items) at (IsPermutation-swap_remove far at key inside e.value) in
     let total = length_permutation _ _ i.same in
     let ok = c.push-pushed.ensures.succeeds (omega (arith, i.near.counted, length-append near far)) in
     let joined = on_ok _ ok c.push-pushed.ensures.permutation in
     let longer = length_permutation _ _ joined in
-    let long = on_ok _ ok c.push-pushed.ensures.len in
-    let read : c.index.result.now ≡ key =
-    c.index.ensures ∙ get_or_default far at c.index.result.now key inside ∙ sym e.value in
-    let low : score_in key ≤ c.args.edge = rw (← read) (omega arith) in
     let left = length_permutation _ _ out in
+    let long = on_ok _ ok c.push-pushed.ensures.len in
+    let read = get_or_default far at c.index.result.now key inside in
     let ordered = on_ok _ ok c.push-pushed.ensures.heap_order i.near.ordered in
+    let low : score_in key ≤ c.args.edge = grind arith in
     let lows = all_moved (λ k. score_in k ≤ c.args.edge) (key ∷ near) _ joined (low, i.near.low) in
     let before = take-swap_remove far at key inside in
     let same = IsPermutation-trans _ _ _ i.same

@@ -1,6 +1,6 @@
-use Rattle.std.proofs.{Common.{arith, false, ◌≡◌, ◌≤◌, ◌∷◌, ◌++◌}, lemmas.List.Sorted.{IsPermutation-append_left}}
+use Rattle.std.proofs.{Common.{arith, false, ◌≡◌, ◌≤◌, ◌∷◌}, lemmas.List.Sorted.{IsPermutation-append_left}}
 use Rattle.std.proofs.lemmas.List.{Sorted.{IsPermutation-trans, length_permutation}, nil_from_length}
-use Rattle.std.specs.{Ordering.{is_lt, nat_cmp}, BinaryHeap.{heap_items}}
+use Rattle.std.specs.{Ordering.{is_lt, nat_cmp}}
 use Rattle.rt_search.specs.Pooling.{score_in}
 use Rattle.rt_search.proofs.{Elements.{all-append, all_moved}, Pools.{far_after}}
 use Rattle.rt_search.proofs.pool.Pool.take.Goals as goal
@@ -20,16 +20,12 @@ invariant_of-self-2 c =
 
 pub returns-clause-keys : goal.returns-clause-keys
 returns-clause-keys c =
-    let near = heap_items c.self.inside.near in
-    let far = c.self.inside.far.items in
-    IsPermutation-trans _ (near ++ far) _ (rw (← c.self.view_is) at c.fill.ensures.same)
-    (IsPermutation-append_left far near (c.in_ok-top.top ∷ heap_items c.pop.new.self) c.in_ok-top.ensures.permutation)
+    IsPermutation-trans _ _ _ (rw (← c.self.view_is) at c.fill.ensures.same)
+    (IsPermutation-append_left c.self.inside.far.items c.self.inside.near.data.items _ c.in_ok-top.ensures.permutation)
 
 pub returns-clause-least : goal.returns-clause-least
 returns-clause-least c =
-    let k = c.self.invariant in
     let e = c.in_ok-top.ensures in
-    let top = c.in_ok-top.top in
-    let low = (all_moved (λ j. score_in j ≤ c.self.inside.edge) _ (top ∷ _) e.permutation k.inside.low).0 in
-    all-append (λ j. is_lt (nat_cmp j.0 top.0) ≡ false) (heap_items c.pop.new.self) _ (e.below_top k.inside.ordered)
-    (far_after c.self.inside.edge top.0 _ low k.outside.high)
+    let low = all_moved (λ j. score_in j ≤ c.self.inside.edge) _ (c.in_ok-top.top ∷ _) e.permutation c.self.invariant.inside.low in
+    all-append (λ j. is_lt (nat_cmp j.0 c.in_ok-top.top.0) ≡ false) _ _ (e.below_top c.self.invariant.inside.ordered)
+    (far_after c.self.inside.edge c.in_ok-top.top.0 _ low.0 c.self.invariant.outside.high)

@@ -1,6 +1,6 @@
-use Rattle.std.proofs.{Common.{arith, rules, ◌+◌, length, refl, ℤ, ◌∙◌, ap, subst, w64}, lemmas.Int.{to_z-of_z}}
+use Rattle.std.proofs.{Common.{arith, ◌+◌, length, refl, w64}, lemmas.Int.{to_z-of_z}}
 use Rattle.rt_tree.specs.Sorting.{put}
-use Rattle.rt_search.specs.{Items.{item_at, item_cmp}, Kept.{in_order, node_item, queued}, Pooling.{keys_in}}
+use Rattle.rt_search.specs.{Items.{item_at, item_cmp}, Kept.{in_order, node_item}, Pooling.{keys_in}}
 use Rattle.rt_search.specs.{Limits.{IsEnough}, Remaining.{put_all}}
 use Rattle.rt_search.proofs.{Limits.{enough_fits, enough_joined, enough_same}, Merging.{length-queued, put-put_all}}
 use Rattle.rt_search.proofs.{OrderedLists.{length-put, put-all}, Orders.{item_order}}
@@ -29,23 +29,10 @@ pub returns : goal.returns
 returns c =
     let w = c.self.inside.entries.wanted in
     let nodes = in_order node_item (keys_in c.self.inside.nodes) in
-    let wide = c.self.inside.wide.items in
     let old = c.self.inside.entries.items in
     let new = c.put-2.new.self.items in
-    let at : ℤ → _ = λ i. item_at c.args.score (place.Entry i) in
-    let e = c.put-2.ensures in
-    rw c.if-not-is_accepted.false (
-      _,
-      (
-        record {
-          items = subst (λ v. IsEnough v.wanted (queued (keys_in c.self.inside.nodes) new wide)
-              (put item_cmp (at c.args.id) v.items)) c.self.view_is
-              (enough_joined w (at c.args.id) wide (put_all item_cmp nodes old) (put_all item_cmp nodes new)
-              (enough_joined w (at c.args.id) nodes old new
-              (subst (λ i. IsEnough w new (put item_cmp (at i) old)) (to_z-of_z w64 c.args.id (search rules)) e.items)));
-          wanted = e.wanted ∙ ap (λ w. w.wanted) c.self.view_is;
-          capacity = ap (λ w. w.capacity) c.self.view_is;
-        },
-        refl,
-      ),
-    )
+    let x = item_at c.args.score (place.Entry c.args.id) in
+    let here : IsEnough w new (put item_cmp x old) = grind (arith, to_z-of_z, w64) in
+    let items = enough_joined w x c.self.inside.wide.items (put_all item_cmp nodes old) (put_all item_cmp nodes new)
+    (enough_joined w x nodes old new here) in
+    rw (c.if-not-is_accepted.false, ← c.self.view_is) (_, (record { items = items; wanted = c.put-2.ensures.wanted; capacity = refl }, refl))
