@@ -1,6 +1,6 @@
 -- What opening a node means for the answers to come.
 use Rattle.std.proofs.Common.{◌≡◌, ◌<◌, ◌≤◌, ◌+◌, ◌-◌, ◌^◌, ℕ, zero, suc, true, false, List, [], ◌∷◌, ◌++◌, length}
-use Rattle.std.proofs.{Common.{take, refl, sym, ◌∙◌, ap, arith, add-one}, lemmas.{Bool.{cond_both}, List.{append-nil}}}
+use Rattle.std.proofs.{Common.{take, refl, arith, add-one}, lemmas.{Bool.{cond_both}, List.{append-nil}}}
 use Rattle.rt_geo.specs.{Laws.{Meaning, IsLawful, IsQuestion, extent_of}, declared.geometry.Info.{Info}}
 use Rattle.rt_geo.specs.declared.geometry.{Verdict.{Verdict}, Within.{Within, TheVariants.{Not}}}
 use Rattle.rt_tree.specs.{Packed.{Packed, IsSound, IsSubtree, child_nodes, extent_of_node, node_at}, Sorting.{put}}
@@ -87,14 +87,12 @@ module _ {meaning : Meaning} (law : IsLawful meaning) (t : Packed) where
           let w = (meaning.verdict info).within in
           let ys = join_nodes meaning t v (node_at t number) i xs in
           let x = item_at (meaning.verdict info).score (place.Node (waiting_node m w)) in
-          cond_both (is_kept w) (put item_cmp x ys) ys (λ l. R l ≡ put_all answer_cmp those (R ys))
+          let here = cond_both (is_kept w) (put item_cmp x ys) ys (λ l. R l ≡ put_all answer_cmp those (R ys))
           (λ h. remaining-put meaning t x ys) (λ h.
           let never = law.faithful.pruning info (child_question i lt) k.level (kept_not w h) in
-          grind (arith, among_none, all_inside))
-          ∙ ap (put_all answer_cmp those) (nodes_upto xs i (omega arith))
-          ∙ put_all-put_all answer_cmp answer_order those (answers_upto opened high i) (R xs)
-          ∙ sym (put_all-append answer_cmp answer_order (answers_upto opened high i) those (R xs))
-          ∙ ap (λ l. put_all answer_cmp l (R xs)) (rw (add-one i) at (upto_more opened high i lt))
+          grind (arith, among_none, all_inside)) in
+          let more = rw (add-one i) at (upto_more opened high i lt) in
+          grind (arith, put_all-put_all, answer_order, put_all-append, nodes_upto xs i (omega arith))
 
       pub nodes_sound : (xs : List Item) (i : ℕ) → i ≤ (node_at t number).count → AllSound t meaning xs
           → AllSound t meaning (join_nodes meaning t v (node_at t number) i xs)

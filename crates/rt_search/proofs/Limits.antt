@@ -1,5 +1,5 @@
 -- What may be left out where a limit is known.
-use Rattle.std.proofs.Common.{◌≡◌, ◌≢◌, ◌≤◌, ◌<◌, ◌-◌, ℕ, zero, suc, Bool, cond, Option, Some, None, List, [], ◌∷◌}
+use Rattle.std.proofs.Common.{◌≡◌, ◌≢◌, ◌≤◌, ◌-◌, ℕ, zero, suc, Bool, cond, Option, Some, None, List, [], ◌∷◌}
 use Rattle.std.proofs.Common.{length, refl, sym, ◌∙◌, ap, arith}
 use Rattle.rt_geo.specs.{Laws.{Meaning}, declared.geometry.Verdict.{Verdict}}
 use Rattle.rt_tree.specs.{Packed.{Packed}, Sorting.{put}}
@@ -39,7 +39,7 @@ same_put x xs ys (Some n) h = sym (front-put x xs n) ∙ ap (λ l. front (put it
 -- ---- enough is kept
 
 pub enough_itself : (wanted : Option ℕ) (xs : List Item) → IsEnough wanted xs xs
-enough_itself wanted xs = record { same = refl; few = omega arith }
+enough_itself wanted xs = grind arith
 
 pub enough_trans : (wanted : Option ℕ) (xs ys zs : List Item) → IsEnough wanted xs ys → IsEnough wanted ys zs
     → IsEnough wanted xs zs
@@ -63,10 +63,6 @@ pub enough_joined : (wanted : Option ℕ) (x : Item) (zs old new : List Item) �
     → IsEnough wanted (put_all item_cmp zs new) (put item_cmp x (put_all item_cmp zs old))
 enough_joined wanted x zs old new h =
     grind (arith, put_all-put, item_order, enough_put_all wanted zs new (put item_cmp x old) h)
-
-pub enough_fits : (wanted : Option ℕ) (x : Item) (old new : List Item) (capacity : ℕ)
-    → IsEnough wanted new (put item_cmp x old) → length old < capacity → length new ≤ capacity
-enough_fits wanted x old new capacity h lt = omega (arith, length-put item_cmp item_order x old)
 
 -- of an empty list and another neither has any
 pub none_merged : (xs ys : List Item) → put_all item_cmp xs ys ≡ [] → ys ≡ []
@@ -111,7 +107,7 @@ none_left (Some (suc n)) (x ∷ all) more h = grind arith
 
 pub first_kept : (wanted : Option ℕ) (x : Item) (xs all : List Item) → wanted ≢ Some 0 → IsEnough wanted (x ∷ xs) all
     → (ys : List Item) × ((all ≡ x ∷ ys) × IsEnough (less_at x.place wanted) xs ys)
-first_kept None x xs all more h = grind (arith, enough_itself)
+first_kept None x xs all more h = (xs, grind arith)
 first_kept (Some zero) x xs all more h = absurd (more refl)
 first_kept (Some (suc n)) x xs [] more h = grind arith
 first_kept (Some (suc n)) x xs (y ∷ ys) more h = grind arith

@@ -5,7 +5,7 @@ use Rattle.std.specs.{Prelude.{IfSome, MatchBool, MatchOption}, List.{AllByRecur
 use Rattle.std.specs.Ordering.{is_gt}
 use Rattle.rt_tree.specs.Sorting.{put}
 use Rattle.rt_search.specs.{Items.{item_cmp}, Kept.{queued, IsAhead, IsEntry, IsFirstScore, IsLeast, IsNode}}
-use Rattle.rt_search.specs.{Kept.{IsTakenOut, hits_in, narrow, offered}, Remaining.{put_all}, declared.item.Item.{Item}}
+use Rattle.rt_search.specs.{Kept.{IsTakenOut, hits_in}, Remaining.{put_all}, declared.item.Item.{Item}}
 use Rattle.rt_search.proofs.{Heaps.{length-in_order}, Orders.{item_order, node_before}, Elements.{all_both, all_map}}
 use Rattle.rt_search.proofs.OrderedLists.{put_all-put, put_least, IsOrder, length-put_all, put-put, put_all-all}
 
@@ -22,13 +22,6 @@ length-queued nodes entries wide = grind (arith, length-put_all, item_order, len
 pub length-hits : (ids : List (Reverse ℤ)) (keys : List (Reverse ℕ)) (wide : List Item) → length (hits_in ids keys wide)
     ≡ length ids + length keys + length wide
 length-hits ids keys wide = grind (arith, length-put_all, item_order, length-in_order)
-
--- ---- an item that joins where it is wanted
-
--- it joins the left list, or the right one, or the whole
-pub offered_left : (b : Bool) (x : Item) (xs ys : List Item)
-    → put_all item_cmp (offered b x xs) ys ≡ offered b x (put_all item_cmp xs ys)
-offered_left b x xs ys = grind (arith, put-put_all, item_order)
 
 -- ---- what a call that takes from one of the lists takes from both
 
@@ -95,10 +88,6 @@ pub narrow_ahead : (r : Option Item) (old new wide : List Item) → MatchOption 
     → IsTakenOut r old new → IfSome r (λ x. x.score < 2 ^ 64) → AllByRecursion (λ y. 2 ^ 64 ≤ y.score) wide
     → IsAhead old wide
 narrow_ahead r old new wide some t low high = grind (arith, lower_least)
-
--- where there was none, the wide items are
-pub wide_ahead : (narrow wide : List Item) → narrow ≡ [] → IsAhead wide narrow
-wide_ahead narrow wide e = grind arith
 
 pub none_taken : (r : Option Item) (old new : List Item) → MatchOption r (false ≡ false) (λ _. false ≡ true)
     → IsTakenOut r old new → (old ≡ []) × (new ≡ [])

@@ -1,6 +1,6 @@
 -- Keys, those that are near and those that are far.
-use Rattle.std.proofs.Common.{◌≡◌, ◌<◌, ◌≤◌, ◌-◌, ◌/◌, ◌^◌, inl, inr, ℕ, nat_lt, Option, Some, List, [], ◌∷◌}
-use Rattle.std.proofs.Common.{◌++◌, length, take, drop, set, get_or, refl, arith}
+use Rattle.std.proofs.Common.{◌≡◌, ◌<◌, ◌≤◌, ◌-◌, ◌/◌, ◌^◌, inr, ℕ, nat_lt, Option, Some, List, [], ◌∷◌}
+use Rattle.std.proofs.Common.{◌++◌, length, take, drop, set, get_or, arith}
 use Rattle.std.proofs.{Common.{IsPermutation}, Math.Nat.{mod-lt}, lemmas.{Bool.Decides.{nat_tests}, Nat.{div-add-mod'}}}
 use Rattle.std.proofs.lemmas.List.{append_assoc, length-set, length-take-le, take-append-drop, take-append-le, take-set}
 use Rattle.std.proofs.lemmas.{List.Sorted.{IsPermutation-to_front, IsPermutation-sym}, Bool.{ltb-false, ltb-true}}
@@ -59,13 +59,10 @@ has_right : (s : ℕ) (ks js : List (Reverse ℕ)) → HasScore s js → HasScor
 has_right s [] js h = h
 has_right s (k ∷ ks) js h = inr (has_right s ks js h)
 
-has_last : (ks : List (Reverse ℕ)) (k : Reverse ℕ) → HasScore (score_in k) (ks ++ k ∷ [])
-has_last ks k = has_right (score_in k) ks (k ∷ []) (inl refl)
-
 -- after one more
 least_more : (r : Option ℕ) (ks : List (Reverse ℕ)) (k : Reverse ℕ) → MatchOption r (ks ≡ []) (λ s. HasLeastScore s ks)
     → HasLeastScore (lesser r (score_in k)) (ks ++ k ∷ [])
-least_more r ks k h = grind (arith, nat_lt, ltb-true, has_last, all-append, all_map, ltb-false, has_left)
+least_more r ks k h = grind (arith, nat_lt, ltb-true, has_right, all-append, all_map, ltb-false, has_left)
 
 pub far_more : (e : ℕ) (r : Option ℕ) (ks : List (Reverse ℕ)) (k : Reverse ℕ) → IsFar ks e r → e < score_in k
     → IsFar (ks ++ k ∷ []) e (Some (lesser r (score_in k)))

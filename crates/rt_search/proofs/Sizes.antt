@@ -80,24 +80,15 @@ module _ (opens : Verdict → Bool) (cost : Node → ℕ) (meaning : Meaning) (t
   pub work_le : IsSound t → reached_from_root opens cost meaning t ≤ 2 ^ 32
   work_le sound = grind (arith, nat_tests, length_permutation, size_under, mul-le, work_from_le)
 
-  cost_le_work : (h : ℕ) (v : Verdict) (n : Node) → cost n ≤ reached opens cost meaning t h v n
-  cost_le_work h v n = grind arith
-
   -- opening a node that waits is part of the work
   pub done_upto : (done s : ℕ) (n : WaitingNode) (xs : List Item) → opens (verdict_on s n) ≡ true
       → done + work_left opens cost meaning t (item_at s (place.Node n) ∷ xs) ≡ reached_from_root opens cost meaning t
       → done + cost (node_at t n.number.number) ≤ reached_from_root opens cost meaning t
   done_upto done s n xs open' course =
       let k = node_at t n.number.number in
-      let least = cost_le_work (height_at t n.number.number) (verdict_on s n) k in
+      let least : cost k ≤ reached opens cost meaning t (height_at t n.number.number) (verdict_on s n) k = grind arith in
       let whole = work_cons opens cost meaning t (item_at s (place.Node n)) xs in
       grind (arith, open')
-
-  -- and keeps the work done small
-  pub done_le : IsSound t → (done s : ℕ) (n : WaitingNode) (xs : List Item) → opens (verdict_on s n) ≡ true
-      → done + work_left opens cost meaning t (item_at s (place.Node n) ∷ xs) ≡ reached_from_root opens cost meaning t
-      → done + cost (node_at t n.number.number) ≤ 2 ^ 32
-  done_le sound done s n xs open' course = omega (arith, work_le sound, done_upto done s n xs open' course)
 
 -- ---- room
 

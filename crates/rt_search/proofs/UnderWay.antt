@@ -12,7 +12,7 @@ use Rattle.rt_search.specs.{Walking.{answers_among}, Work.{is_reached, its_child
 use Rattle.rt_search.specs.declared.item.{Item.{Item}, ScoredNode.{ScoredNode}, WaitingNode.{WaitingNode}}
 use Rattle.rt_search.proofs.{Answering.{take_entry}, Limits.{rising_put_all, enough_nodes, enough_put_all}}
 use Rattle.rt_search.proofs.{Limits.{enough_trans, first_kept, none_left, rising_nodes}, Sizes.{size_counts}}
-use Rattle.rt_search.proofs.Sizes.{count_is_fair, done_le, done_upto, held_cons, length_le_held, one_is_fair}
+use Rattle.rt_search.proofs.Sizes.{count_is_fair, done_upto, work_le, held_cons, length_le_held, one_is_fair}
 use Rattle.rt_search.proofs.Stepping.{children_step, entry_course, reached_is}
 use Rattle.rt_tree.specs.declared.tree.Node as node
 use Rattle.rt_search.specs.declared.item.Place.TheVariants as place
@@ -83,30 +83,27 @@ module _ {meaning : Meaning} (law : IsLawful meaning) (t : Packed) where
         least = up.0;
         state = subst (IsSearching meaning t opened asked) k.1.0 u.state;
       } in
+      let state = taken.state in
       let k' = node_at t n.number.number in
       let step = children_step law t small taken in
       let h = held_cons meaning t x ys in
-      let few = length_le_held meaning t ys taken.state.sound.1 in
-      let count = (size_counts t (height_at t n.number.number) k' taken.state.sound.0.tree).1 in
-      let r = taken.state.room in
-      let opens = reached_is None s n in
+      let few = length_le_held meaning t ys state.sound.1 in
+      let count = (size_counts t (height_at t n.number.number) k' state.sound.0.tree).1 in
+      let opened_upto = done_upto (is_reached None) one_node meaning t (one_is_fair t) opened s n ys (reached_is None s n) state.opening.in_all in
+      let asked_upto = done_upto (is_reached None) its_children meaning t (count_is_fair t) asked s n ys (reached_is None s n) state.asking.in_all in
       record {
-        tree = taken.state.tree;
-        node = taken.state.sound.0;
-        room = omega arith;
-        opened_low = done_le (is_reached None) one_node meaning t (one_is_fair t) taken.state.tree opened s n ys opens
-            taken.state.opening.in_all;
-        asked_low = done_le (is_reached None) its_children meaning t (count_is_fair t) taken.state.tree asked s n ys
-            opens taken.state.asking.in_all;
-        opened_upto = done_upto (is_reached None) one_node meaning t (one_is_fair t) opened s n ys opens
-            taken.state.opening.in_all;
+        tree = state.tree;
+        node = state.sound.0;
+        room = omega (arith, state.room);
+        opened_low = omega (arith, work_le (is_reached None) one_node meaning t (one_is_fair t) state.tree);
+        asked_low = omega (arith, work_le (is_reached None) its_children meaning t (count_is_fair t) state.tree);
+        opened_upto = opened_upto;
         next = λ new h. record {
           all = join_children meaning t s n ys;
           state = step.state;
           rising = grind (arith, rising_put_all, rising_nodes);
           follows = step.same ∙ ap (remaining t meaning) (sym k.1.0) ∙ u.follows;
-          enough = enough_trans wanted new (join_children meaning t s n xs) (join_children meaning t s n ys) h
-              (enough_children meaning t wanted s n xs ys k.1.1);
+          enough = enough_trans wanted new (join_children meaning t s n xs) _ h (enough_children meaning t wanted s n xs ys k.1.1);
         };
       }
 

@@ -1,6 +1,6 @@
 use Rattle.std.proofs.Common.{arith, rules, ◌≤◌, ◌^◌}
 use Rattle.rt_search.specs.{Kept.{in_order, node_item, taken_item}, Pooling.{keys_in}}
-use Rattle.rt_search.proofs.{Limits.{none_merged, still_none}, Merging.{taken_right, wide_ahead, fewer_left}}
+use Rattle.rt_search.proofs.{Limits.{none_merged, still_none}, Merging.{taken_right, fewer_left}}
 use Rattle.rt_search.proofs.Merging.{fewer_right, left-all, narrow_ahead, none_taken, taken_left}
 use Rattle.rt_search.proofs.queue.Queue.take.Goals as goal
 
@@ -29,4 +29,4 @@ invariant_of-self-2 c =
     grind arith
 
 pub returns : goal.returns
-returns c = grind (arith, none_taken, still_none, taken_left, wide_ahead)
+returns c = grind (arith, none_taken, still_none, taken_left)

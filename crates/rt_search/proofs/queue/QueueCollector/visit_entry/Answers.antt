@@ -1,8 +1,8 @@
-use Rattle.std.proofs.{Common.{arith, ◌+◌, length, refl, w64}, lemmas.Int.{to_z-of_z}}
+use Rattle.std.proofs.{Common.{arith, refl, w64}, lemmas.Int.{to_z-of_z}}
 use Rattle.rt_tree.specs.Sorting.{put}
 use Rattle.rt_search.specs.{Items.{item_at, item_cmp}, Kept.{in_order, node_item}, Pooling.{keys_in}}
 use Rattle.rt_search.specs.{Limits.{IsEnough}, Remaining.{put_all}}
-use Rattle.rt_search.proofs.{Limits.{enough_fits, enough_joined, enough_same}, Merging.{length-queued, put-put_all}}
+use Rattle.rt_search.proofs.{Limits.{enough_joined, enough_same}, Merging.{length-queued, put-put_all}}
 use Rattle.rt_search.proofs.{OrderedLists.{length-put, put-all}, Orders.{item_order}}
 use Rattle.rt_search.specs.declared.item.Place.TheVariants as place
 use Rattle.rt_search.proofs.queue.QueueCollector.visit_entry.Goals as goal
@@ -20,10 +20,7 @@ pub put-requires-2 : goal.put-requires-2
 put-requires-2 c = grind (arith, length-queued)
 
 pub invariant_of-self-2 : goal.invariant_of-self-2
-invariant_of-self-2 c =
-    let one_more = enough_fits c.self.inside.entries.wanted _ c.self.inside.entries.items _ (length c.self.inside.entries.items + 1)
-    c.put-2.ensures.items (omega arith) in
-    grind (arith, length-queued)
+invariant_of-self-2 c = grind (arith, length-queued, length-put, item_order)
 
 pub returns : goal.returns
 returns c =
