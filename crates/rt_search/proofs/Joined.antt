@@ -1,13 +1,12 @@
 -- What opening a node means for the answers to come.
-use Rattle.std.proofs.Common.{◌≡◌, ◌<◌, ◌≤◌, ◌+◌, ◌-◌, ◌^◌, ℕ, zero, suc, true, false, List, [], ◌∷◌, ◌++◌, length}
-use Rattle.std.proofs.{Common.{take, refl, arith, add-one}, lemmas.{Bool.{cond_both}, List.{append-nil}}}
-use Rattle.rt_geo.specs.{Laws.{Meaning, IsLawful, IsQuestion, extent_of}, declared.geometry.Info.{Info}}
-use Rattle.rt_geo.specs.declared.geometry.{Verdict.{Verdict}, Within.{Within, TheVariants.{Not}}}
-use Rattle.rt_tree.specs.{Packed.{Packed, IsSound, IsSubtree, child_nodes, extent_of_node, node_at}, Sorting.{put}}
-use Rattle.rt_search.specs.{Answers.{Answer, answer_cmp}, Items.{item_at, item_cmp}, Joining.{join_answers, join_node}}
-use Rattle.rt_search.specs.{Joining.{join_nodes}, Remaining.{verdict_on, waiting_node, AllSound, IsBelow, IsOpenable}}
-use Rattle.rt_search.specs.{Remaining.{height_at, put_all, remaining}, Walking.{answers_under}, Work.{info_of_node}}
-use Rattle.rt_search.specs.{Work.{is_kept}, declared.item.Item.{Item}}
+use Rattle.std.proofs.Common.{◌≡◌, ◌<◌, ◌≤◌, ◌+◌, ◌-◌, ◌^◌, ℕ, zero, suc, true, false, List, [], ◌∷◌, ◌++◌, take, refl}
+use Rattle.std.proofs.{Common.{arith, add-one}, lemmas.{Bool.{cond_both}, List.{append-nil}}}
+use Rattle.rt_geo.specs.{Laws.{Meaning, IsLawful, IsQuestion}, declared.geometry.{Verdict.{Verdict}, Within.{Within}}}
+use Rattle.rt_geo.specs.declared.geometry.Within.TheVariants.{Not}
+use Rattle.rt_tree.specs.{Packed.{Packed, IsSound, child_nodes, node_at}, Sorting.{put}}
+use Rattle.rt_search.specs.{Answers.{Answer, answer_cmp}, Items.{item_at, item_cmp}, Joining.{join_answers, join_nodes}}
+use Rattle.rt_search.specs.Remaining.{verdict_on, waiting_node, AllSound, IsOpenable, height_at, put_all, remaining}
+use Rattle.rt_search.specs.{Walking.{answers_under}, Work.{info_of_node, is_kept}, declared.item.Item.{Item}}
 use Rattle.rt_search.proofs.Answering.{AllSound-put, among, among_none, all_inside, remaining-put, take_more_at}
 use Rattle.rt_search.proofs.{Answering.{under_all, under_all-append}, Children.{all_children, child, height_suc}}
 use Rattle.rt_search.proofs.{Children.{node_question}, OrderedLists.{put_all-append, put_all-put_all}}
@@ -50,19 +49,6 @@ module _ {meaning : Meaning} (law : IsLawful meaning) (t : Packed) where
   answers_sound [] xs all = all
   answers_sound (a ∷ answers) xs all = grind (arith, AllSound-put, answers_sound answers xs all)
 
-  -- a node
-  node_sound : (k : ℕ) (info : Info) (xs : List Item) → extent_of info ≡ extent_of_node (node_at t k) → 0 < info.level
-      → IsQuestion meaning.accepts info → k < length t.nodes → IsSubtree t (height_at t k) (node_at t k)
-      → (node_at t k).level ≤ 24 → AllSound t meaning xs → AllSound t meaning (join_node (meaning.verdict info) k xs)
-  node_sound k info xs at high question inside tree low a =
-      let v = meaning.verdict info in
-      let below : IsBelow meaning (extent_of_node (node_at t k)) v =
-      rw (← at) (record { full = λ f. law.faithful.fullness info question high f; least = grind arith }) in
-      cond_both (is_kept v.within) _ xs (AllSound t meaning)
-      (λ h. AllSound-put meaning t (item_at v.score (place.Node (waiting_node k v.within))) xs
-      (rw (verdict_told v k h) (record { inside = inside; tree = tree; low = low; below = below })) a)
-      (λ h. a)
-
   module _ (sound : IsSound t) (v : Verdict) (small : v.score < 2 ^ 128) where
     -- ---- the children of a higher node
 
@@ -97,4 +83,19 @@ module _ {meaning : Meaning} (law : IsLawful meaning) (t : Packed) where
       pub nodes_sound : (xs : List Item) (i : ℕ) → i ≤ (node_at t number).count → AllSound t meaning xs
           → AllSound t meaning (join_nodes meaning t v (node_at t number) i xs)
       nodes_sound xs zero le a = a
-      nodes_sound xs (suc i) le a = grind (arith, child, node_sound, child_question, nodes_sound xs i (omega arith) a)
+      nodes_sound xs (suc i) le a =
+          let lt : i < (node_at t number).count = omega arith in
+          let m = (node_at t number).first + i in
+          let k = child t number opened.tree high i lt in
+          let info = info_of_node t v (node_at t m) in
+          let w = meaning.verdict info in
+          let asks = child_question i lt in
+          let rest = nodes_sound xs i (omega arith) a in
+          cond_both (is_kept w.within) _ (join_nodes meaning t v (node_at t number) i xs) (AllSound t meaning)
+          (λ h. AllSound-put meaning t (item_at w.score (place.Node (waiting_node m w.within))) _
+          (rw (verdict_told w m h) (record {
+            inside = k.number;
+            tree = k.tree;
+            low = omega (arith, k.lower, opened.low);
+            below = record { full = law.faithful.fullness info asks k.level; least = law.admissibility info asks k.level };
+          })) rest) (λ h. rest)

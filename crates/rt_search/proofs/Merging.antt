@@ -43,14 +43,6 @@ taken_right (Some x) xs old ys t h =
 pub fewer : (r : Option Item) (old new : List Item) → IsTakenOut r old new → length new ≤ length old
 fewer r old new t = grind arith
 
-pub fewer_left : (r : Option Item) (old xs ys : List Item) (capacity : ℕ) → IsTakenOut r old xs
-    → length (put_all item_cmp old ys) ≤ capacity → length (put_all item_cmp xs ys) ≤ capacity
-fewer_left r old xs ys capacity t h = grind (arith, fewer, length-put_all, item_order)
-
-pub fewer_right : (r : Option Item) (xs old ys : List Item) (capacity : ℕ) → IsTakenOut r old ys
-    → length (put_all item_cmp xs old) ≤ capacity → length (put_all item_cmp xs ys) ≤ capacity
-fewer_right r xs old ys capacity t h = grind (arith, fewer, length-put_all, item_order)
-
 -- ---- which list is ahead
 
 -- what comes after none of what another comes after none of

@@ -1,15 +1,13 @@
 use Rattle.std.proofs.Common.{arith, rules, ◌≤◌, ◌^◌}
 use Rattle.rt_search.specs.{Kept.{in_order, node_item, taken_item}, Pooling.{keys_in}}
-use Rattle.rt_search.proofs.{Limits.{none_merged, still_none}, Merging.{taken_right, fewer_left}}
-use Rattle.rt_search.proofs.Merging.{fewer_right, left-all, narrow_ahead, none_taken, taken_left}
+use Rattle.rt_search.proofs.Merging.{fewer, taken_right, left-all, narrow_ahead, none_taken, taken_left}
+use Rattle.rt_search.proofs.{OrderedLists.{length-put_all}, Orders.{item_order}, Limits.{none_merged, still_none}}
 use Rattle.rt_search.proofs.queue.Queue.take.Goals as goal
 
 pub invariant_of-self : goal.invariant_of-self
 invariant_of-self c =
-    let k = c.self.invariant in
-    let e = c.take_narrow-node.ensures in
-    let few = fewer_right (taken_item c.take_narrow-node.result) c.self.inside.wide.items _ _ _ e.taken k.few in
-    grind arith
+    let few = fewer (taken_item c.take_narrow-node.result) _ _ c.take_narrow-node.ensures.taken in
+    grind (arith, length-put_all, item_order)
 
 pub returns-then-is_some : goal.returns-then-is_some
 returns-then-is_some c = grind (arith, narrow_ahead, taken_right)
@@ -24,9 +22,9 @@ invariant_of-self-2 c =
     let nodes = in_order node_item (keys_in c.take_narrow-node.new.nodes) in
     let none = none_taken (taken_item c.take_narrow-node.result) _ _ (search rules) c.take_narrow-node.ensures.taken in
     let empty = still_none nodes c.take_narrow-node.new.entries.items c.take_wide.new.entries.items none.1 w.entries in
-    let few = fewer_left r c.self.inside.wide.items c.take_wide.new.wide.items _ c.self.inside.capacity w.taken c.self.invariant.few in
+    let few = fewer r _ _ w.taken in
     let high = left-all (λ x. 2 ^ 64 ≤ x.score) r _ _ w.taken c.self.invariant.high in
-    grind arith
+    grind (arith, length-put_all, item_order)
 
 pub returns : goal.returns
 returns c = grind (arith, none_taken, still_none, taken_left)
