@@ -1,7 +1,7 @@
 -- Two lists in order, seen as one.
-use Rattle.std.proofs.Common.{◌≡◌, ◌<◌, ◌≤◌, ◌+◌, ◌^◌, ℕ, ℤ, Bool, true, false, Option, Some, None, List, [], ◌∷◌}
+use Rattle.std.proofs.Common.{◌≡◌, ◌<◌, ◌≤◌, ◌+◌, ℕ, ℤ, Bool, true, false, Option, Some, None, List, [], ◌∷◌}
 use Rattle.std.proofs.Common.{length, refl, sym, ◌∙◌, ap, arith, Ordering}
-use Rattle.std.specs.{Prelude.{IfSome, MatchBool, MatchOption}, List.{AllByRecursion}, declared.cmp.Reverse.{Reverse}}
+use Rattle.std.specs.{Prelude.{MatchBool, MatchOption}, List.{AllByRecursion}, declared.cmp.Reverse.{Reverse}}
 use Rattle.std.specs.Ordering.{is_gt}
 use Rattle.rt_tree.specs.Sorting.{put}
 use Rattle.rt_search.specs.{Items.{item_cmp}, Kept.{queued, IsAhead, IsEntry, IsFirstScore, IsLeast, IsNode}}
@@ -69,17 +69,6 @@ pub by_test : (b : Bool) (P Q : Type 0) → (b ≡ true → P) → (b ≡ false 
 by_test b P Q p q = grind arith
 
 -- ---- items whose score is one word, and others, which come after them
-
--- items behind one that scores less
-pub low_ahead : (r : ℕ) (x : Item) (old new wide : List Item) → old ≡ x ∷ new → x.score < r
-    → AllByRecursion (λ y. r ≤ y.score) wide → IsAhead old wide
-low_ahead r x old new wide e low high = grind (arith, lower_least)
-
--- where one was taken from the narrow items, these are ahead
-pub narrow_ahead : (r : Option Item) (old new wide : List Item) → MatchOption r (true ≡ false) (λ _. true ≡ true)
-    → IsTakenOut r old new → IfSome r (λ x. x.score < 2 ^ 64) → AllByRecursion (λ y. 2 ^ 64 ≤ y.score) wide
-    → IsAhead old wide
-narrow_ahead r old new wide some t low high = grind (arith, lower_least)
 
 pub none_taken : (r : Option Item) (old new : List Item) → MatchOption r (false ≡ false) (λ _. false ≡ true)
     → IsTakenOut r old new → (old ≡ []) × (new ≡ [])

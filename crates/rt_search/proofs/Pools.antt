@@ -1,12 +1,12 @@
 -- Keys, those that are near and those that are far.
-use Rattle.std.proofs.Common.{◌≡◌, ◌<◌, ◌≤◌, ◌-◌, ◌/◌, ◌^◌, inr, ℕ, nat_lt, Option, Some, List, [], ◌∷◌}
-use Rattle.std.proofs.Common.{◌++◌, length, take, drop, set, get_or, arith}
-use Rattle.std.proofs.{Common.{IsPermutation}, Math.Nat.{mod-lt}, lemmas.{Bool.Decides.{nat_tests}, Nat.{div-add-mod'}}}
-use Rattle.std.proofs.lemmas.List.{append_assoc, length-set, length-take-le, take-append-drop, take-append-le, take-set}
+use Rattle.std.proofs.Common.{ap, sym, inl, ◌≡◌, ◌<◌, ◌≤◌, ◌-◌, ◌/◌, ◌^◌, inr, ℕ, nat_lt, Option, Some, List, [], ◌∷◌}
+use Rattle.std.proofs.{Common.{◌++◌, length, take, drop, set, get_or, arith, IsPermutation}, Math.Nat.{mod-lt}}
+use Rattle.std.proofs.lemmas.{Bool.Decides.{nat_tests}, Nat.{div-add-mod'}, List.{append_assoc, length-set}}
+use Rattle.std.proofs.lemmas.List.{length-take-le, take-append-drop, take-append-le, take-set}
 use Rattle.std.proofs.lemmas.{List.Sorted.{IsPermutation-to_front, IsPermutation-sym}, Bool.{ltb-false, ltb-true}}
 use Rattle.std.specs.{declared.cmp.Reverse.{Reverse}, Prelude.{MatchOption}, List.{AllByRecursion, swap_remove}}
-use Rattle.rt_search.proofs.Elements.{all-append, all_map, all_moved}
 use Rattle.rt_search.specs.{Kept.{lesser}, Pooling.{HasLeastScore, HasScore, IsFar, IsLowest, score_in}}
+use Rattle.rt_search.proofs.Elements.{all-append, all_map, all_moved}
 
 -- ---- lists
 
@@ -35,19 +35,12 @@ lowest_scores k js a = grind (arith, all_map, nat_tests, mod-lt, div-add-mod')
 
 -- ---- the first of those near is the least of all
 
--- the first, and none of the others is lower
-abbrev pub IsTop : ℕ → List (Reverse ℕ) → Type 0
-IsTop k [] = ⊥
-IsTop k (j ∷ js) = (record { 0 = k } ≡ j) × IsLowest k js
-
-pub top_of : (e : ℕ) (top : Reverse ℕ) (near far : List (Reverse ℕ)) → 0 < length near → top ≡ get_or near 0 top
+pub least_score : (e : ℕ) (top : Reverse ℕ) (near far : List (Reverse ℕ)) → 0 < length near → top ≡ get_or near 0 top
     → IsLowest top.0 near → AllByRecursion (λ k. score_in k ≤ e) near → AllByRecursion (λ k. e < score_in k) far
-    → IsTop top.0 (near ++ far)
-top_of e top [] far some h a low high = absurd (omega arith)
-top_of e top (k ∷ near) far some h a low high = grind (arith, all-append, far_after)
-
-pub top_score : (k : ℕ) (ks : List (Reverse ℕ)) → IsTop k ks → HasLeastScore (k / 2 ^ 64) ks
-top_score k ks h = grind (arith, lowest_scores)
+    → HasLeastScore (top.0 / 2 ^ 64) (near ++ far)
+least_score e top [] far some h a low high = absurd (omega arith)
+least_score e top (k ∷ near) far some h a low high =
+    (inl (ap score_in (sym h)), grind (arith, all-append, lowest_scores, all_map))
 
 -- ---- the least score of those far
 

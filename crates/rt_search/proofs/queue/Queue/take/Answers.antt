@@ -1,6 +1,6 @@
 use Rattle.std.proofs.Common.{arith, rules, ◌≤◌, ◌^◌}
 use Rattle.rt_search.specs.{Kept.{in_order, node_item, taken_item}, Pooling.{keys_in}}
-use Rattle.rt_search.proofs.Merging.{fewer, taken_right, left-all, narrow_ahead, none_taken, taken_left}
+use Rattle.rt_search.proofs.Merging.{fewer, taken_right, left-all, lower_least, none_taken, taken_left}
 use Rattle.rt_search.proofs.{OrderedLists.{length-put_all}, Orders.{item_order}, Limits.{none_merged, still_none}}
 use Rattle.rt_search.proofs.queue.Queue.take.Goals as goal
 
@@ -10,7 +10,7 @@ invariant_of-self c =
     grind (arith, length-put_all, item_order)
 
 pub returns-then-is_some : goal.returns-then-is_some
-returns-then-is_some c = grind (arith, narrow_ahead, taken_right)
+returns-then-is_some c = grind (arith, lower_least, taken_right)
 
 pub take_wide-requires : goal.take_wide-requires
 take_wide-requires c = grind (arith, none_merged, none_taken)
