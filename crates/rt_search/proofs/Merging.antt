@@ -1,8 +1,7 @@
 -- Two lists in order, seen as one.
-use Rattle.std.proofs.Common.{◌≡◌, ◌<◌, ◌≤◌, ◌+◌, ℕ, ℤ, Bool, true, false, Option, Some, None, List, [], ◌∷◌}
-use Rattle.std.proofs.Common.{length, refl, sym, ◌∙◌, ap, arith, Ordering}
-use Rattle.std.specs.{Prelude.{MatchBool, MatchOption}, List.{AllByRecursion}, declared.cmp.Reverse.{Reverse}}
-use Rattle.std.specs.Ordering.{is_gt}
+use Rattle.std.proofs.Common.{◌≡◌, ◌<◌, ◌≤◌, ◌+◌, ℕ, ℤ, true, false, Option, Some, None, List, [], ◌∷◌, length, refl}
+use Rattle.std.proofs.Common.{sym, ◌∙◌, ap, arith, Ordering}
+use Rattle.std.specs.{Prelude.{MatchOption}, List.{AllByRecursion}, declared.cmp.Reverse.{Reverse}, Ordering.{is_gt}}
 use Rattle.rt_tree.specs.Sorting.{put}
 use Rattle.rt_search.specs.{Items.{item_cmp}, Kept.{queued, IsAhead, IsEntry, IsFirstScore, IsLeast, IsNode}}
 use Rattle.rt_search.specs.{Kept.{IsTakenOut, hits_in}, Remaining.{put_all}, declared.item.Item.{Item}}
@@ -43,6 +42,16 @@ taken_right (Some x) xs old ys t h =
 pub fewer : (r : Option Item) (old new : List Item) → IsTakenOut r old new → length new ≤ length old
 fewer r old new t = grind arith
 
+-- where nothing was taken there was nothing
+pub none_taken : (r : Option Item) (old new : List Item) → MatchOption r (false ≡ false) (λ _. false ≡ true)
+    → IsTakenOut r old new → (old ≡ []) × (new ≡ [])
+none_taken r old new none t = grind arith
+
+-- what holds of each holds of those left
+pub left-all : (P : Item → Type 0) (r : Option Item) (old new : List Item) → IsTakenOut r old new
+    → AllByRecursion P old → AllByRecursion P new
+left-all P r old new t a = grind arith
+
 -- ---- which list is ahead
 
 -- what comes after none of what another comes after none of
@@ -64,19 +73,3 @@ nodes_ahead s r xs ys f g p q h = grind (arith, all_both, node_before, all_score
 pub entries_ahead : (s r : ℕ) (xs ys : List Item) → IsFirstScore s xs → IsFirstScore r ys → r < s → IsAhead ys xs
 entries_ahead s r xs [] f g h = absurd g
 entries_ahead s r xs (y ∷ ys) f g h = lower_least y xs s (omega arith) (all_scores s xs f)
-
-pub by_test : (b : Bool) (P Q : Type 0) → (b ≡ true → P) → (b ≡ false → Q) → MatchBool b P Q
-by_test b P Q p q = grind arith
-
--- ---- items whose score is one word, and others, which come after them
-
-pub none_taken : (r : Option Item) (old new : List Item) → MatchOption r (false ≡ false) (λ _. false ≡ true)
-    → IsTakenOut r old new → (old ≡ []) × (new ≡ [])
-none_taken r old new none t = grind arith
-
--- ---- what holds of each item
-
--- also of those left
-pub left-all : (P : Item → Type 0) (r : Option Item) (old new : List Item) → IsTakenOut r old new
-    → AllByRecursion P old → AllByRecursion P new
-left-all P r old new t a = grind arith

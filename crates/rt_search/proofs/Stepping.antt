@@ -47,8 +47,7 @@ module _ {meaning : Meaning} (law : IsLawful meaning) (t : Packed) where
       → IsOnCourse meaning cost t done xs × (done ≡ reached_from_root (is_reached (Some s)) cost meaning t)
   entry_course cost i s done xs least sound course =
       let x = item_at s (place.Entry i) in
-      let next : remaining t meaning (x ∷ xs) ≡ (i, s) ∷ remaining t meaning xs =
-      take_entry meaning t i s xs least sound in
+      let next = take_entry meaning t i s xs least sound in
       let each = subst (AllByRecursion (λ p. AddsUp meaning cost t done (x ∷ xs) (Some p.1))) next course.at_each in
       let none = no_work cost i s xs least in
       grind (arith, work_cons, all_map, each.0, each.1)

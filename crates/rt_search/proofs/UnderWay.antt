@@ -6,8 +6,8 @@ use Rattle.rt_geo.specs.{Laws.{Meaning, IsLawful}, declared.geometry.Verdict.{Ve
 use Rattle.rt_tree.specs.Packed.{Packed, IsSound, node_at}
 use Rattle.rt_search.specs.{Answers.{Answer}, Items.{item_at, item_of}, Joining.{join_answers, join_nodes}}
 use Rattle.rt_search.specs.{Kept.{IsRising, IsTakenOut, node_or, taken_entry, taken_item}, Limits.{IsEnough}}
-use Rattle.rt_search.specs.{Limits.{wanted_after}, Progress.{IsFound, IsOver, IsSearching, IsTaken, IsUnderWay}}
-use Rattle.rt_search.specs.{Progress.{join_children}, Remaining.{IsOpenable, height_at, remaining, verdict_on}}
+use Rattle.rt_search.specs.{Limits.{wanted_after}, Progress.{IsFound, IsOver, IsSearching, IsUnderWay}}
+use Rattle.rt_search.specs.{Progress.{join_children}, Remaining.{IsOpenable, remaining, verdict_on}}
 use Rattle.rt_search.specs.{Walking.{answers_among}, Work.{is_reached, its_children, one_node, reached_from_root}}
 use Rattle.rt_search.specs.declared.item.{Item.{Item}, ScoredNode.{ScoredNode}, WaitingNode.{WaitingNode}}
 use Rattle.rt_search.proofs.{Answering.{take_entry}, Limits.{rising_put_all, enough_nodes, enough_put_all}}
@@ -79,22 +79,16 @@ module _ {meaning : Meaning} (law : IsLawful meaning) (t : Packed) where
       let k = first_kept wanted x xs u.all more (subst (λ l. IsEnough wanted l u.all) is u.enough) in
       let ys = k.0 in
       let up = subst IsRising k.1.0 u.rising in
-      let taken : IsTaken meaning t opened asked x ys = record {
-        least = up.0;
-        state = subst (IsSearching meaning t opened asked) k.1.0 u.state;
-      } in
-      let state = taken.state in
-      let k' = node_at t n.number.number in
-      let step = children_step law t small taken in
-      let h = held_cons meaning t x ys in
+      let state = subst (IsSearching meaning t opened asked) k.1.0 u.state in
+      let step = children_step law t {opened = opened} {asked = asked} {s = s} {n = n} {xs = ys} small (record { least = up.0; state = state }) in
       let few = length_le_held meaning t ys state.sound.1 in
-      let count = (size_counts t (height_at t n.number.number) k' state.sound.0.tree).1 in
+      let count = (size_counts t _ _ state.sound.0.tree).1 in
       let opened_upto = done_upto (is_reached None) one_node meaning t (one_is_fair t) opened s n ys (reached_is None s n) state.opening.in_all in
       let asked_upto = done_upto (is_reached None) its_children meaning t (count_is_fair t) asked s n ys (reached_is None s n) state.asking.in_all in
       record {
         tree = state.tree;
         node = state.sound.0;
-        room = omega (arith, state.room);
+        room = omega (arith, held_cons meaning t x ys, state.room);
         opened_low = omega (arith, work_le (is_reached None) one_node meaning t (one_is_fair t) state.tree);
         asked_low = omega (arith, work_le (is_reached None) its_children meaning t (count_is_fair t) state.tree);
         opened_upto = opened_upto;
@@ -123,14 +117,12 @@ module _ {meaning : Meaning} (law : IsLawful meaning) (t : Packed) where
       let sound = state.sound.1 in
       let o = entry_course law t one_node a.0 a.1 opened ys up.0 sound state.opening in
       let b = entry_course law t its_children a.0 a.1 asked ys up.0 sound state.asking in
-      let h = held_cons meaning t x ys in
-      let r = state.room in
       rw same (record {
         rest = remaining t meaning ys;
         first = sym u.follows ∙ ap (remaining t meaning) k.1.0 ∙ take_entry meaning t a.0 a.1 ys up.0 sound;
         state = record {
           all = ys;
-          state = record { tree = state.tree; sound = sound; room = omega arith; opening = o.0; asking = b.0 };
+          state = record { tree = state.tree; sound = sound; room = omega (arith, held_cons meaning t x ys, state.room); opening = o.0; asking = b.0 };
           rising = up.1;
           follows = refl;
           enough = k.1.1;
