@@ -14,9 +14,6 @@ use Rattle.rt_search.proofs.OrderedLists.{IsOrder, order_of}
 then_equal : (o p : Ordering) → ordering_then o p ≡ Equal → (o ≡ Equal) × (p ≡ Equal)
 then_equal o p h = grind arith
 
-exact_bool : CmpEqualImpliesEq bool_cmp
-exact_bool b c h = grind arith
-
 -- ---- answers
 
 pub answer_order : IsOrder answer_cmp
@@ -37,7 +34,7 @@ item_total : IsTotalOrder item_cmp
 item_total = subst IsTotalOrder (λ i x y. items_derived x.score y.score x.place y.place i) total-law
 
 place_exact : CmpEqualImpliesEq place_cmp
-place_exact (Node m) (Node n) h = grind (arith, then_equal, exact_unsigned, exact_bool)
+place_exact (Node m) (Node n) h = grind (arith, then_equal, exact_unsigned)
 place_exact (Node m) (Entry j) h = cc
 place_exact (Entry i) (Node n) h = cc
 place_exact (Entry i) (Entry j) h = ap Entry (exact_signed i j h)
