@@ -23,6 +23,7 @@ answer_order = order_of answer_cmp
 
 -- ---- items
 
+-- the order that is derived for them is this one, and so this one is total
 items_derived : (s r : ℕ) (p q : Place) → item_ghosts.cmp (item_at s p) (item_at r q)
     ≡ item_cmp (item_at s p) (item_at r q)
 items_derived s r (Node m) (Node n) = refl
