@@ -1,11 +1,11 @@
 -- The children of a node, one at a time, and what may be asked about them.
 use Rattle.std.proofs.Common.{◌≡◌, ◌<◌, ◌≤◌, ◌+◌, ◌-◌, ◌^◌, ℕ, zero, suc, true, List, length, map, slice_get, Some}
-use Rattle.std.proofs.{Common.{take, drop, get_or, refl, sym, ◌∙◌, ap, subst, arith}, lemmas.List.{get_or-map}}
+use Rattle.std.proofs.{Common.{take, drop, get_or, refl, sym, ◌∙◌, ap, subst, arith, rules}, lemmas.List.{get_or-map}}
 use Rattle.std.proofs.lemmas.List.{get_or-take, get_or-drop, get_or_default, length-map, length-take, length-drop}
 use Rattle.std.proofs.lemmas.{List.{take_all, Elements.{All-from_recursion}}, Option.{slice_get-get_or}}
 use Rattle.rt_geo.specs.{Boxes.{IsRect, inside, plane}, Entries.{HasBox, HasLayer}, Laws.{Meaning, Extent, IsHonest}}
 use Rattle.rt_geo.specs.{Laws.{IsPart, IsQuestion, extent_of, extent_of_entry}, Layers.{HasSome}}
-use Rattle.rt_geo.specs.Lemmas.{Laws.{AllAccepted-part, IsPart-box}, Layers.{HasSome-only}}
+use Rattle.rt_geo.specs.Lemmas.{Laws.{AllAccepted-part, IsPart-box}}
 use Rattle.rt_geo.specs.declared.{entry.Entry.{Entry}, geometry.{Info.{Info}, Verdict.{Verdict}}}
 use Rattle.rt_tree.specs.{Entries.{IsTable}, Leaves.{without_layer}, Packed.{Packed, IsInnerNode, IsLeafNode, IsSound}}
 use Rattle.rt_tree.specs.Packed.{IsSubtree, child_entries, child_nodes, extent_of_node, no_node, node_at, root_of}
@@ -168,8 +168,7 @@ pub asked : {t : Packed} {number : ℕ} {n : Node} {children : List PlainNode} �
     → x ≡ get_or children i x → k ≡ n.first + i → whole ≡ node_at t k
     → info ≡ info_under (root_of t).level v (record { bounds = x.bounds; layers = whole.layers }) (n.level - 1)
     → IsAsked t number i k x v info
-asked {t} {number} {n} here i v {k} {x = x} {whole = whole} lt read number_is whole_is info_is =
-    grind (arith, child, get_or-map, here.count, here.is, here.tree, here.high, here.lent)
+asked here i v lt read number_is whole_is info_is = search (rules, child, get_or-map)
 
 -- all children of a node
 pub all_children : (t : Packed) (number : ℕ) → IsSubtree t (height_at t number) (node_at t number)
@@ -193,19 +192,7 @@ honest_child meaning whole info v below told part = λ full.
 module _ (meaning : Meaning) (t : Packed) (sound : IsSound t) (v : Verdict) (small : v.score < 2 ^ 128) where
   pub entry_question : (n : Node) (e : Entry) (i : ℕ) → IsBelow meaning (extent_of_node n) v → IsLeafAt t n i e
       → IsQuestion meaning.accepts (info_of_child t v e)
-  entry_question n e i below at =
-      record {
-        well_formed = record {
-          box = at.box.box;
-          coordinates = at.box.coordinates;
-          layers = HasSome-only e.layer at.few;
-          one = λ _. record { layer = e.layer; few = at.few; is = refl };
-          level = omega arith;
-          top = grind arith;
-          parent_score = small;
-        };
-        honest = honest_child meaning (extent_of_node n) (info_of_child t v e) v below refl at.within;
-      }
+  entry_question n e i below at = search (rules, honest_child)
 
   pub node_question : (n : Node) (h i k : ℕ) → n.level ≤ 24 → IsBelow meaning (extent_of_node n) v
       → IsChild t n h i k → IsQuestion meaning.accepts (info_of_node t v (node_at t k))

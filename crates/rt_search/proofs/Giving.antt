@@ -1,16 +1,16 @@
 -- A search gives its answers one after the other, up to its limit.
 use Rattle.std.proofs.Common.{◌≡◌, ◌≢◌, ◌<◌, ◌≤◌, ◌+◌, ◌-◌, ℕ, zero, suc, List, [], ◌∷◌, length, take, drop}
-use Rattle.std.proofs.Common.{Option, Some, None, refl, sym, ◌∙◌, ap, subst, arith, add-one}
+use Rattle.std.proofs.Common.{Option, Some, None, refl, sym, ◌∙◌, ap, subst, arith, rules, add-one}
 use Rattle.std.proofs.lemmas.List.{drop_all, length-drop, length-map, length-take}
 use Rattle.std.proofs.lemmas.Option.{slice_get_past}
 use Rattle.std.proofs.lemmas.List.{Sums.{count_by-le-length, length-filter}}
 use Rattle.std.proofs.lemmas.List.Sorted.{length_permutation}
 use Rattle.std.specs.Prelude.{IfSome, slice_get}
 use Rattle.rt_geo.specs.Laws.{Meaning}
-use Rattle.rt_geo.specs.{Laws.{extent_of_entry}, declared.{entry.Entry.{Entry}}}
+use Rattle.rt_geo.specs.{declared.{entry.Entry.{Entry}}}
 use Rattle.rt_tree.specs.{Packed.{Packed}, Sorting.{limited}, declared.tree.Node.{Node}}
 use Rattle.rt_tree.proofs.SortingLemmas.{IsPermutation-sorted}
-use Rattle.rt_search.specs.{Answers.{Answer, accepted, answer_cmp, answer_of, answers, scored}, Limits.{one_less}}
+use Rattle.rt_search.specs.{Answers.{Answer, answer_cmp, answers, scored}, Limits.{one_less}}
 use Rattle.rt_search.specs.{Progress.{IsFound, IsGiving, IsInLimit, IsOver}, declared.item.Item.{Item}}
 use Rattle.rt_search.specs.Work.{HasWorked, is_reached, its_children, one_node, search_work, reached_from_root}
 
@@ -63,12 +63,7 @@ next_still (Some (suc n)) limit g more h = h ∙ ap Some (omega arith)
 
 module _ (meaning : Meaning) where
   pub length-scored : (es : List Entry) → length (scored es meaning) ≤ length es
-  length-scored es = omega (
-    arith,
-    length-map (accepted es meaning) (answer_of meaning),
-    length-filter (λ (e : Entry). meaning.accepts (extent_of_entry e)) es,
-    count_by-le-length (λ (e : Entry). meaning.accepts (extent_of_entry e)) es,
-  )
+  length-scored es = search (rules, length-map, length-filter, count_by-le-length)
 
 module _ (meaning : Meaning) (t : Packed) where
   abbrev all : List Answer
@@ -148,16 +143,4 @@ module _ {meaning : Meaning} {t : Packed} {limit : Option ℕ}
     pub end : wanted' ≡ wanted → IsOver meaning t opened' asked' wanted'
         (drop given (answers t.entries meaning None)) new
         → HasEnded meaning t limit given opened' asked' capacity wanted' new
-    end same over =
-        let worked : HasWorked meaning t limit opened' asked' = grind (arith, work_in_all) in
-        record {
-          going = record {
-            state = over.state;
-            room = going.room;
-            in_limit = going.in_limit;
-            still = subst (λ w. IfSome w (λ n. limit ≡ Some (given + n))) (sym same) going.still;
-            stopped = λ e. worked;
-          };
-          answer = limited_end limit given (answers t.entries meaning None) over.none;
-          worked = worked;
-        }
+    end same over = search (rules, work_in_all, limited_end)

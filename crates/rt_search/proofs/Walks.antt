@@ -1,6 +1,6 @@
 -- What a walk finds under a node, child by child.
 use Rattle.std.proofs.Common.{◌≡◌, ◌<◌, ◌≤◌, ◌+◌, ◌-◌, ◌^◌, ℕ, zero, suc, Bool, true, List, [], ◌∷◌, ◌++◌, length, take}
-use Rattle.std.proofs.{Common.{get_or, refl, sym, ap, subst, arith, add-one, length-append}, lemmas.List.{length-take}}
+use Rattle.std.proofs.{Common.{get_or, refl, sym, ap, subst, arith, rules, add-one, length-append}, lemmas.List.{length-take}}
 use Rattle.std.proofs.lemmas.List.{take_all, Sums.{sum_by-take-drop}}
 use Rattle.std.specs.List.{AllByRecursion, sum_by}
 use Rattle.rt_geo.specs.Laws.{AllAccepted, Extent, IsLawful, IsQuestion, extent_of, extent_of_entry, Meaning}
@@ -64,9 +64,7 @@ module _ {meaning : Meaning} (law : IsLawful meaning) where
   entry_answer : (e : Entry) (info : Info) → extent_of info ≡ extent_of_entry e → info.level ≡ 0
       → IsQuestion meaning.accepts info
       → answer_if (is_kept (meaning.verdict info).within) e.id (meaning.verdict info).score ≡ among meaning (e ∷ [])
-  entry_answer e info at low question =
-      let leaf = law.faithful.leaf info question low in
-      grind (arith, kept_not, law.exact info question low)
+  entry_answer e info at low question = search (rules, kept_not)
 
   -- ---- a node that was asked about
 

@@ -1,24 +1,11 @@
-use Rattle.std.proofs.Common.{◌≡◌, ◌∙◌, arith, add-one}
+use Rattle.std.proofs.Common.{◌≡◌, ◌∙◌, arith, rules, add-one}
 use Rattle.rt_tree.specs.Packed.{node_at}
-use Rattle.rt_search.specs.Walking.{answers_among}
 use Rattle.rt_search.proofs.{Children.{asked, children_inside, children_of, honest_child}, Collectors.{entries_join}}
 use Rattle.rt_search.proofs.{Limits.{enough_node}, UnderWay.{leaf_joins, nodes_join}, Working.{length-join_nodes}}
 use Rattle.rt_search.proofs.opening.open_node.Goals as goal
 
 pub returns-then-node-eq1-clause-children : goal.returns-then-node-eq1-clause-children
-returns-then-node-eq1-clause-children g c =
-    let geometry = c.args.counted.now.geometry in
-    let n = c.node-node.result in
-    let joined = entries_join c.args.queue.now c.visit_entries.new.collector
-    (answers_among c.args.tree.now (g.G.Geometry.meaning geometry) n n.count)
-    c.visit_entries.ensures.taken in
-    record {
-      items = leaf_joins (g.met.G.Geometry.lawful geometry) c.args.tree.now c.args.queue.now.wanted c.args.taken.score
-          c.args.taken.node n c.visit_entries.new.collector.items c.args.queue.now.items c.node-node.ensures
-          c.if-node-eq1.true joined.items;
-      wanted = joined.wanted;
-      capacity = joined.capacity;
-    }
+returns-then-node-eq1-clause-children g c = search (rules, entries_join, leaf_joins)
 
 pub child_nodes-children-requires : goal.child_nodes-children-requires
 child_nodes-children-requires g c = children_inside c.requires.node c.node-node.ensures c.if-node-eq1.false

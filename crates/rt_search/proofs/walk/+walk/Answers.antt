@@ -1,4 +1,4 @@
-use Rattle.std.proofs.Common.{ℕ, ◌≡◌, ◌∙◌, ap, refl, sym, arith, rules}
+use Rattle.std.proofs.Common.{ℕ, ◌≡◌, ◌∙◌, ap, sym, arith, rules}
 use Rattle.rt_tree.specs.{Packed.{node_at}, declared.tree.Node.{Node}}
 use Rattle.rt_search.specs.Work.{its_children, one_node}
 use Rattle.rt_search.proofs.{Children.{asked, children_of}}
@@ -38,17 +38,6 @@ walk_child-returns-then-visit_node-clause-taken g t c =
 
 pub walk_child-returns-else-visit_node-clause-taken : goal.walk_child-returns-else-visit_node-clause-taken
 walk_child-returns-else-visit_node-clause-taken g t c = search (rules, known)
-
-pub walk_under-loop-i-init : goal.walk_under-loop-i-init
-walk_under-loop-i-init g t c =
-    let geometry = c.args.counted.now.geometry in
-    let tree = c.args.tree.now in
-    record {
-      taken = grind arith;
-      opened = omega arith;
-      asked = omega arith;
-      geometry = refl;
-    }
 
 pub walk_under-walk_child-requires : goal.walk_under-walk_child-requires
 walk_under-walk_child-requires g t c κs within =
