@@ -85,13 +85,13 @@ subtree_box t (suc h) n s = (s.valid, s.coordinates, s.layers)
 -- a node above level 1
 pub inner_at : (t : Packed) (h : ℕ) (n : Node) → IsSubtree t h n → 2 ≤ n.level → h ≡ suc (h - 1)
     × IsInnerNode t (h - 1) (IsSubtree t (h - 1)) n
-inner_at t zero n s level = absurd (let e = s.level in omega arith)
+inner_at t zero n s level = absurd (omega arith)
 inner_at t (suc h) n s level = let same : suc h - 1 ≡ h = omega arith in rw same (refl, s)
 
 -- a node of level 1
 pub leaf_node : (t : Packed) (h : ℕ) (n : Node) → IsSubtree t h n → n.level ≡ 1 → (h ≡ 0) × IsLeafNode t n
 leaf_node t zero n s e = (refl, s)
-leaf_node t (suc h) n s e = absurd (let l = s.level in omega arith)
+leaf_node t (suc h) n s e = absurd (omega arith)
 
 -- the child whose number is k
 pub record IsChild (t : Packed) (n : Node) (h i k : ℕ) : Type 0 where
@@ -114,9 +114,8 @@ child t number sub level i lt =
     let s = (inner_at t (height_at t number) n sub level).1 in
     let k = node_at t (n.first + i) in
     let here : i < length (child_nodes t n) = omega (arith, part_length t.nodes n.first n.count s.range) in
-    let number : n.first + i < length t.nodes = (let r = s.range in omega arith) in
-    let is : get_or (child_nodes t n) i k ≡ k = part_at t.nodes n.first n.count i k lt
-    ∙ get_or_default t.nodes (n.first + i) k no_node number in
+    let number : n.first + i < length t.nodes = omega arith in
+    let is : get_or (child_nodes t n) i k ≡ k = search (rules, part_at, get_or_default) in
     let tree : IsSubtree t h k =
     subst (IsSubtree t h) is (All-from_recursion (IsSubtree t h) (child_nodes t n) s.below i k here) in
     let IsWithin = λ (m : Node). IsPart (extent_of_node m) (extent_of_node n) in
@@ -153,15 +152,12 @@ pub record HasChildren (t : Packed) (number : ℕ) (n : Node) (children : List P
 
 module _ {t : Packed} {meaning : Meaning} {number : ℕ} {v : Verdict}
     (opened : IsOpenable t meaning number v) {n : Node} (is : n ≡ node_at t number) (above : n.level ≡ 1 → ⊥) where
-  is_high : 2 ≤ (node_at t number).level
-  is_high = grind (arith, subtree_level, opened.tree)
-
   pub children_inside : n.first + n.count ≤ length t.nodes
-  children_inside = rw is (inner_at t (height_at t number) (node_at t number) opened.tree is_high).1.range
+  children_inside = search (rules, subtree_level)
 
   pub children_of : {children : List PlainNode} → children ≡ map without_layers (child_nodes t n)
       → HasChildren t number n children
-  children_of lent = grind (arith, inner_at, is_high, length-map, part_length, opened.tree)
+  children_of lent = search (rules, subtree_level, length-map, part_length)
 
 pub asked : {t : Packed} {number : ℕ} {n : Node} {children : List PlainNode} → HasChildren t number n children → (i : ℕ)
     (v : Verdict) {k : ℕ} {x : PlainNode} {whole : Node} {info : Info} → i < length children
@@ -198,14 +194,6 @@ module _ (meaning : Meaning) (t : Packed) (sound : IsSound t) (v : Verdict) (sma
       → IsChild t n h i k → IsQuestion meaning.accepts (info_of_node t v (node_at t k))
   node_question n h i k low below at =
       record {
-        well_formed = record {
-          box = at.valid;
-          coordinates = (subtree_box t (height_at t k) (node_at t k) at.tree).1;
-          layers = (subtree_box t (height_at t k) (node_at t k) at.tree).2;
-          one = (let above = at.level in λ low. absurd (omega arith));
-          level = omega arith;
-          top = omega arith;
-          parent_score = small;
-        };
+        well_formed = search (rules, subtree_box);
         honest = honest_child meaning (extent_of_node n) (info_of_node t v (node_at t k)) v below refl at.within;
       }

@@ -34,13 +34,10 @@ take_step (suc k) (suc g) (y ∷ xs) x rest lt h = take_step k g xs x rest (omeg
 past_end : {X : Type 0} (xs : List X) (g k : ℕ) → drop g xs ≡ [] → g ≤ k → slice_get xs k ≡ None
 past_end xs g k h le = slice_get_past xs k (omega (arith, length-drop g xs, ap length h))
 
-below_limit : (k g : ℕ) → g ≤ k → Some k ≢ Some g → g < k
-below_limit k g le n = grind arith
-
 limited_step : {X : Type 0} (limit : Option ℕ) (g : ℕ) (xs : List X) (x : X) (rest : List X) → IsInLimit limit g
     → limit ≢ Some g → drop g xs ≡ x ∷ rest → drop g (limited limit xs) ≡ x ∷ drop (suc g) (limited limit xs)
 limited_step None g xs x rest le n h = h ∙ ap (λ l. x ∷ l) (sym (drop_step xs g x rest h).1)
-limited_step (Some k) g xs x rest le n h = take_step k g xs x rest (below_limit k g le n) h
+limited_step (Some k) g xs x rest le n h = search (rules, take_step)
 
 limited_end : {X : Type 0} (limit : Option ℕ) (g : ℕ) (xs : List X) → drop g xs ≡ [] → drop g (limited limit xs) ≡ []
 limited_end None g xs h = h
@@ -48,10 +45,7 @@ limited_end (Some k) g xs h = drop_all g (take k xs) (omega (arith, length-take 
 
 next_in_limit : (limit : Option ℕ) (g : ℕ) → IsInLimit limit g → limit ≢ Some g → IsInLimit limit (suc g)
 next_in_limit None g le n = tt
-next_in_limit (Some k) g le n = let lt = below_limit k g le n in omega arith
-
-suc_less : (g : ℕ) → suc g - 1 ≡ g
-suc_less g = omega arith
+next_in_limit (Some k) g le n = search rules
 
 -- ---- how many are still wanted
 
@@ -73,13 +67,13 @@ module _ (meaning : Meaning) (t : Packed) where
 
   work_after : (cost : Node → ℕ) (g : ℕ) (a : Answer) (rest : List Answer) → drop g all ≡ a ∷ rest
       → reached_from_root (is_reached (Some a.1)) cost meaning t ≡ search_work cost meaning t (Some (suc g))
-  work_after cost g a rest h = grind (arith, suc_less, drop_step)
+  work_after cost g a rest h = search (rules, drop_step)
 
   work_in_all : (cost : Node → ℕ) (limit : Option ℕ) (g : ℕ) → IsInLimit limit g → limit ≢ Some g → drop g all ≡ []
       → reached_from_root (is_reached None) cost meaning t ≡ search_work cost meaning t limit
   work_in_all cost None g le n h = refl
-  work_in_all cost (Some zero) g le n h = absurd (let lt = below_limit zero g le n in omega arith)
-  work_in_all cost (Some (suc k)) g le n h = grind (arith, suc_less, past_end, below_limit)
+  work_in_all cost (Some zero) g le n h = grind arith
+  work_in_all cost (Some (suc k)) g le n h = search (rules, past_end)
 
 -- ---- the steps
 
@@ -106,7 +100,6 @@ module _ {meaning : Meaning} {t : Packed} {limit : Option ℕ}
       → IsFound meaning t opened' asked' wanted'
       (drop given (answers t.entries meaning None)) a new → given + 1 ≤ 16777216
   given_low found =
-      let sound = going.state.state.tree in
       omega (
         arith,
         ap length found.first,
@@ -122,20 +115,10 @@ module _ {meaning : Meaning} {t : Packed} {limit : Option ℕ}
     give {a} less found =
         let all = answers t.entries meaning None in
         let there : drop given all ≡ a ∷ found.rest = found.first in
-        let worked : HasWorked meaning t (Some (suc given)) opened' asked' = record {
-          in_nodes = found.reached.nodes ∙ work_after meaning t one_node given a found.rest there;
-          in_checks = found.reached.checks ∙ work_after meaning t its_children given a found.rest there;
-        } in
+        let worked : HasWorked meaning t (Some (suc given)) opened' asked' = search (rules, work_after) in
         subst (λ m. IsGiven meaning t limit given m opened' asked' capacity wanted' a new)
         (sym (add-one given)) (record {
-          going = record {
-            state = grind (arith, drop_step);
-            room = going.room;
-            in_limit = next_in_limit limit given going.in_limit more;
-            still = subst (λ w. IfSome w (λ n. limit ≡ Some (suc given + n))) (sym less)
-                (next_still wanted limit given more going.still);
-            stopped = λ e. subst (λ l. HasWorked meaning t l opened' asked') (sym e) worked;
-          };
+          going = search (rules, drop_step, next_in_limit, next_still);
           answer = limited_step limit given all a found.rest going.in_limit more there;
           worked = worked;
         })

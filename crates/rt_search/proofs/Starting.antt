@@ -1,6 +1,6 @@
 -- A search begins, and gives its answers one after the other.
 use Rattle.std.proofs.Common.{◌≡◌, ◌<◌, ◌≤◌, ◌+◌, ℕ, Bool, true, false, ◌==◌, List, [], ◌∷◌, length, Option, Some, None}
-use Rattle.std.proofs.{Common.{refl, sym, subst, arith}, lemmas.Bool.{cases_lt, cond_both, eqb-true}}
+use Rattle.std.proofs.{Common.{refl, sym, subst, arith, rules}, lemmas.Bool.{cases_lt, cond_both, eqb-true}}
 use Rattle.std.proofs.lemmas.{Bool.Decides.{nat_tests}, List.{nil_from_length, Sorted.{length_permutation}}}
 use Rattle.std.proofs.lemmas.List.Sums.{sum_by-cons}
 use Rattle.std.specs.{Option.{option_map_or}, Prelude.{IfSome, nat_le}}
@@ -38,7 +38,7 @@ from_first wanted limit h = grind arith
 module _ (meaning : Meaning) (t : Packed) (sound : IsSound t)
   where
     root_course : (cost : Node → ℕ) → 0 < length t.nodes → IsOnCourse meaning cost t 0 (root_item t ∷ [])
-    root_course cost some = grind (arith, root_work, all_each, within_zero)
+    root_course cost some = search (rules, all_each, within_zero, sum_by-cons, nat_tests)
 
     pub empty_answers : length t.nodes ≡ 0 → answers t.entries meaning None ≡ []
     empty_answers none = grind (arith, cases_lt, nil_from_length)

@@ -160,9 +160,7 @@ module _ {meaning : Meaning} (law : IsLawful meaning) where
                     low = omega arith;
                     high = k.level;
                     extent = refl;
-                    question =
-                        node_question meaning t sound v small (node_at t number) (height_at t number - 1) i
-                        ((node_at t number).first + i) opened.low opened.below k;
+                    question = search (rules, node_question);
                   };
               room_is =
                   let sizes = sum_more meaning t v number opened.tree high (λ k. k.size) i few in

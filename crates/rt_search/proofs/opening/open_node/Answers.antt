@@ -20,8 +20,6 @@ check-requires g c =
 pub put_node-requires : goal.put_node-requires
 put_node-requires g c =
     let here = children_of c.requires.node c.node-node.ensures c.if-node-eq1.false c.child_nodes-children.ensures in
-    let k = asked here c.loop-i.i c.verdict_on-parent.result c.loop-i-test.true c.index-children-i.is
-    c.new-number.ensures c.node-whole.ensures c.info_under-info.ensures in
     let geometry = c.args.counted.now.geometry in
     let tree = c.args.tree.now in
     let number = c.args.taken.node.number.number in
@@ -51,16 +49,5 @@ loop-i-preserved g c =
 
 pub returns : goal.returns
 returns g c =
-    let meaning = g.G.Geometry.meaning c.args.counted.now.geometry in
     let here = children_of c.requires.node c.node-node.ensures c.if-node-eq1.false c.child_nodes-children.ensures in
-    let inv = c.loop-i.invariant in
-    let end : c.loop-i.i ≡ (node_at c.args.tree.now c.args.taken.node.number.number).count = omega arith in
-    record {
-      children = record {
-        items = grind (arith, nodes_join);
-        wanted = inv.children.wanted;
-        capacity = inv.children.capacity;
-      };
-      asked = omega arith;
-      geometry = inv.geometry;
-    }
+    record { children = search (rules, nodes_join); asked = omega arith; geometry = search rules }

@@ -22,7 +22,6 @@ walk_child-walk_under-requires g t c κs within =
     (c.visit_node.ensures.taken _ (rw (← v, ← c.requires.size) at (known law c.requires.node))) in
     let one = at_child g.V.Visitor.opens one_node meaning tree (meaning.verdict info) number (rw v at opens) in
     let its = at_child g.V.Visitor.opens its_children meaning tree (meaning.verdict info) number (rw v at opens) in
-    let asked_few = c.requires.asked in
     let o = c.requires.sound in (
       omega arith,
       (within.0, (within.1, (o, rw (e.geometry, v, stays) (grind arith, (omega arith, (omega arith, omega arith)))))),
@@ -31,9 +30,7 @@ walk_child-walk_under-requires g t c κs within =
 pub walk_child-returns-then-visit_node-clause-taken : goal.walk_child-returns-then-visit_node-clause-taken
 walk_child-returns-then-visit_node-clause-taken g t c =
     let is_known = known (g.met.G.Geometry.lawful c.args.counted.now.geometry) c.requires.node in
-    let stays : c.visit_node.new.self ≡ c.args.visitor.now =
-    rw c.if-visit_node.true at
-    (c.visit_node.ensures.taken _ (rw (← c.check-verdict.ensures.verdict, ← c.requires.size) at is_known)) in
+    let stays : c.visit_node.new.self ≡ c.args.visitor.now = search rules in
     rw (stays, c.check-verdict.ensures.geometry) at c.walk_under.ensures.taken
 
 pub walk_child-returns-else-visit_node-clause-taken : goal.walk_child-returns-else-visit_node-clause-taken
@@ -54,7 +51,7 @@ walk_under-walk_child-requires g t c κs within =
     c.args.opened.now c.loop-i.opened c.args.counted.now.asked c.loop-i.counted.asked i.opened i.asked
     c.requires.opened c.requires.asked in
     let size : c.index-children-i.result.size ≡ (node_at tree c.new-number.result.number).size = ap (λ n. n.size) k.is in
-    let fits = can.room_is in (
+    (
       omega arith,
       (within.0, (within.1, (sound, rw i.geometry (can.node, (size, (omega arith, (can.opened_few, can.asked_few))))))),
     )
