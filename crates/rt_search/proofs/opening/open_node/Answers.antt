@@ -8,25 +8,19 @@ pub returns-then-node-eq1-clause-children : goal.returns-then-node-eq1-clause-ch
 returns-then-node-eq1-clause-children g c = search (rules, entries_join, leaf_joins)
 
 pub child_nodes-children-requires : goal.child_nodes-children-requires
-child_nodes-children-requires g c = children_inside c.requires.node c.node-node.ensures c.if-node-eq1.false
+child_nodes-children-requires g c = search (rules, children_inside)
 
 pub check-requires : goal.check-requires
 check-requires g c =
     let here = children_of c.requires.node c.node-node.ensures c.if-node-eq1.false c.child_nodes-children.ensures in
-    let k = asked here c.loop-i.i c.verdict_on-parent.result c.loop-i-test.true c.index-children-i.is
-    c.new-number.ensures c.node-whole.ensures c.info_under-info.ensures in
-    record { honest = grind (arith, honest_child); room = omega arith }
+    let k = asked here c.loop-i.i c.verdict_on-parent.result c.loop-i-test.true c.index-children-i.is c.new-number.ensures
+    c.node-whole.ensures c.info_under-info.ensures in
+    search (rules, honest_child)
 
 pub put_node-requires : goal.put_node-requires
 put_node-requires g c =
     let here = children_of c.requires.node c.node-node.ensures c.if-node-eq1.false c.child_nodes-children.ensures in
-    let geometry = c.args.counted.now.geometry in
-    let tree = c.args.tree.now in
-    let number = c.args.taken.node.number.number in
-    let v = c.verdict_on-parent.result in
-    let long = length-join_nodes (g.G.Geometry.meaning geometry) tree v (node_at tree number) c.loop-i.i
-    c.args.queue.now.items in
-    rw c.loop-i.invariant.children.capacity (omega arith)
+    search (rules, length-join_nodes)
 
 pub loop-i-preserved : goal.loop-i-preserved
 loop-i-preserved g c =

@@ -58,31 +58,12 @@ walk_under-walk_child-requires g t c κs within =
 
 pub walk_under-loop-i-preserved : goal.walk_under-loop-i-preserved
 walk_under-loop-i-preserved g t c =
-    let law = g.met.G.Geometry.lawful c.args.counted.now.geometry in
-    let v = c.args.parent in
     let here = children_of c.requires.node c.node-node.ensures c.if-node-eq1.false c.child_nodes-children.ensures in
-    let k = asked here c.loop-i.i v c.loop-i-test.true c.index-children-i.is c.new-number.ensures
+    let k = asked here c.loop-i.i c.args.parent c.loop-i-test.true c.index-children-i.is c.new-number.ensures
     c.node-whole.ensures c.info_under-info.ensures in
-    let e = rw k.at at (rw k.info_is at (rw c.loop-i.invariant.geometry at c.walk_child.ensures)) in
-    let more = λ (cost : Node → ℕ).
-    work_more law c.requires.sound (search rules) c.requires.node here.high g.V.Visitor.opens cost c.loop-i.i k.few in
-    record {
-      taken = grind (arith, upto_more, taken-append);
-      opened = omega (arith, more one_node);
-      asked = omega (arith, more its_children);
-      geometry = e.geometry;
-    }
+    search (rules, upto_more, taken-append, work_more (g.met.G.Geometry.lawful c.args.counted.now.geometry))
 
 pub walk_under-returns : goal.walk_under-returns
 walk_under-returns g t c =
-    let law = g.met.G.Geometry.lawful c.args.counted.now.geometry in
     let here = children_of c.requires.node c.node-node.ensures c.if-node-eq1.false c.child_nodes-children.ensures in
-    let end : c.loop-i.i ≡ (node_at c.args.tree.now c.args.number.number).count = omega arith in
-    let inv = rw end at c.loop-i.invariant in
-    let all = work_all law c.requires.sound (search rules) c.requires.node here.high g.V.Visitor.opens in
-    record {
-      taken = grind (arith, upto_all);
-      opened = omega (arith, all one_node);
-      asked = omega (arith, all its_children);
-      geometry = inv.geometry;
-    }
+    search (rules, upto_all, work_all (g.met.G.Geometry.lawful c.args.counted.now.geometry))
