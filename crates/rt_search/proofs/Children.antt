@@ -39,18 +39,11 @@ pub leaf_at : (t : Packed) (n : Node) (i : ℕ) → IsTable t.entries → IsLeaf
     → IsLeafAt t n i (get_or (child_entries t n) i no_entry)
 leaf_at t n i table s lt =
     let e = get_or (child_entries t n) i no_entry in
-    let here : i < length (child_entries t n) = omega (arith, part_length t.entries n.first n.count s.range) in
+    let here : i < length (child_entries t n) = search (rules, part_length) in
     let inside : n.first + i < length t.entries = omega arith in
     let read : get_or t.entries (n.first + i) e ≡ e = grind (arith, part_at, get_or_default) in
     let within = All-from_recursion (IsEntryInside (extent_of_node n)) (child_entries t n) s.within i no_entry here in
-    record {
-      place = here;
-      is = sym (get_or_default (child_entries t n) i e no_entry here);
-      within = IsPart-box (extent_of_entry e) (extent_of_node n) within;
-      box = subst HasBox read (table.boxes (n.first + i) e inside);
-      few = subst HasLayer read (table.layers (n.first + i) e inside);
-      found = slice_get-get_or t.entries (n.first + i) e inside ∙ ap Some read;
-    }
+    search (rules, IsPart-box, get_or_default, slice_get-get_or)
 
 -- how many entries are lent
 pub entries_count : (t : Packed) (n : Node) (lent : List LeafEntry) → IsLeafNode t n
@@ -66,10 +59,8 @@ pub leaf_read : (t : Packed) (n : Node) (i : ℕ) (x : LeafEntry) (lent : List L
     → IsLeafNode t n → lent ≡ map without_layer (child_entries t n) → i < length lent → x ≡ get_or lent i x
     → IsLeafRead t n i x (get_or (child_entries t n) i no_entry)
 leaf_read t n i x lent table s entries lt read =
-    let few = entries_count t n lent s entries in
-    let at = leaf_at t n i table s (omega arith) in
-    let is = get_or-map without_layer (child_entries t n) i no_entry x at.place in
-    record { at = at; is = subst (λ l. x ≡ get_or l i x) entries read ∙ is }
+    let at = leaf_at t n i table s (search (rules, entries_count)) in
+    record { at = at; is = search (rules, get_or-map) }
 
 -- ---- a child of a higher node
 
@@ -79,8 +70,7 @@ subtree_level t (suc h) n s = s.level
 
 subtree_box : (t : Packed) (h : ℕ) (n : Node) → IsSubtree t h n
     → IsRect n.bounds × (inside n.bounds plane ≡ true) × HasSome n.layers
-subtree_box t zero n s = (s.valid, s.coordinates, s.layers)
-subtree_box t (suc h) n s = (s.valid, s.coordinates, s.layers)
+subtree_box t h n s = grind arith
 
 -- a node above level 1
 pub inner_at : (t : Packed) (h : ℕ) (n : Node) → IsSubtree t h n → 2 ≤ n.level → h ≡ suc (h - 1)
@@ -113,25 +103,12 @@ child t number sub level i lt =
     let h = height_at t number - 1 in
     let s = (inner_at t (height_at t number) n sub level).1 in
     let k = node_at t (n.first + i) in
-    let here : i < length (child_nodes t n) = omega (arith, part_length t.nodes n.first n.count s.range) in
-    let number : n.first + i < length t.nodes = omega arith in
+    let here : i < length (child_nodes t n) = search (rules, part_length) in
     let is : get_or (child_nodes t n) i k ≡ k = search (rules, part_at, get_or_default) in
-    let tree : IsSubtree t h k =
-    subst (IsSubtree t h) is (All-from_recursion (IsSubtree t h) (child_nodes t n) s.below i k here) in
     let IsWithin = λ (m : Node). IsPart (extent_of_node m) (extent_of_node n) in
-    let above = subtree_level t h k tree in
-    let height : height_at t (n.first + i) ≡ h = omega arith in
-    record {
-      place = here;
-      number = number;
-      is = sym is;
-      tree = subst (λ m. IsSubtree t m k) (sym height) tree;
-      within = subst IsWithin is (All-from_recursion IsWithin (child_nodes t n) s.within i k here);
-      height = height;
-      level = omega arith;
-      lower = omega arith;
-      valid = (subtree_box t h k tree).0;
-    }
+    let tree = rw is at (All-from_recursion (IsSubtree t h) (child_nodes t n) s.below i k here) in
+    let within = rw is at (All-from_recursion IsWithin (child_nodes t n) s.within i k here) in
+    search (rules, subtree_level, subtree_box)
 
 -- a child that was read and is asked about
 pub record IsAsked (t : Packed) (number i k : ℕ) (x : PlainNode) (v : Verdict) (info : Info) : Type 0 where

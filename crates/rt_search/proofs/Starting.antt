@@ -17,23 +17,8 @@ within_zero bound = grind (arith, nat_tests)
 
 -- ---- the root, which waits
 
-pub some_nodes : (t : Packed) → 0 < length t.nodes → (length t.nodes == 0) ≡ false
-some_nodes t some = grind (arith, nat_tests)
-
-pub root_work : (opens : Verdict → Bool) (cost : Node → ℕ) (meaning : Meaning) (t : Packed)
-    → opens root_verdict ≡ true → 0 < length t.nodes → work_left opens cost meaning t (root_item t ∷ [])
-    ≡ reached_from_root opens cost meaning t
-root_work opens cost meaning t open' some = grind (arith, sum_by-cons, nat_tests)
-
 pub nat_eq_false : {n : ℕ} → (n == 0) ≡ false → 0 < n
 nat_eq_false h = grind (arith, nat_tests)
-
-pub none_given : (limit : Option ℕ) → IsInLimit limit 0
-none_given limit = grind arith
-
-pub from_first : (wanted limit : Option ℕ) → IfSome wanted (λ n. limit ≡ Some n)
-    → IfSome wanted (λ n. limit ≡ Some (0 + n))
-from_first wanted limit h = grind arith
 
 module _ (meaning : Meaning) (t : Packed) (sound : IsSound t)
   where
@@ -64,7 +49,7 @@ module _ (meaning : Meaning) (t : Packed) (sound : IsSound t)
         enough = enough;
       };
       room = room;
-      in_limit = none_given limit;
-      still = from_first wanted limit first;
+      in_limit = grind arith;
+      still = grind arith;
       stopped = λ e. subst (λ l. HasWorked meaning t l 0 0) (sym e) (record { in_nodes = refl; in_checks = refl });
     }

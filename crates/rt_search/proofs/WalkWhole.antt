@@ -1,6 +1,6 @@
 -- A walk over a whole tree, from its root.
 use Rattle.std.proofs.Common.{◌≡◌, ◌<◌, ◌≤◌, ◌+◌, ◌-◌, ◌^◌, ◌∙◌, ℕ, Bool, None, [], length, refl, sym, ap, arith, rules}
-use Rattle.std.proofs.lemmas.{List.{length-map, Sorted.{length_permutation}}}
+use Rattle.std.proofs.lemmas.{Bool.Decides.{nat_tests}, List.{length-map, Sorted.{length_permutation}}}
 use Rattle.rt_geo.specs.{Laws.{Meaning}, declared.geometry.Verdict.{Verdict}}
 use Rattle.rt_tree.specs.{Packed.{Packed, IsSound, node_at}, declared.tree.Node.{Node}}
 use Rattle.rt_search.specs.{Answers.{accepted, answer_cmp, answer_of, answers, scored}, Remaining.{IsOpenable, put_all}}
@@ -8,7 +8,7 @@ use Rattle.rt_search.specs.{Walking.{answers_in_tree, work_under}, Work.{its_chi
 use Rattle.rt_search.specs.Work.{root_verdict}
 use Rattle.rt_search.proofs.{Answering.{among-IsPermutation}, Giving.{length-scored}, OrderedLists.{length-put_all}}
 use Rattle.rt_search.proofs.{OrderedLists.{put_all-nil}, Orders.{answer_order}, Sizes.{count_is_fair, one_is_fair}}
-use Rattle.rt_search.proofs.{Sizes.{size_under, work_le}, Starting.{empty_answers, nat_eq_false, some_nodes}}
+use Rattle.rt_search.proofs.{Sizes.{size_under, work_le}, Starting.{empty_answers, nat_eq_false}}
 
 module _ (meaning : Meaning) (t : Packed) (sound : IsSound t)
   where
@@ -40,7 +40,7 @@ module _ (meaning : Meaning) (t : Packed) (sound : IsSound t)
 
     whole_work : (opens : Verdict → Bool) (cost : Node → ℕ) → 0 < length t.nodes
         → work_under opens cost meaning t root_verdict (length t.nodes - 1) ≡ reached_from_root opens cost meaning t
-    whole_work opens cost some = (let none = some_nodes t some in rw none refl)
+    whole_work opens cost some = grind (arith, nat_tests)
 
     pub whole : (opens : Verdict → Bool) (number : ℕ) → number + 1 ≡ length t.nodes → IsWhole opens number
     whole opens number is = search (rules, length_permutation, size_under, whole_work, work_le, one_is_fair, count_is_fair)

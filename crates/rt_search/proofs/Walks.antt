@@ -150,18 +150,9 @@ module _ {meaning : Meaning} (law : IsLawful meaning) where
         visit {i} {k} {info = info} is takes room fills old new taken fits begun begun' asked asked' b a begun_fits asked_fits =
             let few = is.few in
             let places = taken_room takes room fills old new (answers_upto opened high i) taken in
-            subst (CanVisit begun' asked' (room new) k) (sym is.info_is)
-            (subst (λ m. CanVisit begun' asked' (room new) m (info_of_node t v (node_at t m))) (sym is.at) (record {
-              node =
-                  let k = child t number opened.tree high i few in
-                  record {
-                    inside = k.number;
-                    tree = k.tree;
-                    low = omega arith;
-                    high = k.level;
-                    extent = refl;
-                    question = search (rules, node_question);
-                  };
+            let child_is = child t number opened.tree high i few in
+            rw (is.info_is, is.at) (record {
+              node = search (rules, node_question);
               room_is =
                   let sizes = sum_more meaning t v number opened.tree high (λ k. k.size) i few in
                   let size = (inner_at t (height_at t number) (node_at t number) opened.tree high).1.size in
@@ -169,5 +160,5 @@ module _ {meaning : Meaning} (law : IsLawful meaning) where
                   omega (arith, few_upto i (omega (arith, few)));
               opened_few = omega (arith, within one_node i few);
               asked_few = omega (arith, within its_children i few);
-              lower = (child t number opened.tree high i few).lower;
-            }))
+              lower = child_is.lower;
+            })
