@@ -1,6 +1,6 @@
 -- The children of a node, one at a time, and what may be asked about them.
 use Rattle.std.proofs.Common.{◌≡◌, ◌<◌, ◌≤◌, ◌+◌, ◌-◌, ◌^◌, ℕ, zero, suc, true, List, length, map, slice_get, Some}
-use Rattle.std.proofs.{Common.{take, drop, get_or, refl, sym, ◌∙◌, ap, subst, arith, rules}, lemmas.List.{get_or-map}}
+use Rattle.std.proofs.{Common.{take, drop, get_or, refl, sym, ◌∙◌, arith, rules}, lemmas.List.{get_or-map}}
 use Rattle.std.proofs.lemmas.List.{get_or-take, get_or-drop, get_or_default, length-map, length-take, length-drop}
 use Rattle.std.proofs.lemmas.{List.{take_all, Elements.{All-from_recursion}}, Option.{slice_get-get_or}}
 use Rattle.rt_geo.specs.{Boxes.{IsRect, inside, plane}, Entries.{HasBox, HasLayer}, Laws.{Meaning, Extent, IsHonest}}
@@ -8,7 +8,7 @@ use Rattle.rt_geo.specs.{Laws.{IsPart, IsQuestion, extent_of, extent_of_entry}, 
 use Rattle.rt_geo.specs.Lemmas.{Laws.{AllAccepted-part, IsPart-box}}
 use Rattle.rt_geo.specs.declared.{entry.Entry.{Entry}, geometry.{Info.{Info}, Verdict.{Verdict}}}
 use Rattle.rt_tree.specs.{Entries.{IsTable}, Leaves.{without_layer}, Packed.{Packed, IsInnerNode, IsLeafNode, IsSound}}
-use Rattle.rt_tree.specs.Packed.{IsSubtree, child_entries, child_nodes, extent_of_node, no_node, node_at, root_of}
+use Rattle.rt_tree.specs.Packed.{IsSubtree, child_entries, child_nodes, extent_of_node, node_at, root_of}
 use Rattle.rt_tree.specs.{PlainNodes.{without_layers}, declared.entries.LeafEntry.{LeafEntry}}
 use Rattle.rt_tree.specs.declared.{nodes.PlainNode.{PlainNode}, tree.Node.{Node}}
 use Rattle.rt_search.specs.{Joining.{info_of_child, no_entry}, Remaining.{IsBelow, IsOpenable, height_at}}

@@ -1,5 +1,5 @@
 -- A search gives its answers one after the other, up to its limit.
-use Rattle.std.proofs.Common.{◌≡◌, ◌≢◌, ◌<◌, ◌≤◌, ◌+◌, ◌-◌, ℕ, zero, suc, List, [], ◌∷◌, length, take, drop}
+use Rattle.std.proofs.Common.{◌≡◌, ◌≢◌, ◌<◌, ◌≤◌, ◌+◌, ℕ, zero, suc, List, [], ◌∷◌, length, take, drop}
 use Rattle.std.proofs.Common.{Option, Some, None, refl, sym, ◌∙◌, ap, subst, arith, rules, add-one}
 use Rattle.std.proofs.lemmas.List.{drop_all, length-drop, length-map, length-take}
 use Rattle.std.proofs.lemmas.Option.{slice_get_past}
@@ -12,7 +12,7 @@ use Rattle.rt_tree.specs.{Packed.{Packed}, Sorting.{limited}, declared.tree.Node
 use Rattle.rt_tree.proofs.SortingLemmas.{IsPermutation-sorted}
 use Rattle.rt_search.specs.{Answers.{Answer, answer_cmp, answers, scored}, Limits.{one_less}}
 use Rattle.rt_search.specs.{Progress.{IsFound, IsGiving, IsInLimit, IsOver}, declared.item.Item.{Item}}
-use Rattle.rt_search.specs.Work.{HasWorked, is_reached, its_children, one_node, search_work, reached_from_root}
+use Rattle.rt_search.specs.Work.{HasWorked, is_reached, search_work, reached_from_root}
 
 -- ---- lists that are given one by one
 

@@ -1,14 +1,14 @@
 -- A search begins, and gives its answers one after the other.
-use Rattle.std.proofs.Common.{◌≡◌, ◌<◌, ◌≤◌, ◌+◌, ℕ, Bool, true, false, ◌==◌, List, [], ◌∷◌, length, Option, Some, None}
+use Rattle.std.proofs.Common.{◌≡◌, ◌<◌, ◌≤◌, ℕ, true, false, ◌==◌, List, [], ◌∷◌, length, Option, Some, None}
 use Rattle.std.proofs.{Common.{refl, sym, subst, arith, rules}, lemmas.Bool.{cases_lt, cond_both, eqb-true}}
 use Rattle.std.proofs.lemmas.{Bool.Decides.{nat_tests}, List.{nil_from_length, Sorted.{length_permutation}}}
 use Rattle.std.proofs.lemmas.List.Sums.{sum_by-cons}
 use Rattle.std.specs.{Option.{option_map_or}, Prelude.{IfSome, nat_le}}
-use Rattle.rt_geo.specs.{Laws.{Meaning}, declared.geometry.Verdict.{Verdict}}
+use Rattle.rt_geo.specs.{Laws.{Meaning}}
 use Rattle.rt_tree.specs.{Packed.{Packed, IsSound}, declared.tree.Node.{Node}}
 use Rattle.rt_search.specs.{Answers.{answers}, Joining.{root_item, root_items}, Limits.{IsEnough}, Progress.{IsGiving}}
-use Rattle.rt_search.specs.{Progress.{IsInLimit, IsOnCourse, IsSearching, work_left}, Work.{reached_from_root}}
-use Rattle.rt_search.specs.{Work.{HasWorked, its_children, one_node, root_verdict}, declared.item.Item.{Item}}
+use Rattle.rt_search.specs.{Progress.{IsOnCourse, IsSearching}}
+use Rattle.rt_search.specs.{Work.{HasWorked, its_children, one_node}, declared.item.Item.{Item}}
 use Rattle.rt_search.proofs.{Answering.{among-IsPermutation}, Elements.{all_each}, OrderedLists.{put_all-nil}}
 use Rattle.rt_search.proofs.{Orders.{answer_order}, Sizes.{size_under}}
 

@@ -1,5 +1,5 @@
 -- A walk over a whole tree, from its root.
-use Rattle.std.proofs.Common.{◌≡◌, ◌<◌, ◌≤◌, ◌+◌, ◌-◌, ◌^◌, ◌∙◌, ℕ, Bool, None, [], length, refl, sym, ap, arith, rules}
+use Rattle.std.proofs.Common.{◌≡◌, ◌<◌, ◌≤◌, ◌+◌, ◌-◌, ◌^◌, ◌∙◌, ℕ, Bool, None, [], length, sym, ap, arith, rules}
 use Rattle.std.proofs.lemmas.{Bool.Decides.{nat_tests}, List.{length-map, Sorted.{length_permutation}}}
 use Rattle.rt_geo.specs.{Laws.{Meaning}, declared.geometry.Verdict.{Verdict}}
 use Rattle.rt_tree.specs.{Packed.{Packed, IsSound, node_at}, declared.tree.Node.{Node}}

@@ -1,6 +1,6 @@
 -- What a walk finds under a node, child by child.
 use Rattle.std.proofs.Common.{◌≡◌, ◌<◌, ◌≤◌, ◌+◌, ◌-◌, ◌^◌, ℕ, zero, suc, Bool, true, List, [], ◌∷◌, ◌++◌, length, take}
-use Rattle.std.proofs.{Common.{get_or, refl, sym, ap, subst, arith, rules, add-one, length-append}, lemmas.List.{length-take}}
+use Rattle.std.proofs.{Common.{get_or, refl, ap, subst, arith, rules, add-one, length-append}, lemmas.List.{length-take}}
 use Rattle.std.proofs.lemmas.List.{take_all, Sums.{sum_by-take-drop}}
 use Rattle.std.specs.List.{AllByRecursion, sum_by}
 use Rattle.rt_geo.specs.Laws.{AllAccepted, Extent, IsLawful, IsQuestion, extent_of, extent_of_entry, Meaning}

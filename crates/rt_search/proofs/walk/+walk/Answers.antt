@@ -1,5 +1,5 @@
-use Rattle.std.proofs.Common.{ℕ, ◌≡◌, ◌∙◌, ap, sym, arith, rules}
-use Rattle.rt_tree.specs.{Packed.{node_at}, declared.tree.Node.{Node}}
+use Rattle.std.proofs.Common.{◌≡◌, ◌∙◌, ap, sym, arith, rules}
+use Rattle.rt_tree.specs.{Packed.{node_at}}
 use Rattle.rt_search.specs.Work.{its_children, one_node}
 use Rattle.rt_search.proofs.{Children.{asked, children_of}}
 use Rattle.rt_search.proofs.Joined.{upto_all, upto_more}
@@ -50,8 +50,7 @@ walk_under-walk_child-requires g t c κs within =
     g.V.Collector.room g.met.V.Collector.fills c.args.visitor.now c.loop-i.visitor i.taken c.requires.room
     c.args.opened.now c.loop-i.opened c.args.counted.now.asked c.loop-i.counted.asked i.opened i.asked
     c.requires.opened c.requires.asked in
-    let size : c.index-children-i.result.size ≡ (node_at tree c.new-number.result.number).size = ap (λ n. n.size) k.is in
-    (
+    let size : c.index-children-i.result.size ≡ (node_at tree c.new-number.result.number).size = ap (λ n. n.size) k.is in (
       omega arith,
       (within.0, (within.1, (sound, rw i.geometry (can.node, (size, (omega arith, (can.opened_few, can.asked_few))))))),
     )

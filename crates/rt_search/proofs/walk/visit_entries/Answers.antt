@@ -21,8 +21,12 @@ check-verdict-requires-clause-room g c = grind (arith, entries_count)
 
 pub visit_entry-requires : goal.visit_entry-requires
 visit_entry-requires g c =
-    search (rules, entries_count, taken_room g.C.Collector.takes g.C.Collector.room g.met.C.Collector.fills,
-    few_entries (g.G.Geometry.meaning c.args.counted.now.geometry))
+    search (
+      rules,
+      entries_count,
+      taken_room g.C.Collector.takes g.C.Collector.room g.met.C.Collector.fills,
+      few_entries (g.G.Geometry.meaning c.args.counted.now.geometry),
+    )
 
 pub loop-i-preserved : goal.loop-i-preserved
 loop-i-preserved g c =
