@@ -26,8 +26,7 @@ drop_step (y ∷ xs) (suc g) x rest h = drop_step xs g x rest h
 take_step : {X : Type 0} (k g : ℕ) (xs : List X) (x : X) (rest : List X) → g < k → drop g xs ≡ x ∷ rest
     → drop g (take k xs) ≡ x ∷ drop (suc g) (take k xs)
 take_step zero g xs x rest lt h = absurd (omega arith)
-take_step (suc k) zero [] x rest lt h = cc
-take_step (suc k) zero (y ∷ xs) x rest lt h = cc
+take_step (suc k) zero xs x rest lt h = grind arith
 take_step (suc k) (suc g) [] x rest lt h = cc
 take_step (suc k) (suc g) (y ∷ xs) x rest lt h = take_step k g xs x rest (omega arith) h
 
@@ -44,8 +43,7 @@ limited_end None g xs h = h
 limited_end (Some k) g xs h = drop_all g (take k xs) (omega (arith, length-take k xs, length-drop g xs, ap length h))
 
 next_in_limit : (limit : Option ℕ) (g : ℕ) → IsInLimit limit g → limit ≢ Some g → IsInLimit limit (suc g)
-next_in_limit None g le n = tt
-next_in_limit (Some k) g le n = search rules
+next_in_limit limit g le n = grind arith
 
 -- ---- how many are still wanted
 
