@@ -114,8 +114,7 @@ module _ (meaning : Meaning) where
         → IsSoundAt t meaning r p → AllByRecursion (λ q. is_gt (answer_cmp (i, s) q) ≡ false) (answers_at t meaning r p)
     least_at i s r (place.Entry j) h k = (h, tt)
     least_at i s r (place.Node n) h k =
-        all_map (λ q. r ≤ q.1) (λ q. is_gt (answer_cmp (i, s) q) ≡ false) (λ q b. grind (arith, nat_tests))
-        (answers_at t meaning r (place.Node n)) (at_above r (place.Node n) k)
+        all_map _ _ (λ q b. grind (arith, nat_tests)) (answers_at t meaning r (place.Node n)) (at_above r (place.Node n) k)
 
     all_least : (i : ℤ) (s : ℕ) (xs : List Item)
         → AllByRecursion (λ y. is_gt (item_cmp (item_at s (place.Entry i)) y) ≡ false) xs → AllSound t meaning xs

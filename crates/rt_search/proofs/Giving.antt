@@ -111,15 +111,8 @@ module _ {meaning : Meaning} {t : Packed} {limit : Option ℕ}
         (drop given (answers t.entries meaning None)) a new
         → IsGiven meaning t limit given (given + 1) opened' asked' capacity wanted' a new
     give {a} less found =
-        let all = answers t.entries meaning None in
-        let there : drop given all ≡ a ∷ found.rest = found.first in
         let worked : HasWorked meaning t (Some (suc given)) opened' asked' = search (rules, work_after) in
-        subst (λ m. IsGiven meaning t limit given m opened' asked' capacity wanted' a new)
-        (sym (add-one given)) (record {
-          going = search (rules, drop_step, next_in_limit, next_still);
-          answer = limited_step limit given all a found.rest going.in_limit more there;
-          worked = worked;
-        })
+        rw (add-one given) (search (rules, drop_step, next_in_limit, next_still, limited_step))
 
     pub end : wanted' ≡ wanted → IsOver meaning t opened' asked' wanted'
         (drop given (answers t.entries meaning None)) new

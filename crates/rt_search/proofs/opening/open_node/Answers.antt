@@ -29,13 +29,9 @@ loop-i-preserved g c =
     let inv = c.loop-i.invariant in
     let e = rw inv.geometry at c.check.ensures in
     let h = rw (e.verdict, inv.children.wanted) at c.put_node.ensures in
+    let items = enough_node c.args.queue.now.wanted _ _ _ _ _ inv.children.items (rw k.at at (rw k.info_is at h.items)) in
     record {
-      children = record {
-        items = rw add-one (enough_node c.args.queue.now.wanted _ _ _ _ _ inv.children.items
-            (rw k.at at (rw k.info_is at h.items)));
-        wanted = h.wanted;
-        capacity = h.capacity ∙ inv.children.capacity;
-      };
+      children = record { items = rw add-one items; wanted = h.wanted; capacity = h.capacity ∙ inv.children.capacity };
       geometry = e.geometry;
       asked = omega arith;
     }
