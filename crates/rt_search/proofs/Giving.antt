@@ -1,6 +1,6 @@
 -- A search gives its answers one after the other, up to its limit.
 use Rattle.std.proofs.Common.{◌≡◌, ◌≢◌, ◌<◌, ◌≤◌, ◌+◌, ℕ, zero, suc, List, [], ◌∷◌, length, take, drop}
-use Rattle.std.proofs.Common.{Option, Some, None, refl, sym, ◌∙◌, ap, subst, arith, rules, add-one}
+use Rattle.std.proofs.Common.{Option, Some, None, refl, sym, ◌∙◌, ap, arith, rules, add-one}
 use Rattle.std.proofs.lemmas.List.{drop_all, length-drop, length-map, length-take}
 use Rattle.std.proofs.lemmas.Option.{slice_get_past}
 use Rattle.std.proofs.lemmas.List.{Sums.{count_by-le-length, length-filter}}

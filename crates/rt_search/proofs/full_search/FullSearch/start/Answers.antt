@@ -1,4 +1,4 @@
-use Rattle.std.proofs.Common.{◌∙◌, [], ap, arith, length, rules}
+use Rattle.std.proofs.Common.{◌∙◌, [], ap, rules}
 use Rattle.rt_search.specs.{Joining.{join_answers}, Remaining.{remaining}, Walking.{answers_in_tree}}
 use Rattle.rt_search.proofs.{Collectors.{hits_join, length-joined}, Joined.{answers_joined}, WalkWhole.{tree_answers, tree_few}}
 use Rattle.rt_search.proofs.full_search.FullSearch.start.Goals as goal
