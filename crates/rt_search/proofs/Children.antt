@@ -93,7 +93,6 @@ pub record IsChild (t : Packed) (n : Node) (h i k : ℕ) : Type 0 where
   pub height : height_at t k ≡ h
   pub level : 0 < (node_at t k).level
   pub lower : (node_at t k).level < n.level
-  pub valid : IsRect (node_at t k).bounds
 
 pub child : (t : Packed) (number : ℕ) → IsSubtree t (height_at t number) (node_at t number)
     → 2 ≤ (node_at t number).level → (i : ℕ) → i < (node_at t number).count
