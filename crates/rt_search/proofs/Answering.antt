@@ -1,6 +1,6 @@
 -- The answers among entries, and those that items stand for.
 use Rattle.std.proofs.Common.{◌≡◌, ◌<◌, ◌≤◌, ◌+◌, ℕ, ℤ, zero, suc, true, false, List, [], ◌∷◌, ◌++◌, Option, Some, None}
-use Rattle.std.proofs.{Common.{length, take, get_or, refl, sym, ◌∙◌, ap, arith, IsPermutation}, lemmas.Bool.{cond_both}}
+use Rattle.std.proofs.{Common.{length, take, get_or, refl, sym, ◌∙◌, ap, arith, rules, IsPermutation}, lemmas.Bool.{cond_both}}
 use Rattle.std.proofs.lemmas.{Bool.Decides.{nat_tests}, Grind.{flat_map-append}, List.{map-append, take_more}}
 use Rattle.std.proofs.lemmas.List.{Elements.{filter-append}, Sorted.{IsPermutation-cons, IsPermutation-map}}
 use Rattle.std.proofs.lemmas.List.Sorted.{IsPermutation-middle, IsPermutation-refl, IsPermutation-trans}
@@ -57,9 +57,6 @@ module _ (meaning : Meaning) where
       ≡ (e.id, meaning.score (extent_of_entry e)) ∷ among es
   among_accepted e es h = rw h refl
 
-  pub among_refused : (e : Entry) (es : List Entry) → meaning.accepts (extent_of_entry e) ≡ false → among (e ∷ es) ≡ among es
-  among_refused e es h = rw h refl
-
   -- a bound on the scores of boxes inside is one on the answers
   pub among_above : (c : Extent) (s : ℕ) → ((b : Extent) → IsBoxInside b c → meaning.accepts b ≡ true → s ≤ meaning.score b)
       → (es : List Entry) → AllByRecursion (IsEntryInside c) es → AllByRecursion (λ a. s ≤ a.1) (among es)
@@ -70,7 +67,7 @@ module _ (meaning : Meaning) where
   pub among_none : (c : Extent) → NoneAccepted meaning.accepts c → (es : List Entry) → AllByRecursion (IsEntryInside c) es
       → among es ≡ []
   among_none c never [] a = refl
-  among_none c never (e ∷ es) a = among_refused e es (never (extent_of_entry e) a.0) ∙ among_none c never es a.1
+  among_none c never (e ∷ es) a = search (rules, among_none c never es a.1)
 
   -- ---- the order of the entries doesn't matter
 
@@ -117,8 +114,7 @@ module _ (meaning : Meaning) where
         → IsSoundAt t meaning r p → AllByRecursion (λ q. is_gt (answer_cmp (i, s) q) ≡ false) (answers_at t meaning r p)
     least_at i s r (place.Entry j) h k = (h, tt)
     least_at i s r (place.Node n) h k =
-        all_map (λ q. r ≤ q.1) (λ q. is_gt (answer_cmp (i, s) q) ≡ false) (λ q b. grind (arith, nat_tests))
-        (answers_at t meaning r (place.Node n)) (at_above r (place.Node n) k)
+        all_map _ _ (λ q b. grind (arith, nat_tests)) (answers_at t meaning r (place.Node n)) (at_above r (place.Node n) k)
 
     all_least : (i : ℤ) (s : ℕ) (xs : List Item)
         → AllByRecursion (λ y. is_gt (item_cmp (item_at s (place.Entry i)) y) ≡ false) xs → AllSound t meaning xs

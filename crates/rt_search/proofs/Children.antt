@@ -1,14 +1,14 @@
 -- The children of a node, one at a time, and what may be asked about them.
 use Rattle.std.proofs.Common.{◌≡◌, ◌<◌, ◌≤◌, ◌+◌, ◌-◌, ◌^◌, ℕ, zero, suc, true, List, length, map, slice_get, Some}
-use Rattle.std.proofs.{Common.{take, drop, get_or, refl, sym, ◌∙◌, ap, subst, arith}, lemmas.List.{get_or-map}}
+use Rattle.std.proofs.{Common.{take, drop, get_or, refl, sym, ◌∙◌, arith, rules}, lemmas.List.{get_or-map}}
 use Rattle.std.proofs.lemmas.List.{get_or-take, get_or-drop, get_or_default, length-map, length-take, length-drop}
 use Rattle.std.proofs.lemmas.{List.{take_all, Elements.{All-from_recursion}}, Option.{slice_get-get_or}}
 use Rattle.rt_geo.specs.{Boxes.{IsRect, inside, plane}, Entries.{HasBox, HasLayer}, Laws.{Meaning, Extent, IsHonest}}
 use Rattle.rt_geo.specs.{Laws.{IsPart, IsQuestion, extent_of, extent_of_entry}, Layers.{HasSome}}
-use Rattle.rt_geo.specs.Lemmas.{Laws.{AllAccepted-part, IsPart-box}, Layers.{HasSome-only}}
+use Rattle.rt_geo.specs.Lemmas.{Laws.{AllAccepted-part, IsPart-box}}
 use Rattle.rt_geo.specs.declared.{entry.Entry.{Entry}, geometry.{Info.{Info}, Verdict.{Verdict}}}
 use Rattle.rt_tree.specs.{Entries.{IsTable}, Leaves.{without_layer}, Packed.{Packed, IsInnerNode, IsLeafNode, IsSound}}
-use Rattle.rt_tree.specs.Packed.{IsSubtree, child_entries, child_nodes, extent_of_node, no_node, node_at, root_of}
+use Rattle.rt_tree.specs.Packed.{IsSubtree, child_entries, child_nodes, extent_of_node, node_at, root_of}
 use Rattle.rt_tree.specs.{PlainNodes.{without_layers}, declared.entries.LeafEntry.{LeafEntry}}
 use Rattle.rt_tree.specs.declared.{nodes.PlainNode.{PlainNode}, tree.Node.{Node}}
 use Rattle.rt_search.specs.{Joining.{info_of_child, no_entry}, Remaining.{IsBelow, IsOpenable, height_at}}
@@ -39,18 +39,11 @@ pub leaf_at : (t : Packed) (n : Node) (i : ℕ) → IsTable t.entries → IsLeaf
     → IsLeafAt t n i (get_or (child_entries t n) i no_entry)
 leaf_at t n i table s lt =
     let e = get_or (child_entries t n) i no_entry in
-    let here : i < length (child_entries t n) = omega (arith, part_length t.entries n.first n.count s.range) in
+    let here : i < length (child_entries t n) = search (rules, part_length) in
     let inside : n.first + i < length t.entries = omega arith in
     let read : get_or t.entries (n.first + i) e ≡ e = grind (arith, part_at, get_or_default) in
     let within = All-from_recursion (IsEntryInside (extent_of_node n)) (child_entries t n) s.within i no_entry here in
-    record {
-      place = here;
-      is = sym (get_or_default (child_entries t n) i e no_entry here);
-      within = IsPart-box (extent_of_entry e) (extent_of_node n) within;
-      box = subst HasBox read (table.boxes (n.first + i) e inside);
-      few = subst HasLayer read (table.layers (n.first + i) e inside);
-      found = slice_get-get_or t.entries (n.first + i) e inside ∙ ap Some read;
-    }
+    search (rules, IsPart-box, get_or_default, slice_get-get_or)
 
 -- how many entries are lent
 pub entries_count : (t : Packed) (n : Node) (lent : List LeafEntry) → IsLeafNode t n
@@ -66,10 +59,8 @@ pub leaf_read : (t : Packed) (n : Node) (i : ℕ) (x : LeafEntry) (lent : List L
     → IsLeafNode t n → lent ≡ map without_layer (child_entries t n) → i < length lent → x ≡ get_or lent i x
     → IsLeafRead t n i x (get_or (child_entries t n) i no_entry)
 leaf_read t n i x lent table s entries lt read =
-    let few = entries_count t n lent s entries in
-    let at = leaf_at t n i table s (omega arith) in
-    let is = get_or-map without_layer (child_entries t n) i no_entry x at.place in
-    record { at = at; is = subst (λ l. x ≡ get_or l i x) entries read ∙ is }
+    let at = leaf_at t n i table s (search (rules, entries_count)) in
+    record { at = at; is = search (rules, get_or-map) }
 
 -- ---- a child of a higher node
 
@@ -79,19 +70,18 @@ subtree_level t (suc h) n s = s.level
 
 subtree_box : (t : Packed) (h : ℕ) (n : Node) → IsSubtree t h n
     → IsRect n.bounds × (inside n.bounds plane ≡ true) × HasSome n.layers
-subtree_box t zero n s = (s.valid, s.coordinates, s.layers)
-subtree_box t (suc h) n s = (s.valid, s.coordinates, s.layers)
+subtree_box t h n s = grind arith
 
 -- a node above level 1
 pub inner_at : (t : Packed) (h : ℕ) (n : Node) → IsSubtree t h n → 2 ≤ n.level → h ≡ suc (h - 1)
     × IsInnerNode t (h - 1) (IsSubtree t (h - 1)) n
-inner_at t zero n s level = absurd (let e = s.level in omega arith)
+inner_at t zero n s level = absurd (omega arith)
 inner_at t (suc h) n s level = let same : suc h - 1 ≡ h = omega arith in rw same (refl, s)
 
 -- a node of level 1
 pub leaf_node : (t : Packed) (h : ℕ) (n : Node) → IsSubtree t h n → n.level ≡ 1 → (h ≡ 0) × IsLeafNode t n
 leaf_node t zero n s e = (refl, s)
-leaf_node t (suc h) n s e = absurd (let l = s.level in omega arith)
+leaf_node t (suc h) n s e = absurd (omega arith)
 
 -- the child whose number is k
 pub record IsChild (t : Packed) (n : Node) (h i k : ℕ) : Type 0 where
@@ -103,7 +93,6 @@ pub record IsChild (t : Packed) (n : Node) (h i k : ℕ) : Type 0 where
   pub height : height_at t k ≡ h
   pub level : 0 < (node_at t k).level
   pub lower : (node_at t k).level < n.level
-  pub valid : IsRect (node_at t k).bounds
 
 pub child : (t : Packed) (number : ℕ) → IsSubtree t (height_at t number) (node_at t number)
     → 2 ≤ (node_at t number).level → (i : ℕ) → i < (node_at t number).count
@@ -113,26 +102,12 @@ child t number sub level i lt =
     let h = height_at t number - 1 in
     let s = (inner_at t (height_at t number) n sub level).1 in
     let k = node_at t (n.first + i) in
-    let here : i < length (child_nodes t n) = omega (arith, part_length t.nodes n.first n.count s.range) in
-    let number : n.first + i < length t.nodes = (let r = s.range in omega arith) in
-    let is : get_or (child_nodes t n) i k ≡ k = part_at t.nodes n.first n.count i k lt
-    ∙ get_or_default t.nodes (n.first + i) k no_node number in
-    let tree : IsSubtree t h k =
-    subst (IsSubtree t h) is (All-from_recursion (IsSubtree t h) (child_nodes t n) s.below i k here) in
+    let here : i < length (child_nodes t n) = search (rules, part_length) in
+    let is : get_or (child_nodes t n) i k ≡ k = search (rules, part_at, get_or_default) in
     let IsWithin = λ (m : Node). IsPart (extent_of_node m) (extent_of_node n) in
-    let above = subtree_level t h k tree in
-    let height : height_at t (n.first + i) ≡ h = omega arith in
-    record {
-      place = here;
-      number = number;
-      is = sym is;
-      tree = subst (λ m. IsSubtree t m k) (sym height) tree;
-      within = subst IsWithin is (All-from_recursion IsWithin (child_nodes t n) s.within i k here);
-      height = height;
-      level = omega arith;
-      lower = omega arith;
-      valid = (subtree_box t h k tree).0;
-    }
+    let tree = rw is at (All-from_recursion (IsSubtree t h) (child_nodes t n) s.below i k here) in
+    let within = rw is at (All-from_recursion IsWithin (child_nodes t n) s.within i k here) in
+    search (rules, subtree_level, subtree_box)
 
 -- a child that was read and is asked about
 pub record IsAsked (t : Packed) (number i k : ℕ) (x : PlainNode) (v : Verdict) (info : Info) : Type 0 where
@@ -153,23 +128,19 @@ pub record HasChildren (t : Packed) (number : ℕ) (n : Node) (children : List P
 
 module _ {t : Packed} {meaning : Meaning} {number : ℕ} {v : Verdict}
     (opened : IsOpenable t meaning number v) {n : Node} (is : n ≡ node_at t number) (above : n.level ≡ 1 → ⊥) where
-  is_high : 2 ≤ (node_at t number).level
-  is_high = grind (arith, subtree_level, opened.tree)
-
   pub children_inside : n.first + n.count ≤ length t.nodes
-  children_inside = rw is (inner_at t (height_at t number) (node_at t number) opened.tree is_high).1.range
+  children_inside = search (rules, subtree_level)
 
   pub children_of : {children : List PlainNode} → children ≡ map without_layers (child_nodes t n)
       → HasChildren t number n children
-  children_of lent = grind (arith, inner_at, is_high, length-map, part_length, opened.tree)
+  children_of lent = search (rules, subtree_level, length-map, part_length)
 
 pub asked : {t : Packed} {number : ℕ} {n : Node} {children : List PlainNode} → HasChildren t number n children → (i : ℕ)
     (v : Verdict) {k : ℕ} {x : PlainNode} {whole : Node} {info : Info} → i < length children
     → x ≡ get_or children i x → k ≡ n.first + i → whole ≡ node_at t k
     → info ≡ info_under (root_of t).level v (record { bounds = x.bounds; layers = whole.layers }) (n.level - 1)
     → IsAsked t number i k x v info
-asked {t} {number} {n} here i v {k} {x = x} {whole = whole} lt read number_is whole_is info_is =
-    grind (arith, child, get_or-map, here.count, here.is, here.tree, here.high, here.lent)
+asked here i v lt read number_is whole_is info_is = search (rules, child, get_or-map)
 
 -- all children of a node
 pub all_children : (t : Packed) (number : ℕ) → IsSubtree t (height_at t number) (node_at t number)
@@ -193,32 +164,12 @@ honest_child meaning whole info v below told part = λ full.
 module _ (meaning : Meaning) (t : Packed) (sound : IsSound t) (v : Verdict) (small : v.score < 2 ^ 128) where
   pub entry_question : (n : Node) (e : Entry) (i : ℕ) → IsBelow meaning (extent_of_node n) v → IsLeafAt t n i e
       → IsQuestion meaning.accepts (info_of_child t v e)
-  entry_question n e i below at =
-      record {
-        well_formed = record {
-          box = at.box.box;
-          coordinates = at.box.coordinates;
-          layers = HasSome-only e.layer at.few;
-          one = λ _. record { layer = e.layer; few = at.few; is = refl };
-          level = omega arith;
-          top = grind arith;
-          parent_score = small;
-        };
-        honest = honest_child meaning (extent_of_node n) (info_of_child t v e) v below refl at.within;
-      }
+  entry_question n e i below at = search (rules, honest_child)
 
   pub node_question : (n : Node) (h i k : ℕ) → n.level ≤ 24 → IsBelow meaning (extent_of_node n) v
       → IsChild t n h i k → IsQuestion meaning.accepts (info_of_node t v (node_at t k))
   node_question n h i k low below at =
       record {
-        well_formed = record {
-          box = at.valid;
-          coordinates = (subtree_box t (height_at t k) (node_at t k) at.tree).1;
-          layers = (subtree_box t (height_at t k) (node_at t k) at.tree).2;
-          one = (let above = at.level in λ low. absurd (omega arith));
-          level = omega arith;
-          top = omega arith;
-          parent_score = small;
-        };
+        well_formed = search (rules, subtree_box);
         honest = honest_child meaning (extent_of_node n) (info_of_node t v (node_at t k)) v below refl at.within;
       }

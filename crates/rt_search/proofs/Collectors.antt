@@ -1,5 +1,5 @@
 -- What a collector becomes with answers.
-use Rattle.std.proofs.{Common.{◌≡◌, ◌+◌, ◌∷◌, [], ℕ, List, length, map, ap, arith}, lemmas.List.{length-map}}
+use Rattle.std.proofs.{Common.{◌≡◌, ◌+◌, ◌∷◌, [], ℕ, List, length, map, ap, arith, rules}, lemmas.List.{length-map}}
 use Rattle.rt_tree.specs.Sorting.{put}
 use Rattle.rt_search.specs.{Answers.{Answer}, Items.{Limited, Waiting, item_cmp, item_of}, Joining.{KeepsHit}}
 use Rattle.rt_search.specs.{Joining.{join_answers}, Limits.{IsPut, KeepsEnough}, Walking.{HasTaken}}
@@ -25,14 +25,10 @@ tally_counted old new (x ∷ xs) h =
 
 -- ---- the hits, and what waits: the entries of the answers join
 
-join_next : (a : Answer) (xs : List Answer) (items : List Item)
-    → join_answers xs (put item_cmp (item_of a) items) ≡ join_answers (a ∷ xs) items
-join_next a xs items = put_all-put item_cmp item_order (map item_of xs) (item_of a) items
-
 pub hits_join : (old new : Waiting) (xs : List Answer) → HasTaken KeepsHit old xs new
     → (new.items ≡ join_answers xs old.items) × (new.capacity ≡ old.capacity)
 hits_join old new [] h = (ap (λ w. w.items) h, ap (λ w. w.capacity) h)
-hits_join old new (a ∷ xs) h = grind (arith, join_next, hits_join h.0 new xs h.1.1)
+hits_join old new (a ∷ xs) h = search (rules, put_all-put, item_order, hits_join h.0 new xs h.1.1)
 
 pub length-joined : (xs : List Answer) (items : List Item) → length (join_answers xs items) ≡ length xs + length items
 length-joined xs items = grind (arith, length-put_all, item_order, length-map)
@@ -44,4 +40,4 @@ entries_join old new [] h = grind (arith, enough_itself)
 entries_join old new (a ∷ xs) h =
     let rest = entries_join h.0 new xs h.1.1 in
     let one = enough_put_all old.wanted (map item_of xs) h.0.items (put item_cmp (item_of a) old.items) h.1.0.items in
-    grind (arith, join_next, enough_trans)
+    grind (arith, put_all-put, item_order, enough_trans)

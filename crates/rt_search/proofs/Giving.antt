@@ -1,18 +1,18 @@
 -- A search gives its answers one after the other, up to its limit.
-use Rattle.std.proofs.Common.{◌≡◌, ◌≢◌, ◌<◌, ◌≤◌, ◌+◌, ◌-◌, ℕ, zero, suc, List, [], ◌∷◌, length, take, drop}
-use Rattle.std.proofs.Common.{Option, Some, None, refl, sym, ◌∙◌, ap, subst, arith, add-one}
+use Rattle.std.proofs.Common.{◌≡◌, ◌≢◌, ◌<◌, ◌≤◌, ◌+◌, ℕ, zero, suc, List, [], ◌∷◌, length, take, drop}
+use Rattle.std.proofs.Common.{Option, Some, None, refl, sym, ◌∙◌, ap, arith, rules, add-one}
 use Rattle.std.proofs.lemmas.List.{drop_all, length-drop, length-map, length-take}
 use Rattle.std.proofs.lemmas.Option.{slice_get_past}
 use Rattle.std.proofs.lemmas.List.{Sums.{count_by-le-length, length-filter}}
 use Rattle.std.proofs.lemmas.List.Sorted.{length_permutation}
 use Rattle.std.specs.Prelude.{IfSome, slice_get}
 use Rattle.rt_geo.specs.Laws.{Meaning}
-use Rattle.rt_geo.specs.{Laws.{extent_of_entry}, declared.{entry.Entry.{Entry}}}
+use Rattle.rt_geo.specs.{declared.{entry.Entry.{Entry}}}
 use Rattle.rt_tree.specs.{Packed.{Packed}, Sorting.{limited}, declared.tree.Node.{Node}}
 use Rattle.rt_tree.proofs.SortingLemmas.{IsPermutation-sorted}
-use Rattle.rt_search.specs.{Answers.{Answer, accepted, answer_cmp, answer_of, answers, scored}, Limits.{one_less}}
+use Rattle.rt_search.specs.{Answers.{Answer, answer_cmp, answers, scored}, Limits.{one_less}}
 use Rattle.rt_search.specs.{Progress.{IsFound, IsGiving, IsInLimit, IsOver}, declared.item.Item.{Item}}
-use Rattle.rt_search.specs.Work.{HasWorked, is_reached, its_children, one_node, search_work, reached_from_root}
+use Rattle.rt_search.specs.Work.{HasWorked, is_reached, search_work, reached_from_root}
 
 -- ---- lists that are given one by one
 
@@ -26,32 +26,24 @@ drop_step (y ∷ xs) (suc g) x rest h = drop_step xs g x rest h
 take_step : {X : Type 0} (k g : ℕ) (xs : List X) (x : X) (rest : List X) → g < k → drop g xs ≡ x ∷ rest
     → drop g (take k xs) ≡ x ∷ drop (suc g) (take k xs)
 take_step zero g xs x rest lt h = absurd (omega arith)
-take_step (suc k) zero [] x rest lt h = cc
-take_step (suc k) zero (y ∷ xs) x rest lt h = cc
+take_step (suc k) zero xs x rest lt h = grind arith
 take_step (suc k) (suc g) [] x rest lt h = cc
 take_step (suc k) (suc g) (y ∷ xs) x rest lt h = take_step k g xs x rest (omega arith) h
 
 past_end : {X : Type 0} (xs : List X) (g k : ℕ) → drop g xs ≡ [] → g ≤ k → slice_get xs k ≡ None
 past_end xs g k h le = slice_get_past xs k (omega (arith, length-drop g xs, ap length h))
 
-below_limit : (k g : ℕ) → g ≤ k → Some k ≢ Some g → g < k
-below_limit k g le n = grind arith
-
 limited_step : {X : Type 0} (limit : Option ℕ) (g : ℕ) (xs : List X) (x : X) (rest : List X) → IsInLimit limit g
     → limit ≢ Some g → drop g xs ≡ x ∷ rest → drop g (limited limit xs) ≡ x ∷ drop (suc g) (limited limit xs)
 limited_step None g xs x rest le n h = h ∙ ap (λ l. x ∷ l) (sym (drop_step xs g x rest h).1)
-limited_step (Some k) g xs x rest le n h = take_step k g xs x rest (below_limit k g le n) h
+limited_step (Some k) g xs x rest le n h = search (rules, take_step)
 
 limited_end : {X : Type 0} (limit : Option ℕ) (g : ℕ) (xs : List X) → drop g xs ≡ [] → drop g (limited limit xs) ≡ []
 limited_end None g xs h = h
 limited_end (Some k) g xs h = drop_all g (take k xs) (omega (arith, length-take k xs, length-drop g xs, ap length h))
 
 next_in_limit : (limit : Option ℕ) (g : ℕ) → IsInLimit limit g → limit ≢ Some g → IsInLimit limit (suc g)
-next_in_limit None g le n = tt
-next_in_limit (Some k) g le n = let lt = below_limit k g le n in omega arith
-
-suc_less : (g : ℕ) → suc g - 1 ≡ g
-suc_less g = omega arith
+next_in_limit limit g le n = grind arith
 
 -- ---- how many are still wanted
 
@@ -63,12 +55,7 @@ next_still (Some (suc n)) limit g more h = h ∙ ap Some (omega arith)
 
 module _ (meaning : Meaning) where
   pub length-scored : (es : List Entry) → length (scored es meaning) ≤ length es
-  length-scored es = omega (
-    arith,
-    length-map (accepted es meaning) (answer_of meaning),
-    length-filter (λ (e : Entry). meaning.accepts (extent_of_entry e)) es,
-    count_by-le-length (λ (e : Entry). meaning.accepts (extent_of_entry e)) es,
-  )
+  length-scored es = search (rules, length-map, length-filter, count_by-le-length)
 
 module _ (meaning : Meaning) (t : Packed) where
   abbrev all : List Answer
@@ -78,13 +65,13 @@ module _ (meaning : Meaning) (t : Packed) where
 
   work_after : (cost : Node → ℕ) (g : ℕ) (a : Answer) (rest : List Answer) → drop g all ≡ a ∷ rest
       → reached_from_root (is_reached (Some a.1)) cost meaning t ≡ search_work cost meaning t (Some (suc g))
-  work_after cost g a rest h = grind (arith, suc_less, drop_step)
+  work_after cost g a rest h = search (rules, drop_step)
 
   work_in_all : (cost : Node → ℕ) (limit : Option ℕ) (g : ℕ) → IsInLimit limit g → limit ≢ Some g → drop g all ≡ []
       → reached_from_root (is_reached None) cost meaning t ≡ search_work cost meaning t limit
   work_in_all cost None g le n h = refl
-  work_in_all cost (Some zero) g le n h = absurd (let lt = below_limit zero g le n in omega arith)
-  work_in_all cost (Some (suc k)) g le n h = grind (arith, suc_less, past_end, below_limit)
+  work_in_all cost (Some zero) g le n h = grind arith
+  work_in_all cost (Some (suc k)) g le n h = search (rules, past_end)
 
 -- ---- the steps
 
@@ -111,7 +98,6 @@ module _ {meaning : Meaning} {t : Packed} {limit : Option ℕ}
       → IsFound meaning t opened' asked' wanted'
       (drop given (answers t.entries meaning None)) a new → given + 1 ≤ 16777216
   given_low found =
-      let sound = going.state.state.tree in
       omega (
         arith,
         ap length found.first,
@@ -125,39 +111,10 @@ module _ {meaning : Meaning} {t : Packed} {limit : Option ℕ}
         (drop given (answers t.entries meaning None)) a new
         → IsGiven meaning t limit given (given + 1) opened' asked' capacity wanted' a new
     give {a} less found =
-        let all = answers t.entries meaning None in
-        let there : drop given all ≡ a ∷ found.rest = found.first in
-        let worked : HasWorked meaning t (Some (suc given)) opened' asked' = record {
-          in_nodes = found.reached.nodes ∙ work_after meaning t one_node given a found.rest there;
-          in_checks = found.reached.checks ∙ work_after meaning t its_children given a found.rest there;
-        } in
-        subst (λ m. IsGiven meaning t limit given m opened' asked' capacity wanted' a new)
-        (sym (add-one given)) (record {
-          going = record {
-            state = grind (arith, drop_step);
-            room = going.room;
-            in_limit = next_in_limit limit given going.in_limit more;
-            still = subst (λ w. IfSome w (λ n. limit ≡ Some (suc given + n))) (sym less)
-                (next_still wanted limit given more going.still);
-            stopped = λ e. subst (λ l. HasWorked meaning t l opened' asked') (sym e) worked;
-          };
-          answer = limited_step limit given all a found.rest going.in_limit more there;
-          worked = worked;
-        })
+        let worked : HasWorked meaning t (Some (suc given)) opened' asked' = search (rules, work_after) in
+        rw (add-one given) (search (rules, drop_step, next_in_limit, next_still, limited_step))
 
     pub end : wanted' ≡ wanted → IsOver meaning t opened' asked' wanted'
         (drop given (answers t.entries meaning None)) new
         → HasEnded meaning t limit given opened' asked' capacity wanted' new
-    end same over =
-        let worked : HasWorked meaning t limit opened' asked' = grind (arith, work_in_all) in
-        record {
-          going = record {
-            state = over.state;
-            room = going.room;
-            in_limit = going.in_limit;
-            still = subst (λ w. IfSome w (λ n. limit ≡ Some (given + n))) (sym same) going.still;
-            stopped = λ e. worked;
-          };
-          answer = limited_end limit given (answers t.entries meaning None) over.none;
-          worked = worked;
-        }
+    end same over = search (rules, work_in_all, limited_end)

@@ -1,14 +1,14 @@
 -- A search begins, and gives its answers one after the other.
-use Rattle.std.proofs.Common.{◌≡◌, ◌<◌, ◌≤◌, ◌+◌, ℕ, Bool, true, false, ◌==◌, List, [], ◌∷◌, length, Option, Some, None}
-use Rattle.std.proofs.{Common.{refl, sym, subst, arith}, lemmas.Bool.{cases_lt, cond_both, eqb-true}}
+use Rattle.std.proofs.Common.{◌≡◌, ◌<◌, ◌≤◌, ℕ, true, false, ◌==◌, List, [], ◌∷◌, length, Option, Some, None}
+use Rattle.std.proofs.{Common.{refl, sym, subst, arith, rules}, lemmas.Bool.{cases_lt, cond_both, eqb-true}}
 use Rattle.std.proofs.lemmas.{Bool.Decides.{nat_tests}, List.{nil_from_length, Sorted.{length_permutation}}}
 use Rattle.std.proofs.lemmas.List.Sums.{sum_by-cons}
 use Rattle.std.specs.{Option.{option_map_or}, Prelude.{IfSome, nat_le}}
-use Rattle.rt_geo.specs.{Laws.{Meaning}, declared.geometry.Verdict.{Verdict}}
+use Rattle.rt_geo.specs.{Laws.{Meaning}}
 use Rattle.rt_tree.specs.{Packed.{Packed, IsSound}, declared.tree.Node.{Node}}
 use Rattle.rt_search.specs.{Answers.{answers}, Joining.{root_item, root_items}, Limits.{IsEnough}, Progress.{IsGiving}}
-use Rattle.rt_search.specs.{Progress.{IsInLimit, IsOnCourse, IsSearching, work_left}, Work.{reached_from_root}}
-use Rattle.rt_search.specs.{Work.{HasWorked, its_children, one_node, root_verdict}, declared.item.Item.{Item}}
+use Rattle.rt_search.specs.{Progress.{IsOnCourse, IsSearching}}
+use Rattle.rt_search.specs.{Work.{HasWorked, its_children, one_node}, declared.item.Item.{Item}}
 use Rattle.rt_search.proofs.{Answering.{among-IsPermutation}, Elements.{all_each}, OrderedLists.{put_all-nil}}
 use Rattle.rt_search.proofs.{Orders.{answer_order}, Sizes.{size_under}}
 
@@ -17,28 +17,13 @@ within_zero bound = grind (arith, nat_tests)
 
 -- ---- the root, which waits
 
-pub some_nodes : (t : Packed) → 0 < length t.nodes → (length t.nodes == 0) ≡ false
-some_nodes t some = grind (arith, nat_tests)
-
-pub root_work : (opens : Verdict → Bool) (cost : Node → ℕ) (meaning : Meaning) (t : Packed)
-    → opens root_verdict ≡ true → 0 < length t.nodes → work_left opens cost meaning t (root_item t ∷ [])
-    ≡ reached_from_root opens cost meaning t
-root_work opens cost meaning t open' some = grind (arith, sum_by-cons, nat_tests)
-
 pub nat_eq_false : {n : ℕ} → (n == 0) ≡ false → 0 < n
 nat_eq_false h = grind (arith, nat_tests)
-
-pub none_given : (limit : Option ℕ) → IsInLimit limit 0
-none_given limit = grind arith
-
-pub from_first : (wanted limit : Option ℕ) → IfSome wanted (λ n. limit ≡ Some n)
-    → IfSome wanted (λ n. limit ≡ Some (0 + n))
-from_first wanted limit h = grind arith
 
 module _ (meaning : Meaning) (t : Packed) (sound : IsSound t)
   where
     root_course : (cost : Node → ℕ) → 0 < length t.nodes → IsOnCourse meaning cost t 0 (root_item t ∷ [])
-    root_course cost some = grind (arith, root_work, all_each, within_zero)
+    root_course cost some = search (rules, all_each, within_zero, sum_by-cons, nat_tests)
 
     pub empty_answers : length t.nodes ≡ 0 → answers t.entries meaning None ≡ []
     empty_answers none = grind (arith, cases_lt, nil_from_length)
@@ -64,7 +49,7 @@ module _ (meaning : Meaning) (t : Packed) (sound : IsSound t)
         enough = enough;
       };
       room = room;
-      in_limit = none_given limit;
-      still = from_first wanted limit first;
+      in_limit = grind arith;
+      still = grind arith;
       stopped = λ e. subst (λ l. HasWorked meaning t l 0 0) (sym e) (record { in_nodes = refl; in_checks = refl });
     }

@@ -9,7 +9,7 @@ use Rattle.rt_search.specs.{Progress.{IsOnCourse, work_left}, Remaining.{remaini
 use Rattle.rt_search.specs.Work.{IsUnscored, info_of_node, is_kept, is_reached, its_children, one_node, reached}
 use Rattle.rt_search.specs.{Work.{reached_from_root, root_verdict, search_work}, declared.item.Item.{Item}}
 use Rattle.rt_search.proofs.{Children.{subtree_level}, Elements.{all_each}, Joined.{answers_joined, answers_sound}}
-use Rattle.rt_search.proofs.{Limits.{rising_put_all}, Starting.{from_first, nat_eq_false, none_given, within_zero}}
+use Rattle.rt_search.proofs.{Limits.{rising_put_all}, Starting.{nat_eq_false, within_zero}}
 use Rattle.rt_search.proofs.{WalkWhole.{tree_answers, tree_few}, Working.{held-join_answers, work-join_answers}}
 
 -- ---- any bound opens what none does
@@ -89,7 +89,7 @@ module _ {meaning : Meaning} (law : IsLawful meaning) (t : Packed) (sound : IsSo
       enough = enough;
     };
     room = room;
-    in_limit = none_given limit;
-    still = from_first wanted limit first;
+    in_limit = grind arith;
+    still = grind arith;
     stopped = λ e. absurd (some e);
   }

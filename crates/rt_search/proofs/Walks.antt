@@ -1,6 +1,6 @@
 -- What a walk finds under a node, child by child.
 use Rattle.std.proofs.Common.{◌≡◌, ◌<◌, ◌≤◌, ◌+◌, ◌-◌, ◌^◌, ℕ, zero, suc, Bool, true, List, [], ◌∷◌, ◌++◌, length, take}
-use Rattle.std.proofs.{Common.{get_or, refl, sym, ap, subst, arith, add-one, length-append}, lemmas.List.{length-take}}
+use Rattle.std.proofs.{Common.{get_or, refl, ap, subst, arith, rules, add-one, length-append}, lemmas.List.{length-take}}
 use Rattle.std.proofs.lemmas.List.{take_all, Sums.{sum_by-take-drop}}
 use Rattle.std.specs.List.{AllByRecursion, sum_by}
 use Rattle.rt_geo.specs.Laws.{AllAccepted, Extent, IsLawful, IsQuestion, extent_of, extent_of_entry, Meaning}
@@ -64,9 +64,7 @@ module _ {meaning : Meaning} (law : IsLawful meaning) where
   entry_answer : (e : Entry) (info : Info) → extent_of info ≡ extent_of_entry e → info.level ≡ 0
       → IsQuestion meaning.accepts info
       → answer_if (is_kept (meaning.verdict info).within) e.id (meaning.verdict info).score ≡ among meaning (e ∷ [])
-  entry_answer e info at low question =
-      let leaf = law.faithful.leaf info question low in
-      grind (arith, kept_not, law.exact info question low)
+  entry_answer e info at low question = search (rules, kept_not)
 
   -- ---- a node that was asked about
 
@@ -152,20 +150,9 @@ module _ {meaning : Meaning} (law : IsLawful meaning) where
         visit {i} {k} {info = info} is takes room fills old new taken fits begun begun' asked asked' b a begun_fits asked_fits =
             let few = is.few in
             let places = taken_room takes room fills old new (answers_upto opened high i) taken in
-            subst (CanVisit begun' asked' (room new) k) (sym is.info_is)
-            (subst (λ m. CanVisit begun' asked' (room new) m (info_of_node t v (node_at t m))) (sym is.at) (record {
-              node =
-                  let k = child t number opened.tree high i few in
-                  record {
-                    inside = k.number;
-                    tree = k.tree;
-                    low = omega arith;
-                    high = k.level;
-                    extent = refl;
-                    question =
-                        node_question meaning t sound v small (node_at t number) (height_at t number - 1) i
-                        ((node_at t number).first + i) opened.low opened.below k;
-                  };
+            let child_is = child t number opened.tree high i few in
+            rw (is.info_is, is.at) (record {
+              node = search (rules, node_question);
               room_is =
                   let sizes = sum_more meaning t v number opened.tree high (λ k. k.size) i few in
                   let size = (inner_at t (height_at t number) (node_at t number) opened.tree high).1.size in
@@ -173,5 +160,5 @@ module _ {meaning : Meaning} (law : IsLawful meaning) where
                   omega (arith, few_upto i (omega (arith, few)));
               opened_few = omega (arith, within one_node i few);
               asked_few = omega (arith, within its_children i few);
-              lower = (child t number opened.tree high i few).lower;
-            }))
+              lower = child_is.lower;
+            })

@@ -1,47 +1,25 @@
-use Rattle.std.proofs.Common.{◌≡◌, ◌∙◌, arith, add-one}
-use Rattle.rt_tree.specs.Packed.{node_at}
-use Rattle.rt_search.specs.Walking.{answers_among}
+use Rattle.std.proofs.Common.{◌∙◌, arith, rules, add-one}
 use Rattle.rt_search.proofs.{Children.{asked, children_inside, children_of, honest_child}, Collectors.{entries_join}}
 use Rattle.rt_search.proofs.{Limits.{enough_node}, UnderWay.{leaf_joins, nodes_join}, Working.{length-join_nodes}}
 use Rattle.rt_search.proofs.opening.open_node.Goals as goal
 
 pub returns-then-node-eq1-clause-children : goal.returns-then-node-eq1-clause-children
-returns-then-node-eq1-clause-children g c =
-    let geometry = c.args.counted.now.geometry in
-    let n = c.node-node.result in
-    let joined = entries_join c.args.queue.now c.visit_entries.new.collector
-    (answers_among c.args.tree.now (g.G.Geometry.meaning geometry) n n.count)
-    c.visit_entries.ensures.taken in
-    record {
-      items = leaf_joins (g.met.G.Geometry.lawful geometry) c.args.tree.now c.args.queue.now.wanted c.args.taken.score
-          c.args.taken.node n c.visit_entries.new.collector.items c.args.queue.now.items c.node-node.ensures
-          c.if-node-eq1.true joined.items;
-      wanted = joined.wanted;
-      capacity = joined.capacity;
-    }
+returns-then-node-eq1-clause-children g c = search (rules, entries_join, leaf_joins)
 
 pub child_nodes-children-requires : goal.child_nodes-children-requires
-child_nodes-children-requires g c = children_inside c.requires.node c.node-node.ensures c.if-node-eq1.false
+child_nodes-children-requires g c = search (rules, children_inside)
 
 pub check-requires : goal.check-requires
 check-requires g c =
     let here = children_of c.requires.node c.node-node.ensures c.if-node-eq1.false c.child_nodes-children.ensures in
-    let k = asked here c.loop-i.i c.verdict_on-parent.result c.loop-i-test.true c.index-children-i.is
-    c.new-number.ensures c.node-whole.ensures c.info_under-info.ensures in
-    record { honest = grind (arith, honest_child); room = omega arith }
+    let k = asked here c.loop-i.i c.verdict_on-parent.result c.loop-i-test.true c.index-children-i.is c.new-number.ensures
+    c.node-whole.ensures c.info_under-info.ensures in
+    search (rules, honest_child)
 
 pub put_node-requires : goal.put_node-requires
 put_node-requires g c =
     let here = children_of c.requires.node c.node-node.ensures c.if-node-eq1.false c.child_nodes-children.ensures in
-    let k = asked here c.loop-i.i c.verdict_on-parent.result c.loop-i-test.true c.index-children-i.is
-    c.new-number.ensures c.node-whole.ensures c.info_under-info.ensures in
-    let geometry = c.args.counted.now.geometry in
-    let tree = c.args.tree.now in
-    let number = c.args.taken.node.number.number in
-    let v = c.verdict_on-parent.result in
-    let long = length-join_nodes (g.G.Geometry.meaning geometry) tree v (node_at tree number) c.loop-i.i
-    c.args.queue.now.items in
-    rw c.loop-i.invariant.children.capacity (omega arith)
+    search (rules, length-join_nodes)
 
 pub loop-i-preserved : goal.loop-i-preserved
 loop-i-preserved g c =
@@ -51,29 +29,14 @@ loop-i-preserved g c =
     let inv = c.loop-i.invariant in
     let e = rw inv.geometry at c.check.ensures in
     let h = rw (e.verdict, inv.children.wanted) at c.put_node.ensures in
+    let items = enough_node c.args.queue.now.wanted _ _ _ _ _ inv.children.items (rw k.at at (rw k.info_is at h.items)) in
     record {
-      children = record {
-        items = rw add-one (enough_node c.args.queue.now.wanted _ _ _ _ _ inv.children.items
-            (rw k.at at (rw k.info_is at h.items)));
-        wanted = h.wanted;
-        capacity = h.capacity ∙ inv.children.capacity;
-      };
+      children = record { items = rw add-one items; wanted = h.wanted; capacity = h.capacity ∙ inv.children.capacity };
       geometry = e.geometry;
       asked = omega arith;
     }
 
 pub returns : goal.returns
 returns g c =
-    let meaning = g.G.Geometry.meaning c.args.counted.now.geometry in
     let here = children_of c.requires.node c.node-node.ensures c.if-node-eq1.false c.child_nodes-children.ensures in
-    let inv = c.loop-i.invariant in
-    let end : c.loop-i.i ≡ (node_at c.args.tree.now c.args.taken.node.number.number).count = omega arith in
-    record {
-      children = record {
-        items = grind (arith, nodes_join);
-        wanted = inv.children.wanted;
-        capacity = inv.children.capacity;
-      };
-      asked = omega arith;
-      geometry = inv.geometry;
-    }
+    record { children = search (rules, nodes_join); asked = omega arith; geometry = search rules }

@@ -1,5 +1,5 @@
-use Rattle.std.proofs.Common.{ℕ, ◌≡◌, ◌∙◌, ap, refl, sym, arith, rules}
-use Rattle.rt_tree.specs.{Packed.{node_at}, declared.tree.Node.{Node}}
+use Rattle.std.proofs.Common.{◌≡◌, ◌∙◌, ap, sym, arith, rules}
+use Rattle.rt_tree.specs.{Packed.{node_at}}
 use Rattle.rt_search.specs.Work.{its_children, one_node}
 use Rattle.rt_search.proofs.{Children.{asked, children_of}}
 use Rattle.rt_search.proofs.Joined.{upto_all, upto_more}
@@ -22,7 +22,6 @@ walk_child-walk_under-requires g t c κs within =
     (c.visit_node.ensures.taken _ (rw (← v, ← c.requires.size) at (known law c.requires.node))) in
     let one = at_child g.V.Visitor.opens one_node meaning tree (meaning.verdict info) number (rw v at opens) in
     let its = at_child g.V.Visitor.opens its_children meaning tree (meaning.verdict info) number (rw v at opens) in
-    let asked_few = c.requires.asked in
     let o = c.requires.sound in (
       omega arith,
       (within.0, (within.1, (o, rw (e.geometry, v, stays) (grind arith, (omega arith, (omega arith, omega arith)))))),
@@ -31,24 +30,11 @@ walk_child-walk_under-requires g t c κs within =
 pub walk_child-returns-then-visit_node-clause-taken : goal.walk_child-returns-then-visit_node-clause-taken
 walk_child-returns-then-visit_node-clause-taken g t c =
     let is_known = known (g.met.G.Geometry.lawful c.args.counted.now.geometry) c.requires.node in
-    let stays : c.visit_node.new.self ≡ c.args.visitor.now =
-    rw c.if-visit_node.true at
-    (c.visit_node.ensures.taken _ (rw (← c.check-verdict.ensures.verdict, ← c.requires.size) at is_known)) in
+    let stays : c.visit_node.new.self ≡ c.args.visitor.now = search rules in
     rw (stays, c.check-verdict.ensures.geometry) at c.walk_under.ensures.taken
 
 pub walk_child-returns-else-visit_node-clause-taken : goal.walk_child-returns-else-visit_node-clause-taken
 walk_child-returns-else-visit_node-clause-taken g t c = search (rules, known)
-
-pub walk_under-loop-i-init : goal.walk_under-loop-i-init
-walk_under-loop-i-init g t c =
-    let geometry = c.args.counted.now.geometry in
-    let tree = c.args.tree.now in
-    record {
-      taken = grind arith;
-      opened = omega arith;
-      asked = omega arith;
-      geometry = refl;
-    }
 
 pub walk_under-walk_child-requires : goal.walk_under-walk_child-requires
 walk_under-walk_child-requires g t c κs within =
@@ -64,39 +50,19 @@ walk_under-walk_child-requires g t c κs within =
     g.V.Collector.room g.met.V.Collector.fills c.args.visitor.now c.loop-i.visitor i.taken c.requires.room
     c.args.opened.now c.loop-i.opened c.args.counted.now.asked c.loop-i.counted.asked i.opened i.asked
     c.requires.opened c.requires.asked in
-    let size : c.index-children-i.result.size ≡ (node_at tree c.new-number.result.number).size = ap (λ n. n.size) k.is in
-    let fits = can.room_is in (
+    let size : c.index-children-i.result.size ≡ (node_at tree c.new-number.result.number).size = ap (λ n. n.size) k.is in (
       omega arith,
       (within.0, (within.1, (sound, rw i.geometry (can.node, (size, (omega arith, (can.opened_few, can.asked_few))))))),
     )
 
 pub walk_under-loop-i-preserved : goal.walk_under-loop-i-preserved
 walk_under-loop-i-preserved g t c =
-    let law = g.met.G.Geometry.lawful c.args.counted.now.geometry in
-    let v = c.args.parent in
     let here = children_of c.requires.node c.node-node.ensures c.if-node-eq1.false c.child_nodes-children.ensures in
-    let k = asked here c.loop-i.i v c.loop-i-test.true c.index-children-i.is c.new-number.ensures
+    let k = asked here c.loop-i.i c.args.parent c.loop-i-test.true c.index-children-i.is c.new-number.ensures
     c.node-whole.ensures c.info_under-info.ensures in
-    let e = rw k.at at (rw k.info_is at (rw c.loop-i.invariant.geometry at c.walk_child.ensures)) in
-    let more = λ (cost : Node → ℕ).
-    work_more law c.requires.sound (search rules) c.requires.node here.high g.V.Visitor.opens cost c.loop-i.i k.few in
-    record {
-      taken = grind (arith, upto_more, taken-append);
-      opened = omega (arith, more one_node);
-      asked = omega (arith, more its_children);
-      geometry = e.geometry;
-    }
+    search (rules, upto_more, taken-append, work_more (g.met.G.Geometry.lawful c.args.counted.now.geometry))
 
 pub walk_under-returns : goal.walk_under-returns
 walk_under-returns g t c =
-    let law = g.met.G.Geometry.lawful c.args.counted.now.geometry in
     let here = children_of c.requires.node c.node-node.ensures c.if-node-eq1.false c.child_nodes-children.ensures in
-    let end : c.loop-i.i ≡ (node_at c.args.tree.now c.args.number.number).count = omega arith in
-    let inv = rw end at c.loop-i.invariant in
-    let all = work_all law c.requires.sound (search rules) c.requires.node here.high g.V.Visitor.opens in
-    record {
-      taken = grind (arith, upto_all);
-      opened = omega (arith, all one_node);
-      asked = omega (arith, all its_children);
-      geometry = inv.geometry;
-    }
+    search (rules, upto_all, work_all (g.met.G.Geometry.lawful c.args.counted.now.geometry))

@@ -21,15 +21,12 @@ check-verdict-requires-clause-room g c = grind (arith, entries_count)
 
 pub visit_entry-requires : goal.visit_entry-requires
 visit_entry-requires g c =
-    let geometry = c.args.counted.now.geometry in
-    let tree = c.args.tree.now in
-    let count = entries_count tree c.args.node c.child_entries-entries.result.now c.requires.leaf.node
-    c.child_entries-entries.ensures in
-    let found = answers_among tree (g.G.Geometry.meaning geometry) c.args.node c.loop-i.i in
-    let left = taken_room g.C.Collector.takes g.C.Collector.room g.met.C.Collector.fills c.args.collector.now
-    c.loop-i.collector found c.loop-i.invariant.taken in
-    let few = few_entries (g.G.Geometry.meaning geometry) tree c.args.node c.loop-i.i in
-    omega arith
+    search (
+      rules,
+      entries_count,
+      taken_room g.C.Collector.takes g.C.Collector.room g.met.C.Collector.fills,
+      few_entries (g.G.Geometry.meaning c.args.counted.now.geometry),
+    )
 
 pub loop-i-preserved : goal.loop-i-preserved
 loop-i-preserved g c =

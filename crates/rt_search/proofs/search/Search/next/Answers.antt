@@ -9,43 +9,37 @@ overflow_add-self g c =
 
 pub invariant_of-self-2 : goal.invariant_of-self-2
 invariant_of-self-2 g c =
-    let e = c.in_ok-answer.ensures in
     let going = rw (← c.deref_mut.ensures.value) at c.self.invariant.giving in
     record {
       same_room = grind arith;
       giving = rw (c.pull.ensures.geometry, c.pull.ensures.capacity)
-          (give going (search rules) e.wanted (e.step _ going.state)).going;
+          (give going (search rules) (search rules) (c.in_ok-answer.ensures.step _ going.state)).going;
     }
 
 pub returns-clause-answer : goal.returns-clause-answer
 returns-clause-answer g c =
-    let e = c.in_ok-answer.ensures in
     let going = rw (← c.deref_mut.ensures.value) at c.self.invariant.giving in
-    rw (c.pull.ensures.geometry, ← c.self.view_is) (give going (search rules) e.wanted (e.step _ going.state)).answer
+    rw (c.pull.ensures.geometry, ← c.self.view_is) (give going (search rules) (search rules) (c.in_ok-answer.ensures.step _ going.state)).answer
 
 pub returns-clause-worked : goal.returns-clause-worked
 returns-clause-worked g c =
-    let e = c.in_ok-answer.ensures in
     let going = rw (← c.deref_mut.ensures.value) at c.self.invariant.giving in
-    rw (← c.self.view_is) (give going (search rules) e.wanted (e.step _ going.state)).worked
+    rw (← c.self.view_is) (give going (search rules) (search rules) (c.in_ok-answer.ensures.step _ going.state)).worked
 
 pub returns-in_err-answer-clause-answer : goal.returns-in_err-answer-clause-answer
 returns-in_err-answer-clause-answer g c =
-    let e = c.in_err-answer.ensures in
     let going = rw (← c.deref_mut.ensures.value) at c.self.invariant.giving in
     let none : c.from_residual.result ≡ None = search rules in
-    rw (none, ← c.self.view_is) (end going (search rules) e.wanted (e.step _ going.state)).answer
+    rw (none, ← c.self.view_is) (end going (search rules) (search rules) (c.in_err-answer.ensures.step _ going.state)).answer
 
 pub returns-in_err-answer-clause-none : goal.returns-in_err-answer-clause-none
 returns-in_err-answer-clause-none g c =
-    let e = c.in_err-answer.ensures in
     let going = rw (← c.deref_mut.ensures.value) at c.self.invariant.giving in
     let none : c.from_residual.result ≡ None = search rules in
-    rw (none, c.pull.ensures.geometry) (end going (search rules) e.wanted (e.step _ going.state)).answer
+    rw (none, c.pull.ensures.geometry) (end going (search rules) (search rules) (c.in_err-answer.ensures.step _ going.state)).answer
 
 pub returns-in_err-answer-clause-worked_in_all : goal.returns-in_err-answer-clause-worked_in_all
 returns-in_err-answer-clause-worked_in_all g c =
-    let e = c.in_err-answer.ensures in
     let going = rw (← c.deref_mut.ensures.value) at c.self.invariant.giving in
     let none : c.from_residual.result ≡ None = search rules in
-    rw (none, ← c.self.view_is) (end going (search rules) e.wanted (e.step _ going.state)).worked
+    rw (none, ← c.self.view_is) (end going (search rules) (search rules) (c.in_err-answer.ensures.step _ going.state)).worked

@@ -1,5 +1,4 @@
-use Rattle.rt_search.specs.Work.{its_children, one_node}
-use Rattle.std.proofs.Common.{sym, ◌∙◌, ◌≡◌, ◌≢◌, ◌≤◌, [], Some, arith, length, rules}
+use Rattle.std.proofs.Common.{◌≡◌, ◌≤◌, [], Some, arith, length, rules}
 use Rattle.std.specs.Prelude.{IfSome}
 use Rattle.rt_search.specs.{Joining.{join_answers}, Limits.{IsEnough}, Walking.{answers_in_tree}}
 use Rattle.rt_search.proofs.{Collectors.{entries_join}, Unscored.{begun, work}}
@@ -28,9 +27,4 @@ pub returns-clause-capacity : goal.returns-clause-capacity
 returns-clause-capacity g c = search (rules, entries_join)
 
 pub returns-clause-worked : goal.returns-clause-worked
-returns-clause-worked g c =
-    let geometry = c.args.counted.geometry in
-    let e = c.walk-opened.ensures in
-    let some : c.args.limit ≢ Some 0 = search rules in
-    let all = work (g.met.G.Geometry.lawful geometry) c.args.tree.now e.sound c.requires.unscored c.args.limit some in
-    record { in_nodes = e.opened ∙ sym (all one_node); in_checks = e.asked ∙ sym (all its_children) }
+returns-clause-worked g c = search (rules, work)
