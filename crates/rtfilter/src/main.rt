@@ -5,12 +5,12 @@
 #![tactic(auto)]
 
 use rt_filter::{
-    ArgFault, Invocation, Name, Outcome, RunFault, Settings, run_fault_line, run_std, settings_of,
+    ArgFault, Invocation, Name, Outcome, RunFault, run_fault_line, run_std, settings_of,
 };
 use rt_text::Line;
 use std::env;
 use std::fs::File;
-use std::io::{self, BufWriter, ErrorKind, Read, Write};
+use std::io::{self, BufWriter, ErrorKind, Write};
 use std::process::ExitCode;
 use std::rt::{Env, Files};
 
@@ -108,33 +108,21 @@ fn help(rt: &impl Print) -> Ending {
     }
 }
 
-// Opens the files and runs.
+// Opens the files and runs, with standard output as the writer, buffered, so that a line is not a system call.
 fn open_and_run<R: Files + Input + Print + AllocGlobal>(rt: &R, invocation: &Invocation) -> Ending {
     let Ok(table) = File::open(rt, invocation.table.text()) else {
         return Ending::NoTable;
     };
+    let Ok(answers) = BufWriter::with_capacity(rt.alloc(), OUTPUT_ROOM, io::writer(rt)) else {
+        return Ending::NoMemory;
+    };
+    let settings = &invocation.settings;
     match &invocation.queries {
-        None => run_to_output(rt, &invocation.settings, table, rt.reader()),
+        None => Ending::Ran(run_std(rt.alloc(), settings, table, rt.reader(), answers).0),
         Some(queries) => match File::open(rt, queries.text()) {
-            Ok(queries) => run_to_output(rt, &invocation.settings, table, queries),
+            Ok(queries) => Ending::Ran(run_std(rt.alloc(), settings, table, queries, answers).0),
             Err(_) => Ending::NoQueries,
         },
-    }
-}
-
-// Runs with standard output as the writer, buffered, so that a line is not a system call.
-fn run_to_output<R: Print + AllocGlobal, T: Read + Drop, Q: Read + Drop>(
-    rt: &R,
-    settings: &Settings,
-    table: T,
-    queries: Q,
-) -> Ending {
-    match BufWriter::with_capacity(rt.alloc(), OUTPUT_ROOM, io::writer(rt)) {
-        Ok(answers) => {
-            let (outcome, _, _) = run_std(rt.alloc(), settings, table, queries, answers);
-            Ending::Ran(outcome)
-        }
-        Err(_) => Ending::NoMemory,
     }
 }
 
