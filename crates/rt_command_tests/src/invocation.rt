@@ -1,7 +1,9 @@
 //! What the words of the command line ask for.
 
-use rt_command::{ArgFault, Invocation, Name, settings_of};
+use crate::expect::expect_eq;
+use rt_command::{ArgFault, Invocation, Name, Settings, settings_of};
 use std::alloc::Global;
+use std::process::Abort;
 use std::test::Fail;
 
 fn push(alloc: Global, names: &mut Vec<Name>, word: &str) -> Result<(), ArgFault> {
@@ -28,7 +30,15 @@ fn text_of(name: &Option<Name>) -> Option<&str> {
     }
 }
 
-const INVOCATIONS: [(&[&str], (bool, u8, u32), &str, Option<&str>); 7] = [
+// Words, the settings that they give, and the names of the table and of the queries.
+type Row = (
+    &'static [&'static str],
+    (bool, u8, u32),
+    &'static str,
+    Option<&'static str>,
+);
+
+static INVOCATIONS: [Row; 7] = [
     (&["t.csv"], (false, 16, 16777216), "t.csv", None),
     (
         &[
@@ -68,48 +78,59 @@ const INVOCATIONS: [(&[&str], (bool, u8, u32), &str, Option<&str>); 7] = [
 
 #[test]
 fn invocations(rt: HostRuntime) {
-    for (words, numbers, table, queries) in INVOCATIONS {
-        match invocation_of(rt.alloc(), words) {
-            Ok(invocation) => {
-                let settings = &invocation.settings;
-                let told = (settings.header(), settings.fanout(), settings.max_entries());
-                assert_eq!(rt; told, numbers);
-                assert_eq!(rt; invocation.table.text(), table);
-                assert_eq!(rt; text_of(&invocation.queries), queries);
-            }
-            Err(fault) => assert_eq!(rt; Some(fault), None),
-        }
+    expect_invocations(&rt, rt.alloc(), &INVOCATIONS);
+}
+
+fn expect_invocations(rt: &impl Abort, alloc: Global, rows: &[Row]) {
+    for (words, numbers, table, queries) in rows {
+        let invocation = invocation_of(alloc, words).expect(rt, "it is an invocation");
+        expect_settings(rt, &invocation.settings, *numbers);
+        expect_eq(rt, invocation.table.text(), *table);
+        expect_eq(rt, text_of(&invocation.queries), *queries);
     }
 }
 
+fn expect_settings(rt: &impl Abort, settings: &Settings, numbers: (bool, u8, u32)) {
+    let (header, fanout, max_entries) = numbers;
+    expect_eq(rt, settings.header(), header);
+    expect_eq(rt, settings.fanout(), fanout);
+    expect_eq(rt, settings.max_entries(), max_entries);
+}
+
+static MISUSED: [&[&str]; 13] = [
+    &[],
+    &["--fanout", "65", "t.csv"],
+    &["--fanout", "1", "t.csv"],
+    &["a", "b", "c"],
+    &["--max-entries", "0", "t.csv"],
+    &["--max-entries", "16777217", "t.csv"],
+    &["-HH", "t.csv"],
+    &["--help=1"],
+    &["--head", "t.csv"],
+    &["-V"],
+    &["--version"],
+    &["--fanout", "t.csv"],
+    &["--fanout", "65", "--help"],
+];
+
+static ASKING_FOR_HELP: [&[&str]; 6] = [
+    &["--help"],
+    &["-h"],
+    &["-Hh"],
+    &["t.csv", "--help"],
+    &["--help", "--fanout", "65"],
+    &["-h", "a", "b", "c"],
+];
+
 #[test]
 fn refusals(rt: HostRuntime) {
-    let cases: [(&[&str], ArgFault); 19] = [
-        (&[], ArgFault::Usage),
-        (&["--fanout", "65", "t.csv"], ArgFault::Usage),
-        (&["--fanout", "1", "t.csv"], ArgFault::Usage),
-        (&["a", "b", "c"], ArgFault::Usage),
-        (&["--max-entries", "0", "t.csv"], ArgFault::Usage),
-        (&["--max-entries", "16777217", "t.csv"], ArgFault::Usage),
-        (&["-HH", "t.csv"], ArgFault::Usage),
-        (&["--help=1"], ArgFault::Usage),
-        (&["--head", "t.csv"], ArgFault::Usage),
-        (&["-V"], ArgFault::Usage),
-        (&["--version"], ArgFault::Usage),
-        (&["--fanout", "t.csv"], ArgFault::Usage),
-        (&["--fanout", "65", "--help"], ArgFault::Usage),
-        (&["--help"], ArgFault::Help),
-        (&["-h"], ArgFault::Help),
-        (&["-Hh"], ArgFault::Help),
-        (&["t.csv", "--help"], ArgFault::Help),
-        (&["--help", "--fanout", "65"], ArgFault::Help),
-        (&["-h", "a", "b", "c"], ArgFault::Help),
-    ];
-    for (words, wanted) in cases {
-        match invocation_of(rt.alloc(), words) {
-            Ok(_) => assert_eq!(rt; None, Some(wanted)),
-            Err(fault) => assert_eq!(rt; fault, wanted),
-        }
+    expect_refusals(&rt, rt.alloc(), &MISUSED, ArgFault::Usage);
+    expect_refusals(&rt, rt.alloc(), &ASKING_FOR_HELP, ArgFault::Help);
+}
+
+fn expect_refusals(rt: &impl Abort, alloc: Global, rows: &[&[&str]], want: ArgFault) {
+    for words in rows {
+        expect_eq(rt, invocation_of(alloc, words).err(), Some(want));
     }
 }
 
@@ -121,7 +142,7 @@ fn faults_are_errors_of_std(rt: HostRuntime) -> Result<(), Fail> {
         (ArgFault::Memory, "out of memory"),
     ];
     for (fault, text) in texts {
-        assert_eq!(rt; format!(in rt.alloc(); "{fault}")?.as_str(), text);
+        expect_eq(&rt, format!(in rt.alloc(); "{fault}")?.as_str(), text);
     }
     Ok(())
 }

@@ -1,5 +1,6 @@
 //! The ranges of the settings.
 
+use crate::expect::expect_eq;
 use rt_command::Settings;
 
 #[test]
@@ -13,12 +14,11 @@ fn settings_have_ranges(rt: HostRuntime) {
         (2, 16_777_217, false),
     ] {
         let settings = Settings::new(true, fanout, max_entries);
-        assert_eq!(rt; settings.is_some(), is_allowed);
+        expect_eq(&rt, settings.is_some(), is_allowed);
         if let Some(settings) = settings {
-            assert_eq!(rt;
-                (settings.header(), settings.fanout(), settings.max_entries()),
-                (true, fanout, max_entries)
-            );
+            expect_eq(&rt, settings.header(), true);
+            expect_eq(&rt, settings.fanout(), fanout);
+            expect_eq(&rt, settings.max_entries(), max_entries);
         }
     }
 }

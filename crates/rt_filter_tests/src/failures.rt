@@ -9,7 +9,7 @@ use std::process::Abort;
 use std::test::Fail;
 
 #[test]
-fn tells_failed_pulls(rt: HostRuntime) -> Result<(), Fail> {
+fn tells_failed_pulls(rt: HostRuntime) {
     let read = Some(RunFault::Read);
     for fails in 1..24 {
         let given = Given {
@@ -18,16 +18,16 @@ fn tells_failed_pulls(rt: HostRuntime) -> Result<(), Fail> {
             ..PLAIN
         };
         let written: &[u8] = if fails > 22 { FOUND } else { b"" };
-        given.expect(&rt, BOXES, FIND, written, 4, read)?;
+        given.expect(&rt, BOXES, FIND, written, 4, read);
     }
     let second = Given {
         pull_fails: Some(2),
         ..PLAIN
     };
     let all: &[u8] = b"1 0\n2 0\n3 0\n4 0\n5 0\nok 1 5\n";
-    second.expect(&rt, BOXES, b"find all\nfind a", all, 4, read)?;
+    second.expect(&rt, BOXES, b"find all\nfind a", all, 4, read);
     let ended: &[u8] = b"1 0\n2 0\n3 0\n4 0\n5 0\nok 1 5\nerror 2 Q3 unknown region\n";
-    PLAIN.expect(&rt, BOXES, b"find all\nfind a", ended, 1, None)?;
+    PLAIN.expect(&rt, BOXES, b"find all\nfind a", ended, 1, None);
     // A failed pull stands before a faulty line.
     second.expect(&rt, BOXES, b"x\n", b"error 1 Q2 unknown verb\n", 4, read)
 }
@@ -41,102 +41,83 @@ fn drops_a_long_line_that_never_ends(rt: HostRuntime) -> Result<(), Fail> {
             pull_fails: Some(fails),
             ..PLAIN
         };
-        given.expect(&rt, BOXES, &letters, b"", 4, Some(RunFault::Read))?;
+        given.expect(&rt, BOXES, &letters, b"", 4, Some(RunFault::Read));
     }
     Ok(())
 }
 
 #[test]
-fn tells_room_that_runs_out(rt: HostRuntime) -> Result<(), Fail> {
+fn tells_room_that_runs_out(rt: HostRuntime) {
     let write = Some(RunFault::Write);
     let front: &[u8] = b"\x31\x20\x30\x0a\x32";
     for piece in [1, 2, 4097] {
-        let small = Given {
-            room: 5,
-            piece,
-            ..PLAIN
-        };
-        small.expect(&rt, BOXES, FIND, front, 5, write)?;
-        let with_header = Given {
-            header: true,
-            ..small
-        };
-        with_header.expect(&rt, WITH_HEADER, FIND, front, 5, write)?;
+        for (header, table) in [(false, BOXES), (true, WITH_HEADER)] {
+            let small = Given {
+                header,
+                piece,
+                room: 5,
+                ..PLAIN
+            };
+            small.expect(&rt, table, FIND, front, 5, write);
+        }
     }
     // A write fault stands before a faulty line.
     let faulty = Given { room: 10, ..PLAIN };
-    faulty.expect(&rt, BOXES, b"x\n", b"error 1 Q2", 5, write)?;
+    faulty.expect(&rt, BOXES, b"x\n", b"error 1 Q2", 5, write);
     faulty.expect(&rt, BOXES, b"x\nfind all", b"error 1 Q2", 5, write)
 }
 
 #[test]
-fn tells_failed_pushes(rt: HostRuntime) -> Result<(), Fail> {
-    let write = Some(RunFault::Write);
-    for fails in 1..17u64 {
-        let given = Given {
-            piece: 1,
-            push_fails: Some(fails),
-            ..PLAIN
-        };
-        let front = (fails - 1) as usize;
-        assert!(&rt; front <= FOUND.len());
-        given.expect(&rt, BOXES, FIND, &FOUND[..front], 5, write)?;
+fn tells_failed_pushes(rt: HostRuntime) {
+    for front in 0..16 {
+        expect_front(&rt, 1, front as u64 + 1, front);
     }
     Given {
         piece: 1,
         push_fails: Some(17),
         ..PLAIN
     }
-    .expect(&rt, BOXES, FIND, FOUND, 0, None)?;
+    .expect(&rt, BOXES, FIND, FOUND, 0, None);
     // Each line is pushed by itself, and after the third comes the flush.
     for (fails, end) in [(1, 0), (2, 4), (3, 8), (4, 15)] {
-        let given = Given {
-            push_fails: Some(fails),
-            ..PLAIN
-        };
-        assert!(&rt; end <= FOUND.len());
-        given.expect(&rt, BOXES, FIND, &FOUND[..end], 5, write)?;
+        expect_front(&rt, PLAIN.piece, fails, end);
     }
-    Ok(())
+}
+
+// So many bytes of the replies are out when a push fails.
+fn expect_front<R: Abort + AllocGlobal>(rt: &R, piece: usize, fails: u64, front: usize) {
+    let given = Given {
+        piece,
+        push_fails: Some(fails),
+        ..PLAIN
+    };
+    assert!(rt; front <= FOUND.len());
+    given.expect(rt, BOXES, FIND, &FOUND[..front], 5, Some(RunFault::Write));
 }
 
 #[test]
-fn loads_no_truncated_table_as_a_whole(rt: HostRuntime) -> Result<(), Fail> {
+fn loads_no_truncated_table_as_a_whole(rt: HostRuntime) {
     let found: &[u8] = b"1 0\nok 1 1\n";
-    let fields = |found| TableFault::FieldCount { number: 1, found };
-    let cases = [
-        (5, fields(3)),
-        (8, fields(4)),
-        (
-            9,
-            TableFault::NotNumber {
-                number: 1,
-                field: 5,
-            },
-        ),
-    ];
-    for (end, fault) in cases {
-        PLAIN.expect(
-            &rt,
-            &BOXES[..end],
-            b"find all",
-            b"",
-            3,
-            Some(RunFault::Table(fault)),
-        )?;
-    }
+    expect_table_fault(&rt, &BOXES[..5], field_count(3));
+    expect_table_fault(&rt, &BOXES[..8], field_count(4));
+    let no_number = TableFault::NotNumber {
+        number: 1,
+        field: 5,
+    };
+    expect_table_fault(&rt, &BOXES[..9], no_number);
     for end in [10, 11, 12] {
-        PLAIN.expect(&rt, &BOXES[..end], b"find all", found, 0, None)?;
+        PLAIN.expect(&rt, &BOXES[..end], b"find all", found, 0, None);
     }
-    let open: &[u8] = b"\"1,0,10,0,10\n";
-    PLAIN.expect(
-        &rt,
-        open,
-        b"find all",
-        b"",
-        3,
-        Some(RunFault::Table(fields(1))),
-    )
+    expect_table_fault(&rt, b"\"1,0,10,0,10\n", field_count(1));
+}
+
+fn field_count(found: u64) -> TableFault {
+    TableFault::FieldCount { number: 1, found }
+}
+
+fn expect_table_fault<R: Abort + AllocGlobal>(rt: &R, table: &[u8], fault: TableFault) {
+    let fault = Some(RunFault::Table(fault));
+    PLAIN.expect(rt, table, b"find all", b"", 3, fault);
 }
 
 /// Gives bytes one at a time, and fails at one of its reads.
@@ -160,12 +141,8 @@ impl<'a> Read for Broken<'a> {
 }
 
 // The fault of a run over so many bytes of a table and then a failed read. Nothing is read or written beside it.
-fn broken_after<R: Abort + AllocGlobal>(
-    rt: &R,
-    table: &[u8],
-    reads: usize,
-) -> Result<Option<RunFault>, Fail> {
-    let settings = Settings::new(false, 16, 16).ok_or("settings")?;
+fn broken_after<R: Abort + AllocGlobal>(rt: &R, table: &[u8], reads: usize) -> Option<RunFault> {
+    let settings = Settings::new(false, 16, 16).expect(rt, "they are in range");
     let mut source = SliceSource::new(FIND, 4097, Some(1));
     let mut room = [0u8; 64];
     let mut sink = SliceSink::new(&mut room, 64, Some(1));
@@ -183,14 +160,14 @@ fn broken_after<R: Abort + AllocGlobal>(
     );
     expect_eq(rt, outcome.status, 3);
     expect_eq(rt, sink.written(), b"".as_slice());
-    Ok(outcome.fault)
+    outcome.fault
 }
 
 #[test]
-fn tells_each_failed_read_of_the_table(rt: HostRuntime) -> Result<(), Fail> {
+fn tells_each_failed_read_of_the_table(rt: HostRuntime) {
     let read = Some(RunFault::Table(TableFault::Read));
     for reads in 0..=BOXES.len() {
-        expect_eq(&rt, broken_after(&rt, BOXES, reads)?, read);
+        expect_eq(&rt, broken_after(&rt, BOXES, reads), read);
     }
     let turned: &[u8] = b"1,5,4,0,0\n";
     let own = Some(RunFault::Table(TableFault::MinAboveMax {
@@ -198,8 +175,7 @@ fn tells_each_failed_read_of_the_table(rt: HostRuntime) -> Result<(), Fail> {
         axis: Axis::X,
     }));
     for reads in 0..10 {
-        expect_eq(&rt, broken_after(&rt, turned, reads)?, read);
+        expect_eq(&rt, broken_after(&rt, turned, reads), read);
     }
-    expect_eq(&rt, broken_after(&rt, turned, 10)?, own);
-    Ok(())
+    expect_eq(&rt, broken_after(&rt, turned, 10), own);
 }

@@ -2,8 +2,10 @@
 
 use crate::expect::expect_eq;
 use rt_filter::{Outcome, RunFault, Settings, Sink, SliceSink, SliceSource, Source, run};
+use rt_text::read_table;
+use rt_tree::Tree;
+use std::alloc::Global;
 use std::process::Abort;
-use std::test::Fail;
 
 pub(crate) const BOXES: &[u8] =
     b"1,0,10,0,10\n2,5,15,5,15\n3,20,30,0,10\n4,-5,-1,-5,-1\n5,12,12,12,12\n";
@@ -14,6 +16,12 @@ pub(crate) const WITH_HEADER: &[u8] =
 pub(crate) const FIND: &[u8] = b"find window 0 10 0 10\n";
 
 pub(crate) const FOUND: &[u8] = b"1 0\n2 0\nok 1 2\n";
+
+/// The five boxes of the examples, at most two children for each node.
+pub(crate) fn pack(rt: &impl Abort, alloc: Global) -> Tree {
+    let table = read_table(alloc, BOXES, false, 5).expect(rt, "the table is sound");
+    Tree::pack(alloc, table, 2).expect(rt, "there is memory")
+}
 
 /// What a run is given beside its table and its queries.
 #[derive(Clone, Copy)]
@@ -49,8 +57,11 @@ impl Given {
         written: &[u8],
         status: u8,
         fault: Option<RunFault>,
-    ) -> Result<(), Fail> {
-        let settings = Settings::new(self.header, self.fanout, self.max_entries).ok_or("settings")?;
+    ) {
+        let settings = Settings::new(self.header, self.fanout, self.max_entries).expect(
+            rt,
+            "they are in range",
+        );
         assert!(rt; self.piece > 0 && self.room <= 256);
         let mut source = SliceSource::new(queries, self.piece, self.pull_fails);
         let mut room = [0u8; 256];
@@ -65,9 +76,28 @@ impl Given {
         );
         expect_eq(rt, sink.written(), written);
         expect_eq(rt, outcome, Outcome { status, fault });
-        let pulls = u64::from(fault == Some(RunFault::Read) && self.pull_fails.is_some());
-        let pushes = u64::from(fault == Some(RunFault::Write));
-        expect_eq(rt, (source.failures(), sink.failures()), (pulls, pushes));
-        Ok(())
+        expect_eq(rt, source.failures(), self.failed_pulls(fault));
+        expect_eq(rt, sink.failures(), failed_pushes(fault));
     }
+
+    fn failed_pulls(self, fault: Option<RunFault>) -> u64 {
+        u64::from(fault == Some(RunFault::Read) && self.pull_fails.is_some())
+    }
+
+    /// Runs each line by itself, and compares its reply. The status is that of a faulty line where the reply is an error.
+    pub(crate) fn expect_replies<R: Abort + AllocGlobal>(
+        self,
+        rt: &R,
+        table: &[u8],
+        rows: &[(&str, &str)],
+    ) {
+        for (line, reply) in rows {
+            let status = u8::from(reply.starts_with("error"));
+            self.expect(rt, table, line.as_bytes(), reply.as_bytes(), status, None);
+        }
+    }
+}
+
+fn failed_pushes(fault: Option<RunFault>) -> u64 {
+    u64::from(fault == Some(RunFault::Write))
 }

@@ -10,7 +10,7 @@ use std::process::Abort;
 use std::test::Fail;
 
 #[test]
-fn counts_pulls_and_not_bytes(rt: HostRuntime) -> Result<(), Fail> {
+fn counts_pulls_and_not_bytes(rt: HostRuntime) {
     let read = Some(RunFault::Read);
     let count: &[u8] = b"count all\n";
     let counted: &[u8] = b"ok 1 5\n";
@@ -26,9 +26,9 @@ fn counts_pulls_and_not_bytes(rt: HostRuntime) -> Result<(), Fail> {
             turns,
             ..PLAIN
         };
-        given.expect(&rt, BOXES, count, written, status, fault)?;
+        given.expect(&rt, BOXES, count, written, status, fault);
     }
-    Given { turns: 1, ..PLAIN }.expect(&rt, BOXES, count, counted, 4, read)?;
+    Given { turns: 1, ..PLAIN }.expect(&rt, BOXES, count, counted, 4, read);
     Given { turns: 2, ..PLAIN }.expect(&rt, BOXES, count, counted, 0, None)
 }
 
@@ -41,7 +41,7 @@ fn pulls_at_most_a_longest_line(rt: HostRuntime) -> Result<(), Fail> {
     };
     let mut queries = Vec::from_slice(rt.alloc(), FIND)?;
     queries.resize(4097, b'\n')?;
-    whole.expect(&rt, BOXES, queries.as_slice(), FOUND, 0, None)?;
+    whole.expect(&rt, BOXES, queries.as_slice(), FOUND, 0, None);
     queries.push(b'\n')?;
     whole.expect(
         &rt,
@@ -50,8 +50,9 @@ fn pulls_at_most_a_longest_line(rt: HostRuntime) -> Result<(), Fail> {
         FOUND,
         4,
         Some(RunFault::Read),
-    )?;
-    Given { turns: 3, ..whole }.expect(&rt, BOXES, queries.as_slice(), FOUND, 0, None)
+    );
+    Given { turns: 3, ..whole }.expect(&rt, BOXES, queries.as_slice(), FOUND, 0, None);
+    Ok(())
 }
 
 /// What the devices of a run were asked, in order.
@@ -158,8 +159,8 @@ fn calls_are<R: Abort + AllocGlobal>(
     fails_in: u64,
     expected: &[u8],
     fault: Option<RunFault>,
-) -> Result<(), Fail> {
-    let settings = Settings::new(false, 16, 5).ok_or("settings")?;
+) {
+    let settings = Settings::new(false, 16, 5).expect(rt, "they are in range");
     let calls = Calls {
         letters: Cell::new([0; 32]),
         len: Cell::new(0),
@@ -185,11 +186,10 @@ fn calls_are<R: Abort + AllocGlobal>(
     let letters = calls.letters.get();
     expect_eq(rt, letters.get(..calls.len.get()), Some(expected));
     expect_eq(rt, outcome.fault, fault);
-    Ok(())
 }
 
 #[test]
-fn flushes_each_reply_before_the_next_pull(rt: HostRuntime) -> Result<(), Fail> {
+fn flushes_each_reply_before_the_next_pull(rt: HostRuntime) {
     // Three lines are answered with three pushes, a line cut in two is answered when it ends, and nothing is flushed
     // where nothing was pushed.
     calls_are(
@@ -198,14 +198,14 @@ fn flushes_each_reply_before_the_next_pull(rt: HostRuntime) -> Result<(), Fail> 
         0,
         b"pwwwfppwfpppwwwf",
         None,
-    )?;
+    );
     // Two lines in one piece, and the end right behind them.
-    calls_are(&rt, &[b"count all\nfrob\n"], 0, b"pwwfp", None)?;
+    calls_are(&rt, &[b"count all\nfrob\n"], 0, b"pwwfp", None);
     calls_are(&rt, &[], 0, b"p", None)
 }
 
 #[test]
-fn asks_nothing_of_a_sink_that_failed(rt: HostRuntime) -> Result<(), Fail> {
+fn asks_nothing_of_a_sink_that_failed(rt: HostRuntime) {
     let write = Some(RunFault::Write);
     let ways: [(u64, &[u8]); 5] = [
         (1, b"pw"),
@@ -215,24 +215,23 @@ fn asks_nothing_of_a_sink_that_failed(rt: HostRuntime) -> Result<(), Fail> {
         (5, b"pwwwfppw"),
     ];
     for (fails_in, expected) in ways {
-        calls_are(&rt, &[FIND, b"count all"], fails_in, expected, write)?;
+        calls_are(&rt, &[FIND, b"count all"], fails_in, expected, write);
     }
     calls_are(&rt, &[FIND, b"count all"], 6, b"pwwwfppwf", write)
 }
 
 #[test]
-fn pulls_no_more_after_the_end(rt: HostRuntime) -> Result<(), Fail> {
+fn pulls_no_more_after_the_end(rt: HostRuntime) {
     calls_are(&rt, &[FIND], 0, b"pwwwfp", None)
 }
 
 #[test]
-fn a_frontier_serves_each_query(rt: HostRuntime) -> Result<(), Fail> {
+fn a_frontier_serves_each_query(rt: HostRuntime) {
     let queries: &[u8] =
         b"find window 0 10 0 10\nnearest 1 12 12\ncount all\nfind window 0 10 0 10";
     let written: &[u8] = b"1 0\n2 0\nok 1 2\n2 0\nok 2 1\nok 3 5\n1 0\n2 0\nok 4 2\n";
     for fanout in [2, 3, 16] {
         let given = Given { fanout, ..PLAIN };
-        given.expect(&rt, BOXES, queries, written, 0, None)?;
+        given.expect(&rt, BOXES, queries, written, 0, None);
     }
-    Ok(())
 }

@@ -2,10 +2,12 @@
 
 ghost use Rattle.rt_geo.specs.declared.geometry.Within.TheVariants.{Partly};
 
+use crate::expect::expect_eq;
 use crate::left_of::LeftOf;
 use crate::tables::boxed;
 use crate::uneven::Uneven;
 use rt_geo::{Bounds, Geometry, Guided, Info, Layers, Near, Point, Verdict, Within};
+use std::process::Abort;
 
 /// What a geometry answers about an entry (level 0) or a node whose parent was PARTLY.
 fn verdict_of<G: Geometry>(geometry: &G, bounds: Bounds, level: u8) -> Verdict {
@@ -21,28 +23,35 @@ fn verdict_of<G: Geometry>(geometry: &G, bounds: Bounds, level: u8) -> Verdict {
 
 #[test]
 fn an_uneven_geometry_scores_by_level(rt: HostRuntime) {
-    let square = boxed(&rt, [0, 10, 0, 10]);
     for (level, want) in [(0, 10), (1, 1), (2, 2), (10, 10), (11, 10)] {
-        let verdict = verdict_of(&Uneven, square, level);
-        assert_eq!(rt; verdict.within, Within::Fully);
-        assert_eq!(rt; verdict.score, want, "at level {level}");
+        expect_score(&rt, level, want);
     }
+}
+
+fn expect_score(rt: &impl Abort, level: u8, want: u128) {
+    let verdict = verdict_of(&Uneven, boxed(rt, [0, 10, 0, 10]), level);
+    expect_eq(rt, verdict.within, Within::Fully);
+    assert_eq!(rt; verdict.score, want, "at level {level}");
 }
 
 #[test]
 fn a_shape_of_the_tests_own_is_guided(rt: HostRuntime) {
-    let square = boxed(&rt, [0, 10, 0, 10]);
     for (x, level, within) in [
         (10, 0, Within::Fully),
         (9, 0, Within::Not),
         (9, 1, Within::Partly),
         (-1, 1, Within::Not),
     ] {
-        let guided = Guided {
-            shape: LeftOf { x },
-            rank: Near(Point { x: 12, y: 12 }),
-        };
-        let want = Verdict { within, score: 8 };
-        assert_eq!(rt; verdict_of(&guided, square, level), want, "the line at {x}");
+        expect_within(&rt, x, level, within);
     }
+}
+
+// A box and the line at `x`.
+fn expect_within(rt: &impl Abort, x: i32, level: u8, within: Within) {
+    let guided = Guided {
+        shape: LeftOf { x },
+        rank: Near(Point { x: 12, y: 12 }),
+    };
+    let verdict = verdict_of(&guided, boxed(rt, [0, 10, 0, 10]), level);
+    assert_eq!(rt; verdict, Verdict { within, score: 8 }, "the line at {x}");
 }

@@ -211,9 +211,17 @@ impl Digest {
     fn add(&mut self, number: u64) {
         self.value = (self.value ^ number).wrapping_mul(1_099_511_628_211);
     }
+
+    fn add_answer(&mut self, answer: Option<(i64, u128)>) {
+        if let Some((id, score)) = answer {
+            self.add(id.wrapping_add(32_768).unsigned_abs());
+            self.add((score >> 64) as u64);
+            self.add((score & 0xffff_ffff_ffff_ffff) as u64);
+        }
+    }
 }
 
-fn table_of(rt: &impl Abort, alloc: Global, row: &mut Row, case: Case) -> Table {
+fn table_of(rt: &impl Abort, alloc: Global, row: &mut Row, case: &Case) -> Table {
     let mut table = Table::empty(alloc);
     for place in 0..case.entries {
         let id = (i64::from(place).wrapping_mul(7_919) % 65_537).wrapping_sub(32_768);
@@ -235,16 +243,7 @@ fn add_search<G: Geometry>(
 ) -> Frontier {
     assert!(rt; tree.len() <= frontier.capacity(), "there is room");
     let mut search = Search::start(tree, frontier, Counted::new(geometry), limit);
-    for _ in 0..limit.unwrap_or(u64::MAX) {
-        let Some((id, score)) = search.next() else {
-            digest.add(search.opened());
-            break;
-        };
-        digest.add(id.wrapping_add(32_768).unsigned_abs());
-        digest.add((score >> 64) as u64);
-        digest.add((score & 0xffff_ffff_ffff_ffff) as u64);
-        digest.add(search.opened());
-    }
+    add_answers(&mut search, limit.unwrap_or(u64::MAX), digest);
     let told = search.opened();
     let (frontier, counted) = search.finish();
     digest.add(counted.asked());
@@ -252,6 +251,17 @@ fn add_search<G: Geometry>(
     let (opened, frontier) = cost(tree, frontier, Counted::new(geometry), limit);
     assert_eq!(rt; opened, told);
     frontier
+}
+
+fn add_answers<G: Geometry>(search: &mut Search<'_, G>, most: u64, digest: &mut Digest) {
+    for _ in 0..most {
+        let answer = search.next();
+        digest.add_answer(answer);
+        digest.add(search.opened());
+        if answer.is_none() {
+            break;
+        }
+    }
 }
 
 // Adds a search for all answers, those for one and more up to so many, and a count.
@@ -320,7 +330,7 @@ fn add_on_layers<S: Shape + Copy, R: Rank + Copy>(
     add_geometry(rt, tree, frontier, &geometry, digest)
 }
 
-fn digest_of(rt: &impl Abort, alloc: Global, case: Case) -> u64 {
+fn digest_of(rt: &impl Abort, alloc: Global, case: &Case) -> u64 {
     let mut row = Row { state: case.seed };
     let table = table_of(rt, alloc, &mut row, case);
     assert!(rt; 2 <= case.fanout && case.fanout <= 64, "it is a fanout");
@@ -330,29 +340,39 @@ fn digest_of(rt: &impl Abort, alloc: Global, case: Case) -> u64 {
         value: 14_695_981_039_346_656_037,
     };
     for _ in 0..QUERIES {
-        let area = row.boxed(rt, case.lie);
-        let around = row.boxed(rt, case.lie);
-        let point = Point {
-            x: around.min_x(),
-            y: around.min_y(),
-        };
-        let radius = around.max_x().abs_diff(area.max_x());
-        let circle = Circle {
-            centre: point,
-            radius,
-        };
-        let layers = row.asked(case.kinds);
-        let window = Window(area);
-        frontier = add_shape(rt, &tree, frontier, window, layers, point, &mut digest);
-        frontier = add_shape(rt, &tree, frontier, circle, layers, point, &mut digest);
-        frontier = add_shape(rt, &tree, frontier, All, layers, point, &mut digest);
+        frontier = add_shapes(rt, &tree, frontier, &mut row, case, &mut digest);
     }
     digest.value
 }
 
+// Adds a window, a circle and all boxes.
+fn add_shapes(
+    rt: &impl Abort,
+    tree: &Tree,
+    frontier: Frontier,
+    row: &mut Row,
+    case: &Case,
+    digest: &mut Digest,
+) -> Frontier {
+    let area = row.boxed(rt, case.lie);
+    let around = row.boxed(rt, case.lie);
+    let point = Point {
+        x: around.min_x(),
+        y: around.min_y(),
+    };
+    let circle = Circle {
+        centre: point,
+        radius: around.max_x().abs_diff(area.max_x()),
+    };
+    let layers = row.asked(case.kinds);
+    let frontier = add_shape(rt, tree, frontier, Window(area), layers, point, digest);
+    let frontier = add_shape(rt, tree, frontier, circle, layers, point, digest);
+    add_shape(rt, tree, frontier, All, layers, point, digest)
+}
+
 #[test]
 fn random_tables_are_searched_as_by_another_search(rt: HostRuntime) {
-    for case in CASES {
+    for case in &CASES {
         let digest = digest_of(&rt, rt.alloc(), case);
         assert_eq!(rt; digest, case.digest, "seed {}", case.seed);
     }

@@ -1,5 +1,6 @@
 //! Searches and counts over small trees, with answers and numbers that were worked out by hand.
 
+ghost use Rattle.std.specs.Prelude.{◌≡◌, ◌≤◌, length};
 ghost use Rattle.rt_search.specs.Work.{IsUnscored};
 
 use crate::expect::expect_eq;
@@ -63,6 +64,19 @@ fn expect_search<G: Geometry>(
     want: &Want<'_>,
 ) {
     let frontier = Frontier::new(alloc, tree.len()).expect(rt, "there is memory");
+    expect_search_over(rt, tree, frontier, geometry, limit, want);
+}
+
+fn expect_search_over<G: Geometry>(
+    rt: &impl Abort,
+    tree: &Tree,
+    frontier: Frontier,
+    geometry: &G,
+    limit: Option<u64>,
+    want: &Want<'_>,
+)
+    requires room { length tree.now.entries ≤ frontier.capacity }
+{
     let search = Search::start(tree, frontier, Counted::new(geometry), limit);
     expect_eq(rt, search.opened(), 0);
     expect_answers(rt, search, tree.len(), want);
@@ -99,9 +113,7 @@ fn expect_answers<G: Geometry>(
     expect_eq(rt, search.next(), None);
     expect_eq(rt, search.next(), None);
     expect_eq(rt, search.opened(), want.opened);
-    let (frontier, counted) = search.finish();
-    expect_eq(rt, counted.asked(), want.asked);
-    expect_eq(rt, frontier.capacity(), capacity);
+    expect_finished(rt, search.finish(), capacity, want.asked);
 }
 
 // The nodes that a search for so many answers opens, told without the answers.
@@ -129,7 +141,20 @@ fn expect_full_search<G: Geometry>(
 ) {
     expect_search(rt, alloc, tree, geometry, None, want);
     let frontier = Frontier::new(alloc, tree.len()).expect(rt, "there is memory");
-    let mut search = FullSearch::start(tree, frontier, Counted::new(geometry));
+    let search = FullSearch::start(tree, frontier, Counted::new(geometry));
+    expect_all_answers(rt, search, tree.len(), want);
+    for count in 0..want.answers.len() + 2 {
+        expect_first_answers(rt, alloc, tree, geometry, count, want);
+    }
+}
+
+fn expect_all_answers<G: Geometry>(
+    rt: &impl Abort,
+    search: FullSearch<'_, G>,
+    capacity: u32,
+    want: &Want<'_>,
+) {
+    let mut search = search;
     expect_eq(rt, search.opened(), want.opened);
     for answer in want.answers {
         expect_eq(rt, search.next(), Some(*answer));
@@ -137,12 +162,18 @@ fn expect_full_search<G: Geometry>(
     expect_eq(rt, search.next(), None);
     expect_eq(rt, search.next(), None);
     expect_eq(rt, search.opened(), want.opened);
-    let (frontier, counted) = search.finish();
-    expect_eq(rt, counted.asked(), want.asked);
-    expect_eq(rt, frontier.capacity(), tree.len());
-    for count in 0..want.answers.len() + 2 {
-        expect_first_answers(rt, alloc, tree, geometry, count, want);
-    }
+    expect_finished(rt, search.finish(), capacity, want.asked);
+}
+
+// The frontier of a search that is finished, and the geometry with the number of its checks.
+fn expect_finished<G: Geometry>(
+    rt: &impl Abort,
+    finished: (Frontier, Counted<'_, G>),
+    capacity: u32,
+    asked: u64,
+) {
+    expect_eq(rt, finished.1.asked(), asked);
+    expect_eq(rt, finished.0.capacity(), capacity);
 }
 
 // The first so many of what a search for all answers gives: `want` has all.
@@ -162,9 +193,7 @@ fn expect_first_answers<G: Geometry>(
     }
     expect_eq(rt, first.next(), None);
     expect_eq(rt, first.next(), None);
-    let (frontier, counted) = first.finish();
-    expect_eq(rt, counted.asked(), want.asked);
-    expect_eq(rt, frontier.capacity(), tree.len());
+    expect_finished(rt, first.finish(), tree.len(), want.asked);
 }
 
 fn expect_count<G: Geometry>(
@@ -175,9 +204,23 @@ fn expect_count<G: Geometry>(
     want: Count,
 ) {
     let mut frontier = Frontier::new(alloc, tree.len()).expect(rt, "there is memory");
+    let _asked = expect_count_over(rt, tree, &mut frontier, geometry, want);
+}
+
+// A count over a frontier, in which nothing is left. Returns the number of its checks.
+fn expect_count_over<G: Geometry>(
+    rt: &impl Abort,
+    tree: &Tree,
+    frontier: &mut Frontier,
+    geometry: &G,
+    want: Count,
+) -> u64
+    ensures capacity { frontier.new.capacity ≡ frontier.old.capacity }
+{
     let mut counted = Counted::new(geometry);
-    expect_eq(rt, count(tree, &mut frontier, &mut counted), want);
+    expect_eq(rt, count(tree, frontier, &mut counted), want);
     assert!(rt; frontier.is_empty());
+    counted.asked()
 }
 
 fn near(x: i32, y: i32) -> Guided<All, Near> {
@@ -319,9 +362,15 @@ fn a_node_may_score_above_its_children(rt: HostRuntime) {
         asked: 10,
     };
     expect_search(&rt, rt.alloc(), &tree, &Uneven, Some(1), &first);
+}
+
+#[test]
+fn a_search_of_ones_own_gives_the_first_answer(rt: HostRuntime) {
+    let tree = pack(&rt, rt.alloc(), &BOXES);
     let frontier = Frontier::new(rt.alloc(), tree.len()).expect(&rt, "there is memory");
     let (answer, opened, _frontier) = first_answer(&tree, frontier);
-    expect_eq(&rt, (answer, opened), (Some((1, 10)), 6));
+    expect_eq(&rt, answer, Some((1, 10)));
+    expect_eq(&rt, opened, 6);
 }
 
 #[test]
@@ -493,46 +542,58 @@ fn at_equal_scores_the_lowest_id_comes_first(rt: HostRuntime) {
 #[test]
 fn nodes_are_opened_by_score_and_number(rt: HostRuntime) {
     let tree = pack(&rt, rt.alloc(), &BOXES);
-    let by_id = Watched::new(all_by_id());
     let all = Want {
         answers: &[(1, 0), (2, 0), (3, 0), (4, 0), (5, 0)],
         opened: 6,
         asked: 10,
     };
-    expect_search(&rt, rt.alloc(), &tree, &by_id, None, &all);
     // root; d, a, c; e, b
-    let want = [30, 15, 10, 30, -1, 10, 30, 15, 15, 12];
-    expect_eq(&rt, by_id.shown(), want);
-
-    let by_distance = Watched::new(near(12, 12));
+    let shown = [30, 15, 10, 30, -1, 10, 30, 15, 15, 12];
+    expect_shown(&rt, rt.alloc(), &tree, all_by_id(), None, &all, shown);
     let three = Want {
         answers: &[(2, 0), (5, 0), (1, 8)],
         opened: 5,
         asked: 9,
     };
-    expect_search(&rt, rt.alloc(), &tree, &by_distance, Some(3), &three);
     // root; e, b; d, a; never c
-    let want = [30, 15, 15, 15, 12, 10, 30, -1, 10, 0];
-    expect_eq(&rt, by_distance.shown(), want);
+    let shown = [30, 15, 15, 15, 12, 10, 30, -1, 10, 0];
+    expect_shown(&rt, rt.alloc(), &tree, near(12, 12), Some(3), &three, shown);
+}
+
+fn expect_shown<G: Geometry + Drop>(
+    rt: &impl Abort,
+    alloc: Global,
+    tree: &Tree,
+    geometry: G,
+    limit: Option<u64>,
+    want: &Want<'_>,
+    shown: [i32; 10],
+) {
+    let watched = Watched::new(geometry);
+    expect_search(rt, alloc, tree, &watched, limit, want);
+    expect_eq(rt, watched.shown(), shown);
 }
 
 // The same of a full search and of a count, which go down to each child in turn. No box is shown twice.
 #[test]
 fn full_searches_and_counts_ask_about_each_child_once(rt: HostRuntime) {
     let tree = pack(&rt, rt.alloc(), &BOXES);
-    let frontier = Frontier::new(rt.alloc(), tree.len()).expect(&rt, "there is memory");
-    let all = Watched::new(all_by_id());
-    let search = FullSearch::start(&tree, frontier, Counted::new(&all));
-    // d: a, c; e: b
-    let want = [30, 10, -1, 10, 30, 30, 15, 15, 15, 12];
-    expect_eq(&rt, all.shown(), want);
-
-    let (mut frontier, _counted) = search.finish();
+    let mut frontier = expect_shown_by_a_full_search(&rt, rt.alloc(), &tree);
     let window = Watched::new(in_window(boxed(&rt, [0, 10, 0, 10])));
     let _two = count(&tree, &mut frontier, &mut Counted::new(&window));
     // d: a, never c; e: b
     let want = [30, 10, -1, 10, 30, 15, 15, 15, 12, 0];
     expect_eq(&rt, window.shown(), want);
+}
+
+fn expect_shown_by_a_full_search(rt: &impl Abort, alloc: Global, tree: &Tree) -> Frontier {
+    let frontier = Frontier::new(alloc, tree.len()).expect(rt, "there is memory");
+    let all = Watched::new(all_by_id());
+    let search = FullSearch::start(tree, frontier, Counted::new(&all));
+    // d: a, c; e: b
+    let want = [30, 10, -1, 10, 30, 30, 15, 15, 15, 12];
+    expect_eq(rt, all.shown(), want);
+    search.finish().0
 }
 
 /// Ids, in no order and then in order: those that lie close together are put in order by marks, and others sorted.
@@ -582,36 +643,34 @@ static IDS: [([i64; 5], [i64; 5]); 7] = [
 #[test]
 fn full_searches_give_ids_in_order(rt: HostRuntime) {
     for (ids, in_order) in &IDS {
-        let mut table = Table::empty(rt.alloc());
-        for id in ids {
-            push(&rt, &mut table, *id, boxed(&rt, [0, 0, 0, 0]));
-        }
-        let tree = Tree::pack(rt.alloc(), table, 2).expect(&rt, "there is memory");
-        let frontier = Frontier::new(rt.alloc(), tree.len()).expect(&rt, "there is memory");
-        let all = all_by_id();
-        let mut search = FullSearch::start(&tree, frontier, Counted::new(&all));
-        for id in in_order {
-            expect_eq(&rt, search.next(), Some((*id, 0)));
-        }
-        expect_eq(&rt, search.next(), None);
-        let _end = search.finish();
+        let tree = of_ids(&rt, rt.alloc(), ids);
+        expect_ids(&rt, rt.alloc(), &tree, in_order);
     }
+}
+
+fn of_ids(rt: &impl Abort, alloc: Global, ids: &[i64]) -> Tree {
+    let mut table = Table::empty(alloc);
+    for id in ids {
+        push(rt, &mut table, *id, boxed(rt, [0, 0, 0, 0]));
+    }
+    Tree::pack(alloc, table, 2).expect(rt, "there is memory")
+}
+
+fn expect_ids(rt: &impl Abort, alloc: Global, tree: &Tree, ids: &[i64]) {
+    let frontier = Frontier::new(alloc, tree.len()).expect(rt, "there is memory");
+    let all = all_by_id();
+    let mut search = FullSearch::start(tree, frontier, Counted::new(&all));
+    for id in ids {
+        expect_eq(rt, search.next(), Some((*id, 0)));
+    }
+    expect_eq(rt, search.next(), None);
+    let _end = search.finish();
 }
 
 // Of many that are found those behind the limit are given up first: by a sample where at most half are wanted.
 #[test]
 fn full_searches_up_to_a_limit_give_the_first_of_all(rt: HostRuntime) {
-    let mut table = Table::empty(rt.alloc());
-    for i in 0..1_200 {
-        let bounds = boxed(&rt, [0, i % 40, 0, i % 30]);
-        push(
-            &rt,
-            &mut table,
-            i64::from(i) * 7_919 % 10_007 - 5_000,
-            bounds,
-        );
-    }
-    let tree = Tree::pack(rt.alloc(), table, 16).expect(&rt, "there is memory");
+    let tree = many(&rt, rt.alloc());
     expect_first_of_all(&rt, rt.alloc(), &tree, &all_by_id());
     let by_area = Guided {
         shape: All,
@@ -621,20 +680,40 @@ fn full_searches_up_to_a_limit_give_the_first_of_all(rt: HostRuntime) {
     expect_first_of_all(&rt, rt.alloc(), &tree, &near(i32::MAX, i32::MIN));
 }
 
+fn many(rt: &impl Abort, alloc: Global) -> Tree {
+    let mut table = Table::empty(alloc);
+    for i in 0..1_200 {
+        let bounds = boxed(rt, [0, i % 40, 0, i % 30]);
+        let id = i64::from(i) * 7_919 % 10_007 - 5_000;
+        push(rt, &mut table, id, bounds);
+    }
+    Tree::pack(alloc, table, 16).expect(rt, "there is memory")
+}
+
 fn expect_first_of_all<G: Geometry>(rt: &impl Abort, alloc: Global, tree: &Tree, geometry: &G) {
     for limit in [0, 1, 2, 129, 300, 599, 600, 601, 1_199, 1_200, 5_000] {
-        let frontier = Frontier::new(alloc, tree.len()).expect(rt, "there is memory");
-        let mut all = FullSearch::start(tree, frontier, Counted::new(geometry));
-        let frontier = Frontier::new(alloc, tree.len()).expect(rt, "there is memory");
-        let search = FullSearch::start(tree, frontier, Counted::new(geometry));
-        let mut first = search.first(limit);
-        for _ in 0..limit {
-            expect_eq(rt, first.next(), all.next());
-        }
-        expect_eq(rt, first.next(), None);
-        let _all = all.finish();
-        let _first = first.finish();
+        expect_first_so_many(rt, alloc, tree, geometry, limit);
     }
+}
+
+fn expect_first_so_many<G: Geometry>(
+    rt: &impl Abort,
+    alloc: Global,
+    tree: &Tree,
+    geometry: &G,
+    limit: u64,
+) {
+    let frontier = Frontier::new(alloc, tree.len()).expect(rt, "there is memory");
+    let mut all = FullSearch::start(tree, frontier, Counted::new(geometry));
+    let frontier = Frontier::new(alloc, tree.len()).expect(rt, "there is memory");
+    let search = FullSearch::start(tree, frontier, Counted::new(geometry));
+    let mut first = search.first(limit);
+    for _ in 0..limit {
+        expect_eq(rt, first.next(), all.next());
+    }
+    expect_eq(rt, first.next(), None);
+    let _all = all.finish();
+    let _first = first.finish();
 }
 
 // The same of a search in whose order no node has a score: all is asked before the first answer, whatever the limit.
@@ -656,28 +735,31 @@ fn unscored_searches_ask_about_each_child_once(rt: HostRuntime) {
 #[test]
 fn a_count_gives_up_what_a_search_left(rt: HostRuntime) {
     let tree = pack(&rt, rt.alloc(), &BOXES);
-    let frontier = Frontier::new(rt.alloc(), tree.len()).expect(&rt, "there is memory");
-    let nearest = near(12, 12);
-    let mut search = Search::start(&tree, frontier, Counted::new(&nearest), None);
-    expect_eq(&rt, search.next(), Some((2, 0)));
-    let (mut frontier, _counted) = search.finish();
+    let mut frontier = left_by_a_search(&rt, rt.alloc(), &tree);
     assert!(rt; !frontier.is_empty());
-
     let window = in_window(boxed(&rt, [0, 10, 0, 10]));
-    let mut counted = Counted::new(&window);
-    let want = Count {
+    let counts = Count {
         accepted: 2,
         opened: 5,
     };
-    expect_eq(&rt, count(&tree, &mut frontier, &mut counted), want);
-    expect_eq(&rt, counted.asked(), 9);
-    assert!(rt; frontier.is_empty());
-    let mut search = Search::start(&tree, frontier, Counted::new(&window), None);
-    expect_eq(&rt, search.next(), Some((1, 0)));
-    expect_eq(&rt, search.next(), Some((2, 0)));
-    expect_eq(&rt, search.next(), None);
-    expect_eq(&rt, search.opened(), 5);
-    let _end = search.finish();
+    let asked = expect_count_over(&rt, &tree, &mut frontier, &window, counts);
+    expect_eq(&rt, asked, 9);
+    let want = Want {
+        answers: &[(1, 0), (2, 0)],
+        opened: 5,
+        asked: 9,
+    };
+    expect_search_over(&rt, &tree, frontier, &window, None, &want);
+}
+
+fn left_by_a_search(rt: &impl Abort, alloc: Global, tree: &Tree) -> Frontier
+    ensures room { length tree.now.entries ≤ result.capacity }
+{
+    let frontier = Frontier::new(alloc, tree.len()).expect(rt, "there is memory");
+    let nearest = near(12, 12);
+    let mut search = Search::start(tree, frontier, Counted::new(&nearest), None);
+    expect_eq(rt, search.next(), Some((2, 0)));
+    search.finish().0
 }
 
 // Where an allocator refuses one growth, as tests/refusals.py has it, this tells so, and else it passes.

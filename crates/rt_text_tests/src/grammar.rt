@@ -6,189 +6,195 @@ use rt_geo::{
     Smallest, Window,
 };
 use rt_text::{BoxQuery, Parsed, Query, QueryFault, Report, Vertices, parse};
+use std::alloc::Global;
 use std::process::Abort;
 use std::test::Fail;
 
 /// Lines that are faulty, each under its first fault from left to right.
-static FAULTS: [(&[u8], QueryFault); 46] = [
-    (b"Find all", QueryFault::UnknownVerb),
-    (b"FIND all", QueryFault::UnknownVerb),
-    (b"finds all", QueryFault::UnknownVerb),
-    (b"\xff", QueryFault::UnknownVerb),
-    (b"all", QueryFault::UnknownVerb),
-    (b"\xef\xbb\xbffind all", QueryFault::UnknownVerb),
-    (b"find alls", QueryFault::UnknownRegion),
-    (b"find all\r\r", QueryFault::UnknownRegion),
-    (b"count near", QueryFault::UnknownRegion),
-    (b"find", QueryFault::MissingWord),
-    (b"count", QueryFault::MissingWord),
-    (b"nearest", QueryFault::MissingWord),
-    (b"nearest 3 1", QueryFault::MissingWord),
-    (b"find window 1", QueryFault::MissingWord),
-    (b"find circle 1 2", QueryFault::MissingWord),
-    (b"find all near 1", QueryFault::MissingWord),
-    (b"find all first", QueryFault::MissingWord),
-    (b"find polygon", QueryFault::MissingWord),
-    (b"find polygon 3 0 0 5 5 10", QueryFault::MissingWord),
-    (b"find window 0 10 x 1", QueryFault::NotNumber),
-    (b"find window 10 0 x 1", QueryFault::NotNumber),
-    (b"find window 10 0 0 x", QueryFault::NotNumber),
-    (b"find polygon x", QueryFault::NotNumber),
-    (b"find polygon 3 0 0 5 y", QueryFault::NotNumber),
-    (b"nearest first 1 1", QueryFault::NotNumber),
-    (b"nearest 1 99999999999 0", QueryFault::OutOfRange),
-    (b"nearest -1 x 0", QueryFault::OutOfRange),
-    (b"find circle 0 0 -1", QueryFault::OutOfRange),
-    (b"find circle 0 0 4294967296", QueryFault::OutOfRange),
+static FAULTS: [(&str, QueryFault); 45] = [
+    ("Find all", QueryFault::UnknownVerb),
+    ("FIND all", QueryFault::UnknownVerb),
+    ("finds all", QueryFault::UnknownVerb),
+    ("all", QueryFault::UnknownVerb),
+    ("\u{feff}find all", QueryFault::UnknownVerb),
+    ("find alls", QueryFault::UnknownRegion),
+    ("find all\r\r", QueryFault::UnknownRegion),
+    ("count near", QueryFault::UnknownRegion),
+    ("find", QueryFault::MissingWord),
+    ("count", QueryFault::MissingWord),
+    ("nearest", QueryFault::MissingWord),
+    ("nearest 3 1", QueryFault::MissingWord),
+    ("find window 1", QueryFault::MissingWord),
+    ("find circle 1 2", QueryFault::MissingWord),
+    ("find all near 1", QueryFault::MissingWord),
+    ("find all first", QueryFault::MissingWord),
+    ("find polygon", QueryFault::MissingWord),
+    ("find polygon 3 0 0 5 5 10", QueryFault::MissingWord),
+    ("find window 0 10 x 1", QueryFault::NotNumber),
+    ("find window 10 0 x 1", QueryFault::NotNumber),
+    ("find window 10 0 0 x", QueryFault::NotNumber),
+    ("find polygon x", QueryFault::NotNumber),
+    ("find polygon 3 0 0 5 y", QueryFault::NotNumber),
+    ("nearest first 1 1", QueryFault::NotNumber),
+    ("nearest 1 99999999999 0", QueryFault::OutOfRange),
+    ("nearest -1 x 0", QueryFault::OutOfRange),
+    ("find circle 0 0 -1", QueryFault::OutOfRange),
+    ("find circle 0 0 4294967296", QueryFault::OutOfRange),
     (
-        b"find all first 18446744073709551616",
+        "find all first 18446744073709551616",
         QueryFault::OutOfRange,
     ),
-    (b"find window 0 2147483648 1 0", QueryFault::OutOfRange),
-    (b"find window 10 0 0 10", QueryFault::MinAboveMax),
-    (b"find inside 0 10 10 0", QueryFault::MinAboveMax),
-    (b"find covers 10 0 0 10 x", QueryFault::MinAboveMax),
-    (b"find polygon 2 0 0", QueryFault::VertexCount),
-    (b"find polygon 17", QueryFault::VertexCount),
+    ("find window 0 2147483648 1 0", QueryFault::OutOfRange),
+    ("find window 10 0 0 10", QueryFault::MinAboveMax),
+    ("find inside 0 10 10 0", QueryFault::MinAboveMax),
+    ("find covers 10 0 0 10 x", QueryFault::MinAboveMax),
+    ("find polygon 2 0 0", QueryFault::VertexCount),
+    ("find polygon 17", QueryFault::VertexCount),
     (
-        b"find polygon -9999999999999999999999",
+        "find polygon -9999999999999999999999",
         QueryFault::VertexCount,
     ),
-    (b"find polygon 3 0 0 5 5 10 10", QueryFault::NotConvex),
-    (b"find polygon 3 0 0 5 5 10 10 x", QueryFault::NotConvex),
-    (b"find polygon 3 0 0 0 0 1 1", QueryFault::NotConvex),
-    (b"find all x", QueryFault::StrayWord),
-    (b"find all first 3 near 1 1", QueryFault::StrayWord),
-    (b"find all smallest near 1 1", QueryFault::StrayWord),
-    (b"nearest 1 0 0 first 1", QueryFault::StrayWord),
-    (b"count all first 1", QueryFault::StrayWord),
-    (b"levels x", QueryFault::StrayWord),
+    ("find polygon 3 0 0 5 5 10 10", QueryFault::NotConvex),
+    ("find polygon 3 0 0 5 5 10 10 x", QueryFault::NotConvex),
+    ("find polygon 3 0 0 0 0 1 1", QueryFault::NotConvex),
+    ("find all x", QueryFault::StrayWord),
+    ("find all first 3 near 1 1", QueryFault::StrayWord),
+    ("find all smallest near 1 1", QueryFault::StrayWord),
+    ("nearest 1 0 0 first 1", QueryFault::StrayWord),
+    ("count all first 1", QueryFault::StrayWord),
+    ("levels x", QueryFault::StrayWord),
 ];
 
 /// The same of lines with `on`.
-static LAYER_FAULTS: [(&[u8], QueryFault); 37] = [
-    (b"find all on", QueryFault::MissingWord),
-    (b"count all on", QueryFault::MissingWord),
-    (b"find all on \t", QueryFault::MissingWord),
-    (b"find all on 3,", QueryFault::NotNumber),
-    (b"find all on ,", QueryFault::NotNumber),
-    (b"find all on ,3", QueryFault::NotNumber),
-    (b"find all on 0,,3", QueryFault::NotNumber),
-    (b"find all on near 1 1", QueryFault::NotNumber),
-    (b"find all on first 1", QueryFault::NotNumber),
-    (b"find all on on", QueryFault::NotNumber),
-    (b"find all on x,64", QueryFault::NotNumber),
-    (b"find all on 0;3", QueryFault::NotNumber),
-    (b"find all on 0, 3", QueryFault::NotNumber),
-    (b"find all on 3+", QueryFault::NotNumber),
-    (b"find all on 64", QueryFault::OutOfRange),
-    (b"find all on 65", QueryFault::OutOfRange),
-    (b"find all on -1", QueryFault::OutOfRange),
-    (b"find all on 64,x", QueryFault::OutOfRange),
-    (b"find all on 63,64,", QueryFault::OutOfRange),
+static LAYER_FAULTS: [(&str, QueryFault); 37] = [
+    ("find all on", QueryFault::MissingWord),
+    ("count all on", QueryFault::MissingWord),
+    ("find all on \t", QueryFault::MissingWord),
+    ("find all on 3,", QueryFault::NotNumber),
+    ("find all on ,", QueryFault::NotNumber),
+    ("find all on ,3", QueryFault::NotNumber),
+    ("find all on 0,,3", QueryFault::NotNumber),
+    ("find all on near 1 1", QueryFault::NotNumber),
+    ("find all on first 1", QueryFault::NotNumber),
+    ("find all on on", QueryFault::NotNumber),
+    ("find all on x,64", QueryFault::NotNumber),
+    ("find all on 0;3", QueryFault::NotNumber),
+    ("find all on 0, 3", QueryFault::NotNumber),
+    ("find all on 3+", QueryFault::NotNumber),
+    ("find all on 64", QueryFault::OutOfRange),
+    ("find all on 65", QueryFault::OutOfRange),
+    ("find all on -1", QueryFault::OutOfRange),
+    ("find all on 64,x", QueryFault::OutOfRange),
+    ("find all on 63,64,", QueryFault::OutOfRange),
     (
-        b"find all on 340282366920938463463374607431768211456",
+        "find all on 340282366920938463463374607431768211456",
         QueryFault::OutOfRange,
     ),
-    (b"count all on 0,256", QueryFault::OutOfRange),
-    (b"find window 10 0 0 10 on x", QueryFault::MinAboveMax),
-    (b"find polygon 3 0 0 5 5 10 10 on 64", QueryFault::NotConvex),
-    (b"find all on 0 ,3", QueryFault::StrayWord),
-    (b"find all on 0 3", QueryFault::StrayWord),
-    (b"find all on 0 on 3", QueryFault::StrayWord),
-    (b"find all near 1 1 on 0", QueryFault::StrayWord),
-    (b"find all smallest on 0", QueryFault::StrayWord),
-    (b"find all first 1 on 3", QueryFault::StrayWord),
-    (b"find all On 3", QueryFault::StrayWord),
-    (b"find all ones 3", QueryFault::StrayWord),
-    (b"nearest 1 0 0 on 0", QueryFault::StrayWord),
-    (b"levels on 0", QueryFault::StrayWord),
-    (b"count all on 0 near 1 1", QueryFault::StrayWord),
-    (b"count all on 0 first 1", QueryFault::StrayWord),
-    (b"count all on 0 on 0", QueryFault::StrayWord),
-    (b"find on 3 all", QueryFault::UnknownRegion),
+    ("count all on 0,256", QueryFault::OutOfRange),
+    ("find window 10 0 0 10 on x", QueryFault::MinAboveMax),
+    ("find polygon 3 0 0 5 5 10 10 on 64", QueryFault::NotConvex),
+    ("find all on 0 ,3", QueryFault::StrayWord),
+    ("find all on 0 3", QueryFault::StrayWord),
+    ("find all on 0 on 3", QueryFault::StrayWord),
+    ("find all near 1 1 on 0", QueryFault::StrayWord),
+    ("find all smallest on 0", QueryFault::StrayWord),
+    ("find all first 1 on 3", QueryFault::StrayWord),
+    ("find all On 3", QueryFault::StrayWord),
+    ("find all ones 3", QueryFault::StrayWord),
+    ("nearest 1 0 0 on 0", QueryFault::StrayWord),
+    ("levels on 0", QueryFault::StrayWord),
+    ("count all on 0 near 1 1", QueryFault::StrayWord),
+    ("count all on 0 first 1", QueryFault::StrayWord),
+    ("count all on 0 on 0", QueryFault::StrayWord),
+    ("find on 3 all", QueryFault::UnknownRegion),
 ];
 
 /// The same of lines with `cost`.
-static COST_FAULTS: [(&[u8], QueryFault); 38] = [
-    (b"cost", QueryFault::MissingWord),
-    (b"cost \t\r", QueryFault::MissingWord),
-    (b"cost find", QueryFault::MissingWord),
-    (b"cost nearest", QueryFault::MissingWord),
-    (b"cost nearest 2", QueryFault::MissingWord),
-    (b"cost nearest 2 12", QueryFault::MissingWord),
-    (b"cost count", QueryFault::MissingWord),
-    (b"cost find window 1", QueryFault::MissingWord),
-    (b"cost find all on", QueryFault::MissingWord),
-    (b"cost find all near 1", QueryFault::MissingWord),
-    (b"cost find all first", QueryFault::MissingWord),
-    (b"cost levels", QueryFault::UnknownVerb),
-    (b"cost levels x", QueryFault::UnknownVerb),
-    (b"cost cost", QueryFault::UnknownVerb),
-    (b"cost cost find all", QueryFault::UnknownVerb),
-    (b"cost cost levels", QueryFault::UnknownVerb),
-    (b"cost all", QueryFault::UnknownVerb),
-    (b"cost on 1", QueryFault::UnknownVerb),
-    (b"cost 1", QueryFault::UnknownVerb),
-    (b"cost # find all", QueryFault::UnknownVerb),
-    (b"Cost find all", QueryFault::UnknownVerb),
-    (b"COST find all", QueryFault::UnknownVerb),
-    (b"cost Find all", QueryFault::UnknownVerb),
-    (b"cost counts all", QueryFault::UnknownVerb),
-    (b"costs find all", QueryFault::UnknownVerb),
-    (b"cos find all", QueryFault::UnknownVerb),
-    (b"cost\rfind all", QueryFault::UnknownVerb),
-    (b"cost find alls", QueryFault::UnknownRegion),
-    (b"cost find cost", QueryFault::UnknownRegion),
-    (b"cost count all on 0,,3", QueryFault::NotNumber),
-    (b"cost find circle 0 0 -1", QueryFault::OutOfRange),
-    (b"cost find window 10 0 0 10 x", QueryFault::MinAboveMax),
-    (b"cost find polygon 2 0 0", QueryFault::VertexCount),
-    (b"cost find polygon 3 0 0 5 5 10 10", QueryFault::NotConvex),
-    (b"cost find all first 1 on 3", QueryFault::StrayWord),
-    (b"cost nearest 1 0 0 on 0", QueryFault::StrayWord),
-    (b"cost count all first 1", QueryFault::StrayWord),
-    (b"find all cost", QueryFault::StrayWord),
+static COST_FAULTS: [(&str, QueryFault); 38] = [
+    ("cost", QueryFault::MissingWord),
+    ("cost \t\r", QueryFault::MissingWord),
+    ("cost find", QueryFault::MissingWord),
+    ("cost nearest", QueryFault::MissingWord),
+    ("cost nearest 2", QueryFault::MissingWord),
+    ("cost nearest 2 12", QueryFault::MissingWord),
+    ("cost count", QueryFault::MissingWord),
+    ("cost find window 1", QueryFault::MissingWord),
+    ("cost find all on", QueryFault::MissingWord),
+    ("cost find all near 1", QueryFault::MissingWord),
+    ("cost find all first", QueryFault::MissingWord),
+    ("cost levels", QueryFault::UnknownVerb),
+    ("cost levels x", QueryFault::UnknownVerb),
+    ("cost cost", QueryFault::UnknownVerb),
+    ("cost cost find all", QueryFault::UnknownVerb),
+    ("cost cost levels", QueryFault::UnknownVerb),
+    ("cost all", QueryFault::UnknownVerb),
+    ("cost on 1", QueryFault::UnknownVerb),
+    ("cost 1", QueryFault::UnknownVerb),
+    ("cost # find all", QueryFault::UnknownVerb),
+    ("Cost find all", QueryFault::UnknownVerb),
+    ("COST find all", QueryFault::UnknownVerb),
+    ("cost Find all", QueryFault::UnknownVerb),
+    ("cost counts all", QueryFault::UnknownVerb),
+    ("costs find all", QueryFault::UnknownVerb),
+    ("cos find all", QueryFault::UnknownVerb),
+    ("cost\rfind all", QueryFault::UnknownVerb),
+    ("cost find alls", QueryFault::UnknownRegion),
+    ("cost find cost", QueryFault::UnknownRegion),
+    ("cost count all on 0,,3", QueryFault::NotNumber),
+    ("cost find circle 0 0 -1", QueryFault::OutOfRange),
+    ("cost find window 10 0 0 10 x", QueryFault::MinAboveMax),
+    ("cost find polygon 2 0 0", QueryFault::VertexCount),
+    ("cost find polygon 3 0 0 5 5 10 10", QueryFault::NotConvex),
+    ("cost find all first 1 on 3", QueryFault::StrayWord),
+    ("cost nearest 1 0 0 on 0", QueryFault::StrayWord),
+    ("cost count all first 1", QueryFault::StrayWord),
+    ("find all cost", QueryFault::StrayWord),
 ];
 
 fn expect_parsed(rt: &impl Abort, line: &[u8], want: Parsed<'_>) {
     expect_eq(rt, parse(line, &mut Vertices::new()), want);
 }
 
+fn expect_faults(rt: &impl Abort, rows: &[(&str, QueryFault)]) {
+    for (line, fault) in rows {
+        expect_parsed(rt, line.as_bytes(), Parsed::Fault(*fault));
+    }
+}
+
 #[test]
 fn faults(rt: HostRuntime) {
-    for (line, fault) in &FAULTS {
-        expect_parsed(&rt, *line, Parsed::Fault(*fault));
-    }
+    expect_faults(&rt, &FAULTS);
+    expect_parsed(&rt, b"\xff", Parsed::Fault(QueryFault::UnknownVerb));
 }
 
 #[test]
 fn faults_of_layers(rt: HostRuntime) {
-    for (line, fault) in &LAYER_FAULTS {
-        expect_parsed(&rt, *line, Parsed::Fault(*fault));
-    }
+    expect_faults(&rt, &LAYER_FAULTS);
 }
 
 #[test]
 fn faults_of_costs(rt: HostRuntime) {
-    for (line, fault) in &COST_FAULTS {
-        expect_parsed(&rt, *line, Parsed::Fault(*fault));
-    }
+    expect_faults(&rt, &COST_FAULTS);
 }
+
+static SKIPPED: [&str; 7] = [
+    "",
+    "\r",
+    " \t ",
+    "#",
+    "  # find all",
+    "#find\r",
+    "#cost find all",
+];
 
 #[test]
 fn skipped_lines(rt: HostRuntime) {
-    let lines: [&[u8]; 7] = [
-        b"",
-        b"\r",
-        b" \t ",
-        b"#",
-        b"  # find all",
-        b"#find\r",
-        b"#cost find all",
-    ];
+    expect_skipped(&rt, &SKIPPED);
+}
+
+fn expect_skipped(rt: &impl Abort, lines: &[&str]) {
     for line in lines {
-        expect_parsed(&rt, line, Parsed::Skip);
+        expect_parsed(rt, line.as_bytes(), Parsed::Skip);
     }
 }
 
@@ -207,11 +213,16 @@ fn find_on(region: Region<'_>, order: Order, limit: Option<u64>, layers: Layers)
     }))
 }
 
+fn boxed(rt: &impl Abort, sides: [i32; 4]) -> Bounds {
+    let [min_x, max_x, min_y, max_y] = sides;
+    Bounds::new(min_x, max_x, min_y, max_y).expect(rt, "the minimums are at most the maximums")
+}
+
 #[test]
-fn regions(rt: HostRuntime) -> Result<(), Fail> {
+fn regions(rt: HostRuntime) {
     let by_id = Order::ById(ById);
-    let sides = Bounds::new(-1, 2, -3, 4).ok_or("sides")?;
-    let widest = Bounds::new(i32::MIN, i32::MAX, i32::MIN, i32::MAX).ok_or("widest")?;
+    let sides = boxed(&rt, [-1, 2, -3, 4]);
+    let widest = boxed(&rt, [i32::MIN, i32::MAX, i32::MIN, i32::MAX]);
     expect_parsed(&rt, b"find all", find(Region::All(All), by_id, None));
     expect_parsed(
         &rt,
@@ -233,11 +244,10 @@ fn regions(rt: HostRuntime) -> Result<(), Fail> {
         b"find covers -1 2 -3 4",
         find(Region::Covers(Covers(sides)), by_id, None),
     );
-    Ok(())
 }
 
 #[test]
-fn a_circle_and_a_polygon(rt: HostRuntime) -> Result<(), Fail> {
+fn a_circle_and_a_polygon(rt: HostRuntime) {
     let centre = Point { x: -1, y: 2 };
     let circle = Circle {
         centre,
@@ -258,12 +268,11 @@ fn a_circle_and_a_polygon(rt: HostRuntime) -> Result<(), Fail> {
         &rt,
         b"find polygon 3 0 0 30 0 0 30",
         find(
-            Region::Polygon(triangle.ok().ok_or("triangle")?),
+            Region::Polygon(triangle.ok().expect(&rt, "it is convex")),
             Order::ById(ById),
             None,
         ),
     );
-    Ok(())
 }
 
 #[test]
@@ -343,38 +352,39 @@ fn counts_and_levels(rt: HostRuntime) {
 }
 
 /// Lists of layers, and the bits of the set of each.
-static LISTS: [(&[u8], u64); 12] = [
-    (b"0", 1),
-    (b"3", 8),
-    (b"0,3", 9),
-    (b"3,0", 9),
-    (b"0,0", 1),
-    (b"63", 1 << 63),
-    (b"63,62,61,0", 0xe000_0000_0000_0001),
-    (b"+3", 8),
-    (b"-0", 1),
-    (b"0063,+001,1", 0x8000_0000_0000_0002),
+static LISTS: [(&str, u64); 12] = [
+    ("0", 1),
+    ("3", 8),
+    ("0,3", 9),
+    ("3,0", 9),
+    ("0,0", 1),
+    ("63", 1 << 63),
+    ("63,62,61,0", 0xe000_0000_0000_0001),
+    ("+3", 8),
+    ("-0", 1),
+    ("0063,+001,1", 0x8000_0000_0000_0002),
     (
-        b"00000000000000000000000000000000000000000000000000000000000007",
+        "00000000000000000000000000000000000000000000000000000000000007",
         128,
     ),
     (
-        b"0,1,2,3,4,5,6,7,8,9,10,11,12,13,14,15,16,17,18,19,20,21,22,23,24,25,26,27,28,29,30,31,32,33,34,35,36,37,38,39,40,41,42,43,44,45,46,47,48,49,50,51,52,53,54,55,56,57,58,59,60,61,62,63",
+        "0,1,2,3,4,5,6,7,8,9,10,11,12,13,14,15,16,17,18,19,20,21,22,23,24,25,26,27,28,29,30,31,32,33,34,35,36,37,38,39,40,41,42,43,44,45,46,47,48,49,50,51,52,53,54,55,56,57,58,59,60,61,62,63",
         u64::MAX,
     ),
 ];
 
 #[test]
 fn lists_of_layers(rt: HostRuntime) -> Result<(), Fail> {
-    for (list, bits) in &LISTS {
-        let mut line = Vec::new(rt.alloc());
+    expect_lists(&rt, rt.alloc(), &LISTS)
+}
+
+fn expect_lists(rt: &impl Abort, alloc: Global, rows: &[(&str, u64)]) -> Result<(), Fail> {
+    for (list, bits) in rows {
+        let mut line = Vec::new(alloc);
         line.extend_from_slice(b"count all on ")?;
-        line.extend_from_slice(*list)?;
-        expect_parsed(
-            &rt,
-            &line,
-            Parsed::Query(Query::Boxes(counted(Region::All(All), Layers::new(*bits)))),
-        );
+        line.extend_from_slice(list.as_bytes())?;
+        let all_on = counted(Region::All(All), Layers::new(*bits));
+        expect_parsed(rt, &line, Parsed::Query(Query::Boxes(all_on)));
     }
     Ok(())
 }
@@ -433,7 +443,7 @@ fn cost_find(region: Region<'_>, order: Order, limit: Option<u64>, layers: Layer
 }
 
 #[test]
-fn costs_of_finds(rt: HostRuntime) -> Result<(), Fail> {
+fn costs_of_finds(rt: HostRuntime) {
     let by_id = Order::ById(ById);
     let every = Layers::new(u64::MAX);
     expect_parsed(
@@ -460,23 +470,22 @@ fn costs_of_finds(rt: HostRuntime) -> Result<(), Fail> {
         &rt,
         b"cost find window 20 30 0 4",
         cost_find(
-            Region::Window(Window(Bounds::new(20, 30, 0, 4).ok_or("sides")?)),
+            Region::Window(Window(boxed(&rt, [20, 30, 0, 4]))),
             by_id,
             None,
             every,
         ),
     );
-    Ok(())
 }
 
 #[test]
-fn costs_of_finds_in_an_order(rt: HostRuntime) -> Result<(), Fail> {
+fn costs_of_finds_in_an_order(rt: HostRuntime) {
     let every = Layers::new(u64::MAX);
     expect_parsed(
         &rt,
         b"cost find inside -1 2 -3 4 smallest",
         cost_find(
-            Region::Inside(Inside(Bounds::new(-1, 2, -3, 4).ok_or("sides")?)),
+            Region::Inside(Inside(boxed(&rt, [-1, 2, -3, 4]))),
             Order::Smallest(Smallest),
             None,
             every,
@@ -514,11 +523,10 @@ fn costs_of_finds_in_an_order(rt: HostRuntime) -> Result<(), Fail> {
             every,
         ),
     );
-    Ok(())
 }
 
 #[test]
-fn costs_of_counts(rt: HostRuntime) -> Result<(), Fail> {
+fn costs_of_counts(rt: HostRuntime) {
     expect_parsed(
         &rt,
         b"cost count all",
@@ -533,9 +541,8 @@ fn costs_of_counts(rt: HostRuntime) -> Result<(), Fail> {
         &rt,
         b"cost count window 0 10 0 10",
         Parsed::Query(Query::Cost(counted(
-            Region::Window(Window(Bounds::new(0, 10, 0, 10).ok_or("sides")?)),
+            Region::Window(Window(boxed(&rt, [0, 10, 0, 10]))),
             Layers::new(u64::MAX),
         ))),
     );
-    Ok(())
 }

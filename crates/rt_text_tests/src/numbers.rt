@@ -2,58 +2,68 @@
 
 use crate::expect::expect_eq;
 use rt_text::{NumberFault, number};
+use std::process::Abort;
+
+type Row = (&'static str, Result<i128, NumberFault>);
+
+fn expect_numbers(rt: &impl Abort, rows: &[Row], least: i128, most: i128) {
+    for (text, wanted) in rows {
+        expect_eq(rt, number(text.as_bytes(), least, most), *wanted);
+    }
+}
+
+// From 0 to 10.
+static SMALL: [Row; 12] = [
+    ("+007", Ok(7)),
+    ("-0", Ok(0)),
+    ("10", Ok(10)),
+    ("", Err(NumberFault::NotNumber)),
+    ("-", Err(NumberFault::NotNumber)),
+    ("+-1", Err(NumberFault::NotNumber)),
+    ("1 ", Err(NumberFault::NotNumber)),
+    ("0x1", Err(NumberFault::NotNumber)),
+    ("1e0", Err(NumberFault::NotNumber)),
+    ("11", Err(NumberFault::OutOfRange)),
+    ("-1", Err(NumberFault::OutOfRange)),
+    (
+        "999999999999999999999999999999999999999999999999999999999999",
+        Err(NumberFault::OutOfRange),
+    ),
+];
 
 #[test]
 fn numbers_of_texts(rt: HostRuntime) {
-    let cases: [(&[u8], Result<i128, NumberFault>); 12] = [
-        (b"+007", Ok(7)),
-        (b"-0", Ok(0)),
-        (b"10", Ok(10)),
-        (b"", Err(NumberFault::NotNumber)),
-        (b"-", Err(NumberFault::NotNumber)),
-        (b"+-1", Err(NumberFault::NotNumber)),
-        (b"1 ", Err(NumberFault::NotNumber)),
-        (b"0x1", Err(NumberFault::NotNumber)),
-        (b"1e0", Err(NumberFault::NotNumber)),
-        (b"11", Err(NumberFault::OutOfRange)),
-        (b"-1", Err(NumberFault::OutOfRange)),
-        (&[b'9'; 60], Err(NumberFault::OutOfRange)),
-    ];
-    for (text, wanted) in cases {
-        expect_eq(&rt, number(text, 0, 10), wanted);
-    }
+    expect_numbers(&rt, &SMALL, 0, 10);
 }
+
+static ENDS: [Row; 4] = [
+    ("170141183460469231731687303715884105727", Ok(i128::MAX)),
+    ("-170141183460469231731687303715884105728", Ok(i128::MIN)),
+    (
+        "170141183460469231731687303715884105728",
+        Err(NumberFault::OutOfRange),
+    ),
+    (
+        "-170141183460469231731687303715884105729",
+        Err(NumberFault::OutOfRange),
+    ),
+];
 
 #[test]
 fn ends_of_the_widest_range(rt: HostRuntime) {
-    let cases: [(&[u8], Result<i128, NumberFault>); 4] = [
-        (b"170141183460469231731687303715884105727", Ok(i128::MAX)),
-        (b"-170141183460469231731687303715884105728", Ok(i128::MIN)),
-        (
-            b"170141183460469231731687303715884105728",
-            Err(NumberFault::OutOfRange),
-        ),
-        (
-            b"-170141183460469231731687303715884105729",
-            Err(NumberFault::OutOfRange),
-        ),
-    ];
-    for (text, wanted) in cases {
-        expect_eq(&rt, number(text, i128::MIN, i128::MAX), wanted);
-    }
+    expect_numbers(&rt, &ENDS, i128::MIN, i128::MAX);
 }
+
+static LONG: [Row; 4] = [
+    ("9999999999999999999", Ok(9_999_999_999_999_999_999)),
+    ("10000000000000000000", Ok(10_000_000_000_000_000_000)),
+    ("-9223372036854775808", Ok(-9_223_372_036_854_775_808)),
+    ("18446744073709551615", Ok(18_446_744_073_709_551_615)),
+];
 
 #[test]
 fn numbers_of_19_and_of_20_digits(rt: HostRuntime) {
-    let cases: [(&[u8], i128); 4] = [
-        (b"9999999999999999999", 9_999_999_999_999_999_999),
-        (b"10000000000000000000", 10_000_000_000_000_000_000),
-        (b"-9223372036854775808", -9_223_372_036_854_775_808),
-        (b"18446744073709551615", 18_446_744_073_709_551_615),
-    ];
-    for (text, wanted) in cases {
-        expect_eq(&rt, number(text, i128::MIN, i128::MAX), Ok(wanted));
-    }
+    expect_numbers(&rt, &LONG, i128::MIN, i128::MAX);
 }
 
 #[test]

@@ -6,6 +6,7 @@ use rt_text::{Axis, TableFault, read_table};
 use rt_tree::Table;
 use std::alloc::Global;
 use std::io::{self, Read};
+use std::process::Abort;
 
 const ROOM: u32 = 16_777_216;
 
@@ -37,83 +38,83 @@ fn gave(loaded: &Result<Table, TableFault>, boxes: &[(i64, [i32; 4])]) -> bool {
 }
 
 // Texts, and the fault of each.
-const FAULTS: [(&[u8], TableFault); 22] = [
+static FAULTS: [(&str, TableFault); 22] = [
     (
-        b"1,0,1,0\n",
+        "1,0,1,0\n",
         TableFault::FieldCount {
             number: 1,
             found: 4,
         },
     ),
     (
-        b"1,0,1,0,1,\n",
+        "1,0,1,0,1,\n",
         TableFault::NotNumber {
             number: 1,
             field: 6,
         },
     ),
     (
-        b"1,0,1,0,1,0,0\n",
+        "1,0,1,0,1,0,0\n",
         TableFault::FieldCount {
             number: 1,
             found: 7,
         },
     ),
     (
-        b",0,0,0,0\n",
+        ",0,0,0,0\n",
         TableFault::NotNumber {
             number: 1,
             field: 1,
         },
     ),
     (
-        b"1,a,0,0,0\n",
+        "1,a,0,0,0\n",
         TableFault::NotNumber {
             number: 1,
             field: 2,
         },
     ),
     (
-        b"1,0,0,0, 0\n",
+        "1,0,0,0, 0\n",
         TableFault::NotNumber {
             number: 1,
             field: 5,
         },
     ),
     (
-        b"1,0,2147483648,x,0\n",
+        "1,0,2147483648,x,0\n",
         TableFault::OutOfRange {
             number: 1,
             field: 3,
         },
     ),
     (
-        b"1,5,4,0,0\n",
+        "1,5,4,0,0\n",
         TableFault::MinAboveMax {
             number: 1,
             axis: Axis::X,
         },
     ),
     (
-        b"1,0,0,1,0\n",
+        "1,0,0,1,0\n",
         TableFault::MinAboveMax {
             number: 1,
             axis: Axis::Y,
         },
     ),
     (
-        b"1,5,4,1,0\n",
+        "1,5,4,1,0\n",
         TableFault::MinAboveMax {
             number: 1,
             axis: Axis::X,
         },
     ),
     (
-        b"7,0,0,0,0\n8,0,0,0,0\n+07,1,1,1,1\n",
+        "7,0,0,0,0\n8,0,0,0,0\n+07,1,1,1,1\n",
         TableFault::Repeated { number: 3 },
     ),
     (
-        b"7,0,0,0,0\n7,1,0,0,0\n",
+        "7,0,0,0,0\n7,1,0,0,0\n",
         TableFault::MinAboveMax {
             number: 2,
             axis: Axis::X,
@@ -121,37 +122,37 @@ const FAULTS: [(&[u8], TableFault); 22] = [
     ),
     // A repeated id is told before what is wrong with a later record, and after what is wrong with an earlier one.
     (
-        b"7,0,0,0,0\n7,0,0,0,0\n8,x,0,0,0\n",
+        "7,0,0,0,0\n7,0,0,0,0\n8,x,0,0,0\n",
         TableFault::Repeated { number: 2 },
     ),
     (
-        b"7,0,0,0,0\n8,x,0,0,0\n7,0,0,0,0\n",
+        "7,0,0,0,0\n8,x,0,0,0\n7,0,0,0,0\n",
         TableFault::NotNumber {
             number: 2,
             field: 2,
         },
     ),
     (
-        b"9,0,0,0,0\n8,0,0,0,0\n7,0,0,0,0\n7,0,0,0,0\n8,0,0,0,0\n9,0,0",
+        "9,0,0,0,0\n8,0,0,0,0\n7,0,0,0,0\n7,0,0,0,0\n8,0,0,0,0\n9,0,0",
         TableFault::Repeated { number: 4 },
     ),
     // A quoted field may hold quotes, commas and line ends, none of which is part of a number.
     (
-        b"\"1\"\"\",0,0,0,0\n",
+        "\"1\"\"\",0,0,0,0\n",
         TableFault::NotNumber {
             number: 1,
             field: 1,
         },
     ),
     (
-        b"\"1,0\",0,0,0,0\n",
+        "\"1,0\",0,0,0,0\n",
         TableFault::NotNumber {
             number: 1,
             field: 1,
         },
     ),
     (
-        b"\"1\n\",0,0,0,0\n",
+        "\"1\n\",0,0,0,0\n",
         TableFault::NotNumber {
             number: 1,
             field: 1,
@@ -159,21 +160,21 @@ const FAULTS: [(&[u8], TableFault); 22] = [
     ),
     // An empty line has no number, and what the end of the text cuts short is a record.
     (
-        b"\n\r\n\n1,5,4,0,0\n",
+        "\n\r\n\n1,5,4,0,0\n",
         TableFault::MinAboveMax {
             number: 1,
             axis: Axis::X,
         },
     ),
     (
-        b"1,0,0,0,0\n\n2,0",
+        "1,0,0,0,0\n\n2,0",
         TableFault::FieldCount {
             number: 2,
             found: 2,
         },
     ),
     (
-        b"1,0,0,0,0\r2,5,4,0,0\r",
+        "1,0,0,0,0\r2,5,4,0,0\r",
         TableFault::MinAboveMax {
             number: 2,
             axis: Axis::X,
@@ -181,7 +182,7 @@ const FAULTS: [(&[u8], TableFault); 22] = [
     ),
     // The mark is dropped at the start alone.
     (
-        b"1,0,0,0,0\n\xef\xbb\xbf2,0,0,0,0\n",
+        "1,0,0,0,0\n\u{feff}2,0,0,0,0\n",
         TableFault::NotNumber {
             number: 2,
             field: 1,
@@ -191,50 +192,54 @@ const FAULTS: [(&[u8], TableFault); 22] = [
 
 #[test]
 fn faults_of_texts(rt: HostRuntime) {
-    for (text, wanted) in FAULTS {
-        expect_eq(&rt, fault_of(rt.alloc(), text), Some(wanted));
+    expect_faults(&rt, rt.alloc(), &FAULTS);
+}
+
+fn expect_faults(rt: &impl Abort, alloc: Global, rows: &[(&str, TableFault)]) {
+    for (text, wanted) in rows {
+        expect_eq(rt, fault_of(alloc, text.as_bytes()), Some(*wanted));
     }
 }
 
 // Texts whose layers are at fault, and the fault of each.
-const LAYER_FAULTS: [(&[u8], TableFault); 10] = [
+static LAYER_FAULTS: [(&str, TableFault); 10] = [
     (
-        b"1,0,10,0,10,3\n2,5,15,5,15\n3,0,0,0,0,64\n",
+        "1,0,10,0,10,3\n2,5,15,5,15\n3,0,0,0,0,64\n",
         TableFault::OutOfRange {
             number: 3,
             field: 6,
         },
     ),
     (
-        b"1,0,0,0,0,-1\n",
+        "1,0,0,0,0,-1\n",
         TableFault::OutOfRange {
             number: 1,
             field: 6,
         },
     ),
     (
-        b"1,0,0,0,0,99999999999999999999999999999999999999999999999999\n",
+        "1,0,0,0,0,99999999999999999999999999999999999999999999999999\n",
         TableFault::OutOfRange {
             number: 1,
             field: 6,
         },
     ),
     (
-        b"1,0,0,0,0,x\n",
+        "1,0,0,0,0,x\n",
         TableFault::NotNumber {
             number: 1,
             field: 6,
         },
     ),
     (
-        b"1,0,0,0,0, 3\n",
+        "1,0,0,0,0, 3\n",
         TableFault::NotNumber {
             number: 1,
             field: 6,
         },
     ),
     (
-        b"1,0,0,0,0,+\n",
+        "1,0,0,0,0,+\n",
         TableFault::NotNumber {
             number: 1,
             field: 6,
@@ -242,37 +247,35 @@ const LAYER_FAULTS: [(&[u8], TableFault); 10] = [
     ),
     // The layer is judged after the fields in front of it, and before the sides are compared and the ids are.
     (
-        b"1,0,0,0,x,y\n",
+        "1,0,0,0,x,y\n",
         TableFault::NotNumber {
             number: 1,
             field: 5,
         },
     ),
     (
-        b"1,5,4,1,0,64\n",
+        "1,5,4,1,0,64\n",
         TableFault::OutOfRange {
             number: 1,
             field: 6,
         },
     ),
     (
-        b"1,5,4,1,0,63\n",
+        "1,5,4,1,0,63\n",
         TableFault::MinAboveMax {
             number: 1,
             axis: Axis::X,
         },
     ),
     (
-        b"1,0,0,0,0,1\n1,0,0,0,0,2\n1,0,0,0,0,64\n",
+        "1,0,0,0,0,1\n1,0,0,0,0,2\n1,0,0,0,0,64\n",
         TableFault::Repeated { number: 2 },
     ),
 ];
 
 #[test]
 fn faults_of_layers(rt: HostRuntime) {
-    for (text, wanted) in LAYER_FAULTS {
-        expect_eq(&rt, fault_of(rt.alloc(), text), Some(wanted));
-    }
+    expect_faults(&rt, rt.alloc(), &LAYER_FAULTS);
 }
 
 // Whether a load gave entries of just these layers, in this order.

@@ -8,6 +8,7 @@ use crate::layered::layered;
 use rt_geo::{Bounds, Entry};
 use rt_tree::{EntriesFault, PushFault, Table};
 use std::alloc::Global;
+use std::process::Abort;
 use std::test::Fail;
 
 // Tables, in the order pushed: that of the examples, and one with ids in no order.
@@ -53,28 +54,47 @@ fn keeps_the_order_and_refuses_an_id_twice(rt: HostRuntime) {
         for (count, (id, sides)) in boxes.iter().enumerate() {
             expect_eq(&rt, table.len() as usize, count);
             expect_eq(&rt, push(&mut table, *id, *sides), Some(Ok(())));
-            expect_eq(
-                &rt,
-                push(&mut table, *id, [0; 4]),
-                Some(Err(PushFault::Repeated)),
-            );
+            expect_repeated(&rt, &mut table, *id);
         }
         assert!(rt; !table.is_empty());
-        expect_eq(
-            &rt,
-            push(&mut table, 5, [0; 4]),
-            Some(Err(PushFault::Repeated)),
-        );
+        expect_repeated(&rt, &mut table, 5);
         expect_eq(&rt, table.len(), 5);
-        for place in 0..table.len() {
-            let (id, sides) = boxes[place as usize % boxes.len()];
-            expect_eq(&rt, Some(table.get(place)), entry(id, sides));
-        }
-        expect_eq(
-            &rt,
-            table.entries().leaves().iter().map(|entry| entry.id).max(),
-            boxes.iter().map(|(id, _)| *id).max(),
-        );
+        expect_entries(&rt, &table, boxes);
+    }
+}
+
+fn expect_repeated(rt: &impl Abort, table: &mut Table, id: i64) {
+    let pushed = push(table, id, [0; 4]);
+    expect_eq(rt, pushed, Some(Err(PushFault::Repeated)));
+}
+
+fn expect_entries(rt: &impl Abort, table: &Table, boxes: &[(i64, [i32; 4]); 5]) {
+    for place in 0..table.len() {
+        let (id, sides) = boxes[place as usize % boxes.len()];
+        expect_eq(rt, Some(table.get(place)), entry(id, sides));
+    }
+    let mut greatest = i64::MIN;
+    for (id, _) in boxes {
+        greatest = greatest.max(*id);
+    }
+    expect_eq(rt, greatest_id(table), Some(greatest));
+}
+
+fn greatest_id(table: &Table) -> Option<i64> {
+    let mut greatest = None;
+    for leaf in table.entries().leaves() {
+        greatest = greatest.max(Some(leaf.id));
+    }
+    greatest
+}
+
+// The ids of a table, in order.
+fn expect_ids(rt: &impl Abort, table: &Table, ids: &[i64]) {
+    expect_eq(rt, table.len() as usize, ids.len());
+    let mut place = 0usize;
+    for leaf in table.entries().leaves() {
+        expect_eq(rt, Some(&leaf.id), ids.get(place));
+        place = place.wrapping_add(1);
     }
 }
 
@@ -116,28 +136,29 @@ fn entries_at_once_are_a_table_or_tell_the_first_repeat(rt: HostRuntime) {
         match loaded(rt.alloc(), ids).expect(&rt, "there is memory") {
             Ok(table) => {
                 expect_eq(&rt, *repeat, None);
-                expect_eq(&rt, table.len() as usize, ids.len());
-                for (entry, id) in table.entries().leaves().iter().zip(*ids) {
-                    expect_eq(&rt, entry.id, *id);
-                }
+                expect_ids(&rt, &table, ids);
             }
-            Err(fault) => {
-                expect_eq(
-                    &rt,
-                    Some(fault),
-                    (*repeat).map(|place| EntriesFault::Repeated { place }),
-                );
-            }
+            Err(fault) => expect_eq(&rt, Some(fault), repeated_at(*repeat)),
         }
+    }
+}
+
+fn repeated_at(place: Option<u32>) -> Option<EntriesFault> {
+    let place = place?;
+    Some(EntriesFault::Repeated { place })
+}
+
+// The same of ids that are a table.
+fn loaded_table(rt: &impl Abort, alloc: Global, ids: &[i64]) -> Table {
+    match loaded(alloc, ids).expect(rt, "there is memory") {
+        Ok(table) => table,
+        Err(_) => Table::empty(alloc),
     }
 }
 
 #[test]
 fn entries_are_pushed_after_others_at_once(rt: HostRuntime) {
-    let mut table = match loaded(rt.alloc(), &[5, -3, 8]).expect(&rt, "there is memory") {
-        Ok(table) => table,
-        Err(_) => Table::empty(rt.alloc()),
-    };
+    let mut table = loaded_table(&rt, rt.alloc(), &[5, -3, 8]);
     for (id, pushed) in [
         (8, Err(PushFault::Repeated)),
         (-3, Err(PushFault::Repeated)),
@@ -148,10 +169,7 @@ fn entries_are_pushed_after_others_at_once(rt: HostRuntime) {
     ] {
         expect_eq(&rt, push(&mut table, id, [0; 4]), Some(pushed));
     }
-    expect_eq(&rt, table.len(), 5);
-    for (entry, id) in table.entries().leaves().iter().zip(&[5, -3, 8, 6, -4]) {
-        expect_eq(&rt, entry.id, *id);
-    }
+    expect_ids(&rt, &table, &[5, -3, 8, 6, -4]);
 }
 
 // Half as many as a table may have, so that memory for them is there.
@@ -162,12 +180,19 @@ fn one_is_pushed_after_millions_at_once(rt: HostRuntime) {
     for id in 0..i64::from(most) {
         ids.push(id).expect(&rt, "there is memory");
     }
-    let mut table = match loaded(rt.alloc(), &ids).expect(&rt, "there is memory") {
-        Ok(table) => table,
-        Err(_) => Table::empty(rt.alloc()),
-    };
+    let mut table = loaded_table(&rt, rt.alloc(), &ids);
     expect_eq(&rt, push(&mut table, -1, [0; 4]), Some(Ok(())));
     expect_eq(&rt, table.len(), most + 1);
+}
+
+// The table has the ids from 0 up to here.
+fn expect_ids_up_to(rt: &impl Abort, table: &Table, end: i64) {
+    expect_eq(rt, i64::from(table.len()), end);
+    let mut id = 0i64;
+    for leaf in table.entries().leaves() {
+        expect_eq(rt, leaf.id, id);
+        id = id.wrapping_add(1);
+    }
 }
 
 // Where an allocator refuses one growth, as tests/refusals.py has it, this tells so, and else it passes.
@@ -179,18 +204,11 @@ fn a_refused_push_changes_nothing(rt: HostRuntime) -> Result<(), Fail> {
         let mut pushed = push(&mut table, id, [0; 4]);
         if pushed == Some(Err(PushFault::Memory)) {
             is_refused = true;
-            expect_eq(&rt, i64::from(table.len()), id);
-            for (entry, before) in table.entries().leaves().iter().zip(0..100) {
-                expect_eq(&rt, entry.id, before);
-            }
+            expect_ids_up_to(&rt, &table, id);
             pushed = push(&mut table, id, [0; 4]);
         }
         expect_eq(&rt, pushed, Some(Ok(())));
-        expect_eq(
-            &rt,
-            push(&mut table, id, [0; 4]),
-            Some(Err(PushFault::Repeated)),
-        );
+        expect_repeated(&rt, &mut table, id);
     }
     expect_eq(&rt, table.len(), 100);
     if is_refused {

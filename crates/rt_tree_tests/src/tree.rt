@@ -3,7 +3,8 @@
 use crate::expect::expect_eq;
 use rt_geo::{Bounds, Entry, Layers, hull};
 use rt_tree::{Node, NodeNo, Table, Tree};
-use std::alloc::Global;
+use std::alloc::{AllocError, Global};
+use std::process::Abort;
 use std::test::Fail;
 
 type Sides = [i32; 4];
@@ -72,6 +73,16 @@ fn strewn(alloc: Global, count: u32) -> Option<Table> {
         )?;
     }
     Some(table)
+}
+
+fn packed(alloc: Global, table: Table, fanout: u8) -> Result<Tree, AllocError> {
+    Tree::pack(alloc, table, fanout.clamp(2, 64))
+}
+
+// The boxes packed, two children for each node.
+fn tree_of(rt: &impl Abort, alloc: Global, boxes: &[(i64, Sides)]) -> Tree {
+    let table = table(alloc, boxes).expect(rt, "the boxes are a table");
+    packed(alloc, table, 2).expect(rt, "there is memory")
 }
 
 // What some children are together: their box, their layers, and how many entries they stand for.
@@ -144,31 +155,38 @@ fn count_of(tree: &Tree, level: u8) -> u32 {
 
 #[test]
 fn packs_the_five_boxes_node_by_node(rt: HostRuntime) {
-    let table = table(rt.alloc(), &BOXES).expect(&rt, "the boxes are a table");
-    let tree = Tree::pack(rt.alloc(), table, 2).expect(&rt, "there is memory");
+    let tree = tree_of(&rt, rt.alloc(), &BOXES);
     expect_eq(&rt, tree.len(), 5);
     assert!(rt; !tree.is_empty());
     expect_eq(&rt, tree.top(), 3);
     expect_eq(&rt, tree.node_len(), 6);
-    for (place, id) in [4, 1, 2, 5, 3].iter().enumerate() {
-        if (place as u32) < tree.len() {
-            expect_eq(&rt, tree.entry(place as u32).id, *id);
-        }
-    }
+    expect_ids(&rt, &tree, &[4, 1, 2, 5, 3]);
     for (number, (sides, level, first, count, size)) in NODES.iter().enumerate() {
-        let node = node_at(&tree, number as u32).expect(&rt, "there are as many nodes");
+        let node = expect_children(&rt, &tree, number as u32, *first, *count);
         expect_eq(&rt, Some(node.bounds), bounds(*sides));
         expect_eq(&rt, node.level, *level);
-        expect_eq(&rt, node.first, *first);
-        expect_eq(&rt, node.count, *count);
         expect_eq(&rt, node.size, *size);
+    }
+}
+
+// The node has so many children from the first of them on.
+fn expect_children(rt: &impl Abort, tree: &Tree, number: u32, first: u32, count: u8) -> Node {
+    let node = node_at(tree, number).expect(rt, "there are as many nodes");
+    expect_eq(rt, node.first, first);
+    expect_eq(rt, node.count, count);
+    node
+}
+
+// The ids of the entries, in the order in which they stand in the tree.
+fn expect_ids(rt: &impl Abort, tree: &Tree, ids: &[i64]) {
+    for place in 0..tree.len() {
+        expect_eq(rt, Some(&tree.entry(place).id), ids.get(place as usize));
     }
 }
 
 #[test]
 fn goes_down_from_the_root_of_the_five_boxes(rt: HostRuntime) {
-    let table = table(rt.alloc(), &BOXES).expect(&rt, "the boxes are a table");
-    let tree = Tree::pack(rt.alloc(), table, 2).expect(&rt, "there is memory");
+    let tree = tree_of(&rt, rt.alloc(), &BOXES);
     let root = tree.root().expect(&rt, "there are entries");
     expect_eq(&rt, root.number(), 5);
     let node = tree.node(root);
@@ -178,34 +196,31 @@ fn goes_down_from_the_root_of_the_five_boxes(rt: HostRuntime) {
     expect_eq(&rt, tree.node(child).size, 2);
 }
 
+// Boxes of one point.
+static EQUAL: [(i64, Sides); 5] = [
+    (5, [0; 4]),
+    (4, [0; 4]),
+    (3, [0; 4]),
+    (2, [0; 4]),
+    (1, [0; 4]),
+];
+
+// The first child and the children of each node.
+static FIRSTS: [(u32, u8); 6] = [(0, 2), (2, 2), (4, 1), (0, 2), (2, 1), (3, 2)];
+
 #[test]
 fn equal_boxes_stand_by_id(rt: HostRuntime) {
-    let boxes = [
-        (5, [0; 4]),
-        (4, [0; 4]),
-        (3, [0; 4]),
-        (2, [0; 4]),
-        (1, [0; 4]),
-    ];
-    let table = table(rt.alloc(), &boxes).expect(&rt, "the boxes are a table");
-    let tree = Tree::pack(rt.alloc(), table, 2).expect(&rt, "there is memory");
-    for (place, id) in [1, 2, 3, 4, 5].iter().enumerate() {
-        if (place as u32) < tree.len() {
-            expect_eq(&rt, tree.entry(place as u32).id, *id);
-        }
-    }
-    let firsts = [(0, 2), (2, 2), (4, 1), (0, 2), (2, 1), (3, 2)];
-    for (number, (first, count)) in firsts.iter().enumerate() {
-        let node = node_at(&tree, number as u32).expect(&rt, "there are as many nodes");
-        expect_eq(&rt, node.first, *first);
-        expect_eq(&rt, node.count, *count);
+    let tree = tree_of(&rt, rt.alloc(), &EQUAL);
+    expect_ids(&rt, &tree, &[1, 2, 3, 4, 5]);
+    for (number, (first, count)) in FIRSTS.iter().enumerate() {
+        let _node = expect_children(&rt, &tree, number as u32, *first, *count);
     }
 }
 
 #[test]
 fn one_entry_too_many_for_a_node(rt: HostRuntime) {
     let table = strewn(rt.alloc(), 65).expect(&rt, "the boxes are a table");
-    let tree = Tree::pack(rt.alloc(), table, 64).expect(&rt, "there is memory");
+    let tree = packed(rt.alloc(), table, 64).expect(&rt, "there is memory");
     assert_eq!(rt; tree.top(), 2);
     expect_eq(&rt, tree.level_len(0), 65);
     expect_eq(&rt, tree.level_len(1), 2);
@@ -214,7 +229,7 @@ fn one_entry_too_many_for_a_node(rt: HostRuntime) {
 
 #[test]
 fn no_entries_have_no_root(rt: HostRuntime) {
-    let tree = Tree::pack(rt.alloc(), Table::empty(rt.alloc()), 16).expect(&rt, "there is memory");
+    let tree = packed(rt.alloc(), Table::empty(rt.alloc()), 16).expect(&rt, "there is memory");
     expect_eq(&rt, tree.len(), 0);
     assert!(rt; tree.is_empty());
     expect_eq(&rt, tree.node_len(), 0);
@@ -225,28 +240,33 @@ fn no_entries_have_no_root(rt: HostRuntime) {
 
 #[test]
 fn each_node_is_true_of_its_children(rt: HostRuntime) {
-    for fanout in [2u8, 3, 16, 64] {
-        let full = fanout as u32 * fanout as u32;
-        for count in [1, fanout as u32, fanout as u32 + 1, full, full + 1] {
-            let table = strewn(rt.alloc(), count).expect(&rt, "the boxes are a table");
-            let tree = Tree::pack(rt.alloc(), table, fanout.clamp(2, 64)).expect(
-                &rt,
-                "there is memory",
-            );
-            expect_eq(&rt, tree.len(), count);
-            for number in 0..tree.node_len() {
-                let node = tree.node(NodeNo::new(number));
-                assert!(rt;
-                    over_children(&tree, &node) == Some((node.bounds, node.layers, node.size))
-                );
-                assert!(rt; node.count <= fanout);
-            }
-            let root = tree.root().expect(&rt, "there are entries");
-            expect_eq(&rt, tree.node(root).size, count);
-            for level in 1..=tree.top() {
-                expect_eq(&rt, tree.level_len(level), count_of(&tree, level));
-            }
+    for fanout in [2, 3, 16, 64] {
+        let few = u32::from(fanout);
+        let full = few.wrapping_mul(few);
+        for count in [1, few, few.wrapping_add(1), full, full.wrapping_add(1)] {
+            expect_true_tree(&rt, rt.alloc(), fanout, count);
         }
+    }
+}
+
+fn expect_true_tree(rt: &impl Abort, alloc: Global, fanout: u8, count: u32) {
+    let table = strewn(alloc, count).expect(rt, "the boxes are a table");
+    let tree = packed(alloc, table, fanout).expect(rt, "there is memory");
+    expect_eq(rt, tree.len(), count);
+    expect_true_nodes(rt, &tree, fanout);
+    let root = tree.root().expect(rt, "there are entries");
+    expect_eq(rt, tree.node(root).size, count);
+    for level in 1..=tree.top() {
+        expect_eq(rt, tree.level_len(level), count_of(&tree, level));
+    }
+}
+
+fn expect_true_nodes(rt: &impl Abort, tree: &Tree, fanout: u8) {
+    for number in 0..tree.node_len() {
+        let node = tree.node(NodeNo::new(number));
+        let whole = Some((node.bounds, node.layers, node.size));
+        assert!(rt; over_children(tree, &node) == whole);
+        assert!(rt; node.count <= fanout);
     }
 }
 
@@ -257,9 +277,9 @@ fn a_refused_packing_is_told(rt: HostRuntime) -> Result<(), Fail> {
         let Some(table) = strewn(rt.alloc(), 100) else {
             return Err(Fail::new("refused beforehand"));
         };
-        let Ok(tree) = Tree::pack(rt.alloc(), table, fanout) else {
+        let Ok(tree) = packed(rt.alloc(), table, fanout) else {
             let table = strewn(rt.alloc(), 100).expect(&rt, "there is memory again");
-            assert!(rt; Tree::pack(rt.alloc(), table, fanout).is_ok());
+            assert!(rt; packed(rt.alloc(), table, fanout).is_ok());
             return Err(Fail::new("told as refused"));
         };
         expect_eq(&rt, tree.len(), 100);
