@@ -1,9 +1,7 @@
 //! Refused memory. Where an allocator refuses one growth, as tests/refusals.py has it, these tell so; else they pass.
 
-use crate::expect::expect_eq;
 use rt_command::{ArgFault, Invocation, Name, settings_of};
 use std::alloc::{AllocError, Global};
-use std::process::Abort;
 use std::test::Fail;
 
 #[test]
@@ -17,18 +15,13 @@ fn a_refused_name_is_told(rt: HostRuntime) -> Result<(), Fail> {
             assert!(rt; Name::new(rt.alloc(), text).is_ok());
             return Err(Fail::new("told as refused"));
         };
-        expect_eq(&rt, name.text(), text);
+        assert_eq!(rt; name.text(), text);
     }
     Ok(())
 }
 
 // Words, and what they ask for: the fanout and the name of the queries, or why they ask for nothing.
-type Row = (
-    &'static [&'static str],
-    Result<(u8, Option<&'static str>), ArgFault>,
-);
-
-static ASKED: [Row; 5] = [
+const ASKED: [(&[&str], Result<(u8, Option<&str>), ArgFault>); 5] = [
     (&["rtfilter", "t.csv"], Ok((16, None))),
     (
         &[
@@ -65,7 +58,7 @@ fn names(alloc: Global, words: &[&str]) -> Result<Vec<Name>, AllocError> {
 // Whether an answer is the one that is wanted.
 fn is_wanted(
     told: &Result<Invocation, ArgFault>,
-    wanted: &Result<(u8, Option<&str>), ArgFault>,
+    wanted: Result<(u8, Option<&str>), ArgFault>,
 ) -> bool {
     match (told, wanted) {
         (Ok(invocation), Ok((fanout, queries))) => {
@@ -73,41 +66,27 @@ fn is_wanted(
                 Some(name) => Some(name.text()),
                 None => None,
             };
-            invocation.settings.fanout() == *fanout
+            invocation.settings.fanout() == fanout
                 && invocation.table.text() == "t.csv"
-                && named == *queries
+                && named == queries
         }
-        (Err(fault), Err(wanted)) => fault == wanted,
+        (Err(fault), Err(wanted)) => *fault == wanted,
         _ => false,
     }
 }
 
 #[test]
 fn refused_settings_are_told(rt: HostRuntime) -> Result<(), Fail> {
-    expect_told(&rt, rt.alloc(), &ASKED)
-}
-
-fn expect_told(rt: &impl Abort, alloc: Global, rows: &[Row]) -> Result<(), Fail> {
-    for (words, wanted) in rows {
-        let names = names(alloc, words).ok().ok_or("refused beforehand")?;
-        if is_refused(rt, alloc, names.as_slice(), wanted) {
+    for (words, wanted) in ASKED {
+        let Ok(names) = names(rt.alloc(), words) else {
+            return Err(Fail::new("refused beforehand"));
+        };
+        let told = settings_of(rt.alloc(), names.as_slice());
+        if let Err(ArgFault::Memory) = &told {
+            assert!(rt; is_wanted(&settings_of(rt.alloc(), names.as_slice()), wanted));
             return Err(Fail::new("told as refused"));
         }
+        assert!(rt; is_wanted(&told, wanted));
     }
     Ok(())
-}
-
-fn is_refused(
-    rt: &impl Abort,
-    alloc: Global,
-    names: &[Name],
-    wanted: &Result<(u8, Option<&str>), ArgFault>,
-) -> bool {
-    let told = settings_of(alloc, names);
-    if let Err(ArgFault::Memory) = &told {
-        assert!(rt; is_wanted(&settings_of(alloc, names), wanted));
-        return true;
-    }
-    assert!(rt; is_wanted(&told, wanted));
-    false
 }
