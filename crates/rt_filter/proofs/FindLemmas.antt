@@ -1,5 +1,5 @@
 -- The lines of the answers, one after the other.
-use Rattle.std.proofs.Common.{◌≡◌, ◌+◌, ◌<◌, ◌≤◌, ℕ, ℤ, List, [], ◌∷◌, ◌++◌, length, Option, ap, arith}
+use Rattle.std.proofs.Common.{◌≡◌, ◌+◌, ◌<◌, ◌≤◌, ℕ, ℤ, List, [], ◌∷◌, ◌++◌, length, Option, arith}
 use Rattle.std.proofs.{Common.{append_assoc}, lemmas.List.{length-take, Concat.{flat_map-cons}, Sorted.{length_permutation}}}
 use Rattle.rt_geo.specs.{Laws.{Meaning}, declared.entry.Entry.{Entry}}
 use Rattle.rt_tree.specs.Sorting.{limited, sorted}
@@ -9,6 +9,7 @@ use Rattle.rt_search.specs.Answers.{Answer, answer_cmp, answers, scored}
 use Rattle.rt_search.proofs.Giving.{length-scored}
 use Rattle.rt_filter.specs.Pushes.{WasCut, WasPushed, answer_lines}
 use Rattle.rt_filter.proofs.PushLemmas.{AllBut, pushed_cut, pushed_next}
+use Rattle.std.proofs.Common.{rules}
 
 length-limited : {X : Type 0} (limit : Option ℕ) (xs : List X) → length (limited limit xs) ≤ length xs
 length-limited limit xs = grind (arith, length-take)
@@ -23,8 +24,7 @@ length-answers entries meaning limit =
 
 pub few_answers : (entries : List Entry) (meaning : Meaning) (limit : Option ℕ) (found : List Answer) (n most : ℕ)
     → found ≡ answers entries meaning limit → n ≡ length entries → n < most → length found < most
-few_answers entries meaning limit found n most is size few =
-    omega (arith, ap length is, size, few, length-answers entries meaning limit)
+few_answers entries meaning limit found n most is size few = search (rules, length-answers)
 
 -- what is left of a reply: the lines of these answers, and the number of all
 abbrev pub reply_left : (line count : ℕ) → List Answer → List ℕ
@@ -33,8 +33,7 @@ reply_left line count found = answer_lines found ++ ok_line line count
 -- only their number is left
 pub reply_end : (all : List ℕ) (old mid : Option (List ℕ)) (line count n : ℕ) (found : List Answer) → found ≡ []
     → n + length found ≡ count → AllBut all old mid (reply_left line count found) → AllBut all old mid (ok_line line n)
-reply_end all old mid line count n found none many left =
-    let same : n ≡ count = omega (arith, ap length none, many) in rw same (rw none at left)
+reply_end all old mid line count n found none many left = search rules
 
 module _ (all : List ℕ) (old mid new : Option (List ℕ)) (line count : ℕ) (id : ℤ) (score : ℕ) (found more : List Answer) (is : found ≡ (id, score) ∷ more) (left : AllBut all old mid (reply_left line count found)) where
   next : AllBut all old mid (answer_line id score ++ reply_left line count more)

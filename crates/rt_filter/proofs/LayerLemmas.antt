@@ -1,18 +1,19 @@
 -- All layers are those of all entries, so a query on all of them is one that asks for none.
-use Rattle.std.proofs.Common.{◌≡◌, ◌∙◌, ap, Bool, false, not, List, [], ◌∷◌, ◌&&◌, ℕ, Option, length, map, refl}
+use Rattle.std.proofs.Common.{◌≡◌, ◌∙◌, ap, Bool, false, not, List, [], ◌∷◌, ◌&&◌, ℕ, Option, map, refl}
 use Rattle.std.proofs.{Common.{arith, sym}, lemmas.List.Elements.{recursion_from_All}}
 use Rattle.std.specs.List.{All, AllByRecursion}
 use Rattle.rt_geo.specs.{Entries.{HasLayer}, Laws.{Extent, Meaning, extent_of_entry}, Layers.{all_layers, disjoint}}
-use Rattle.rt_geo.specs.{Lemmas.Layers.{disjoint-only, has-all}, OnLayers.{on_layers_accepts}, Orders.{order_score}}
+use Rattle.rt_geo.specs.{Lemmas.Layers.{disjoint-only, has-all}, OnLayers.{on_layers_accepts}}
 use Rattle.rt_geo.specs.{Discs.{MeansBoth, disc_meaning}, Regions.{region_accepts}, declared.{entry.Entry.{Entry}}}
 use Rattle.rt_geo.specs.declared.{disc.Disc.{Disc}, layers.Layers.{Layers}, order.Order.{Order}, region.Region.{Region}}
 use Rattle.rt_geo.specs.declared.shapes.Circle.{Circle}
 use Rattle.rt_geo.specs.declared.region.Region.TheVariants as region
-use Rattle.rt_text.specs.{ReplyLines.{ok_line}, declared.query.{BoxQuery.{BoxQuery}, Report.{Report, TheVariants.{Answers}}}}
+use Rattle.rt_text.specs.{declared.query.{BoxQuery.{BoxQuery}, Report.{Report, TheVariants.{Answers}}}}
 use Rattle.rt_text.specs.declared.query.Report.TheVariants.{Count}
 use Rattle.rt_filter.specs.{Replies.{find_reply, meaning_of, report_of}, Reports.{report_on, scanned}}
 use Rattle.rt_tree.specs.Sorting.{limited, sorted}
 use Rattle.rt_search.specs.Answers.{accepted, answer_cmp, answer_of, answers}
+use Rattle.std.proofs.Common.{rules}
 
 abbrev with_bits : ℕ → Layers
 with_bits n = record { bits = n }
@@ -38,13 +39,11 @@ module _ (accepts : Extent → Bool) (score : Extent → ℕ) where
   same_by_recursion : (entries : List Entry) → AllByRecursion HasLayer entries
       → accepted entries (on_layers all_layers) ≡ accepted entries plain
   same_by_recursion [] a = refl
-  same_by_recursion (entry ∷ entries) a =
-      rw (and_not (accepts (extent_of_entry entry)) _ (on_some entry a.0), same_by_recursion entries a.1) refl
+  same_by_recursion (entry ∷ entries) a = grind (arith, and_not, on_some, same_by_recursion entries a.1)
 
   module _ (entries : List Entry) (few : All HasLayer entries) (layers : Layers) (all : layers ≡ all_layers) where
     accepted-all : accepted entries (on_layers layers) ≡ accepted entries plain
-    accepted-all = ap (λ s. accepted entries (on_layers s)) all
-        ∙ same_by_recursion entries (recursion_from_All HasLayer entries few)
+    accepted-all = search (rules, same_by_recursion, recursion_from_All)
 
     answers-all : (limit : Option ℕ) → answers entries (on_layers layers) limit ≡ answers entries plain limit
     answers-all limit = ap (λ found. limited limit (sorted answer_cmp (map (answer_of plain) found))) accepted-all
@@ -53,10 +52,8 @@ module _ (accepts : Extent → Bool) (entries : List Entry) (few : All HasLayer 
     (all : layers ≡ all_layers) (line : ℕ) (order : Order) where
   pub report_on-all : (report : Report)
       → report_on entries (on_layers_accepts accepts layers) line order report ≡ report_on entries accepts line order report
-  report_on-all (Answers limit) =
-      ap (find_reply line) (answers-all accepts (order_score order) entries few layers all limit)
-  report_on-all Count =
-      ap (λ found. ok_line line (length found)) (accepted-all accepts (order_score order) entries few layers all)
+  report_on-all (Answers limit) = search (rules, answers-all)
+  report_on-all Count = search (rules, accepted-all)
 
 -- the report on the boxes that a query asks for
 pub report_on-asked : (entries : List Entry) (line : ℕ) (asked : BoxQuery) (report : Report)

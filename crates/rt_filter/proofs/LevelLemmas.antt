@@ -1,5 +1,5 @@
 -- The lines of the levels, from the top down.
-use Rattle.std.proofs.Common.{◌≡◌, ◌∙◌, ◌+◌, ◌-◌, ◌<◌, ◌≤◌, ℕ, List, ◌∷◌, ◌++◌, length, drop, get_or, Option, Some, ap, ap₂}
+use Rattle.std.proofs.Common.{◌≡◌, ◌∙◌, ◌+◌, ◌-◌, ◌<◌, ◌≤◌, ℕ, List, ◌∷◌, ◌++◌, length, drop, get_or, Option, Some, ap}
 use Rattle.std.proofs.{Common.{zero-add, arith, append_assoc}, lemmas.List.{drop_all, drop_more, get_or-reverse}}
 use Rattle.std.proofs.lemmas.List.{length-reverse, Concat.{flat_map-cons}, FromFn.{get_or-enumerate_from}}
 use Rattle.std.proofs.lemmas.{List.FromFn.{length-enumerate_from}, Option.{get_or_from_slice_get}}
@@ -7,6 +7,7 @@ use Rattle.std.specs.{List.{enumerate_from}, Prelude.{flat_map, reverse, slice_g
 use Rattle.rt_text.specs.ReplyLines.{level_line, ok_line}
 use Rattle.rt_filter.specs.Pushes.{WasCut, WasPushed}
 use Rattle.rt_filter.proofs.PushLemmas.{AllBut, pushed_cut, pushed_next}
+use Rattle.std.proofs.Common.{rules}
 
 abbrev pub level_lines : List (ℕ × ℕ) → List ℕ
 level_lines levels = flat_map (λ level. level_line level.0 level.1) levels
@@ -21,13 +22,7 @@ length-downwards sizes = length-reverse (enumerate_from 0 sizes) ∙ length-enum
 -- so many levels below the top
 at_downwards : (sizes : List ℕ) (k size : ℕ) → k < length sizes → slice_get sizes (length sizes - 1 - k) ≡ Some size
     → get_or (downwards sizes) k (0, size) ≡ (length sizes - 1 - k, size)
-at_downwards sizes k size h at =
-    let inside : k < length (enumerate_from 0 sizes) = omega (arith, length-enumerate_from 0 sizes) in
-    let below : length sizes - 1 - k < length sizes = omega arith in
-    get_or-reverse (enumerate_from 0 sizes) k (0, size) inside
-    ∙ ap (λ n. get_or (enumerate_from 0 sizes) (n - 1 - k) (0, size)) (length-enumerate_from 0 sizes)
-    ∙ get_or-enumerate_from 0 sizes (length sizes - 1 - k) (0, size) below
-    ∙ ap₂ (λ (i : ℕ) (s : ℕ). (i, s)) (zero-add (length sizes - 1 - k)) (get_or_from_slice_get sizes (length sizes - 1 - k) size size at)
+at_downwards sizes k size h at = search (rules, length-enumerate_from, get_or-reverse, get_or-enumerate_from, zero-add, get_or_from_slice_get)
 
 -- ---- what is left of a reply
 
@@ -46,9 +41,7 @@ levels_left-next line sizes k size h at =
     ∙ append_assoc (level_line (length sizes - 1 - k) size) (level_lines (drop (k + 1) (downwards sizes))) (ok_line line (length sizes))
 
 levels_left-end : (line : ℕ) (sizes : List ℕ) (k : ℕ) → length sizes ≤ k → levels_left line sizes k ≡ ok_line line (length sizes)
-levels_left-end line sizes k h =
-    let none : length (downwards sizes) ≤ k = omega (arith, length-downwards sizes) in
-    ap (λ levels. level_lines levels ++ ok_line line (length sizes)) (drop_all k (downwards sizes) none)
+levels_left-end line sizes k h = search (rules, length-downwards, drop_all)
 
 module _ (line : ℕ) (sizes all : List ℕ) (old mid new : Option (List ℕ)) (k : ℕ) (text : List ℕ) (left : AllBut all old mid (levels_left line sizes k)) where
   module _ (size : ℕ) (h : k < length sizes) (at : slice_get sizes (length sizes - 1 - k) ≡ Some size) (is : text ≡ level_line (length sizes - 1 - k) size) where

@@ -6,6 +6,7 @@ use Rattle.std.specs.List.{enumerate_from, slice_split}
 use Rattle.memchr.specs.Find.{IsFirstByte, is_byte}
 use Rattle.rt_filter.specs.Lines.{begun_line, completed, is_line_feed, last_part, lines_of_parts, numbered_lines}
 use Rattle.rt_filter.specs.Stages.{HasNoLineFeed, line_feed, lines_from}
+use Rattle.std.proofs.Common.{rules}
 
 -- ---- where the first line feed stands
 
@@ -72,9 +73,7 @@ line_first ended part xs = let m = some_part xs in rw m.2 refl
 -- what stands before a line feed is a line, and those behind it follow
 pub lines_from-found : (number : ℕ) (xs ys : List ℕ) (ended : Bool) → HasNoLineFeed xs
     → lines_from number (xs ++ line_feed ∷ ys) ended ≡ (number + 1, xs) ∷ lines_from (number + 1) ys ended
-lines_from-found number xs ys ended h =
-    ap (λ parts. enumerate_from (number + 1) (lines_of_parts ended parts)) (first_part xs ys h)
-    ∙ ap (enumerate_from (number + 1)) (line_first ended xs ys)
+lines_from-found number xs ys ended h = search (rules, first_part, line_first)
 
 -- without a line feed there is none yet
 pub lines_from-none : (number : ℕ) (xs : List ℕ) → HasNoLineFeed xs → lines_from number xs false ≡ []
@@ -102,13 +101,7 @@ parts-append (x ∷ xs) ys = let m = some_part xs in by (is_line_feed x) refl m.
 -- no line feed stands behind the last one
 pub begun_clear : (xs : List ℕ) → HasNoLineFeed (begun_line xs)
 begun_clear [] = tt
-begun_clear (x ∷ xs) = let m = some_part xs in by (is_line_feed x) refl m.0 m.1 m.2 (begun_clear xs)
-  where
-    by : (b : Bool) → is_line_feed x ≡ b → (part : List ℕ) (more : List (List ℕ)) → slice_split is_line_feed xs ≡ part ∷ more
-        → HasNoLineFeed (begun_line xs) → HasNoLineFeed (begun_line (x ∷ xs))
-    by true e part more s h = let k = rw s at h in rw (e, s) k
-    by false e part [] s h = let k = rw s at h in rw (e, s) (e, k)
-    by false e part (next ∷ more) s h = let k = rw s at h in rw (e, s) k
+begun_clear (x ∷ xs) = grind (arith, begun_clear xs)
 
 lines_of_parts-append : (ended : Bool) (xs : List (List ℕ)) (part : List ℕ) (more : List (List ℕ))
     → lines_of_parts ended (xs ++ part ∷ more) ≡ xs ++ lines_of_parts ended (part ∷ more)
@@ -123,8 +116,7 @@ last_part-append (x ∷ y ∷ xs) part more = last_part-append (y ∷ xs) part m
 
 enumerate_from-append : (n : ℕ) (xs ys : List (List ℕ)) → enumerate_from n (xs ++ ys) ≡ enumerate_from n xs ++ enumerate_from (n + length xs) ys
 enumerate_from-append n [] ys = ap (λ k. enumerate_from k ys) (omega arith)
-enumerate_from-append n (x ∷ xs) ys =
-    ap (λ ls. (n, x) ∷ ls) (enumerate_from-append (n + 1) xs ys ∙ ap (λ k. enumerate_from (n + 1) xs ++ enumerate_from k ys) (omega arith))
+enumerate_from-append n (x ∷ xs) ys = grind (arith, enumerate_from-append (n + 1) xs ys)
 
 -- the lines of bytes that go on are those that are complete, and then those of what was begun with what follows
 pub numbered_lines-append : (xs ys : List ℕ) (ended : Bool)
@@ -146,38 +138,26 @@ begun_line-append xs ys =
 -- ---- what more bytes complete
 
 pub completed-is : (xs ys : List ℕ) (ended : Bool) → completed xs ys ended ≡ lines_from (length (numbered_lines xs false)) (begun_line xs ++ ys) ended
-completed-is xs ys ended =
-    ap (drop (length (numbered_lines xs false))) (numbered_lines-append xs ys ended)
-    ∙ drop-append_seam (numbered_lines xs false) (lines_from (length (numbered_lines xs false)) (begun_line xs ++ ys) ended)
+completed-is xs ys ended = search (rules, numbered_lines-append, drop-append_seam)
 
 pub completed-all : (xs ys : List ℕ) (ended : Bool) → numbered_lines (xs ++ ys) ended ≡ numbered_lines xs false ++ completed xs ys ended
 completed-all xs ys ended = numbered_lines-append xs ys ended ∙ ap (λ ls. numbered_lines xs false ++ ls) (sym (completed-is xs ys ended))
 
 -- what completes some and then more
 pub completed-append : (xs ys zs : List ℕ) (ended : Bool) → completed xs (ys ++ zs) ended ≡ completed xs ys false ++ completed (xs ++ ys) zs ended
-completed-append xs ys zs ended =
-    ap (λ bytes. drop (length (numbered_lines xs false)) (numbered_lines bytes ended)) (sym (append_assoc xs ys zs))
-    ∙ ap (drop (length (numbered_lines xs false))) (completed-all (xs ++ ys) zs ended ∙ ap (λ ls. ls ++ completed (xs ++ ys) zs ended) (completed-all xs ys false)
-    ∙ append_assoc (numbered_lines xs false) (completed xs ys false) (completed (xs ++ ys) zs ended))
-    ∙ drop-append_seam (numbered_lines xs false) (completed xs ys false ++ completed (xs ++ ys) zs ended)
+completed-append xs ys zs ended = search (rules, append_assoc, completed-all, drop-append_seam)
 
 -- a line feed completes one line, and what follows completes the others
 pub completed-found : (xs line ys : List ℕ) (ended : Bool) → HasNoLineFeed line
     → completed xs (line ++ line_feed ∷ ys) ended ≡ (length (numbered_lines xs false) + 1, begun_line xs ++ line) ∷ lines_from (length (numbered_lines xs false) + 1) ys ended
-completed-found xs line ys ended clear =
-    completed-is xs (line ++ line_feed ∷ ys) ended
-    ∙ ap (λ bytes. lines_from (length (numbered_lines xs false)) bytes ended) (sym (append_assoc (begun_line xs) line (line_feed ∷ ys)))
-    ∙ lines_from-found (length (numbered_lines xs false)) (begun_line xs ++ line) ys ended (clear-append (begun_line xs) line (begun_clear xs) clear)
+completed-found xs line ys ended clear = search (rules, completed-is, append_assoc, lines_from-found, clear-append, begun_clear)
 
 pub begun-found : (xs line : List ℕ) → HasNoLineFeed line → begun_line (xs ++ (line ++ line_feed ∷ [])) ≡ []
-begun-found xs line clear =
-    begun_line-append xs (line ++ line_feed ∷ []) ∙ ap begun_line (sym (append_assoc (begun_line xs) line (line_feed ∷ [])))
-    ∙ ap last_part (first_part (begun_line xs ++ line) [] (clear-append (begun_line xs) line (begun_clear xs) clear))
+begun-found xs line clear = search (rules, begun_line-append, append_assoc, first_part, clear-append, begun_clear)
 
 -- without one nothing is complete
 pub completed-none : (xs ys : List ℕ) → HasNoLineFeed ys → completed xs ys false ≡ []
-completed-none xs ys clear =
-    completed-is xs ys false ∙ lines_from-none (length (numbered_lines xs false)) (begun_line xs ++ ys) (clear-append (begun_line xs) ys (begun_clear xs) clear)
+completed-none xs ys clear = search (rules, completed-is, lines_from-none, clear-append, begun_clear)
 
 pub begun-none : (xs ys : List ℕ) → HasNoLineFeed ys → begun_line (xs ++ ys) ≡ begun_line xs ++ ys
 begun-none xs ys clear = begun_line-append xs ys ∙ ap last_part (one_part (begun_line xs ++ ys) (clear-append (begun_line xs) ys (begun_clear xs) clear))
@@ -191,5 +171,4 @@ completed-ended xs x begun e =
     ∙ sym (completed-found xs [] [] false tt)
 
 pub completed-ended_none : (xs : List ℕ) → begun_line xs ≡ [] → completed xs [] true ≡ []
-completed-ended_none xs e =
-    completed-is xs [] true ∙ ap (λ line. lines_from (length (numbered_lines xs false)) (line ++ []) true) e
+completed-ended_none xs e = search (rules, completed-is)

@@ -1,10 +1,11 @@
 -- What pushes add up to.
-use Rattle.std.proofs.Common.{◌≡◌, ◌∙◌, ◌+◌, ℕ, List, [], ◌∷◌, ◌++◌, length, take, drop, Option, Some, None, refl, sym, ap}
+use Rattle.std.proofs.Common.{◌≡◌, ◌∙◌, ◌+◌, ℕ, List, [], ◌∷◌, ◌++◌, length, drop, Option, Some, None, refl, sym, ap}
 use Rattle.std.proofs.{Common.{arith, append_assoc, append-nil}, Math.Seq.{take-append-add, take-append_seam}}
 use Rattle.std.proofs.lemmas.List.{append_cancel_left, length-append, take-append-drop}
 use Rattle.std.specs.{Io.{StartsWith}, Prelude.{IfSome, IsErrAnd, MatchResult, Result, Ok, Err}}
 use Rattle.rt_device.specs.Devices.{IsSameIfTold}
 use Rattle.rt_filter.specs.Pushes.{Pushed, WasCut, WasPushed, WentPrefix}
+use Rattle.std.proofs.Common.{rules}
 
 -- a fact at each list that it may be is one at the list that it is
 pub if_some : (P : List ℕ → Type 0) (o : Option (List ℕ)) → ((xs : List ℕ) → o ≡ Some xs → P xs) → IfSome o P
@@ -29,22 +30,13 @@ pushed_none all old = record { out = λ before e. ([], e ∙ ap (λ xs. Some xs)
 -- nothing is left
 pub pushed_whole : (all : List ℕ) (old now : Option (List ℕ)) (rest : List ℕ) → AllBut all old now rest → length rest ≡ 0
     → WasPushed old now all
-pushed_whole all old now [] p z =
-    if_some _ old (λ before e. let q = p.out before e in q.1 ∙ ap (λ xs. Some (before ++ xs)) (sym (q.2 ∙ append-nil q.0)))
+pushed_whole all old now [] p z = search (rules, if_some, append-nil)
 pushed_whole all old now (c ∷ rest) p z = absurd (omega (arith, z))
 
 -- the next bytes were pushed too
 pub pushed_next : (all next rest : List ℕ) (old mid new : Option (List ℕ)) → AllBut all old mid (next ++ rest) → WasPushed mid new next
     → AllBut all old new rest
-pushed_next all next rest old mid new p h = record {
-  out = λ before e.
-      let q = p.out before e in
-      let now : new ≡ Some ((before ++ q.0) ++ next) = rw q.1 at h in (
-        q.0 ++ next,
-        now ∙ ap (λ xs. Some xs) (append_assoc before q.0 next),
-        q.2 ∙ sym (append_assoc q.0 next rest),
-      );
-}
+pushed_next all next rest old mid new p h = search (rules, append_assoc)
 
 -- all that was left was pushed
 pub pushed_rest : (all last : List ℕ) (old mid new : Option (List ℕ)) → AllBut all old mid last → WasPushed mid new last
@@ -77,10 +69,7 @@ later before out next rest all (Some ys) h e =
 -- of the next bytes a prefix was pushed
 pub pushed_cut : (all next rest : List ℕ) (old mid new : Option (List ℕ)) → AllBut all old mid (next ++ rest) → WasCut mid new next
     → WasCut old new all
-pushed_cut all next rest old mid new p h = if_some _ old (λ before e.
-    let q = p.out before e in
-    let cut : WentPrefix (before ++ q.0) new next = rw q.1 at h in
-    later before q.0 next rest all new cut q.2)
+pushed_cut all next rest old mid new p h = search (rules, if_some, later)
 
 pub unmoved : (old new : Option (List ℕ)) (bytes : List ℕ) → IsSameIfTold old new → WasCut old new bytes
 unmoved None new bytes h = tt
@@ -107,8 +96,7 @@ cut_told before bytes (Some written) h = (
 
 -- a prefix of what stands behind the same bytes
 starts_behind : (before bytes out : List ℕ) → StartsWith (before ++ bytes) (before ++ out) → StartsWith bytes out
-starts_behind before bytes out h = append_cancel_left before (take (length out) bytes) out
-    (sym (take-append-add before bytes (length out)) ∙ ap (λ n. take n (before ++ bytes)) (sym (length-append before out)) ∙ h)
+starts_behind before bytes out h = search (rules, append_cancel_left, take-append-add, length-append)
 
 pub told_cut : (old now : Option (List ℕ)) (bytes : List ℕ)
     → IfSome old (λ before. IfSome now (λ written. StartsWith written before × StartsWith (before ++ bytes) written)) → WasCut old now bytes
@@ -130,10 +118,7 @@ module _ {T E K : Type 0} (written : K → Option (List ℕ)) (failed : K → �
   -- what was left was pushed
   pub pushed_last : (all last : List ℕ) (r : Result T E) → AllBut all (written old) (written mid) last → failed mid ≡ failed old
       → Pushed written failed mid new r last → Pushed written failed old new r all
-  pushed_last all last (Ok x) p count h = (
-    pushed_rest all last _ _ _ p h.0,
-    h.1 ∙ count,
-  )
+  pushed_last all last (Ok x) p count h = search (rules, pushed_rest)
   pushed_last all last (Err e) p count h = (
     pushed_cut all last [] _ _ _ (rw append-nil p) h.0,
     h.1 ∙ ap (λ n. n + 1) count,
@@ -145,5 +130,4 @@ pub pushed_told : {T E K : Type 0} (written : K → Option (List ℕ)) (failed :
     → IfSome (written old) (λ before. MatchResult r (λ _. written new ≡ Some (before ++ bytes))
     (λ _. IfSome (written new) (λ known. StartsWith known before × StartsWith (before ++ bytes) known)))
 pushed_told written failed old new (Ok x) bytes h = h.0
-pushed_told written failed old new (Err e) bytes h =
-    if_some _ (written old) (λ before is. cut_told before bytes (written new) (rw is at h.0))
+pushed_told written failed old new (Err e) bytes h = search (rules, if_some, cut_told)

@@ -15,6 +15,7 @@ use Rattle.rt_filter.proofs.{ServingLemmas.{consumes_none, sink_tells, so_far, s
 use Rattle.rt_text.specs.declared.tables.TableFault.TheVariants as load
 use Rattle.rt_filter.specs.declared.filter.RunFault.TheVariants as run
 use Rattle.rt_filter.specs.declared.serving.ServeFault.TheVariants as serve
+use Rattle.std.proofs.Common.{rules}
 
 -- what is loaded of a table's entries, or of its fault
 abbrev pub loaded_with : Choices → Result (List Entry) TableFault → Result Loaded TableFault
@@ -88,13 +89,7 @@ module _ (choices : Choices) (table : List ℕ) (coming coming' written written'
       → ((loaded : Loaded) → tree ≡ tree_of loaded → Serves loaded coming coming' written written' served)
       → (outcome : Outcome) → outcome.fault ≡ run_fault_of served.fault → (served.fault ≡ None → outcome.status ≡ (if served.bad then 1 else 0))
       → Ends choices table coming coming' written written' outcome
-  ends_served tree served h s outcome fault status =
-      let r = s h.loaded h.packed in rw fault (
-        r.0,
-        source_so served.fault r.0 coming coming' r.1,
-        sink_so served.fault r.0 written written' r.2,
-        served_row h.loaded r.0 served.bad served.fault outcome.status h.same r.3 status,
-      )
+  ends_served tree served h s outcome fault status = search (rules, source_so, sink_so, served_row)
 
 -- ---- where nothing fails outside
 

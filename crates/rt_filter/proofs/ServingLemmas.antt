@@ -6,12 +6,13 @@ use Rattle.std.specs.{Io.{StartsWith, KnownBytes.{Consumes, IsAtEnd}}, Prelude.{
 use Rattle.rt_device.specs.Devices.{IsSameIfTold, PulledTimes}
 use Rattle.rt_text.specs.Words.{is_empty}
 use Rattle.rt_filter.specs.{Endings.{ConsumedAtLeast, Happened, Serves, SinkTells, SourceTells}, Lines.{completed}}
-use Rattle.rt_filter.specs.{Lines.{longest_line, numbered_lines}, Pushes.{WasCut, WasPushed, WentPrefix}, Replies.{Loaded}}
+use Rattle.rt_filter.specs.{Lines.{longest_line, numbered_lines}, Pushes.{WasCut, WasPushed}, Replies.{Loaded}}
 use Rattle.rt_filter.specs.{Replies.{any_fault, output}, Sessions.{Heard, heard_of}, Stages.{IsServing}}
 use Rattle.rt_filter.specs.declared.serving.Served.{Served}
 use Rattle.rt_filter.proofs.{LineLemmas.{completed-all}, PushLemmas.{behind, nothing_pushed}, SessionLemmas.{any_fault-append}}
 use Rattle.rt_filter.proofs.SessionLemmas.{ended-lines, or_first, output-append, pushed_then}
 use Rattle.rt_filter.specs.declared.serving.ServeFault.TheVariants as serve
+use Rattle.std.proofs.Common.{rules}
 
 -- ---- what a source and a sink tell
 
@@ -28,8 +29,7 @@ consumed_none old = ([], consumes_none old, omega arith)
 -- a pull gave a byte at least
 pub consumed_more : (count n : ℕ) (room : List ℕ) (old mid new : Option (List ℕ)) → ConsumedAtLeast count old mid → 1 ≤ n → n ≤ length room
     → Consumes mid new (take n room) → ConsumedAtLeast (count + 1) old new
-consumed_more count n room old mid new h some bound k =
-    (h.0 ++ take n room, consumes_more old mid new h.0 (take n room) h.1 k, omega (arith, some, h.2, length-append h.0 (take n room), length-take-le n room bound))
+consumed_more count n room old mid new h some bound k = search (rules, consumes_more, length-append, length-take-le)
 
 pub pulled_none : (old : Option ℕ) → PulledTimes 0 old old
 pulled_none None = tt
@@ -74,9 +74,7 @@ went_out : (failed : Type 0) → failed → (old mid now : Option (List ℕ)) (c
     → WentOut failed old now consumed rest xs ys
 went_out failed f None mid now consumed rest xs ys h k = record { out = []; prefix = refl; tells = tt }
 went_out failed f (Some before) mid None consumed rest xs ys h k = record { out = []; prefix = refl; tells = (tt, λ other. absurd (other f)) }
-went_out failed f (Some before) mid (Some written) consumed rest xs ys h k =
-    let w : WentPrefix (before ++ xs) (Some written) ys = rw h at k in
-    record { out = w.0; prefix = w.2; tells = (w.1 ∙ append_assoc before xs w.0, λ _. refl) }
+went_out failed f (Some before) mid (Some written) consumed rest xs ys h k = search (rules, append_assoc)
 
 -- ---- prefixes
 
@@ -99,12 +97,7 @@ module _ (loaded : Loaded) (coming0 coming written0 written : Option (List ℕ))
   -- a pull, and its lines answered
   pub serving_more : (now out : Option (List ℕ)) (more : Heard) (given : List ℕ) → Consumes coming now given → more ≡ heard_of (s.consumed ++ given)
       → WasPushed written out (output loaded (completed s.consumed given false)) → IsServing loaded coming0 now written0 out more
-  serving_more now out more given h e w = record {
-    consumed = s.consumed ++ given;
-    given = consumes_more coming0 coming now s.consumed given s.given h;
-    so = e;
-    pushed = rw (completed-all s.consumed given false, output-append loaded (numbered_lines s.consumed false)) (pushed_then written0 written out _ _ s.pushed w);
-  }
+  serving_more now out more given h e w = search (rules, consumes_more, completed-all, output-append, pushed_then)
 
   -- a failed pull, or turns that are used up
   pub serves_read : (now : Option (List ℕ)) (served : Served) → IsSameIfTold coming now → served.bad ≡ heard.bad → served.fault ≡ Some serve.Read

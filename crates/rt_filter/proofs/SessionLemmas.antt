@@ -12,6 +12,7 @@ use Rattle.rt_filter.specs.Stages.{lines_from, parsed_with}
 use Rattle.rt_filter.proofs.LineLemmas.{IsCutAt, begun-found, begun-none, completed-all, completed-append, completed-ended}
 use Rattle.rt_filter.proofs.{LineLemmas.{completed-ended_none, completed-found, completed-none, found}, PushLemmas.{pushed_cut}}
 use Rattle.rt_filter.proofs.PushLemmas.{pushed_next, pushed_none, pushed_prefix, pushed_whole}
+use Rattle.std.proofs.Common.{rules}
 
 -- ---- how a line begins
 
@@ -64,23 +65,11 @@ module _ (fed line : List ℕ) (clear : HasNoLineFeed line) where
 
   heard-line : (heard : Heard) → heard ≡ heard_of fed
       → record { lines = heard.lines + 1; bad = heard.bad || is_fault (parsed_with heard.begun line); begun = Some [] } ≡ heard_of (fed ++ (line ++ line_feed ∷ []))
-  heard-line heard e =
-      let count : heard.lines + 1 ≡ length (numbered_lines fed false ++ (number, begun_line fed ++ line) ∷ []) =
-      ap (λ h. h.lines + 1) e ∙ sym (length-append (numbered_lines fed false) ((number, begun_line fed ++ line) ∷ [])) in
-      let fault : (heard.bad || is_fault (parsed_with heard.begun line)) ≡ any_fault (numbered_lines fed false ++ (number, begun_line fed ++ line) ∷ []) =
-      ap (λ h. h.bad || is_fault (parsed_with h.begun line)) e
-      ∙ ap (λ asked. any_fault (numbered_lines fed false) || is_fault asked) (kept_parsed (begun_line fed) line)
-      ∙ ap (λ b. any_fault (numbered_lines fed false) || b) (sym (or-false _))
-      ∙ sym (any_fault-append (numbered_lines fed false) ((number, begun_line fed ++ line) ∷ [])) in
-      rw (count, fault) (sym (heard_with (fed ++ (line ++ line_feed ∷ [])) _ [] one_more (begun-found fed line clear)))
+  heard-line heard e = search (rules, length-append, kept_parsed, or-false, any_fault-append, heard_with, one_more, begun-found)
 
 heard-rest : (fed rest : List ℕ) → HasNoLineFeed rest → (heard : Heard) → heard ≡ heard_of fed
     → record heard { begun = kept_with heard.begun rest } ≡ heard_of (fed ++ rest)
-heard-rest fed rest clear heard e =
-    let lines : numbered_lines (fed ++ rest) false ≡ numbered_lines fed false =
-    completed-all fed rest false ∙ ap (λ ls. numbered_lines fed false ++ ls) (completed-none fed rest clear) ∙ append-nil _ in
-    rw e (ap (λ begun. record { lines = length (numbered_lines fed false); bad = any_fault (numbered_lines fed false); begun = begun })
-    (kept_more (begun_line fed) rest) ∙ sym (heard_with (fed ++ rest) _ (begun_line fed ++ rest) lines (begun-none fed rest clear)))
+heard-rest fed rest clear heard e = search (rules, completed-all, completed-none, append-nil, kept_more, heard_with, begun-none)
 
 -- ---- what was answered
 
@@ -96,9 +85,7 @@ module _ (loaded : Loaded) (old heard : Heard) (old_out out : Option (List ℕ))
     -- the reply is that to the line that is complete now
     asked-is : (fed : List ℕ) → old ≡ heard_of fed
         → asked ≡ reply loaded (length (numbered_lines (fed ++ s.front) false) + 1) (judged_line (begun_line (fed ++ s.front) ++ take n rest))
-    asked-is fed e =
-        ap (λ h. reply loaded (h.lines + 1) (parsed_with h.begun (take n rest))) (s.so fed e).0
-        ∙ ap (λ line. reply loaded (length (numbered_lines (fed ++ s.front) false) + 1) line) (kept_parsed (begun_line (fed ++ s.front)) (take n rest))
+    asked-is fed e = search (rules, kept_parsed)
 
     pub answered-more : (left : List ℕ) (now : Heard) (gone : Option (List ℕ)) → left ≡ drop (n + 1) rest
         → now ≡ record { lines = heard.lines + 1; bad = heard.bad || is_fault (parsed_with heard.begun (take n rest)); begun = Some [] }
@@ -123,16 +110,11 @@ module _ (loaded : Loaded) (old heard : Heard) (old_out out : Option (List ℕ))
     -- the lines of all bytes are those that were answered, this one, and later ones
     lines-later : (fed : List ℕ) → completed fed bytes false
         ≡ completed fed s.front false ++ (length (numbered_lines (fed ++ s.front) false) + 1, begun_line (fed ++ s.front) ++ take n rest) ∷ lines_from (length (numbered_lines (fed ++ s.front) false) + 1) (drop (n + 1) rest) false
-    lines-later fed =
-        ap (λ zs. completed fed zs false) (s.parts ∙ ap (λ zs. s.front ++ zs) cut.parts)
-        ∙ completed-append fed s.front (take n rest ++ line_feed ∷ drop (n + 1) rest) false
-        ∙ ap (λ ls. completed fed s.front false ++ ls) (completed-found (fed ++ s.front) (take n rest) (drop (n + 1) rest) false cut.clear)
+    lines-later fed = search (rules, cut, completed-append, completed-found)
 
     -- a line couldn't be answered
     pub answered-cut : (gone : Option (List ℕ)) → WasCut out gone asked → (fed : List ℕ) → old ≡ heard_of fed → WasCut old_out gone (output loaded (completed fed bytes false))
-    answered-cut gone w fed is =
-        rw (lines-later fed, output-append loaded (completed fed s.front false))
-        (cut_then old_out out gone _ _ _ (s.so fed is).1 (rw (asked-is fed is) at w))
+    answered-cut gone w fed is = search (rules, lines-later, output-append, cut_then, asked-is)
 
     pub fault-cut : (bad : Bool) → bad ≡ (heard.bad || is_fault (parsed_with heard.begun (take n rest))) → (fed : List ℕ) → old ≡ heard_of fed
         → bad ≡ true → any_fault (numbered_lines (fed ++ bytes) false) ≡ true
@@ -149,16 +131,10 @@ module _ (loaded : Loaded) (old heard : Heard) (old_out out : Option (List ℕ))
   -- all lines are answered, and how the next begins is kept
   pub answered-heard : HasNoLineFeed rest → (now : Heard) → now ≡ record heard { begun = kept_with heard.begun rest }
       → (fed : List ℕ) → old ≡ heard_of fed → now ≡ heard_of (fed ++ bytes)
-  answered-heard clear now e fed is =
-      e ∙ heard-rest (fed ++ s.front) rest clear heard (s.so fed is).0
-      ∙ ap heard_of (append_assoc fed s.front rest ∙ ap (λ zs. fed ++ zs) (sym s.parts))
+  answered-heard clear now e fed is = search (rules, heard-rest, append_assoc)
 
   pub answered-all : HasNoLineFeed rest → (fed : List ℕ) → old ≡ heard_of fed → WasPushed old_out out (output loaded (completed fed bytes false))
-  answered-all clear fed is =
-      subst (λ ls. WasPushed old_out out (output loaded ls))
-      (sym (ap (λ zs. completed fed zs false) s.parts ∙ completed-append fed s.front rest false
-      ∙ ap (λ ls. completed fed s.front false ++ ls) (completed-none (fed ++ s.front) rest clear) ∙ append-nil _))
-      (s.so fed is).1
+  answered-all clear fed is = search (rules, completed-append, completed-none, append-nil)
 
 -- a session that has heard of a faulty line was fed one
 pub fault-kept : (heard : Heard) (fed : List ℕ) → heard ≡ heard_of fed → heard.bad ≡ true → any_fault (numbered_lines fed false) ≡ true
@@ -199,8 +175,7 @@ pub ended-lines_none : (heard : Heard) → is_nothing heard.begun ≡ true → (
 ended-lines_none heard h fed e = ended-lines fed ∙ ap (λ ls. numbered_lines fed false ++ ls) (ended-none heard h fed e) ∙ append-nil _
 
 pub ended-lines_some : (heard : Heard) → is_nothing heard.begun ≡ false → (fed : List ℕ) → heard ≡ heard_of fed → numbered_lines fed true ≡ numbered_lines (fed ++ line_feed ∷ []) false
-ended-lines_some heard h fed e =
-    ended-lines fed ∙ ap (λ ls. numbered_lines fed false ++ ls) (ended-some heard h fed e) ∙ sym (completed-all fed (line_feed ∷ []) false)
+ended-lines_some heard h fed e = search (rules, ended-lines, ended-some, completed-all)
 
 -- whether one of the lines is faulty, as far as it is known after a call
 pub ended-bad : {T E : Type 0} (r : Result T E) (heard : Heard) (fed : List ℕ)

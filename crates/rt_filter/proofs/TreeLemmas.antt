@@ -1,5 +1,5 @@
 -- Entries in another order are answered the same: what a tree holds is what was packed.
-use Rattle.std.proofs.Common.{◌≡◌, ◌≤◌, ◌∙◌, ◌++◌, ℕ, List, [], ◌∷◌, Option, refl, ap, ap₂, subst, sym}
+use Rattle.std.proofs.Common.{◌≡◌, ◌∙◌, ℕ, List, [], ◌∷◌, Option, refl, ap, sym}
 use Rattle.std.proofs.lemmas.List.{Concat.{flat_map-cons}, Sorted.{IsPermutation-sym, length_permutation}}
 use Rattle.std.specs.{List.{IsDistinct, Sorted.{IsPermutation}}, Ordering.{int_eq}}
 use Rattle.rt_geo.specs.{Laws.{Meaning}, declared.entry.Entry.{Entry}}
@@ -9,10 +9,11 @@ use Rattle.rt_tree.proofs.{PackSound.{entries-IsPermutation}, Repacked.{pack_of-
 use Rattle.rt_text.specs.{ReplyLines.{ok_line}, declared.query.{BoxQuery.{BoxQuery}, Parsed.{Parsed}, Query.{Query}}}
 use Rattle.rt_text.specs.declared.query.{Query.TheVariants.{Boxes, Cost, Levels}, Report.{Report, TheVariants.{Answers, Count}}}
 use Rattle.rt_search.specs.Answers.{answers}
-use Rattle.rt_filter.specs.Replies.{Loaded, find_reply, judged_line, levels_reply, meaning_of, opened_for, output, query_reply}
+use Rattle.rt_filter.specs.Replies.{Loaded, levels_reply, meaning_of, opened_for, output, query_reply}
 use Rattle.rt_filter.specs.{Replies.{reply, report_of, tree_of}, Stages.{loaded_tree}}
 use Rattle.rt_search.proofs.Answering.{accepted-IsPermutation, among-IsPermutation}
 use Rattle.rt_text.specs.declared.query.Parsed.TheVariants as parsed
+use Rattle.std.proofs.Common.{arith, rules}
 
 -- ---- answers
 
@@ -34,8 +35,7 @@ module _ (fanout : ℕ) (xs ys : List Entry) (distinct : IsDistinct int_eq (ids_
 
   report_same : (line : ℕ) (meaning : Meaning) (report : Report)
       → report_of xs line meaning report ≡ report_of ys line meaning report
-  report_same line meaning (Answers limit) =
-      ap (find_reply line) (answers-IsPermutation xs ys meaning limit moved)
+  report_same line meaning (Answers limit) = search (rules, answers-IsPermutation, moved)
   report_same line meaning Count =
       ap (ok_line line) (sym (length_permutation _ _ (accepted-IsPermutation meaning xs ys moved)))
 
@@ -51,10 +51,7 @@ module _ (fanout : ℕ) (xs ys : List Entry) (distinct : IsDistinct int_eq (ids_
 
   pub output-IsPermutation : (lines : List (ℕ × List ℕ)) → output first lines ≡ output other lines
   output-IsPermutation [] = refl
-  output-IsPermutation (line ∷ lines) =
-      flat_map-cons (λ (l : ℕ × List ℕ). reply first l.0 (judged_line l.1)) line lines
-      ∙ ap₂ (λ (x : List ℕ) (y : List ℕ). x ++ y) (reply_same line.0 (judged_line line.1)) (output-IsPermutation lines)
-      ∙ sym (flat_map-cons (λ (l : ℕ × List ℕ). reply other l.0 (judged_line l.1)) line lines)
+  output-IsPermutation (line ∷ lines) = grind (arith, flat_map-cons, reply_same, output-IsPermutation lines)
 
 -- ---- what is replied over a tree
 
@@ -63,8 +60,7 @@ module _ (tree : Packed) (loaded : Loaded) (sound : IsSound tree) (packed : tree
   fanout_same = ap (λ (t : Packed). t.fanout) packed
 
   moved : IsPermutation loaded.entries tree.entries
-  moved = subst (λ (t : Packed). IsPermutation loaded.entries t.entries) (sym packed)
-      (entries-IsPermutation loaded.fanout loaded.entries (subst (λ n. 2 ≤ n) fanout_same sound.several))
+  moved = search (rules, entries-IsPermutation, fanout_same)
 
   -- what is replied over a tree is replied over each list of entries whose packed tree it is
   pub output_same : (lines : List (ℕ × List ℕ)) → output loaded lines ≡ output (loaded_tree tree) lines

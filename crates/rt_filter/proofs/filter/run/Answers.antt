@@ -1,4 +1,4 @@
-use Rattle.std.proofs.{Common.{arith, rules}, lemmas.Grind.{common_steps}}
+use Rattle.std.proofs.{Common.{rules}, lemmas.Grind.{common_steps}}
 use Rattle.rt_filter.proofs.RunLemmas.{ends_early, ends_served, ends_whole}
 use Rattle.rt_filter.proofs.filter.run.Goals as goal
 
@@ -23,8 +23,4 @@ returns-in-Err-clause-ending g c table is_table =
 
 pub returns-in-Err-clause-headline : goal.returns-in-Err-clause-headline
 returns-in-Err-clause-headline g c table queries before is_table is_queries is_before =
-    let coming = g.S.Source.coming c.args.source.now in
-    let written = g.K.Sink.written c.args.sink.now in
-    ends_whole c.args.settings.now table queries before coming coming written written c.outcome-in-Err.result c.args.turns
-    (g.S.Source.failed c.args.source.now) (g.S.Source.failed c.args.source.now) (g.K.Sink.failed c.args.sink.now) (g.K.Sink.failed c.args.sink.now)
-    (returns-in-Err-clause-ending g c table is_table) is_queries is_before (grind (arith, common_steps)) (grind (arith, common_steps))
+    search (rules, ends_whole, returns-in-Err-clause-ending, common_steps)

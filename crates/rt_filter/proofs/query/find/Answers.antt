@@ -1,11 +1,10 @@
-use Rattle.std.proofs.Common.{◌∙◌, None, Some, ap, take}
+use Rattle.std.proofs.Common.{◌∙◌, Some, ap, take}
 use Rattle.rt_filter.proofs.FindLemmas.{few_answers}
 use Rattle.rt_filter.proofs.query.find.Goals as goal
+use Rattle.std.proofs.Common.{rules}
 
 pub push_search-requires-clause-few : goal.push_search-requires-clause-few
-push_search-requires-clause-few g c =
-    few_answers c.args.tree.now.entries (g.G.Geometry.meaning c.new-counted.result.geometry) None
-    c.start.result.to_come c.len-most.result _ c.start.ensures.to_come c.len-most.ensures.value c.len-most.type_inv
+push_search-requires-clause-few g c = search (rules, few_answers)
 
 pub push_search-requires-in-Some-clause-few : goal.push_search-requires-in-Some-clause-few
 push_search-requires-in-Some-clause-few g c =
@@ -15,13 +14,7 @@ push_search-requires-in-Some-clause-few g c =
     c.len-most.ensures.value c.len-most.type_inv
 
 pub push_search-requires-in-Some-2-clause-few : goal.push_search-requires-in-Some-2-clause-few
-push_search-requires-in-Some-2-clause-few g c =
-    few_answers c.args.tree.now.entries (g.G.Geometry.meaning c.new-counted.result.geometry) (Some c.in-Some.most)
-    c.start_unscored-search.result.to_come c.len-most.result _ c.start_unscored-search.ensures.to_come
-    c.len-most.ensures.value c.len-most.type_inv
+push_search-requires-in-Some-2-clause-few g c = search (rules, few_answers)
 
 pub push_search-requires-in-Some-3-clause-few : goal.push_search-requires-in-Some-3-clause-few
-push_search-requires-in-Some-3-clause-few g c =
-    few_answers c.args.tree.now.entries (g.G.Geometry.meaning c.new-counted.result.geometry) (Some c.in-Some.most)
-    c.start-in-Some-3.result.to_come c.len-most.result _ c.start-in-Some-3.ensures.to_come
-    c.len-most.ensures.value c.len-most.type_inv
+push_search-requires-in-Some-3-clause-few g c = search (rules, few_answers)

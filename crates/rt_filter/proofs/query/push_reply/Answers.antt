@@ -2,6 +2,7 @@ use Rattle.std.proofs.Common.{◌∙◌, sym}
 use Rattle.rt_geo.specs.Regions.{region_accepts}
 use Rattle.rt_filter.proofs.LayerLemmas.{all_from, report_on-all, report_on-asked}
 use Rattle.rt_filter.proofs.query.push_reply.Goals as goal
+use Rattle.std.proofs.Common.{rules}
 
 pub returns-then-bits-clause-pushed : goal.returns-then-bits-clause-pushed
 returns-then-bits-clause-pushed g c =
@@ -16,6 +17,4 @@ returns-then-bits-clause-pushed g c =
     ) c.push_in_region.ensures.pushed
 
 pub returns-else-bits-clause-pushed : goal.returns-else-bits-clause-pushed
-returns-else-bits-clause-pushed g c =
-    rw (c.in-Boxes.is, sym (report_on-asked c.args.tree.now.entries c.args.line c.in-Boxes.asked c.in-Boxes.asked.report))
-    c.push_in_shape.ensures.pushed
+returns-else-bits-clause-pushed g c = search (rules, report_on-asked)

@@ -1,5 +1,5 @@
-use Rattle.std.proofs.Common.{◌≡◌, ◌∙◌, ◌+◌, ap, arith, length, rules}
-use Rattle.rt_text.specs.ReplyLines.{answer_line, ok_line}
+use Rattle.std.proofs.Common.{◌≡◌, ◌∙◌, ◌+◌, ap, arith, rules}
+use Rattle.rt_text.specs.ReplyLines.{answer_line}
 use Rattle.rt_filter.specs.Replies.{find_reply}
 use Rattle.rt_filter.proofs.{FindLemmas.{answer_cut, answer_pushed, reply_end}, PushLemmas.{as_failed, pushed_last}}
 use Rattle.rt_filter.proofs.PushLemmas.{pushed_rest}
@@ -16,28 +16,10 @@ returns-in_err-push_line-clause-pushed g c =
     )
 
 pub loop-id-preserved : goal.loop-id-preserved
-loop-id-preserved g c =
-    let line : c.set_answer_line.new.text ≡ answer_line c.in-Some.id c.in-Some.score = search rules in
-    let pushed = rw line at c.in_ok-push_line.ensures.pushed in record {
-      count = pushed.1 ∙ c.loop-id.invariant.count;
-      capacity = c.in-Some.ensures.capacity ∙ c.loop-id.invariant.capacity;
-      many = omega (arith, ap length c.in-Some.ensures.answer, c.loop-id.invariant.many);
-      pushed = answer_pushed (find_reply c.args.line (g.A.AnswerStream.to_come c.args.search)) _ _ _ _ _ c.in-Some.id
-          c.in-Some.score _ _ c.in-Some.ensures.answer c.loop-id.invariant.pushed pushed.0;
-    }
+loop-id-preserved g c = search (rules, answer_pushed)
 
 pub returns-in_err-push_line-2-clause-pushed : goal.returns-in_err-push_line-2-clause-pushed
-returns-in_err-push_line-2-clause-pushed g c =
-    let all = find_reply c.args.line (g.A.AnswerStream.to_come c.args.search) in
-    let left = reply_end all _ _ c.args.line _ _ _ c.in_default.ensures.answer c.loop-id.invariant.many c.loop-id.invariant.pushed in
-    pushed_last g.K.Sink.written g.K.Sink.failed _ c.loop-id.sink _ all (ok_line c.args.line c.loop-id.found) _ left
-    c.loop-id.invariant.count (as_failed g.K.Sink.written g.K.Sink.failed c.loop-id.sink c.loop-id.sink _
-    c.from_residual-in_err-push_line-2.result _ _ c.from_residual-in_err-push_line-2.ensures.1
-    (rw c.set_ok_line.ensures at c.in_err-push_line-2.ensures.pushed))
+returns-in_err-push_line-2-clause-pushed g c = grind (arith, reply_end, pushed_last, as_failed)
 
 pub returns-clause-pushed : goal.returns-clause-pushed
-returns-clause-pushed g c =
-    let all = find_reply c.args.line (g.A.AnswerStream.to_come c.args.search) in
-    let left = reply_end all _ _ c.args.line _ _ _ c.in_default.ensures.answer c.loop-id.invariant.many c.loop-id.invariant.pushed in
-    let last = rw c.set_ok_line.ensures at c.in_ok-push_line-2.ensures.pushed in
-    (pushed_rest all (ok_line c.args.line c.loop-id.found) _ _ _ left last.0, last.1 ∙ c.loop-id.invariant.count)
+returns-clause-pushed g c = search (rules, reply_end, pushed_rest)

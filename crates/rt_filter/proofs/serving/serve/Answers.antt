@@ -88,5 +88,4 @@ returns-clause-ending g c loaded packed =
     (unmoved_same (g.S.Source.coming c.loop-turn.source)) c.ended-2.ensures.bad c.ended-2.ensures.fault
 
 pub returns-clause-turns : goal.returns-clause-turns
-returns-clause-turns g c e same =
-    let given = c.loop-turn.invariant.given in (given.0, given.1, omega (arith, given.2, c.loop-turn-test.false))
+returns-clause-turns g c e same = search rules

@@ -1,4 +1,4 @@
-use Rattle.std.proofs.Common.{false, rules, ◌+◌, ◌-◌, ◌≤◌, ◌≡◌, ◌∙◌, ◌++◌, ℕ, List, length, take, drop, ap, sym, arith}
+use Rattle.std.proofs.Common.{false, rules, ◌+◌, ◌∙◌, ◌++◌, ap}
 use Rattle.std.proofs.lemmas.{Grind.{common_steps}, List.{length-drop}}
 use Rattle.rt_filter.specs.{Lines.{completed}, Replies.{output}, Stages.{loaded_tree}}
 use Rattle.rt_filter.proofs.{LineLemmas.{found_none}, PushLemmas.{as_failed, at_failure}, SessionLemmas.{answered-all}}
@@ -19,19 +19,7 @@ returns-in_err-frontier-clause-heard g c fed is = at_failure c.from_residual.res
     (fault-cut _ _ _ _ _ _ _ c.loop-end.invariant.answered c.in-Some.end c.in-Some.ensures _ (ap (λ h. h.bad) c.answer_line.ensures.heard) fed is)
 
 pub loop-end-preserved : goal.loop-end-preserved
-loop-end-preserved g c =
-    let left : List ℕ = take (length c.loop-end.rest.now - (c.in-Some.end + 1)) (drop (c.in-Some.end + 1) c.loop-end.rest.now) in
-    let is : left ≡ drop (c.in-Some.end + 1) c.loop-end.rest.now = grind (arith, common_steps) in
-    let fits : c.in-Some.end + 1 ≤ length c.loop-end.rest.now = omega (arith, c.in-Some.ensures.0.high) in
-    let long : length left ≡ length c.loop-end.rest.now - (c.in-Some.end + 1) = ap length is ∙ length-drop (c.in-Some.end + 1) c.loop-end.rest.now in
-    record {
-      count = search rules;
-      capacity = search rules;
-      few = omega (arith, long, fits, c.loop-end.invariant.few, ap (λ h. h.lines) c.answer_line.ensures.heard);
-      answered = answered-more _ _ _ _ _ _ _ c.loop-end.invariant.answered c.in-Some.end c.in-Some.ensures left _ (g.K.Sink.written c.answer_line.new.sink) is
-          c.answer_line.ensures.heard c.in_ok-frontier.ensures.pushed.0;
-      flushed = λ e. ap g.K.Sink.waits (c.answer_line.ensures.untouched e).1 ∙ c.loop-end.invariant.flushed (c.answer_line.ensures.untouched e).0;
-    }
+loop-end-preserved g c = search (rules, common_steps, length-drop, answered-more)
 
 pub returns-in_err-flush-clause-replies : goal.returns-in_err-flush-clause-replies
 returns-in_err-flush-clause-replies g c fed is =
@@ -58,5 +46,4 @@ returns-clause-heard g c =
     answered-heard _ _ _ _ _ _ _ c.loop-end.invariant.answered (found_none c.loop-end.rest.now c.in_default.ensures) c.flush.new.self.heard (search rules)
 
 pub returns-clause-flushed : goal.returns-clause-flushed
-returns-clause-flushed g c e = c.in_ok-flush.ensures.flushed
-    (λ none. c.loop-end.invariant.flushed (sym (ap (λ s. s.is_pushed) c.self.view_is) ∙ none) ∙ e)
+returns-clause-flushed g c e = search rules

@@ -1,10 +1,10 @@
-use Rattle.std.proofs.Common.{arith, refl}
+use Rattle.std.proofs.Common.{arith}
 use Rattle.rt_filter.proofs.PushLemmas.{nothing_pushed}
 use Rattle.rt_filter.proofs.session.Progress.answer_line.Goals as goal
+use Rattle.std.proofs.Common.{rules}
 
 pub returns-in-Skip-clause-pushed : goal.returns-in-Skip-clause-pushed
-returns-in-Skip-clause-pushed g c =
-    rw (← c.self.view_is, ← c.in-Skip.ensures.parsed) (nothing_pushed (g.K.Sink.written c.args.sink.now), refl)
+returns-in-Skip-clause-pushed g c = search (rules, nothing_pushed)
 
 pub returns-in_err-push_line-in-Fault-clause-untouched : goal.returns-in_err-push_line-in-Fault-clause-untouched
 returns-in_err-push_line-in-Fault-clause-untouched g c e = absurd (grind (arith, e))
