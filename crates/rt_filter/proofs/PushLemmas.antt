@@ -62,8 +62,7 @@ later before out next rest all (Some ys) h e =
     let more : List ℕ = drop (length h.0) next in
     let parts : next ++ rest ≡ h.0 ++ (more ++ rest) =
     ap (λ zs. zs ++ rest) (behind next h.0 h.2) ∙ append_assoc h.0 more rest in
-    let whole : all ≡ (out ++ h.0) ++ (more ++ rest) =
-    e ∙ ap (λ zs. out ++ zs) parts ∙ sym (append_assoc out h.0 (more ++ rest)) in
+    let whole : all ≡ (out ++ h.0) ++ (more ++ rest) = search (rules, append_assoc) in
     (out ++ h.0, h.1 ∙ append_assoc before out h.0, prefix (out ++ h.0) (more ++ rest) all whole)
 
 -- of the next bytes a prefix was pushed

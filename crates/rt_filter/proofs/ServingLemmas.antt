@@ -114,7 +114,7 @@ module _ (loaded : Loaded) (coming0 coming written0 written : Option (List ℕ))
       → served.bad ≡ any_fault (numbered_lines s.consumed true) → served.fault ≡ None → Serves loaded coming0 now written0 out served
   serves_all now out served h at w b f =
       let all : WasPushed written0 out (output loaded (numbered_lines s.consumed true)) =
-      rw (ended-lines s.consumed, output-append loaded (numbered_lines s.consumed false)) (pushed_then written0 written out _ _ s.pushed w) in
+      search (rules, ended-lines, output-append, pushed_then) in
       rw (b, f) (
         so_far s.consumed now (output loaded (numbered_lines s.consumed true)),
         source_tells (None ≡ Some serve.Read) coming0 now s.consumed (output loaded (numbered_lines s.consumed true)) (subst (Consumes coming0 now) (append-nil s.consumed) (consumes_more coming0 coming now s.consumed [] s.given h)),
@@ -134,8 +134,7 @@ module _ (loaded : Loaded) (coming0 coming written0 written : Option (List ℕ))
         source_tells (Some serve.Write ≡ Some serve.Read) coming0 now (s.consumed ++ given) (replied ++ w.out) (consumes_more coming0 coming now s.consumed given s.given h),
         w.tells,
         record {
-          replies = rw (all, output-append loaded (numbered_lines s.consumed false) (lines ++ later), output-append loaded lines later)
-              (starts-between replied (output loaded lines) w.out (output loaded later) w.prefix);
+          replies = search (rules, output-append, starts-between);
           faults = b;
           answered = length s.consumed;
           shorter = omega (arith, length-append s.consumed given, few);

@@ -1,6 +1,6 @@
 -- What a session has heard, and what it has answered.
 use Rattle.std.proofs.Common.{◌≡◌, ◌∙◌, ◌+◌, ℕ, Bool, true, false, ◌||◌, List, [], ◌∷◌, ◌++◌, length, take, drop, Option, Some}
-use Rattle.std.proofs.{Common.{refl, sym, ap, subst, arith, append_assoc, append-nil}, Math.Bool.{or-false}}
+use Rattle.std.proofs.{Common.{refl, sym, ap, arith, append_assoc, append-nil}, Math.Bool.{or-false}}
 use Rattle.std.proofs.lemmas.{Bool.{Decides.{nat_tests}}, Grind.{flat_map-append}, List.{length-append, Folds.{list_any-append}}}
 use Rattle.std.specs.{Io.KnownBytes.{Keeps}, Prelude.{MatchResult, Result}}
 use Rattle.memchr.specs.Find.{IsFirstByte, is_byte}
@@ -96,15 +96,7 @@ module _ (loaded : Loaded) (old heard : Heard) (old_out out : Option (List ℕ))
         record {
           front = s.front ++ line;
           parts = s.parts ∙ ap (λ zs. s.front ++ zs) parts ∙ sym (append_assoc s.front line left);
-          so = λ fed is.
-              let before : List ℕ = fed ++ s.front in
-              let whole : completed fed (s.front ++ line) false ≡ completed fed s.front false ++ (length (numbered_lines before false) + 1, begun_line before ++ take n rest) ∷ [] =
-              completed-append fed s.front line false ∙ ap (λ ls. completed fed s.front false ++ ls) (completed-found before (take n rest) [] false cut.clear) in
-              let both = pushed_then old_out out gone _ _ (s.so fed is).1 w in (
-                e ∙ heard-line before (take n rest) cut.clear heard (s.so fed is).0 ∙ ap heard_of (append_assoc fed s.front line),
-                rw (whole, output-append loaded (completed fed s.front false))
-                    (subst (λ zs. WasPushed old_out gone (output loaded (completed fed s.front false) ++ zs)) (asked-is fed is ∙ sym (append-nil _)) both),
-              );
+          so = search (rules, completed-append, completed-found, cut, pushed_then, heard-line, append_assoc, output-append, asked-is, append-nil);
         }
 
     -- the lines of all bytes are those that were answered, this one, and later ones
@@ -119,9 +111,7 @@ module _ (loaded : Loaded) (old heard : Heard) (old_out out : Option (List ℕ))
     pub fault-cut : (bad : Bool) → bad ≡ (heard.bad || is_fault (parsed_with heard.begun (take n rest))) → (fed : List ℕ) → old ≡ heard_of fed
         → bad ≡ true → any_fault (numbered_lines (fed ++ bytes) false) ≡ true
     fault-cut bad b fed is h =
-        let so : (any_fault (numbered_lines (fed ++ s.front) false) || is_fault (judged_line (begun_line (fed ++ s.front) ++ take n rest))) ≡ true =
-        ap (λ asked. any_fault (numbered_lines (fed ++ s.front) false) || is_fault asked) (sym (kept_parsed (begun_line (fed ++ s.front)) (take n rest)))
-        ∙ ap (λ h. h.bad || is_fault (parsed_with h.begun (take n rest))) (sym (s.so fed is).0) ∙ sym b ∙ h in
+        let so : (any_fault (numbered_lines (fed ++ s.front) false) || is_fault (judged_line (begun_line (fed ++ s.front) ++ take n rest))) ≡ true = search (rules, kept_parsed) in
         let whole = ap (λ zs. numbered_lines (fed ++ zs) false) (s.parts ∙ ap (λ zs. s.front ++ zs) cut.parts)
         ∙ ap (λ zs. numbered_lines zs false) (sym (append_assoc fed s.front (take n rest ++ line_feed ∷ drop (n + 1) rest)))
         ∙ completed-all (fed ++ s.front) (take n rest ++ line_feed ∷ drop (n + 1) rest) false
