@@ -1,6 +1,6 @@
 -- The lines of the answers, one after the other.
-use Rattle.std.proofs.Common.{◌≡◌, ◌+◌, ◌<◌, ◌≤◌, ℕ, ℤ, List, [], ◌∷◌, ◌++◌, length, Option, arith}
-use Rattle.std.proofs.{Common.{append_assoc}, lemmas.List.{length-take, Concat.{flat_map-cons}, Sorted.{length_permutation}}}
+use Rattle.std.proofs.Common.{◌≡◌, ◌+◌, ◌<◌, ◌≤◌, ℕ, ℤ, List, [], ◌∷◌, ◌++◌, length, Option, arith, append_assoc, rules}
+use Rattle.std.proofs.lemmas.List.{length-take, Concat.{flat_map-cons}, Sorted.{length_permutation}}
 use Rattle.rt_geo.specs.{Laws.{Meaning}, declared.entry.Entry.{Entry}}
 use Rattle.rt_tree.specs.Sorting.{limited, sorted}
 use Rattle.rt_tree.proofs.SortingLemmas.{IsPermutation-sorted}
@@ -9,7 +9,6 @@ use Rattle.rt_search.specs.Answers.{Answer, answer_cmp, answers, scored}
 use Rattle.rt_search.proofs.Giving.{length-scored}
 use Rattle.rt_filter.specs.Pushes.{WasCut, WasPushed, answer_lines}
 use Rattle.rt_filter.proofs.PushLemmas.{AllBut, pushed_cut, pushed_next}
-use Rattle.std.proofs.Common.{rules}
 
 length-limited : {X : Type 0} (limit : Option ℕ) (xs : List X) → length (limited limit xs) ≤ length xs
 length-limited limit xs = grind (arith, length-take)

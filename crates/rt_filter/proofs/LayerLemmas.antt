@@ -1,19 +1,17 @@
 -- All layers are those of all entries, so a query on all of them is one that asks for none.
-use Rattle.std.proofs.Common.{◌≡◌, ◌∙◌, ap, Bool, false, not, List, [], ◌∷◌, ◌&&◌, ℕ, Option, map, refl}
-use Rattle.std.proofs.{Common.{arith, sym}, lemmas.List.Elements.{recursion_from_All}}
+use Rattle.std.proofs.Common.{◌≡◌, ◌∙◌, ap, Bool, false, not, List, [], ◌∷◌, ◌&&◌, ℕ, Option, map, refl, arith, sym}
+use Rattle.std.proofs.{Common.{rules}, lemmas.List.Elements.{recursion_from_All}}
 use Rattle.std.specs.List.{All, AllByRecursion}
 use Rattle.rt_geo.specs.{Entries.{HasLayer}, Laws.{Extent, Meaning, extent_of_entry}, Layers.{all_layers, disjoint}}
-use Rattle.rt_geo.specs.{Lemmas.Layers.{disjoint-only, has-all}, OnLayers.{on_layers_accepts}}
-use Rattle.rt_geo.specs.{Discs.{MeansBoth, disc_meaning}, Regions.{region_accepts}, declared.{entry.Entry.{Entry}}}
+use Rattle.rt_geo.specs.{Lemmas.Layers.{disjoint-only, has-all}, OnLayers.{on_layers_accepts}, Discs.{MeansBoth}}
+use Rattle.rt_geo.specs.{Discs.{disc_meaning}, Regions.{region_accepts}, declared.entry.Entry.{Entry}}
 use Rattle.rt_geo.specs.declared.{disc.Disc.{Disc}, layers.Layers.{Layers}, order.Order.{Order}, region.Region.{Region}}
 use Rattle.rt_geo.specs.declared.shapes.Circle.{Circle}
-use Rattle.rt_geo.specs.declared.region.Region.TheVariants as region
-use Rattle.rt_text.specs.{declared.query.{BoxQuery.{BoxQuery}, Report.{Report, TheVariants.{Answers}}}}
-use Rattle.rt_text.specs.declared.query.Report.TheVariants.{Count}
+use Rattle.rt_text.specs.declared.query.{BoxQuery.{BoxQuery}, Report.{Report, TheVariants.{Answers, Count}}}
 use Rattle.rt_filter.specs.{Replies.{find_reply, meaning_of, report_of}, Reports.{report_on, scanned}}
 use Rattle.rt_tree.specs.Sorting.{limited, sorted}
 use Rattle.rt_search.specs.Answers.{accepted, answer_cmp, answer_of, answers}
-use Rattle.std.proofs.Common.{rules}
+use Rattle.rt_geo.specs.declared.region.Region.TheVariants as region
 
 abbrev with_bits : ℕ → Layers
 with_bits n = record { bits = n }

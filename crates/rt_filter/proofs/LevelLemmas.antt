@@ -1,13 +1,12 @@
 -- The lines of the levels, from the top down.
 use Rattle.std.proofs.Common.{◌≡◌, ◌∙◌, ◌+◌, ◌-◌, ◌<◌, ◌≤◌, ℕ, List, ◌∷◌, ◌++◌, length, drop, get_or, Option, Some, ap}
-use Rattle.std.proofs.{Common.{zero-add, arith, append_assoc}, lemmas.List.{drop_all, drop_more, get_or-reverse}}
+use Rattle.std.proofs.{Common.{zero-add, arith, append_assoc, rules}, lemmas.List.{drop_all, drop_more, get_or-reverse}}
 use Rattle.std.proofs.lemmas.List.{length-reverse, Concat.{flat_map-cons}, FromFn.{get_or-enumerate_from}}
 use Rattle.std.proofs.lemmas.{List.FromFn.{length-enumerate_from}, Option.{get_or_from_slice_get}}
 use Rattle.std.specs.{List.{enumerate_from}, Prelude.{flat_map, reverse, slice_get}}
 use Rattle.rt_text.specs.ReplyLines.{level_line, ok_line}
 use Rattle.rt_filter.specs.Pushes.{WasCut, WasPushed}
 use Rattle.rt_filter.proofs.PushLemmas.{AllBut, pushed_cut, pushed_next}
-use Rattle.std.proofs.Common.{rules}
 
 abbrev pub level_lines : List (ℕ × ℕ) → List ℕ
 level_lines levels = flat_map (λ level. level_line level.0 level.1) levels

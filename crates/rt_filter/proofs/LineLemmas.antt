@@ -1,12 +1,13 @@
 -- The lines of query bytes, one after the other.
-use Rattle.std.proofs.Common.{◌≡◌, ◌∙◌, ◌+◌, ℕ, zero, suc, Bool, true, false, List, [], ◌∷◌, ◌++◌, length, take, drop, refl}
-use Rattle.std.proofs.{Common.{sym, ap, arith, add-one, append_assoc, append-nil, Some, None}, Math.Seq.{drop-append_seam}}
-use Rattle.std.proofs.lemmas.{Bool.{false_from_ne_true, Decides.{nat_tests}}, List.FromFn.{length-enumerate_from}}
+use Rattle.std.proofs.Common.{◌≡◌, ◌∙◌, ◌+◌, ◌<◌, ℕ, Bool, true, false, List, [], ◌∷◌, ◌++◌, length, take, drop, get_or, refl}
+use Rattle.std.proofs.{Common.{sym, ap, arith, rules, append_assoc, append-nil, Some, None}, Math.Seq.{drop-append_seam}}
+use Rattle.std.proofs.lemmas.{Bool.{eqb-true, false_from_ne_true}, List.{drop_more, get_or-take, length-take-le}}
+use Rattle.std.proofs.lemmas.List.{take-append-drop, Elements.{All-from_get_or, All-from_recursion, recursion_from_All}}
+use Rattle.std.proofs.lemmas.List.{FromFn.{length-enumerate_from}, Splits.{length-slice_split, slice_split_at, slice_split_none}}
 use Rattle.std.specs.List.{enumerate_from, slice_split}
 use Rattle.memchr.specs.Find.{IsFirstByte, is_byte}
 use Rattle.rt_filter.specs.Lines.{begun_line, completed, is_line_feed, last_part, lines_of_parts, numbered_lines}
 use Rattle.rt_filter.specs.Stages.{HasNoLineFeed, line_feed, lines_from}
-use Rattle.std.proofs.Common.{rules}
 
 -- ---- where the first line feed stands
 
@@ -15,29 +16,19 @@ pub record IsCutAt (xs front back : List ℕ) : Type 0 where
   pub parts : xs ≡ front ++ line_feed ∷ back
   pub clear : HasNoLineFeed front
 
--- the place after the first byte
-later : (x : ℕ) (xs : List ℕ) (n : ℕ) → IsFirstByte (is_byte line_feed) (x ∷ xs) (Some (suc n)) → IsFirstByte (is_byte line_feed) xs (Some n)
-later x xs n h = (record { low = omega arith; high = omega (arith, h.0.high); before = λ k low below. h.0.before (suc k) (omega arith) (omega (arith, below)) }, h.1)
-
-is_line_feed_of : (x : ℕ) → is_line_feed x ≡ true → x ≡ line_feed
-is_line_feed_of x e = grind (arith, nat_tests)
-
-cut_at : (xs : List ℕ) (n : ℕ) → IsFirstByte (is_byte line_feed) xs (Some n) → IsCutAt xs (take n xs) (drop (suc n) xs)
-cut_at [] n h = absurd (omega (arith, h.0.high))
-cut_at (x ∷ xs) zero h = record { parts = ap (λ b. b ∷ xs) (is_line_feed_of x h.1); clear = tt }
-cut_at (x ∷ xs) (suc n) h =
-    let r = cut_at xs n (later x xs n h) in
+pub found : (xs : List ℕ) (n : ℕ) → IsFirstByte (is_byte line_feed) xs (Some n) → IsCutAt xs (take n xs) (drop (n + 1) xs)
+found xs n h =
+    let is : get_or xs n 0 ≡ line_feed = eqb-true (get_or xs n 0) line_feed h.1 in
+    let long : length (take n xs) ≡ n = length-take-le n xs (omega (arith, h.0.high)) in
     record {
-      parts = ap (λ ys. x ∷ ys) r.parts;
-      clear = (false_from_ne_true _ (h.0.before 0 (omega arith) (omega arith)), r.clear);
+      parts = sym (take-append-drop n xs) ∙ ap (λ back. take n xs ++ back) (drop_more xs n 0 h.0.high ∙ ap (λ c. c ∷ drop (n + 1) xs) is);
+      clear = recursion_from_All (λ c. is_line_feed c ≡ false) (take n xs) (All-from_get_or (λ c. is_line_feed c ≡ false) (take n xs) 0 (λ k lt.
+          let below : k < n = omega (arith, lt, long) in
+          rw (get_or-take n xs k 0 below) (false_from_ne_true _ (h.0.before k (omega arith) below))));
     }
 
-pub found : (xs : List ℕ) (n : ℕ) → IsFirstByte (is_byte line_feed) xs (Some n) → IsCutAt xs (take n xs) (drop (n + 1) xs)
-found xs n h = rw (add-one n) (cut_at xs n h)
-
 pub found_none : (xs : List ℕ) → IsFirstByte (is_byte line_feed) xs None → HasNoLineFeed xs
-found_none [] h = tt
-found_none (x ∷ xs) h = (false_from_ne_true _ (h 0 (omega arith) (omega arith)), found_none xs (λ k low below. h (suc k) (omega arith) (omega (arith, below))))
+found_none xs h = recursion_from_All (λ c. is_line_feed c ≡ false) xs (All-from_get_or (λ c. is_line_feed c ≡ false) xs 0 (λ k lt. false_from_ne_true _ (h k (omega arith) lt)))
 
 -- ---- bytes without a line feed
 
@@ -47,23 +38,17 @@ clear-append (x ∷ xs) ys h k = (h.0, clear-append xs ys h.1 k)
 
 -- they are one part
 pub one_part : (xs : List ℕ) → HasNoLineFeed xs → slice_split is_line_feed xs ≡ xs ∷ []
-one_part [] h = refl
-one_part (x ∷ xs) h = rw (h.0, one_part xs h.1) refl
+one_part xs h = slice_split_none is_line_feed xs (All-from_recursion _ xs h)
 
 -- before a line feed they are the first
 first_part : (xs ys : List ℕ) → HasNoLineFeed xs → slice_split is_line_feed (xs ++ line_feed ∷ ys) ≡ xs ∷ slice_split is_line_feed ys
-first_part [] ys h = refl
-first_part (x ∷ xs) ys h = rw (h.0, first_part xs ys h.1) refl
+first_part xs ys h = slice_split_at is_line_feed xs line_feed ys (All-from_recursion _ xs h) refl
 
 -- no list of parts is empty
 some_part : (xs : List ℕ) → (part : List ℕ) × (more : List (List ℕ)) × (slice_split is_line_feed xs ≡ part ∷ more)
-some_part [] = ([], [], refl)
-some_part (x ∷ xs) = by (is_line_feed x) refl (some_part xs)
-  where
-    by : (b : Bool) → is_line_feed x ≡ b → (part : List ℕ) × (more : List (List ℕ)) × (slice_split is_line_feed xs ≡ part ∷ more)
-        → (part : List ℕ) × (more : List (List ℕ)) × (slice_split is_line_feed (x ∷ xs) ≡ part ∷ more)
-    by true e m = ([], slice_split is_line_feed xs, rw e refl)
-    by false e m = (x ∷ m.0, m.1, rw (e, m.2) refl)
+some_part xs =
+    let parts = slice_split is_line_feed xs in
+    (get_or parts 0 [], drop 1 parts, drop_more parts 0 [] (omega (arith, length-slice_split is_line_feed xs)))
 
 -- ---- lines
 
@@ -89,14 +74,7 @@ lines_from-last number x xs h = ap (λ parts. enumerate_from (number + 1) (lines
 parts-append : (xs ys : List ℕ)
     → slice_split is_line_feed (xs ++ ys) ≡ lines_of_parts false (slice_split is_line_feed xs) ++ slice_split is_line_feed (begun_line xs ++ ys)
 parts-append [] ys = refl
-parts-append (x ∷ xs) ys = let m = some_part xs in by (is_line_feed x) refl m.0 m.1 m.2 (parts-append xs ys)
-  where
-    by : (b : Bool) → is_line_feed x ≡ b → (part : List ℕ) (more : List (List ℕ)) → slice_split is_line_feed xs ≡ part ∷ more
-        → slice_split is_line_feed (xs ++ ys) ≡ lines_of_parts false (slice_split is_line_feed xs) ++ slice_split is_line_feed (begun_line xs ++ ys)
-        → slice_split is_line_feed (x ∷ (xs ++ ys)) ≡ lines_of_parts false (slice_split is_line_feed (x ∷ xs)) ++ slice_split is_line_feed (begun_line (x ∷ xs) ++ ys)
-    by true e part more s h = let k = rw s at h in rw (e, s, k) refl
-    by false e part [] s h = let k = rw s at h in rw (e, s, k, e) refl
-    by false e part (next ∷ more) s h = let k = rw s at h in rw (e, s, k) refl
+parts-append (x ∷ xs) ys = grind (arith, parts-append xs ys, some_part xs)
 
 -- no line feed stands behind the last one
 pub begun_clear : (xs : List ℕ) → HasNoLineFeed (begun_line xs)
@@ -131,9 +109,7 @@ numbered_lines-append xs ys ended =
     ∙ ap (λ k. numbered_lines xs false ++ enumerate_from k (lines_of_parts ended (slice_split is_line_feed (begun_line xs ++ ys)))) count
 
 begun_line-append : (xs ys : List ℕ) → begun_line (xs ++ ys) ≡ begun_line (begun_line xs ++ ys)
-begun_line-append xs ys =
-    let m = some_part (begun_line xs ++ ys) in
-    ap last_part (parts-append xs ys) ∙ rw m.2 (last_part-append (lines_of_parts false (slice_split is_line_feed xs)) m.0 m.1)
+begun_line-append xs ys = let m = some_part (begun_line xs ++ ys) in let is = m.2 in search (rules, parts-append, last_part-append, is)
 
 -- ---- what more bytes complete
 

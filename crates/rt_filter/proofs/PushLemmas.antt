@@ -1,11 +1,10 @@
 -- What pushes add up to.
 use Rattle.std.proofs.Common.{◌≡◌, ◌∙◌, ◌+◌, ℕ, List, [], ◌∷◌, ◌++◌, length, drop, Option, Some, None, refl, sym, ap}
-use Rattle.std.proofs.{Common.{arith, append_assoc, append-nil}, Math.Seq.{take-append-add, take-append_seam}}
+use Rattle.std.proofs.{Common.{arith, append_assoc, append-nil, rules}, Math.Seq.{take-append-add, take-append_seam}}
 use Rattle.std.proofs.lemmas.List.{append_cancel_left, length-append, take-append-drop}
 use Rattle.std.specs.{Io.{StartsWith}, Prelude.{IfSome, IsErrAnd, MatchResult, Result, Ok, Err}}
 use Rattle.rt_device.specs.Devices.{IsSameIfTold}
 use Rattle.rt_filter.specs.Pushes.{Pushed, WasCut, WasPushed, WentPrefix}
-use Rattle.std.proofs.Common.{rules}
 
 -- a fact at each list that it may be is one at the list that it is
 pub if_some : (P : List ℕ → Type 0) (o : Option (List ℕ)) → ((xs : List ℕ) → o ≡ Some xs → P xs) → IfSome o P
@@ -59,11 +58,9 @@ later : (before out next rest all : List ℕ) (new : Option (List ℕ)) → Went
     → WentPrefix before new all
 later before out next rest all None h e = tt
 later before out next rest all (Some ys) h e =
-    let more : List ℕ = drop (length h.0) next in
-    let parts : next ++ rest ≡ h.0 ++ (more ++ rest) =
-    ap (λ zs. zs ++ rest) (behind next h.0 h.2) ∙ append_assoc h.0 more rest in
-    let whole : all ≡ (out ++ h.0) ++ (more ++ rest) = search (rules, append_assoc) in
-    (out ++ h.0, h.1 ∙ append_assoc before out h.0, prefix (out ++ h.0) (more ++ rest) all whole)
+    let parts = ap (λ zs. zs ++ rest) (behind next h.0 h.2) in
+    let whole : all ≡ (out ++ h.0) ++ (drop (length h.0) next ++ rest) = search (rules, append_assoc) in
+    (out ++ h.0, h.1 ∙ append_assoc before out h.0, prefix (out ++ h.0) (drop (length h.0) next ++ rest) all whole)
 
 -- of the next bytes a prefix was pushed
 pub pushed_cut : (all next rest : List ℕ) (old mid new : Option (List ℕ)) → AllBut all old mid (next ++ rest) → WasCut mid new next
@@ -71,9 +68,7 @@ pub pushed_cut : (all next rest : List ℕ) (old mid new : Option (List ℕ)) �
 pushed_cut all next rest old mid new p h = search (rules, if_some, later)
 
 pub unmoved : (old new : Option (List ℕ)) (bytes : List ℕ) → IsSameIfTold old new → WasCut old new bytes
-unmoved None new bytes h = tt
-unmoved (Some xs) None bytes h = tt
-unmoved (Some xs) (Some ys) bytes h = ([], h ∙ sym (append-nil xs), refl)
+unmoved old new bytes h = search (rules, h, append-nil)
 
 -- a push or a flush failed
 pub pushed_prefix : (all : List ℕ) (old mid new : Option (List ℕ)) (rest : List ℕ) → AllBut all old mid rest → IsSameIfTold mid new
@@ -88,10 +83,12 @@ unmoved_same now = grind arith
 pub cut_told : (before bytes : List ℕ) (now : Option (List ℕ)) → WentPrefix before now bytes
     → IfSome now (λ written. StartsWith written before × StartsWith (before ++ bytes) written)
 cut_told before bytes None h = tt
-cut_told before bytes (Some written) h = (
-  rw h.1 (take-append_seam before h.0),
-  rw (h.1, behind bytes h.0 h.2, ← append_assoc before h.0 (drop (length h.0) bytes)) (take-append_seam (before ++ h.0) (drop (length h.0) bytes)),
-)
+cut_told before bytes (Some written) h = let is = behind bytes h.0 h.2 in search (rules, take-append_seam, append_assoc)
+
+pub cut_replies : {T E : Type 0} (r : Result T E) (P : E → Type 0) (A : List ℕ → T → Type 0) (old now : Option (List ℕ)) (bytes : List ℕ)
+    → IsErrAnd r P → WasCut old now bytes
+    → IfSome old (λ before. MatchResult r (A before) (λ _. IfSome now (λ written. StartsWith written before × StartsWith (before ++ bytes) written)))
+cut_replies r P A old now bytes is cut = search (rules, if_some, at_failure, cut_told)
 
 -- a prefix of what stands behind the same bytes
 starts_behind : (before bytes out : List ℕ) → StartsWith (before ++ bytes) (before ++ out) → StartsWith bytes out
@@ -122,11 +119,3 @@ module _ {T E K : Type 0} (written : K → Option (List ℕ)) (failed : K → �
     pushed_cut all last [] _ _ _ (rw append-nil p) h.0,
     h.1 ∙ ap (λ n. n + 1) count,
   )
-
--- a push that is told by what was written alone
-pub pushed_told : {T E K : Type 0} (written : K → Option (List ℕ)) (failed : K → ℕ) (old new : K) (r : Result T E) (bytes : List ℕ)
-    → Pushed written failed old new r bytes
-    → IfSome (written old) (λ before. MatchResult r (λ _. written new ≡ Some (before ++ bytes))
-    (λ _. IfSome (written new) (λ known. StartsWith known before × StartsWith (before ++ bytes) known)))
-pushed_told written failed old new (Ok x) bytes h = h.0
-pushed_told written failed old new (Err e) bytes h = search (rules, if_some, cut_told)

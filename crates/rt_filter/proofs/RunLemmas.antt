@@ -1,5 +1,5 @@
 -- A run over a table that was loaded, and over one that was refused.
-use Rattle.std.proofs.Common.{◌≡◌, ◌≢◌, ◌∙◌, ◌+◌, ◌<◌, ℕ, Bool, true, arith, List, [], ◌++◌, length, Option, None, Some, refl}
+use Rattle.std.proofs.Common.{◌≡◌, ◌≢◌, ◌∙◌, ◌+◌, ◌<◌, ℕ, Bool, true, arith, List, [], ◌++◌, length, Option, None, Some}
 use Rattle.std.proofs.{Common.{sym, ap, subst, append-nil}, lemmas.List.{length-append}}
 use Rattle.std.specs.Prelude.{Ok, Result, if◌then◌else◌}
 use Rattle.rt_command.specs.Choices.{Choices}
@@ -46,17 +46,7 @@ module _ (choices : Choices) (table : List ℕ) (coming written : Option (List �
 
   row : (cause : RunFault) (status : ℕ) → Stops choices table cause → is_of_load (Some cause) ≡ true → cause ≢ run.Table load.Memory
       → status ≡ status_of cause → EndsWith (loaded_of choices table) unread (record { status = status; fault = Some cause }) (Some cause)
-  row (run.Table load.Read) status h of_load own is = (refl, refl)
-  row (run.Table load.Memory) status h of_load own is = absurd (own refl)
-  row (run.Table (load.TooMany n)) status h of_load own is = rw (h, is) (refl, refl)
-  row (run.Table (load.FieldCount n k)) status h of_load own is = rw (h, is) (refl, refl)
-  row (run.Table (load.NotNumber n k)) status h of_load own is = rw (h, is) (refl, refl)
-  row (run.Table (load.OutOfRange n k)) status h of_load own is = rw (h, is) (refl, refl)
-  row (run.Table (load.MinAboveMax n k)) status h of_load own is = rw (h, is) (refl, refl)
-  row (run.Table (load.Repeated n)) status h of_load own is = rw (h, is) (refl, refl)
-  row run.Read status h of_load own is = absurd (grind (arith, of_load))
-  row run.Write status h of_load own is = absurd (grind (arith, of_load))
-  row run.Memory status h of_load own is = (refl, refl)
+  row cause status h of_load own is = grind (arith, h, of_load, own, is)
 
   pub ends_early : (outcome : Outcome) (cause : RunFault) → Stops choices table cause → is_of_load (Some cause) ≡ true
       → cause ≢ run.Table load.Memory → outcome.fault ≡ Some cause → outcome.status ≡ status_of cause
@@ -81,9 +71,7 @@ module _ (choices : Choices) (table : List ℕ) (coming coming' written written'
   served_row : (loaded : Loaded) (what : Happened) (bad : Bool) (cause : Option ServeFault) (status : ℕ)
       → loaded_of choices table ≡ Ok loaded → ServesWith loaded what bad cause → (cause ≡ None → status ≡ (if bad then 1 else 0))
       → EndsWith (loaded_of choices table) what (record { status = status; fault = run_fault_of cause }) (run_fault_of cause)
-  served_row loaded what bad None status same w is = (w.0, rw (same, is refl, w.1.faults, w.1.replies) refl)
-  served_row loaded what bad (Some serve.Read) status same w is = rw same (bad, w)
-  served_row loaded what bad (Some serve.Write) status same w is = rw same (bad, w)
+  served_row loaded what bad cause status same w is = grind (arith, same, w, is)
 
   pub ends_served : (tree : Packed) (served : Served) → HasLoaded choices table tree
       → ((loaded : Loaded) → tree ≡ tree_of loaded → Serves loaded coming coming' written written' served)
@@ -96,18 +84,7 @@ module _ (choices : Choices) (table : List ℕ) (coming coming' written written'
 row_whole : (loaded : Result Loaded TableFault) (what : Happened) (outcome : Outcome) (fault : Option RunFault)
     → EndsWith loaded what outcome fault → fault ≢ Some run.Memory → fault ≢ Some (run.Table load.Read) → fault ≢ Some run.Read
     → fault ≢ Some run.Write → run_over loaded (what.consumed ++ what.rest) ≡ (what.out, outcome)
-row_whole l w o None h m t p q = rw (h.0, append-nil) h.1
-row_whole l w o (Some (run.Table load.Read)) h m t p q = absurd (t refl)
-row_whole l w o (Some (run.Table load.Memory)) h m t p q = rw h.0 h.1
-row_whole l w o (Some (run.Table (load.TooMany n))) h m t p q = rw h.0 h.1
-row_whole l w o (Some (run.Table (load.FieldCount n k))) h m t p q = rw h.0 h.1
-row_whole l w o (Some (run.Table (load.NotNumber n k))) h m t p q = rw h.0 h.1
-row_whole l w o (Some (run.Table (load.OutOfRange n k))) h m t p q = rw h.0 h.1
-row_whole l w o (Some (run.Table (load.MinAboveMax n k))) h m t p q = rw h.0 h.1
-row_whole l w o (Some (run.Table (load.Repeated n))) h m t p q = rw h.0 h.1
-row_whole l w o (Some run.Read) h m t p q = absurd (p refl)
-row_whole l w o (Some run.Write) h m t p q = absurd (q refl)
-row_whole l w o (Some run.Memory) h m t p q = absurd (m refl)
+row_whole loaded what outcome fault h memory unread pulls pushes = grind (arith, h, memory, unread, pulls, pushes, append-nil)
 
 told_whole : (failed : Type 0) (now : Option (List ℕ)) (bytes : List ℕ) → StillTells failed now bytes → ¬ failed → now ≡ Some bytes
 told_whole failed now bytes h other = grind (arith, h, other)

@@ -1,7 +1,7 @@
 -- One turn after the other, and how serving ends.
-use Rattle.std.proofs.Common.{◌≡◌, ◌∙◌, ◌+◌, ◌<◌, ◌≤◌, ℕ, true, false, List, [], ◌++◌, length, take, drop, Option, Some, None}
-use Rattle.std.proofs.{Common.{refl, sym, ap, subst, arith, append_assoc, append-nil}, Math.Seq.{take-append_seam}}
-use Rattle.std.proofs.lemmas.List.{length-append, length-take-le}
+use Rattle.std.proofs.Common.{◌≡◌, ◌∙◌, ◌+◌, ◌<◌, ◌≤◌, ℕ, true, false, List, [], ◌++◌, length, take, Option, Some}
+use Rattle.std.proofs.Common.{None, refl, sym, ap, subst, arith, append_assoc, append-nil, rules}
+use Rattle.std.proofs.{Math.Seq.{take-append_seam}, lemmas.List.{length-append, length-take-le}}
 use Rattle.std.specs.{Io.{StartsWith, KnownBytes.{Consumes, IsAtEnd}}, Prelude.{unwrap_or}}
 use Rattle.rt_device.specs.Devices.{IsSameIfTold, PulledTimes}
 use Rattle.rt_text.specs.Words.{is_empty}
@@ -9,16 +9,14 @@ use Rattle.rt_filter.specs.{Endings.{ConsumedAtLeast, Happened, Serves, SinkTell
 use Rattle.rt_filter.specs.{Lines.{longest_line, numbered_lines}, Pushes.{WasCut, WasPushed}, Replies.{Loaded}}
 use Rattle.rt_filter.specs.{Replies.{any_fault, output}, Sessions.{Heard, heard_of}, Stages.{IsServing}}
 use Rattle.rt_filter.specs.declared.serving.Served.{Served}
-use Rattle.rt_filter.proofs.{LineLemmas.{completed-all}, PushLemmas.{behind, nothing_pushed}, SessionLemmas.{any_fault-append}}
-use Rattle.rt_filter.proofs.SessionLemmas.{ended-lines, or_first, output-append, pushed_then}
+use Rattle.rt_filter.proofs.{LineLemmas.{completed-all}, PushLemmas.{behind, nothing_pushed}}
+use Rattle.rt_filter.proofs.SessionLemmas.{any_fault-append, ended-lines, or_first, output-append, pushed_then}
 use Rattle.rt_filter.specs.declared.serving.ServeFault.TheVariants as serve
-use Rattle.std.proofs.Common.{rules}
 
 -- ---- what a source and a sink tell
 
 pub consumes_none : (old : Option (List ℕ)) → Consumes old old []
-consumes_none None = tt
-consumes_none (Some all) = refl
+consumes_none old = grind arith
 
 consumes_more : (old mid new : Option (List ℕ)) (xs ys : List ℕ) → Consumes old mid xs → Consumes mid new ys → Consumes old new (xs ++ ys)
 consumes_more old mid new xs ys h k = grind (arith, append_assoc xs ys)
@@ -32,8 +30,7 @@ pub consumed_more : (count n : ℕ) (room : List ℕ) (old mid new : Option (Lis
 consumed_more count n room old mid new h some bound k = search (rules, consumes_more, length-append, length-take-le)
 
 pub pulled_none : (old : Option ℕ) → PulledTimes 0 old old
-pulled_none None = tt
-pulled_none (Some n) = (n, refl, omega arith)
+pulled_none old = grind arith
 
 pub pulled_more : (times : ℕ) (old mid new : Option ℕ) → PulledTimes times old mid → PulledTimes 1 mid new → PulledTimes (times + 1) old new
 pulled_more times old mid new h k = grind (arith, h, k)
@@ -48,8 +45,7 @@ abbrev pub rest_of : Option (List ℕ) → List ℕ
 rest_of coming = unwrap_or coming []
 
 ended : (now : Option (List ℕ)) → IsAtEnd now → rest_of now ≡ []
-ended None at = refl
-ended (Some rest) at = at
+ended now at = grind (arith, at)
 
 abbrev pub so_far : (consumed : List ℕ) (coming : Option (List ℕ)) (out : List ℕ) → Happened
 so_far consumed coming out = record { consumed = consumed; rest = rest_of coming; out = out }
@@ -72,18 +68,12 @@ record WentOut (failed : Type 0) (old now : Option (List ℕ)) (consumed rest xs
 
 went_out : (failed : Type 0) → failed → (old mid now : Option (List ℕ)) (consumed rest xs ys : List ℕ) → WasPushed old mid xs → WasCut mid now ys
     → WentOut failed old now consumed rest xs ys
-went_out failed f None mid now consumed rest xs ys h k = record { out = []; prefix = refl; tells = tt }
-went_out failed f (Some before) mid None consumed rest xs ys h k = record { out = []; prefix = refl; tells = (tt, λ other. absurd (other f)) }
-went_out failed f (Some before) mid (Some written) consumed rest xs ys h k = search (rules, append_assoc)
+went_out failed f old mid now consumed rest xs ys h k = search (rules, append_assoc, f, h, k)
 
 -- ---- prefixes
 
 starts-between : (before xs front back : List ℕ) → StartsWith xs front → StartsWith (before ++ (xs ++ back)) (before ++ front)
-starts-between before xs front back h =
-    let whole : before ++ (xs ++ back) ≡ (before ++ front) ++ (drop (length front) xs ++ back) =
-    ap (λ zs. before ++ (zs ++ back)) (behind xs front h) ∙ ap (λ zs. before ++ zs) (append_assoc front (drop (length front) xs) back)
-    ∙ sym (append_assoc before front (drop (length front) xs ++ back)) in
-    rw whole (take-append_seam (before ++ front) (drop (length front) xs ++ back))
+starts-between before xs front back h = let is = behind xs front h in grind (arith, is, append_assoc, take-append_seam)
 
 -- ---- serving
 

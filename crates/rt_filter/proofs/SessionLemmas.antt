@@ -1,5 +1,5 @@
 -- What a session has heard, and what it has answered.
-use Rattle.std.proofs.Common.{◌≡◌, ◌∙◌, ◌+◌, ℕ, Bool, true, false, ◌||◌, List, [], ◌∷◌, ◌++◌, length, take, drop, Option, Some}
+use Rattle.std.proofs.Common.{◌≡◌, ◌∙◌, ◌+◌, ℕ, Bool, true, false, ◌||◌, List, [], ◌∷◌, ◌++◌, ◌≤◌, length, take, drop, set, Option, Some}
 use Rattle.std.proofs.{Common.{refl, sym, ap, arith, append_assoc, append-nil}, Math.Bool.{or-false}}
 use Rattle.std.proofs.lemmas.{Bool.{Decides.{nat_tests}}, Grind.{flat_map-append}, List.{length-append, Folds.{list_any-append}}}
 use Rattle.std.specs.{Io.KnownBytes.{Keeps}, Prelude.{MatchResult, Result}}
@@ -11,7 +11,7 @@ use Rattle.rt_filter.specs.{Sessions.{kept_of}, Stages.{HasNoLineFeed, IsAnswere
 use Rattle.rt_filter.specs.Stages.{lines_from, parsed_with}
 use Rattle.rt_filter.proofs.LineLemmas.{IsCutAt, begun-found, begun-none, completed-all, completed-append, completed-ended}
 use Rattle.rt_filter.proofs.{LineLemmas.{completed-ended_none, completed-found, completed-none, found}, PushLemmas.{pushed_cut}}
-use Rattle.rt_filter.proofs.PushLemmas.{pushed_next, pushed_none, pushed_prefix, pushed_whole}
+use Rattle.rt_filter.proofs.PushLemmas.{pushed_next, pushed_none, pushed_prefix}
 use Rattle.std.proofs.Common.{rules}
 
 -- ---- how a line begins
@@ -23,9 +23,6 @@ kept_more begun more = grind (arith, nat_tests, length-append begun more)
 kept_parsed : (begun end : List ℕ) → parsed_with (kept_of begun) end ≡ judged_line (begun ++ end)
 kept_parsed begun end = grind (arith, nat_tests, length-append begun end)
 
-kept_some : (x : ℕ) (begun : List ℕ) → is_nothing (kept_of (x ∷ begun)) ≡ false
-kept_some x begun = grind (arith, nat_tests)
-
 -- ---- replies to some lines and then others
 
 pub output-append : (loaded : Loaded) (xs ys : List (ℕ × List ℕ)) → output loaded (xs ++ ys) ≡ output loaded xs ++ output loaded ys
@@ -35,9 +32,7 @@ pub any_fault-append : (xs ys : List (ℕ × List ℕ)) → any_fault (xs ++ ys)
 any_fault-append xs ys = list_any-append (λ (line : ℕ × List ℕ). is_fault (judged_line line.1)) xs ys
 
 pub pushed_then : (old mid new : Option (List ℕ)) (xs ys : List ℕ) → WasPushed old mid xs → WasPushed mid new ys → WasPushed old new (xs ++ ys)
-pushed_then old mid new xs ys h k =
-    pushed_whole (xs ++ ys) old new []
-    (pushed_next (xs ++ ys) ys [] old mid new (rw append-nil (pushed_next (xs ++ ys) xs ys old old mid (pushed_none (xs ++ ys) old) h)) k) refl
+pushed_then old mid new xs ys h k = grind (arith, append_assoc, h, k)
 
 pub cut_then : (old mid new : Option (List ℕ)) (xs ys zs : List ℕ) → WasPushed old mid xs → WasCut mid new ys → WasCut old new (xs ++ (ys ++ zs))
 cut_then old mid new xs ys zs h k =
@@ -143,8 +138,7 @@ pushed_lost old mid new bytes w k =
 
 -- nothing stands behind the last line feed
 none_kept : (begun : List ℕ) → is_nothing (kept_of begun) ≡ true → begun ≡ []
-none_kept [] k = refl
-none_kept (x ∷ begun) k = absurd (grind (arith, k, kept_some x begun))
+none_kept begun k = grind (arith, k, nat_tests)
 
 pub ended-none : (heard : Heard) → is_nothing heard.begun ≡ true → (fed : List ℕ) → heard ≡ heard_of fed → completed fed [] true ≡ []
 ended-none heard h fed e = completed-ended_none fed (none_kept (begun_line fed) (sym (ap (λ h. is_nothing h.begun) e) ∙ h))
@@ -166,6 +160,11 @@ ended-lines_none heard h fed e = ended-lines fed ∙ ap (λ ls. numbered_lines f
 
 pub ended-lines_some : (heard : Heard) → is_nothing heard.begun ≡ false → (fed : List ℕ) → heard ≡ heard_of fed → numbered_lines fed true ≡ numbered_lines (fed ++ line_feed ∷ []) false
 ended-lines_some heard h fed e = search (rules, ended-lines, ended-some, completed-all)
+
+-- the line feed that is put in the room's first place
+pub first_set : (room : List ℕ) → 1 ≤ length room → take 1 (set room 0 line_feed) ≡ line_feed ∷ []
+first_set [] h = absurd (omega (arith, h))
+first_set (x ∷ room) h = refl
 
 -- whether one of the lines is faulty, as far as it is known after a call
 pub ended-bad : {T E : Type 0} (r : Result T E) (heard : Heard) (fed : List ℕ)

@@ -1,19 +1,18 @@
 -- Entries in another order are answered the same: what a tree holds is what was packed.
-use Rattle.std.proofs.Common.{◌≡◌, ◌∙◌, ℕ, List, [], ◌∷◌, Option, refl, ap, sym}
+use Rattle.std.proofs.Common.{◌≡◌, ◌∙◌, ℕ, List, [], ◌∷◌, Option, refl, ap, sym, arith, rules}
 use Rattle.std.proofs.lemmas.List.{Concat.{flat_map-cons}, Sorted.{IsPermutation-sym, length_permutation}}
 use Rattle.std.specs.{List.{IsDistinct, Sorted.{IsPermutation}}, Ordering.{int_eq}}
 use Rattle.rt_geo.specs.{Laws.{Meaning}, declared.entry.Entry.{Entry}}
-use Rattle.rt_tree.specs.{Entries.{ids_of}, Levels.{level_sizes}, Packed.{IsSound, Packed}}
-use Rattle.rt_tree.specs.Sorting.{limited}
+use Rattle.rt_tree.specs.{Entries.{ids_of}, Levels.{level_sizes}, Packed.{IsSound, Packed}, Sorting.{limited}}
 use Rattle.rt_tree.proofs.{PackSound.{entries-IsPermutation}, Repacked.{pack_of-IsPermutation}}
 use Rattle.rt_text.specs.{ReplyLines.{ok_line}, declared.query.{BoxQuery.{BoxQuery}, Parsed.{Parsed}, Query.{Query}}}
-use Rattle.rt_text.specs.declared.query.{Query.TheVariants.{Boxes, Cost, Levels}, Report.{Report, TheVariants.{Answers, Count}}}
+use Rattle.rt_text.specs.declared.query.{Query.TheVariants.{Boxes, Cost, Levels}, Report.{Report}}
+use Rattle.rt_text.specs.declared.query.Report.TheVariants.{Answers, Count}
 use Rattle.rt_search.specs.Answers.{answers}
-use Rattle.rt_filter.specs.Replies.{Loaded, levels_reply, meaning_of, opened_for, output, query_reply}
-use Rattle.rt_filter.specs.{Replies.{reply, report_of, tree_of}, Stages.{loaded_tree}}
+use Rattle.rt_filter.specs.Replies.{Loaded, levels_reply, meaning_of, opened_for, output, query_reply, reply, report_of}
+use Rattle.rt_filter.specs.{Replies.{tree_of}, Stages.{loaded_tree}}
 use Rattle.rt_search.proofs.Answering.{accepted-IsPermutation, among-IsPermutation}
 use Rattle.rt_text.specs.declared.query.Parsed.TheVariants as parsed
-use Rattle.std.proofs.Common.{arith, rules}
 
 -- ---- answers
 
@@ -69,6 +68,7 @@ module _ (tree : Packed) (loaded : Loaded) (sound : IsSound tree) (packed : tree
       ∙ ap (λ fanout. output (record { entries = tree.entries; fanout = fanout }) lines) (sym fanout_same)
 
 -- a cost is told of the tree itself
-pub cost_same : (tree : Packed) (line : ℕ) (asked : BoxQuery) → tree ≡ tree_of (loaded_tree tree)
-    → query_reply (loaded_tree tree) line (Cost asked) ≡ ok_line line (opened_for tree (meaning_of asked) asked.report)
-cost_same tree line asked packed = ap (λ tree. ok_line line (opened_for tree (meaning_of asked) asked.report)) (sym packed)
+pub cost_line : (tree : Packed) (line : ℕ) (asked : BoxQuery) (report : Report) (opened : ℕ) → tree ≡ tree_of (loaded_tree tree)
+    → asked.report ≡ report → opened ≡ opened_for tree (meaning_of asked) report
+    → query_reply (loaded_tree tree) line (Cost asked) ≡ ok_line line opened
+cost_line tree line asked report opened packed is h = search (rules, packed, is, h)

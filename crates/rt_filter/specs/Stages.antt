@@ -83,11 +83,6 @@ parsed_with (Some begun) end = judged_line (begun ++ end)
 
 -- ---- sessions
 
--- how far the queries are answered, and whether anything was pushed since the last flush
-pub record Answering : Type 0 where
-  pub heard : Heard
-  pub is_pushed : Bool
-
 -- of these bytes some are answered, and the rest are to come: whatever was fed before
 pub record IsAnswered (loaded : Loaded) (old now : Heard) (old_out out : Option (List ℕ)) (bytes rest : List ℕ)
     : Type 0 where

@@ -40,7 +40,7 @@ impl Model for Session {
 
     ghost Value = { Hearing };
 
-    ghost view = { λ s. record { heard = s.progress.heard; room = s.room } };
+    ghost view = { λ s. record { heard = s.progress; room = s.room } };
 }
 
 // How far the queries are answered.
@@ -52,19 +52,14 @@ struct Progress {
     bad: bool,
     // How the next one begins.
     begun: LineStart,
-    // Whether anything was pushed since the last flush.
-    is_pushed: bool,
 }
 
 impl Model for Progress {
-    ghost use Rattle.rt_filter.specs.Stages.{Answering};
+    ghost use Rattle.rt_filter.specs.Sessions.{Heard};
 
-    ghost Value = { Answering };
+    ghost Value = { Heard };
 
-    ghost view = { λ s. record {
-      heard = record { lines = s.lines; bad = s.bad; begun = s.begun };
-      is_pushed = s.is_pushed;
-    } };
+    ghost view = { λ s. record { lines = s.lines; bad = s.bad; begun = s.begun } };
 }
 
 impl Session {
@@ -80,7 +75,6 @@ impl Session {
                 lines: 0,
                 bad: false,
                 begun: LineStart::new(),
-                is_pushed: false,
             },
         }
     }
@@ -137,7 +131,19 @@ impl Session {
     {
         // (called, so that it is known that the tree is the packed one of its own entries)
         let _most = tree.len();
-        self.progress.answer(tree, frontier, &self.room[..n], sink)
+        let mut frontier = frontier;
+        let mut is_pushed = false;
+        let progress = &mut self.progress;
+        let mut rest = &self.room[..n];
+        while let Some(end) = memchr(LINE_FEED, rest) {
+            frontier = progress.answer_line(tree, frontier, &rest[..end], &mut is_pushed, sink)?;
+            rest = &rest[end + 1..];
+        }
+        progress.begun.push(rest);
+        if is_pushed {
+            sink.flush()?;
+        }
+        Ok(frontier)
     }
 
     /// Answers what stands behind the last line feed, if anything does, as a line, and flushes: no more bytes come.
@@ -164,71 +170,37 @@ impl Session {
         ensures flushed { OnOk result (K.waits sink.old ≡ false → K.waits sink.new ≡ false) }
         ensures capacity { IfOk result (λ left. left.capacity ≡ frontier.capacity) }
     {
-        // (called, so that it is known that the tree is the packed one of its own entries)
-        let _most = tree.len();
         if self.progress.begun.is_empty() {
             return Ok(frontier);
         }
         // (it is answered as if a line feed ended it)
-        self.progress.answer(tree, frontier, &[LINE_FEED], sink)
+        self.room[0] = LINE_FEED;
+        self.answer(tree, frontier, 1, sink)
     }
 }
 
 impl Progress {
-    // Answers the lines that these bytes complete, keeps how the next one begins, and flushes.
-    fn answer<K: Sink>(
-        &mut self,
-        tree: &Tree,
-        frontier: Frontier,
-        bytes: &[u8],
-        sink: &mut K,
-    ) -> Result<Frontier, WriteFault>
-        requires room { length tree.now.entries ≤ frontier.capacity }
-        requires count { K.failed sink.old < 2 ^ 64 - 1 }
-        requires few { self.old.heard.lines + length bytes.now < 2 ^ 128 }
-        ensures replies { (fed : List ℕ) → self.old.heard ≡ heard_of fed
-            → Pushed K.written K.failed sink.old sink.new result
-            (output (loaded_tree tree.now) (completed fed bytes.now false)) }
-        ensures heard { (fed : List ℕ) → self.old.heard ≡ heard_of fed → MatchResult result
-            (λ _. self.new.heard ≡ heard_of (fed ++ bytes.now))
-            (λ _. self.new.heard.bad ≡ true
-            → any_fault (numbered_lines (fed ++ bytes.now) false) ≡ true) }
-        ensures failures { CountsFailure result (K.failed sink.old) (K.failed sink.new) }
-        ensures few { self.new.heard.lines ≤ self.old.heard.lines + length bytes.now }
-        ensures flushed { OnOk result (K.waits sink.old ≡ false → K.waits sink.new ≡ false) }
-        ensures capacity { IfOk result (λ left. left.capacity ≡ frontier.capacity) }
-    {
-        let mut frontier = frontier;
-        let mut rest = bytes;
-        while let Some(end) = memchr(LINE_FEED, rest) {
-            frontier = self.answer_line(tree, frontier, &rest[..end], sink)?;
-            rest = &rest[end + 1..];
-        }
-        self.begun.push(rest);
-        self.flush(sink)?;
-        Ok(frontier)
-    }
-
     // Answers the line that these bytes end. Where nothing is pushed, the sink is left alone.
     fn answer_line<K: Sink>(
         &mut self,
         tree: &Tree,
         frontier: Frontier,
         end: &[u8],
+        is_pushed: &mut bool,
         sink: &mut K,
     ) -> Result<Frontier, WriteFault>
         requires room { length tree.now.entries ≤ frontier.capacity }
         requires count { K.failed sink.old < 2 ^ 64 - 1 }
-        requires few { self.old.heard.lines + 1 < 2 ^ 128 }
+        requires few { self.old.lines + 1 < 2 ^ 128 }
         ensures pushed { Pushed K.written K.failed sink.old sink.new result
-            (reply (loaded_tree tree.now) (self.old.heard.lines + 1) (parsed_with self.old.heard.begun end.now)) }
-        ensures heard { self.new.heard ≡ record {
-          lines = self.old.heard.lines + 1;
-          bad = self.old.heard.bad || is_fault (parsed_with self.old.heard.begun end.now);
+            (reply (loaded_tree tree.now) (self.old.lines + 1) (parsed_with self.old.begun end.now)) }
+        ensures heard { self.new ≡ record {
+          lines = self.old.lines + 1;
+          bad = self.old.bad || is_fault (parsed_with self.old.begun end.now);
           begun = Some [];
         } }
         ensures capacity { IfOk result (λ left. left.capacity ≡ frontier.capacity) }
-        ensures untouched { self.new.is_pushed ≡ false → (self.old.is_pushed ≡ false) × (sink.new ≡ sink.old) }
+        ensures untouched { is_pushed.new ≡ false → (is_pushed.old ≡ false) × (sink.new ≡ sink.old) }
     {
         let mut vertices = Vertices::new();
         let parsed = self.begun.parse(end, &mut vertices);
@@ -236,32 +208,15 @@ impl Progress {
         match parsed {
             Parsed::Skip => Ok(frontier),
             Parsed::Query(query) => {
-                self.is_pushed = true;
+                *is_pushed = true;
                 push_reply(tree, frontier, self.lines, query, sink)
             }
             Parsed::Fault(fault) => {
-                self.is_pushed = true;
+                *is_pushed = true;
                 self.bad = true;
                 push_line(&error_line(self.lines, fault), sink)?;
                 Ok(frontier)
             }
         }
-    }
-
-    // Hands on what was pushed, if anything was.
-    fn flush<K: Sink>(&mut self, sink: &mut K) -> Result<(), WriteFault>
-        requires { K.failed sink.old < 2 ^ 64 - 1 }
-        ensures bytes { OnOk result (Keeps (K.written sink.old) (K.written sink.new)) }
-        ensures flushed { OnOk result ((self.old.is_pushed ≡ false → K.waits sink.old ≡ false)
-            → K.waits sink.new ≡ false) }
-        ensures lost { OnErr result (IsSameIfTold (K.written sink.old) (K.written sink.new)) }
-        ensures failures { CountsFailure result (K.failed sink.old) (K.failed sink.new) }
-        ensures heard { self.new.heard ≡ self.old.heard }
-    {
-        if self.is_pushed {
-            sink.flush()?;
-            self.is_pushed = false;
-        }
-        Ok(())
     }
 }

@@ -1,7 +1,6 @@
-use Rattle.std.proofs.Common.{◌∙◌, Some, ap, take}
+use Rattle.std.proofs.Common.{◌∙◌, Some, ap, take, rules}
 use Rattle.rt_filter.proofs.FindLemmas.{few_answers}
 use Rattle.rt_filter.proofs.query.find.Goals as goal
-use Rattle.std.proofs.Common.{rules}
 
 pub push_search-requires-clause-few : goal.push_search-requires-clause-few
 push_search-requires-clause-few g c = search (rules, few_answers)

@@ -1,10 +1,9 @@
-use Rattle.std.proofs.Common.{◌∙◌, ◌≤◌, ap, length, arith}
+use Rattle.std.proofs.Common.{◌∙◌, ◌≤◌, ap, length, arith, rules}
 use Rattle.rt_tree.specs.Levels.{level_sizes}
 use Rattle.rt_text.specs.ReplyLines.{ok_line}
 use Rattle.rt_filter.specs.Replies.{levels_reply}
 use Rattle.rt_filter.proofs.{LevelLemmas.{level_cut, level_pushed, levels_end}, PushLemmas.{as_failed, pushed_last}}
 use Rattle.rt_filter.proofs.query.push_levels.Goals as goal
-use Rattle.std.proofs.Common.{rules}
 
 pub returns-in_err-push_line : goal.returns-in_err-push_line
 returns-in_err-push_line g c = search (rules, as_failed, level_cut)

@@ -1,8 +1,7 @@
-use Rattle.std.proofs.Common.{◌∙◌, sym}
+use Rattle.std.proofs.Common.{◌∙◌, sym, rules}
 use Rattle.rt_geo.specs.Regions.{region_accepts}
 use Rattle.rt_filter.proofs.LayerLemmas.{all_from, report_on-all, report_on-asked}
 use Rattle.rt_filter.proofs.query.push_reply.Goals as goal
-use Rattle.std.proofs.Common.{rules}
 
 pub returns-then-bits-clause-pushed : goal.returns-then-bits-clause-pushed
 returns-then-bits-clause-pushed g c =

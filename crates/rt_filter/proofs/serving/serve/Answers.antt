@@ -84,8 +84,7 @@ loop-turn-preserved g c =
 
 pub returns-clause-ending : goal.returns-clause-ending
 returns-clause-ending g c loaded packed =
-    serves_read loaded _ _ _ _ _ (c.loop-turn.invariant.serving loaded packed) (g.S.Source.coming c.loop-turn.source) c.ended-2.result
-    (unmoved_same (g.S.Source.coming c.loop-turn.source)) c.ended-2.ensures.bad c.ended-2.ensures.fault
+    let s = c.loop-turn.invariant.serving loaded packed in search (rules, serves_read, unmoved_same)
 
 pub returns-clause-turns : goal.returns-clause-turns
 returns-clause-turns g c e same = search rules
