@@ -68,7 +68,6 @@ module _ (tree : Packed) (loaded : Loaded) (sound : IsSound tree) (packed : tree
       ∙ ap (λ fanout. output (record { entries = tree.entries; fanout = fanout }) lines) (sym fanout_same)
 
 -- a cost is told of the tree itself
-pub cost_line : (tree : Packed) (line : ℕ) (asked : BoxQuery) (report : Report) (opened : ℕ) → tree ≡ tree_of (loaded_tree tree)
-    → asked.report ≡ report → opened ≡ opened_for tree (meaning_of asked) report
-    → query_reply (loaded_tree tree) line (Cost asked) ≡ ok_line line opened
-cost_line tree line asked report opened packed is h = search (rules, packed, is, h)
+pub cost_line : (tree : Packed) (line : ℕ) (asked : BoxQuery) (opened : ℕ) → tree ≡ tree_of (loaded_tree tree)
+    → opened ≡ opened_for tree (meaning_of asked) asked.report → query_reply (loaded_tree tree) line (Cost asked) ≡ ok_line line opened
+cost_line tree line asked opened packed h = search (rules, packed, h)

@@ -4,6 +4,7 @@ use Rattle.std.specs.Borrow.{Lends, MutBor, Fml, Array, u8}
 use Rattle.rt_filter.specs.Sessions.{Hearing}
 use Rattle.rt_filter.specs.contracts.session.Session.{the_row}
 
--- the session has heard as much as before, and its room is what it was left as
+-- the session has heard as much as before, and its room, of 4,097 bytes, is what it was left as; `the_row` is the
+-- session's type
 abbrev pub LendsRoom : (session : MutBor Hearing) → (room : MutBor (List ℕ)) → Fml
 LendsRoom session room = Lends the_row (Array u8 4097) session room (λ left. record session.now { room = left })

@@ -32,6 +32,6 @@ last_part (part ∷ next ∷ more) = last_part (next ∷ more)
 abbrev pub begun_line : List ℕ → List ℕ
 begun_line bytes = last_part (slice_split is_line_feed bytes)
 
--- the lines that more bytes complete, or the end where they have ended
+-- the lines that are complete with more bytes and weren't before, the last one too where they have ended
 abbrev pub completed : (bytes more : List ℕ) → (ended : Bool) → List (ℕ × List ℕ)
 completed bytes more ended = drop (length (numbered_lines bytes false)) (numbered_lines (bytes ++ more) ended)

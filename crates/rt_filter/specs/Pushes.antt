@@ -21,10 +21,6 @@ WasPushed old new bytes = IfSome old (λ before. new ≡ Some (before ++ bytes))
 abbrev pub WasCut : (old new : Option (List ℕ)) → List ℕ → Type 0
 WasCut old new bytes = IfSome old (λ before. WentPrefix before new bytes)
 
--- a success leaves the number of failures, and a failure is one more
-abbrev pub CountsFailure : {T E : Type 0} → Result T E → (old new : ℕ) → Type 0
-CountsFailure result old new = MatchResult result (λ _. new ≡ old) (λ _. new ≡ old + 1)
-
 -- what a call that pushes these bytes does to a sink, of which `written` and `failed` are the bytes written and the
 -- number of failures: a success pushes all of them, and none of its pushes fails; a failure pushes a prefix, and is one
 abbrev pub Pushed : {T E K : Type 0} → (written : K → Option (List ℕ)) → (failed : K → ℕ) → (old new : K)

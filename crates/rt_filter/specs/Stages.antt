@@ -1,4 +1,4 @@
--- What the private stages of a run promise one another. No public contract cites it.
+-- What the private stages of a run promise one another, and what their loops keep. No public contract cites it.
 use Rattle.std.specs.Prelude.{◌≡◌, ◌+◌, ℕ, List, ◌++◌, Bool, true, false, Option, Some, None, Ok, ⊤}
 use Rattle.std.specs.List.{AllByRecursion, enumerate_from, slice_split}
 use Rattle.std.specs.Io.KnownBytes.{Consumes}

@@ -1,6 +1,6 @@
 //! How a line begins that isn't complete.
 
-ghost use Rattle.std.specs.Prelude.{◌≡◌, [], Some, if◌then◌else◌};
+ghost use Rattle.std.specs.Prelude.{◌≡◌, [], Some};
 ghost use Rattle.rt_filter.specs.Stages.{is_nothing, kept_with, parsed_with};
 
 use rt_text::{Parsed, QueryFault, Vertices, parse};
@@ -9,7 +9,7 @@ use std::marker::Model;
 /// The most bytes of a query line, a carriage return included and the line feed not.
 pub(crate) const LONGEST_LINE: usize = 4096;
 
-/// The bytes of a line that isn't complete, as far as they are no more than a line has.
+/// The bytes of a line that isn't complete; none once they are more than a line may have.
 #[derive(Drop)]
 pub(crate) struct LineStart {
     bytes: [u8; LONGEST_LINE],
@@ -60,17 +60,17 @@ impl LineStart {
         self.kept = Some(filled);
     }
 
-    /// Parses the line that these bytes end; nothing is begun then. One that is here whole is parsed where it stands.
-    pub(crate) fn parse<'a>(&mut self, end: &[u8], vertices: &'a mut Vertices) -> Parsed<'a>
-        ensures parsed { result ≡ parsed_with self.old end.now }
+    /// Parses the line that these bytes end; afterwards nothing is begun. One that is here whole is parsed where it stands.
+    pub(crate) fn parse<'a>(&mut self, tail: &[u8], vertices: &'a mut Vertices) -> Parsed<'a>
+        ensures parsed { result ≡ parsed_with self.old tail.now }
         ensures begun { self.new ≡ Some [] }
     {
         let is_whole = self.is_empty();
         if !is_whole {
-            self.push(end);
+            self.push(tail);
         }
         let kept = &self.bytes[..self.kept.unwrap_or(0)];
-        let line = line_of(is_whole, end, kept);
+        let line = if is_whole { tail } else { kept };
         // (one call, so that the compiler puts its body here)
         let parsed = if self.kept.is_some() && line.len() <= LONGEST_LINE {
             parse(line, vertices)
@@ -80,12 +80,4 @@ impl LineStart {
         self.kept = Some(0);
         parsed
     }
-}
-
-// A line that is here whole, or else what was kept of it.
-#[inline(always)]
-fn line_of<'a>(is_whole: bool, whole: &'a [u8], kept: &'a [u8]) -> &'a [u8]
-    ensures { result.now ≡ (if is_whole then whole.now else kept.now) }
-{
-    if is_whole { whole } else { kept }
 }

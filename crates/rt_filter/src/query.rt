@@ -106,7 +106,7 @@ fn push_in_region<K: Sink>(
     }
 }
 
-// The same for one shape.
+// Pushes the report on the boxes that one shape accepts; the order is matched here.
 #[inline(never)]
 fn push_in_shape<S: Shape + Drop, K: Sink>(
     tree: &Tree,
@@ -203,18 +203,15 @@ fn push_cost<K: Sink>(
     let (shape, layers, rank) = (asked.region, asked.layers, asked.order);
     let shape = OnLayers { shape, layers };
     let geometry = Guided { shape, rank };
-    let mut counted = Counted::new(&geometry);
-    match asked.report {
-        Report::Answers { limit } => {
-            let (opened, frontier) = cost(tree, frontier, counted, limit);
-            push_line(&ok_line(line, opened), sink)?;
-            Ok(frontier)
-        }
+    let counted = Counted::new(&geometry);
+    let (opened, frontier) = match asked.report {
+        Report::Answers { limit } => cost(tree, frontier, counted, limit),
         Report::Count => {
-            let mut frontier = frontier;
-            let found = count(tree, &mut frontier, &mut counted);
-            push_line(&ok_line(line, found.opened), sink)?;
-            Ok(frontier)
+            let (mut frontier, mut counted) = (frontier, counted);
+            let opened = count(tree, &mut frontier, &mut counted).opened;
+            (opened, frontier)
         }
-    }
+    };
+    push_line(&ok_line(line, opened), sink)?;
+    Ok(frontier)
 }

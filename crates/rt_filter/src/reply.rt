@@ -2,7 +2,7 @@
 
 ghost use Rattle.std.specs.Prelude.{◌≡◌, ◌-◌, ◌<◌, ◌^◌, ℕ, List, [], ◌∷◌, IfOk, MatchOption, length};
 ghost use Rattle.rt_search.specs.Answers.{Answer};
-ghost use Rattle.rt_filter.specs.{Pushes.{Pushed, answer_lines}, Replies.{find_reply}};
+ghost use Rattle.rt_filter.specs.{Pushes.{Pushed}, Replies.{find_reply}};
 
 use rt_device::{Sink, WriteFault};
 use rt_geo::Geometry;
@@ -10,11 +10,11 @@ use rt_search::{FirstAnswers, Frontier, FullSearch, Search};
 use rt_text::{Line, set_answer_line, set_ok_line};
 
 /// Pushes a line until all of it is taken, each time on from where the sink stopped. It isn't flushed.
-pub(crate) fn push_line<K: Sink>(line: &Line, sink: &mut K) -> Result<(), WriteFault>
+pub(crate) fn push_line<K: Sink>(text: &Line, sink: &mut K) -> Result<(), WriteFault>
     requires count { K.failed sink.old < 2 ^ 64 - 1 }
-    ensures pushed { Pushed K.written K.failed sink.old sink.new result line.now }
+    ensures pushed { Pushed K.written K.failed sink.old sink.new result text.now }
 {
-    let mut rest = line.bytes();
+    let mut rest = text.bytes();
     while !rest.is_empty() {
         let n = sink.push(rest)?;
         if n == 0 {

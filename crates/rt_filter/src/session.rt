@@ -1,11 +1,9 @@
 //! A session: query bytes as they come, each line answered as soon as it is complete.
 
-ghost use Rattle.std.specs.{Borrow.{sem}, Io.{StartsWith}, Io.KnownBytes.{Keeps}, Prelude.{◌≡◌, ◌+◌, ◌-◌, ◌||◌, ◌<◌}};
-ghost use Rattle.std.specs.Prelude.{◌≤◌, ◌^◌, ◌++◌, ℕ, List, [], Some, IfOk, IfSome, OnOk, OnErr, MatchResult, length};
-ghost use Rattle.std.specs.Prelude.{take, false, true};
-ghost use Rattle.rt_device.specs.Devices.{IsSameIfTold};
-ghost use Rattle.rt_filter.specs.{Lines.{completed, longest_line, numbered_lines}, Pushes.{CountsFailure, Pushed}};
-ghost use Rattle.rt_filter.specs.{Replies.{Loaded, any_fault, is_fault, output, reply, tree_of}, Sessions.{heard_of}};
+ghost use Rattle.std.specs.{Borrow.{sem}, Io.{StartsWith}, Prelude.{◌≡◌, ◌+◌, ◌-◌, ◌||◌, ◌<◌, ◌≤◌, ◌^◌, ◌++◌, ℕ}};
+ghost use Rattle.std.specs.Prelude.{List, [], Some, IfOk, IfSome, OnOk, MatchResult, length, take, false, true};
+ghost use Rattle.rt_filter.specs.{Lines.{completed, numbered_lines}, Pushes.{Pushed}, Sessions.{heard_of}};
+ghost use Rattle.rt_filter.specs.Replies.{Loaded, any_fault, is_fault, output, reply, tree_of};
 ghost use Rattle.rt_filter.specs.Stages.{loaded_tree, parsed_with};
 
 use crate::line_start::{LONGEST_LINE, LineStart};
@@ -28,11 +26,11 @@ const LINE_FEED: u8 = b'\n';
 ///
 /// For whoever reads by himself: put the next bytes at the front of [`Session::room`], and tell [`Session::answer`] how
 /// many they are; once no more come, [`Session::end`] answers what stands behind the last line feed. What a session has
-/// heard is a function of the bytes that it was fed, however they were cut. No memory is taken.
+/// heard is a function of the bytes that it was fed, however they were cut, as long as no call fails. No memory is taken.
 #[derive(Drop)]
 pub struct Session {
     room: [u8; SESSION_ROOM],
-    progress: Progress,
+    heard: Heard,
 }
 
 impl Model for Session {
@@ -40,13 +38,13 @@ impl Model for Session {
 
     ghost Value = { Hearing };
 
-    ghost view = { λ s. record { heard = s.progress; room = s.room } };
+    ghost view = { λ s. record { heard = s.heard; room = s.room } };
 }
 
-// How far the queries are answered.
+// What was heard of the bytes that were fed.
 #[derive(Drop)]
-struct Progress {
-    // How many lines were answered.
+struct Heard {
+    // How many lines are complete.
     lines: u128,
     // Whether one of them is faulty.
     bad: bool,
@@ -54,7 +52,7 @@ struct Progress {
     begun: LineStart,
 }
 
-impl Model for Progress {
+impl Model for Heard {
     ghost use Rattle.rt_filter.specs.Sessions.{Heard};
 
     ghost Value = { Heard };
@@ -71,7 +69,7 @@ impl Session {
     {
         Session {
             room: [0; SESSION_ROOM],
-            progress: Progress {
+            heard: Heard {
                 lines: 0,
                 bad: false,
                 begun: LineStart::new(),
@@ -79,7 +77,7 @@ impl Session {
         }
     }
 
-    /// The room for the next bytes.
+    /// The room for the next bytes. Once the borrow ends it is as it was left (`specs/Lending.antt`).
     pub fn room(&mut self) -> &mut [u8; SESSION_ROOM]
         ensures* writes_back { sem 𝓛 (LendsRoom self.entry result) }
         ensures room { result.now ≡ self.old.room }
@@ -87,13 +85,13 @@ impl Session {
         &mut self.room
     }
 
-    /// Whether some line that was answered is faulty.
+    /// Whether some line that was complete is faulty.
     pub fn is_bad(&self) -> bool
         ensures value { result ≡ self.now.heard.bad }
         ensures faults { (fed : List ℕ) → self.now.heard ≡ heard_of fed
             → result ≡ any_fault (numbered_lines fed false) }
     {
-        self.progress.bad
+        self.heard.bad
     }
 
     /// Feeds the first `n` bytes of the room: pushes the replies to the lines that they complete, and flushes if there are
@@ -133,20 +131,21 @@ impl Session {
         let _most = tree.len();
         let mut frontier = frontier;
         let mut is_pushed = false;
-        let progress = &mut self.progress;
+        let heard = &mut self.heard;
         let mut rest = &self.room[..n];
-        while let Some(end) = memchr(LINE_FEED, rest) {
-            frontier = progress.answer_line(tree, frontier, &rest[..end], &mut is_pushed, sink)?;
-            rest = &rest[end + 1..];
+        while let Some(at) = memchr(LINE_FEED, rest) {
+            frontier = heard.answer_line(tree, frontier, &rest[..at], &mut is_pushed, sink)?;
+            rest = &rest[at + 1..];
         }
-        progress.begun.push(rest);
+        heard.begun.push(rest);
         if is_pushed {
             sink.flush()?;
         }
         Ok(frontier)
     }
 
-    /// Answers what stands behind the last line feed, if anything does, as a line, and flushes: no more bytes come.
+    /// Answers what stands behind the last line feed, if anything does, as a line, and flushes if there is a reply: no
+    /// more bytes come. The room's first byte is overwritten.
     pub fn end<K: Sink>(
         &mut self,
         tree: &Tree,
@@ -170,7 +169,7 @@ impl Session {
         ensures flushed { OnOk result (K.waits sink.old ≡ false → K.waits sink.new ≡ false) }
         ensures capacity { IfOk result (λ left. left.capacity ≡ frontier.capacity) }
     {
-        if self.progress.begun.is_empty() {
+        if self.heard.begun.is_empty() {
             return Ok(frontier);
         }
         // (it is answered as if a line feed ended it)
@@ -179,13 +178,14 @@ impl Session {
     }
 }
 
-impl Progress {
-    // Answers the line that these bytes end. Where nothing is pushed, the sink is left alone.
+impl Heard {
+    // Answers the line that these bytes end. `is_pushed` is set where something is pushed; else it is left as it was, and
+    // the sink too.
     fn answer_line<K: Sink>(
         &mut self,
         tree: &Tree,
         frontier: Frontier,
-        end: &[u8],
+        tail: &[u8],
         is_pushed: &mut bool,
         sink: &mut K,
     ) -> Result<Frontier, WriteFault>
@@ -193,17 +193,17 @@ impl Progress {
         requires count { K.failed sink.old < 2 ^ 64 - 1 }
         requires few { self.old.lines + 1 < 2 ^ 128 }
         ensures pushed { Pushed K.written K.failed sink.old sink.new result
-            (reply (loaded_tree tree.now) (self.old.lines + 1) (parsed_with self.old.begun end.now)) }
+            (reply (loaded_tree tree.now) (self.old.lines + 1) (parsed_with self.old.begun tail.now)) }
         ensures heard { self.new ≡ record {
           lines = self.old.lines + 1;
-          bad = self.old.bad || is_fault (parsed_with self.old.begun end.now);
+          bad = self.old.bad || is_fault (parsed_with self.old.begun tail.now);
           begun = Some [];
         } }
         ensures capacity { IfOk result (λ left. left.capacity ≡ frontier.capacity) }
         ensures untouched { is_pushed.new ≡ false → (is_pushed.old ≡ false) × (sink.new ≡ sink.old) }
     {
         let mut vertices = Vertices::new();
-        let parsed = self.begun.parse(end, &mut vertices);
+        let parsed = self.begun.parse(tail, &mut vertices);
         self.lines += 1;
         match parsed {
             Parsed::Skip => Ok(frontier),

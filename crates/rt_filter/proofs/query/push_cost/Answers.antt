@@ -1,23 +1,21 @@
-use Rattle.std.proofs.Common.{rules}
+use Rattle.std.proofs.Common.{◌≡◌, rules}
+use Rattle.rt_filter.specs.Replies.{meaning_of, opened_for}
 use Rattle.rt_filter.proofs.TreeLemmas.{cost_line}
+use Rattle.rt_filter.proofs.query.push_cost.Goals.{in-Answers, in-Count}
 use Rattle.rt_filter.proofs.query.push_cost.Goals as goal
 
-pub returns-in_err-push_line-in-Answers-clause-pushed : goal.returns-in_err-push_line-in-Answers-clause-pushed
-returns-in_err-push_line-in-Answers-clause-pushed g c =
-    let told = cost_line c.args.tree.now c.args.line c.args.asked _ _ c.len-most.ensures.packed c.in-Answers.is (rw c.new-counted.ensures.geometry at c.cost-opened.ensures.opened) in
-    rw (told, ← c.ok_line.ensures) (search rules)
+pub returns-in_err-push_line-clause-pushed : goal.returns-in_err-push_line-clause-pushed
+returns-in_err-push_line-clause-pushed g c =
+    let opened : c.match-asked.opened.0 ≡ opened_for c.args.tree.now (meaning_of c.args.asked) c.args.asked.report = elim c.match-asked.branch [
+      | in-Answers w ↦ let is = rw c.new-counted.ensures.geometry at w.cost.ensures.opened in search rules
+      | in-Count w ↦ let is = rw c.new-counted.ensures.geometry at w.count-opened.ensures.opened in search rules
+    ] in
+    rw (cost_line c.args.tree.now c.args.line c.args.asked c.match-asked.opened.0 c.len-most.ensures.packed opened, ← c.ok_line.ensures) (search rules)
 
-pub returns-in_ok-push_line-in-Answers-clause-pushed : goal.returns-in_ok-push_line-in-Answers-clause-pushed
-returns-in_ok-push_line-in-Answers-clause-pushed g c =
-    let told = cost_line c.args.tree.now c.args.line c.args.asked _ _ c.len-most.ensures.packed c.in-Answers.is (rw c.new-counted.ensures.geometry at c.cost-opened.ensures.opened) in
-    rw (told, ← c.ok_line.ensures) c.in_ok-push_line-in-Answers.ensures.pushed
-
-pub returns-in_err-push_line-in-Count-clause-pushed : goal.returns-in_err-push_line-in-Count-clause-pushed
-returns-in_err-push_line-in-Count-clause-pushed g c =
-    let told = cost_line c.args.tree.now c.args.line c.args.asked _ _ c.len-most.ensures.packed c.in-Count.is (rw c.new-counted.ensures.geometry at c.count-found.ensures.opened) in
-    rw (told, ← c.ok_line-in-Count.ensures) (search rules)
-
-pub returns-in_ok-push_line-in-Count-clause-pushed : goal.returns-in_ok-push_line-in-Count-clause-pushed
-returns-in_ok-push_line-in-Count-clause-pushed g c =
-    let told = cost_line c.args.tree.now c.args.line c.args.asked _ _ c.len-most.ensures.packed c.in-Count.is (rw c.new-counted.ensures.geometry at c.count-found.ensures.opened) in
-    rw (told, ← c.ok_line-in-Count.ensures) c.in_ok-push_line-in-Count.ensures.pushed
+pub returns-clause-pushed : goal.returns-clause-pushed
+returns-clause-pushed g c =
+    let opened : c.match-asked.opened.0 ≡ opened_for c.args.tree.now (meaning_of c.args.asked) c.args.asked.report = elim c.match-asked.branch [
+      | in-Answers w ↦ let is = rw c.new-counted.ensures.geometry at w.cost.ensures.opened in search rules
+      | in-Count w ↦ let is = rw c.new-counted.ensures.geometry at w.count-opened.ensures.opened in search rules
+    ] in
+    rw (cost_line c.args.tree.now c.args.line c.args.asked c.match-asked.opened.0 c.len-most.ensures.packed opened, ← c.ok_line.ensures) c.in_ok-push_line.ensures.pushed

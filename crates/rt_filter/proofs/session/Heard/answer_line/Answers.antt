@@ -1,6 +1,6 @@
 use Rattle.std.proofs.Common.{arith, rules}
 use Rattle.rt_filter.proofs.PushLemmas.{nothing_pushed}
-use Rattle.rt_filter.proofs.session.Progress.answer_line.Goals as goal
+use Rattle.rt_filter.proofs.session.Heard.answer_line.Goals as goal
 
 pub returns-in-Skip-clause-pushed : goal.returns-in-Skip-clause-pushed
 returns-in-Skip-clause-pushed g c = search (rules, nothing_pushed)
