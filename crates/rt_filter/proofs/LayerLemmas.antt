@@ -16,10 +16,6 @@ use Rattle.rt_geo.specs.declared.region.Region.TheVariants as region
 abbrev with_bits : ℕ → Layers
 with_bits n = record { bits = n }
 
--- a set with all bits
-pub all_from : (layers : Layers) (n : ℕ) → n ≡ layers.bits → n ≡ 18446744073709551615 → layers ≡ all_layers
-all_from layers n is all = ap with_bits (sym is ∙ all)
-
 -- an entry is on some layer
 on_some : (entry : Entry) → HasLayer entry → disjoint (extent_of_entry entry).layers all_layers ≡ false
 on_some entry few = disjoint-only entry.layer all_layers ∙ ap not (has-all entry.layer few)
@@ -65,3 +61,11 @@ pub report_on-disc : (entries : List Entry) (line : ℕ) (asked : Region) (order
     → report_on entries (region_accepts asked) line order report ≡ find_reply line (answers entries (disc_meaning disc) limit)
 report_on-disc entries line asked order report limit circle disc r a means =
     rw (r, a) (sym (ap (λ meaning. find_reply line (answers entries meaning limit)) means))
+
+-- on all layers the report on the boxes that a query asks for is that on what its region accepts
+pub boxes_on_all : (entries : List Entry) (line : ℕ) (asked : BoxQuery) → All HasLayer entries
+    → asked.layers.bits ≡ 18446744073709551615 → report_of entries line (meaning_of asked) asked.report
+    ≡ report_on entries (region_accepts asked.region) line asked.order asked.report
+boxes_on_all entries line asked few all =
+    sym (report_on-asked entries line asked asked.report)
+    ∙ report_on-all (region_accepts asked.region) entries few asked.layers (ap with_bits all) line asked.order asked.report

@@ -82,10 +82,10 @@ module _ (loaded : Loaded) (old heard : Heard) (old_out out : Option (List ℕ))
         → asked ≡ reply loaded (length (numbered_lines (fed ++ s.front) false) + 1) (judged_line (begun_line (fed ++ s.front) ++ take n rest))
     asked-is fed e = search (rules, kept_parsed)
 
-    pub answered-more : (left : List ℕ) (now : Heard) (gone : Option (List ℕ)) → left ≡ drop (n + 1) rest
+    pub answered-more : (left : List ℕ) (now : Heard) (sent : Option (List ℕ)) → left ≡ drop (n + 1) rest
         → now ≡ record { lines = heard.lines + 1; bad = heard.bad || is_fault (parsed_with heard.begun (take n rest)); begun = Some [] }
-        → WasPushed out gone asked → IsAnswered loaded old now old_out gone bytes left
-    answered-more left now gone l e w =
+        → WasPushed out sent asked → IsAnswered loaded old now old_out sent bytes left
+    answered-more left now sent l e w =
         let line : List ℕ = take n rest ++ line_feed ∷ [] in
         let parts : rest ≡ line ++ left = cut.parts ∙ ap (λ zs. take n rest ++ line_feed ∷ zs) (sym l) ∙ sym (append_assoc (take n rest) (line_feed ∷ []) left) in
         record {
@@ -100,8 +100,8 @@ module _ (loaded : Loaded) (old heard : Heard) (old_out out : Option (List ℕ))
     lines-later fed = search (rules, cut, completed-append, completed-found)
 
     -- a line couldn't be answered
-    pub answered-cut : (gone : Option (List ℕ)) → WasCut out gone asked → (fed : List ℕ) → old ≡ heard_of fed → WasCut old_out gone (output loaded (completed fed bytes false))
-    answered-cut gone w fed is = search (rules, lines-later, output-append, cut_then, asked-is)
+    pub answered-cut : (sent : Option (List ℕ)) → WasCut out sent asked → (fed : List ℕ) → old ≡ heard_of fed → WasCut old_out sent (output loaded (completed fed bytes false))
+    answered-cut sent w fed is = search (rules, lines-later, output-append, cut_then, asked-is)
 
     pub fault-cut : (bad : Bool) → bad ≡ (heard.bad || is_fault (parsed_with heard.begun (take n rest))) → (fed : List ℕ) → old ≡ heard_of fed
         → bad ≡ true → any_fault (numbered_lines (fed ++ bytes) false) ≡ true

@@ -4,9 +4,8 @@
 //! on some layers the region is matched for each box, and of a cost both are.
 
 ghost use Rattle.std.specs.Prelude.{◌≡◌, ◌-◌, ◌<◌, ◌≤◌, ◌^◌, IfOk, length, true};
-ghost use Rattle.rt_geo.specs.Regions.{region_accepts};
 ghost use Rattle.rt_tree.specs.Levels.{level_sizes};
-ghost use Rattle.rt_text.specs.ReplyLines.{ok_line};
+ghost use Rattle.rt_text.specs.{ReplyLines.{ok_line}, declared.query.Query.TheVariants.{Boxes, Cost}};
 ghost use Rattle.rt_search.specs.{Answers.{answers}, Work.{IsUnscored}};
 ghost use Rattle.rt_filter.specs.{Pushes.{Pushed}, Reports.{report_on}, Stages.{loaded_tree}};
 ghost use Rattle.rt_filter.specs.Replies.{find_reply, levels_reply, query_reply};
@@ -15,48 +14,14 @@ use crate::reply::{push_line, push_search};
 use rt_device::{Sink, WriteFault};
 use rt_geo::{ById, Counted, Disc, Geometry, Guided, OnLayers, Order, Region, Shape};
 use rt_search::{Frontier, FullSearch, Search, cost, count};
-use rt_text::{BoxQuery, Query, Report, level_line, ok_line};
+use rt_text::{BoxQuery, Report, level_line, ok_line};
 use rt_tree::Tree;
 
 /// Where each node scores 0, up to so many answers are kept in order as they are found; for more, all are found first.
 const FEW: u64 = 64;
 
-/// Pushes the reply to a query.
-pub(crate) fn push_reply<K: Sink>(
-    tree: &Tree,
-    frontier: Frontier,
-    line: u128,
-    query: Query<'_>,
-    sink: &mut K,
-) -> Result<Frontier, WriteFault>
-    requires room { length tree.now.entries ≤ frontier.capacity }
-    requires count { K.failed sink.old < 2 ^ 64 - 1 }
-    ensures pushed { Pushed K.written K.failed sink.old sink.new result
-        (query_reply (loaded_tree tree.now) line query.entry) }
-    ensures capacity { IfOk result (λ left. left.capacity ≡ frontier.capacity) }
-{
-    match query {
-        Query::Boxes(asked) => {
-            // (called, so that it is known which layers the entries have)
-            let _most = tree.len();
-            // (all layers are those of all entries: none is checked)
-            if asked.layers.bits() == u64::MAX {
-                return push_in_region(tree, frontier, line, asked, sink);
-            }
-            let (shape, layers) = (asked.region, asked.layers);
-            let shape = OnLayers { shape, layers };
-            push_in_shape(tree, frontier, line, shape, asked.order, asked.report, sink)
-        }
-        Query::Cost(asked) => push_cost(tree, frontier, line, asked, sink),
-        Query::Levels => {
-            push_levels(tree, line, sink)?;
-            Ok(frontier)
-        }
-    }
-}
-
 // Pushes a line for each level, from the top down, and then their number.
-fn push_levels<K: Sink>(tree: &Tree, line: u128, sink: &mut K) -> Result<(), WriteFault>
+pub(crate) fn push_levels<K: Sink>(tree: &Tree, line: u128, sink: &mut K) -> Result<(), WriteFault>
     requires count { K.failed sink.old < 2 ^ 64 - 1 }
     ensures pushed { let sizes = level_sizes (length tree.now.entries) tree.now.fanout in
         Pushed K.written K.failed sink.old sink.new result (levels_reply line sizes) }
@@ -69,10 +34,11 @@ fn push_levels<K: Sink>(tree: &Tree, line: u128, sink: &mut K) -> Result<(), Wri
     push_line(&ok_line(line, u64::from(count)), sink)
 }
 
-// Pushes the report on the boxes of a region on all layers. A polygon is prepared where it can be, and a circle whose
-// order is by the distance from its centre takes one distance for both.
-#[inline(always)]
-fn push_in_region<K: Sink>(
+/// Pushes the report on boxes. Where they are those of all layers, a polygon is prepared where it can be, and a circle whose
+/// order is by the distance from its centre takes one distance for both.
+#[inline]
+#[tactic(auto, using(crate::proofs::LayerLemmas::boxes_on_all))]
+pub(crate) fn push_in_region<K: Sink>(
     tree: &Tree,
     frontier: Frontier,
     line: u128,
@@ -82,10 +48,18 @@ fn push_in_region<K: Sink>(
     requires room { length tree.now.entries ≤ frontier.capacity }
     requires count { K.failed sink.old < 2 ^ 64 - 1 }
     ensures pushed { Pushed K.written K.failed sink.old sink.new result
-        (report_on tree.now.entries (region_accepts asked.entry.region) line asked.entry.order asked.entry.report) }
+        (query_reply (loaded_tree tree.now) line (Boxes asked.entry)) }
     ensures capacity { IfOk result (λ left. left.capacity ≡ frontier.capacity) }
 {
+    // (called, so that it is known which layers the entries have)
+    let _ = tree.len();
     let BoxQuery { order, report, .. } = asked;
+    // (all layers are those of all entries: none is checked)
+    if asked.layers.bits() != u64::MAX {
+        let (shape, layers) = (asked.region, asked.layers);
+        let shape = OnLayers { shape, layers };
+        return push_in_shape(tree, frontier, line, shape, order, report, sink);
+    }
     match asked.region {
         Region::All(shape) => push_in_shape(tree, frontier, line, shape, order, report, sink),
         Region::Window(shape) => push_in_shape(tree, frontier, line, shape, order, report, sink),
@@ -168,7 +142,7 @@ fn find<G: Geometry + Drop, K: Sink>(
     ensures capacity { IfOk result (λ left. left.capacity ≡ frontier.capacity) }
 {
     // (called, so that it is known that the number of answers fits)
-    let _most = tree.len();
+    let _ = tree.len();
     let counted = Counted::new(&geometry);
     match limit {
         None => push_search(FullSearch::start(tree, frontier, counted), line, sink),
@@ -185,7 +159,7 @@ fn find<G: Geometry + Drop, K: Sink>(
 }
 
 // Pushes how many nodes a report on boxes opens.
-fn push_cost<K: Sink>(
+pub(crate) fn push_cost<K: Sink>(
     tree: &Tree,
     frontier: Frontier,
     line: u128,
@@ -195,11 +169,11 @@ fn push_cost<K: Sink>(
     requires room { length tree.now.entries ≤ frontier.capacity }
     requires count { K.failed sink.old < 2 ^ 64 - 1 }
     ensures pushed { Pushed K.written K.failed sink.old sink.new result
-        (query_reply (loaded_tree tree.now) line (Query.Cost asked.entry)) }
+        (query_reply (loaded_tree tree.now) line (Cost asked.entry)) }
     ensures capacity { IfOk result (λ left. left.capacity ≡ frontier.capacity) }
 {
     // (called, so that it is known that the tree is the packed one of its own entries)
-    let _most = tree.len();
+    let _ = tree.len();
     let (shape, layers, rank) = (asked.region, asked.layers, asked.order);
     let shape = OnLayers { shape, layers };
     let geometry = Guided { shape, rank };

@@ -7,12 +7,12 @@ ghost use Rattle.rt_filter.specs.Replies.{Loaded, any_fault, is_fault, output, r
 ghost use Rattle.rt_filter.specs.Stages.{loaded_tree, parsed_with};
 
 use crate::line_start::{LONGEST_LINE, LineStart};
-use crate::query::push_reply;
+use crate::query::{push_cost, push_in_region, push_levels};
 use crate::reply::push_line;
 use memchr::memchr;
 use rt_device::{Sink, WriteFault};
 use rt_search::Frontier;
-use rt_text::{Parsed, Vertices, error_line};
+use rt_text::{Parsed, Query, Vertices, error_line};
 use rt_tree::Tree;
 use std::marker::Model;
 
@@ -85,7 +85,7 @@ impl Session {
         &mut self.room
     }
 
-    /// Whether some line that was complete is faulty.
+    /// Whether some line that is complete is faulty.
     pub fn is_bad(&self) -> bool
         ensures value { result ≡ self.now.heard.bad }
         ensures faults { (fed : List ℕ) → self.now.heard ≡ heard_of fed
@@ -128,7 +128,7 @@ impl Session {
         ensures capacity { IfOk result (λ left. left.capacity ≡ frontier.capacity) }
     {
         // (called, so that it is known that the tree is the packed one of its own entries)
-        let _most = tree.len();
+        let _ = tree.len();
         let mut frontier = frontier;
         let mut is_pushed = false;
         let heard = &mut self.heard;
@@ -209,7 +209,14 @@ impl Heard {
             Parsed::Skip => Ok(frontier),
             Parsed::Query(query) => {
                 *is_pushed = true;
-                push_reply(tree, frontier, self.lines, query, sink)
+                match query {
+                    Query::Boxes(asked) => push_in_region(tree, frontier, self.lines, asked, sink),
+                    Query::Cost(asked) => push_cost(tree, frontier, self.lines, asked, sink),
+                    Query::Levels => {
+                        push_levels(tree, self.lines, sink)?;
+                        Ok(frontier)
+                    }
+                }
             }
             Parsed::Fault(fault) => {
                 *is_pushed = true;

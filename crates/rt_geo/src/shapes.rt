@@ -2,10 +2,9 @@
 //!
 //! `specs/Regions.antt` has the tables of what they accept and of their states. No state looks at the parent's.
 
-ghost use Rattle.std.specs.Prelude.{◌≡◌, Decides, not};
-ghost use Rattle.rt_geo.specs.{Boxes.{inside, overlaps}, Regions.{state_by}};
+ghost use Rattle.std.specs.Prelude.{◌≡◌, Decides};
 
-use crate::bounds::{self, Bounds, overlaps};
+use crate::bounds::{Bounds, inside, overlaps};
 use crate::distance::{Point, far2, near2};
 use crate::geometry::{Info, Shape, Within};
 
@@ -69,7 +68,13 @@ impl Shape for Window {
     ghost state = { λ s. region_state (region.Window s) };
 
     fn within(&self, info: &Info) -> Within {
-        state_in_window(info.bounds, self.0)
+        if !overlaps(info.bounds, self.0) {
+            Within::Not
+        } else if inside(info.bounds, self.0) {
+            Within::Fully
+        } else {
+            Within::Partly
+        }
     }
 
     ghost use Rattle.rt_geo.specs.Lemmas.Regions.{region-faithful};
@@ -86,13 +91,18 @@ impl Shape for Inside {
     ghost state = { λ s. region_state (region.Inside s) };
 
     fn within(&self, info: &Info) -> Within {
-        if info.level > 0 {
-            // A node that only overlaps the window may hold boxes that lie in it.
-            state_in_window(info.bounds, self.0)
-        } else if bounds::inside(info.bounds, self.0) {
+        // A node that only overlaps the window may hold boxes that lie in it.
+        let is_kept = if info.level > 0 {
+            overlaps(info.bounds, self.0)
+        } else {
+            inside(info.bounds, self.0)
+        };
+        if !is_kept {
+            Within::Not
+        } else if inside(info.bounds, self.0) {
             Within::Fully
         } else {
-            Within::Not
+            Within::Partly
         }
     }
 
@@ -111,7 +121,7 @@ impl Shape for Covers {
 
     fn within(&self, info: &Info) -> Within {
         // A node that covers the window may hold boxes that don't.
-        if bounds::inside(self.0, info.bounds) {
+        if inside(self.0, info.bounds) {
             Within::Partly
         } else {
             Within::Not
@@ -145,17 +155,4 @@ impl Shape for Circle {
     ghost use Rattle.rt_geo.specs.Lemmas.Regions.{region-faithful};
 
     ghost faithful = { λ s. region-faithful (region.Circle s) };
-}
-
-/// How many of the boxes inside the bounds overlap the window, as far as the two tests tell.
-fn state_in_window(bounds: Bounds, window: Bounds) -> Within
-    ensures { result ≡ state_by (not (overlaps bounds window)) (inside bounds window) }
-{
-    if !overlaps(bounds, window) {
-        Within::Not
-    } else if bounds::inside(bounds, window) {
-        Within::Fully
-    } else {
-        Within::Partly
-    }
 }

@@ -316,8 +316,8 @@ fn coordinate(words: &mut Words) -> Judged<i32>
     }
 }
 
-// The next word's number, where it is a usual one. Coordinates have this function to themselves, since they are much
-// alike: counts and limits would make the processor mispredict its branches.
+// The next word's number, where `Words::next_number` reads it. Coordinates have this function to themselves, since they
+// are much alike: counts and limits would make the processor mispredict its branches.
 #[inline(never)]
 fn usual_coordinate(words: &mut Words) -> Option<i64>
     ensures { MatchOption result (words.new ≡ words.old)
@@ -326,7 +326,7 @@ fn usual_coordinate(words: &mut Words) -> Option<i64>
     words.next_number()
 }
 
-// The same as a coordinate whatever the word is.
+// The next word as a coordinate, or why it is none.
 #[inline(never)]
 fn any_coordinate(words: &mut Words) -> Judged<i32>
     ensures { Takes (word_as coordinate words.old) result words.new }

@@ -8,9 +8,9 @@ push_search-requires-clause-few g c = search (rules, few_answers)
 pub push_search-requires-in-Some-clause-few : goal.push_search-requires-in-Some-clause-few
 push_search-requires-in-Some-clause-few g c =
     few_answers c.args.tree.now.entries (g.G.Geometry.meaning c.new-counted.result.geometry) (Some c.in-Some.most)
-    c.first-search.result.to_come c.len-most.result _
+    c.first-search.result.to_come c.len.result _
     (c.first-search.ensures.to_come ∙ ap (take c.in-Some.most) c.start-in-Some.ensures.to_come)
-    c.len-most.ensures.value c.len-most.type_inv
+    c.len.ensures.value c.len.type_inv
 
 pub push_search-requires-in-Some-2-clause-few : goal.push_search-requires-in-Some-2-clause-few
 push_search-requires-in-Some-2-clause-few g c = search (rules, few_answers)

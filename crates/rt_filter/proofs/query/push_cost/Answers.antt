@@ -10,7 +10,7 @@ returns-in_err-push_line-clause-pushed g c =
       | in-Answers w ↦ let is = rw c.new-counted.ensures.geometry at w.cost.ensures.opened in search rules
       | in-Count w ↦ let is = rw c.new-counted.ensures.geometry at w.count-opened.ensures.opened in search rules
     ] in
-    rw (cost_line c.args.tree.now c.args.line c.args.asked c.match-asked.opened.0 c.len-most.ensures.packed opened, ← c.ok_line.ensures) (search rules)
+    rw (cost_line c.args.tree.now c.args.line c.args.asked c.match-asked.opened.0 c.len.ensures.packed opened, ← c.ok_line.ensures) (search rules)
 
 pub returns-clause-pushed : goal.returns-clause-pushed
 returns-clause-pushed g c =
@@ -18,4 +18,4 @@ returns-clause-pushed g c =
       | in-Answers w ↦ let is = rw c.new-counted.ensures.geometry at w.cost.ensures.opened in search rules
       | in-Count w ↦ let is = rw c.new-counted.ensures.geometry at w.count-opened.ensures.opened in search rules
     ] in
-    rw (cost_line c.args.tree.now c.args.line c.args.asked c.match-asked.opened.0 c.len-most.ensures.packed opened, ← c.ok_line.ensures) c.in_ok-push_line.ensures.pushed
+    rw (cost_line c.args.tree.now c.args.line c.args.asked c.match-asked.opened.0 c.len.ensures.packed opened, ← c.ok_line.ensures) c.in_ok-push_line.ensures.pushed

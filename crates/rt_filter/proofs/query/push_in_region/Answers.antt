@@ -1,12 +1,16 @@
-use Rattle.std.proofs.Common.{arith}
-use Rattle.rt_filter.proofs.LayerLemmas.{report_on-disc}
+use Rattle.std.proofs.Common.{◌∙◌, arith, rules, sym}
+use Rattle.rt_filter.proofs.LayerLemmas.{boxes_on_all, report_on-disc}
 use Rattle.rt_filter.proofs.query.push_in_region.Goals as goal
 
 pub returns-in-Some-clause-pushed : goal.returns-in-Some-clause-pushed
 returns-in-Some-clause-pushed g c =
     let asked = c.args.asked in
-    rw (report_on-disc c.args.tree.now.entries c.args.line asked.region asked.order asked.report c.in-Answers.limit
-    c.in-Circle.circle c.in-Some.disc c.in-Circle.is c.in-Answers.is c.in-Some.ensures.means) c.find.ensures.pushed
+    let entries = c.args.tree.now.entries in
+    rw (
+      boxes_on_all entries c.args.line asked c.len.ensures.sound.table.layers (sym c.bits.ensures ∙ c.if-bits.false),
+      report_on-disc entries c.args.line asked.region asked.order asked.report c.in-Answers.limit c.in-Circle.circle
+          c.in-Some.disc c.in-Circle.is c.in-Answers.is c.in-Some.ensures.means,
+    ) c.find.ensures.pushed
 
 pub find-requires-clause-unscored : goal.find-requires-clause-unscored
 find-requires-clause-unscored g c e = absurd (grind (arith, e))

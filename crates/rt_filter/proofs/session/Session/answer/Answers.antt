@@ -7,7 +7,7 @@ use Rattle.rt_filter.proofs.session.Session.answer.Goals as goal
 
 pub returns-in_err-frontier-clause-replies : goal.returns-in_err-frontier-clause-replies
 returns-in_err-frontier-clause-replies g c = rw (← c.self.view_is) (λ loaded packed fed is.
-    rw (output_same c.args.tree.now loaded c.len-most.ensures.sound packed (completed fed (take c.args.n c.self.inside.room) false))
+    rw (output_same c.args.tree.now loaded c.len.ensures.sound packed (completed fed (take c.args.n c.self.inside.room) false))
     (cut_replies c.from_residual.result _ _ _ _ _ c.from_residual.ensures.1
     (answered-cut _ _ _ _ _ _ _ c.loop-at.invariant.answered c.in-Some.at c.in-Some.ensures _ c.in_err-frontier.ensures.pushed.0 fed is)))
 
@@ -20,7 +20,7 @@ loop-at-preserved g c = search (rules, common_steps, length-drop, answered-more)
 
 pub returns-in_err-flush-clause-replies : goal.returns-in_err-flush-clause-replies
 returns-in_err-flush-clause-replies g c = rw (← c.self.view_is) (λ loaded packed fed is.
-    rw (output_same c.args.tree.now loaded c.len-most.ensures.sound packed (completed fed (take c.args.n c.self.inside.room) false))
+    rw (output_same c.args.tree.now loaded c.len.ensures.sound packed (completed fed (take c.args.n c.self.inside.room) false))
     (cut_replies c.from_residual-in_err-flush.result _ _ _ _ _ c.from_residual-in_err-flush.ensures.1
     (pushed_lost _ _ _ _ (answered-all _ _ _ _ _ _ _ c.loop-at.invariant.answered (found_none c.loop-at.rest.now c.in_default.ensures) fed is)
     c.in_err-flush.ensures.lost)))
@@ -33,7 +33,7 @@ returns-in_err-flush-clause-heard g c = rw (← c.self.view_is) (λ fed is.
 
 pub returns-clause-replies : goal.returns-clause-replies
 returns-clause-replies g c = rw (← c.self.view_is) (λ loaded packed fed is.
-    rw (output_same c.args.tree.now loaded c.len-most.ensures.sound packed (completed fed (take c.args.n c.self.inside.room) false))
+    rw (output_same c.args.tree.now loaded c.len.ensures.sound packed (completed fed (take c.args.n c.self.inside.room) false))
     (let all = answered-all _ _ _ _ _ _ _ c.loop-at.invariant.answered (found_none c.loop-at.rest.now c.in_default.ensures) fed is in
     search (rules, pushed_kept)))
 
