@@ -140,16 +140,21 @@ impl<'a> Read for Broken<'a> {
     }
 }
 
-// The fault of a run over so many bytes of a table and then a failed read. Nothing is read or written beside it.
+// The fault of a run over so many bytes of a table and then a failed read.
 fn broken_after<R: Abort + AllocGlobal>(rt: &R, table: &[u8], reads: usize) -> Option<RunFault> {
-    let settings = Settings::new(false, 16, 16).expect(rt, "they are in range");
-    let mut source = SliceSource::new(FIND, 4097, Some(1));
-    let mut room = [0u8; 64];
-    let mut sink = SliceSink::new(&mut room, 64, Some(1));
     let reader = Broken {
         bytes: &table[..reads.min(table.len())],
         at: 0,
     };
+    fault_of(rt, reader)
+}
+
+// The fault of a run whose table fails. Nothing is read or written beside it.
+fn fault_of<R: Abort + AllocGlobal>(rt: &R, reader: Broken<'_>) -> Option<RunFault> {
+    let settings = Settings::new(false, 16, 16).expect(rt, "they are in range");
+    let mut source = SliceSource::new(FIND, 4097, Some(1));
+    let mut room = [0u8; 64];
+    let mut sink = SliceSink::new(&mut room, 64, Some(1));
     let outcome = run(
         rt.alloc(),
         &settings,

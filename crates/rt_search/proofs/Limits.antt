@@ -1,6 +1,6 @@
 -- What may be left out where a limit is known.
 use Rattle.std.proofs.Common.{◌≡◌, ◌≢◌, ◌≤◌, ◌-◌, ℕ, zero, suc, Bool, cond, Option, Some, None, List, [], ◌∷◌}
-use Rattle.std.proofs.Common.{length, refl, sym, ◌∙◌, ap, arith}
+use Rattle.std.proofs.Common.{Ordering, length, refl, sym, ◌∙◌, ap, arith}
 use Rattle.rt_geo.specs.{Laws.{Meaning}, declared.geometry.Verdict.{Verdict}}
 use Rattle.rt_tree.specs.{Packed.{Packed}, Sorting.{put}}
 use Rattle.rt_search.specs.{Items.{item_cmp}, Joining.{join_node, join_nodes}, Kept.{IsRising}}
@@ -24,17 +24,19 @@ front-front (x ∷ xs) (suc m) zero h = absurd (omega arith)
 front-front (x ∷ xs) (suc m) (suc n) h =
     ap (λ l. x ∷ l) (front-front xs (suc m - entries_at x.place) (suc n - entries_at x.place) (omega arith))
 
--- what joins the front joins the list
-front-put : (x : Item) (xs : List Item) (n : ℕ) → front (put item_cmp x (front xs n)) n ≡ front (put item_cmp x xs) n
-front-put x [] n = refl
-front-put x (y ∷ ys) zero = grind (arith, front_zero)
-front-put x (y ∷ ys) (suc n) = grind (arith, front-put x ys, front-front)
+-- what joins the front joins the list, in any order
+front-put : (cmp : Item → Item → Ordering) (x : Item) (xs : List Item) (n : ℕ)
+    → front (put cmp x (front xs n)) n ≡ front (put cmp x xs) n
+front-put cmp x [] n = refl
+front-put cmp x (y ∷ ys) zero = grind (arith, front_zero)
+front-put cmp x (y ∷ ys) (suc n) = grind (arith, front-put cmp x ys, front-front)
 
 -- so that lists with the same front stay so where x joins
 same_put : (x : Item) (xs ys : List Item) (wanted : Option ℕ) → front_of wanted xs ≡ front_of wanted ys
     → front_of wanted (put item_cmp x xs) ≡ front_of wanted (put item_cmp x ys)
 same_put x xs ys None h = ap (put item_cmp x) h
-same_put x xs ys (Some n) h = sym (front-put x xs n) ∙ ap (λ l. front (put item_cmp x l) n) h ∙ front-put x ys n
+same_put x xs ys (Some n) h =
+    sym (front-put item_cmp x xs n) ∙ ap (λ l. front (put item_cmp x l) n) h ∙ front-put item_cmp x ys n
 
 -- ---- enough is kept
 

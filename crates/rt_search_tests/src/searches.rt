@@ -291,22 +291,28 @@ fn nodes_come_before_entries_at_equal_score(rt: HostRuntime) {
     expect_full_search(&rt, rt.alloc(), &tree, &all_by_id(), &want);
 }
 
-// However few are wanted, as no node has a score. Where none is, no node is opened.
+// However few are wanted, as no node has a score.
 #[test]
 fn nodes_without_a_score_are_opened_before_the_first_answer(rt: HostRuntime) {
     let tree = pack(&rt, rt.alloc(), &BOXES);
-    let none = Want {
-        answers: &[],
-        opened: 0,
-        asked: 0,
-    };
-    expect_unscored(&rt, rt.alloc(), &tree, &all_by_id(), Some(0), &none);
     let two = Want {
         answers: &[(1, 0), (2, 0)],
         opened: 6,
         asked: 10,
     };
     expect_unscored(&rt, rt.alloc(), &tree, &all_by_id(), Some(2), &two);
+    let window = in_window(boxed(&rt, [0, 10, 0, 10]));
+    let first = Want {
+        answers: &[(1, 0)],
+        opened: 5,
+        asked: 9,
+    };
+    expect_unscored(&rt, rt.alloc(), &tree, &window, Some(1), &first);
+}
+
+#[test]
+fn areas_are_scores_of_entries_alone(rt: HostRuntime) {
+    let tree = pack(&rt, rt.alloc(), &BOXES);
     let smallest = Guided {
         shape: All,
         rank: Smallest,
@@ -317,13 +323,18 @@ fn nodes_without_a_score_are_opened_before_the_first_answer(rt: HostRuntime) {
         asked: 10,
     };
     expect_unscored(&rt, rt.alloc(), &tree, &smallest, None, &areas);
-    let window = in_window(boxed(&rt, [0, 10, 0, 10]));
-    let first = Want {
-        answers: &[(1, 0)],
-        opened: 5,
-        asked: 9,
+}
+
+// Neither where none is wanted nor where there is none.
+#[test]
+fn nothing_is_opened_for_no_answer(rt: HostRuntime) {
+    let none = Want {
+        answers: &[],
+        opened: 0,
+        asked: 0,
     };
-    expect_unscored(&rt, rt.alloc(), &tree, &window, Some(1), &first);
+    let tree = pack(&rt, rt.alloc(), &BOXES);
+    expect_unscored(&rt, rt.alloc(), &tree, &all_by_id(), Some(0), &none);
     let empty = pack(&rt, rt.alloc(), &[]);
     expect_unscored(&rt, rt.alloc(), &empty, &all_by_id(), Some(1), &none);
 }

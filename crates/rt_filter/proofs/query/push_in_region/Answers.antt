@@ -1,4 +1,4 @@
-use Rattle.std.proofs.Common.{◌∙◌, arith, rules, sym}
+use Rattle.std.proofs.Common.{◌∙◌, arith, sym}
 use Rattle.rt_filter.proofs.LayerLemmas.{boxes_on_all, report_on-disc}
 use Rattle.rt_filter.proofs.query.push_in_region.Goals as goal
 

@@ -1,4 +1,4 @@
-use Rattle.std.proofs.Common.{arith, rules}
+use Rattle.std.proofs.Common.{rules}
 use Rattle.rt_filter.proofs.PushLemmas.{nothing_pushed}
 use Rattle.rt_filter.proofs.session.Heard.answer_line.Goals as goal
 
