@@ -22,7 +22,7 @@ const USAGE: &[u8] =
 const OUTPUT_ROOM: usize = 65_536;
 
 /// How the program ends.
-#[derive(Clone, Copy, Debug, PartialEq, Eq)]
+#[derive(Clone, Copy)]
 enum Ending {
     /// The run was made, and ended so.
     Ran(Outcome),
@@ -123,59 +123,5 @@ fn open_and_run<R: Files + Input + Print + AllocGlobal>(rt: &R, invocation: &Inv
             Ok(queries) => Ending::Ran(run_std(rt.alloc(), settings, table, queries, answers).0),
             Err(_) => Ending::NoQueries,
         },
-    }
-}
-
-#[cfg(test)]
-mod tests {
-    use super::{Ending, Outcome, RunFault};
-
-    // The endings that can't be brought about at will, or not each by itself.
-    const ENDINGS: [(Ending, u8, Option<&[u8]>); 8] = [
-        (Ending::Helped, 0, None),
-        (
-            Ending::BadCommandLine,
-            2,
-            Some(b"rtfilter: bad command line\n"),
-        ),
-        (Ending::NoTable, 3, Some(b"rtfilter: cannot open table\n")),
-        (
-            Ending::NoQueries,
-            4,
-            Some(b"rtfilter: cannot open queries\n"),
-        ),
-        (
-            Ending::NotHelped,
-            5,
-            Some(b"rtfilter: cannot write answers\n"),
-        ),
-        (Ending::NoMemory, 6, Some(b"rtfilter: out of memory\n")),
-        (
-            Ending::Ran(Outcome {
-                status: 1,
-                fault: None,
-            }),
-            1,
-            None,
-        ),
-        (
-            Ending::Ran(Outcome {
-                status: 4,
-                fault: Some(RunFault::Read),
-            }),
-            4,
-            Some(b"rtfilter: cannot read queries\n"),
-        ),
-    ];
-
-    #[test]
-    fn endings(rt: HostRuntime) {
-        for (ending, status, text) in ENDINGS {
-            assert_eq!(rt; ending.status(), status);
-            match ending.line() {
-                Some(line) => assert_eq!(rt; Some(line.bytes()), text),
-                None => assert_eq!(rt; None, text),
-            }
-        }
     }
 }

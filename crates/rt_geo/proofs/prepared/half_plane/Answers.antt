@@ -1,7 +1,10 @@
-use Rattle.std.proofs.Common.{rules}
+use Rattle.std.proofs.Common.{rules, arith}
 use Rattle.rt_geo.proofs.Crosses.{difference_is}
 use Rattle.rt_geo.proofs.HalfPlanes.{coordinate-stored, half_plane_is, to_i64_is}
 use Rattle.rt_geo.proofs.prepared.half_plane.Goals as goal
+
+pub overflow_sub-result : goal.overflow_sub-result
+overflow_sub-result c = grind arith
 
 pub returns : goal.returns
 returns c =

@@ -1,5 +1,9 @@
+use Rattle.std.proofs.{Common.{arith}, lemmas.Grind.{common_steps}}
 use Rattle.rt_geo.proofs.HalfPlanes.{short_product-size, short_product_is}
 use Rattle.rt_geo.proofs.prepared.short_product.Goals as goal
+
+pub overflow_mul-result : goal.overflow_mul-result
+overflow_mul-result c = grind (arith, common_steps)
 
 pub returns-clause-value : goal.returns-clause-value
 returns-clause-value c =

@@ -1,4 +1,4 @@
-use Rattle.std.proofs.Common.{◌∙◌, arith, rules, add-one}
+use Rattle.std.proofs.{Common.{◌∙◌, arith, rules, add-one}, lemmas.Grind.{common_steps}}
 use Rattle.rt_search.proofs.{Children.{asked, children_inside, children_of, honest_child}, Collectors.{entries_join}}
 use Rattle.rt_search.proofs.{Limits.{enough_node}, UnderWay.{leaf_joins, nodes_join}, Working.{length-join_nodes}}
 use Rattle.rt_search.proofs.opening.open_node.Goals as goal
@@ -8,6 +8,15 @@ returns-then-node-eq1-clause-children g c = search (rules, entries_join, leaf_jo
 
 pub child_nodes-children-requires : goal.child_nodes-children-requires
 child_nodes-children-requires g c = search (rules, children_inside)
+
+pub overflow_cast-i : goal.overflow_cast-i
+overflow_cast-i g c = grind (arith, common_steps)
+
+pub overflow_add-first : goal.overflow_add-first
+overflow_add-first g c = grind (arith, common_steps)
+
+pub node-whole-requires : goal.node-whole-requires
+node-whole-requires g c = grind (arith, common_steps)
 
 pub check-requires : goal.check-requires
 check-requires g c =

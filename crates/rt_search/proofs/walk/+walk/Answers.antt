@@ -1,4 +1,4 @@
-use Rattle.std.proofs.Common.{◌≡◌, ◌∙◌, ap, sym, arith, rules}
+use Rattle.std.proofs.{Common.{◌≡◌, ◌∙◌, ap, sym, arith, rules}, lemmas.Grind.{common_steps}}
 use Rattle.rt_tree.specs.{Packed.{node_at}}
 use Rattle.rt_search.specs.Work.{its_children, one_node}
 use Rattle.rt_search.proofs.{Children.{asked, children_of}}
@@ -35,6 +35,18 @@ walk_child-returns-then-visit_node-clause-taken g t c =
 
 pub walk_child-returns-else-visit_node-clause-taken : goal.walk_child-returns-else-visit_node-clause-taken
 walk_child-returns-else-visit_node-clause-taken g t c = search (rules, known)
+
+pub walk_under-returns-then-node-eq1-clause-taken : goal.walk_under-returns-then-node-eq1-clause-taken
+walk_under-returns-then-node-eq1-clause-taken g t c = grind (arith, common_steps)
+
+pub walk_under-overflow_cast-i : goal.walk_under-overflow_cast-i
+walk_under-overflow_cast-i g t c = grind (arith, common_steps)
+
+pub walk_under-overflow_add-first : goal.walk_under-overflow_add-first
+walk_under-overflow_add-first g t c = grind (arith, common_steps)
+
+pub walk_under-node-whole-requires : goal.walk_under-node-whole-requires
+walk_under-node-whole-requires g t c = grind (arith, common_steps)
 
 pub walk_under-walk_child-requires : goal.walk_under-walk_child-requires
 walk_under-walk_child-requires g t c κs within =

@@ -1,9 +1,19 @@
+use Rattle.std.proofs.lemmas.Grind.{common_steps}
 use Rattle.std.proofs.{Common.{◌≡◌, FitsSigned, IfSome, arith, rules, subst, w64}, lemmas.Int.{to_z-of_z}}
 use Rattle.rt_geo.specs.Laws.{extent_of_entry}
 use Rattle.rt_search.specs.Walking.{HasTaken, answers_among}
 use Rattle.rt_search.proofs.Children.{entries_count, entry_question, leaf_read}
 use Rattle.rt_search.proofs.Walks.{few_entries, one_entry, taken-append, taken_room}
 use Rattle.rt_search.proofs.walk.visit_entries.Goals as goal
+
+pub overflow_cast-i : goal.overflow_cast-i
+overflow_cast-i g c = grind (arith, common_steps)
+
+pub overflow_add-first : goal.overflow_add-first
+overflow_add-first g c = grind (arith, common_steps)
+
+pub layers_at-layers-requires : goal.layers_at-layers-requires
+layers_at-layers-requires g c = grind (arith, common_steps)
 
 pub check-verdict-requires-clause-honest : goal.check-verdict-requires-clause-honest
 check-verdict-requires-clause-honest g c =
@@ -54,3 +64,9 @@ loop-i-preserved g c =
       geometry = e.geometry;
       asked = (let asked = e.asked in omega arith);
     }
+
+pub returns-clause-taken : goal.returns-clause-taken
+returns-clause-taken g c = grind (arith, common_steps)
+
+pub returns-clause-asked : goal.returns-clause-asked
+returns-clause-asked g c = grind (arith, common_steps)

@@ -1,4 +1,4 @@
-use Rattle.std.proofs.Common.{◌+◌, ◌∙◌, ap, arith, refl, slice_get, sym}
+use Rattle.std.proofs.{Common.{◌+◌, ◌∙◌, ap, arith, refl, slice_get, sym}, lemmas.Grind.{common_steps}}
 use Rattle.rt_tree.proofs.TileLoops.{next_fits, over_tile, tile_more}
 use Rattle.rt_tree.proofs.packing.pack_tile.Goals as goal
 
@@ -20,6 +20,9 @@ loop-key-preserved g c =
       node = c.with_child-node.ensures ∙ more.0;
       packed = c.in_ok-item.ensures.packed ∙ more.1;
     }
+
+pub returns-clause-packed : goal.returns-clause-packed
+returns-clause-packed g c = grind (arith, common_steps)
 
 pub returns-clause-node : goal.returns-clause-node
 returns-clause-node g c =

@@ -5,6 +5,15 @@ use Rattle.rt_tree.proofs.LevelLemmas.{course_more, div_ceil-halves, div_ceil-po
 use Rattle.rt_tree.proofs.LevelSizes.{level_above, level_last}
 use Rattle.rt_tree.proofs.levels.Levels.new.Goals as goal
 
+pub returns-then-size-eq1-clause-few : goal.returns-then-size-eq1-clause-few
+returns-then-size-eq1-clause-few c = grind (arith, common_steps)
+
+pub returns-then-size-eq1-clause-entries : goal.returns-then-size-eq1-clause-entries
+returns-then-size-eq1-clause-entries c = grind arith
+
+pub returns-then-size-eq1-clause-nodes : goal.returns-then-size-eq1-clause-nodes
+returns-then-size-eq1-clause-nodes c = grind arith
+
 pub loop-size-preserved : goal.loop-size-preserved
 loop-size-preserved c =
     let before = c.loop-size.invariant in

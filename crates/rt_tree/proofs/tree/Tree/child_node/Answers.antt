@@ -1,4 +1,4 @@
-use Rattle.std.proofs.Common.{arith}
+use Rattle.std.proofs.{Common.{arith}, lemmas.Grind.{elements}}
 use Rattle.rt_tree.proofs.PackSound.{child_inside}
 use Rattle.rt_tree.proofs.tree.Tree.child_node.Goals as goal
 
@@ -11,6 +11,9 @@ overflow_add-result c =
       sound.few_nodes,
       child_inside _ c.args.no.number c.args.index c.get.result sound asked.inside c.get.ensures asked.level asked.index,
     )
+
+pub returns-clause-value : goal.returns-clause-value
+returns-clause-value c = grind (arith, elements)
 
 pub returns-clause-inside : goal.returns-clause-inside
 returns-clause-inside c =
