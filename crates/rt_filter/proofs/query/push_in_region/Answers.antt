@@ -1,4 +1,4 @@
-use Rattle.std.proofs.Common.{◌∙◌, arith, sym}
+use Rattle.std.proofs.Common.{◌∙◌, arith, rules, sym}
 use Rattle.rt_filter.proofs.LayerLemmas.{boxes_on_all, report_on-disc}
 use Rattle.rt_filter.proofs.query.push_in_region.Goals as goal
 
@@ -14,3 +14,9 @@ returns-in-Some-clause-pushed g c =
 
 pub find-requires-clause-unscored : goal.find-requires-clause-unscored
 find-requires-clause-unscored g c e = absurd (grind (arith, e))
+
+pub returns-in-Inside-clause-pushed : goal.returns-in-Inside-clause-pushed
+returns-in-Inside-clause-pushed g c = search (rules, boxes_on_all)
+
+pub returns-then-bits-clause-pushed : goal.returns-then-bits-clause-pushed
+returns-then-bits-clause-pushed g c = search rules

@@ -1,4 +1,4 @@
-use Rattle.std.proofs.Common.{arith}
+use Rattle.std.proofs.Common.{arith, rules}
 use Rattle.rt_search.proofs.{Collectors.{tally_counts}, WalkWhole.{tree_count}}
 use Rattle.rt_search.proofs.counting.count.Goals as goal
 
@@ -7,3 +7,6 @@ walk-opened-requires-clause-room g c sound = omega (arith, sound.table.few)
 
 pub returns-clause-accepted : goal.returns-clause-accepted
 returns-clause-accepted g c = omega (arith, tally_counts, tree_count)
+
+pub returns-clause-items : goal.returns-clause-items
+returns-clause-items g c = search rules

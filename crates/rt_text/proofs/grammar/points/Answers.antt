@@ -27,3 +27,6 @@ loop-vertex-preserved c =
           ∙ points_after-more so_far left before after c.in_ok-point.field-0 c.in_ok-point.ensures
           ∙ ap (λ vertices. points_after vertices left after) (sym c.push.ensures.items);
     }
+
+pub loop-vertex-init : goal.loop-vertex-init
+loop-vertex-init c = search rules

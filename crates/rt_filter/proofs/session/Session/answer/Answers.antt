@@ -41,3 +41,6 @@ pub returns-clause-heard : goal.returns-clause-heard
 returns-clause-heard g c = rw (← c.self.view_is) (λ fed is.
     let told = answered-heard _ _ _ _ _ _ _ c.loop-at.invariant.answered (found_none c.loop-at.rest.now c.in_default.ensures) _ refl fed is in
     search rules)
+
+pub returns-clause-flushed : goal.returns-clause-flushed
+returns-clause-flushed g c = search rules

@@ -22,3 +22,6 @@ invariant_of-self-in-Err-add c =
     let kept = c.in-Ok.ensures.ok in
     rw (c.pop.ensures, kept, pushed-popped c.self.inside.entries c.args.entry)
     (record { table = c.self.invariant.table; ids_are = λ id. c.in-Err-add.ensures.err id ∙ c.self.invariant.ids_are id })
+
+pub returns-then-has-clause-repeated : goal.returns-then-has-clause-repeated
+returns-then-has-clause-repeated c = search rules
