@@ -134,8 +134,8 @@ static int begin(void)
     return 0;
 }
 
-/* Takes leave of children that have ended, as a signal tells. */
-static void wait_for_children(int signals)
+/* Reaps children that have ended, as SIGCHLD tells. */
+static void reap_children(int signals)
 {
     struct signalfd_siginfo one;
     int status;
@@ -165,7 +165,7 @@ static void serve(void)
         if (polled[0].revents & POLLHUP)
             kill(0, SIGKILL);
         if (polled[1].revents)
-            wait_for_children(polled[1].fd);
+            reap_children(polled[1].fd);
         if (polled[0].revents && begin())
             return;
     }

@@ -40,16 +40,16 @@ def main(words: Sequence[str]) -> int:
             listeners = opened(args, stack)
             if not listeners:
                 parser.error("nowhere to listen: --unix, --tcp, or a socket of systemd")
-            asked = stack.enter_context(tcp_listener(*args.health)) if args.health else None
+            health_listener = stack.enter_context(tcp_listener(*args.health)) if args.health else None
             library = prefork.library_of(args.program)
             if library is None:
                 raise FileNotFoundError(f"no program {args.program}, or no {prefork.LIBRARY} with it")
             for listener in listeners:
                 log(f"listening on {name_of(listener.getsockname())}")
-            if asked:
-                log(f"health on {name_of(asked.getsockname())}")
+            if health_listener:
+                log(f"health on {name_of(health_listener.getsockname())}")
             start = partial(prefork.start, [args.program, *args.options, "--", args.table], library)
-            return asyncio.run(Service(args, start, listeners).run(asked))
+            return asyncio.run(Service(args, start, listeners).run(health_listener))
     except OSError as error:
         log(f"rtfilter-serve: {error}")
     return NO_SERVICE
@@ -57,7 +57,7 @@ def main(words: Sequence[str]) -> int:
 
 def prepare(nice: int) -> None:
     """Standard files are open, or what is opened next would be taken for them; a log that nobody reads keeps no process
-    from its end; signals wait for who heeds them, whatever was ignored; there are descriptors for connections."""
+    from its end; signals wait to be handled, whatever was ignored; there are descriptors for connections."""
     while (descriptor := os.open(os.devnull, os.O_RDWR)) <= 2:
         pass
     os.close(descriptor)

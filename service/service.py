@@ -1,4 +1,4 @@
-"""The programs of a service: one that is given who connects, and for a while another, which loads or is left."""
+"""The programs of a service: the one that is given new connections, and for a while another, which loads or drains."""
 
 import asyncio
 import contextlib
@@ -23,7 +23,7 @@ from listening import peer_of
 PAUSE, BETWEEN_COMPLAINTS = 0.1, 10.0  # seconds before another try to accept, and before that is told again
 FIRST_PAUSE, LONGEST_PAUSE = 0.1, 10.0  # seconds before a program is started anew
 GRACE = 2.0  # seconds that a program has to begin what it was given
-MOST_SENT = 4  # connections that a program may have to begin yet: others wait where they have connected
+MOST_PENDING = 4  # connections that a program may have to begin yet: others wait in the backlog
 RESERVED = 100  # descriptors that connections leave to loads and to health, or half of all where there are few
 LONGEST_ERROR = 1 << 12  # bytes of what a program tells of a load
 NO_SERVICE = 1
@@ -40,12 +40,12 @@ def log(text: str) -> None:
             os.write(2, f"{text}\n".encode(errors="surrogateescape"))
 
 
-def heed(loop: asyncio.AbstractEventLoop, acts: Mapping[int, Callable[[], object]]) -> None:
-    """Does in the loop what signals ask for, in a thread of its own. They are blocked, so that none is lost however
-    many there are."""
-    with contextlib.suppress(RuntimeError):  # the loop is over
+def handle_signals(loop: asyncio.AbstractEventLoop, handlers: Mapping[int, Callable[[], object]]) -> None:
+    """Has the loop call the handlers of signals, from a thread of its own. The signals are blocked, so that none is
+    lost however many there are."""
+    with contextlib.suppress(RuntimeError):  # the loop is closed
         while True:
-            loop.call_soon_threadsafe(acts[signal.sigwait(acts)])
+            loop.call_soon_threadsafe(handlers[signal.sigwait(handlers)])
 
 
 def notify(text: str) -> None:
@@ -62,8 +62,8 @@ class Table:
         self.process, self.control, self.first = started
         self.first.setblocking(False)
         self.size, self.loaded = 0, 0.0  # boxes, and when
-        self.sent = deque([End()])  # of what it has yet to begin; the first is nobody's
-        self.begun: dict[int, End] = {}  # by processes
+        self.pending = deque([End()])  # connections that it has yet to begin; the first is nobody's
+        self.running: dict[int, End] = {}  # connections by their processes
 
 
 class Service:
@@ -72,63 +72,63 @@ class Service:
     def __init__(self, args: Namespace, start: Start, listeners: list[socket.socket]) -> None:
         self._args, self._start, self._listeners = args, start, listeners
         self._tables: list[Table] = []  # whose programs haven't ended: at most two
-        self._table: Table | None = None  # of who connects
-        self._is_asked = False  # to exchange the table
+        self._table: Table | None = None  # of new connections
+        self._is_reload_requested = False
         self._changed = asyncio.Event()  # any of these
         self._counts = Counter(connections=0, connections_total=0, connections_refused_total=0)
         descriptors, _ = resource.getrlimit(resource.RLIMIT_NOFILE)
         self._room = descriptors - min(RESERVED, descriptors // 2)  # for connections
-        self._complained = -BETWEEN_COMPLAINTS
+        self._last_complaint = -BETWEEN_COMPLAINTS
         self._pause = FIRST_PAUSE
         self._status = NO_SERVICE  # where the first table isn't loaded
 
-    async def run(self, asked: socket.socket | None) -> int:
-        """Serves until the end, and gives the exit status. Who connects to `asked` asks for health."""
+    async def run(self, health_listener: socket.socket | None) -> int:
+        """Serves until it is told to end, and returns the exit status."""
         loop = asyncio.get_running_loop()
         loop.set_exception_handler(lambda _, it: log(f"rtfilter-serve: {it['message']}: {it.get('exception')}"))
-        if asked:
-            await health.serve(asked, self._metrics)
+        if health_listener:
+            await health.serve(health_listener, self._metrics)
         for listener in self._listeners:
             listener.setblocking(False)
-            if listener.family != socket.AF_UNIX:  # who connects has these from it
+            if listener.family != socket.AF_UNIX:  # connections inherit these
                 listener.setsockopt(socket.IPPROTO_TCP, socket.TCP_NODELAY, 1)
                 listener.setsockopt(socket.SOL_SOCKET, socket.SO_KEEPALIVE, 1)
-        keeping = loop.create_task(self._keep())
-        acts = dict(zip(SIGNALS, (self._ask, keeping.cancel, keeping.cancel)))
-        threading.Thread(target=heed, args=(loop, acts), daemon=True).start()
+        keeping = loop.create_task(self._keep_loaded())
+        handlers = dict(zip(SIGNALS, (self._request_reload, keeping.cancel, keeping.cancel)))
+        threading.Thread(target=handle_signals, args=(loop, handlers), daemon=True).start()
         await asyncio.wait([keeping])
         notify("STOPPING=1")
         self._table = None
         await asyncio.gather(*map(self._end, self._tables))
         return 0 if keeping.cancelled() else self._status
 
-    def _ask(self) -> None:
-        if not self._is_asked:  # else it is one of a storm of signals, which are to cost little
+    def _request_reload(self) -> None:
+        if not self._is_reload_requested:  # else it is one of a storm of signals, which are to cost little
             if len(self._tables) > 1:
                 log("the exchange waits until another one is over")
-            self._is_asked = True
-            self._notice()
+            self._is_reload_requested = True
+            self._state_changed()
 
-    def _notice(self) -> None:
-        """Has those who wait for something look again. Who connects is heard where there is a table that takes them at
-        once: else they wait where they are."""
+    def _state_changed(self) -> None:
+        """Wakes what waits for a state. Connections are accepted only while a table can take them at once: else they
+        stay in the backlog."""
         loop = asyncio.get_running_loop()
         for listener in self._listeners:
-            if self._taking():
+            if self._accepting_table():
                 loop.add_reader(listener, self._accept, listener)
             else:
                 loop.remove_reader(listener)
         self._changed.set()
         self._changed.clear()
 
-    async def _until(self, is_so: Callable[[], object], most: float | None = None) -> None:
+    async def _wait_until(self, is_so: Callable[[], object], most: float | None = None) -> None:
         """Waits until something is so, or for so many seconds."""
         with contextlib.suppress(TimeoutError):
             async with asyncio.timeout(most):
                 while not is_so():
                     await self._changed.wait()
 
-    async def _keep(self) -> None:
+    async def _keep_loaded(self) -> None:
         """Loads the table, and anew when asked to, or where its program has ended, after a pause that grows unless that
         has run for a while. Who asks for another table ends the pause. Where it can't be loaded, nothing changes."""
         try:
@@ -136,11 +136,11 @@ class Service:
         except OSError as error:
             return log(str(error))
         while True:
-            await self._until(lambda: self._table is None or self._is_asked and len(self._tables) == 1)
+            await self._wait_until(lambda: self._table is None or self._is_reload_requested and len(self._tables) == 1)
             if self._table is None:
-                await self._until(lambda: self._is_asked, self._pause)
+                await self._wait_until(lambda: self._is_reload_requested, self._pause)
                 self._pause = min(2 * self._pause, LONGEST_PAUSE)
-            self._is_asked = False
+            self._is_reload_requested = False
             notify(f"RELOADING=1\nMONOTONIC_USEC={time.monotonic_ns() // 1000}")
             try:
                 await self._load("ready again")
@@ -154,13 +154,13 @@ class Service:
         with open(os.memfd_create("rtfilter-errors"), "rb") as errors:
             table = Table(self._start(errors.fileno(), 2))
             self._tables.append(table)
-            loop.add_reader(table.control, self._hear, table)
+            loop.add_reader(table.control, self._read_reports, table)
             with table.first, contextlib.suppress(ConnectionError, TimeoutError):  # it hasn't read what it was asked
                 async with asyncio.timeout(self._args.load_timeout) as limit:  # wait_for may lose that it is cancelled
                     reply = await loop.sock_recv(table.first, 100)
             if found := re.fullmatch(rb"ok 1 (\d+)\n", reply):
                 table.size, table.loaded = int(found[1]), time.monotonic()
-                return self._answer_from(table, what)
+                return self._switch_to(table, what)
             await self._end(table)
             told = " ".join(os.pread(errors.fileno(), LONGEST_ERROR, 0).decode(errors="replace").split())
         self._status = max(table.process.returncode, NO_SERVICE)
@@ -168,21 +168,21 @@ class Service:
             told = f"it wasn't loaded in {self._args.load_timeout:g} seconds"
         raise ChildProcessError(told or f"the program has ended, with status {table.process.returncode}")
 
-    def _answer_from(self, table: Table, what: str) -> None:
-        """Gives it who connects from now on. One that stood before keeps its connections."""
+    def _switch_to(self, table: Table, what: str) -> None:
+        """Gives new connections to a table from now on. The one before keeps its own."""
         if self._table:
             what = "the table is exchanged"
             asyncio.create_task(self._drain(self._table))  # what it waits for keeps it
         self._table = table
         log(f"{what}: {table.size} boxes")
         notify(f"READY=1\nSTATUS={table.size} boxes")
-        self._notice()
+        self._state_changed()
 
     async def _drain(self, old: Table) -> None:
         """Leaves a table to its connections for a while. A program that doesn't begin what it was given is ended."""
-        await self._until(lambda: not old.sent, GRACE)
-        await self._until(lambda: old.sent or not old.begun, self._args.drain)
-        if old.begun:
+        await self._wait_until(lambda: not old.pending, GRACE)
+        await self._wait_until(lambda: old.pending or not old.running, self._args.drain)
+        if old.running:
             log("the connections that are left to the old table are ended")
         await self._end(old)
 
@@ -190,65 +190,65 @@ class Service:
         """Ends a program with its connections."""
         if table in self._tables:
             os.killpg(table.process.pid, signal.SIGKILL)
-            await self._until(lambda: table not in self._tables)
+            await self._wait_until(lambda: table not in self._tables)
 
-    def _hear(self, table: Table) -> None:
-        """Takes what a program tells of its connections, as `prefork.c` has it, or leave of the program."""
-        is_heard = table is self._taking()  # and nobody waits for what it tells
+    def _read_reports(self, table: Table) -> None:
+        """Reads what a program reports of its connections, as `prefork.c` has it, and reaps it at its end."""
+        was_accepting = table is self._accepting_table()  # and nothing waits for what it reports
         with contextlib.suppress(BlockingIOError, ConnectionResetError):  # a reset comes before what there is to read
             while report := table.control.recv(prefork.REPORT.size):
-                self._take_report(table, *prefork.REPORT.unpack(report))
-            self._take_leave(table)
-        if not is_heard or table is not self._table:
-            self._notice()
+                self._handle_report(table, *prefork.REPORT.unpack(report))
+            self._reap(table)
+        if not was_accepting or table is not self._table:
+            self._state_changed()
 
-    def _take_report(self, table: Table, process: int, status: int) -> None:
+    def _handle_report(self, table: Table, process: int, status: int) -> None:
         if process < 0:
-            table.sent.popleft().set_result(-status)
+            table.pending.popleft().set_result(-status)
         elif status == prefork.BEGUN:
-            table.begun[process] = table.sent.popleft()
+            table.running[process] = table.pending.popleft()
         else:
-            table.begun.pop(process).set_result(status)
+            table.running.pop(process).set_result(status)
 
-    def _take_leave(self, table: Table) -> None:
-        """Of a program that has ended, and of its connections."""
+    def _reap(self, table: Table) -> None:
+        """Kills what is left of a program's group, its connections too, and waits for it."""
         asyncio.get_running_loop().remove_reader(table.control)
         table.control.close()
         os.killpg(table.process.pid, signal.SIGKILL)
         status = table.process.wait()
         self._tables.remove(table)
-        while table.sent:
-            table.sent.popleft().set_result(None)
-        while table.begun:
-            table.begun.popitem()[1].set_result(signal.SIGKILL)
+        while table.pending:
+            table.pending.popleft().set_result(None)
+        while table.running:
+            table.running.popitem()[1].set_result(signal.SIGKILL)
         if table is self._table:
             self._table = None
             log(f"the program has ended, with status {status}: those who connect wait until another is loaded")
             if time.monotonic() - table.loaded > LONGEST_PAUSE:
                 self._pause = FIRST_PAUSE
 
-    def _taking(self) -> Table | None:
-        """The table that takes who connects, if there is one now."""
-        return self._table if self._table and len(self._table.sent) < MOST_SENT else None
+    def _accepting_table(self) -> Table | None:
+        """The table whose program may be given a connection now, if there is one."""
+        return self._table if self._table and len(self._table.pending) < MOST_PENDING else None
 
     def _accept(self, listener: socket.socket) -> None:
-        """Takes one who connects. Want of room is told now and then, and it is tried again after a pause."""
+        """Accepts a connection. Lack of room is logged now and then, and it is tried again after a pause."""
         loop = asyncio.get_running_loop()
         try:
             if self._counts["connections"] >= self._room:
                 raise OSError(errno.EMFILE, os.strerror(errno.EMFILE))
             loop.create_task(self._serve(*listener.accept()))  # what that waits for keeps it
-        except (BlockingIOError, ConnectionAbortedError):  # who connected has left
+        except (BlockingIOError, ConnectionAbortedError):  # it has been closed meanwhile
             pass
         except OSError as error:
             loop.remove_reader(listener)
-            loop.call_later(PAUSE, self._notice)
-            if time.monotonic() >= self._complained + BETWEEN_COMPLAINTS:
-                self._complained = time.monotonic()
+            loop.call_later(PAUSE, self._state_changed)
+            if time.monotonic() >= self._last_complaint + BETWEEN_COMPLAINTS:
+                self._last_complaint = time.monotonic()
                 log(f"no connection accepted: {error.strerror}")
 
     async def _serve(self, connection: socket.socket, address: object) -> None:
-        """One who has connected, to the end. The socket is open here until that is counted: whoever sees the end of one
+        """Serves a connection to its end. The socket stays open here until that is counted: whoever sees the end of one
         may open another."""
         begun = time.monotonic()
         self._counts.update(("connections", "connections_total"))
@@ -256,7 +256,7 @@ class Service:
         if self._counts["connections"] > self._args.connections:
             self._counts["connections_refused_total"] += 1
             how = f"refused, there are {self._args.connections} connections"
-        elif (status := await self._status_of(connection)) < 0:
+        elif (status := await self._exit_status_of(connection)) < 0:
             how = f"not begun: {os.strerror(-status)}"
         else:
             code = os.waitstatus_to_exitcode(status)
@@ -268,20 +268,20 @@ class Service:
             connection.shutdown(socket.SHUT_RDWR)  # a process that was killed may hold it for a moment yet
         log(f"{name}: {how}")
 
-    async def _status_of(self, connection: socket.socket) -> int:
-        """How a connection's process has ended; below 0, why there was none. A program that ends before it has begun it
-        leaves it to the next."""
+    async def _exit_status_of(self, connection: socket.socket) -> int:
+        """The wait status of a connection's process; below 0, why there was none. A connection that a program hadn't
+        begun when it ended is given to the next."""
         try:
             for option, most in (socket.SO_RCVTIMEO, self._args.silence), (socket.SO_SNDTIMEO, self._args.patience):
                 connection.setsockopt(socket.SOL_SOCKET, option, struct.pack("ll", int(most), int(most % 1 * 1e6)))
             while True:
-                while not (table := self._taking()):
+                while not (table := self._accepting_table()):
                     await self._changed.wait()
                 with contextlib.suppress(ConnectionError):  # it has just ended, and nothing is begun
                     prefork.give(table.control, connection)
-                table.sent.append(end := End())
-                if not self._taking():
-                    self._notice()
+                table.pending.append(end := End())
+                if not self._accepting_table():
+                    self._state_changed()
                 if (status := await end) is not None:
                     return status
         except OSError as error:

@@ -62,7 +62,7 @@ class Ends(Case):
                 until(lambda: not any(map(is_there, processes)), "the end of all processes")
 
     def test_an_end_at_any_moment(self) -> None:
-        """Of exchanges: the signal is heeded."""
+        """Of exchanges: the signal is handled."""
         chance = random.Random(1)
         for _ in range(15):
             service = self.served()
