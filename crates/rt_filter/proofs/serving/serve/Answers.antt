@@ -26,6 +26,15 @@ pub returns-in_default-clause-most : goal.returns-in_default-clause-most
 returns-in_default-clause-most g c =
     pulled_within _ _ _ _ _ c.loop-turn.invariant.pulled c.in_default.ensures.counted c.loop-turn-test.true
 
+pub returns-in_default-clause-pushes : goal.returns-in_default-clause-pushes
+returns-in_default-clause-pushes g c = search rules
+
+pub returns-in_default-clause-pulls : goal.returns-in_default-clause-pulls
+returns-in_default-clause-pulls g c = search rules
+
+pub returns-in_default-clause-flushed : goal.returns-in_default-clause-flushed
+returns-in_default-clause-flushed g c = search rules
+
 pub returns-in_default-end-clause-ending : goal.returns-in_default-end-clause-ending
 returns-in_default-end-clause-ending g c loaded packed =
     let s = c.loop-turn.invariant.serving loaded packed in

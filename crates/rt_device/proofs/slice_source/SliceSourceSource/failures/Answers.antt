@@ -1,0 +1,5 @@
+use Rattle.std.proofs.Common.{rules}
+use Rattle.rt_device.proofs.slice_source.SliceSourceSource.failures.Goals as goal
+
+pub returns : goal.returns
+returns c = search rules

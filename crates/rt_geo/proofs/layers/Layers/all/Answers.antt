@@ -1,0 +1,5 @@
+use Rattle.std.proofs.Common.{rules}
+use Rattle.rt_geo.proofs.layers.Layers.all.Goals as goal
+
+pub returns : goal.returns
+returns c = search rules
