@@ -21,7 +21,7 @@ const LONG_EDGE_STEPS: u32 = 1 << 31;
 
 /// The half-plane to the left of a short edge: the points (x, y) where `along_x * y - along_y * x` is at least the
 /// offset.
-#[derive(Clone, Copy, Debug, PartialEq, Eq, Default)]
+#[derive(Clone, Copy, Debug, Default)]
 pub(crate) struct HalfPlane {
     along_x: i32,
     along_y: i32,

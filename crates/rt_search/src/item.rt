@@ -3,7 +3,7 @@
 use rt_tree::NodeNo;
 
 /// A node that waits to be opened.
-#[derive(Clone, Copy, Debug, PartialEq, Eq, PartialOrd, Ord)]
+#[derive(Clone, Copy, PartialEq, Eq, PartialOrd, Ord)]
 pub struct WaitingNode {
     /// Its number.
     pub number: NodeNo,

@@ -1,6 +1,6 @@
 -- A number in front of a text, and as the first word of a line.
 use Rattle.std.proofs.Common.{◌≡◌, ◌∙◌, ◌+◌, ◌-◌, ◌<◌, ◌≤◌, ◌==◌, ℕ, zero, suc, ℤ, pos, Bool, true, false, cond, List, [], ◌∷◌, ◌++◌, Option, Some, None, length, take, drop, refl, sym, ap, arith}
-use Rattle.std.specs.Prelude.{neg_ℤ, option_map}
+use Rattle.std.specs.Prelude.{if◌then◌else◌, neg_ℤ, option_map}
 use Rattle.std.specs.Char.{is_ascii_digit}
 use Rattle.std.specs.List.{list_all, position_or_len}
 use Rattle.std.specs.Str.Parse.{digits_value, starts_with_minus, without_leading_sign}
@@ -9,7 +9,7 @@ use Rattle.std.proofs.lemmas.Bool.Decides.{nat_tests}
 use Rattle.std.proofs.lemmas.List.{take-append-drop}
 use Rattle.rt_text.specs.Numbers.{digits_number, is_numeral, number_text}
 use Rattle.rt_text.specs.Words.{is_blank, words}
-use Rattle.rt_text.proofs.NumberLemmas.{number_text-minus, number_text-plain, without_minus}
+use Rattle.rt_text.proofs.NumberLemmas.{number_text-signed, signed_as}
 use Rattle.rt_text.proofs.WordLemmas.{words_first}
 
 -- ---- in front of a text
@@ -49,20 +49,15 @@ sign-front (c ∷ cs) (suc j) len some full e = by (c == 45) (c == 43) refl refl
         (rw same refl, rw (same, em, ep) refl)
 
 -- the number of a text's front, by its digits
-pub front-minus : (text behind : List ℕ) (k len : ℕ) → starts_with_minus text ≡ true → behind ≡ without_leading_sign text → 0 < length text → 0 < k → k ≤ length behind
-    → list_all is_ascii_digit (take k behind) ≡ true → len ≡ length text - length behind + k → number_text (take len text) ≡ Some (neg_ℤ (pos (digits_value 10 (take k behind))))
-front-minus text behind k len minus b full some within all e =
+pub number_text-front : (text behind : List ℕ) (k len : ℕ) → behind ≡ without_leading_sign text → 0 < length text → 0 < k → k ≤ length behind
+    → list_all is_ascii_digit (take k behind) ≡ true → len ≡ length text - length behind + k
+    → number_text (take len text) ≡ Some (signed_as text (digits_value 10 (take k behind)))
+number_text-front text behind k len b full some within all e =
     let front = sign-front text k len some full (e ∙ ap (λ l. length text - length l + k) b) in
-    let begins : starts_with_minus (take len text) ≡ true = front.0 ∙ minus in
-    let rest : take k behind ≡ drop 1 (take len text) = ap (take k) b ∙ sym front.1 ∙ without_minus (take len text) begins in
-    number_text-minus (take len text) (take k behind) begins rest ∙ ap (option_map (λ n. neg_ℤ (pos n))) (digits_number-front behind k some within all)
-
-pub front-plain : (text behind : List ℕ) (k len : ℕ) → starts_with_minus text ≡ false → behind ≡ without_leading_sign text → 0 < length text → 0 < k → k ≤ length behind
-    → list_all is_ascii_digit (take k behind) ≡ true → len ≡ length text - length behind + k → number_text (take len text) ≡ Some (pos (digits_value 10 (take k behind)))
-front-plain text behind k len minus b full some within all e =
-    let front = sign-front text k len some full (e ∙ ap (λ l. length text - length l + k) b) in
-    number_text-plain (take len text) (take k behind) (front.0 ∙ minus) (ap (take k) b ∙ sym front.1)
-    ∙ ap (option_map pos) (digits_number-front behind k some within all)
+    number_text-signed (take len text)
+    ∙ ap (λ m. option_map (λ n. if m then neg_ℤ (pos n) else pos n) (digits_number (without_leading_sign (take len text)))) front.0
+    ∙ ap (λ l. option_map (signed_as text) (digits_number l)) (front.1 ∙ ap (take k) (sym b))
+    ∙ ap (option_map (signed_as text)) (digits_number-front behind k some within all)
 
 -- ---- as a word
 

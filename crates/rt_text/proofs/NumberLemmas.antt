@@ -1,11 +1,11 @@
 -- Numbers as text: one digit at a time, up to a greatest number, and one range within another.
-use Rattle.std.proofs.Common.{◌≡◌, ◌+◌, ◌*◌, ◌-◌, ◌%◌, ◌<◌, ◌≤◌, ℕ, zero, suc, ℤ, pos, negsuc, ◌^◌, min, Bool, true, false, ◌&&◌, Option, Some, None, List, [], ◌∷◌, map, replicate, drop, take, length, get_or, arith, ◌∙◌, ap, sym, refl, add-one}
+use Rattle.std.proofs.Common.{◌≡◌, ◌+◌, ◌*◌, ◌-◌, ◌%◌, ◌<◌, ◌≤◌, ℕ, zero, suc, ℤ, pos, negsuc, ◌^◌, min, Bool, true, false, ◌&&◌, Option, Some, None, List, [], ◌∷◌, map, replicate, take, length, get_or, arith, ◌∙◌, ap, sym, refl, add-one}
 use Rattle.std.specs.Prelude.{Result, Ok, Err, int_le, if◌then◌else◌, neg_ℤ, option_map}
 use Rattle.std.specs.Char.{digit_value, is_ascii_digit}
 use Rattle.std.specs.Int.Digits.{AllBelowBase, number_from_digits}
 use Rattle.std.specs.List.{list_all}
 use Rattle.std.specs.Simd.Lanes.{zip2}
-use Rattle.std.specs.Str.Parse.{digits_value, starts_with_minus, without_leading_sign}
+use Rattle.std.specs.Str.Parse.{digits_value, signed_digits_value, starts_with_minus, without_leading_sign}
 use Rattle.std.proofs.Math.Nat.{pow-le-pow_right, pow-suc}
 use Rattle.std.proofs.lemmas.Bool.Decides.{nat_tests}
 use Rattle.std.proofs.lemmas.Int.Digits.{digits_value_is, digits_value_more, number_lt}
@@ -115,33 +115,26 @@ in_range-narrower_ok least most low high (Some m) n e = by (int_le least m && in
     by true p = let x : ◌≡◌ {A = Result ℤ NumberFault} (Ok n) (Ok m) = e ∙ if_true _ _ _ p in let y : n ≡ m = cc in rw y refl
     by false p = let x : ◌≡◌ {A = Result ℤ NumberFault} (Ok n) (Err fault.OutOfRange) = e ∙ if_false _ _ _ p in absurd cc
 
--- ---- a minus
+-- ---- a text that is read whole
 
-negated : (b : Bool) (n : ℕ) → (if b then Some (neg_ℤ (pos n)) else None) ≡ option_map (λ m. neg_ℤ (pos m)) (if b then Some n else None)
-negated true n = refl
-negated false n = refl
+-- the number in front of a text, where it takes all of it
+pub number_text-whole : (text : List ℕ) (len : ℕ) (n : ℤ) → len ≡ length text → number_text (take len text) ≡ Some n → number_text text ≡ Some n
+number_text-whole text len n all read = ap number_text (sym (take_all len text (omega (arith, all)))) ∙ read
 
--- the number of a text that begins with a minus, by the digits after it
-pub number_text-minus : (text digits : List ℕ) → starts_with_minus text ≡ true → digits ≡ drop 1 text
-    → number_text text ≡ option_map (λ n. neg_ℤ (pos n)) (digits_number digits)
-number_text-minus text digits minus e = rw (minus, e) (negated (is_numeral (drop 1 text)) (digits_value 10 (drop 1 text)))
+-- ---- a sign
 
--- ---- with and without a sign
+-- the number with the sign that a text begins with
+abbrev pub signed_as : (text : List ℕ) → ℕ → ℤ
+signed_as text n = if starts_with_minus text then neg_ℤ (pos n) else pos n
 
-pub without_minus : (text : List ℕ) → starts_with_minus text ≡ true → without_leading_sign text ≡ drop 1 text
-without_minus text minus = rw minus refl
-
-plain : (minus : Bool) (digits : List ℕ) → minus ≡ false
-    → (if is_numeral digits then Some (if minus then neg_ℤ (pos (digits_value 10 digits)) else pos (digits_value 10 digits)) else None)
-    ≡ option_map pos (digits_number digits)
-plain minus digits e = rw e (by (is_numeral digits))
+-- the number of a text, by the digits behind its sign
+pub number_text-signed : (text : List ℕ) → number_text text ≡ option_map (signed_as text) (digits_number (without_leading_sign text))
+number_text-signed text = by (is_numeral digits)
   where
-    by : (b : Bool) → (if b then Some (pos (digits_value 10 digits)) else None) ≡ option_map pos (if b then Some (digits_value 10 digits) else None)
+    digits : List ℕ
+    digits = without_leading_sign text
+
+    by : (b : Bool) → (if b then Some (signed_digits_value 10 text) else None)
+        ≡ option_map (signed_as text) (if b then Some (digits_value 10 digits) else None)
     by true = refl
     by false = refl
-
--- the number of a text that begins with no minus, by the digits behind its plus, if there is one
-pub number_text-plain : (text digits : List ℕ) → starts_with_minus text ≡ false → digits ≡ without_leading_sign text
-    → number_text text ≡ option_map pos (digits_number digits)
-number_text-plain text digits e d = plain (starts_with_minus text) (without_leading_sign text) e
-    ∙ ap (λ l. option_map pos (digits_number l)) (sym d)

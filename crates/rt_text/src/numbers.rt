@@ -153,10 +153,14 @@ fn without_sign(text: &[u8]) -> &[u8]
 fn signed(text: &[u8]) -> Result<i128, NumberFault>
     ensures { result ≡ number_in i128.MIN i128.MAX text.now }
 {
-    let number = match text {
-        [b'-', digits @ ..] => 0i128.checked_sub_unsigned(magnitude(digits)?),
-        [b'+', digits @ ..] => 0i128.checked_add_unsigned(magnitude(digits)?),
-        digits => 0i128.checked_add_unsigned(magnitude(digits)?),
+    if text.is_empty() {
+        return Err(NumberFault::NotNumber);
+    }
+    let magnitude = magnitude(without_sign(text))?;
+    let number = if text[0] == b'-' {
+        0i128.checked_sub_unsigned(magnitude)
+    } else {
+        0i128.checked_add_unsigned(magnitude)
     };
     number.ok_or(NumberFault::OutOfRange)
 }

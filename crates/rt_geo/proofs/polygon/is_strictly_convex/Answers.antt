@@ -7,3 +7,12 @@ loop-to-init c = list_all-edges _ c.args.vertices.now _ c.requires c.last_vertex
 
 pub loop-to-preserved : goal.loop-to-preserved
 loop-to-preserved c = grind (arith, common_steps)
+
+pub overflow_add-left_of : goal.overflow_add-left_of
+overflow_add-left_of c = grind (arith, common_steps)
+
+pub returns-then-left_of-vertices : goal.returns-then-left_of-vertices
+returns-then-left_of-vertices c = grind (arith, common_steps)
+
+pub returns : goal.returns
+returns c = grind (arith, common_steps)

@@ -1,5 +1,5 @@
-use Rattle.std.proofs.Common.{◌∙◌, ◌++◌, ◌∷◌, [], FitsSigned, ap, rules, subst, sym, take, w64}
-use Rattle.std.proofs.lemmas.{Int.{to_z-of_z}, List.{map_more, Elements.{All-more}}}
+use Rattle.std.proofs.Common.{◌∙◌, ◌++◌, ◌∷◌, [], FitsSigned, ap, arith, rules, subst, sym, take, w64}
+use Rattle.std.proofs.lemmas.{Grind.{common_steps}, Int.{to_z-of_z}, List.{map_more, Elements.{All-more}}}
 use Rattle.std.proofs.lemmas.Option.{get_or_from_slice_get, slice_get_within}
 use Rattle.rt_geo.specs.Entries.{HasBox}
 use Rattle.rt_geo.specs.declared.entry.Entry.{Entry}
@@ -23,3 +23,9 @@ loop-place-preserved c =
       boxes = All-more HasBox entries place entry there c.loop-place.invariant.boxes
           (subst HasBox is box);
     }
+
+pub returns-clause-ids : goal.returns-clause-ids
+returns-clause-ids c = grind (arith, common_steps)
+
+pub returns-clause-boxes : goal.returns-clause-boxes
+returns-clause-boxes c = grind (arith, common_steps)

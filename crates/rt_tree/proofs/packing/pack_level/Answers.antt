@@ -1,7 +1,7 @@
 use Rattle.rt_tree.specs.SortKeys.{box_of}
 use Rattle.std.proofs.Common.{◌≡◌, ◌∙◌, ap, arith, length, min}
 use Rattle.std.specs.Slice.Iter.{chunks_rest, chunks_size}
-use Rattle.std.proofs.lemmas.List.{take_at}
+use Rattle.std.proofs.lemmas.{Grind.{common_steps}, List.{take_at}}
 use Rattle.rt_tree.proofs.TileLoops.{level_done, level_first, level_more, next_tile}
 use Rattle.rt_tree.proofs.packing.pack_level.Goals as goal
 
@@ -45,3 +45,6 @@ pub returns-clause-nodes : goal.returns-clause-nodes
 returns-clause-nodes g c =
     level_done (g.T.Items.list c.args.items.now) g.T.Items.extent g.T.Items.size c.args.level c.args.fanout
     _ _ _ c.loop-tile.nodes _ c.in-None.ensures.steps.1.0 c.loop-tile.invariant.part
+
+pub returns-clause-packed : goal.returns-clause-packed
+returns-clause-packed g c = grind (arith, common_steps)

@@ -1,4 +1,5 @@
-use Rattle.std.proofs.{Common.{◌+◌, ◌∙◌, ap, arith, refl, slice_get, sym}, lemmas.Grind.{common_steps}}
+use Rattle.std.proofs.{Common.{◌+◌, ◌∙◌, ap, arith, refl, slice_get, subst, sym}, lemmas.Grind.{common_steps}}
+use Rattle.std.proofs.lemmas.Option.{get_or_from_slice_get, slice_get_within}
 use Rattle.rt_tree.proofs.TileLoops.{next_fits, over_tile, tile_more}
 use Rattle.rt_tree.proofs.packing.pack_tile.Goals as goal
 
@@ -31,3 +32,10 @@ returns-clause-node g c =
     c.loop-key.invariant.node ∙ over_tile g.T.Items.extent g.T.Items.size items c.args.tile.now c.loop-key.key-index
     c.args.level c.count.result _ c.item.result c.new.result c.bounds.result c.requires.some c.loop-key-test.false at
     (ap (λ b. record { bits = b }) c.new.ensures) c.bounds.ensures c.count.ensures
+
+pub with_child-node-requires-clause-layers : goal.with_child-node-requires-clause-layers
+with_child-node-requires-clause-layers g c =
+    let items = g.T.Items.list c.args.items.now in
+    let item = c.in_ok-item.item in
+    let at = c.in_ok-item.ensures.item in
+    subst g.T.Items.has_layers (get_or_from_slice_get items _ item item at) (c.requires.layers _ item (slice_get_within items _ item at))

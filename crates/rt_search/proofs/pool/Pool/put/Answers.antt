@@ -1,4 +1,4 @@
-use Rattle.std.proofs.{Common.{arith}, lemmas.List.{length-append}}
+use Rattle.std.proofs.{Common.{arith}, lemmas.{Grind.{common_steps}, List.{length-append}}}
 use Rattle.std.proofs.lemmas.List.Sorted.{IsPermutation-append_left, length_permutation}
 use Rattle.std.specs.{BinaryHeap.{heap_items}}
 use Rattle.rt_search.proofs.{Heaps.{on_ok}, Pools.{far_more, put_right}}
@@ -21,3 +21,6 @@ invariant_of-self-2 c =
 
 pub returns-clause-keys : goal.returns-clause-keys
 returns-clause-keys c = grind (arith, put_right)
+
+pub push_reserved-requires : goal.push_reserved-requires
+push_reserved-requires c = grind (arith, common_steps)

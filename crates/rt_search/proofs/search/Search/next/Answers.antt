@@ -1,4 +1,4 @@
-use Rattle.std.proofs.Common.{◌≡◌, None, arith, rules}
+use Rattle.std.proofs.{Common.{◌≡◌, None, arith, rules}, lemmas.Grind.{common_steps}}
 use Rattle.rt_search.proofs.Giving.{end, give, given_low}
 use Rattle.rt_search.proofs.search.Search.next.Goals as goal
 
@@ -43,3 +43,9 @@ returns-in_err-answer-clause-worked_in_all g c =
     let going = rw (← c.deref_mut.ensures.value) at c.self.invariant.giving in
     let none : c.from_residual.result ≡ None = search rules in
     rw (none, ← c.self.view_is) (end going (search rules) (search rules) (c.in_err-answer.ensures.step _ going.state)).worked
+
+pub returns-then-eq-clause-answer : goal.returns-then-eq-clause-answer
+returns-then-eq-clause-answer g c = grind (arith, common_steps)
+
+pub returns-then-eq-clause-none : goal.returns-then-eq-clause-none
+returns-then-eq-clause-none g c = grind (arith, common_steps)

@@ -1,4 +1,4 @@
-use Rattle.std.proofs.{Common.{◌∙◌, ◌||◌, FitsSigned, ap, rules, sym, w64}, lemmas.Int.{to_z-of_z}}
+use Rattle.std.proofs.{Common.{◌∙◌, ◌||◌, FitsSigned, ap, arith, rules, sym, w64}, lemmas.{Grind.{common_steps}, Int.{to_z-of_z}}}
 use Rattle.std.specs.Ordering.{int_eq}
 use Rattle.rt_tree.proofs.RepeatLemmas.{ids-more, repeat-here, repeat-later}
 use Rattle.rt_tree.proofs.ids.Ids.one_by_one.Goals as goal
@@ -25,3 +25,9 @@ returns-then-has-clause-fault c =
     let fits : FitsSigned w64 entry.id = search rules in
     repeat-here c.args.entries.now c.loop-place.place entry c.get-id.ensures so_far.once (sym (so_far.ids entry.id)
     ∙ (simp (to_z-of_z, fits) at (sym c.has.ensures ∙ c.if-has.true)))
+
+pub returns-clause-ids : goal.returns-clause-ids
+returns-clause-ids c = grind (arith, common_steps)
+
+pub returns-clause-once : goal.returns-clause-once
+returns-clause-once c = grind (arith, common_steps)
