@@ -1,19 +1,20 @@
 -- A run over a table that was loaded, and over one that was refused.
 use Rattle.std.proofs.Common.{◌≡◌, ◌≢◌, ◌∙◌, ◌+◌, ◌<◌, ℕ, Bool, true, arith, List, [], ◌++◌, length, Option, None, Some}
 use Rattle.std.proofs.{Common.{sym, ap, subst, append-nil}, lemmas.List.{length-append}}
-use Rattle.std.specs.Prelude.{Ok, Result, if◌then◌else◌}
+use Rattle.std.specs.Prelude.{Ok, Result, if◌then◌else◌, option_map}
 use Rattle.rt_command.specs.Choices.{Choices}
 use Rattle.rt_geo.specs.declared.entry.Entry.{Entry}
 use Rattle.rt_text.specs.{Steps.{◌>>=◌}, Tables.{table_of}, declared.tables.TableFault.{TableFault}}
 use Rattle.rt_tree.specs.{Packed.{Packed}, Packing.{pack_of}}
 use Rattle.rt_filter.specs.Endings.{ConsumedAtLeast, Ends, EndsWith, Happened, Serves, ServesWith, SinkTells, SourceTells}
-use Rattle.rt_filter.specs.{Endings.{StillTells}, Faults.{status_of}, Replies.{Loaded}}
+use Rattle.rt_text.specs.{RunFaults.{status_of}, declared.run_faults.RunFault.{RunFault}}
+use Rattle.rt_filter.specs.{Endings.{StillTells, told_as}, Replies.{Loaded}}
 use Rattle.rt_filter.specs.{Replies.{tree_of}, Runs.{loaded_of, run_of, run_over}, Stages.{HasLoaded, Stops}}
-use Rattle.rt_filter.specs.{Stages.{is_of_load, run_fault_of}, declared.filter.{Outcome.{Outcome}, RunFault.{RunFault}}}
+use Rattle.rt_filter.specs.{Stages.{is_of_load}, declared.filter.Outcome.{Outcome}}
 use Rattle.rt_filter.specs.declared.serving.{ServeFault.{ServeFault}, Served.{Served}}
 use Rattle.rt_filter.proofs.{ServingLemmas.{consumes_none, sink_tells, so_far, source_tells}, PushLemmas.{nothing_pushed}}
 use Rattle.rt_text.specs.declared.tables.TableFault.TheVariants as load
-use Rattle.rt_filter.specs.declared.filter.RunFault.TheVariants as run
+use Rattle.rt_text.specs.declared.run_faults.RunFault.TheVariants as run
 use Rattle.rt_filter.specs.declared.serving.ServeFault.TheVariants as serve
 use Rattle.std.proofs.Common.{rules}
 
@@ -61,21 +62,21 @@ module _ (choices : Choices) (table : List ℕ) (coming written : Option (List �
 module _ (choices : Choices) (table : List ℕ) (coming coming' written written' : Option (List ℕ)) where
   -- a fault of serving is told as one of the run
   source_so : (cause : Option ServeFault) (what : Happened) (coming coming' : Option (List ℕ)) → SourceTells (cause ≡ Some serve.Read) coming coming' what
-      → SourceTells (run_fault_of cause ≡ Some run.Read) coming coming' what
+      → SourceTells (option_map told_as cause ≡ Some run.Read) coming coming' what
   source_so cause what coming coming' t = grind (arith, t)
 
   sink_so : (cause : Option ServeFault) (what : Happened) (written written' : Option (List ℕ)) → SinkTells (cause ≡ Some serve.Write) written written' what
-      → SinkTells (run_fault_of cause ≡ Some run.Write) written written' what
+      → SinkTells (option_map told_as cause ≡ Some run.Write) written written' what
   sink_so cause what written written' t = grind (arith, t)
 
   served_row : (loaded : Loaded) (what : Happened) (bad : Bool) (cause : Option ServeFault) (status : ℕ)
       → loaded_of choices table ≡ Ok loaded → ServesWith loaded what bad cause → (cause ≡ None → status ≡ (if bad then 1 else 0))
-      → EndsWith (loaded_of choices table) what (record { status = status; fault = run_fault_of cause }) (run_fault_of cause)
+      → EndsWith (loaded_of choices table) what (record { status = status; fault = option_map told_as cause }) (option_map told_as cause)
   served_row loaded what bad cause status same w is = grind (arith, same, w, is)
 
   pub ends_served : (tree : Packed) (served : Served) → HasLoaded choices table tree
       → ((loaded : Loaded) → tree ≡ tree_of loaded → Serves loaded coming coming' written written' served)
-      → (outcome : Outcome) → outcome.fault ≡ run_fault_of served.fault → (served.fault ≡ None → outcome.status ≡ (if served.bad then 1 else 0))
+      → (outcome : Outcome) → outcome.fault ≡ option_map told_as served.fault → (served.fault ≡ None → outcome.status ≡ (if served.bad then 1 else 0))
       → Ends choices table coming coming' written written' outcome
   ends_served tree served h s outcome fault status = search (rules, source_so, sink_so, served_row)
 

@@ -7,8 +7,9 @@ use Rattle.rt_geo.specs.declared.region.Region.TheVariants.{All, Circle}
 use Rattle.rt_text.proofs.Rows.{boxes, boxes_entries, boxes_load, line}
 use Rattle.rt_text.specs.declared.query.{Query.TheVariants.{Boxes}, Report.TheVariants.{Answers}}
 use Rattle.rt_search.specs.Answers.{answers}
-use Rattle.rt_filter.specs.{Faults.{run_fault_line}, Lines.{numbered_lines}, Replies.{meaning_of, query_reply}, Runs.{run_of, run_over}}
-use Rattle.rt_filter.specs.declared.filter.{Outcome.{Outcome}, RunFault.TheVariants.{Table}}
+use Rattle.rt_filter.specs.{Lines.{numbered_lines}, Replies.{meaning_of, query_reply}, Runs.{run_of, run_over}}
+use Rattle.rt_text.specs.{RunFaults.{run_fault_line}, declared.run_faults.RunFault.TheVariants.{Table}}
+use Rattle.rt_filter.specs.declared.filter.{Outcome.{Outcome}}
 use Rattle.rt_filter.proofs.RunLemmas.{loaded_with, whole_run}
 use Rattle.rt_text.specs.declared.tables.TableFault.TheVariants as fault
 

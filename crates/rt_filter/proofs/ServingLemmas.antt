@@ -6,8 +6,10 @@ use Rattle.std.specs.{Io.{StartsWith, KnownBytes.{Consumes, IsAtEnd}}, Prelude.{
 use Rattle.rt_device.specs.Devices.{IsSameIfTold, PulledTimes}
 use Rattle.rt_text.specs.Words.{is_empty}
 use Rattle.rt_filter.specs.{Endings.{ConsumedAtLeast, Happened, Serves, SinkTells, SourceTells}, Lines.{completed}}
-use Rattle.rt_filter.specs.{Lines.{longest_line, numbered_lines}, Pushes.{WasCut, WasPushed}, Replies.{Loaded}}
-use Rattle.rt_filter.specs.{Replies.{any_fault, output}, Sessions.{Heard, heard_of}, Stages.{IsServing}}
+use Rattle.rt_text.specs.Queries.{longest_line}
+use Rattle.rt_filter.specs.{Lines.{numbered_lines}, Pushes.{WasCut, WasPushed}, Replies.{Loaded}}
+use Rattle.rt_filter.specs.{Replies.{any_fault, output}, Sessions.{heard_of}, Stages.{IsServing}}
+use Rattle.rt_filter.specs.declared.session.Heard.{Heard}
 use Rattle.rt_filter.specs.declared.serving.Served.{Served}
 use Rattle.rt_filter.proofs.{LineLemmas.{completed-all}, PushLemmas.{behind, nothing_pushed}}
 use Rattle.rt_filter.proofs.SessionLemmas.{any_fault-append, ended-lines, or_first, output-append, pushed_then}

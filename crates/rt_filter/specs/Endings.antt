@@ -3,15 +3,15 @@ use Rattle.std.specs.Prelude.{◌≡◌, ◌+◌, ◌≤◌, ℕ, List, [], ◌+
 use Rattle.std.specs.Io.{StartsWith}
 use Rattle.std.specs.Io.KnownBytes.{Consumes}
 use Rattle.rt_command.specs.Choices.{Choices}
-use Rattle.rt_text.specs.Words.{is_empty}
+use Rattle.rt_text.specs.{Queries.{longest_line}, Words.{is_empty}}
 use Rattle.rt_text.specs.declared.tables.TableFault.{TableFault}
 use Rattle.rt_text.specs.declared.tables.TableFault.TheVariants as load
-use Rattle.rt_filter.specs.Lines.{longest_line, numbered_lines}
+use Rattle.rt_filter.specs.Lines.{numbered_lines}
 use Rattle.rt_filter.specs.Replies.{Loaded, any_fault, output}
 use Rattle.rt_filter.specs.Runs.{loaded_of, run_over}
 use Rattle.rt_filter.specs.declared.filter.Outcome.{Outcome}
-use Rattle.rt_filter.specs.declared.filter.RunFault.{RunFault}
-use Rattle.rt_filter.specs.declared.filter.RunFault.TheVariants.{Table, Read, Write, Memory}
+use Rattle.rt_text.specs.declared.run_faults.RunFault.{RunFault}
+use Rattle.rt_text.specs.declared.run_faults.RunFault.TheVariants.{Table, Read, Write, Memory}
 use Rattle.rt_filter.specs.declared.serving.ServeFault.{ServeFault}
 use Rattle.rt_filter.specs.declared.serving.ServeFault.TheVariants as serve
 use Rattle.rt_filter.specs.declared.serving.Served.{Served}
@@ -72,6 +72,11 @@ Serves loaded coming coming' written written' served =
     × ServesWith loaded what served.bad served.fault
 
 -- ---- a whole run
+
+-- what a run tells of a fault of serving
+abbrev pub told_as : ServeFault → RunFault
+told_as serve.Read = Read
+told_as serve.Write = Write
 
 -- the table is sound, and serving the queries ended with this fault
 abbrev pub EndsServing : Result Loaded TableFault → Happened → ServeFault → Type 0

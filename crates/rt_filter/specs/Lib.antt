@@ -1,5 +1,4 @@
 pub mod Endings
-pub mod Faults
 pub mod Lending
 pub mod Lines
 pub mod Pushes

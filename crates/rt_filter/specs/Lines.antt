@@ -7,10 +7,6 @@ use Rattle.rt_text.specs.Words.{is_empty}
 abbrev pub is_line_feed : ℕ → Bool
 is_line_feed c = c == 10
 
--- a line of more bytes is too long
-abbrev pub longest_line : ℕ
-longest_line = 4096
-
 -- of the parts between line feeds each but the last is a line; the last is one where no more bytes come and it isn't
 -- empty
 abbrev pub lines_of_parts : (ended : Bool) → List (List ℕ) → List (List ℕ)

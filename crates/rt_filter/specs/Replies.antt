@@ -1,5 +1,5 @@
 -- The bytes that lines are answered with.
-use Rattle.std.specs.Prelude.{ℕ, nat_lt, Bool, true, false, if◌then◌else◌, List, [], ◌++◌, length, flat_map, reverse}
+use Rattle.std.specs.Prelude.{ℕ, Bool, true, false, List, [], ◌++◌, length, flat_map, reverse}
 use Rattle.std.specs.List.{enumerate_from, list_any}
 use Rattle.rt_geo.specs.Laws.{Meaning, guided}
 use Rattle.rt_geo.specs.OnLayers.{on_layers_accepts, on_layers_state}
@@ -16,12 +16,10 @@ use Rattle.rt_text.specs.declared.query.Parsed.{Parsed}
 use Rattle.rt_text.specs.declared.query.Parsed.TheVariants as parsed
 use Rattle.rt_text.specs.declared.query.Query.{Query}
 use Rattle.rt_text.specs.declared.query.Query.TheVariants.{Boxes, Cost, Levels}
-use Rattle.rt_text.specs.declared.query.QueryFault.TheVariants as fault
 use Rattle.rt_text.specs.declared.query.Report.{Report}
 use Rattle.rt_text.specs.declared.query.Report.TheVariants.{Answers, Count}
 use Rattle.rt_search.specs.Answers.{Answer, accepted, answers}
 use Rattle.rt_search.specs.Work.{opened_by_count, opened_by_search}
-use Rattle.rt_filter.specs.Lines.{longest_line}
 
 -- what queries are asked of: the entries of a table, and how many children a node of its tree may have
 pub record Loaded : Type 0 where
@@ -31,10 +29,6 @@ pub record Loaded : Type 0 where
 -- the tree that is searched
 abbrev pub tree_of : Loaded → Packed
 tree_of loaded = pack_of loaded.fanout loaded.entries
-
--- what a line asks, unless it is too long
-abbrev pub judged_line : List ℕ → Parsed
-judged_line line = if nat_lt longest_line (length line) then parsed.Fault fault.LineTooLong else query_of line
 
 -- a line for each answer, then their number
 abbrev pub find_reply : (line : ℕ) → List Answer → List ℕ
@@ -74,7 +68,7 @@ reply loaded line (parsed.Fault cause) = error_line line cause
 
 -- the replies to numbered lines, one after the other
 abbrev pub output : Loaded → List (ℕ × List ℕ) → List ℕ
-output loaded lines = flat_map (λ line. reply loaded line.0 (judged_line line.1)) lines
+output loaded lines = flat_map (λ line. reply loaded line.0 (query_of line.1)) lines
 
 abbrev pub is_fault : Parsed → Bool
 is_fault (parsed.Fault cause) = true
@@ -82,4 +76,4 @@ is_fault other = false
 
 -- some line is faulty
 abbrev pub any_fault : List (ℕ × List ℕ) → Bool
-any_fault lines = list_any (λ line. is_fault (judged_line line.1)) lines
+any_fault lines = list_any (λ line. is_fault (query_of line.1)) lines

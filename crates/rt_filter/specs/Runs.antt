@@ -7,7 +7,7 @@ use Rattle.rt_text.specs.declared.tables.TableFault.{TableFault}
 use Rattle.rt_filter.specs.Lines.{numbered_lines}
 use Rattle.rt_filter.specs.Replies.{Loaded, any_fault, output}
 use Rattle.rt_filter.specs.declared.filter.Outcome.{Outcome}
-use Rattle.rt_filter.specs.declared.filter.RunFault.TheVariants.{Table}
+use Rattle.rt_text.specs.declared.run_faults.RunFault.TheVariants.{Table}
 
 -- what a run writes, and its status and the fault that it reports: of the fault of the table, or over what was loaded,
 -- where the status is 1 if some line is faulty, else 0

@@ -1,23 +1,19 @@
 -- What the private stages of a run promise one another, and what their loops keep. No public contract cites it.
-use Rattle.std.specs.Prelude.{◌≡◌, ◌+◌, ℕ, List, ◌++◌, Bool, true, false, Option, Some, None, Ok, ⊤}
+use Rattle.std.specs.Prelude.{◌≡◌, ◌+◌, ℕ, List, ◌++◌, Bool, true, false, Option, Some, Ok, ⊤}
 use Rattle.std.specs.List.{AllByRecursion, enumerate_from, slice_split}
 use Rattle.std.specs.Io.KnownBytes.{Consumes}
 use Rattle.rt_command.specs.Choices.{Choices}
 use Rattle.rt_text.specs.Tables.{IsFaultOf}
-use Rattle.rt_text.specs.Words.{is_empty}
-use Rattle.rt_text.specs.declared.query.Parsed.{Parsed}
-use Rattle.rt_text.specs.declared.query.Parsed.TheVariants as parsed
-use Rattle.rt_text.specs.declared.query.QueryFault.TheVariants as fault
 use Rattle.rt_tree.specs.Packed.{Packed}
-use Rattle.rt_filter.specs.Lines.{completed, is_line_feed, lines_of_parts, longest_line, numbered_lines}
+use Rattle.rt_text.specs.Queries.{longest_line}
+use Rattle.rt_filter.specs.Lines.{completed, is_line_feed, lines_of_parts, numbered_lines}
 use Rattle.rt_filter.specs.Pushes.{WasPushed}
-use Rattle.rt_filter.specs.Replies.{Loaded, judged_line, output, tree_of}
+use Rattle.rt_filter.specs.Replies.{Loaded, output, tree_of}
 use Rattle.rt_filter.specs.Runs.{loaded_of}
-use Rattle.rt_filter.specs.Sessions.{Heard, heard_of, kept_of}
-use Rattle.rt_filter.specs.declared.filter.RunFault.{RunFault}
-use Rattle.rt_filter.specs.declared.filter.RunFault.TheVariants.{Table, Read, Write, Memory}
-use Rattle.rt_filter.specs.declared.serving.ServeFault.{ServeFault}
-use Rattle.rt_filter.specs.declared.serving.ServeFault.TheVariants as serve
+use Rattle.rt_filter.specs.Sessions.{heard_of}
+use Rattle.rt_filter.specs.declared.session.Heard.{Heard}
+use Rattle.rt_text.specs.declared.run_faults.RunFault.{RunFault}
+use Rattle.rt_text.specs.declared.run_faults.RunFault.TheVariants.{Table, Memory}
 
 -- ---- the load
 
@@ -42,12 +38,6 @@ abbrev pub Stops : Choices → (table : List ℕ) → RunFault → Type 0
 Stops choices table (Table cause) = IsFaultOf cause (loaded_of choices table)
 Stops choices table other = ⊤
 
--- what a run tells of a fault of serving
-abbrev pub run_fault_of : Option ServeFault → Option RunFault
-run_fault_of None = None
-run_fault_of (Some serve.Read) = Some Read
-run_fault_of (Some serve.Write) = Some Write
-
 -- ---- lines in pieces
 
 -- the byte that ends a line
@@ -64,22 +54,6 @@ lines_from number bytes ended = enumerate_from (number + 1) (lines_of_parts ende
 
 abbrev pub HasNoLineFeed : List ℕ → Type 0
 HasNoLineFeed = AllByRecursion (λ c. is_line_feed c ≡ false)
-
--- ---- how a line begins that isn't complete
-
-abbrev pub is_nothing : Option (List ℕ) → Bool
-is_nothing None = false
-is_nothing (Some begun) = is_empty begun
-
--- more bytes are added
-abbrev pub kept_with : Option (List ℕ) → (more : List ℕ) → Option (List ℕ)
-kept_with None more = None
-kept_with (Some begun) more = kept_of (begun ++ more)
-
--- what the line asks that these bytes end
-abbrev pub parsed_with : Option (List ℕ) → (end : List ℕ) → Parsed
-parsed_with None end = parsed.Fault fault.LineTooLong
-parsed_with (Some begun) end = judged_line (begun ++ end)
 
 -- ---- sessions
 

@@ -1,38 +1,20 @@
 //! A whole run: a table and queries in, answers out.
 
 ghost use Rattle.std.specs.Prelude.{◌≡◌, ◌+◌, ◌-◌, ◌<◌, ◌≤◌, ◌^◌, ◌⊎◌, ◌≢◌, ◌++◌, ℕ, List, Some, None, IfOk, IfErr};
-ghost use Rattle.std.specs.Prelude.{MatchOption, length, if◌then◌else◌, true, false};
+ghost use Rattle.std.specs.{Option.{option_map_or}, Prelude.{MatchOption, length, if◌then◌else◌, true, false}};
 ghost use Rattle.rt_device.specs.Devices.{PulledTimes};
-ghost use Rattle.rt_filter.specs.{Endings.{Ends, ConsumedAtLeast}, Faults.{run_fault, run_fault_line, status_of}};
-ghost use Rattle.rt_filter.specs.{Runs.{run_of}, Stages.{HasLoaded, Stops, is_of_load, run_fault_of}};
-ghost use Rattle.rt_filter.specs.declared.filter.RunFault.{RunFault};
+ghost use Rattle.rt_text.specs.{RunFaults.{status_of}, declared.run_faults.RunFault.{RunFault}};
+ghost use Rattle.rt_filter.specs.{Endings.{Ends, ConsumedAtLeast, told_as}, Runs.{run_of}};
+ghost use Rattle.rt_filter.specs.Stages.{HasLoaded, Stops, is_of_load};
 
-use crate::serving::{ServeFault, Served, serve};
+use crate::serving::{ServeFault, serve};
 use rt_command::Settings;
 use rt_device::{ReadSource, Sink, Source, WriteSink};
 use rt_search::Frontier;
-use rt_text::{Line, TableFault, fault_line, read_table};
+use rt_text::{RunFault, TableFault, read_table};
 use rt_tree::Tree;
-use std::alloc::{AllocError, Global};
+use std::alloc::Global;
 use std::io::{Read, Write};
-use thiserror::Error;
-
-/// Why a run ended before all was read and written.
-#[derive(Clone, Copy, Debug, Drop, Error, PartialEq, Eq)]
-pub enum RunFault {
-    /// The table is faulty, or couldn't be read.
-    #[error("faulty or unreadable table")]
-    Table(TableFault),
-    /// A pull of the queries failed, or the turns were used up.
-    #[error("cannot read queries")]
-    Read,
-    /// A push or a flush of the output failed.
-    #[error("cannot write answers")]
-    Write,
-    /// No memory was left.
-    #[error("out of memory")]
-    Memory,
-}
 
 /// How a run ended.
 #[derive(Clone, Copy, Debug, PartialEq, Eq)]
@@ -42,9 +24,6 @@ pub struct Outcome {
     /// Why it ended early, where it did.
     pub fault: Option<RunFault>,
 }
-
-/// The most pulls of the queries: as many as can be counted.
-const TURNS: u64 = u64::MAX;
 
 /// A run over readers and a writer of std, in as many turns as can be counted. Returns the last two as well, as they are
 /// then. It is what the program does with its open files.
@@ -69,8 +48,7 @@ pub fn run_std<T: Read + Drop, Q: Read + Drop, W: Write + Drop>(
     ensures memory { result.0.fault ≢ Some (RunFault.Table TableFault.Memory) }
     ensures pushes { (result.0.fault ≡ Some RunFault.Write → result.2.failures ≡ 1)
         × (result.0.fault ≢ Some RunFault.Write → result.2.failures ≡ 0) }
-    ensures pulls { (result.1.failures ≡ 0)
-        ⊎ ((result.1.failures ≡ 1) × (result.0.fault ≡ Some RunFault.Read)) }
+    ensures pulls { (result.1.failures ≡ 0) ⊎ ((result.1.failures ≡ 1) × (result.0.fault ≡ Some RunFault.Read)) }
     ensures turns { result.0.fault ≡ Some RunFault.Read → result.1.failures ≡ 0
         → ConsumedAtLeast (2 ^ 64 - 1) (Q.remaining queries) (Q.remaining result.1.device) }
     ensures flushed { result.0.fault ≢ Some RunFault.Write → result.2.waits ≡ false }
@@ -79,7 +57,7 @@ pub fn run_std<T: Read + Drop, Q: Read + Drop, W: Write + Drop>(
 {
     let mut source = ReadSource::new(queries);
     let mut sink = WriteSink::new(answers);
-    let outcome = run(alloc, settings, table, &mut source, &mut sink, TURNS);
+    let outcome = run(alloc, settings, table, &mut source, &mut sink, u64::MAX);
     (outcome, source, sink)
 }
 
@@ -131,13 +109,16 @@ pub fn run<R: Read + Drop, S: Source, K: Sink>(
     // What was pushed is flushed, unless a push or a flush failed, or something waited for a flush before.
     ensures flushed { result.fault ≢ Some RunFault.Write → K.waits sink.old ≡ false → K.waits sink.new ≡ false }
 
-    // A fault of neither a read nor a write, so one of the load, leaves the queries unread, and nothing is written.
+    // A fault of neither the queries nor the output, so one of the load, leaves the queries unread, and nothing is written.
     ensures untouched { (fault : RunFault) → result.fault ≡ Some fault → fault ≢ RunFault.Read → fault ≢ RunFault.Write
         → (source.new ≡ source.old) × (sink.new ≡ sink.old) }
 {
     match load(alloc, settings, reader) {
-        Ok((tree, frontier)) => serve(&tree, frontier, source, sink, turns).outcome(),
-        Err(fault) => fault.outcome(),
+        Ok((tree, frontier)) => {
+            let served = serve(&tree, frontier, source, sink, turns);
+            Outcome::new(served.bad, served.fault.map(RunFault::from))
+        }
+        Err(fault) => Outcome::new(false, Some(fault)),
     }
 }
 
@@ -161,68 +142,27 @@ fn load<R: Read + Drop>(
     Ok((tree, frontier))
 }
 
-impl Served {
-    // How a run ends whose queries were served so.
-    fn outcome(self) -> Outcome
-        ensures fault { result.fault ≡ run_fault_of self.fault }
-        ensures status { MatchOption (run_fault_of self.fault) (result.status ≤ 1) (λ fault. result.status ≡ status_of fault) }
-        ensures bad { self.fault ≡ None → result.status ≡ (if self.bad then 1 else 0) }
+impl Outcome {
+    // How a run ends: with a fault, or without one, where some line was faulty or none.
+    fn new(bad: bool, fault: Option<RunFault>) -> Outcome
+        ensures fault { result.fault ≡ fault }
+        ensures status { result.status ≡ option_map_or status_of fault (if bad then 1 else 0) }
     {
-        match self.fault {
-            None => Outcome {
-                status: u8::from(self.bad),
-                fault: None,
-            },
-            Some(ServeFault::Read) => RunFault::Read.outcome(),
-            Some(ServeFault::Write) => RunFault::Write.outcome(),
-        }
-    }
-}
-
-impl RunFault {
-    // How a run ends that ends early.
-    fn outcome(self) -> Outcome
-        ensures fault { result.fault ≡ Some self }
-        ensures status { result.status ≡ status_of self }
-    {
-        let status = match self {
-            RunFault::Table(_) => 3,
-            RunFault::Read => 4,
-            RunFault::Write => 5,
-            RunFault::Memory => 6,
+        let status = match fault {
+            None => u8::from(bad),
+            Some(fault) => fault.status(),
         };
-        let fault = Some(self);
         Outcome { status, fault }
     }
 }
 
-impl From<TableFault> for RunFault {
-    ghost from_gives = { λ fault result. result ≡ run_fault fault };
+impl From<ServeFault> for RunFault {
+    ghost from_gives = { λ fault result. result ≡ told_as fault };
 
-    fn from(fault: TableFault) -> RunFault {
+    fn from(fault: ServeFault) -> RunFault {
         match fault {
-            TableFault::Memory => RunFault::Memory,
-            fault => RunFault::Table(fault),
+            ServeFault::Read => RunFault::Read,
+            ServeFault::Write => RunFault::Write,
         }
-    }
-}
-
-impl From<AllocError> for RunFault {
-    ghost from_gives = { λ _ result. result ≡ RunFault.Memory };
-
-    fn from(_: AllocError) -> RunFault {
-        RunFault::Memory
-    }
-}
-
-/// The line that reports a fault, its line feed included.
-pub fn run_fault_line(fault: &RunFault) -> Line
-    ensures { result ≡ run_fault_line fault.now }
-{
-    match fault {
-        RunFault::Table(fault) => fault_line(fault),
-        RunFault::Read => Line::new(b"rtfilter: cannot read queries\n"),
-        RunFault::Write => Line::new(b"rtfilter: cannot write answers\n"),
-        RunFault::Memory => Line::new(b"rtfilter: out of memory\n"),
     }
 }

@@ -1,8 +1,7 @@
 //! Lines of replies, pushed.
 
-ghost use Rattle.std.specs.Prelude.{◌≡◌, ◌-◌, ◌<◌, ◌^◌, ℕ, List, [], ◌∷◌, IfOk, MatchOption, length};
-ghost use Rattle.rt_search.specs.Answers.{Answer};
-ghost use Rattle.rt_filter.specs.{Pushes.{Pushed}, Replies.{find_reply}};
+ghost use Rattle.std.specs.Prelude.{◌≡◌, ◌-◌, ◌<◌, ◌^◌, [], ◌∷◌, IfOk, MatchOption, length};
+ghost use Rattle.rt_filter.specs.{Pushes.{Coming, Pushed}, Replies.{find_reply}};
 
 use rt_device::{Sink, WriteFault};
 use rt_geo::Geometry;
@@ -31,10 +30,10 @@ pub(crate) fn push_search<A: AnswerStream + Drop, K: Sink>(
     line: u128,
     sink: &mut K,
 ) -> Result<Frontier, WriteFault>
-    requires few { length (A.to_come search) < 2 ^ 32 }
+    requires few { length (A.seen search).answers < 2 ^ 32 }
     requires count { K.failed sink.old < 2 ^ 64 - 1 }
-    ensures pushed { Pushed K.written K.failed sink.old sink.new result (find_reply line (A.to_come search)) }
-    ensures capacity { IfOk result (λ left. left.capacity ≡ A.capacity search) }
+    ensures pushed { Pushed K.written K.failed sink.old sink.new result (find_reply line (A.seen search).answers) }
+    ensures capacity { IfOk result (λ left. left.capacity ≡ (A.seen search).capacity) }
 {
     let mut search = search;
     let mut text = Line::new(b"");
@@ -51,26 +50,21 @@ pub(crate) fn push_search<A: AnswerStream + Drop, K: Sink>(
 
 /// A search that gives its answers one at a time.
 pub(crate) trait AnswerStream {
-    // The answers that are still to come.
-    ghost to_come: { Self → List Answer };
-
-    // How much room its frontier has.
-    ghost capacity: { Self → ℕ };
+    // The answers that are still to come, and how much room its frontier has.
+    ghost seen: { Self → Coming };
 
     fn next_answer(&mut self) -> Option<(i64, u128)>
-        ensures answer { MatchOption result (to_come self.old ≡ []) (λ a. to_come self.old ≡ a ∷ to_come self.new) }
-        ensures capacity { capacity self.new ≡ capacity self.old };
+        ensures answer { MatchOption result ((seen self.old).answers ≡ [])
+            (λ a. (seen self.old).answers ≡ a ∷ (seen self.new).answers) }
+        ensures capacity { (seen self.new).capacity ≡ (seen self.old).capacity };
 
     fn into_frontier(self) -> Frontier
-        ensures { result.capacity ≡ capacity self };
+        ensures { result.capacity ≡ (seen self).capacity };
 }
 
 impl<'a, G: Geometry> AnswerStream for Search<'a, G> {
-    ghost to_come = { λ s. s.to_come };
+    ghost seen = { λ s. record { answers = s.to_come; capacity = s.capacity } };
 
-    ghost capacity = { λ s. s.capacity };
-
-    #[inline(always)]
     fn next_answer(&mut self) -> Option<(i64, u128)> {
         self.next()
     }
@@ -81,11 +75,8 @@ impl<'a, G: Geometry> AnswerStream for Search<'a, G> {
 }
 
 impl<'a, G: Geometry> AnswerStream for FullSearch<'a, G> {
-    ghost to_come = { λ s. s.to_come };
+    ghost seen = { λ s. record { answers = s.to_come; capacity = s.capacity } };
 
-    ghost capacity = { λ s. s.capacity };
-
-    #[inline(always)]
     fn next_answer(&mut self) -> Option<(i64, u128)> {
         self.next()
     }
@@ -96,11 +87,8 @@ impl<'a, G: Geometry> AnswerStream for FullSearch<'a, G> {
 }
 
 impl<'a, G: Geometry> AnswerStream for FirstAnswers<'a, G> {
-    ghost to_come = { λ s. s.to_come };
+    ghost seen = { λ s. record { answers = s.to_come; capacity = s.capacity } };
 
-    ghost capacity = { λ s. s.capacity };
-
-    #[inline(always)]
     fn next_answer(&mut self) -> Option<(i64, u128)> {
         self.next()
     }

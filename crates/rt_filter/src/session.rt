@@ -1,26 +1,22 @@
 //! A session: query bytes as they come, each line answered as soon as it is complete.
 
-ghost use Rattle.std.specs.{Borrow.{sem}, Io.{StartsWith}, Prelude.{◌≡◌, ◌+◌, ◌-◌, ◌||◌, ◌<◌, ◌≤◌, ◌^◌, ◌++◌, ℕ}};
-ghost use Rattle.std.specs.Prelude.{List, [], Some, IfOk, IfSome, OnOk, MatchResult, length, take, false, true};
-ghost use Rattle.rt_filter.specs.{Lines.{completed, numbered_lines}, Pushes.{Pushed}, Sessions.{heard_of}};
-ghost use Rattle.rt_filter.specs.Replies.{Loaded, any_fault, is_fault, output, reply, tree_of};
-ghost use Rattle.rt_filter.specs.Stages.{loaded_tree, parsed_with};
+ghost use Rattle.std.specs.{Borrow.{sem}, Prelude.{◌≡◌, ◌+◌, ◌-◌, ◌||◌, ◌<◌, ◌≤◌, ◌^◌, ◌++◌, ℕ}};
+ghost use Rattle.std.specs.Prelude.{List, [], IfOk, OnOk, MatchResult, length, take, false, true};
+ghost use Rattle.rt_filter.specs.{Lines.{completed, numbered_lines}, Pushes.{Pushed}, Sessions.{HasPushed, heard_of}};
+ghost use Rattle.rt_filter.specs.{Replies.{Loaded, any_fault, is_fault, output, reply, tree_of}, Stages.{loaded_tree}};
+ghost use Rattle.rt_text.specs.Queries.{query_of};
 
-use crate::line_start::{LONGEST_LINE, LineStart};
 use crate::query::{push_cost, push_in_region, push_levels};
 use crate::reply::push_line;
 use memchr::memchr;
 use rt_device::{Sink, WriteFault};
 use rt_search::Frontier;
-use rt_text::{Parsed, Query, Vertices, error_line};
+use rt_text::{LONGEST_LINE, LineStart, Parsed, Query, Vertices, error_line};
 use rt_tree::Tree;
 use std::marker::Model;
 
 /// How many bytes a session has room for at a time: those of the longest line and its line feed.
 pub const SESSION_ROOM: usize = LONGEST_LINE + 1;
-
-/// The byte that ends a line.
-const LINE_FEED: u8 = b'\n';
 
 /// Query bytes as they come, each line answered as soon as it is complete.
 ///
@@ -52,14 +48,6 @@ struct Heard {
     begun: LineStart,
 }
 
-impl Model for Heard {
-    ghost use Rattle.rt_filter.specs.Sessions.{Heard};
-
-    ghost Value = { Heard };
-
-    ghost view = { λ s. record { lines = s.lines; bad = s.bad; begun = s.begun } };
-}
-
 impl Session {
     ghost use Rattle.rt_filter.specs.Lending.{LendsRoom};
 
@@ -88,8 +76,7 @@ impl Session {
     /// Whether some line that is complete is faulty.
     pub fn is_bad(&self) -> bool
         ensures value { result ≡ self.now.heard.bad }
-        ensures faults { (fed : List ℕ) → self.now.heard ≡ heard_of fed
-            → result ≡ any_fault (numbered_lines fed false) }
+        ensures faults { (fed : List ℕ) → self.now.heard ≡ heard_of fed → result ≡ any_fault (numbered_lines fed false) }
     {
         self.heard.bad
     }
@@ -109,17 +96,12 @@ impl Session {
         requires few { self.old.heard.lines + n < 2 ^ 128 }
 
         // Over any entries whose packed tree this is, and whatever was fed before.
-        ensures replies { (loaded : Loaded) → tree.now ≡ tree_of loaded
-            → (fed : List ℕ) → self.old.heard ≡ heard_of fed
-            → IfSome (K.written sink.old) (λ before. MatchResult result
-            (λ _. K.written sink.new
-            ≡ Some (before ++ output loaded (completed fed (take n self.old.room) false)))
-            (λ _. IfSome (K.written sink.new) (λ written. StartsWith written before
-            × StartsWith (before ++ output loaded (completed fed (take n self.old.room) false)) written))) }
+        ensures replies { (loaded : Loaded) → tree.now ≡ tree_of loaded → (fed : List ℕ) → self.old.heard ≡ heard_of fed
+            → HasPushed result (K.written sink.old) (K.written sink.new)
+            (output loaded (completed fed (take n self.old.room) false)) }
         ensures heard { (fed : List ℕ) → self.old.heard ≡ heard_of fed → MatchResult result
             (λ _. self.new.heard ≡ heard_of (fed ++ take n self.old.room))
-            (λ _. self.new.heard.bad ≡ true
-            → any_fault (numbered_lines (fed ++ take n self.old.room) false) ≡ true) }
+            (λ _. self.new.heard.bad ≡ true → any_fault (numbered_lines (fed ++ take n self.old.room) false) ≡ true) }
 
         ensures failures { MatchResult result (λ _. K.failed sink.new ≡ K.failed sink.old)
             (λ _. K.failed sink.new ≡ K.failed sink.old + 1) }
@@ -133,7 +115,7 @@ impl Session {
         let mut is_pushed = false;
         let heard = &mut self.heard;
         let mut rest = &self.room[..n];
-        while let Some(at) = memchr(LINE_FEED, rest) {
+        while let Some(at) = memchr(b'\n', rest) {
             frontier = heard.answer_line(tree, frontier, &rest[..at], &mut is_pushed, sink)?;
             rest = &rest[at + 1..];
         }
@@ -155,12 +137,8 @@ impl Session {
         requires room { length tree.now.entries ≤ frontier.capacity }
         requires count { K.failed sink.old < 2 ^ 64 - 1 }
         requires few { self.old.heard.lines + 1 < 2 ^ 128 }
-        ensures replies { (loaded : Loaded) → tree.now ≡ tree_of loaded
-            → (fed : List ℕ) → self.old.heard ≡ heard_of fed
-            → IfSome (K.written sink.old) (λ before. MatchResult result
-            (λ _. K.written sink.new ≡ Some (before ++ output loaded (completed fed [] true)))
-            (λ _. IfSome (K.written sink.new) (λ written. StartsWith written before
-            × StartsWith (before ++ output loaded (completed fed [] true)) written))) }
+        ensures replies { (loaded : Loaded) → tree.now ≡ tree_of loaded → (fed : List ℕ) → self.old.heard ≡ heard_of fed
+            → HasPushed result (K.written sink.old) (K.written sink.new) (output loaded (completed fed [] true)) }
         ensures bad { (fed : List ℕ) → self.old.heard ≡ heard_of fed → MatchResult result
             (λ _. self.new.heard.bad ≡ any_fault (numbered_lines fed true))
             (λ _. self.new.heard.bad ≡ true → any_fault (numbered_lines fed true) ≡ true) }
@@ -169,11 +147,8 @@ impl Session {
         ensures flushed { OnOk result (K.waits sink.old ≡ false → K.waits sink.new ≡ false) }
         ensures capacity { IfOk result (λ left. left.capacity ≡ frontier.capacity) }
     {
-        if self.heard.begun.is_empty() {
-            return Ok(frontier);
-        }
-        // (it is answered as if a line feed ended it)
-        self.room[0] = LINE_FEED;
+        // (as if a line feed followed it: where nothing stands there, that ends an empty line, which has no reply)
+        self.room[0] = b'\n';
         self.answer(tree, frontier, 1, sink)
     }
 }
@@ -193,11 +168,11 @@ impl Heard {
         requires count { K.failed sink.old < 2 ^ 64 - 1 }
         requires few { self.old.lines + 1 < 2 ^ 128 }
         ensures pushed { Pushed K.written K.failed sink.old sink.new result
-            (reply (loaded_tree tree.now) (self.old.lines + 1) (parsed_with self.old.begun tail.now)) }
+            (reply (loaded_tree tree.now) (self.old.lines + 1) (query_of (self.old.begun ++ tail.now))) }
         ensures heard { self.new ≡ record {
           lines = self.old.lines + 1;
-          bad = self.old.bad || is_fault (parsed_with self.old.begun tail.now);
-          begun = Some [];
+          bad = self.old.bad || is_fault (query_of (self.old.begun ++ tail.now));
+          begun = [];
         } }
         ensures capacity { IfOk result (λ left. left.capacity ≡ frontier.capacity) }
         ensures untouched { is_pushed.new ≡ false → (is_pushed.old ≡ false) × (sink.new ≡ sink.old) }

@@ -2,7 +2,7 @@
 
 use crate::expect::expect_eq;
 use crate::given::{BOXES, FIND, FOUND, Given, PLAIN, WITH_HEADER};
-use rt_filter::{RunFault, Settings, SliceSink, SliceSource, run};
+use rt_filter::{RunFault, SESSION_ROOM, Settings, SliceSink, SliceSource, run};
 use rt_text::{Axis, TableFault};
 use std::io::{self, Read};
 use std::process::Abort;
@@ -50,7 +50,7 @@ fn drops_a_long_line_that_never_ends(rt: HostRuntime) -> Result<(), Fail> {
 fn tells_room_that_runs_out(rt: HostRuntime) {
     let write = Some(RunFault::Write);
     let front: &[u8] = b"\x31\x20\x30\x0a\x32";
-    for piece in [1, 2, 4097] {
+    for piece in [1, 2, SESSION_ROOM] {
         for (header, table) in [(false, BOXES), (true, WITH_HEADER)] {
             let small = Given {
                 header,
@@ -152,7 +152,7 @@ fn broken_after<R: Abort + AllocGlobal>(rt: &R, table: &[u8], reads: usize) -> O
 // The fault of a run whose table fails. Nothing is read or written beside it.
 fn fault_of<R: Abort + AllocGlobal>(rt: &R, reader: Broken<'_>) -> Option<RunFault> {
     let settings = Settings::new(false, 16, 16).expect(rt, "they are in range");
-    let mut source = SliceSource::new(FIND, 4097, Some(1));
+    let mut source = SliceSource::new(FIND, SESSION_ROOM, Some(1));
     let mut room = [0u8; 64];
     let mut sink = SliceSink::new(&mut room, 64, Some(1));
     let outcome = run(

@@ -1,7 +1,9 @@
 //! A run over bytes in memory: what it is given, and what it has to give.
 
 use crate::expect::expect_eq;
-use rt_filter::{Outcome, RunFault, Settings, Sink, SliceSink, SliceSource, Source, run};
+use rt_filter::{
+    Outcome, RunFault, SESSION_ROOM, Settings, Sink, SliceSink, SliceSource, Source, run,
+};
 use rt_text::read_table;
 use rt_tree::Tree;
 use std::alloc::Global;
@@ -40,7 +42,7 @@ pub(crate) const PLAIN: Given = Given {
     header: false,
     fanout: 16,
     max_entries: 16_777_216,
-    piece: 4097,
+    piece: SESSION_ROOM,
     room: 256,
     pull_fails: None,
     push_fails: None,

@@ -3,8 +3,8 @@
 use crate::expect::expect_eq;
 use crate::given::{BOXES, FIND, FOUND, Given, PLAIN, WITH_HEADER};
 use itoa::Buffer;
-use rt_filter::{Outcome, RunFault, Settings, Sink, Source, run_fault_line, run_std};
-use rt_text::{Axis, TableFault};
+use rt_filter::{Outcome, RunFault, SESSION_ROOM, Settings, Sink, Source, run_fault_line, run_std};
+use rt_text::{Axis, LONGEST_LINE, TableFault};
 use std::alloc::{AllocError, Global};
 use std::process::Abort;
 use std::test::Fail;
@@ -13,7 +13,7 @@ use std::test::Fail;
 fn finds_windows(rt: HostRuntime) {
     let touching: &[u8] = b"find window 10 20 10 20\n";
     let corners: &[u8] = b"1 0\n2 0\n3 0\n5 0\nok 1 4\n";
-    for piece in [1, 2, 7, 4097] {
+    for piece in [1, 2, 7, SESSION_ROOM] {
         for (header, table) in [(false, BOXES), (true, WITH_HEADER)] {
             let given = Given {
                 header,
@@ -110,7 +110,7 @@ fn serves_empty_tables_and_queries(rt: HostRuntime) {
 
 #[test]
 fn numbers_every_line(rt: HostRuntime) {
-    for piece in [1, 4097] {
+    for piece in [1, SESSION_ROOM] {
         expect_numbers(&rt, Given { piece, ..PLAIN });
     }
 }
@@ -257,14 +257,14 @@ fn refuses_long_lines(rt: HostRuntime) -> Result<(), Fail> {
 #[test]
 fn refuses_a_long_comment(rt: HostRuntime) -> Result<(), Fail> {
     let mut comment = Vec::from_slice(rt.alloc(), b"#")?;
-    comment.resize(4097, b'a')?;
+    comment.resize(LONGEST_LINE + 1, b'a')?;
     expect_in_pieces(&rt, &comment, b"error 1 Q1 line too long\n");
     Ok(())
 }
 
 // Some of the lines are faulty.
 fn expect_in_pieces<R: Abort + AllocGlobal>(rt: &R, queries: &[u8], written: &[u8]) {
-    for piece in [1, 4095, 4097] {
+    for piece in [1, LONGEST_LINE - 1, SESSION_ROOM] {
         Given { piece, ..PLAIN }.expect(rt, BOXES, queries, written, 1, None);
     }
 }

@@ -75,7 +75,7 @@ pub record IsWellFormed (info : Info) : Type 0 where
   pub top : info.top < 2 ^ 8
   pub parent_score : info.parent_score < 2 ^ 128
 
--- the caller's condition: the parent was FULLY only where each box inside the bounds is accepted
+-- the caller's condition: the parent was FULLY only where each box of the extent is accepted
 abbrev pub IsHonest : (Extent → Bool) → Info → Type 0
 IsHonest accepts info = info.parent_within ≡ Fully → AllAccepted accepts (extent_of info)
 

@@ -138,7 +138,7 @@ fn facing_ends(bounds: Bounds) -> i32x4
     ensures valid { IsRect bounds }
     ensures coordinates { inside bounds plane ≡ true }
 {
-    facing_sides(bounds) ^ i32x4::from_array(MAXIMUM_LANES)
+    sides(bounds).swizzle([2, 3, 0, 1]) ^ i32x4::from_array(MAXIMUM_LANES)
 }
 
 #[inline(always)]
@@ -166,15 +166,6 @@ pub(crate) fn maxs(bounds: Bounds) -> i32x2
     ensures value { result ≡ bounds.max_x ∷ bounds.max_y ∷ [] }
 {
     sides(bounds).swizzle([2, 3])
-}
-
-#[inline(always)]
-fn facing_sides(bounds: Bounds) -> i32x4
-    ensures value { result ≡ bounds.max_x ∷ bounds.max_y ∷ bounds.min_x ∷ bounds.min_y ∷ [] }
-    ensures valid { IsRect bounds }
-    ensures coordinates { inside bounds plane ≡ true }
-{
-    sides(bounds).swizzle([2, 3, 0, 1])
 }
 
 /// The least box in which both boxes lie.

@@ -14,7 +14,7 @@ pub struct Entry {
     pub id: i64,
     /// The row's box.
     pub bounds: Bounds,
-    /// The box's layer, which a table has at most 63.
+    /// The box's layer, in a table one of 0 to 63.
     pub layer: u8,
 }
 

@@ -1,11 +1,13 @@
 //! Query functions: what they are asked, what they answer, and the laws that they keep.
 //!
 //! A search over a tree of boxes asks a [`Geometry`] about each entry and node that it meets. What is
-//! asked, and the three states of an answer, are those of a custom query of SQLite's R*Tree module.
+//! asked, but for layers, and the three states of an answer are those of a custom query of SQLite's
+//! R*Tree module.
 //!
 //! What a search may conclude from an answer stands in the geometry's laws, which `specs/Laws.antt`
 //! states: an entry is dropped exactly where its box isn't accepted, a node is dropped only where no box
-//! inside its bounds is accepted, and a node's score is at most that of each accepted box inside.
+//! of its extent, inside its bounds and on its layers, is accepted, and a node's score is at most that of
+//! each accepted box of its extent.
 
 ghost use Rattle.std.specs.Prelude.{◌≡◌, ℕ, Bool};
 ghost use Rattle.rt_geo.specs.Laws.{Extent, IsAdmissible, IsFaithful, IsHonest, IsLawful, Meaning};
@@ -14,7 +16,7 @@ ghost use Rattle.rt_geo.specs.{declared.geometry.Info.{Info}, declared.geometry.
 use crate::bounds::Bounds;
 use crate::layers::Layers;
 
-/// How many of the boxes inside some bounds are accepted.
+/// How many of the boxes of an extent are accepted: of those inside its bounds and on its layers.
 #[derive(Clone, Copy, Debug, PartialEq, Eq)]
 pub enum Within {
     /// None: the entry, or all that lies under the node, is dropped.
@@ -46,9 +48,9 @@ pub struct Info {
 /// What a query function answers.
 #[derive(Clone, Copy, Debug, PartialEq, Eq)]
 pub struct Verdict {
-    /// How many of the boxes inside the bounds are accepted.
+    /// How many of the boxes of the extent are accepted.
     pub within: Within,
-    /// The lowest score is taken out of the tree first. It means nothing beside [`Within::Not`].
+    /// The lowest score is taken out of the queue first. It means nothing beside [`Within::Not`].
     pub score: u128,
 }
 
@@ -62,8 +64,8 @@ pub trait Shape {
     /// What `within` answers.
     ghost state: { Self → Info → Within };
 
-    /// How many of the boxes inside the bounds are accepted. Where the parent was
-    /// [`Within::Fully`], it may answer so without a test.
+    /// How many of the boxes of the extent are accepted. Where the parent was [`Within::Fully`], it may
+    /// answer so without a test.
     fn within(&self, info: &Info) -> Within
         requires { IsHonest (accepts self.now) info.now }
         ensures { result ≡ state self.now info.now };

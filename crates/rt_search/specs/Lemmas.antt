@@ -1,4 +1,4 @@
--- What takes answers fills a place with each.
+-- What takes answers fills at most a place with each.
 use Rattle.std.proofs.Common.{◌≡◌, ◌+◌, ◌-◌, ◌∷◌, [], true, false, cond, List, length, refl, ap, arith}
 use Rattle.std.specs.Ordering.{is_gt}
 use Rattle.rt_tree.specs.Sorting.{put}

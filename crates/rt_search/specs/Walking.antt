@@ -42,7 +42,7 @@ abbrev pub HasTaken : {S : Type 0} → (takes : S → Answer → S → Type 0) �
 HasTaken takes old [] new = new ≡ old
 HasTaken {S} takes old (a ∷ answers) new = (s : S) × (takes old a s × HasTaken takes s answers new)
 
--- each takes a place
+-- each takes at most a place
 abbrev pub IsFilling : {S : Type 0} → (takes : S → Answer → S → Type 0) → (room : S → ℕ) → Type 0
 IsFilling {S} takes room = (old new : S) (a : Answer) → takes old a new → room old ≤ room new + 1
 

@@ -28,7 +28,7 @@ pub(crate) trait Collector: Sized {
         requires { 0 < room self.old }
         ensures { HasTaken takes self.old (answer_if is_accepted id score) self.new };
 
-    /// Each answer takes a place.
+    /// Each answer takes at most a place.
     ghost fills: { IsFilling takes room };
 }
 

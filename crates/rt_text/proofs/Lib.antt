@@ -1,6 +1,7 @@
 mod DigitLemmas
 mod LayerLemmas
 mod LeadingLemmas
+pub mod LineStarts
 mod NumberLemmas
 mod PointLemmas
 mod QueryRows

@@ -1,5 +1,5 @@
 -- Worked rows of query lines: the definitions compute what a line asks, or its first fault.
-use Rattle.std.proofs.Common.{◌≡◌, ℕ, pos, negsuc, [], Option, None, Some, codes, refl}
+use Rattle.std.proofs.Common.{◌≡◌, ◌++◌, ℕ, pos, negsuc, [], Option, None, Some, codes, refl, replicate}
 use Rattle.std.specs.Fmt.{digits}
 use Rattle.rt_geo.specs.Boxes.{rect_of}
 use Rattle.rt_geo.specs.Layers.{all_layers, only}
@@ -202,6 +202,17 @@ row_cost_count_limit = refl
 
 row_cost_last : query_of (codes "find all cost") ≡ Fault fault.StrayWord
 row_cost_last = refl
+
+-- ---- the longest line, and one byte more
+
+row_longest : query_of (codes "levels" ++ replicate 4090 32) ≡ Query Levels
+row_longest = refl
+
+row_too_long : query_of (codes "levels" ++ replicate 4091 32) ≡ Fault fault.LineTooLong
+row_too_long = refl
+
+row_comment_too_long : query_of (codes "#" ++ replicate 4096 32) ≡ Fault fault.LineTooLong
+row_comment_too_long = refl
 
 -- ---- the lines of a reply
 

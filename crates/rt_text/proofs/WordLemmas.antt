@@ -3,7 +3,9 @@ use Rattle.std.proofs.Common.{◌≡◌, ◌≢◌, ◌∙◌, ℕ, Bool, true, 
 use Rattle.std.proofs.lemmas.List.Sums.{prefix_len-le-length}
 use borrow.Author.Tests.{ltb-false}
 use Rattle.std.specs.List.{position, position_or_len, slice_split}
-use Rattle.rt_text.specs.Words.{is_empty}
+use Rattle.std.specs.Borrow.{Bor}
+use Rattle.std.specs.Prelude.{◌==◌, MatchOption, None, Some, option_map, slice_get}
+use Rattle.rt_text.specs.Words.{is_blank, is_empty}
 
 -- the parts that aren't empty
 abbrev pub full_parts : List (List ℕ) → List (List ℕ)
@@ -81,3 +83,10 @@ module _ (p : ℕ → Bool) where
       → full_parts (slice_split p xs) ≡ word ∷ full_parts (slice_split p after)
   words_next xs [] word after e n w a = absurd (n refl)
   words_next xs (c ∷ rest) word after e n w a = words_skip xs ∙ rw (← e, w, a) (words_first c rest (no_blank_in_front xs c rest (sym e)))
+
+-- where a number stands, a word ends: a blank follows, or nothing
+pub ends_word : (N : Type 0) (S : Bor ℕ → Type 0) (rest : List ℕ) (first : Option (Bor ℕ)) → option_map (λ x. x.now) first ≡ slice_get rest 0
+    → MatchOption first N S → ((x : Bor ℕ) → S x → is_blank x.now ≡ true) → (position_or_len is_blank rest == 0) ≡ true
+ends_word N S [] first e h k = refl
+ends_word N S (x ∷ rest) None e h k = cc
+ends_word N S (x ∷ rest) (Some y) e h k = let blank = k y h in grind (arith, e, blank)

@@ -3,6 +3,7 @@ pub mod Loads
 pub mod Numbers
 pub mod Queries
 pub mod ReplyLines
+pub mod RunFaults
 pub mod Steps
 pub mod Tables
 pub mod Words

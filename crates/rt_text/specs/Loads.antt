@@ -15,7 +15,7 @@ abbrev pub IsReading : {R : Type 0} → Reader R → Type 0
 IsReading records =
     (reader_trim records ≡ trim.None) × Ready records × (reader_config records ≡ default_config) × (is_flexible records ≡ true)
 
--- one record, judged after the entries so far, but for its id
+-- one record, judged after the entries so far, but for whether its id comes again
 abbrev pub entry_after : (max number : ℕ) → List Entry → List (List ℕ) → Result Entry TableFault
 entry_after max number so_far fields =
     if nat_le max (length so_far) then Err (fault.TooMany number) else entry_of_fields number fields

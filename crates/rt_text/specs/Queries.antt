@@ -1,5 +1,5 @@
 -- What a query line asks: a recursion on its words from left to right, whose first fault is the line's.
-use Rattle.std.specs.Prelude.{drop, false, ◌≡◌, ℕ, zero, suc, ◌-◌, ◌^◌, ◌==◌, nat_eq, ℤ, pos, int_lt, unsigned_abs, Bool, ◌||◌, if◌then◌else◌, List, [], ◌∷◌, Option, Some, None, Result, Ok, Err, codes}
+use Rattle.std.specs.Prelude.{drop, false, ◌≡◌, ℕ, zero, suc, ◌-◌, ◌^◌, ◌==◌, nat_eq, ℤ, pos, int_lt, unsigned_abs, nat_lt, Bool, ◌||◌, if◌then◌else◌, List, [], ◌∷◌, length, Option, Some, None, Result, Ok, Err, codes}
 use Rattle.std.specs.List.{slice_split, starts_with}
 use Rattle.std.specs.Str.{bytes_eq}
 use Rattle.std.specs.Str.Lines.{strip_carriage_return}
@@ -125,10 +125,6 @@ region (name ∷ more) =
 
 -- ---- layers
 
--- a comma, which is 44
-abbrev pub is_comma : ℕ → Bool
-is_comma c = c == 44
-
 -- the layers so far, and those of the parts, each a number from 0 to 63, judged from left to right
 abbrev pub layers_from : (so_far : Layers) → (parts : List (List ℕ)) → Result Layers QueryFault
 layers_from so_far [] = Ok so_far
@@ -136,9 +132,9 @@ layers_from so_far (part ∷ more) = do
   layer ← natural most_layer part
   layers_from (union so_far (only layer)) more
 
--- the layers of a LIST, whose parts stand between commas
+-- the layers of a LIST, whose parts stand between commas, each of them 44
 abbrev pub layers_of : List ℕ → Result Layers QueryFault
-layers_of list = layers_from no_layers (slice_split is_comma list)
+layers_of list = layers_from no_layers (slice_split (λ c. c == 44) list)
 
 -- `on LIST`, where it stands next; all layers where it doesn't
 abbrev pub on_list : List (List ℕ) → Result (Taken Layers) QueryFault
@@ -224,9 +220,14 @@ abbrev pub parsed_words : List (List ℕ) → Parsed
 parsed_words [] = parsed.Skip
 parsed_words (verb ∷ more) = if starts_with nat_eq verb (codes "#") then parsed.Skip else parsed_of (query verb more)
 
--- what a line asks; one carriage return at its end is dropped
+-- a line of more bytes is too long
+abbrev pub longest_line : ℕ
+longest_line = 4096
+
+-- what a line asks, unless it is too long; one carriage return at its end is dropped
 abbrev pub query_of : List ℕ → Parsed
-query_of line = parsed_words (words (strip_carriage_return line))
+query_of line =
+    if nat_lt longest_line (length line) then parsed.Fault fault.LineTooLong else parsed_words (words (strip_carriage_return line))
 
 -- a parser's result, and the words that it left, as a definition wants them
 abbrev pub Takes : {X : Type 0} → Result (Taken X) QueryFault → Result X QueryFault → List (List ℕ) → Type 0

@@ -13,7 +13,6 @@ ghost use Rattle.rt_geo.specs.Layers.{most_layer};
 use crate::numbers::{self, NumberFault};
 use crate::query::{BoxQuery, Parsed, Query, QueryFault, Report, Vertices};
 use crate::words::Words;
-use arrayvec::ArrayVec;
 use rt_geo::{
     All, Bounds, ById, Circle, Covers, FEWEST_VERTICES, Inside, Layers, MOST_VERTICES, Near, Order,
     Point, Polygon, PolygonFault, Region, Smallest, Window,
@@ -22,14 +21,22 @@ use rt_geo::{
 /// A part of a query, or what is wrong with it.
 type Judged<T> = Result<T, QueryFault>;
 
+/// The most bytes of a query line, a carriage return included and the line feed not.
+pub const LONGEST_LINE: usize = 4096;
+
 /// What a line asks, without its line feed. One carriage return at its end is dropped. It takes no memory: the vertices of
 /// a polygon stand in `vertices`, whatever stood there.
-///
-/// It never answers [`QueryFault::LineTooLong`]: how long a line may be is the reader's matter.
 pub fn parse<'a>(line: &[u8], vertices: &'a mut Vertices) -> Parsed<'a>
     ensures { result ≡ query_of line.now }
 {
-    let mut words = Words::new(without_return(line));
+    if line.len() > LONGEST_LINE {
+        return Parsed::Fault(QueryFault::LineTooLong);
+    }
+    let line = match line {
+        [rest @ .., b'\r'] => rest,
+        _ => line,
+    };
+    let mut words = Words::new(line);
     let verb = match words.next() {
         Some(verb) if !verb.starts_with(b"#") => verb,
         _ => return Parsed::Skip,
@@ -37,15 +44,6 @@ pub fn parse<'a>(line: &[u8], vertices: &'a mut Vertices) -> Parsed<'a>
     match query(verb, &mut words, vertices) {
         Ok(query) => Parsed::Query(query),
         Err(fault) => Parsed::Fault(fault),
-    }
-}
-
-fn without_return(line: &[u8]) -> &[u8]
-    ensures { result.now ≡ strip_carriage_return line.now }
-{
-    match line {
-        [rest @ .., b'\r'] => rest,
-        _ => line,
     }
 }
 
@@ -138,13 +136,12 @@ fn count<'a>(words: &mut Words, vertices: &'a mut Vertices) -> Judged<BoxQuery<'
 
 // Whether no word is left.
 #[inline(always)]
-fn finished(words: &Words) -> Judged<()>
-    ensures { result ≡ finished words.now }
+fn finished(words: &mut Words) -> Judged<()>
+    ensures { result ≡ finished words.old }
 {
-    if words.is_empty() {
-        Ok(())
-    } else {
-        Err(QueryFault::StrayWord)
+    match words.next() {
+        None => Ok(()),
+        Some(_) => Err(QueryFault::StrayWord),
     }
 }
 
@@ -191,16 +188,10 @@ fn order(found: &Region, words: &mut Words) -> Judged<Order>
     } else if words.takes(b"smallest") {
         Ok(Order::Smallest(Smallest))
     } else {
-        Ok(usual_order(found))
-    }
-}
-
-fn usual_order(found: &Region) -> Order
-    ensures { result ≡ usual_order found.now }
-{
-    match found {
-        Region::Circle(disc) => Order::Near(Near(disc.centre)),
-        _ => Order::ById(ById),
+        match found {
+            Region::Circle(disc) => Ok(Order::Near(Near(disc.centre))),
+            _ => Ok(Order::ById(ById)),
+        }
     }
 }
 

@@ -38,7 +38,7 @@ pub enum Query<'a> {
 /// What is wrong with a query line: the first fault from left to right.
 #[derive(Clone, Copy, Debug, PartialEq, Eq)]
 pub enum QueryFault {
-    /// The line has more than 4,096 bytes, a carriage return at its end included.
+    /// The line has more than [`LONGEST_LINE`](crate::LONGEST_LINE) bytes, a carriage return at its end included.
     LineTooLong,
     /// The first word is no query, or the one after `cost` none that has a cost.
     UnknownVerb,

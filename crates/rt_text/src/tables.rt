@@ -152,7 +152,7 @@ fn next_record<R: Read>(records: &mut Reader<R>, fields: &mut ByteRecord) -> Jud
     }
 }
 
-// Judges one record, but for its id, and adds its entry.
+// Judges one record, but for whether its id comes again, and adds its entry.
 fn add_entry(max: u32, number: u32, fields: &ByteRecord, entries: &mut Entries) -> Judged<()>
     requires { All HasLayer entries.old }
     ensures added { OnOk result (IsOkAnd (entry_after max number entries.old (fields_of fields.now))

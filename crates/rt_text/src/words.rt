@@ -37,22 +37,14 @@ impl<'a> Words<'a> {
         ensures { MatchOption result (self.new ≡ self.old)
             (λ n. (word : List ℕ) × (self.old ≡ word ∷ self.new) × (number_text word ≡ Some n)) }
     {
-        let text = without_space(self.rest);
+        let text = self.rest.strip_prefix(b" ").unwrap_or(self.rest);
         let found = leading_number(text)?;
         let rest = &text[found.len..];
-        if !ends_word(rest) {
+        if !rest.first().is_none_or(|next| is_blank(*next)) {
             return None;
         }
         self.rest = rest;
         Some(found.number)
-    }
-
-    /// Whether no word is left.
-    #[inline(always)]
-    pub(crate) fn is_empty(&self) -> bool
-        ensures { IsTrue result ↔ (self.now ≡ []) }
-    {
-        self.rest.is_empty() || first_word(self.rest).is_none()
     }
 
     /// Whether a word stands next, which is then read.
@@ -61,9 +53,10 @@ impl<'a> Words<'a> {
         ensures next { result ≡ is_next word.now self.old }
         ensures rest { self.new ≡ (if result then drop 1 self.old else self.old) }
     {
-        match first_word(self.rest) {
-            Some((next, rest)) if next == word => {
-                self.rest = rest;
+        let mut ahead = Words { rest: self.rest };
+        match ahead.next() {
+            Some(next) if next == word => {
+                self.rest = ahead.rest;
                 true
             }
             _ => false,
@@ -81,52 +74,15 @@ impl<'a> Iterator for Words<'a> {
     ghost remaining = { item_count (λ words. words) };
 
     fn next(&mut self) -> Option<&'a [u8]> {
-        let (word, rest) = first_word(self.rest)?;
+        let start = self.rest.iter().position(|byte| !is_blank(*byte));
+        let line = &self.rest[start.unwrap_or(self.rest.len())..];
+        if line.is_empty() {
+            return None;
+        }
+        let end = line.iter().position(|byte| is_blank(*byte));
+        let (word, rest) = line.split_at(end.unwrap_or(line.len()));
         self.rest = rest;
         Some(word)
-    }
-}
-
-// The first word, and what stands after it.
-fn first_word(line: &[u8]) -> Option<(&[u8], &[u8])>
-    ensures { MatchOption result (words line.now ≡ []) (λ found. words line.now ≡ found.0.now ∷ words found.1.now) }
-{
-    let rest = &line[first_not_blank(line).unwrap_or(line.len())..];
-    if rest.is_empty() {
-        return None;
-    }
-    Some(rest.split_at(first_blank(rest).unwrap_or(rest.len())))
-}
-
-fn first_not_blank(text: &[u8]) -> Option<usize>
-    ensures { result ≡ position (λ byte. not (is_blank byte)) text.now }
-{
-    text.iter().position(|byte| !is_blank(*byte))
-}
-
-fn first_blank(text: &[u8]) -> Option<usize>
-    ensures { result ≡ position is_blank text.now }
-{
-    text.iter().position(|byte| is_blank(*byte))
-}
-
-// What stands behind a space, if there is one.
-fn without_space(line: &[u8]) -> &[u8]
-    ensures { words result.now ≡ words line.now }
-{
-    match line {
-        [b' ', rest @ ..] => rest,
-        _ => line,
-    }
-}
-
-// Whether a word in front of this would end there: a blank stands next, or nothing.
-fn ends_word(rest: &[u8]) -> bool
-    ensures { result ≡ (position_or_len is_blank rest.now == 0) }
-{
-    match rest {
-        [next, ..] => is_blank(*next),
-        [] => true,
     }
 }
 

@@ -1,6 +1,6 @@
-use Rattle.std.proofs.Common.{◌≡◌, drop, length}
+use Rattle.std.proofs.Common.{◌==◌, ◌≡◌, drop, length}
 use Rattle.std.specs.List.{slice_split}
-use Rattle.rt_text.specs.Queries.{is_comma, layers_from, layers_of}
+use Rattle.rt_text.specs.Queries.{layers_from, layers_of}
 use Rattle.rt_text.proofs.grammar.layers_of.Given as goal
 
 -- what is still to be read stands behind the parts so far
@@ -8,5 +8,5 @@ abbrev pub invariant-loop-part : goal.invariant-loop-part
 invariant-loop-part l = record {
   can_next : (goal.iterator-loop-part).can_next l.part-iterator;
   is_finite : (goal.iterator-loop-part).is_finite l.part-iterator;
-  rest : layers_of l.list ≡ layers_from l.layers (drop (length l.yielded) (slice_split is_comma l.list));
+  rest : layers_of l.list ≡ layers_from l.layers (drop (length l.yielded) (slice_split (λ c. c == 44) l.list));
 }

@@ -5,8 +5,5 @@ use Rattle.rt_filter.proofs.session.Heard.answer_line.Goals as goal
 pub returns-in-Skip-clause-pushed : goal.returns-in-Skip-clause-pushed
 returns-in-Skip-clause-pushed g c = search (rules, nothing_pushed)
 
-pub returns-after-query-clause-pushed : goal.returns-after-query-clause-pushed
-returns-after-query-clause-pushed g c = search rules
-
 pub returns-in-Skip-clause-heard : goal.returns-in-Skip-clause-heard
 returns-in-Skip-clause-heard g c = search rules

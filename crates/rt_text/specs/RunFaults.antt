@@ -3,8 +3,8 @@ use Rattle.std.specs.Prelude.{ℕ, List, codes}
 use Rattle.rt_text.specs.FaultLines.{fault_line}
 use Rattle.rt_text.specs.declared.tables.TableFault.{TableFault}
 use Rattle.rt_text.specs.declared.tables.TableFault.TheVariants as load
-use Rattle.rt_filter.specs.declared.filter.RunFault.{RunFault}
-use Rattle.rt_filter.specs.declared.filter.RunFault.TheVariants.{Table, Read, Write, Memory}
+use Rattle.rt_text.specs.declared.run_faults.RunFault.{RunFault}
+use Rattle.rt_text.specs.declared.run_faults.RunFault.TheVariants.{Table, Read, Write, Memory}
 
 -- what a run tells of a fault of the load: want of memory is the run's own
 abbrev pub run_fault : TableFault → RunFault
