@@ -9,6 +9,7 @@ from collections.abc import Callable, Mapping
 
 PATIENCE = 5.0  # seconds for one who asks
 MOST_AT_ONCE = 64  # who ask; one is left where so many have come later
+MOST_HEADERS = 100  # lines: what is here already is read without a wait, and the service waits meanwhile
 
 
 async def serve(listener: socket.socket, metrics: Callable[[], Mapping[str, float]]) -> None:
@@ -23,10 +24,11 @@ async def serve(listener: socket.socket, metrics: Callable[[], Mapping[str, floa
         with contextlib.suppress(OSError, ValueError), contextlib.closing(writer):
             async with asyncio.timeout(PATIENCE):
                 request = await reader.readline()
-                while (await reader.readline()).strip():
-                    pass  # what a browser tells of itself
-                writer.write(reply(request.split(), metrics()))
-                await writer.drain()
+                for _ in range(MOST_HEADERS):  # what a browser tells of itself
+                    if not (await reader.readline()).strip():
+                        writer.write(reply(request.split(), metrics()))
+                        await writer.drain()
+                        break
 
     await asyncio.start_server(answer, sock=listener, limit=4096)
 

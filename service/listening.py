@@ -7,11 +7,13 @@ import os
 import socket
 import stat
 import struct
+import time
 from collections.abc import Iterator
 from typing import Any
 
 FIRST_GIVEN = 3  # the first descriptor that systemd passes
 BACKLOG = 4096  # as many as Linux lets wait, by default
+PATIENCE = 5.0  # seconds with who has locked a folder
 
 
 @contextlib.contextmanager
@@ -43,8 +45,17 @@ def unix_listener(path: str, mode: int) -> Iterator[socket.socket]:
 def locked(path: str) -> Iterator[None]:
     """Keeps other services from paths in this folder meanwhile."""
     folder = os.open(os.path.dirname(path) or ".", os.O_RDONLY)
+    until = time.monotonic() + PATIENCE
     try:
-        fcntl.flock(folder, fcntl.LOCK_EX)
+        while True:
+            try:
+                fcntl.flock(folder, fcntl.LOCK_EX | fcntl.LOCK_NB)
+                break
+            except BlockingIOError as error:  # whoever may read the folder may lock it
+                if time.monotonic() > until:
+                    error.filename = path
+                    raise
+                time.sleep(0.01)
         yield
     finally:
         os.close(folder)
@@ -71,6 +82,8 @@ def given_listeners() -> list[socket.socket]:
 
 def name_of(address: Any) -> str:
     """A socket's address, in words."""
+    if isinstance(address, bytes):  # of Linux's abstract names
+        return "@" + os.fsdecode(address[1:])
     if isinstance(address, str):
         return address
     host, port, *_ = address

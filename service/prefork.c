@@ -104,8 +104,11 @@ static void become(int connection, pid_t parent)
 static void tell(int process, int status)
 {
     struct report report = { process, status };
-    while (send(CONTROL, &report, sizeof report, MSG_NOSIGNAL) < 0 && errno == EINTR)
-        ;
+    while (send(CONTROL, &report, sizeof report, MSG_NOSIGNAL) < 0)
+        if (errno == EPIPE)
+            break;
+        else if (errno != EINTR) /* no memory for it: the reports that follow would be taken for others */
+            kill(0, SIGKILL);
 }
 
 /* Forks for the next connection. Whether this is its child. */

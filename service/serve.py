@@ -66,6 +66,8 @@ def prepare(nice: int) -> None:
             anew = os.open("/proc/self/fd/2", os.O_WRONLY | os.O_NONBLOCK)
             os.dup2(anew, 2)
             os.close(anew)
+        elif stat.S_ISSOCK(os.fstat(2).st_mode):  # the journal's
+            os.set_blocking(2, False)
     signal.signal(signal.SIGCHLD, signal.SIG_DFL)
     signal.pthread_sigmask(signal.SIG_SETMASK, SIGNALS)
     _, most = resource.getrlimit(resource.RLIMIT_NOFILE)

@@ -75,7 +75,9 @@ class Service:
         self._table: Table | None = None  # of new connections
         self._is_reload_requested = False
         self._changed = asyncio.Event()  # any of these
-        self._counts = Counter(connections=0, connections_total=0, connections_refused_total=0)
+        self._counts = Counter(
+            connections=0, connections_total=0, connections_refused_total=0, connections_not_begun_total=0
+        )
         descriptors, _ = resource.getrlimit(resource.RLIMIT_NOFILE)
         self._room = descriptors - min(RESERVED, descriptors // 2)  # for connections
         self._last_complaint = -BETWEEN_COMPLAINTS
@@ -99,6 +101,7 @@ class Service:
         await asyncio.wait([keeping])
         notify("STOPPING=1")
         self._table = None
+        self._state_changed()  # who connects now waits for another service, where systemd has the sockets
         await asyncio.gather(*map(self._end, self._tables))
         return 0 if keeping.cancelled() else self._status
 
@@ -158,7 +161,8 @@ class Service:
             with table.first, contextlib.suppress(ConnectionError, TimeoutError):  # it hasn't read what it was asked
                 async with asyncio.timeout(self._args.load_timeout) as limit:  # wait_for may lose that it is cancelled
                     reply = await loop.sock_recv(table.first, 100)
-            if found := re.fullmatch(rb"ok 1 (\d+)\n", reply):
+            found = re.fullmatch(rb"ok 1 (\d+)\n", reply)
+            if found and table in self._tables:  # it hasn't ended since
                 table.size, table.loaded = int(found[1]), time.monotonic()
                 return self._switch_to(table, what)
             await self._end(table)
@@ -216,6 +220,9 @@ class Service:
         table.control.close()
         os.killpg(table.process.pid, signal.SIGKILL)
         status = table.process.wait()
+        with contextlib.suppress(ChildProcessError):  # its connections are this process's only where that is process 1
+            while True:
+                os.waitpid(-table.process.pid, 0)
         self._tables.remove(table)
         while table.pending:
             table.pending.popleft().set_result(None)
@@ -257,6 +264,7 @@ class Service:
             self._counts["connections_refused_total"] += 1
             how = f"refused, there are {self._args.connections} connections"
         elif (status := await self._exit_status_of(connection)) < 0:
+            self._counts["connections_not_begun_total"] += 1
             how = f"not begun: {os.strerror(-status)}"
         else:
             code = os.waitstatus_to_exitcode(status)

@@ -112,7 +112,11 @@ class Server(ThreadingHTTPServer):
 
     def process_request(self, request: Any, client_address: Any) -> None:
         if self._count(1) <= MOST_CONNECTIONS:
-            super().process_request(request, client_address)
+            try:
+                super().process_request(request, client_address)
+            except BaseException:  # there is no thread for it
+                self._count(-1)
+                raise
         else:
             self._count(-1)
             self.shutdown_request(request)
@@ -449,7 +453,7 @@ def opened(args: argparse.Namespace) -> Boxes:
 def loaded(args: argparse.Namespace, boxes: Boxes) -> Table:
     table = Table(Places(args.table, args.header), names_of(args.names), names_of(args.layers))
     check_size(table, boxes)
-    names = [table.layer_name(layer) for layer in table.places.layers()]
+    names = ["density", *(table.layer_name(layer) for layer in table.places.layers())]
     if len(set(names)) < len(names):
         raise ValueError("two layers have the same name")
     return table

@@ -4,10 +4,37 @@ import contextlib
 import os
 import signal
 import socket
+import subprocess
+import sys
 import time
 import unittest
 
-from served import BOXES, Case, Served, is_there, read_lines, send, table_of, until
+from served import BOXES, LONG, PACKAGE, SERVICE, Case, Served, is_there, read_lines, send, table_of, until
+
+# A service whose program has told its size and ended, both before the service looks.
+ENDING = """
+import asyncio, signal, socket, subprocess, sys
+from argparse import Namespace
+sys.path += sys.argv[1:]
+import prefork
+from service import SIGNALS, Service
+
+def start(errors, log):
+    control, its_control = socket.socketpair(socket.AF_UNIX, socket.SOCK_SEQPACKET)
+    first, its_first = socket.socketpair()
+    control.setblocking(False)
+
+    def tell():
+        its_first.sendall(b"ok 1 5\\n")
+        its_first.close()
+        its_control.close()
+
+    asyncio.get_running_loop().call_later(0.1, tell)
+    return prefork.Started(subprocess.Popen(["true"], process_group=0), control, first)
+
+signal.pthread_sigmask(signal.SIG_BLOCK, SIGNALS)
+sys.exit(asyncio.run(Service(Namespace(load_timeout=10.0), start, []).run(None)))
+"""
 
 MANY = 300  # more than a program is given at once, and more reports than its socket holds
 
@@ -23,6 +50,12 @@ class Control(Case):
     def assert_answered(self, askers: list[socket.socket], boxes: int = 5) -> None:
         for asker in askers:
             self.assertEqual(read_lines(asker, 1), b"ok 1 %d\n" % boxes)
+
+    def test_a_program_that_ends_as_soon_as_it_has_loaded(self) -> None:
+        """It isn't the table: its end comes with what it tells of its size."""
+        words = [sys.executable, "-c", ENDING, str(SERVICE.parent), str(PACKAGE / "rtfilter")]
+        done = subprocess.run(words, capture_output=True, text=True, timeout=LONG)
+        self.assertEqual((done.returncode, done.stderr), (1, "the program has ended, with status 0\n"))
 
     def test_a_program_that_is_stopped_for_a_while(self) -> None:
         """Who connects waits."""

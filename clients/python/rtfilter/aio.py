@@ -77,7 +77,7 @@ class Pipeline:
         if asyncio.get_running_loop() is not self._loop:
             raise RuntimeError("it belongs to the loop in which it was opened")
         if self._error is not None:
-            raise self._error
+            raise self._error.with_traceback(None)  # or it would keep those of all calls before
         first = self.transport.lines + 1
         self.transport.lines += lines
         told: "asyncio.Future[Told]" = self._loop.create_future()

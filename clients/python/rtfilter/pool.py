@@ -196,7 +196,7 @@ class Pool(Boxes):
                 raise ValueError(CHANGED)
             client.reload()
             if not is_unchanged():
-                client.close()
+                client._transport.abandon(CHANGED)
                 raise ValueError(CHANGED)
 
         return Copies(clients, mend)

@@ -46,13 +46,21 @@ def give(control: socket.socket, connection: socket.socket) -> None:
     socket.send_fds(control, [b"."], [connection.fileno()])
 
 
+def pair(kind: int = socket.SOCK_STREAM) -> tuple[socket.socket, socket.socket]:
+    """Two sockets that are connected, and wait, whatever `socket.setdefaulttimeout` was told."""
+    ends = socket.socketpair(socket.AF_UNIX, kind)
+    for end in ends:
+        end.setblocking(True)
+    return ends
+
+
 def start(command: Sequence[str], library: Path, errors: int, log: int) -> Started:
     """Starts a program, and doesn't wait for it. Raises `OSError` where it can't be started.
 
     `errors` is the descriptor of its standard error until it serves, and `log` that from then on.
     """
-    control, its_control = socket.socketpair(socket.AF_UNIX, socket.SOCK_SEQPACKET)
-    first, its_first = socket.socketpair()
+    control, its_control = pair(socket.SOCK_SEQPACKET)
+    first, its_first = pair()
     with contextlib.ExitStack() as kept, its_control, its_first:
         kept.enter_context(control)
         kept.enter_context(first)

@@ -49,7 +49,7 @@ class Holder(Child):
 
     def connected(self) -> socket.socket:
         """A socket whose other end the program is given. Raises what `give` does."""
-        mine, its = socket.socketpair()
+        mine, its = prefork.pair()
         with contextlib.ExitStack() as kept, its:
             kept.enter_context(mine)
             prefork.give(self._control, its)

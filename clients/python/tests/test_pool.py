@@ -2,6 +2,7 @@
 
 import os
 import random
+import socket
 import tempfile
 import threading
 import unittest
@@ -41,6 +42,13 @@ class Pools(unittest.TestCase):
 
             run_at_once([ask] * 8)
             self.assertEqual(told, [[5] * 350] * 8)
+
+    def test_a_default_timeout_of_sockets(self) -> None:
+        """It is others'."""
+        self.addCleanup(socket.setdefaulttimeout, None)
+        socket.setdefaulttimeout(5)
+        with Pool(2, BOXES, program=PROGRAM) as boxes:
+            self.assertEqual([boxes.count(All()) for _ in range(3)], [5, 5, 5])
 
     def test_faults(self) -> None:
         before = open_files()

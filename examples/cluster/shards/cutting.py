@@ -137,7 +137,8 @@ class Cut:
     def _plain_parts(self) -> list[Path]:
         """Parts of the table, each sorted by x. None where a record isn't plain, or an id comes again."""
         ranges = list(self._ranges()) if shutil.which("mawk") else []
-        parts = [self._folder / f"part{at:04}" for at in range(len(ranges))]
+        # (named by their place: with another number of processors a cut goes on with other parts)
+        parts = [self._folder / f"part{begin}-{size}" for begin, size in ranges]
         ids = [part.with_suffix(".ids") for part in parts]
         with ThreadPoolExecutor(os.cpu_count()) as threads:
             are_plain = all(list(threads.map(self._sort_plain, parts, ids, ranges)))

@@ -118,8 +118,9 @@ class Exchange:
 
     def __exit__(self, kind: type[BaseException] | None, error: BaseException | None, trace: object) -> None:
         """Where one shard breaks, the others' replies are read, so that they can be asked again."""
-        for number, stream in self._streams.items():
-            if error is None or isinstance(error, Broken):
+        if error is None or isinstance(error, Broken):
+            for stream in self._streams.values():
                 stream.drain()
-            else:
+        else:  # whatever was asked: it may have been interrupted before its stream is known
+            for number in self._asked:
                 self._transports[number].abandon()

@@ -80,17 +80,25 @@ class Table:
         return str(self.source)
 
     def _check_state(self) -> None:
-        if self.state is not None and state_of(self._file) != self.state:
+        # (by size and time: on another machine a file has other numbers of device and inode)
+        if self.state is not None and (state_of(self._file) or ())[2:] != self.state[2:]:
             raise ValueError(f"{self._file}: {CHANGED}")
 
-    def asked(self, lines: list[str]) -> bytes:
-        """The replies to lines, as the program writes them. A program that has ended is started anew, once."""
+    def told(self, call: Callable[[Rtfilter], Any]) -> Any:
+        """What a call gives. A program that has ended is started anew, once."""
+        boxes = self.boxes
         try:
-            return text_of(self.boxes.replies(lines))
+            return call(boxes)
         except Ended:
-            self.boxes.reload()
-            self._check_state()
-            return text_of(self.boxes.replies(lines))
+            with _loading:
+                if _loaded.get(self) is boxes:
+                    del _loaded[self]
+            boxes.close()
+            return call(self.boxes)
+
+    def asked(self, lines: list[str]) -> bytes:
+        """The replies to lines, as the program writes them."""
+        return self.told(lambda boxes: text_of(boxes.replies(lines)))
 
     def __sizeof__(self) -> int:
         """What it takes to have it elsewhere, so that dask has its tasks run where it is."""
@@ -121,14 +129,14 @@ def meeting(windows: pandas.DataFrame, table: Table) -> pandas.DataFrame:
 
 def nearest(positions: pandas.DataFrame, table: Table, k: int) -> pandas.DataFrame:
     """The k boxes nearest to each position."""
-    places, ids, scores = table.boxes.nearest_bulk(positions[["x", "y"]].to_numpy(), k)
+    places, ids, scores = table.told(lambda boxes: boxes.nearest_bulk(positions[["x", "y"]].to_numpy(), k))
     return pandas.DataFrame({"id": ids, "score": scores.astype(object)}, index=positions.index[places])
 
 
 def _pairs(
     frame: pandas.DataFrame, windows: pandas.DataFrame, table: Table, region: type[Covers | Window]
 ) -> pandas.DataFrame:
-    places, ids = table.boxes.query_bulk(windows.to_numpy(), region=region)
+    places, ids = table.told(lambda boxes: boxes.query_bulk(windows.to_numpy(), region=region))
     return pandas.DataFrame({"id": ids}, index=frame.index[places])
 
 

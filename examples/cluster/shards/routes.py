@@ -44,7 +44,7 @@ def route_of(question: Question | None, bounds: Mapping[int, Sides], other: int)
     holders = [] if question is None else [it for it, sides in bounds.items() if question.may_accept(sides)]
     if question is None or not holders:
         return Route([other])
-    if question.limit == 0:
+    if question.limit is not None and question.limit <= 0:  # below 0 it is at fault
         return Route(holders[:1])
     if question.point is None or question.limit is None or question.limit > MOST_KEPT or len(holders) == 1:
         return Route(holders)

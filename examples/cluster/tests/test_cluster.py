@@ -28,6 +28,7 @@ from shards.places import places_of, there
 from shards.questions import question_of
 from shards.records import TableError
 from shards.router import Cluster
+from shards.routes import route_of
 
 from rtfilter import Ended
 from rtfilter.deadlines import ENDLESS
@@ -130,6 +131,34 @@ class Cuts(Folders):
                 self.assertEqual([part.read_bytes() for part in parts], texts)
                 self.assertEqual(sorted(os.listdir(folder)), sorted(part.name for part in parts))
                 self.assertLessEqual(len(os.listdir(log)), sorts + (os.cpu_count() or 1))
+
+    def test_a_cut_that_goes_on_with_other_processors(self) -> None:
+        """Its parts are others, and no box is lost."""
+        table, wanted = self.even_table(2_000, 9)
+        texts = [part.read_bytes() for part in wanted]
+        log, command = self.folder / "sorts", self.folder / "bin/sort"
+        command.parent.mkdir()
+        command.write_text(SORT.format(log=log, sort=shutil.which("sort")))
+        command.chmod(0o700)
+        for failing in range(2, 20, 3):
+            shutil.rmtree(log, ignore_errors=True)
+            log.mkdir()
+            folder = str(self.folder / f"other{failing}")
+            with unittest.mock.patch("os.cpu_count", return_value=8), self.assertRaises(OSError):
+                path = f"{command.parent}:{os.environ['PATH']}"
+                with unittest.mock.patch.dict(os.environ, PATH=path, FAILING=str(failing)):
+                    cut(str(table), 9, folder)
+            with unittest.mock.patch("os.cpu_count", return_value=2):
+                parts = cut(str(table), 9, folder)
+            self.assertEqual([part.read_bytes() for part in parts], texts)
+            self.assertEqual(sorted(os.listdir(folder)), sorted(part.name for part in parts))
+
+    def test_limits_at_fault(self) -> None:
+        """They keep nothing, so that they don't count against those of other lines."""
+        bounds = {0: (0, 9, 0, 9), 1: (100, 109, 0, 9)}
+        for limit in (-99_999_999_999, -1, 0):
+            route = route_of(question_of(f"nearest {limit} 0 0"), bounds, 0)
+            self.assertEqual((len(route.first), route.later, route.limit), (1, {}, 0))
 
     def test_refused(self) -> None:
         table = self.table(b"1,0,1,0,1\n")
