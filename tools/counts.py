@@ -1,8 +1,9 @@
 #!/usr/bin/env python3
-"""Counts the lines and the functions of each crate, and the calls from `main` to the comparison that decides about a box.
+"""Counts the lines and the functions of each crate, and the calls from `main` to the line that decides about an answer.
 
 The calls are those that CONTRIBUTING.md tells under "The way of a line", crate by crate, each called by the one before;
-a file in brackets has the calls before it. Definitions that have to be believed are counted by tools/definitions.py.
+a file in brackets has the calls before it. So are the calls of the second table, from the node's entries to the comparison
+of a box. Definitions that have to be believed are counted by tools/definitions.py.
 
 Run from anywhere: `python3 tools/counts.py`. `--check` fails where one of these calls isn't called by the one before it;
 its last line is `N passed, M failed`.
@@ -29,11 +30,16 @@ def sources_of(crate):
     return [path.read_text(encoding="utf-8") for path in sorted((CRATES / crate / "src").glob("*.rt"))]
 
 
-def way_of_a_line():
-    """The calls in turn: of each its crate, its file and its name."""
+def ways_of_a_line():
+    """The calls of each table in turn."""
     page = (ROOT / "CONTRIBUTING.md").read_text(encoding="utf-8")
     section = page.partition("\n## The way of a line\n")[2].partition("\n## ")[0]
-    for crate, cell in ROW.findall(section):
+    return [list(calls_of(table)) for table in section.split("\n| crate | calls |\n")[1:]]
+
+
+def calls_of(table):
+    """The calls in turn: of each its crate, its file and its name."""
+    for crate, cell in ROW.findall(table):
         names = []
         for name, file in CALL_OR_FILE.findall(cell):
             if name:
@@ -60,7 +66,7 @@ def main():
     parser = argparse.ArgumentParser(description=__doc__.splitlines()[0])
     parser.add_argument("--check", action="store_true", help="fail where the way of a line isn't so")
     check = parser.parse_args().check
-    way = list(way_of_a_line())
+    ways = ways_of_a_line()
     if not check:
         print(f"{'':<12}{'source':>8}{'specs':>8}{'proofs':>8}{'functions':>11}")
         for crate in sorted(path.name for path in CRATES.iterdir() if not path.name.endswith("_tests")):
@@ -70,18 +76,19 @@ def main():
             )
             functions = sum(len(FUNCTION.findall(text)) for text in sources_of(crate))
             print(f"{crate:<12}{source:>8}{specs:>8}{proofs:>8}{functions:>11}")
-        print(f"from main to the comparison of a box with the window: {len(way) - 1} calls")
+        for way in ways:
+            print(f"from {way[0][-1]} to {way[-1][-1]}: {len(way) - 1} calls")
         return 0
     failed = 0
-    for (crate, file, name), (*_, called) in zip(way, way[1:] + [(None,)]):
+    for (crate, file, name), (*_, called) in (step for way in ways for step in zip(way, way[1:] + [(None,)])):
         body = body_of(crate, file, name)
         word = called and called.rpartition("::")[2]
         if body is None or word and not re.search(rf"\b{word}\b(?:::<[^>]*>)?\(", body.partition("(")[2]):
             print(f"CONTRIBUTING.md: {name} of {crate}/src/{file} {'is not there' if body is None else f'calls no {word}'}")
             failed += 1
-    passed = len(way) - failed
-    print(f"{passed} passed, {failed + (not way)} failed")
-    return 1 if failed or not way else 0
+    passed = sum(map(len, ways)) - failed
+    print(f"{passed} passed, {failed + (not ways)} failed")
+    return 1 if failed or not ways else 0
 
 
 if __name__ == "__main__":

@@ -2,7 +2,7 @@
 use Rattle.std.proofs.Common.{◌≡◌, ◌∙◌, ◌+◌, ℕ, List, [], ◌∷◌, ◌++◌, length, drop, Option, Some, None, refl, sym, ap}
 use Rattle.std.proofs.{Common.{arith, append_assoc, append-nil, rules}, Math.Seq.{take-append-add, take-append_seam}}
 use Rattle.std.proofs.lemmas.List.{append_cancel_left, length-append, take-append-drop}
-use Rattle.std.specs.{Io.{StartsWith}, Prelude.{IfSome, IsErrAnd, MatchResult, Result, Ok, Err}}
+use Rattle.std.specs.{Io.{StartsWith}, Prelude.{IfSome, IsErrAnd, MatchResult, Result, Ok, Err}, Result.{result_and}}
 use Rattle.rt_device.specs.Devices.{IsSameIfTold}
 use Rattle.rt_filter.specs.Pushes.{Pushed, WasCut, WasPushed, WentPrefix}
 
@@ -104,6 +104,13 @@ told_cut (Some before) (Some written) bytes h =
     (out, is, starts_behind before bytes out (rw is at h.1))
 
 -- ---- calls that push
+
+-- a success that is given a value
+pub pushed_and : {T U E K : Type 0} (written : K → Option (List ℕ)) (failed : K → ℕ) (old new : K) (r : Result T E) (all : Result U E)
+    (x : U) → all ≡ result_and r (Ok x) → (bytes : List ℕ) → Pushed written failed old new r bytes
+    → Pushed written failed old new all bytes
+pushed_and written failed old new (Ok _) all x is bytes h = rw is h
+pushed_and written failed old new (Err _) all x is bytes h = rw is h
 
 module _ {T E K : Type 0} (written : K → Option (List ℕ)) (failed : K → ℕ) (old mid new : K) where
   -- a failure is one at each type

@@ -103,8 +103,7 @@ fn push_in_shape<S: Shape + Drop, K: Sink>(
             let geometry = Guided { shape, rank: ById };
             let mut frontier = frontier;
             let counted = count(tree, &mut frontier, &mut Counted::new(&geometry));
-            push_line(&ok_line(line, counted.accepted), sink)?;
-            return Ok(frontier);
+            return push_line(&ok_line(line, counted.accepted), sink).and(Ok(frontier));
         }
     };
     match order {
@@ -186,6 +185,5 @@ pub(crate) fn push_cost<K: Sink>(
             (opened, frontier)
         }
     };
-    push_line(&ok_line(line, opened), sink)?;
-    Ok(frontier)
+    push_line(&ok_line(line, opened), sink).and(Ok(frontier))
 }

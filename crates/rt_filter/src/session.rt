@@ -187,17 +187,13 @@ impl Heard {
                 match query {
                     Query::Boxes(asked) => push_in_region(tree, frontier, self.lines, asked, sink),
                     Query::Cost(asked) => push_cost(tree, frontier, self.lines, asked, sink),
-                    Query::Levels => {
-                        push_levels(tree, self.lines, sink)?;
-                        Ok(frontier)
-                    }
+                    Query::Levels => push_levels(tree, self.lines, sink).and(Ok(frontier)),
                 }
             }
             Parsed::Fault(fault) => {
                 *is_pushed = true;
                 self.bad = true;
-                push_line(&error_line(self.lines, fault), sink)?;
-                Ok(frontier)
+                push_line(&error_line(self.lines, fault), sink).and(Ok(frontier))
             }
         }
     }

@@ -9,19 +9,15 @@ use Rattle.rt_search.proofs.{OrderedLists.{put_all-put}, Orders.{item_order}}
 
 -- ---- a tally: so many more
 
-abbrev adds_one : Tally → Answer → Tally → Type 0
-adds_one old a new = new.accepted ≡ old.accepted + 1
+pub counts : {S : Type 0} (count : S → ℕ) (old new : S) (xs : List Answer)
+    → HasTaken (λ old a new. count new ≡ count old + 1) old xs new → count new ≡ count old + length xs
+counts count old new [] h = omega (arith, ap count h)
+counts count old new (x ∷ xs) h = omega (arith, counts count h.0 new xs h.1.1)
 
-pub tally_counts : (old new : Tally) (xs : List Answer) → HasTaken adds_one old xs new
-    → new.accepted ≡ old.accepted + length xs
-tally_counts old new [] h = omega (arith, ap (λ t. t.accepted) h)
-tally_counts old new (x ∷ xs) h = omega (arith, tally_counts h.0 new xs h.1.1)
-
-pub tally_counted : (old new : Tally) (xs : List Answer) → new.accepted ≡ old.accepted + length xs
-    → HasTaken adds_one old xs new
-tally_counted old new [] h = ap (λ (n : ℕ). record { accepted = n }) (omega arith)
-tally_counted old new (x ∷ xs) h =
-    grind (arith, tally_counted (record { accepted = old.accepted + 1 }) new xs (omega arith))
+pub tally_counted : (old new : Tally) (xs : List Answer) → new.0 ≡ old.0 + length xs
+    → HasTaken (λ (old : Tally) a (new : Tally). new.0 ≡ old.0 + 1) old xs new
+tally_counted old new [] h = ap (λ (n : ℕ). record { 0 = n }) (omega arith)
+tally_counted old new (x ∷ xs) h = grind (arith, tally_counted (record { 0 = old.0 + 1 }) new xs (omega arith))
 
 -- ---- the hits, and what waits: the entries of the answers join
 

@@ -1,31 +1,58 @@
 //! Counting by whole subtrees.
 
-ghost use Rattle.std.specs.Prelude.{◌≡◌, [], length};
+ghost use Rattle.std.specs.Prelude.{◌≡◌, ◌+◌, ◌-◌, ◌^◌, [], length};
 ghost use Rattle.rt_search.specs.{Answers.{accepted}, Work.{asked_by_count, opened_by_count}};
 
 use crate::counts::Count;
 use crate::frontier::Frontier;
 use crate::walk::{Collector, Visitor, walk};
 use rt_geo::{Counted, Geometry, Verdict, Within};
-use rt_tree::Tree;
+use rt_tree::{Node, Tree};
 
 /// How many entries were accepted so far.
 #[derive(Drop)]
-struct Tally {
-    accepted: u64,
-}
+struct Tally(u64);
 
-impl Collector for Tally {
-    ghost use Rattle.std.specs.Prelude.{◌≡◌, ◌+◌, ◌-◌, ◌^◌};
+// A number counts the answers that it takes.
+impl Collector for u64 {
     ghost use Rattle.std.proofs.Common.{rules};
 
-    ghost takes = { λ old _ new. new.accepted ≡ old.accepted + 1 };
+    ghost takes = { λ old _ new. new ≡ old + 1 };
 
-    ghost room = { λ t. 2 ^ 64 - 1 - t.accepted };
+    ghost room = { λ n. 2 ^ 64 - 1 - n };
 
     #[inline(always)]
     fn visit_entry(&mut self, is_accepted: bool, _score: u128, _id: i64) {
-        self.accepted += u64::from(is_accepted);
+        *self += u64::from(is_accepted);
+    }
+
+    ghost fills = { Prim.search rules };
+}
+
+impl Collector for Tally {
+    ghost use Rattle.std.proofs.Common.{rules};
+
+    ghost takes = { λ old _ new. new.0 ≡ old.0 + 1 };
+
+    ghost room = { λ t. 2 ^ 64 - 1 - t.0 };
+
+    #[inline(always)]
+    fn visit_entry(&mut self, is_accepted: bool, _score: u128, _id: i64) {
+        self.0 += u64::from(is_accepted);
+    }
+
+    // In a number of its own, which stays in a register.
+    #[inline(always)]
+    fn visit_entries<G: Geometry>(
+        &mut self,
+        tree: &Tree,
+        counted: &mut Counted<'_, G>,
+        node: Node,
+        parent: Verdict,
+    ) {
+        let mut accepted = self.0;
+        accepted.visit_entries(tree, counted, node, parent);
+        self.0 = accepted;
     }
 
     ghost fills = { Prim.search rules };
@@ -43,7 +70,7 @@ impl Visitor for Tally {
             Within::Not => false,
             Within::Partly => true,
             Within::Fully => {
-                self.accepted += u64::from(size);
+                self.0 += u64::from(size);
                 false
             }
         }
@@ -67,8 +94,8 @@ pub fn count<G: Geometry>(
 {
     // (nothing waits after a count, as after a full search)
     frontier.rooms.queue.clear(None);
-    let mut tally = Tally { accepted: 0 };
+    let mut tally = Tally(0);
     let opened = walk(tree, &mut tally, counted);
-    let accepted = tally.accepted;
+    let accepted = tally.0;
     Count { accepted, opened }
 }

@@ -8,7 +8,7 @@ ghost use Rattle.rt_search.specs.Remaining.{IsOpenable, verdict_on};
 
 use crate::item::{ScoredNode, WaitingNode};
 use crate::queue::Queue;
-use crate::walk::{info_under, visit_entries};
+use crate::walk::{Collector, info_under};
 use rt_geo::{Counted, Geometry, Verdict, Within};
 use rt_tree::{NodeNo, Tree};
 
@@ -22,10 +22,8 @@ pub(crate) fn put_root(tree: &Tree, queue: &mut Queue)
     let Some(number) = tree.root() else {
         return;
     };
-    let root = Verdict {
-        within: Within::Partly,
-        score: 0,
-    };
+    let within = Within::Partly;
+    let root = Verdict { within, score: 0 };
     queue.put_node(root, number);
 }
 
@@ -51,7 +49,7 @@ pub(crate) fn open_node<G: Geometry>(
     let node = tree.node(taken.node.number);
     let parent = verdict_on(taken.score, taken.node);
     if node.level == 1 {
-        visit_entries(tree, queue, counted, node, parent);
+        queue.visit_entries(tree, counted, node, parent);
         return;
     }
     let first = node.first;

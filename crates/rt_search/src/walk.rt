@@ -28,6 +28,33 @@ pub(crate) trait Collector: Sized {
         requires { 0 < room self.old }
         ensures { HasTaken takes self.old (answer_if is_accepted id score) self.new };
 
+    /// Asks about each entry under a node of level 1, and takes those that are accepted.
+    #[inline(always)]
+    fn visit_entries<G: Geometry>(
+        &mut self,
+        tree: &Tree,
+        counted: &mut Counted<'_, G>,
+        node: Node,
+        parent: Verdict,
+    )
+        requires leaf { IsOpenableLeaf tree.now (G.meaning counted.old.geometry) node parent }
+        requires room { node.count ≤ Self.room self.old }
+        requires asked { counted.old.asked + node.count ≤ 2 ^ 64 - 1 }
+        ensures taken { let found = answers_among tree.now (G.meaning counted.old.geometry) node node.count in
+            HasTaken Self.takes self.old found self.new }
+        ensures geometry { counted.new.geometry ≡ counted.old.geometry }
+        ensures asked { counted.new.asked ≡ counted.old.asked + node.count }
+    {
+        let first = node.first;
+        let entries = tree.child_entries(node);
+        for (i, entry) in entries.iter().enumerate() {
+            let layers = tree.layers_at(first + i as u32);
+            let info = info_under(tree, parent, entry.bounds, layers, 0);
+            let verdict = counted.check(&info);
+            self.visit_entry(is_kept(verdict.within), verdict.score, entry.id);
+        }
+    }
+
     /// Each answer takes at most a place.
     ghost fills: { IsFilling takes room };
 }
@@ -70,33 +97,6 @@ pub(crate) fn is_kept(within: Within) -> bool
     !matches!(within, Within::Not)
 }
 
-/// Asks about each entry under a node of level 1, and hands the verdict on it to the collector.
-#[inline(always)]
-pub(crate) fn visit_entries<C: Collector, G: Geometry>(
-    tree: &Tree,
-    collector: &mut C,
-    counted: &mut Counted<'_, G>,
-    node: Node,
-    parent: Verdict,
-)
-    requires leaf { IsOpenableLeaf tree.now (G.meaning counted.old.geometry) node parent }
-    requires room { node.count ≤ C.room collector.old }
-    requires asked { counted.old.asked + node.count ≤ 2 ^ 64 - 1 }
-    ensures taken { let found = answers_among tree.now (G.meaning counted.old.geometry) node node.count in
-        HasTaken C.takes collector.old found collector.new }
-    ensures geometry { counted.new.geometry ≡ counted.old.geometry }
-    ensures asked { counted.new.asked ≡ counted.old.asked + node.count }
-{
-    let first = node.first;
-    let entries = tree.child_entries(node);
-    for (i, entry) in entries.iter().enumerate() {
-        let layers = tree.layers_at(first + i as u32);
-        let info = info_under(tree, parent, entry.bounds, layers, 0);
-        let verdict = counted.check(&info);
-        collector.visit_entry(is_kept(verdict.within), verdict.score, entry.id);
-    }
-}
-
 /// Walks over a tree from its root, which isn't asked about, and returns how many nodes were opened. All that is
 /// accepted is taken. A visitor needs room for as many entries as there are, by what holds of each tree.
 pub(crate) fn walk<V: Visitor, G: Geometry>(
@@ -117,10 +117,8 @@ pub(crate) fn walk<V: Visitor, G: Geometry>(
     let Some(number) = tree.root() else {
         return opened;
     };
-    let root = Verdict {
-        within: Within::Partly,
-        score: 0,
-    };
+    let within = Within::Partly;
+    let root = Verdict { within, score: 0 };
     walk_under(tree, visitor, counted, &mut opened, number, root);
     opened
 }
@@ -153,7 +151,7 @@ fn walk_under<V: Visitor, G: Geometry>(
     let node = tree.node(number);
     *opened += 1;
     if node.level == 1 {
-        visit_entries(tree, visitor, counted, node, parent);
+        visitor.visit_entries(tree, counted, node, parent);
         return;
     }
     let first = node.first;

@@ -57,7 +57,7 @@ impl Wide {
         self.heap.clear();
     }
 
-    // Out of line, as wide items are rare.
+    // (this and the next out of line, as wide items are rare)
     #[cold]
     #[inline(never)]
     pub fn put(&mut self, item: Item)
@@ -69,7 +69,6 @@ impl Wide {
         let _pushed = self.heap.push(Reverse(item));
     }
 
-    // Out of line, as wide items are rare.
     #[cold]
     #[inline(never)]
     pub fn take(&mut self) -> Option<Item>

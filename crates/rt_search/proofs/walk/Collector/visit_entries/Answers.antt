@@ -4,7 +4,7 @@ use Rattle.rt_geo.specs.Laws.{extent_of_entry}
 use Rattle.rt_search.specs.Walking.{HasTaken, answers_among}
 use Rattle.rt_search.proofs.Children.{entries_count, entry_question, leaf_read}
 use Rattle.rt_search.proofs.Walks.{few_entries, one_entry, taken-append, taken_room}
-use Rattle.rt_search.proofs.walk.visit_entries.Goals as goal
+use Rattle.rt_search.proofs.walk.Collector.visit_entries.Goals as goal
 
 pub overflow_cast-i : goal.overflow_cast-i
 overflow_cast-i g c = grind (arith, common_steps)
@@ -34,7 +34,7 @@ visit_entry-requires g c =
     search (
       rules,
       entries_count,
-      taken_room g.C.Collector.takes g.C.Collector.room g.met.C.Collector.fills,
+      taken_room g.Self.Collector.takes g.Self.Collector.room g.met.Self.Collector.fills,
       few_entries (g.G.Geometry.meaning c.args.counted.now.geometry),
     )
 
@@ -57,10 +57,10 @@ loop-i-preserved g c =
     let one = rw k.is at (rw verdict_is at (rw c.is_kept.ensures at (simp (to_z-of_z, fits) at c.visit_entry.ensures))) in
     let more = one_entry (g.met.G.Geometry.lawful geometry) c.requires.leaf.sound (search rules) c.requires.leaf.node
     c.requires.leaf.below i (omega arith) in
-    let both = taken-append g.C.Collector.takes c.args.collector.now c.loop-i.collector c.visit_entry.new.self
+    let both = taken-append g.Self.Collector.takes c.args.self.now c.loop-i.self c.visit_entry.new.self
     (answers_among tree (g.G.Geometry.meaning geometry) c.args.node i) _ inv.taken one in
     record {
-      taken = subst (λ l. HasTaken g.C.Collector.takes c.args.collector.now l c.visit_entry.new.self) more both;
+      taken = subst (λ l. HasTaken g.Self.Collector.takes c.args.self.now l c.visit_entry.new.self) more both;
       geometry = e.geometry;
       asked = (let asked = e.asked in omega arith);
     }
