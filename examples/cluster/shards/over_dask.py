@@ -85,7 +85,8 @@ class Table:
             raise ValueError(f"{self._file}: {CHANGED}")
 
     def told(self, call: Callable[[Rtfilter], Any]) -> Any:
-        """What a call gives. A program that has ended is started anew, once."""
+        """What a call gives. A program that has ended is started anew, once. Other threads may still ask the old one: it is
+        closed when nobody has it any more."""
         boxes = self.boxes
         try:
             return call(boxes)
@@ -93,7 +94,6 @@ class Table:
             with _loading:
                 if _loaded.get(self) is boxes:
                     del _loaded[self]
-            boxes.close()
             return call(self.boxes)
 
     def asked(self, lines: list[str]) -> bytes:

@@ -3,7 +3,6 @@
 import contextlib
 import shlex
 import threading
-from collections import defaultdict
 from collections.abc import Callable, Iterator, Sequence
 from dataclasses import dataclass
 from typing import Protocol
@@ -17,9 +16,7 @@ STARTED_AT_ONCE = 4  # on one host: of ten who haven't logged in yet, sshd turns
 HOST, OTHER = ":", ","  # behind a host's name; between two places
 SOCKET = "unix:"
 
-_starting: defaultdict[str, threading.BoundedSemaphore] = defaultdict(
-    lambda: threading.BoundedSemaphore(STARTED_AT_ONCE)
-)
+_starting: dict[str, threading.BoundedSemaphore] = {}  # of each host
 
 
 class Carrier(Protocol):
@@ -66,12 +63,14 @@ class Place:
         if self.host is None:
             yield
             return
-        if not _starting[self.host].acquire(timeout=deadline.left()):
+        # One for all threads, also where two look for it at once: a dict does this in one step.
+        starting = _starting.setdefault(self.host, threading.BoundedSemaphore(STARTED_AT_ONCE))
+        if not starting.acquire(timeout=deadline.left()):
             raise deadline.error()
         try:
             yield
         finally:
-            _starting[self.host].release()
+            starting.release()
 
 
 def here(table: str, program: str) -> Place:

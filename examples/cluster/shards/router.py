@@ -120,7 +120,7 @@ class Cluster(Owned, Closing):
             except Broken as broken:
                 breaks[broken.number] += 1
                 is_tried = breaks[broken.number] > len(self._connections.shards[broken.number].places)
-                if sink.has_begun or is_tried or deadline.is_over or self._connections.are_ended:
+                if is_tried or deadline.is_over or self._connections.are_ended or not sink.take_back():
                     raise
 
     def _turn(self, lines: list[str], first: int) -> list[Asked]:

@@ -13,23 +13,21 @@ class Sink(abc.ABC):
 
     def __init__(self) -> None:
         self.done = 0  # lines whose replies are over
-        self.has_begun = False  # the reply to the next one
         self.faults = 0
 
+    @abc.abstractmethod
     def take(self, answers: bytes) -> None:
-        """Takes some answers of the reply."""
-        self.has_begun = True
-        self._take(answers)
+        """Takes some answers of the reply to the next line."""
+
+    @abc.abstractmethod
+    def take_back(self) -> bool:
+        """Drops what was taken of that reply, so that it can begin anew. Whether it can: nothing of it was handed on."""
 
     def end(self, line: str, last: Last | None) -> None:
         """Takes the end of the reply to a line, None where that is skipped."""
         self._end(line, last)
         self.faults += isinstance(last, tuple)
         self.done += 1
-        self.has_begun = False
-
-    @abc.abstractmethod
-    def _take(self, answers: bytes) -> None: ...
 
     @abc.abstractmethod
     def _end(self, line: str, last: Last | None) -> None: ...
@@ -43,8 +41,12 @@ class Gathered(Sink):
         self.replies: list[Reply] = []
         self._answers: list[bytes] = []
 
-    def _take(self, answers: bytes) -> None:
+    def take(self, answers: bytes) -> None:
         self._answers.append(answers)
+
+    def take_back(self) -> bool:
+        self._answers.clear()
+        return True
 
     def _end(self, line: str, last: Last | None) -> None:
         reply: Reply = None
@@ -61,18 +63,24 @@ class Written(Sink):
 
     def __init__(self, write: Callable[[bytes], object], first: int) -> None:
         super().__init__()
-        self._take_bytes = write
+        self._write = write
         self._first = first
+        self._has_begun = False  # the reply to the next line
 
-    def _take(self, answers: bytes) -> None:
-        self._take_bytes(answers)
+    def take(self, answers: bytes) -> None:
+        self._has_begun = True
+        self._write(answers)
+
+    def take_back(self) -> bool:
+        return not self._has_begun
 
     def _end(self, line: str, last: Last | None) -> None:
         number = self._first + self.done
         if isinstance(last, tuple):
-            self._take_bytes(f"error {number} {' '.join(last)}\n".encode())
+            self._write(f"error {number} {' '.join(last)}\n".encode())
         elif last is not None:
-            self._take_bytes(b"ok %d %d\n" % (number, last))
+            self._write(b"ok %d %d\n" % (number, last))
+        self._has_begun = False
 
 
 def text_of(replies: Iterable[Reply]) -> bytes:

@@ -1,14 +1,21 @@
 """Shards that dask holds, and many questions against one table, with workers that are killed."""
 
+import gc
+import importlib
 import json
 import os
 import random
+import signal
 import subprocess
+import sys
+import unittest.mock
 from pathlib import Path
 
-from cluster_support import CLUSTER, DEBIAN, PROGRAM, Folders, Service, one_run, some_lines, some_sound_table
+from cluster_support import CLUSTER, DEBIAN, PROGRAM, Folders, Service, one_run, running, some_lines, some_sound_table
 
 from shards.cutting import cut
+
+from rtfilter import Rtfilter
 
 PEER = CLUSTER / "tests/dask_peer.py"
 COUNTS = 1, 2, 4, 16  # shards
@@ -41,6 +48,35 @@ with Rtfilter(table, program=program) as boxes:
         assert found.index.tolist() == positions.index[places].tolist()
         assert list(zip(found["id"], found["score"])) == list(zip(ids, scores))
 """
+
+
+class Tables(Folders):
+    """What a worker has, without dask: nothing of it is called here."""
+
+    def test_a_program_that_ends_while_others_ask(self) -> None:
+        """Who still has it is told that it has ended, and asks the next one too; nothing of it stays open."""
+        with unittest.mock.patch.dict(sys.modules, distributed=unittest.mock.Mock(), pandas=unittest.mock.Mock()):
+            over_dask = importlib.import_module("shards.over_dask")
+            del sys.modules["shards.over_dask"]
+        table = over_dask.table_of(str(self.table(b"1,0,1,0,1\n2,0,1,0,1\n")), PROGRAM)
+        asked = []
+
+        def ask(boxes: Rtfilter) -> int:
+            asked.append(boxes)
+            if len(asked) == 1:  # another one finds out first, and has the next one started
+                for process in running(self.folder):
+                    os.kill(process, signal.SIGKILL)
+                self.assertEqual(table.asked(["count all"]), b"ok 1 2\n")
+            return len(boxes.ask(["find all"])[0])
+
+        table.boxes.ask(["count all"])
+        before = len(os.listdir("/proc/self/fd"))
+        self.assertEqual(table.told(ask), 2)
+        self.assertIs(asked[1], table.boxes)
+        asked.clear()
+        gc.collect()
+        self.assertEqual((len(os.listdir("/proc/self/fd")), len(running(self.folder))), (before, 1))
+        table.boxes.close()
 
 
 class Dask(Folders):

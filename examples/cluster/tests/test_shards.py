@@ -10,18 +10,22 @@ import signal
 import socket
 import subprocess
 import threading
+import time
 import unittest
+import unittest.mock
 from collections.abc import Iterable, Iterator
+from concurrent.futures import ThreadPoolExecutor
 from pathlib import Path
 
 from cluster_support import PROGRAM, Folders, Service, Services, one_run, opened, some_lines, until, written
 
 from common_support import anything, children_of
 from shards.connections import ShardError
-from shards.places import place_of, places_of, there
+from shards.places import STARTED_AT_ONCE, place_of, places_of, there
 from shards.router import Cluster
 
 from rtfilter import RtfilterError
+from rtfilter.deadlines import Deadline
 
 SEQUENCES, STEPS = 6, 25
 SSHD = "/usr/sbin/sshd"
@@ -60,6 +64,30 @@ class Words(unittest.TestCase):
             self.assertEqual((place.name, place.host), (name, host), word)
         both = places_of("one:7878,two:7878", PROGRAM)
         self.assertEqual([place.name for place in both], ["one:7878", "two:7878"])
+
+
+class Starts(unittest.TestCase):
+    def test_few_at_once_on_a_host(self) -> None:
+        """Also where all of them are the first there, and what counts them is slow to be made."""
+        kind, at_once, most = threading.BoundedSemaphore, 0, 0
+
+        def slow(count: int) -> threading.BoundedSemaphore:
+            time.sleep(0.05)
+            return kind(count)
+
+        def start() -> None:
+            nonlocal at_once, most
+            with place.turn(Deadline(20)):
+                at_once += 1
+                most = max(most, at_once)
+                time.sleep(0.05)
+                at_once -= 1
+
+        place = there("a host of this test", "table", PROGRAM)
+        with unittest.mock.patch("threading.BoundedSemaphore", slow), ThreadPoolExecutor(12) as threads:
+            for done in [threads.submit(start) for _ in range(12)]:
+                done.result()
+        self.assertEqual(most, STARTED_AT_ONCE)
 
 
 class Addresses(Services):
@@ -148,19 +176,32 @@ class Addresses(Services):
                 self.assertEqual(written(boxes, [b"count all"]), b"ok 1 1\n")
 
     def test_a_place_that_goes_in_the_middle_of_an_answer(self) -> None:
-        """What was told of it has no end and the error names the place; the other place answers the next line, whole."""
+        """What was handed on of it has no end and the error names the place; the other place answers the next line, whole."""
+        service, whole = self.long_answers()
+        with broken_off(service.place[5:], 500_000) as place, opened([f"{place},{service.place}"]) as boxes:
+            found: list[bytes] = []
+            with self.assertRaises(ShardError) as caught:
+                boxes.write(["count all", "find all"], found.append)
+            self.assertTrue(str(caught.exception).startswith(f"shard 0: {place}: "), caught.exception)
+            rows = b"".join(found).splitlines()[1:]
+            self.assertEqual(rows, whole.splitlines()[: len(rows)])
+            self.assertEqual(written(boxes, [b"find all"]), whole)
+
+    def test_a_place_that_goes_before_anything_is_handed_on(self) -> None:
+        """The other place is asked the line from its start, where one shard alone answers and where a merge has begun."""
+        service, whole = self.long_answers()
+        for line, others in anything(("find all", []), ("find all near 0 0", [self.points("b.csv", [])]), (
+            "find all near 0 0", [self.points("c.csv", [(100_000, 100_000)])]
+        )):  # fmt: skip
+            with broken_off(service.place[5:], 500_000) as place:
+                with opened([f"{place},{service.place}", *others]) as boxes:
+                    counted, found = boxes.ask(["count all", line])
+                    self.assertEqual(found.ids.tolist(), list(range(counted.total)))
+
+    def long_answers(self) -> tuple[Service, bytes]:
+        """A service, and what it answers to `find all`."""
         service = self.service("a", self.points("a.csv", ((id, id) for id in range(100_000))))
-        whole = b"".join(b"%d 0\n" % id for id in range(100_000)) + b"ok 1 100000\n"
-        lines = ["count all", "find all"]
-        for ask in anything(lambda boxes, take: boxes.write(lines, take), lambda boxes, _: boxes.ask(lines[1:])):
-            with broken_off(service.place[5:], 500_000) as place, opened([f"{place},{service.place}"]) as boxes:
-                found: list[bytes] = []
-                with self.assertRaises(ShardError) as caught:
-                    ask(boxes, found.append)
-                self.assertTrue(str(caught.exception).startswith(f"shard 0: {place}: "), caught.exception)
-                rows = b"".join(found).splitlines()[1:]
-                self.assertEqual(rows, whole.splitlines()[: len(rows)])
-                self.assertEqual(written(boxes, [b"find all"]), whole)
+        return service, b"".join(b"%d 0\n" % id for id in range(100_000)) + b"ok 1 100000\n"
 
     def test_random_sequences(self) -> None:
         """Questions, exchanges, reconnections, and shards that are killed and started, each with two addresses: an answer is
