@@ -104,11 +104,8 @@ static void become(int connection, pid_t parent)
 static void tell(int process, int status)
 {
     struct report report = { process, status };
-    while (send(CONTROL, &report, sizeof report, MSG_NOSIGNAL) < 0)
-        if (errno == EPIPE)
-            break;
-        else if (errno != EINTR) /* no memory for it: the reports that follow would be taken for others */
-            kill(0, SIGKILL);
+    if (send(CONTROL, &report, sizeof report, MSG_NOSIGNAL) < 0 && errno != EPIPE)
+        kill(0, SIGKILL); /* no memory for it: the reports that follow would be taken for others */
 }
 
 /* Forks for the next connection. Whether this is its child. */
@@ -181,7 +178,8 @@ __attribute__((constructor)) static void watch_starter(void)
     int kind = 0;
     struct pollfd starter = { CONTROL, 0, 0 };
     is_given = !getsockopt(CONTROL, SOL_SOCKET, SO_TYPE, &kind, &(socklen_t){ sizeof kind }) && kind == SOCK_SEQPACKET;
-    if (is_given && (sigprocmask(SIG_SETMASK, &no_signals, NULL) || signal(SIGIO, SIG_DFL) == SIG_ERR ||
+    if (is_given && (signal(SIGHUP, SIG_IGN) == SIG_ERR || /* which is for its starter, though all may be sent it */
+                     sigprocmask(SIG_SETMASK, &no_signals, NULL) || signal(SIGIO, SIG_DFL) == SIG_ERR ||
                      signal(SIGCHLD, SIG_DFL) == SIG_ERR || fcntl(CONTROL, F_SETOWN, getpid()) ||
                      fcntl(CONTROL, F_SETFL, O_ASYNC) || poll(&starter, 1, 0))) /* it has ended before */
         _exit(NOT_BEGUN);

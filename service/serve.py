@@ -9,6 +9,7 @@ import asyncio
 import contextlib
 import os
 import resource
+import selectors
 import signal
 import socket
 import stat
@@ -37,7 +38,9 @@ def main(words: Sequence[str]) -> int:
     try:
         with contextlib.ExitStack() as stack:
             prepare(args.nice)
-            listeners = opened(args, stack)
+            listeners = [stack.enter_context(listener) for listener in given_listeners()]
+            listeners += [stack.enter_context(unix_listener(path, args.mode)) for path in args.unix]
+            listeners += [stack.enter_context(tcp_listener(*place)) for place in args.tcp]
             if not listeners:
                 parser.error("nowhere to listen: --unix, --tcp, or a socket of systemd")
             health_listener = stack.enter_context(tcp_listener(*args.health)) if args.health else None
@@ -49,7 +52,9 @@ def main(words: Sequence[str]) -> int:
             if health_listener:
                 log(f"health on {name_of(health_listener.getsockname())}")
             start = partial(prefork.start, [args.program, *args.options, "--", args.table], library)
-            return asyncio.run(Service(args, start, listeners).run(health_listener))
+            polling = partial(asyncio.SelectorEventLoop, selectors.PollSelector())  # epoll can lack room for one more
+            runner = stack.enter_context(asyncio.Runner(loop_factory=polling))
+            return runner.run(Service(args, start, listeners).run(health_listener))
     except OSError as error:
         log(f"rtfilter-serve: {error}")
     return NO_SERVICE
@@ -73,13 +78,6 @@ def prepare(nice: int) -> None:
     _, most = resource.getrlimit(resource.RLIMIT_NOFILE)
     resource.setrlimit(resource.RLIMIT_NOFILE, (most, most))
     os.nice(nice)
-
-
-def opened(args: argparse.Namespace, stack: contextlib.ExitStack) -> list[socket.socket]:
-    """The sockets that are given, and those that are asked for."""
-    listeners = [stack.enter_context(listener) for listener in given_listeners()]
-    listeners += [stack.enter_context(unix_listener(path, args.mode)) for path in args.unix]
-    return listeners + [stack.enter_context(tcp_listener(*place)) for place in args.tcp]
 
 
 def parser_of_words() -> argparse.ArgumentParser:

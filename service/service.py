@@ -60,9 +60,9 @@ class Table:
 
     def __init__(self, started: prefork.Started) -> None:
         self.process, self.control, self.first = started
-        self.first.setblocking(False)
         self.size, self.loaded = 0, 0.0  # boxes, and when
-        self.pending = deque([End()])  # connections that it has yet to begin; the first is nobody's
+        self.asked = End()  # the connection that asks for the size
+        self.pending = deque([self.asked])  # connections that it has yet to begin
         self.running: dict[int, End] = {}  # connections by their processes
 
 
@@ -133,7 +133,7 @@ class Service:
 
     async def _keep_loaded(self) -> None:
         """Loads the table, and anew when asked to, or where its program has ended, after a pause that grows unless that
-        has run for a while. Who asks for another table ends the pause. Where it can't be loaded, nothing changes."""
+        has run for a while. Who asks for another table ends that. Where it can't be loaded, nothing changes."""
         try:
             await self._load("ready")
         except OSError as error:
@@ -142,7 +142,7 @@ class Service:
             await self._wait_until(lambda: self._table is None or self._is_reload_requested and len(self._tables) == 1)
             if self._table is None:
                 await self._wait_until(lambda: self._is_reload_requested, self._pause)
-                self._pause = min(2 * self._pause, LONGEST_PAUSE)
+            self._pause = FIRST_PAUSE if self._is_reload_requested else min(2 * self._pause, LONGEST_PAUSE)
             self._is_reload_requested = False
             notify(f"RELOADING=1\nMONOTONIC_USEC={time.monotonic_ns() // 1000}")
             try:
@@ -153,14 +153,14 @@ class Service:
 
     async def _load(self, what: str) -> None:
         """Has a program load the table, and then answer. Raises `OSError`, where it doesn't."""
-        loop, reply = asyncio.get_running_loop(), b""
+        reply = b""
         with open(os.memfd_create("rtfilter-errors"), "rb") as errors:
             table = Table(self._start(errors.fileno(), 2))
+            asyncio.get_running_loop().add_reader(table.control, self._read_reports, table)
             self._tables.append(table)
-            loop.add_reader(table.control, self._read_reports, table)
-            with table.first, contextlib.suppress(ConnectionError, TimeoutError):  # it hasn't read what it was asked
-                async with asyncio.timeout(self._args.load_timeout) as limit:  # wait_for may lose that it is cancelled
-                    reply = await loop.sock_recv(table.first, 100)
+            with table.first, contextlib.suppress(BlockingIOError, ConnectionError):  # it hasn't answered, nor read
+                is_over, _ = await asyncio.wait([table.asked], timeout=self._args.load_timeout)
+                reply = table.first.recv(100, socket.MSG_DONTWAIT)
             found = re.fullmatch(rb"ok 1 (\d+)\n", reply)
             if found and table in self._tables:  # it hasn't ended since
                 table.size, table.loaded = int(found[1]), time.monotonic()
@@ -168,8 +168,11 @@ class Service:
             await self._end(table)
             told = " ".join(os.pread(errors.fileno(), LONGEST_ERROR, 0).decode(errors="replace").split())
         self._status = max(table.process.returncode, NO_SERVICE)
-        if limit.expired():
+        if not is_over:
             told = f"it wasn't loaded in {self._args.load_timeout:g} seconds"
+        elif status := table.asked.result():
+            why = os.strerror(-status) if status < 0 else f"status {os.waitstatus_to_exitcode(status)}"
+            told = f"it can't serve a connection: {why}"
         raise ChildProcessError(told or f"the program has ended, with status {table.process.returncode}")
 
     def _switch_to(self, table: Table, what: str) -> None:

@@ -202,6 +202,16 @@ class Case(unittest.TestCase):
         subprocess.run(["cc", *FLAGS, *map(str, flags), "-o", folder / "rtfilter-prefork.so", SOURCE], check=True)
         return str(shutil.copy(PROGRAM, folder))
 
+    def preload(self, text: str) -> tuple[dict[str, str], Path]:
+        """An environment in which a library of this source is loaded before others, and the file FLAG of that: while it is
+        there, a call of the system is to fail."""
+        if shutil.which("cc") is None:
+            self.skipTest("a C compiler: not installed")
+        source, library, flag = (Path(self.folder, name) for name in ("preload.c", "preload.so", "flag"))
+        source.write_text(text)
+        subprocess.run(["cc", "-shared", "-fPIC", "-o", library, source], check=True)
+        return {**os.environ, "LD_PRELOAD": str(library), "FLAG": str(flag)}, flag
+
     def assert_well(self, service: Served) -> None:
         """Others are answered, and soon."""
         begun = time.monotonic()

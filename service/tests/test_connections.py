@@ -29,9 +29,24 @@ NO_FORK = """
 #include <unistd.h>
 pid_t fork(void)
 {
-  if (access(getenv("NO_FORK"), F_OK))
+  if (access(getenv("FLAG"), F_OK))
     return syscall(SYS_fork);
   errno = EAGAIN;
+  return -1;
+}
+"""
+NO_EPOLL = """
+#define _GNU_SOURCE
+#include <errno.h>
+#include <stdlib.h>
+#include <sys/epoll.h>
+#include <sys/syscall.h>
+#include <unistd.h>
+int epoll_ctl(int file, int what, int other, struct epoll_event *event)
+{
+  if (what != EPOLL_CTL_ADD || access(getenv("FLAG"), F_OK))
+    return syscall(SYS_epoll_ctl, file, what, other, event);
+  errno = ENOSPC;
   return -1;
 }
 """
@@ -308,12 +323,7 @@ def processes_of(user: int) -> int:
 class WantOfRoom(Case):
     def test_a_fork_that_fails(self) -> None:
         """It is told, the connection is closed and its slot free, and others go on."""
-        if shutil.which("cc") is None:
-            self.skipTest("a C compiler: not installed")
-        source, library, flag = (Path(self.folder, name) for name in ("no_fork.c", "no_fork.so", "flag"))
-        source.write_text(NO_FORK)
-        subprocess.run(["cc", "-shared", "-fPIC", "-o", library, source], check=True)
-        environment = {**os.environ, "LD_PRELOAD": str(library), "NO_FORK": str(flag)}
+        environment, flag = self.preload(NO_FORK)
         service = self.served(BOXES, "--connections", "2", env=environment)
         with service.connect() as asker:
             asker.sendall(b"count all\n")
@@ -329,6 +339,36 @@ class WantOfRoom(Case):
             self.assertEqual(read_lines(asker, 1), b"ok 2 5\n")
             self.assert_well(service)
             self.assertEqual(service.open_files, before)
+
+    def test_a_load_without_a_process(self) -> None:
+        """Why there is no table, or why the new one isn't taken, is told."""
+        environment, flag = self.preload(NO_FORK)
+        why = "it can't serve a connection: Resource temporarily unavailable"
+        flag.touch()
+        service = self.served(is_ready=False, env=environment)
+        self.assertEqual(service.process.wait(10), 1)
+        self.assertEqual(service.log, f"listening on {service.path}\n{why}\n")
+        flag.unlink()
+        service = self.served(env=environment)
+        before = service.open_files
+        flag.touch()
+        service.signal(signal.SIGHUP)
+        service.logs(f"^the new table isn't taken, the old one stays: {why}$")
+        flag.unlink()
+        service.exchange()
+        self.assert_well(service)
+        until(lambda: service.open_files == before, "nothing left open")
+
+    def test_no_room_to_watch_one_more(self) -> None:
+        """The table is exchanged all the same, and who connects is answered."""
+        environment, flag = self.preload(NO_EPOLL)
+        service = self.served(BOXES, "--health", "0", env=environment)
+        flag.touch()
+        for _ in range(3):
+            service.exchange()
+            self.assert_well(service)
+            self.assertEqual(service.get("/health"), (200, "ready\n"))
+        until(lambda: len(service.programs) == 1, "the end of old tables")
 
     def test_processes_of_a_user(self) -> None:
         """As another user, who may have so many processes and no more."""

@@ -181,6 +181,12 @@ class Ends(Case):
             asker.sendall(b"count all\n")
             self.assertEqual(read_lines(asker, 1), b"ok 1 5\n")
             self.assertLess(time.monotonic() - begun, 1)
+        for at in range(2):  # and it is a short one again
+            service.exchange()
+            begun = time.monotonic()
+            send(signal.SIGKILL, service.programs)
+            self.assert_well(service)
+            self.assertLess(time.monotonic() - begun, 1)
 
     def test_a_program_that_is_stopped(self) -> None:
         """It doesn't stop an exchange for ever."""

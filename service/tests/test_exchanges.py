@@ -9,7 +9,7 @@ import time
 import unittest
 from pathlib import Path
 
-from served import BOXES, PROGRAM, Case, Served, all_of, answers, put_library, read_lines, told_by_program, until
+from served import BOXES, PROGRAM, Case, Served, all_of, answers, put_library, read_lines, send, told_by_program, until
 
 
 class Exchanges(Case):
@@ -165,6 +165,22 @@ class Exchanges(Case):
         service.signal(signal.SIGHUP)
         service.logs("^the table is exchanged: 1 boxes$", 2)
         self.assertEqual(service.ask(b"find all"), b"7 0\nok 1 1\n")
+
+    def test_a_signal_to_all_processes(self) -> None:
+        """As systemctl kill sends it, or a terminal that hangs up: none of them ends by it, not while it is loaded either."""
+        service = self.served(self.table, program=self.slow_program(0.3), is_ready=False)
+        until(lambda: service.programs, "the load")
+        send(signal.SIGHUP, service.processes)
+        service.logs("^the table is exchanged: 5 boxes$")
+        with service.connect() as asker:
+            for at in range(1, 4):
+                asker.sendall(b"count all\n")
+                self.assertEqual(read_lines(asker, 1), b"ok %d 5\n" % at)
+                send(signal.SIGHUP, service.processes)
+        service.logs("^the table is exchanged", 3)
+        service.logs(r"^connection 1 \(.*\): status=0 ")
+        self.assertNotIn("ended", service.log)
+        self.assert_well(service)
 
     def test_faulty_tables(self) -> None:
         """They change nothing, are told in one line, and leave nothing; so do a FIFO and one that is too slow."""
