@@ -45,7 +45,6 @@ from rtfilter.prefork import library_of
 LONGEST_TARGET = 4096  # bytes of a request's address
 MOST_CONNECTIONS = 64  # of a process
 LEFT_TO_OTHERS = 0.002  # seconds that a connection waits for a process with fewer of them
-LEAST_ASKING = 8  # connections to the program, of each of many processes
 
 ASSETS = {
     "/": ("page.html", "text/html"),
@@ -445,8 +444,7 @@ def tag_of(args: argparse.Namespace) -> str:
 
 def opened(args: argparse.Namespace) -> Boxes:
     """The table, with a process for each connection, where that takes no memory for a table of its own."""
-    asking = max(LEAST_ASKING, MOST_CONNECTIONS // args.processes)
-    processes = asking if library_of(program_of(args.program)) else 1
+    processes = MOST_CONNECTIONS if library_of(program_of(args.program)) else 1
     return Pool(processes, args.table, header=args.header, program=args.program, timeout=args.timeout)
 
 

@@ -26,6 +26,7 @@ from common_support import anything, children_of, descendants_of, is_gone
 
 from mercator import HALF, window_of
 from negotiation import is_known, takes_gzip
+from serve import MOST_CONNECTIONS
 
 TILE = "/8/128/127.pbf"
 EMPTY = "/9/0/0.pbf"
@@ -348,6 +349,12 @@ class Processes(unittest.TestCase):
             everyone = descendants_of(server.process.pid)
             server.end(signal.SIGKILL)
             self.assertTrue(all(map(is_gone, everyone)))
+
+    def test_a_process_for_each_connection(self) -> None:
+        """Of the program, so that a slow answer to one keeps nobody else from another, whichever takes them."""
+        with Server(self.table, *self.options) as server:
+            programs = [program for worker in children_of(server.process.pid) for program in children_of(worker)]
+            self.assertEqual([len(children_of(program)) for program in programs], [MOST_CONNECTIONS] * 3)
 
     def test_connections_are_shared_out(self) -> None:
         """Each process has about as many as another: a thread for each of them."""
