@@ -130,6 +130,8 @@ class Control(Case):
                 asker.shutdown(socket.SHUT_WR)
         send(signal.SIGKILL, service.connections[::3])
         time.sleep(0.5)
+        for number in (signal.SIGSTOP, signal.SIGCONT):  # while it waits to tell more
+            send(number, service.programs)
         service.signal(signal.SIGCONT)
         for asker in askers:
             asker.close()

@@ -10,6 +10,7 @@ import threading
 import time
 import unittest
 from pathlib import Path
+from typing import Any
 
 from served import BOXES, PROGRAM, TRIES, Case, Served, is_there, put_library, read_lines, send, table_of, until
 
@@ -39,6 +40,28 @@ class Ends(Case):
         self.assertEqual(len(service.logs(r"^connection \d+ \(.*\): signal=9 ", 4)), 4)
         self.assertFalse(os.path.exists(service.path))
         until(lambda: not any(map(is_there, processes)), "the end of all processes")
+
+    def test_who_connects_while_it_ends(self) -> None:
+        """Waits for the next service, where the socket stays: here a process of the program's is long in ending."""
+        program = Path(self.folder, "program")
+        program.write_text(f'#!/bin/sh\nexec 3<&0\nLD_PRELOAD= setsid sleep 1 <&3 3<&- &\nexec {PROGRAM} "$@" 3<&-\n')
+        program.chmod(0o700)
+        put_library(Path(self.folder))
+        with socket.socket(socket.AF_UNIX) as given, socket.socket(socket.AF_UNIX) as asker:
+            given.bind(f"{self.folder}/given")
+            given.listen()
+            script = f'exec 3<&{given.fileno()}; LISTEN_FDS=1 LISTEN_PID=$$ exec "$@"'
+            options: dict[str, Any] = {"before": ["sh", "-c", script, "-"], "pass_fds": [given.fileno()]}
+            service = self.served(program=str(program), **options)
+            service.signal(signal.SIGTERM)
+            until(lambda: not service.programs, "the end of the program")
+            asker.connect(given.getsockname())
+            asker.sendall(b"count all\n")
+            self.assertIsNone(service.process.poll())
+            self.assertEqual(service.process.wait(10), 0)
+            self.served(**options)
+            asker.settimeout(10)
+            self.assertEqual(read_lines(asker, 1), b"ok 1 5\n")
 
     def test_an_end_during_a_load(self) -> None:
         """Of the first table, and of another one: by a signal, and by kill -9."""
@@ -218,6 +241,14 @@ class Ends(Case):
         service = self.served(table, "--load-timeout", "0.3")
         self.assertEqual(service.process.wait(10), 1)
         service.logs("^it wasn't loaded in 0.3 seconds$")
+
+    def test_connections_that_cannot_be_set_up(self) -> None:
+        """There is no service of them, and their status is told."""
+        broken = Path(self.folder, "broken.h")
+        broken.write_text("#define _GNU_SOURCE\n#include <unistd.h>\n#define close_range(first, last, flags) -1\n")
+        service = self.served(program=self.build("-include", broken), is_ready=False)
+        self.assertEqual(service.process.wait(10), 1)
+        service.logs("^it can't serve a connection: status 71$")
 
     def test_what_is_no_such_program(self) -> None:
         """One that never begins to serve."""

@@ -4,6 +4,7 @@ import contextlib
 import ctypes
 import fcntl
 import os
+import shutil
 import signal
 import socket
 import stat
@@ -13,7 +14,7 @@ import time
 import unittest
 from pathlib import Path
 
-from served import BOXES, PROGRAM, SERVICE, SYSTEM_PYTHON, Case, Served, read_lines, table_of, talk, until
+from served import BOXES, PROGRAM, SERVICE, SYSTEM_PYTHON, Case, Served, children_of, read_lines, table_of, talk, until
 
 PIDFD_GETFD = 438  # a call of Linux: another process's descriptor
 
@@ -113,6 +114,19 @@ class Sockets(Case):
         fcntl.flock(folder, fcntl.LOCK_UN)
         self.assertEqual(service.process.wait(10), 0)
         self.assertFalse(os.path.exists(service.path))
+
+    def test_a_folder_that_stays_locked(self) -> None:
+        """A service says so and doesn't begin, and one that ends leaves what stands there, each after some seconds."""
+        service = self.served()
+        folder = os.open(self.folder, os.O_RDONLY)
+        self.addCleanup(os.close, folder)
+        fcntl.flock(folder, fcntl.LOCK_EX)
+        service.signal(signal.SIGTERM)
+        path = f"{self.folder}/other"
+        told = f"rtfilter-serve: [Errno 11] Resource temporarily unavailable: '{path}'\n"
+        self.assertEqual(run("--unix", path, BOXES), (1, told))
+        self.assertEqual(service.process.wait(10), 0)
+        self.assertEqual((os.path.exists(service.path), os.path.exists(path)), (True, False))
 
     def test_a_port_that_is_taken(self) -> None:
         """It is told before a table is loaded: this one would never be."""
@@ -227,6 +241,28 @@ class Surroundings(Case):
         service.exchange()
         self.assert_well(service)
         self.assertEqual({os.stat(f"/proc/{process}").st_uid for process in service.processes}, {61235})
+
+    def test_as_process_1(self) -> None:
+        """As in a container: it is the parent of what an ended program leaves, and keeps none of that."""
+        before = ["unshare", "--pid", "--fork", "--kill-child", "--mount-proc"]
+        if shutil.which(before[0]) is None or subprocess.run([*before, "true"], stderr=subprocess.DEVNULL).returncode:
+            self.skipTest("the right to a namespace of processes: not there")
+        service = self.served(before=before)
+        (own,) = children_of(service.process.pid)
+        self.addCleanup(lambda: self.assertEqual(service.process.wait(10), 0))
+        self.addCleanup(os.kill, own, signal.SIGTERM)  # which unshare takes no notice of
+        for at in range(1, 3):
+            (program,) = children_of(own)
+            with service.connect() as one, service.connect() as two:
+                for asker in (one, two):
+                    asker.sendall(b"count all\n")
+                    self.assertEqual(read_lines(asker, 1), b"ok 1 5\n")
+                self.assertEqual(len(children_of(program)), 2)
+                os.kill(program, signal.SIGKILL)
+                service.logs("^ready again", at)
+            told = Path(f"/proc/{own}/task/{own}/children").read_text().split()
+            self.assertEqual(told, [str(process) for process in children_of(own)])
+            self.assertEqual(len(told), 1)
 
     def test_signals_that_are_blocked_or_ignored(self) -> None:
         """Whoever starts it may have blocked all signals, or have had these ignored."""
