@@ -274,6 +274,7 @@ class Rtfilter:
     def _told(self, text: bytes, lines: int) -> Awaitable[Told]:
         if self._pipeline is not None and self._timeout is None and self._address is None:
             return self._pipeline.told(text, lines)  # mostly, and without a coroutine of its own
+        self._current()
         return self._in_time(self._asked(text, lines))
 
     async def _asked(self, text: bytes, lines: int) -> Told:
@@ -287,9 +288,10 @@ class Rtfilter:
         return await self._current().told(text, lines)
 
     def _current(self) -> Pipeline:
-        """The one that is asked. Raises `ValueError` where there is none."""
+        """The one that is asked. Raises `ValueError` where there is none, and `WrongProcess` in a child of a fork."""
         if self._pipeline is None:
             raise ValueError(CLOSED if self._is_closed else NOT_OPEN)
+        self._pipeline.transport._check_process()
         return self._pipeline
 
     async def replies(self, lines: Iterable[str]) -> list[Reply]:

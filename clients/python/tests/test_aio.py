@@ -293,17 +293,24 @@ class Lives(Case):
                 self.assertEqual(len(service.connections), 2)
 
     async def test_in_a_child_of_a_fork(self) -> None:
-        async with aio.Rtfilter(BOXES, program=PROGRAM) as boxes:
-            child = os.fork()
-            if not child:
-                is_told = False
-                try:
-                    boxes.count(All()).send(None)
-                except WrongProcess:
-                    is_told = True
-                os._exit(not is_told)
-            self.assertEqual(os.waitpid(child, 0)[1], 0)
-            self.assertEqual(await boxes.count(All()), 5)
+        with Service(self.folder / "socket") as service:
+            for opened in anything(
+                aio.Rtfilter(BOXES, program=PROGRAM), aio.Rtfilter(BOXES, program=PROGRAM, timeout=20),
+                aio.Rtfilter(address=service.path), aio.Rtfilter(address=service.path, timeout=20),
+            ):  # fmt: skip
+                async with opened as boxes:
+                    for ask in anything(lambda: boxes.count(All()), boxes.reload):
+                        child = os.fork()
+                        if not child:
+                            is_told = False
+                            with contextlib.suppress(BaseException):
+                                try:
+                                    ask().send(None)
+                                except WrongProcess:
+                                    is_told = True
+                            os._exit(not is_told)
+                        self.assertEqual(os.waitpid(child, 0)[1], 0)
+                    self.assertEqual(await boxes.count(All()), 5)
 
     def test_another_loop(self) -> None:
         boxes = aio.Rtfilter(BOXES, program=PROGRAM)
