@@ -1,6 +1,7 @@
 """Shards are asked as one program is: the same bytes; what has ended is told, nothing is left."""
 
 import collections
+import contextlib
 import os
 import random
 import re
@@ -11,6 +12,7 @@ import threading
 import tracemalloc
 import unittest
 import unittest.mock
+from collections.abc import Iterator
 from pathlib import Path
 
 from cluster_support import (
@@ -21,9 +23,11 @@ from cluster_support import (
 import random_runs
 import reading
 from common_support import anything
+from interrupts import is_interrupted
 from shards.bounds import bounds_of
 from shards.connections import ShardError
 from shards.cutting import cut
+from shards.exchanges import Exchange
 from shards.places import places_of, there
 from shards.questions import question_of
 from shards.records import TableError
@@ -204,6 +208,40 @@ class Questions(unittest.TestCase):
                 continue
             assert question is not None, line
             self.assertEqual((question.is_count, question.limit), (asked.verb == b"count", asked.limit), line)
+
+
+class Recorded:
+    """In the place of a connection to a shard: whether it still has replies to lines."""
+
+    def __init__(self) -> None:
+        self.is_left = False
+
+    def pieces_to(self, *_: object) -> Iterator[bytes]:
+        self.is_left = True
+        return self.pieces()
+
+    def pieces(self) -> Iterator[bytes]:
+        yield b"ok 1 0\n"
+        self.abandon()
+
+    def abandon(self) -> None:
+        self.is_left = False
+
+
+class Exchanges(unittest.TestCase):
+    def test_an_interrupt_as_shards_are_asked(self) -> None:
+        """Whichever was asked is given up: what it tells would be taken for the reply to a later line."""
+        is_met, number = True, 0
+        while is_met:
+            number += 1
+            shards = {at: Recorded() for at in range(3)}
+            with contextlib.suppress(KeyboardInterrupt), Exchange(anything(shards)[0], ENDLESS) as exchange:
+                exchange.add(shards, "count all")
+                is_met = is_interrupted(exchange.begin, number)
+                if is_met:
+                    raise KeyboardInterrupt
+            self.assertEqual([at for at, shard in shards.items() if shard.is_left], [])
+        self.assertGreater(number, 20)
 
 
 class CoProcesses(Folders):
