@@ -195,7 +195,7 @@ class Rtfilter(Boxes):
 
     def __len__(self) -> int:
         self._check_process()
-        if self._address is None:
+        if self._address is None and not self._is_closed:
             return self._transport.size
         deadline = self._deadline()
         return self._turns.take(lambda: self._open(deadline).size, deadline)

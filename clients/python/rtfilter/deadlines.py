@@ -45,6 +45,22 @@ class Deadline:
 ENDLESS = Deadline(None)
 
 
+def surely_ended(act: Callable[[], Given], end: Callable[[], object]) -> Given:
+    """What an act gives, and then its end, whatever was raised. Where the handler of a signal raises in the middle of the end,
+    that is begun anew: it has to stand that."""
+    is_over = False
+    try:
+        try:
+            return act()
+        finally:
+            end()
+            is_over = True
+    except BaseException:
+        if not is_over:
+            end()
+        raise
+
+
 class Turns:
     """One call at a time. Who waits for its turn waits until its deadline. `taker` is the thread whose turn it is, set and
     unset by it with `lock` held.
@@ -62,7 +78,8 @@ class Turns:
         """Whether a call is under way."""
         return self.taker is not None
 
-    def refuse(self) -> NoReturn:
+    @staticmethod
+    def refuse() -> NoReturn:
         """Who takes a turn has it already."""
         raise RuntimeError("asked in the middle of a call by the same thread, as by the handler of a signal")
 
@@ -78,7 +95,7 @@ class Turns:
                     return ask()
                 finally:
                     self.taker = None
-        is_over = False
+        is_over = False  # as `surely_ended` does, written out: it takes a twentieth of a question's time
         try:
             try:
                 if not (self.lock.acquire(blocking=False) or self.lock.acquire(timeout=deadline.left())):

@@ -111,10 +111,10 @@ class Shared:
                 raise self._holder._ended()
             fresh = self._start(deadline)
             if not self._is_unchanged():
-                fresh.close()
+                fresh.close(deadline)
                 raise self._holder._ended()
             before, self._holder = self._holder, fresh
-            before.close()
+            before.close(deadline)
         return self._holder
 
     def close(self, deadline: Deadline) -> None:
@@ -124,9 +124,14 @@ class Shared:
 class Sharer(Rtfilter):
     """A client whose connections are to such a program."""
 
-    def __init__(self, shared: Shared, timeout: float | None, loads: Loads) -> None:
+    def __init__(self, shared: Shared, timeout: float | None, loads: Loads, deadline: Deadline) -> None:
+        """The deadline is that of the call that opens it."""
         self._shared = shared
+        self._opening = deadline
         super().__init__(address="", timeout=timeout, _loads=loads)
+
+    def _connected(self) -> tuple[Transport, Deadline]:
+        return self._connection(self._opening), self._opening
 
     def _connection(self, deadline: Deadline) -> Connection:
         connection = self._shared.connection(deadline, lambda: not self._loads.are_ended)

@@ -249,8 +249,8 @@ class Loads:
 
     def ready(self, transport: Started, deadline: Deadline) -> Started:
         """It, once its table is there."""
-        self._coming.add(transport)
         try:
+            self._coming.add(transport)
             if self.are_ended:
                 transport.hang_up()
             transport.load(deadline)

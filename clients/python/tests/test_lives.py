@@ -18,6 +18,7 @@ from collections.abc import Callable, Iterator
 from concurrent.futures import ProcessPoolExecutor
 from pathlib import Path
 from typing import Any
+from unittest import mock
 
 from serving import Service
 from support import BOXES, EXAMPLES, LAYERS, PACKAGE, PROGRAM, anything, children_of, descendants_of, open_files, parent_of
@@ -26,7 +27,9 @@ sys.path.insert(0, str(EXAMPLES / "cluster"))
 from shards.places import places_of
 from shards.router import Cluster
 
+from rtfilter.deadlines import Deadline
 from rtfilter.prefork import library_of
+from rtfilter.shared import Holder, Sharer
 
 from rtfilter import All, Boxes, Disconnected, Ended, Pool, Rtfilter, TimedOut, Window, WrongProcess
 
@@ -364,7 +367,7 @@ class Pools(Case):
                 change()
                 for left in (2, 1):
                     os.kill(min(programs() - self.before[0]), signal.SIGKILL)
-                    self.wait_for(lambda: self.asked_at_once(boxes) and boxes._copies._lost == 3 - left)
+                    self.wait_for(lambda: self.asked_at_once(boxes) and len(boxes._copies._lost) == 3 - left)
                 for process in programs() - self.before[0]:
                     with contextlib.suppress(ProcessLookupError):
                         os.kill(process, signal.SIGKILL)
@@ -654,6 +657,38 @@ class Deadlines(Case):
                     opened(never, program=program, timeout=self.SECONDS)
         self.assert_nothing_left()
 
+    def test_each_wait_of_an_opening(self) -> None:
+        """For the program of a shared table, and then for the process of each copy."""
+        load = Holder.load
+
+        def loaded_and_stopped(holder: Holder, deadline: Deadline) -> None:
+            load(holder, deadline)
+            time.sleep(self.SECONDS / 2)
+            stop(holder._process.pid)
+
+        boxes = Pool(2, BOXES, program=PROGRAM, timeout=self.SECONDS)
+        if isinstance(boxes._copies.clients[0], Sharer):
+            with mock.patch.object(Holder, "load", loaded_and_stopped):
+                for call in anything(lambda: Pool(2, BOXES, program=PROGRAM, timeout=self.SECONDS), boxes.reload):
+                    with self.timing_out():
+                        call()
+        self.assertEqual(boxes.count(All()), 5)
+        boxes.close()
+        self.assert_nothing_left()
+
+    def test_a_reload_while_the_old_table_is_asked(self) -> None:
+        """The call under way isn't ended, and is waited for until the deadline; the old table goes with its last call."""
+        with Pool(2, BOXES, program=PROGRAM, timeout=self.SECONDS) as boxes:
+            is_over = threading.Event()
+            with self.under_way(lambda: boxes._asked(lambda _: is_over.wait())) as raised:
+                begun = time.monotonic()
+                boxes.reload(LAYERS)
+                self.assertLess(abs(time.monotonic() - begun - self.SECONDS), 0.2)
+                self.assertEqual(boxes.count(All()), len(boxes))
+                is_over.set()
+            self.assertEqual(raised, [])
+        self.assert_nothing_left()
+
     def test_to_make_rows_is_no_wait(self) -> None:
         def rows() -> Iterator[tuple[int, ...]]:
             time.sleep(self.SECONDS + 0.1)
@@ -667,7 +702,7 @@ class Deadlines(Case):
             client = boxes._copies._free.pop()
             with self.timing_out():
                 boxes.count(All())
-            boxes._copies._give_back(client)
+            boxes._copies._give_back([client])
             self.assertEqual(boxes.count(All()), 1)
 
     def test_a_full_backlog(self) -> None:
@@ -761,6 +796,8 @@ class Closes(Case):
             with self.under_way(lambda: boxes.count(All())) as raised, self.at_once():
                 boxes.close()
             self.assertIsInstance(raised[0], ValueError)
+            with self.assertRaisesRegex(ValueError, "^the table was closed$"):
+                len(boxes)
 
     def test_while_it_connects_anew(self) -> None:
         with Service(self.folder / "socket") as service:

@@ -11,7 +11,7 @@ from functools import partial
 from pathlib import Path
 from typing import Any
 
-from support import BOXES, PROGRAM, open_files, some_lines, some_rows, told_by_program, written
+from support import BOXES, PROGRAM, anything, open_files, some_lines, some_rows, told_by_program, written
 
 from rtfilter import All, Ended, Pool, QueryError, Rtfilter, Smallest
 
@@ -67,8 +67,9 @@ class Pools(unittest.TestCase):
         for count in (1, 1000):
             with self.assertRaises(ValueError):
                 boxes.ask(["count all"] * count)
-        with self.assertRaises(ValueError):
-            boxes.reload()
+        for call in anything(boxes.reload, lambda: len(boxes)):
+            with self.assertRaisesRegex(ValueError, "^the table was closed$"):
+                call()
         self.assertEqual(open_files(), before)
 
     def test_a_close_while_parts_are_made(self) -> None:
@@ -145,6 +146,10 @@ class Reloads(unittest.TestCase):
                     replies = boxes._texts([("count all\n" * 100, 100)] * 6, boxes._deadline())
                     told.append({int(line.split()[2]) for reply in replies for line in reply.splitlines()})
 
+            def measure() -> None:
+                while not is_over.is_set():
+                    told.append({len(boxes)})
+
             def reload() -> None:
                 try:
                     for at in range(20):
@@ -153,7 +158,7 @@ class Reloads(unittest.TestCase):
                     is_over.set()
 
             with opened(tables[0]) as boxes:
-                run_at_once([ask, ask, ask_in_texts, ask_in_texts, reload])
+                run_at_once([ask, ask, ask_in_texts, ask_in_texts, measure, reload])
             self.assertEqual({len(some) for some in told}, {1})
             self.assertEqual(set().union(*told), {300, 200})
         self.assertEqual(open_files(), before)

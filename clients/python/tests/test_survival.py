@@ -162,8 +162,9 @@ class Ends(unittest.TestCase):
         boxes = Rtfilter(BOXES, program=PROGRAM)
         boxes.close()
         boxes.close()
-        with self.assertRaises(ValueError):
-            boxes.count(All())
+        for call in anything(lambda: boxes.count(All()), lambda: len(boxes), boxes.reload):
+            with self.assertRaisesRegex(ValueError, "^the table was closed$"):
+                call()
 
 
 class Times(unittest.TestCase):
