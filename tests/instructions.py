@@ -45,7 +45,7 @@ KINDS = {
     "nearest 129": (80438, 100, lambda x, y: f"nearest 129 {x} {y}"),
     "nearest 1000": (544909, 20, lambda x, y: f"nearest 1000 {x} {y}"),
     "find all": (3352835, 3, lambda x, y: "find all"),
-    "find all first 1": (489999, 10, lambda x, y: "find all first 1"),
+    "find all first 1": (540199, 10, lambda x, y: "find all first 1"),
     "find all first 1000": (706933, 3, lambda x, y: "find all first 1000"),
     "find all smallest first 1000": (1498435, 3, lambda x, y: "find all smallest first 1000"),
     "count window": (12507, 100, lambda x, y: f"count window {box(x, y, 40)}"),

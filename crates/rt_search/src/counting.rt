@@ -41,7 +41,7 @@ impl Collector for Tally {
         self.0 += u64::from(is_accepted);
     }
 
-    // In a number of its own, which stays in a register.
+    // In a number of its own, which stays in a register: an eighth of a count of many.
     #[inline(always)]
     fn visit_entries<G: Geometry>(
         &mut self,

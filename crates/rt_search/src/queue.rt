@@ -10,7 +10,7 @@ use crate::entries::WaitingEntries;
 use crate::item::{Item, Place, ScoredNode, Taken, WaitingNode};
 use crate::keys::{node_key, node_of};
 use crate::pool::Pool;
-use crate::walk::{Collector, Visitor, is_kept};
+use crate::walk::{Collector, Visitor};
 use crate::wide::{WIDE, Wide};
 use rt_geo::{Verdict, Within};
 use rt_tree::NodeNo;
@@ -139,7 +139,7 @@ impl Visitor for Queue {
     // Each node is opened that may hold answers.
     #[inline(always)]
     fn visit_node(&mut self, verdict: Verdict, _size: u32) -> bool {
-        is_kept(verdict.within)
+        !matches!(verdict.within, Within::Not)
     }
 }
 

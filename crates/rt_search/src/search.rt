@@ -99,6 +99,7 @@ impl<'a, G: Geometry> Search<'a, G> {
         ensures given { result.given ≡ 0 }
         ensures opened { result.opened ≡ 0 }
         ensures asked { result.asked ≡ 0 }
+
         ensures tree { result.tree ≡ tree.now }
         ensures geometry { result.geometry ≡ counted.entry.geometry }
         ensures capacity { result.capacity ≡ frontier.capacity }

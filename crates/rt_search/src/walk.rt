@@ -10,7 +10,7 @@ ghost use Rattle.rt_tree.specs.Packed.{IsSound, node_at, root_of};
 ghost use Rattle.rt_search.specs.{Answers.{Answer}, Remaining.{IsOpenable, IsOpenableLeaf}, Walking.{HasTaken}};
 ghost use Rattle.rt_search.specs.Walking.{IsCheckable, IsFilling, IsKnown, answer_if, answers_among, answers_in_tree};
 ghost use Rattle.rt_search.specs.Walking.{answers_under, work_at_child, work_under};
-ghost use Rattle.rt_search.specs.Work.{info_under, is_kept, its_children, one_node, reached_from_root};
+ghost use Rattle.rt_search.specs.Work.{info_under, its_children, one_node, reached_from_root};
 
 use rt_geo::{Bounds, Counted, Geometry, Info, Layers, Verdict, Within};
 use rt_tree::{Node, NodeNo, Tree};
@@ -51,7 +51,8 @@ pub(crate) trait Collector: Sized {
             let layers = tree.layers_at(first + i as u32);
             let info = info_under(tree, parent, entry.bounds, layers, 0);
             let verdict = counted.check(&info);
-            self.visit_entry(is_kept(verdict.within), verdict.score, entry.id);
+            let is_accepted = !matches!(verdict.within, Within::Not);
+            self.visit_entry(is_accepted, verdict.score, entry.id);
         }
     }
 
@@ -87,14 +88,6 @@ pub fn info_under(tree: &Tree, parent: Verdict, bounds: Bounds, layers: Layers, 
         parent_within: parent.within,
         parent_score: parent.score,
     }
-}
-
-/// Whether an entry in this state is an answer; of a node, whether it may hold answers.
-#[inline(always)]
-pub(crate) fn is_kept(within: Within) -> bool
-    ensures { result ≡ is_kept within }
-{
-    !matches!(within, Within::Not)
 }
 
 /// Walks over a tree from its root, which isn't asked about, and returns how many nodes were opened. All that is

@@ -1,9 +1,10 @@
 use Rattle.std.proofs.lemmas.Grind.{common_steps}
-use Rattle.std.proofs.{Common.{◌≡◌, FitsSigned, IfSome, arith, rules, subst, w64}, lemmas.Int.{to_z-of_z}}
+use Rattle.std.proofs.{Common.{◌≡◌, FitsSigned, IfSome, arith, not, rules, subst, w64}, lemmas.Int.{to_z-of_z}}
 use Rattle.rt_geo.specs.Laws.{extent_of_entry}
-use Rattle.rt_search.specs.Walking.{HasTaken, answers_among}
+use Rattle.rt_search.specs.{Walking.{HasTaken, answers_among}, Work.{is_kept}}
 use Rattle.rt_search.proofs.Children.{entries_count, entry_question, leaf_read}
 use Rattle.rt_search.proofs.Walks.{few_entries, one_entry, taken-append, taken_room}
+use Rattle.rt_search.proofs.walk.Collector.visit_entries.Goals.{in-Not, in_default}
 use Rattle.rt_search.proofs.walk.Collector.visit_entries.Goals as goal
 
 pub overflow_cast-i : goal.overflow_cast-i
@@ -54,7 +55,11 @@ loop-i-preserved g c =
     let e = rw inv.geometry at c.check-verdict.ensures in
     let fits : FitsSigned w64 c.index-entries-i.result.id = search rules in
     let verdict_is = rw (k.is, layers) at (rw c.info_under-info.ensures at e.verdict) in
-    let one = rw k.is at (rw verdict_is at (rw c.is_kept.ensures at (simp (to_z-of_z, fits) at c.visit_entry.ensures))) in
+    let kept : not c.match-matches.matches ≡ is_kept c.check-verdict.result.within = elim c.match-matches.branch [
+      | in-Not w ↦ grind arith
+      | in_default w ↦ grind arith
+    ] in
+    let one = rw k.is at (rw verdict_is at (rw kept at (simp (to_z-of_z, fits) at c.visit_entry.ensures))) in
     let more = one_entry (g.met.G.Geometry.lawful geometry) c.requires.leaf.sound (search rules) c.requires.leaf.node
     c.requires.leaf.below i (omega arith) in
     let both = taken-append g.Self.Collector.takes c.args.self.now c.loop-i.self c.visit_entry.new.self
