@@ -597,11 +597,13 @@ class Deadlines(Case):
             is_over = threading.Event()
             holding = threading.Thread(target=boxes._turns.take, args=(is_over.wait, boxes._deadline()))
             holding.start()
-            for ask in anything(lambda: boxes.count(All()), lambda: boxes.ask(["count all"] * 10), boxes.reload):
-                with self.timing_out():
-                    ask()
-            is_over.set()
-            holding.join()
+            try:
+                for ask in anything(lambda: boxes.count(All()), lambda: boxes.ask(["count all"] * 10), boxes.reload):
+                    with self.timing_out():
+                        ask()
+            finally:  # or a check that fails would have the close wait for ever
+                is_over.set()
+                holding.join()
             self.assertEqual(boxes.count(All()), 5)
 
     def test_all_threads_of_one_client(self) -> None:
