@@ -1,6 +1,6 @@
 //! A cut in a list: its least elements stay, and few more than are wanted.
 
-ghost use Rattle.std.specs.Prelude.{◌≡◌, ◌<◌, ◌≤◌, length, vec_capacity, filter};
+ghost use Rattle.std.specs.Prelude.{◌≡◌, ◌<◌, ◌≤◌, filter, length, nat_le, vec_capacity};
 ghost use Rattle.rt_search.specs.Kept.{IsCut, is_upto};
 
 use std::cmp::Reverse;
@@ -14,7 +14,7 @@ pub fn keep_least<T: Ord + Copy + Drop>(items: &mut Vec<Reverse<T>>, count: usiz
     ensures capacity { vec_capacity items.new ≡ vec_capacity items.old }
 {
     if let Some(bound) = bound_behind(items, count) {
-        if count <= count_upto(items, bound) {
+        if has_upto(items, count, bound) {
             items.retain(|item| item.0.cmp(&bound).is_le());
         }
     }
@@ -45,13 +45,16 @@ fn of_sample<T: Ord + Copy + Drop>(items: &[Reverse<T>], step: usize, place: usi
     sample.get(place).copied()
 }
 
-// How many are at most the bound.
-fn count_upto<T: Ord + Copy + Drop>(items: &[Reverse<T>], bound: T) -> usize
-    ensures { result ≡ length (filter (is_upto T.cmp bound) items.now) }
+// Whether so many are at most the bound. No more are looked at than tell it.
+fn has_upto<T: Ord + Copy + Drop>(items: &[Reverse<T>], count: usize, bound: T) -> bool
+    ensures { result ≡ nat_le count (length (filter (is_upto T.cmp bound) items.now)) }
 {
     let mut found = 0;
     for item in items {
+        if count <= found {
+            return true;
+        }
         found += usize::from(item.0.cmp(&bound).is_le());
     }
-    found
+    count <= found
 }

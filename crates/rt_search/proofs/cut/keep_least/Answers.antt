@@ -3,8 +3,8 @@ use Rattle.std.specs.List.{filter}
 use Rattle.rt_search.specs.Kept.{is_upto}
 use Rattle.rt_search.proofs.cut.keep_least.Goals as goal
 
-pub returns-then-count-count_upto-clause-cut : goal.returns-then-count-count_upto-clause-cut
-returns-then-count-count_upto-clause-cut g c =
+pub returns-then-has_upto-clause-cut : goal.returns-then-has_upto-clause-cut
+returns-then-has_upto-clause-cut g c =
     let upto = is_upto g.T.Ord.cmp c.in-Some.bound in
     let left : c.retain.new.self.items ≡ filter upto c.args.items.now.items =
     filter_same _ upto _ (λ x b f called. (search rules, search rules)) _ _ c.retain.ensures.filtered in
