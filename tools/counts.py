@@ -5,8 +5,8 @@ The calls are those that CONTRIBUTING.md tells under "The way of a line", crate 
 a file in brackets has the calls before it. So are the calls of the second table, from the node's entries to the comparison
 of a box. Definitions that have to be believed are counted by tools/definitions.py.
 
-Run from anywhere: `python3 tools/counts.py`. `--check` fails where one of these calls isn't called by the one before it;
-its last line is `N passed, M failed`.
+Run from anywhere: `python3 tools/counts.py`. `--check` fails where one of these calls isn't called by the one before it,
+and where a line of a clause has more than 100 columns; its last line is `N passed, M failed`.
 """
 
 import argparse
@@ -19,6 +19,8 @@ CRATES = ROOT / "crates"
 
 ROW = re.compile(r"^\| `(\w+)` \| (.*) \|$", re.MULTILINE)
 CALL_OR_FILE = re.compile(r"`([\w:]+)`|\(`(\w+\.rt)`\)")
+CLAUSE = re.compile(r" *(?:requires|ensures|ghost (?!use))")
+COLUMNS = 100
 FUNCTION = re.compile(r"^ *(?:pub(?:\(crate\))? )?(?:const )?fn \w", re.MULTILINE)
 
 
@@ -62,9 +64,19 @@ def body_of(crate, file, name):
     return found and found[0]
 
 
+def long_lines(path):
+    """The numbers of the lines of clauses, and of what a type says of itself, that have too many columns."""
+    depth = 0
+    for number, line in enumerate(path.read_text(encoding="utf-8").splitlines(), 1):
+        if depth or CLAUSE.match(line):
+            depth += line.count("{") - line.count("}")
+            if len(line) > COLUMNS:
+                yield number
+
+
 def main():
     parser = argparse.ArgumentParser(description=__doc__.splitlines()[0])
-    parser.add_argument("--check", action="store_true", help="fail where the way of a line isn't so")
+    parser.add_argument("--check", action="store_true", help="fail where the way of a line isn't so, or a clause is too wide")
     check = parser.parse_args().check
     ways = ways_of_a_line()
     if not check:
@@ -87,8 +99,15 @@ def main():
             print(f"CONTRIBUTING.md: {name} of {crate}/src/{file} {'is not there' if body is None else f'calls no {word}'}")
             failed += 1
     passed = sum(map(len, ways)) - failed
-    print(f"{passed} passed, {failed + (not ways)} failed")
-    return 1 if failed or not ways else 0
+    failed += not ways
+    for path in sorted(CRATES.glob("*/src/*.rt")):
+        wide = list(long_lines(path))
+        for number in wide:
+            print(f"{path.relative_to(ROOT)}:{number}: a clause has more than {COLUMNS} columns")
+        passed += not wide
+        failed += bool(wide)
+    print(f"{passed} passed, {failed} failed")
+    return 1 if failed else 0
 
 
 if __name__ == "__main__":

@@ -88,7 +88,8 @@ pub fn settings_of(alloc: Global, words: &[Name]) -> Result<Invocation, ArgFault
         MatchResult result (λ _. kinds ≡ []) (IsFaultAmong kinds) }
 
     // Where clap takes the words, only memory can be wanting.
-    ensures takes { IfErr result (λ fault. takes filter_app words.now ≡ true → fault ≡ ArgFault.Memory) }
+    ensures takes { IfErr result
+        (λ fault. takes filter_app words.now ≡ true → fault ≡ ArgFault.Memory) }
 {
     let matches = parse(alloc, words)?;
     Ok(Invocation {
@@ -104,7 +105,8 @@ fn parse<'a>(alloc: Global, words: &'a [Name]) -> Result<ArgMatches<'a>, ArgFaul
     ensures filled { IfOk result (λ m. AreFilled (rows_of (found_of m))) }
     ensures faults { let kinds = fault_of filter_app words.entry.now in
         MatchResult result (λ _. kinds ≡ []) (IsFaultAmong kinds) }
-    ensures takes { IfErr result (λ fault. takes filter_app words.entry.now ≡ true → fault ≡ ArgFault.Memory) }
+    ensures takes { IfErr result
+        (λ fault. takes filter_app words.entry.now ≡ true → fault ≡ ArgFault.Memory) }
 {
     let command = filter_command(alloc)?;
     Ok(command.try_get_matches_from(words)?)
@@ -140,7 +142,8 @@ fn number_arg<'a>(
     parser: ValueParser<'a>,
     default: &'a str,
 ) -> Arg<'a>
-    ensures rule { (least greatest : ℕ) → parser.entry ≡ ValueParser.Signed (pos least) (pos greatest)
+    ensures rule { (least greatest : ℕ)
+        → parser.entry ≡ ValueParser.Signed (pos least) (pos greatest)
         → rule_of result ≡ number_rule name.entry.now least greatest default.entry.now }
     ensures local { result.global ≡ false }
 {
@@ -181,8 +184,10 @@ fn word_arg<'a>(alloc: Global, name: &'a str, required: bool) -> Arg<'a>
 fn settings(matches: &ArgMatches<'_>) -> Settings
     requires { AreFilled (rows_of (found_of matches.now)) }
     ensures header { result.header ≡ is_given (codes "header") (rows_of (found_of matches.now)) }
-    ensures fanout { option_number (codes "fanout") (rows_of (found_of matches.now)) ≡ Some result.fanout }
-    ensures max_entries { option_number (codes "max-entries") (rows_of (found_of matches.now)) ≡ Some result.max_entries }
+    ensures fanout { option_number (codes "fanout") (rows_of (found_of matches.now))
+        ≡ Some result.fanout }
+    ensures max_entries { option_number (codes "max-entries") (rows_of (found_of matches.now))
+        ≡ Some result.max_entries }
 {
     Settings::new(header(matches), fanout(matches), max_entries(matches)).unwrap()
 }
@@ -199,7 +204,8 @@ fn header(matches: &ArgMatches<'_>) -> bool
 
 // The fanout, given or by default: clap has checked that it stands in its range.
 fn fanout(matches: &ArgMatches<'_>) -> u8
-    requires { HasNumber (codes "fanout") least_fanout greatest_fanout (rows_of (found_of matches.now)) }
+    requires { HasNumber (codes "fanout") least_fanout greatest_fanout
+        (rows_of (found_of matches.now)) }
     ensures value { option_number (codes "fanout") (rows_of (found_of matches.now)) ≡ Some result }
     ensures least { least_fanout ≤ result }
     ensures most { result ≤ greatest_fanout }
@@ -210,7 +216,8 @@ fn fanout(matches: &ArgMatches<'_>) -> u8
 // The most entries, likewise.
 fn max_entries(matches: &ArgMatches<'_>) -> u32
     requires { HasNumber (codes "max-entries") 1 most_entries (rows_of (found_of matches.now)) }
-    ensures value { option_number (codes "max-entries") (rows_of (found_of matches.now)) ≡ Some result }
+    ensures value { option_number (codes "max-entries") (rows_of (found_of matches.now))
+        ≡ Some result }
     ensures least { 1 ≤ result }
     ensures most { result ≤ most_entries }
 {

@@ -20,12 +20,14 @@ impl Model for Settings {
 
     ghost Value = { Choices };
 
-    ghost view = { λ s. record { header = s.header; fanout = s.fanout; max_entries = s.max_entries } };
+    ghost view = { λ s.
+        record { header = s.header; fanout = s.fanout; max_entries = s.max_entries } };
 
     ghost invariant = { λ s.
         AreAllowed (record { header = s.header; fanout = s.fanout; max_entries = s.max_entries }) };
 
-    ghost inverse = { λ c. record { header = c.header; fanout = c.fanout; max_entries = c.max_entries } };
+    ghost inverse = { λ c.
+        record { header = c.header; fanout = c.fanout; max_entries = c.max_entries } };
 }
 
 impl Settings {
@@ -42,7 +44,8 @@ impl Settings {
     /// node (2 to 64) and the most entries of the table (1 to 16,777,216). `None` where one is out of its
     /// range, and nowhere else.
     pub fn new(header: bool, fanout: u8, max_entries: u32) -> Option<Settings>
-        ensures { let given : Choices = record { header = header; fanout = fanout; max_entries = max_entries } in
+        ensures { let given : Choices =
+            record { header = header; fanout = fanout; max_entries = max_entries } in
             SomeIff result (AreAllowed given) given }
     {
         if fanout < Settings::LEAST_FANOUT || fanout > Settings::GREATEST_FANOUT {

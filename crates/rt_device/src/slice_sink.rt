@@ -105,11 +105,13 @@ impl Sink for SliceSink<'_> {
         ensures took_none { IfOk result (λ n. n ≡ 0 → self.new.failures ≡ self.old.failures + 1) }
         ensures fails { OnErr result (self.new.failures ≡ self.old.failures + 1) }
         ensures which { IsErr result ↔ (self.old.fails_in ≡ 1) }
-        ensures many { IfOk result (λ n. n ≡ min self.old.piece (min self.old.left (length piece.now))) }
+        ensures many { IfOk result
+            (λ n. n ≡ min self.old.piece (min self.old.left (length piece.now))) }
         ensures left { IfOk result (λ n. self.new.left ≡ self.old.left - n) }
         ensures lost { OnErr result (self.new.left ≡ self.old.left) }
         ensures waits { self.new.waits ≡ (nat_lt 0 (result_unwrap_or result 0) || self.old.waits) }
-        ensures later { (self.new.fails_in ≡ self.old.fails_in - 1) × (self.new.piece ≡ self.old.piece) }
+        ensures later { (self.new.fails_in ≡ self.old.fails_in - 1)
+            × (self.new.piece ≡ self.old.piece) }
     {
         if self.fails() {
             return Err(WriteFault);
@@ -134,7 +136,8 @@ impl Sink for SliceSink<'_> {
         ensures lost { OnErr result (IsSameIfTold (Some self.old.bytes) (Some self.new.bytes)) }
         ensures fails { OnErr result (self.new.failures ≡ self.old.failures + 1) }
         ensures which { IsErr result ↔ (self.old.fails_in ≡ 1) }
-        ensures later { (self.new.fails_in ≡ self.old.fails_in - 1) × (self.new.piece ≡ self.old.piece) }
+        ensures later { (self.new.fails_in ≡ self.old.fails_in - 1)
+            × (self.new.piece ≡ self.old.piece) }
         ensures left { self.new.left ≡ self.old.left }
         ensures handed_on { OnOk result (self.new.waits ≡ false) }
         ensures waits { OnErr result (self.new.waits ≡ self.old.waits) }

@@ -76,8 +76,10 @@ impl Source for SliceSource<'_> {
         ensures fails { OnErr result (self.new.failures ≡ self.old.failures + 1) }
         ensures counted { PulledTimes 1 self.old.pulls self.new.pulls }
         ensures which { IsErr result ↔ (self.old.fails_in ≡ 1) }
-        ensures many { IfOk result (λ n. n ≡ min self.old.piece (min (length room.new) (length self.old.bytes))) }
-        ensures later { (self.new.fails_in ≡ self.old.fails_in - 1) × (self.new.piece ≡ self.old.piece) }
+        ensures many { IfOk result
+            (λ n. n ≡ min self.old.piece (min (length room.new) (length self.old.bytes))) }
+        ensures later { (self.new.fails_in ≡ self.old.fails_in - 1)
+            × (self.new.piece ≡ self.old.piece) }
     {
         let fails = self.fails_in == 1;
         self.fails_in = self.fails_in.saturating_sub(1);

@@ -53,7 +53,8 @@ impl<W: Write> Sink for WriteSink<W> {
         requires piece { 0 < length piece.now }
         requires count { self.old.failures < 2 ^ 64 - 1 }
         ensures bound { IfOk result (λ n. n ≤ length piece.now) }
-        ensures bytes { Pushes (W.contents self.old.device) (W.contents self.new.device) result piece.now }
+        ensures bytes { Pushes (W.contents self.old.device) (W.contents self.new.device)
+            result piece.now }
         ensures went { IfOk result (λ n. 0 < n → self.new.failures ≡ self.old.failures) }
         ensures took_none { IfOk result (λ n. n ≡ 0 → self.new.failures ≡ self.old.failures + 1) }
         ensures fails { OnErr result (self.new.failures ≡ self.old.failures + 1) }
@@ -78,9 +79,11 @@ impl<W: Write> Sink for WriteSink<W> {
     // As the trait says, and beside that a flush that failed leaves bytes waiting.
     fn flush(&mut self) -> Result<(), WriteFault>
         requires { self.old.failures < 2 ^ 64 - 1 }
-        ensures bytes { OnOk result (Keeps (W.contents self.old.device) (W.contents self.new.device)) }
+        ensures bytes { OnOk result
+            (Keeps (W.contents self.old.device) (W.contents self.new.device)) }
         ensures went { OnOk result (self.new.failures ≡ self.old.failures) }
-        ensures lost { OnErr result (IsSameIfTold (W.contents self.old.device) (W.contents self.new.device)) }
+        ensures lost { OnErr result
+            (IsSameIfTold (W.contents self.old.device) (W.contents self.new.device)) }
         ensures fails { OnErr result (self.new.failures ≡ self.old.failures + 1) }
         ensures handed_on { OnOk result (self.new.waits ≡ false) }
         ensures waits { OnErr result (self.new.waits ≡ self.old.waits) }

@@ -38,22 +38,26 @@ pub fn run_std<T: Read + Drop, Q: Read + Drop, W: Write + Drop>(
     // given up without one only once all turns are used up.
     ensures headline { (all asked before : List ℕ) → T.remaining table ≡ Some all
         → Q.remaining queries ≡ Some asked → W.contents answers ≡ Some before
-        → result.0.fault ≢ Some RunFault.Memory → result.0.fault ≢ Some (RunFault.Table TableFault.Read)
-        → result.1.failures ≡ 0 → result.2.failures ≡ 0 → length asked < 2 ^ 64 - 1
+        → result.0.fault ≢ Some RunFault.Memory
+        → result.0.fault ≢ Some (RunFault.Table TableFault.Read) → result.1.failures ≡ 0
+        → result.2.failures ≡ 0 → length asked < 2 ^ 64 - 1
         → (W.contents result.2.device ≡ Some (before ++ (run_of settings.now all asked).0))
         × (result.0 ≡ (run_of settings.now all asked).1) }
     ensures ending { (all : List ℕ) → T.remaining table ≡ Some all → Ends settings.now all
-        (Q.remaining queries) (Q.remaining result.1.device) (W.contents answers) (W.contents result.2.device) result.0 }
-    ensures status { MatchOption result.0.fault (result.0.status ≤ 1) (λ fault. result.0.status ≡ status_of fault) }
+        (Q.remaining queries) (Q.remaining result.1.device)
+        (W.contents answers) (W.contents result.2.device) result.0 }
+    ensures status { MatchOption result.0.fault (result.0.status ≤ 1)
+        (λ fault. result.0.status ≡ status_of fault) }
     ensures memory { result.0.fault ≢ Some (RunFault.Table TableFault.Memory) }
     ensures pushes { (result.0.fault ≡ Some RunFault.Write → result.2.failures ≡ 1)
         × (result.0.fault ≢ Some RunFault.Write → result.2.failures ≡ 0) }
-    ensures pulls { (result.1.failures ≡ 0) ⊎ ((result.1.failures ≡ 1) × (result.0.fault ≡ Some RunFault.Read)) }
+    ensures pulls { (result.1.failures ≡ 0)
+        ⊎ ((result.1.failures ≡ 1) × (result.0.fault ≡ Some RunFault.Read)) }
     ensures turns { result.0.fault ≡ Some RunFault.Read → result.1.failures ≡ 0
         → ConsumedAtLeast (2 ^ 64 - 1) (Q.remaining queries) (Q.remaining result.1.device) }
     ensures flushed { result.0.fault ≢ Some RunFault.Write → result.2.waits ≡ false }
-    ensures untouched { (fault : RunFault) → result.0.fault ≡ Some fault → fault ≢ RunFault.Read → fault ≢ RunFault.Write
-        → (result.1.device ≡ queries) × (result.2.device ≡ answers) }
+    ensures untouched { (fault : RunFault) → result.0.fault ≡ Some fault → fault ≢ RunFault.Read
+        → fault ≢ RunFault.Write → (result.1.device ≡ queries) × (result.2.device ≡ answers) }
 {
     let mut source = ReadSource::new(queries);
     let mut sink = WriteSink::new(answers);
@@ -72,7 +76,6 @@ pub fn run<R: Read + Drop, S: Source, K: Sink>(
 ) -> Outcome
     requires source_count { S.failed source.old < 2 ^ 64 - 1 }
     requires sink_count { K.failed sink.old < 2 ^ 64 - 1 }
-
     // The headline. The three devices tell their bytes, no growth was refused while the table was loaded, no read of it
     // failed, no pull, push or flush failed, and the queries are fewer bytes than the turns.
     ensures headline { (table queries before : List ℕ) → R.remaining reader ≡ Some table
@@ -82,36 +85,35 @@ pub fn run<R: Read + Drop, S: Source, K: Sink>(
         → length queries < turns
         → (K.written sink.new ≡ Some (before ++ (run_of settings.now table queries).0))
         × (result ≡ (run_of settings.now table queries).1) }
-
     // How a run ends, failures included, as far as source and sink tell their bytes. After a failed push or flush a
     // prefix went out, after a failed pull or used-up turns the replies to the complete lines, and where the load fails,
     // nothing.
     ensures ending { (table : List ℕ) → R.remaining reader ≡ Some table → Ends settings.now table
-        (S.coming source.old) (S.coming source.new) (K.written sink.old) (K.written sink.new) result }
-
+        (S.coming source.old) (S.coming source.new)
+        (K.written sink.old) (K.written sink.new) result }
     // The status is the fault's; without one it is 0 or 1. Want of memory is never told as a fault of the table.
-    ensures status { MatchOption result.fault (result.status ≤ 1) (λ fault. result.status ≡ status_of fault) }
+    ensures status { MatchOption result.fault (result.status ≤ 1)
+        (λ fault. result.status ≡ status_of fault) }
     ensures memory { result.fault ≢ Some (RunFault.Table TableFault.Memory) }
-
     // Each failure of a device is reported, and no other. A source may also be given up when the turns are used up.
-    ensures pushes { (result.fault ≡ Some RunFault.Write → K.failed sink.new ≡ K.failed sink.old + 1)
+    ensures pushes { (result.fault ≡ Some RunFault.Write
+        → K.failed sink.new ≡ K.failed sink.old + 1)
         × (result.fault ≢ Some RunFault.Write → K.failed sink.new ≡ K.failed sink.old) }
     ensures pulls { (S.failed source.new ≡ S.failed source.old)
         ⊎ ((S.failed source.new ≡ S.failed source.old + 1) × (result.fault ≡ Some RunFault.Read)) }
     ensures turns { result.fault ≡ Some RunFault.Read → S.failed source.new ≡ S.failed source.old
         → ConsumedAtLeast turns (S.coming source.old) (S.coming source.new) }
-
     // No more pulls are made than turns, and so many where they are used up.
-    ensures most { (times : ℕ) × PulledTimes times (S.pulled source.old) (S.pulled source.new) × (times ≤ turns) }
+    ensures most { (times : ℕ)
+        × PulledTimes times (S.pulled source.old) (S.pulled source.new) × (times ≤ turns) }
     ensures used_up { result.fault ≡ Some RunFault.Read → S.failed source.new ≡ S.failed source.old
         → PulledTimes turns (S.pulled source.old) (S.pulled source.new) }
-
     // What was pushed is flushed, unless a push or a flush failed, or something waited for a flush before.
-    ensures flushed { result.fault ≢ Some RunFault.Write → K.waits sink.old ≡ false → K.waits sink.new ≡ false }
-
+    ensures flushed { result.fault ≢ Some RunFault.Write
+        → K.waits sink.old ≡ false → K.waits sink.new ≡ false }
     // A fault of neither the queries nor the output, so one of the load, leaves the queries unread, and nothing is written.
-    ensures untouched { (fault : RunFault) → result.fault ≡ Some fault → fault ≢ RunFault.Read → fault ≢ RunFault.Write
-        → (source.new ≡ source.old) × (sink.new ≡ sink.old) }
+    ensures untouched { (fault : RunFault) → result.fault ≡ Some fault → fault ≢ RunFault.Read
+        → fault ≢ RunFault.Write → (source.new ≡ source.old) × (sink.new ≡ sink.old) }
 {
     match load(alloc, settings, reader) {
         Ok((tree, frontier)) => {

@@ -32,7 +32,8 @@ pub(crate) fn push_search<A: AnswerStream + Drop, K: Sink>(
 ) -> Result<Frontier, WriteFault>
     requires few { length (A.seen search).answers < 2 ^ 32 }
     requires count { K.failed sink.old < 2 ^ 64 - 1 }
-    ensures pushed { Pushed K.written K.failed sink.old sink.new result (find_reply line (A.seen search).answers) }
+    ensures pushed { Pushed K.written K.failed sink.old sink.new result
+        (find_reply line (A.seen search).answers) }
     ensures capacity { IfOk result (λ left. left.capacity ≡ (A.seen search).capacity) }
 {
     let mut search = search;

@@ -42,27 +42,28 @@ pub fn serve<S: Source, K: Sink>(
     requires room { length tree.now.entries ≤ frontier.capacity }
     requires source_count { S.failed source.old < 2 ^ 64 - 1 }
     requires sink_count { K.failed sink.old < 2 ^ 64 - 1 }
-
-    // Over any entries whose packed tree this is, as far as the two devices tell their bytes: the replies are those over
-    // these entries.
-    ensures ending { (loaded : Loaded) → tree.now ≡ tree_of loaded
-        → Serves loaded (S.coming source.old) (S.coming source.new) (K.written sink.old) (K.written sink.new) result }
-
+    // The replies are those over any entries whose packed tree this is, as far as the two devices tell their bytes.
+    ensures ending { (loaded : Loaded) → tree.now ≡ tree_of loaded → Serves loaded
+        (S.coming source.old) (S.coming source.new)
+        (K.written sink.old) (K.written sink.new) result }
     // Each failure of a device is reported, and no other. A source may also be given up when the turns are used up.
-    ensures pushes { (result.fault ≡ Some ServeFault.Write → K.failed sink.new ≡ K.failed sink.old + 1)
+    ensures pushes { (result.fault ≡ Some ServeFault.Write
+        → K.failed sink.new ≡ K.failed sink.old + 1)
         × (result.fault ≢ Some ServeFault.Write → K.failed sink.new ≡ K.failed sink.old) }
     ensures pulls { (S.failed source.new ≡ S.failed source.old)
-        ⊎ ((S.failed source.new ≡ S.failed source.old + 1) × (result.fault ≡ Some ServeFault.Read)) }
+        ⊎ ((S.failed source.new ≡ S.failed source.old + 1)
+        × (result.fault ≡ Some ServeFault.Read)) }
     ensures turns { result.fault ≡ Some ServeFault.Read → S.failed source.new ≡ S.failed source.old
         → ConsumedAtLeast turns (S.coming source.old) (S.coming source.new) }
-
     // No more pulls are made than turns, and so many where they are used up.
-    ensures most { (times : ℕ) × PulledTimes times (S.pulled source.old) (S.pulled source.new) × (times ≤ turns) }
-    ensures used_up { result.fault ≡ Some ServeFault.Read → S.failed source.new ≡ S.failed source.old
+    ensures most { (times : ℕ)
+        × PulledTimes times (S.pulled source.old) (S.pulled source.new) × (times ≤ turns) }
+    ensures used_up { result.fault ≡ Some ServeFault.Read
+        → S.failed source.new ≡ S.failed source.old
         → PulledTimes turns (S.pulled source.old) (S.pulled source.new) }
-
     // What was pushed is flushed, unless a push or a flush failed, or something waited for a flush before.
-    ensures flushed { result.fault ≢ Some ServeFault.Write → K.waits sink.old ≡ false → K.waits sink.new ≡ false }
+    ensures flushed { result.fault ≢ Some ServeFault.Write
+        → K.waits sink.old ≡ false → K.waits sink.new ≡ false }
 {
     let mut frontier = frontier;
     let mut session = Session::new();

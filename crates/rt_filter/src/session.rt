@@ -2,8 +2,9 @@
 
 ghost use Rattle.std.specs.{Borrow.{sem}, Prelude.{◌≡◌, ◌+◌, ◌-◌, ◌||◌, ◌<◌, ◌≤◌, ◌^◌, ◌++◌, ℕ}};
 ghost use Rattle.std.specs.Prelude.{List, [], IfOk, OnOk, MatchResult, length, take, false, true};
-ghost use Rattle.rt_filter.specs.{Lines.{completed, numbered_lines}, Pushes.{Pushed}, Sessions.{HasPushed, heard_of}};
+ghost use Rattle.rt_filter.specs.{Lending.{LendsRoom}, Lines.{completed, numbered_lines}, Pushes.{Pushed}};
 ghost use Rattle.rt_filter.specs.{Replies.{Loaded, any_fault, is_fault, output, reply, tree_of}, Stages.{loaded_tree}};
+ghost use Rattle.rt_filter.specs.Sessions.{HasPushed, heard_of};
 ghost use Rattle.rt_text.specs.Queries.{query_of};
 
 use crate::query::{push_cost, push_in_region, push_levels};
@@ -49,8 +50,6 @@ struct Heard {
 }
 
 impl Session {
-    ghost use Rattle.rt_filter.specs.Lending.{LendsRoom};
-
     /// A session that was fed nothing.
     pub fn new() -> Session
         ensures { result.heard ≡ heard_of [] }
@@ -76,7 +75,8 @@ impl Session {
     /// Whether some line that is complete is faulty.
     pub fn is_bad(&self) -> bool
         ensures value { result ≡ self.now.heard.bad }
-        ensures faults { (fed : List ℕ) → self.now.heard ≡ heard_of fed → result ≡ any_fault (numbered_lines fed false) }
+        ensures faults { (fed : List ℕ) → self.now.heard ≡ heard_of fed
+            → result ≡ any_fault (numbered_lines fed false) }
     {
         self.heard.bad
     }
@@ -94,15 +94,15 @@ impl Session {
         requires room { length tree.now.entries ≤ frontier.capacity }
         requires count { K.failed sink.old < 2 ^ 64 - 1 }
         requires few { self.old.heard.lines + n < 2 ^ 128 }
-
         // Over any entries whose packed tree this is, and whatever was fed before.
-        ensures replies { (loaded : Loaded) → tree.now ≡ tree_of loaded → (fed : List ℕ) → self.old.heard ≡ heard_of fed
+        ensures replies { (loaded : Loaded) → tree.now ≡ tree_of loaded
+            → (fed : List ℕ) → self.old.heard ≡ heard_of fed
             → HasPushed result (K.written sink.old) (K.written sink.new)
             (output loaded (completed fed (take n self.old.room) false)) }
         ensures heard { (fed : List ℕ) → self.old.heard ≡ heard_of fed → MatchResult result
             (λ _. self.new.heard ≡ heard_of (fed ++ take n self.old.room))
-            (λ _. self.new.heard.bad ≡ true → any_fault (numbered_lines (fed ++ take n self.old.room) false) ≡ true) }
-
+            (λ _. self.new.heard.bad ≡ true
+            → any_fault (numbered_lines (fed ++ take n self.old.room) false) ≡ true) }
         ensures failures { MatchResult result (λ _. K.failed sink.new ≡ K.failed sink.old)
             (λ _. K.failed sink.new ≡ K.failed sink.old + 1) }
         ensures few { self.new.heard.lines ≤ self.old.heard.lines + n }
@@ -137,8 +137,9 @@ impl Session {
         requires room { length tree.now.entries ≤ frontier.capacity }
         requires count { K.failed sink.old < 2 ^ 64 - 1 }
         requires few { self.old.heard.lines + 1 < 2 ^ 128 }
-        ensures replies { (loaded : Loaded) → tree.now ≡ tree_of loaded → (fed : List ℕ) → self.old.heard ≡ heard_of fed
-            → HasPushed result (K.written sink.old) (K.written sink.new) (output loaded (completed fed [] true)) }
+        ensures replies { (loaded : Loaded) → tree.now ≡ tree_of loaded
+            → (fed : List ℕ) → self.old.heard ≡ heard_of fed → HasPushed result
+            (K.written sink.old) (K.written sink.new) (output loaded (completed fed [] true)) }
         ensures bad { (fed : List ℕ) → self.old.heard ≡ heard_of fed → MatchResult result
             (λ _. self.new.heard.bad ≡ any_fault (numbered_lines fed true))
             (λ _. self.new.heard.bad ≡ true → any_fault (numbered_lines fed true) ≡ true) }
@@ -167,15 +168,16 @@ impl Heard {
         requires room { length tree.now.entries ≤ frontier.capacity }
         requires count { K.failed sink.old < 2 ^ 64 - 1 }
         requires few { self.old.lines + 1 < 2 ^ 128 }
-        ensures pushed { Pushed K.written K.failed sink.old sink.new result
-            (reply (loaded_tree tree.now) (self.old.lines + 1) (query_of (self.old.begun ++ tail.now))) }
+        ensures pushed { Pushed K.written K.failed sink.old sink.new result (reply
+            (loaded_tree tree.now) (self.old.lines + 1) (query_of (self.old.begun ++ tail.now))) }
         ensures heard { self.new ≡ record {
           lines = self.old.lines + 1;
           bad = self.old.bad || is_fault (query_of (self.old.begun ++ tail.now));
           begun = [];
         } }
         ensures capacity { IfOk result (λ left. left.capacity ≡ frontier.capacity) }
-        ensures untouched { is_pushed.new ≡ false → (is_pushed.old ≡ false) × (sink.new ≡ sink.old) }
+        ensures untouched { is_pushed.new ≡ false
+            → (is_pushed.old ≡ false) × (sink.new ≡ sink.old) }
     {
         let mut vertices = Vertices::new();
         let parsed = self.begun.parse(tail, &mut vertices);

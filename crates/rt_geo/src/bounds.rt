@@ -36,13 +36,15 @@ impl Model for Bounds {
       coordinates : inside (rect_of b.min_x b.max_x b.min_y b.max_y) plane ≡ true;
     } };
 
-    ghost inverse = { λ r. record { min_x = r.min_x; max_x = r.max_x; min_y = r.min_y; max_y = r.max_y } };
+    ghost inverse = { λ r.
+        record { min_x = r.min_x; max_x = r.max_x; min_y = r.min_y; max_y = r.max_y } };
 }
 
 impl Bounds {
     /// The box with these sides. `None` where a minimum is above its maximum, and nowhere else.
     pub fn new(min_x: i32, max_x: i32, min_y: i32, max_y: i32) -> Option<Bounds>
-        ensures { SomeIff result (IsRect (rect_of min_x max_x min_y max_y)) (rect_of min_x max_x min_y max_y) }
+        ensures { SomeIff result (IsRect (rect_of min_x max_x min_y max_y))
+            (rect_of min_x max_x min_y max_y) }
     {
         if min_x <= max_x && min_y <= max_y {
             Some(Bounds {
@@ -124,7 +126,8 @@ pub fn inside(a: Bounds, b: Bounds) -> bool
 // all bits flipped. Two boxes are compared in one step by them.
 #[inline(always)]
 fn ends(bounds: Bounds) -> i32x4
-    ensures value { result ≡ bounds.min_x ∷ bounds.min_y ∷ complement bounds.max_x ∷ complement bounds.max_y ∷ [] }
+    ensures value { result
+        ≡ bounds.min_x ∷ bounds.min_y ∷ complement bounds.max_x ∷ complement bounds.max_y ∷ [] }
     ensures valid { IsRect bounds }
     ensures coordinates { inside bounds plane ≡ true }
 {
@@ -134,7 +137,8 @@ fn ends(bounds: Bounds) -> i32x4
 // How far a box must reach to the left, down, to the right and up to touch this one.
 #[inline(always)]
 fn facing_ends(bounds: Bounds) -> i32x4
-    ensures value { result ≡ bounds.max_x ∷ bounds.max_y ∷ complement bounds.min_x ∷ complement bounds.min_y ∷ [] }
+    ensures value { result
+        ≡ bounds.max_x ∷ bounds.max_y ∷ complement bounds.min_x ∷ complement bounds.min_y ∷ [] }
     ensures valid { IsRect bounds }
     ensures coordinates { inside bounds plane ≡ true }
 {

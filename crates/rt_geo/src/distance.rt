@@ -40,9 +40,11 @@ pub fn far2(point: Point, bounds: Bounds) -> u128
 /// How far a point lies outside a box, on each axis: as far as from its nearest point in the box.
 #[inline(always)]
 fn gaps(point: Point, bounds: Bounds) -> [u64; 2]
-    ensures value { result ≡ gap point.x bounds.min_x bounds.max_x ∷ gap point.y bounds.min_y bounds.max_y ∷ [] }
+    ensures value { result
+        ≡ gap point.x bounds.min_x bounds.max_x ∷ gap point.y bounds.min_y bounds.max_y ∷ [] }
     ensures valid { IsRect bounds }
-    ensures small { (gap point.x bounds.min_x bounds.max_x < 2 ^ 32) × (gap point.y bounds.min_y bounds.max_y < 2 ^ 32) }
+    ensures small { (gap point.x bounds.min_x bounds.max_x < 2 ^ 32)
+        × (gap point.y bounds.min_y bounds.max_y < 2 ^ 32) }
 {
     let point = lanes(point);
     let nearest = lesser_of(greater_of(point, mins(bounds)), maxs(bounds));
@@ -61,14 +63,16 @@ fn lanes(point: Point) -> i32x2
 
 #[inline(always)]
 fn greater_of(a: i32x2, b: i32x2) -> i32x2
-    ensures { (x y z w : ℤ) → a ≡ x ∷ y ∷ [] → b ≡ z ∷ w ∷ [] → result ≡ int_max x z ∷ int_max y w ∷ [] }
+    ensures { (x y z w : ℤ) → a ≡ x ∷ y ∷ [] → b ≡ z ∷ w ∷ []
+        → result ≡ int_max x z ∷ int_max y w ∷ [] }
 {
     a.simd_max(b)
 }
 
 #[inline(always)]
 fn lesser_of(a: i32x2, b: i32x2) -> i32x2
-    ensures { (x y z w : ℤ) → a ≡ x ∷ y ∷ [] → b ≡ z ∷ w ∷ [] → result ≡ int_min x z ∷ int_min y w ∷ [] }
+    ensures { (x y z w : ℤ) → a ≡ x ∷ y ∷ [] → b ≡ z ∷ w ∷ []
+        → result ≡ int_min x z ∷ int_min y w ∷ [] }
 {
     a.simd_min(b)
 }

@@ -16,7 +16,8 @@ pub struct Guided<S: Shape, R: Rank> {
 }
 
 impl<S: Shape, R: Rank> Geometry for Guided<S, R> {
-    ghost meaning = { λ g. guided (S.accepts g.shape) (S.state g.shape) (R.score g.rank) (R.estimate g.rank) };
+    ghost meaning = { λ g.
+        guided (S.accepts g.shape) (S.state g.shape) (R.score g.rank) (R.estimate g.rank) };
 
     fn check(&self, info: &Info) -> Verdict {
         Verdict {
@@ -27,6 +28,6 @@ impl<S: Shape, R: Rank> Geometry for Guided<S, R> {
 
     ghost use Rattle.rt_geo.specs.Lemmas.Guided.{guided-lawful};
 
-    ghost lawful = { λ g. guided-lawful (S.accepts g.shape) (S.state g.shape) (R.score g.rank) (R.estimate g.rank)
-        (S.faithful g.shape) (R.admissible g.rank) };
+    ghost lawful = { λ g. guided-lawful (S.accepts g.shape) (S.state g.shape)
+        (R.score g.rank) (R.estimate g.rank) (S.faithful g.shape) (R.admissible g.rank) };
 }

@@ -57,7 +57,8 @@ impl Layers {
     /// Whether no layer is in both sets.
     pub fn is_disjoint(self, other: Layers) -> bool
         ensures value { result ≡ disjoint self other }
-        ensures none { Decides result ((layer : ℕ) → has self layer ≡ true → has other layer ≡ false) }
+        ensures none { Decides result
+            ((layer : ℕ) → has self layer ≡ true → has other layer ≡ false) }
     {
         self.bits & other.bits == 0
     }
@@ -65,7 +66,8 @@ impl Layers {
     /// Whether each layer of this set is in the other.
     pub fn is_subset(self, other: Layers) -> bool
         ensures value { result ≡ subset self other }
-        ensures each { Decides result ((layer : ℕ) → has self layer ≡ true → has other layer ≡ true) }
+        ensures each { Decides result
+            ((layer : ℕ) → has self layer ≡ true → has other layer ≡ true) }
     {
         self.bits & other.bits == self.bits
     }

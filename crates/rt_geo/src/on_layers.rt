@@ -34,5 +34,6 @@ impl<S: Shape> Shape for OnLayers<S> {
 
     ghost use Rattle.rt_geo.specs.Lemmas.OnLayers.{on_layers-faithful};
 
-    ghost faithful = { λ s. on_layers-faithful (S.accepts s.shape) (S.state s.shape) s.layers (S.faithful s.shape) };
+    ghost faithful = { λ s.
+        on_layers-faithful (S.accepts s.shape) (S.state s.shape) s.layers (S.faithful s.shape) };
 }

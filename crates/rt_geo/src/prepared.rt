@@ -93,7 +93,8 @@ fn state_by_half_planes(
     lies_inside: bool,
 ) -> Within
     requires { list_all is_small half_planes.now ≡ true }
-    ensures value { result ≡ state_by (not (overlapping && list_all (reaches (sides_of bounds)) half_planes.now))
+    ensures value { result
+        ≡ state_by (not (overlapping && list_all (reaches (sides_of bounds)) half_planes.now))
         (lies_inside && list_all (reaches (turned_sides_of bounds)) half_planes.now) }
     ensures valid { IsRect bounds }
 {

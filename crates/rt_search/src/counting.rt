@@ -1,7 +1,8 @@
 //! Counting by whole subtrees.
 
 ghost use Rattle.std.specs.Prelude.{◌≡◌, ◌+◌, ◌-◌, ◌^◌, [], length};
-ghost use Rattle.rt_search.specs.{Answers.{accepted}, Work.{asked_by_count, opened_by_count}};
+ghost use Rattle.std.proofs.Common.{rules};
+ghost use Rattle.rt_search.specs.{Answers.{accepted}, Work.{asked_by_count, is_divided, opened_by_count}};
 
 use crate::counts::Count;
 use crate::frontier::Frontier;
@@ -15,8 +16,6 @@ struct Tally(u64);
 
 // A number counts the answers that it takes.
 impl Collector for u64 {
-    ghost use Rattle.std.proofs.Common.{rules};
-
     ghost takes = { λ old _ new. new ≡ old + 1 };
 
     ghost room = { λ n. 2 ^ 64 - 1 - n };
@@ -30,8 +29,6 @@ impl Collector for u64 {
 }
 
 impl Collector for Tally {
-    ghost use Rattle.std.proofs.Common.{rules};
-
     ghost takes = { λ old _ new. new.0 ≡ old.0 + 1 };
 
     ghost room = { λ t. 2 ^ 64 - 1 - t.0 };
@@ -59,8 +56,6 @@ impl Collector for Tally {
 }
 
 impl Visitor for Tally {
-    ghost use Rattle.rt_search.specs.Work.{is_divided};
-
     ghost opens = { is_divided };
 
     // A node that is FULLY adds its size.
@@ -85,7 +80,8 @@ pub fn count<G: Geometry>(
     counted: &mut Counted<'_, G>,
 ) -> Count
     requires asked { counted.old.asked ≡ 0 }
-    ensures accepted { result.accepted ≡ length (accepted tree.now.entries (G.meaning counted.old.geometry)) }
+    ensures accepted { result.accepted
+        ≡ length (accepted tree.now.entries (G.meaning counted.old.geometry)) }
     ensures opened { result.opened ≡ opened_by_count (G.meaning counted.old.geometry) tree.now }
     ensures asked { counted.new.asked ≡ asked_by_count (G.meaning counted.old.geometry) tree.now }
     ensures items { frontier.new.items ≡ [] }

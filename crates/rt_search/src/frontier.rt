@@ -1,6 +1,7 @@
 //! The room of searches.
 
 ghost use Rattle.std.specs.Prelude.{◌≡◌, ◌==◌, ◌≤◌, [], length, IfOk};
+ghost use Rattle.rt_search.specs.Items.{SearchRoom};
 
 use crate::hits::Hits;
 use crate::queue::Queue;
@@ -24,9 +25,6 @@ pub(crate) struct Rooms {
 }
 
 impl Model for Frontier {
-    ghost use Rattle.std.specs.Prelude.{◌≡◌};
-    ghost use Rattle.rt_search.specs.Items.{SearchRoom};
-
     ghost Value = { SearchRoom };
 
     ghost view = { λ f. let rooms = f.rooms.value in record {

@@ -1,7 +1,7 @@
 //! Searches that find all answers first, and give all of them or the first.
 
 ghost use Rattle.std.specs.Prelude.{◌≡◌, ◌≤◌, [], ◌∷◌, IfNone, MatchOption, length, take};
-ghost use Rattle.rt_search.specs.{Answers.{answers}, Work.{HasWorked}};
+ghost use Rattle.rt_search.specs.{Answers.{answers}, Remaining.{remaining}, Searching.{FullSearching}, Work.{HasWorked}};
 
 use crate::frontier::{Frontier, Rooms};
 use crate::walk::walk;
@@ -23,9 +23,6 @@ pub struct FullSearch<'a, G: Geometry> {
 }
 
 impl<'a, G: Geometry> Model for FullSearch<'a, G> {
-    ghost use Rattle.std.specs.Prelude.{◌≡◌, ◌≤◌, [], length};
-    ghost use Rattle.rt_search.specs.{Remaining.{remaining}, Searching.{FullSearching}};
-
     ghost Value = { FullSearching G };
 
     ghost view = { λ s. let g = s.counted.geometry in record {
@@ -49,10 +46,12 @@ impl<'a, G: Geometry> FullSearch<'a, G> {
     pub fn start(tree: &'a Tree, frontier: Frontier, counted: Counted<'a, G>) -> FullSearch<'a, G>
         requires capacity { length tree.now.entries ≤ frontier.capacity }
         requires asked { counted.asked ≡ 0 }
-        ensures to_come { result.to_come ≡ answers tree.now.entries (G.meaning counted.entry.geometry) None }
+        ensures to_come { result.to_come
+            ≡ answers tree.now.entries (G.meaning counted.entry.geometry) None }
 
         // The work is that of a search without a limit.
-        ensures worked { HasWorked (G.meaning counted.entry.geometry) tree.now None result.opened result.asked }
+        ensures worked { HasWorked (G.meaning counted.entry.geometry) tree.now None
+            result.opened result.asked }
 
         ensures tree { result.tree ≡ tree.now }
         ensures geometry { result.geometry ≡ counted.entry.geometry }
@@ -81,7 +80,8 @@ impl<'a, G: Geometry> FullSearch<'a, G> {
 
     /// The next answer, as its id and score. `None` where none is left, and from then on.
     pub fn next(&mut self) -> Option<(i64, u128)>
-        ensures answer { MatchOption result (self.old.to_come ≡ []) (λ a. self.old.to_come ≡ a ∷ self.new.to_come) }
+        ensures answer { MatchOption result (self.old.to_come ≡ [])
+            (λ a. self.old.to_come ≡ a ∷ self.new.to_come) }
         ensures none { IfNone result (self.new.to_come ≡ []) }
         ensures opened { self.new.opened ≡ self.old.opened }
         ensures asked { self.new.asked ≡ self.old.asked }
@@ -128,9 +128,6 @@ pub struct FirstAnswers<'a, G: Geometry> {
 }
 
 impl<'a, G: Geometry> Model for FirstAnswers<'a, G> {
-    ghost use Rattle.std.specs.Prelude.{take};
-    ghost use Rattle.rt_search.specs.Searching.{FullSearching};
-
     ghost Value = { FullSearching G };
 
     ghost view = { λ s. record s.all { to_come = take s.left s.all.to_come } };
@@ -139,7 +136,8 @@ impl<'a, G: Geometry> Model for FirstAnswers<'a, G> {
 impl<'a, G: Geometry> FirstAnswers<'a, G> {
     /// The next answer, as its id and score. `None` where none is left, and from then on.
     pub fn next(&mut self) -> Option<(i64, u128)>
-        ensures answer { MatchOption result (self.old.to_come ≡ []) (λ a. self.old.to_come ≡ a ∷ self.new.to_come) }
+        ensures answer { MatchOption result (self.old.to_come ≡ [])
+            (λ a. self.old.to_come ≡ a ∷ self.new.to_come) }
         ensures none { IfNone result (self.new.to_come ≡ []) }
         ensures capacity { self.new.capacity ≡ self.old.capacity }
     {

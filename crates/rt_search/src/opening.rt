@@ -39,11 +39,13 @@ pub(crate) fn open_node<G: Geometry>(
         (verdict_on taken.score taken.node) }
     requires room { length queue.old.items + (node_at tree.now taken.node.number.number).count
         ≤ queue.old.capacity }
-    requires asked { counted.old.asked + (node_at tree.now taken.node.number.number).count ≤ 2 ^ 32 }
+    requires asked { counted.old.asked
+        + (node_at tree.now taken.node.number.number).count ≤ 2 ^ 32 }
     ensures children { let meaning = G.meaning counted.old.geometry in
         KeepsEnough (join_children meaning tree.now taken.score taken.node queue.old.items)
         queue.old queue.new }
-    ensures asked { counted.new.asked ≡ counted.old.asked + (node_at tree.now taken.node.number.number).count }
+    ensures asked { counted.new.asked
+        ≡ counted.old.asked + (node_at tree.now taken.node.number.number).count }
     ensures geometry { counted.new.geometry ≡ counted.old.geometry }
 {
     let node = tree.node(taken.node.number);

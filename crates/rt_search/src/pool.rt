@@ -2,7 +2,7 @@
 
 ghost use Rattle.std.specs.{BinaryHeap.{heap_capacity, heap_items}, Prelude.{◌≡◌, ◌<◌, ◌≤◌, ◌++◌, [], ◌∷◌, IfNone}};
 ghost use Rattle.std.specs.Prelude.{IfOk, IfSome, MatchOption, length, vec_capacity, IsPermutation};
-ghost use Rattle.rt_search.specs.Pooling.{HasLeastScore, IsFar, IsLowest, IsNear, keys_in};
+ghost use Rattle.rt_search.specs.Pooling.{HasLeastScore, IsFar, IsLowest, IsNear, IsPool, Pooled, keys_in};
 
 use crate::keys::{lesser, score_of};
 use std::alloc::{AllocError, Global};
@@ -29,12 +29,10 @@ pub struct Pool {
 }
 
 impl Model for Pool {
-    ghost use Rattle.std.specs.BinaryHeap.{heap_items};
-    ghost use Rattle.rt_search.specs.Pooling.{IsPool, Pooled};
-
     ghost Value = { Pooled };
 
-    ghost view = { λ p. record { near = heap_items p.near; far = p.far.items; capacity = p.capacity } };
+    ghost view = { λ p.
+        record { near = heap_items p.near; far = p.far.items; capacity = p.capacity } };
 
     ghost invariant = { λ p. IsPool p.near p.far p.edge p.least p.capacity };
 }
@@ -89,7 +87,8 @@ impl Pool {
     /// The least score.
     #[inline(always)]
     pub fn first_score(&self) -> Option<u64>
-        ensures { MatchOption result (keys_in self.now ≡ []) (λ s. HasLeastScore s (keys_in self.now)) }
+        ensures { MatchOption result (keys_in self.now ≡ [])
+            (λ s. HasLeastScore s (keys_in self.now)) }
     {
         let Some(top) = self.near.peek() else {
             return self.least;
@@ -140,7 +139,8 @@ fn move_near(
     requires room { length (heap_items near.old ++ far.old.items) ≤ heap_capacity near.old }
     ensures near { IsNear near.new edge }
     ensures far { IsFar far.new.items edge result }
-    ensures same { IsPermutation (heap_items near.old ++ far.old.items) (heap_items near.new ++ far.new.items) }
+    ensures same { IsPermutation (heap_items near.old ++ far.old.items)
+        (heap_items near.new ++ far.new.items) }
     ensures near_capacity { heap_capacity near.old ≤ heap_capacity near.new }
     ensures far_capacity { vec_capacity far.new ≡ vec_capacity far.old }
 {

@@ -1,9 +1,11 @@
 //! What waits in a best-first search.
 
-ghost use Rattle.std.specs.Prelude.{◌≡◌, ◌<◌, ◌≤◌, ◌^◌, [], false, length, IfOk, IfSome, MatchBool, MatchOption, true};
-ghost use Rattle.rt_search.specs.{Items.{item_at}, Joining.{join_node}};
-ghost use Rattle.rt_search.specs.Kept.{IsAhead, IsTakenOut, in_order, narrow, node_item, taken_item};
-ghost use Rattle.rt_search.specs.{Limits.{IsCleared, IsPut, KeepsEnough, IsTakenFrom, wanted_after}, Pooling.{keys_in}};
+ghost use Rattle.std.specs.Prelude.{◌≡◌, ◌-◌, ◌<◌, ◌≤◌, ◌^◌, [], false, length, IfOk, IfSome, MatchBool, MatchOption};
+ghost use Rattle.std.specs.Prelude.{None, true};
+ghost use Rattle.rt_search.specs.{Items.{Limited, item_at, item_of}, Joining.{join_node}, Kept.{IsAhead, IsQueue}};
+ghost use Rattle.rt_search.specs.Kept.{IsTakenOut, in_order, narrow, node_item, queued, taken_item};
+ghost use Rattle.rt_search.specs.{Lemmas.{entries-fill}, Limits.{IsCleared, IsPut, KeepsEnough, IsTakenFrom}};
+ghost use Rattle.rt_search.specs.{Limits.{unlimited, wanted_after}, Pooling.{keys_in}, Work.{is_reached}};
 ghost use Rattle.rt_search.specs.declared.item.Place.TheVariants as place;
 
 use crate::entries::WaitingEntries;
@@ -31,8 +33,6 @@ pub struct Queue {
 }
 
 impl Model for Queue {
-    ghost use Rattle.rt_search.specs.{Items.{Limited}, Kept.{IsQueue, queued}, Limits.{unlimited}, Pooling.{keys_in}};
-
     ghost Value = { Limited };
 
     ghost view = { λ q. record {
@@ -107,9 +107,6 @@ impl Queue {
 }
 
 impl Collector for Queue {
-    ghost use Rattle.std.specs.Prelude.{◌-◌};
-    ghost use Rattle.rt_search.specs.{Items.{item_of}, Lemmas.{entries-fill}};
-
     ghost takes = { λ old a new. IsPut (item_of a) old new };
 
     ghost room = { λ q. q.capacity - length q.items };
@@ -131,9 +128,6 @@ impl Collector for Queue {
 }
 
 impl Visitor for Queue {
-    ghost use Rattle.std.specs.Prelude.{None};
-    ghost use Rattle.rt_search.specs.Work.{is_reached};
-
     ghost opens = { is_reached None };
 
     // Each node is opened that may hold answers.

@@ -1,7 +1,8 @@
 //! Best-first search.
 
-ghost use Rattle.std.specs.Prelude.{◌≡◌, ◌≢◌, ◌+◌, ◌≤◌, [], ◌∷◌, List, IfNone, IfSome, MatchOption, length};
-ghost use Rattle.rt_search.specs.{Answers.{Answer, answers}, Limits.{one_less}, Progress.{IsFound, IsOver, IsUnderWay}};
+ghost use Rattle.std.specs.Prelude.{◌≡◌, ◌≢◌, ◌+◌, ◌≤◌, [], ◌∷◌, List, IfNone, IfSome, MatchOption, drop, length};
+ghost use Rattle.rt_search.specs.{Answers.{Answer, answers}, Limits.{one_less}, Progress.{IsFound, IsGiving, IsOver}};
+ghost use Rattle.rt_search.specs.{Progress.{IsUnderWay}, Searching.{Searching}};
 ghost use Rattle.rt_search.specs.Work.{HasWorked, IsUnscored, opened_by_search};
 
 use crate::frontier::{Frontier, Rooms};
@@ -23,11 +24,13 @@ fn pull<G: Geometry>(
     requires more { queue.old.wanted ≢ Some 0 }
     requires capacity { length tree.now.entries ≤ queue.old.capacity }
     requires state { let meaning = G.meaning counted.old.geometry in (to_come : List Answer) ×
-        IsUnderWay meaning tree.now opened.old counted.old.asked queue.old.wanted to_come queue.old.items }
+        IsUnderWay meaning tree.now opened.old counted.old.asked queue.old.wanted to_come
+        queue.old.items }
     ensures step { let meaning = G.meaning counted.old.geometry in (to_come : List Answer) →
-        IsUnderWay meaning tree.now opened.old counted.old.asked queue.old.wanted to_come queue.old.items
-        → MatchOption result
-        (IsOver meaning tree.now opened.new counted.new.asked queue.new.wanted to_come queue.new.items)
+        IsUnderWay meaning tree.now opened.old counted.old.asked queue.old.wanted to_come
+        queue.old.items → MatchOption result
+        (IsOver meaning tree.now opened.new counted.new.asked queue.new.wanted to_come
+        queue.new.items)
         (λ a. IsFound meaning tree.now opened.new counted.new.asked queue.new.wanted to_come a
         queue.new.items) }
     ensures wanted { MatchOption result (queue.new.wanted ≡ queue.old.wanted)
@@ -60,9 +63,6 @@ pub struct Search<'a, G: Geometry> {
 }
 
 impl<'a, G: Geometry> Model for Search<'a, G> {
-    ghost use Rattle.std.specs.Prelude.{◌≡◌, drop};
-    ghost use Rattle.rt_search.specs.{Answers.{answers}, Progress.{IsGiving}, Searching.{Searching}};
-
     ghost Value = { Searching G };
 
     ghost view = { λ s. let g = s.counted.geometry in record {
@@ -78,8 +78,8 @@ impl<'a, G: Geometry> Model for Search<'a, G> {
 
     ghost invariant = { λ s. let rooms = s.rooms.value in record {
       same_room : rooms.hits.capacity ≡ rooms.queue.capacity;
-      giving : IsGiving (G.meaning s.counted.geometry) s.tree.now s.limit s.given s.opened s.counted.asked
-          rooms.queue.capacity rooms.queue.wanted rooms.queue.items;
+      giving : IsGiving (G.meaning s.counted.geometry) s.tree.now s.limit s.given s.opened
+          s.counted.asked rooms.queue.capacity rooms.queue.wanted rooms.queue.items;
     } };
 }
 
@@ -94,7 +94,8 @@ impl<'a, G: Geometry> Search<'a, G> {
     ) -> Search<'a, G>
         requires capacity { length tree.now.entries ≤ frontier.capacity }
         requires asked { counted.asked ≡ 0 }
-        ensures to_come { result.to_come ≡ answers tree.now.entries (G.meaning counted.entry.geometry) limit }
+        ensures to_come { result.to_come
+            ≡ answers tree.now.entries (G.meaning counted.entry.geometry) limit }
         ensures limit { result.limit ≡ limit }
         ensures given { result.given ≡ 0 }
         ensures opened { result.opened ≡ 0 }
@@ -129,12 +130,14 @@ impl<'a, G: Geometry> Search<'a, G> {
         requires capacity { length tree.now.entries ≤ frontier.capacity }
         requires asked { counted.asked ≡ 0 }
         requires unscored { IsUnscored (G.meaning counted.geometry) }
-        ensures to_come { result.to_come ≡ answers tree.now.entries (G.meaning counted.entry.geometry) limit }
+        ensures to_come { result.to_come
+            ≡ answers tree.now.entries (G.meaning counted.entry.geometry) limit }
         ensures limit { result.limit ≡ limit }
         ensures given { result.given ≡ 0 }
 
         // The work is done: it is that of a search for so many answers.
-        ensures worked { HasWorked (G.meaning counted.entry.geometry) tree.now limit result.opened result.asked }
+        ensures worked { HasWorked (G.meaning counted.entry.geometry) tree.now limit
+            result.opened result.asked }
 
         ensures tree { result.tree ≡ tree.now }
         ensures geometry { result.geometry ≡ counted.entry.geometry }
@@ -160,7 +163,8 @@ impl<'a, G: Geometry> Search<'a, G> {
     /// The next answer, as its id and score. `None` where none is left or as many were given as are wanted, and from
     /// then on.
     pub fn next(&mut self) -> Option<(i64, u128)>
-        ensures answer { MatchOption result (self.old.to_come ≡ []) (λ a. self.old.to_come ≡ a ∷ self.new.to_come) }
+        ensures answer { MatchOption result (self.old.to_come ≡ [])
+            (λ a. self.old.to_come ≡ a ∷ self.new.to_come) }
         ensures none { IfNone result (self.new.to_come ≡ []) }
         ensures given { MatchOption result (self.new.given ≡ self.old.given)
             (λ _. self.new.given ≡ self.old.given + 1) }
@@ -169,8 +173,8 @@ impl<'a, G: Geometry> Search<'a, G> {
         // whole search.
         ensures worked { IfSome result (λ _. HasWorked (G.meaning self.old.geometry) self.old.tree
             (Some self.new.given) self.new.opened self.new.asked) }
-        ensures worked_in_all { IfNone result (HasWorked (G.meaning self.old.geometry) self.old.tree self.old.limit
-            self.new.opened self.new.asked) }
+        ensures worked_in_all { IfNone result (HasWorked (G.meaning self.old.geometry)
+            self.old.tree self.old.limit self.new.opened self.new.asked) }
 
         ensures limit { self.new.limit ≡ self.old.limit }
         ensures tree { self.new.tree ≡ self.old.tree }

@@ -40,8 +40,8 @@ pub(crate) trait Collector: Sized {
         requires leaf { IsOpenableLeaf tree.now (G.meaning counted.old.geometry) node parent }
         requires room { node.count ≤ Self.room self.old }
         requires asked { counted.old.asked + node.count ≤ 2 ^ 64 - 1 }
-        ensures taken { let found = answers_among tree.now (G.meaning counted.old.geometry) node node.count in
-            HasTaken Self.takes self.old found self.new }
+        ensures taken { let found = answers_among tree.now (G.meaning counted.old.geometry)
+            node node.count in HasTaken Self.takes self.old found self.new }
         ensures geometry { counted.new.geometry ≡ counted.old.geometry }
         ensures asked { counted.new.asked ≡ counted.old.asked + node.count }
     {
@@ -100,8 +100,10 @@ pub(crate) fn walk<V: Visitor, G: Geometry>(
     requires room { IsSound tree.now → length tree.now.entries ≤ V.room visitor.old }
     requires asked { counted.old.asked ≡ 0 }
     ensures sound { IsSound tree.now }
-    ensures taken { HasTaken V.takes visitor.old (answers_in_tree tree.now (G.meaning counted.old.geometry)) visitor.new }
-    ensures opened { result ≡ reached_from_root V.opens one_node (G.meaning counted.old.geometry) tree.now }
+    ensures taken { HasTaken V.takes visitor.old
+        (answers_in_tree tree.now (G.meaning counted.old.geometry)) visitor.new }
+    ensures opened { result
+        ≡ reached_from_root V.opens one_node (G.meaning counted.old.geometry) tree.now }
     ensures asked { counted.new.asked
         ≡ reached_from_root V.opens its_children (G.meaning counted.old.geometry) tree.now }
     ensures geometry { counted.new.geometry ≡ counted.old.geometry }
@@ -129,16 +131,16 @@ fn walk_under<V: Visitor, G: Geometry>(
     requires sound { IsSound tree.now }
     requires node { IsOpenable tree.now (G.meaning counted.old.geometry) number.number parent }
     requires room { (node_at tree.now number.number).size ≤ V.room visitor.old }
-    requires opened { opened.old
-        + work_under V.opens one_node (G.meaning counted.old.geometry) tree.now parent number.number ≤ 2 ^ 32 }
-    requires asked { counted.old.asked
-        + work_under V.opens its_children (G.meaning counted.old.geometry) tree.now parent number.number ≤ 2 ^ 32 }
-    ensures taken { let g = counted.old.geometry in
-        HasTaken V.takes visitor.old (answers_under tree.now (G.meaning g) number.number) visitor.new }
-    ensures opened { opened.new ≡ opened.old
-        + work_under V.opens one_node (G.meaning counted.old.geometry) tree.now parent number.number }
-    ensures asked { counted.new.asked ≡ counted.old.asked
-        + work_under V.opens its_children (G.meaning counted.old.geometry) tree.now parent number.number }
+    requires opened { opened.old + work_under V.opens one_node
+        (G.meaning counted.old.geometry) tree.now parent number.number ≤ 2 ^ 32 }
+    requires asked { counted.old.asked + work_under V.opens its_children
+        (G.meaning counted.old.geometry) tree.now parent number.number ≤ 2 ^ 32 }
+    ensures taken { let g = counted.old.geometry in HasTaken V.takes visitor.old
+        (answers_under tree.now (G.meaning g) number.number) visitor.new }
+    ensures opened { opened.new ≡ opened.old + work_under V.opens one_node
+        (G.meaning counted.old.geometry) tree.now parent number.number }
+    ensures asked { counted.new.asked ≡ counted.old.asked + work_under V.opens its_children
+        (G.meaning counted.old.geometry) tree.now parent number.number }
     ensures geometry { counted.new.geometry ≡ counted.old.geometry }
 {
     let node = tree.node(number);
@@ -174,16 +176,18 @@ fn walk_child<V: Visitor, G: Geometry>(
     requires node { IsCheckable tree.now (G.meaning counted.old.geometry) number.number info.now }
     requires size { size ≡ (node_at tree.now number.number).size }
     requires room { size ≤ V.room visitor.old }
-    requires opened { let meaning = G.meaning counted.old.geometry in opened.old
-        + work_at_child V.opens one_node meaning tree.now (meaning.verdict info.now) number.number ≤ 2 ^ 32 }
-    requires asked { let meaning = G.meaning counted.old.geometry in counted.old.asked + 1
-        + work_at_child V.opens its_children meaning tree.now (meaning.verdict info.now) number.number ≤ 2 ^ 32 }
-    ensures taken { let g = counted.old.geometry in
-        HasTaken V.takes visitor.old (answers_under tree.now (G.meaning g) number.number) visitor.new }
+    requires opened { let meaning = G.meaning counted.old.geometry in opened.old + work_at_child
+        V.opens one_node meaning tree.now (meaning.verdict info.now) number.number ≤ 2 ^ 32 }
+    requires asked { let meaning = G.meaning counted.old.geometry in
+        counted.old.asked + 1 + work_at_child V.opens its_children meaning tree.now
+        (meaning.verdict info.now) number.number ≤ 2 ^ 32 }
+    ensures taken { let g = counted.old.geometry in HasTaken V.takes visitor.old
+        (answers_under tree.now (G.meaning g) number.number) visitor.new }
     ensures opened { let meaning = G.meaning counted.old.geometry in opened.new ≡ opened.old
         + work_at_child V.opens one_node meaning tree.now (meaning.verdict info.now) number.number }
-    ensures asked { let meaning = G.meaning counted.old.geometry in counted.new.asked ≡ counted.old.asked + 1
-        + work_at_child V.opens its_children meaning tree.now (meaning.verdict info.now) number.number }
+    ensures asked { let meaning = G.meaning counted.old.geometry in
+        counted.new.asked ≡ counted.old.asked + 1 + work_at_child V.opens its_children meaning
+        tree.now (meaning.verdict info.now) number.number }
     ensures geometry { counted.new.geometry ≡ counted.old.geometry }
 {
     let verdict = counted.check(info);

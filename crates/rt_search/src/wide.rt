@@ -1,7 +1,7 @@
 //! Items whose score is more than one word.
 
-ghost use Rattle.std.specs.Prelude.{◌≡◌, ◌<◌, ◌≤◌, [], IfOk, length};
-ghost use Rattle.rt_search.specs.{Items.{item_cmp}, Kept.{IsRising, IsTakenOut}};
+ghost use Rattle.std.specs.{BinaryHeap.{heap_items}, Prelude.{◌≡◌, ◌<◌, ◌≤◌, [], IfOk, length}};
+ghost use Rattle.rt_search.specs.{Items.{Waiting, item_cmp}, Kept.{IsKept, IsRising, IsTakenOut, in_order, wide_item}};
 ghost use Rattle.rt_tree.specs.Sorting.{put};
 
 use crate::item::Item;
@@ -23,12 +23,10 @@ pub struct Wide {
 }
 
 impl Model for Wide {
-    ghost use Rattle.std.specs.BinaryHeap.{heap_items};
-    ghost use Rattle.rt_search.specs.{Items.{Waiting}, Kept.{IsKept, in_order, wide_item}};
-
     ghost Value = { Waiting };
 
-    ghost view = { λ w. record { items = in_order wide_item (heap_items w.heap); capacity = w.capacity } };
+    ghost view = { λ w.
+        record { items = in_order wide_item (heap_items w.heap); capacity = w.capacity } };
 
     ghost invariant = { λ w. IsKept ⟦<Reverse<Item> as Ord>⟧.cmp w.heap w.capacity };
 }

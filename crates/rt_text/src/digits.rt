@@ -23,8 +23,10 @@ pub(crate) fn sixteen_digits(number: u64) -> u8x16
 #[inline(always)]
 fn pairs(number: u64) -> u16x8
     requires { number < 10 ^ 16 }
-    ensures { result ≡ number / 10 ^ 14 ∷ number / 10 ^ 12 % 100 ∷ number / 10 ^ 10 % 100 ∷ number / 10 ^ 8 % 100
-        ∷ number / 10 ^ 6 % 100 ∷ number / 10 ^ 4 % 100 ∷ number / 100 % 100 ∷ number % 100 ∷ [] }
+    ensures { result
+        ≡ number / 10 ^ 14 ∷ number / 10 ^ 12 % 100 ∷ number / 10 ^ 10 % 100
+        ∷ number / 10 ^ 8 % 100 ∷ number / 10 ^ 6 % 100 ∷ number / 10 ^ 4 % 100
+        ∷ number / 100 % 100 ∷ number % 100 ∷ [] }
 {
     let fours = fours(number);
     let upper = fours / u16x8::splat(100);
@@ -36,8 +38,9 @@ fn pairs(number: u64) -> u16x8
 #[inline(always)]
 fn fours(number: u64) -> u16x8
     requires { number < 10 ^ 16 }
-    ensures { result ≡ number / 10 ^ 12 ∷ number / 10 ^ 8 % 10 ^ 4 ∷ number / 10 ^ 4 % 10 ^ 4 ∷ number % 10 ^ 4
-        ∷ 0 ∷ 0 ∷ 0 ∷ 0 ∷ [] }
+    ensures { result
+        ≡ number / 10 ^ 12 ∷ number / 10 ^ 8 % 10 ^ 4 ∷ number / 10 ^ 4 % 10 ^ 4
+        ∷ number % 10 ^ 4 ∷ 0 ∷ 0 ∷ 0 ∷ 0 ∷ [] }
 {
     let upper = number / 100_000_000;
     let lower = number % 100_000_000;
@@ -83,7 +86,8 @@ fn number_of_fours(digits: u8x8) -> [u16; 8]
     requires long { length digits ≡ 8 }
     requires small { AllBelowBase 10 digits }
     ensures length { length result ≡ 8 }
-    ensures value { slice_index result 0 * 10 ^ 4 + slice_index result 4 ≡ number_from_digits 10 digits }
+    ensures value { slice_index result 0 * 10 ^ 4 + slice_index result 4
+        ≡ number_from_digits 10 digits }
 {
     let worth = digits.cast::<u16>() * u16x8::from_array([1000, 100, 10, 1, 1000, 100, 10, 1]);
     let pairs = worth + worth.swizzle([2, 3, 0, 1, 6, 7, 4, 5]);

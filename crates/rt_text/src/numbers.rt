@@ -63,7 +63,8 @@ pub(crate) fn number_64(text: &[u8], low: i64, high: i64) -> Result<i64, NumberF
 #[inline(always)]
 pub(crate) fn leading_number(text: &[u8]) -> Option<Leading<i64>>
     ensures within { IfSome result (λ found. found.len ≤ length text.now) }
-    ensures value { IfSome result (λ found. number_text (take found.len text.now) ≡ Some found.number) }
+    ensures value { IfSome result
+        (λ found. number_text (take found.len text.now) ≡ Some found.number) }
 {
     if text.is_empty() {
         return None;
@@ -167,7 +168,8 @@ fn signed(text: &[u8]) -> Result<i128, NumberFault>
 
 // The number that digits write, or the greatest `u128` where it is above that.
 fn magnitude(digits: &[u8]) -> Result<u128, NumberFault>
-    ensures { result ≡ ok_or (option_map (λ n. min n u128.MAX) (digits_number digits.now)) NumberFault.NotNumber }
+    ensures { result ≡ ok_or
+        (option_map (λ n. min n u128.MAX) (digits_number digits.now)) NumberFault.NotNumber }
 {
     if digits.is_empty() {
         return Err(NumberFault::NotNumber);

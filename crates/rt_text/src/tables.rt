@@ -91,8 +91,8 @@ fn read_entries<R: Read + Drop>(
     requires most { max ≤ most_entries }
     ensures few { length entries.new ≤ max }
     ensures layers { All HasLayer entries.new }
-    ensures end { (bytes : List ℕ)
-        → R.remaining reader ≡ Some bytes → EndsAt result header entries.new (table_of bytes header max) }
+    ensures end { (bytes : List ℕ) → R.remaining reader ≡ Some bytes
+        → EndsAt result header entries.new (table_of bytes header max) }
 {
     let mut records = ReaderBuilder::new()
         .flexible(true)
@@ -140,10 +140,12 @@ fn first_number(header: bool) -> u32
 // The next record, where there is one. After an error, which is of the reader or of memory, there is none.
 fn next_record<R: Read>(records: &mut Reader<R>, fields: &mut ByteRecord) -> Judged<bool>
     requires { IsReading records.old }
-    ensures reads { IfOk result (λ found. ReadRecord R.remaining records.old records.new found (fields_of fields.new)) }
+    ensures reads { IfOk result (λ found.
+        ReadRecord R.remaining records.old records.new found (fields_of fields.new)) }
     ensures reading { OnOk result (IsReading records.new) }
     ensures failed { OnErr result (has_failed records.new ≡ true) }
-    ensures fault { IfErr result (λ cause. (cause ≡ TableFault.Read) ⊎ (cause ≡ TableFault.Memory)) }
+    ensures fault { IfErr result
+        (λ cause. (cause ≡ TableFault.Read) ⊎ (cause ≡ TableFault.Memory)) }
 {
     match records.read_byte_record(fields) {
         Ok(found) => Ok(found),
@@ -221,7 +223,8 @@ fn coordinate_at(number: u32, field: u8, fields: &ByteRecord) -> Judged<i32>
 #[inline(never)]
 fn sixth_field(number: u32, fields: &ByteRecord) -> Judged<u8>
     requires { FIELDS_WITH_LAYER ≤ length (fields_of fields.now) }
-    ensures value { result ≡ map_value unsigned_abs (number_at number 6 (pos 0) (pos most_layer) (fields_of fields.now)) }
+    ensures value { result ≡ map_value unsigned_abs
+        (number_at number 6 (pos 0) (pos most_layer) (fields_of fields.now)) }
     ensures within { IfOk result (λ layer. layer ≤ most_layer) }
 {
     let layer = number_at(number, 6, 0, i64::from(Layers::MOST), fields)?;

@@ -3,8 +3,9 @@
 //! So a search that looks at no layers reads none, and an entry takes no more room than its id, its box and one byte.
 
 ghost use Rattle.std.specs.Prelude.{◌≡◌, ◌==◌, ◌-◌, ◌<◌, ◌++◌, ◌∷◌, [], OnErr, OnOk, Some, get_or, length, map};
-ghost use Rattle.std.specs.Prelude.{slice_get, take};
-ghost use Rattle.rt_tree.specs.Leaves.{without_layer};
+ghost use Rattle.std.specs.Prelude.{List, slice_get, take};
+ghost use Rattle.rt_geo.specs.declared.entry.Entry.{Entry};
+ghost use Rattle.rt_tree.specs.Leaves.{entries_of, without_layer};
 
 use rt_geo::{Bounds, Entry};
 use std::alloc::{AllocError, Global};
@@ -27,10 +28,6 @@ pub struct Entries {
 }
 
 impl Model for Entries {
-    ghost use Rattle.std.specs.Prelude.{◌≡◌, List, length};
-    ghost use Rattle.rt_geo.specs.declared.entry.Entry.{Entry};
-    ghost use Rattle.rt_tree.specs.Leaves.{entries_of};
-
     ghost Value = { List Entry };
 
     ghost view = { λ l. entries_of l.entries.items l.layers.items };

@@ -1,7 +1,7 @@
 //! The sizes of the levels of a packed tree, computed without the tree.
 
 ghost use Rattle.std.specs.Int.{div_ceil};
-ghost use Rattle.std.specs.Prelude.{◌≡◌, ◌<◌, ◌≤◌, ◌+◌, ◌++◌, ◌∷◌, ◌↔◌, ℕ, [], length, slice_get, Some};
+ghost use Rattle.std.specs.Prelude.{◌≡◌, ◌<◌, ◌≤◌, ◌+◌, ◌++◌, ◌∷◌, ◌↔◌, ℕ, [], List, length, slice_get, take, Some};
 ghost use Rattle.rt_tree.specs.{Entries.{most_entries}, Levels.{level_sizes}};
 
 use std::marker::Model;
@@ -18,8 +18,6 @@ pub struct Levels {
 }
 
 impl Model for Levels {
-    ghost use Rattle.std.specs.Prelude.{List, ℕ, ◌≤◌, take};
-
     ghost Value = { List ℕ };
 
     ghost view = { λ l. take l.count l.sizes };

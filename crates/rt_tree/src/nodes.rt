@@ -2,8 +2,8 @@
 //!
 //! So a search that looks at no layers reads none, and more of the nodes that it asks about are in the cache.
 
-ghost use Rattle.std.specs.Prelude.{◌≡◌, ◌<◌, ◌++◌, ◌∷◌, [], IfOk, OnOk, Some, length, map, slice_get};
-ghost use Rattle.rt_tree.specs.PlainNodes.{without_layers};
+ghost use Rattle.std.specs.Prelude.{◌≡◌, ◌<◌, ◌++◌, ◌∷◌, [], IfOk, List, OnOk, Some, length, map, slice_get};
+ghost use Rattle.rt_tree.specs.{PlainNodes.{nodes_of, without_layers}, declared.tree.Node.{Node}};
 
 use crate::tree::Node;
 use rt_geo::{Bounds, Layers};
@@ -33,9 +33,6 @@ pub(crate) struct Nodes {
 }
 
 impl Model for Nodes {
-    ghost use Rattle.std.specs.Prelude.{◌≡◌, List, length};
-    ghost use Rattle.rt_tree.specs.{PlainNodes.{nodes_of}, declared.tree.Node.{Node}};
-
     ghost Value = { List Node };
 
     ghost view = { λ n. nodes_of n.nodes.items n.layers.items };

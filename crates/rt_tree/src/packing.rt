@@ -194,14 +194,15 @@ pub(crate) fn pack_level<T: Items>(
     level: u8,
     packed: &mut T,
 ) -> Result<Nodes, AllocError>
-    requires packable { ArePackable (box_of T.extent) T.has_layers T.size (T.key_order (T.list items.now))
-        (T.in_order (T.list items.now)) (T.list items.now) }
+    requires packable { ArePackable (box_of T.extent) T.has_layers T.size
+        (T.key_order (T.list items.now)) (T.in_order (T.list items.now)) (T.list items.now) }
     requires several { 2 ≤ fanout }
     requires most { fanout ≤ 64 }
     requires room { length (T.list packed.old) + length (T.list items.now) < 2 ^ 32 }
-    ensures packed { OnOk result (T.list packed.new
-        ≡ T.list packed.old ++ joined (groups (box_of T.extent) fanout (T.in_order (T.list items.now)))) }
-    ensures nodes { IfOk result (λ nodes. nodes ≡ nodes_over T.extent T.size level (length (T.list packed.old))
+    ensures packed { OnOk result (T.list packed.new ≡ T.list packed.old
+        ++ joined (groups (box_of T.extent) fanout (T.in_order (T.list items.now)))) }
+    ensures nodes { IfOk result (λ nodes. nodes
+        ≡ nodes_over T.extent T.size level (length (T.list packed.old))
         (groups (box_of T.extent) fanout (T.in_order (T.list items.now)))) }
 {
     let mut keys = keys_of(alloc, items)?;
@@ -215,11 +216,13 @@ pub(crate) fn pack_level<T: Items>(
 
 // Puts the keys by x of items in the order of their tiles.
 fn arrange<T: Items>(keys: &mut [u64], items: &T, fanout: u8)
-    requires packable { ArePackable (box_of T.extent) T.has_layers T.size (T.key_order (T.list items.now))
-        (T.in_order (T.list items.now)) (T.list items.now) }
+    requires packable { ArePackable (box_of T.extent) T.has_layers T.size
+        (T.key_order (T.list items.now)) (T.in_order (T.list items.now)) (T.list items.now) }
     requires several { 2 ≤ fanout }
-    requires keys { keys.old ≡ map (key_of (box_of T.extent) twice_middle_x) (enumerate_from 0 (T.list items.now)) }
-    ensures told { told (T.list items.now) keys.new ≡ joined (groups (box_of T.extent) fanout (T.in_order (T.list items.now))) }
+    requires keys { keys.old
+        ≡ map (key_of (box_of T.extent) twice_middle_x) (enumerate_from 0 (T.list items.now)) }
+    ensures told { told (T.list items.now) keys.new
+        ≡ joined (groups (box_of T.extent) fanout (T.in_order (T.list items.now))) }
     ensures places { All (λ key. place_of key < length (T.list items.now)) keys.new }
 {
     items.sort_keys(keys);
@@ -255,8 +258,8 @@ fn sort_slices<T: Items>(keys: &mut [u64], items: &T, size: usize)
     requires some { 0 < size }
     requires few { length (T.list items.now) ≤ most_entries }
     requires places { All (λ key. place_of key < length (T.list items.now)) keys.old }
-    ensures { keys.new ≡ flat_map (by_y (T.key_order (T.list items.now)) (box_of T.extent) (T.list items.now))
-        (chunks size keys.old) }
+    ensures { keys.new ≡ flat_map (by_y (T.key_order (T.list items.now)) (box_of T.extent)
+        (T.list items.now)) (chunks size keys.old) }
 {
     let mut start = 0;
     while start < keys.len() {
@@ -270,7 +273,8 @@ fn sort_slices<T: Items>(keys: &mut [u64], items: &T, size: usize)
 fn sort_by_y<T: Items>(keys: &mut [u64], items: &T)
     requires few { length (T.list items.now) ≤ most_entries }
     requires places { All (λ key. place_of key < length (T.list items.now)) keys.old }
-    ensures { keys.new ≡ by_y (T.key_order (T.list items.now)) (box_of T.extent) (T.list items.now) keys.old }
+    ensures { keys.new
+        ≡ by_y (T.key_order (T.list items.now)) (box_of T.extent) (T.list items.now) keys.old }
 {
     for key in keys.iter_mut() {
         let place = place_of(*key);
@@ -293,9 +297,10 @@ fn pack_tile<T: Items>(
     requires layers { All T.has_layers (T.list items.now) }
     requires weight { sum_by T.size (told (T.list items.now) tile.now) < 2 ^ 32 }
     requires room { length (T.list packed.old) < 2 ^ 32 }
-    ensures packed { OnOk result (T.list packed.new ≡ T.list packed.old ++ told (T.list items.now) tile.now) }
-    ensures node { IfOk result (λ node. node ≡ node_over T.extent T.size level (length (T.list packed.old))
-        (told (T.list items.now) tile.now)) }
+    ensures packed { OnOk result
+        (T.list packed.new ≡ T.list packed.old ++ told (T.list items.now) tile.now) }
+    ensures node { IfOk result (λ node. node ≡ node_over T.extent T.size level
+        (length (T.list packed.old)) (told (T.list items.now) tile.now)) }
 {
     // (it begins with the first child's box, as there is none around nothing; the hull with that child leaves it so)
     let mut node = Node {

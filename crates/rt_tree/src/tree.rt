@@ -78,8 +78,10 @@ impl Model for Tree {
 
     ghost view = { λ t. record { fanout = t.fanout; entries = t.leaves; nodes = t.nodes } };
 
-    ghost invariant = { λ t. let tree : Packed = record { fanout = t.fanout; entries = t.leaves; nodes = t.nodes } in
-        IsSound tree × (tree ≡ pack_of t.fanout t.leaves) × (t.levels ≡ level_sizes (length t.leaves) t.fanout) };
+    ghost invariant = { λ t.
+        let tree : Packed = record { fanout = t.fanout; entries = t.leaves; nodes = t.nodes } in
+        IsSound tree × (tree ≡ pack_of t.fanout t.leaves)
+        × (t.levels ≡ level_sizes (length t.leaves) t.fanout) };
 }
 
 impl Tree {
@@ -125,7 +127,8 @@ impl Tree {
     /// The level of the root; 0 where there is none.
     pub fn top(&self) -> u8
         ensures root { result ≡ (root_of self.now).level }
-        ensures levels { result + 1 ≡ length (level_sizes (length self.now.entries) self.now.fanout) }
+        ensures levels { result + 1
+            ≡ length (level_sizes (length self.now.entries) self.now.fanout) }
         ensures few { result ≤ 24 }
     {
         self.levels.count() - 1
@@ -134,13 +137,14 @@ impl Tree {
     /// How many entries (level 0) or nodes there are on a level, which is at most the top one.
     pub fn level_len(&self, level: u8) -> u32
         requires { level < length (level_sizes (length self.now.entries) self.now.fanout) }
-        ensures value { slice_get (level_sizes (length self.now.entries) self.now.fanout) level ≡ Some result }
+        ensures value { slice_get (level_sizes (length self.now.entries) self.now.fanout) level
+            ≡ Some result }
 
         // Level by level: each size is the one below it divided by the fanout, rounded up. Above the entries the root's
         // is 1, and no other.
         ensures entries { level ≡ 0 → result ≡ length self.now.entries }
-        ensures above { (below : ℕ) → 0 < level
-            → slice_get (level_sizes (length self.now.entries) self.now.fanout) (level - 1) ≡ Some below
+        ensures above { (below : ℕ) → 0 < level → slice_get
+            (level_sizes (length self.now.entries) self.now.fanout) (level - 1) ≡ Some below
             → result ≡ div_ceil below self.now.fanout }
         ensures root { 0 < level → (result ≡ 1) ↔ (level ≡ (root_of self.now).level) }
     {
@@ -202,7 +206,8 @@ impl Tree {
     #[inline(always)]
     pub fn layers_at(&self, place: u32) -> Layers
         requires { place < length self.now.entries }
-        ensures { IfSome (slice_get self.now.entries place) (λ entry. result ≡ (extent_of_entry entry).layers) }
+        ensures { IfSome (slice_get self.now.entries place)
+            (λ entry. result ≡ (extent_of_entry entry).layers) }
     {
         Layers::of(self.leaves.layer(place as usize))
     }
