@@ -71,9 +71,10 @@ def found(pattern: str, text: str, flags: int = 0) -> re.Match[str]:
 
 
 def send(number: int, processes: Iterable[int]) -> None:
-    """Sends a signal to some processes."""
+    """Sends a signal to those of some processes that haven't ended."""
     for process in processes:
-        os.kill(process, number)
+        with contextlib.suppress(ProcessLookupError):
+            os.kill(process, number)
 
 
 def put_library(folder: Path) -> None:

@@ -160,7 +160,10 @@ class Pipeline:
 
     async def _end(self) -> None:
         """Tells those who wait that the other side has ended."""
-        self.fail(await asyncio.to_thread(self.transport._ended))
+        try:
+            self.fail(await asyncio.to_thread(self.transport._ended))
+        except ValueError as closed:  # meanwhile
+            self.fail(closed)
 
     def fail(self, error: BaseException) -> None:
         """Raises an error in each call that waits, and in each that comes."""

@@ -14,11 +14,12 @@ from collections.abc import Iterator
 from functools import partial
 from pathlib import Path
 from typing import Any
+from unittest.mock import patch
 
 from serving import Service
 from support import BOXES, PROGRAM, anything, children_of, open_files, some_lines, some_rows, told_by_program, written
 
-from rtfilter import All, Circle, Disconnected, Ended, Near, QueryError, Rtfilter, TimedOut, Window, WrongProcess, aio
+from rtfilter import All, Circle, Disconnected, Ended, Near, QueryError, Rtfilter, RtfilterError, TimedOut, Window, WrongProcess, aio
 
 SLEEPING = ["sh", "-c", "exec sleep 60"]
 
@@ -203,6 +204,28 @@ class Lives(Case):
         for ask in anything(lambda: boxes.count(All()), boxes.reload):
             with self.assertRaises(ValueError):
                 await ask()
+
+    async def test_a_close_before_its_end_is_told(self) -> None:
+        """Nothing is raised that nobody awaits."""
+        raised: list[dict[str, Any]] = []
+        asyncio.get_running_loop().set_exception_handler(lambda _, context: raised.append(context))
+        boxes = await aio.Rtfilter(BOXES, program=PROGRAM).__aenter__()
+        transport = boxes._current().transport
+        ended = transport._ended
+
+        def ended_late() -> RtfilterError:
+            while not transport.is_closed:
+                time.sleep(0.01)
+            return ended()
+
+        with patch.object(transport, "_ended", ended_late):
+            os.kill(self.program(), signal.SIGKILL)
+            await asyncio.sleep(0.1)
+            await boxes.close()
+            await asyncio.sleep(0.1)
+        del boxes
+        gc.collect()
+        self.assertEqual(raised, [])
 
     async def test_reloads_while_it_is_asked(self) -> None:
         """Each call is answered by one table."""

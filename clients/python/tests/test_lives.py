@@ -589,7 +589,8 @@ class Deadlines(Case):
         with self.assertRaises(TimedOut) as raised:
             yield
         self.assertEqual(raised.exception.seconds, self.SECONDS)
-        self.assertLess(abs(time.monotonic() - begun - self.SECONDS), 0.1)
+        late = time.monotonic() - begun - self.SECONDS
+        self.assertTrue(-0.1 < late < 0.3, f"{late} s late")  # less than a second wait takes, on a busy machine too
 
     def test_while_another_thread_asks(self) -> None:
         """The wait for its end counts, and ends nothing: what is under way goes on."""
