@@ -19,7 +19,7 @@ from unittest.mock import patch
 from serving import Service
 from support import BOXES, PROGRAM, anything, children_of, open_files, some_lines, some_rows, told_by_program, written
 
-from rtfilter import All, Circle, Disconnected, Ended, Near, QueryError, Rtfilter, RtfilterError, TimedOut, Window, WrongProcess, aio
+from rtfilter import All, Circle, Disconnected, Ended, Near, QueryError, Rtfilter, TimedOut, Window, WrongProcess, aio
 
 SLEEPING = ["sh", "-c", "exec sleep 60"]
 
@@ -213,7 +213,7 @@ class Lives(Case):
         transport = boxes._current().transport
         ended = transport._ended
 
-        def ended_late() -> RtfilterError:
+        def ended_late() -> Exception:
             while not transport.is_closed:
                 time.sleep(0.01)
             return ended()

@@ -8,8 +8,8 @@ use std::marker::Model;
 
 /// A borrowed geometry with the number of its checks: the only way in which a search asks a geometry.
 ///
-/// It can't be cloned, and no call hands the geometry out, so that the number counts all the checks
-/// that were made through it.
+/// It can't be cloned, no call hands the geometry out, and what it was moved out of has no room for a check, so that
+/// the number counts all the checks that were made through it.
 pub struct Counted<'a, G: Geometry> {
     geometry: &'a G,
     asked: u64,
@@ -51,6 +51,19 @@ impl<'a, G: Geometry> Counted<'a, G> {
     {
         self.asked += 1;
         self.geometry.check(info)
+    }
+
+    /// Moves it out. What is left has no room for a check, until it is assigned again.
+    pub fn take(&mut self) -> Counted<'a, G>
+        ensures geometry { result.geometry ≡ self.old.geometry }
+        ensures asked { result.asked ≡ self.old.asked }
+        ensures left { self.new.geometry ≡ self.old.geometry }
+        ensures no_room { self.new.asked ≡ 2 ^ 64 - 1 }
+    {
+        let asked = self.asked;
+        self.asked = u64::MAX;
+        let geometry = self.geometry;
+        Counted { geometry, asked }
     }
 
     /// How many checks were made.

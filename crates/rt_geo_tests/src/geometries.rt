@@ -249,6 +249,13 @@ fn a_counted_geometry_tells_its_checks(rt: HostRuntime) {
     let verdict = counted.check(&question(square, 0));
     expect_eq(&rt, verdict, want);
     expect_eq(&rt, counted.asked(), 1);
+
+    let mut own = counted.take();
+    expect_eq(&rt, counted.asked(), u64::MAX);
+    let verdict = own.check(&question(square, 0));
+    expect_eq(&rt, verdict, want);
+    counted = own;
+    expect_eq(&rt, counted.asked(), 2);
 }
 
 #[test]

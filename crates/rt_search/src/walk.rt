@@ -146,7 +146,10 @@ fn walk_under<V: Visitor, G: Geometry>(
     let node = tree.node(number);
     *opened += 1;
     if node.level == 1 {
-        visitor.visit_entries(tree, counted, node, parent);
+        // (in a local of its own, whose number of checks stays in a register)
+        let mut own = counted.take();
+        visitor.visit_entries(tree, &mut own, node, parent);
+        *counted = own;
         return;
     }
     let first = node.first;
