@@ -132,14 +132,12 @@ class Rtfilter(Boxes):
         if "\n" in line:
             raise ValueError(LINE_FEED.format(line))
         text = f"{line}\n".encode("utf-8", "surrogateescape")
-        if self._timeout is not None:
-            deadline = Deadline(self._timeout)
-            return answers_of(self._turns.take(partial(self._reply_to, text, deadline), deadline), line)
-        # What `Turns.take` does, written out, since a question is mostly asked by itself and without a timeout.
         turns = self._turns
+        if self._timeout is not None or turns.taker is not None:
+            deadline = self._deadline()
+            return answers_of(turns.take(partial(self._reply_to, text, deadline), deadline), line)
+        # What `Turns.take` does, written out, since a question is mostly asked by itself and without a timeout.
         with turns.lock:
-            if turns.taker is not None:
-                turns.refuse()
             turns.taker = get_ident()
             try:
                 reply = self._open(ENDLESS).reply_to(text, ENDLESS)

@@ -1,17 +1,19 @@
 """Until when a call waits, whatever it waits for, and whose turn it is."""
 
 import math
+import os
 import threading
 from collections.abc import Callable
 from threading import get_ident
 from time import monotonic
 from typing import NoReturn, TypeVar
 
-from .errors import TimedOut
+from .errors import TimedOut, WrongProcess
 
 Given = TypeVar("Given")
 
 LONGEST_WAIT = 86_400.0  # seconds: the system takes no more than 24 days at once
+LOOK = 0.05  # seconds between two looks whether whose turn it is can still end it
 
 
 class Deadline:
@@ -88,18 +90,11 @@ class Turns:
         me = get_ident()
         if self.taker == me:
             self.refuse()
-        if deadline.is_endless:
-            with self.lock:
-                self.taker = me
-                try:
-                    return ask()
-                finally:
-                    self.taker = None
         is_over = False  # as `surely_ended` does, written out: it takes a twentieth of a question's time
         try:
             try:
-                if not (self.lock.acquire(blocking=False) or self.lock.acquire(timeout=deadline.left())):
-                    raise deadline.error()
+                if not self.lock.acquire(blocking=False):
+                    self._wait(deadline)
                 self.taker = me
                 try:
                     return ask()
@@ -112,6 +107,15 @@ class Turns:
             if not is_over:
                 self._release()
             raise
+
+    def _wait(self, deadline: Deadline) -> None:
+        """Takes the lock. In a child of a fork, as by the handler of a signal, the thread that holds it isn't there."""
+        process = os.getpid()
+        while not self.lock.acquire(timeout=min(LOOK, deadline.left())):
+            if os.getpid() != process:
+                raise WrongProcess(process)
+            if deadline.is_over:
+                raise deadline.error()
 
     def _release(self) -> None:
         try:

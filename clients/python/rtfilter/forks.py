@@ -4,6 +4,7 @@ import contextlib
 import os
 import threading
 import weakref
+from collections.abc import Callable
 from typing import NoReturn
 
 from .errors import WrongProcess
@@ -31,6 +32,19 @@ class Owned:
 
     def __reduce__(self) -> NoReturn:
         raise TypeError(f"a {type(self).__name__} belongs to the process that made it, and can't be pickled")
+
+
+class Waiting(Owned):
+    """A call that waits for other threads, which aren't there in a child of a fork, as by the handler of a signal: there it is
+    woken."""
+
+    def __init__(self, wake: Callable[[], object]) -> None:
+        super().__init__()
+        self._wake = wake
+
+    def _leave_to_parent(self) -> None:
+        super()._leave_to_parent()
+        self._wake()
 
 
 _owned: "weakref.WeakSet[Owned]" = weakref.WeakSet()

@@ -16,6 +16,7 @@ from .boxes import Boxes
 from .client import Command, Rtfilter, checked_timeout, command, program_of, query_lines
 from .deadlines import ENDLESS, Deadline, Turns, surely_ended
 from .errors import Disconnected, Ended
+from .forks import Owned
 from .prefork import library_of
 from .program import GRACE
 from .replies import Reply
@@ -36,7 +37,7 @@ Mend = Callable[[Rtfilter], None]
 """Has a client whose program has ended answer again, from the same table. Raises where that can't be."""
 
 
-class Copies:
+class Copies(Owned):
     """Clients that hold the same table. Who asks takes the one that was asked last of those that are free, which has its
     table at hand, or waits for one.
 
@@ -49,6 +50,7 @@ class Copies:
 
     def __init__(self, clients: list[Rtfilter], mend: Mend, end: Callable[[Deadline], None] = lambda _: None) -> None:
         """`end` is called once all clients are closed."""
+        super().__init__()
         self.clients = clients
         self.size = clients[0]._transport.size
         self._mend = mend
@@ -87,6 +89,7 @@ class Copies:
             else:
                 self._wake()
                 return taken[0]
+        self._check_process()
         return self.clients[0]  # which tells how it has ended
 
     def _give_back(self, taken: list[Rtfilter]) -> None:
@@ -104,6 +107,12 @@ class Copies:
         if self._changed.locked() and (self._free or self._are_over):
             with contextlib.suppress(RuntimeError):  # where another thread was quicker
                 self._changed.release()
+
+    def _leave_to_parent(self) -> None:
+        """The calls of other threads give nothing back there."""
+        super()._leave_to_parent()
+        self._is_closed = True
+        self._wake()
 
     def _try_to_mend(self) -> None:
         try:
@@ -306,6 +315,7 @@ class Pool(Boxes):
             if not self._is_closed:
                 self._copies, copies, self._file = copies, self._copies, file
         while any(asked is copies for _, asked in list(self._calls.values())):
+            self._check_process()
             if self._is_closed:
                 break
             if deadline.is_over:  # the last call drops them, and so ends them

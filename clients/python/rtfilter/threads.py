@@ -6,6 +6,7 @@ from queue import SimpleQueue
 from typing import TypeVar
 
 from .deadlines import surely_ended
+from .forks import Waiting
 
 Part = TypeVar("Part")
 Given = TypeVar("Given")
@@ -13,7 +14,7 @@ Given = TypeVar("Given")
 
 def in_threads(n: int, do: Callable[[Part], Given], parts: Iterable[Part]) -> list[Given]:
     """What is given for each part, of which up to n are done at once: by this thread, and by others that end with their work.
-    Raises what one of them raises.
+    Raises what one of them raises, and `WrongProcess` in a child of a fork in the middle of it.
 
     Where that is so, or the handler of a signal raises, the parts that aren't begun never are, and the others end by
     themselves. Threads are started, and queues used, by one call of C each: what `threading` and `concurrent.futures` have
@@ -52,6 +53,7 @@ def in_threads(n: int, do: Callable[[Part], Given], parts: Iterable[Part]) -> li
             ended.get()
             if errors:
                 raise errors.pop()
+        here._check_process()
         return [given[number] for number in range(1, count + 1)]
 
     def end() -> None:
@@ -59,4 +61,10 @@ def in_threads(n: int, do: Callable[[Part], Given], parts: Iterable[Part]) -> li
         is_over = True
         waiting.put(None)
 
+    def wake() -> None:
+        waiting.put(None)
+        for _ in range(n):
+            ended.put(None)
+
+    here = Waiting(wake)
     return surely_ended(work_together, end)
