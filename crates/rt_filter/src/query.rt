@@ -124,6 +124,7 @@ fn push_in_shape<S: Shape + Drop, K: Sink>(
 
 // Pushes a line for each answer of one geometry, and then their number. Where all are wanted, or more than a few and each
 // node scores 0, as in the orders by id and by area, all are found first.
+#[tactic(auto, using(crate::proofs::PushLemmas::as_failed))]
 fn find<G: Geometry + Drop, K: Sink>(
     tree: &Tree,
     frontier: Frontier,
@@ -144,16 +145,22 @@ fn find<G: Geometry + Drop, K: Sink>(
     let _ = tree.len();
     let counted = Counted::new(&geometry);
     match limit {
-        None => push_search(FullSearch::start(tree, frontier, counted), line, sink),
+        None => {
+            let search = FullSearch::start(tree, frontier, counted);
+            Ok(push_search(search, line, sink)?.finish().0)
+        }
         Some(most) if is_unscored && FEW < most => {
             let search = FullSearch::start(tree, frontier, counted).first(most);
-            push_search(search, line, sink)
+            Ok(push_search(search, line, sink)?.finish().0)
         }
         Some(_) if is_unscored => {
             let search = Search::start_unscored(tree, frontier, counted, limit);
-            push_search(search, line, sink)
+            Ok(push_search(search, line, sink)?.finish().0)
         }
-        Some(_) => push_search(Search::start(tree, frontier, counted, limit), line, sink),
+        Some(_) => {
+            let search = Search::start(tree, frontier, counted, limit);
+            Ok(push_search(search, line, sink)?.finish().0)
+        }
     }
 }
 

@@ -5,7 +5,7 @@ ghost use Rattle.rt_filter.specs.{Pushes.{Coming, Pushed}, Replies.{find_reply}}
 
 use rt_device::{Sink, WriteFault};
 use rt_geo::Geometry;
-use rt_search::{FirstAnswers, Frontier, FullSearch, Search};
+use rt_search::{FirstAnswers, FullSearch, Search};
 use rt_text::{Line, set_answer_line, set_ok_line};
 
 /// Pushes a line until all of it is taken, each time on from where the sink stopped. It isn't flushed.
@@ -24,17 +24,17 @@ pub(crate) fn push_line<K: Sink>(text: &Line, sink: &mut K) -> Result<(), WriteF
     Ok(())
 }
 
-/// Pushes a line for each answer that a search is still to give, and then their number.
+/// Pushes a line for each answer that a search is still to give, and then their number. Returns the search, which is over.
 pub(crate) fn push_search<A: AnswerStream + Drop, K: Sink>(
     search: A,
     line: u128,
     sink: &mut K,
-) -> Result<Frontier, WriteFault>
+) -> Result<A, WriteFault>
     requires few { length (A.seen search).answers < 2 ^ 32 }
     requires count { K.failed sink.old < 2 ^ 64 - 1 }
     ensures pushed { Pushed K.written K.failed sink.old sink.new result
         (find_reply line (A.seen search).answers) }
-    ensures capacity { IfOk result (λ left. left.capacity ≡ (A.seen search).capacity) }
+    ensures capacity { IfOk result (λ left. (A.seen left).capacity ≡ (A.seen search).capacity) }
 {
     let mut search = search;
     let mut text = Line::new(b"");
@@ -46,7 +46,7 @@ pub(crate) fn push_search<A: AnswerStream + Drop, K: Sink>(
     }
     set_ok_line(&mut text, line, found);
     push_line(&text, sink)?;
-    Ok(search.into_frontier())
+    Ok(search)
 }
 
 /// A search that gives its answers one at a time.
@@ -58,9 +58,6 @@ pub(crate) trait AnswerStream {
         ensures answer { MatchOption result ((seen self.old).answers ≡ [])
             (λ a. (seen self.old).answers ≡ a ∷ (seen self.new).answers) }
         ensures capacity { (seen self.new).capacity ≡ (seen self.old).capacity };
-
-    fn into_frontier(self) -> Frontier
-        ensures { result.capacity ≡ (seen self).capacity };
 }
 
 impl<'a, G: Geometry> AnswerStream for Search<'a, G> {
@@ -68,10 +65,6 @@ impl<'a, G: Geometry> AnswerStream for Search<'a, G> {
 
     fn next_answer(&mut self) -> Option<(i64, u128)> {
         self.next()
-    }
-
-    fn into_frontier(self) -> Frontier {
-        self.finish().0
     }
 }
 
@@ -81,10 +74,6 @@ impl<'a, G: Geometry> AnswerStream for FullSearch<'a, G> {
     fn next_answer(&mut self) -> Option<(i64, u128)> {
         self.next()
     }
-
-    fn into_frontier(self) -> Frontier {
-        self.finish().0
-    }
 }
 
 impl<'a, G: Geometry> AnswerStream for FirstAnswers<'a, G> {
@@ -92,9 +81,5 @@ impl<'a, G: Geometry> AnswerStream for FirstAnswers<'a, G> {
 
     fn next_answer(&mut self) -> Option<(i64, u128)> {
         self.next()
-    }
-
-    fn into_frontier(self) -> Frontier {
-        self.finish().0
     }
 }

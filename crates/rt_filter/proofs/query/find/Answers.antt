@@ -9,7 +9,7 @@ pub push_search-requires-in-Some-clause-few : goal.push_search-requires-in-Some-
 push_search-requires-in-Some-clause-few g c =
     few_answers c.args.tree.now.entries (g.G.Geometry.meaning c.new-counted.result.geometry) (Some c.in-Some.most)
     c.first-search.result.to_come c.len.result _
-    (c.first-search.ensures.to_come ∙ ap (take c.in-Some.most) c.start-in-Some.ensures.to_come)
+    (c.first-search.ensures.to_come ∙ ap (take c.in-Some.most) c.start.ensures.to_come)
     c.len.ensures.value c.len.type_inv
 
 pub push_search-requires-in-Some-2-clause-few : goal.push_search-requires-in-Some-2-clause-few
