@@ -1,5 +1,5 @@
 -- What has to wait where a limit is known. Nothing that a public call promises speaks of this.
-use Rattle.std.specs.Prelude.{◌≡◌, ◌-◌, ◌≤◌, ℕ, zero, suc, Option, Some, None, List, [], ◌∷◌}
+use Rattle.std.specs.Prelude.{◌≡◌, ◌-◌, ◌<◌, ◌≤◌, ◌^◌, ℕ, zero, suc, Option, Some, None, List, [], ◌∷◌}
 use Rattle.std.specs.Prelude.{IfSome, drop, length, take, vec_capacity}
 use Rattle.std.specs.List.{AllByRecursion}
 use Rattle.std.specs.declared.cmp.Reverse.{Reverse}
@@ -81,9 +81,12 @@ IsClimbing (k ∷ ks) = AllByRecursion (λ j. k.0 ≤ j.0) ks × IsClimbing ks
 abbrev pub but_last : List (Reverse ℕ) → List (Reverse ℕ)
 but_last ks = take (length ks - 1) ks
 
--- those that weren't taken out climb, and all are no more than were wanted, of which there are few
-pub record IsChosen {A : Type 0} (keys : Vec (Reverse ℕ) A) (taken limit : ℕ) : Type 0 where
+-- those that weren't taken out climb, and all are no more than were wanted, of which there are few; none is above the
+-- bound, which bounds nothing while more are wanted
+pub record IsChosen {A : Type 0} (keys : Vec (Reverse ℕ) A) (taken bound limit : ℕ) : Type 0 where
   pub climbing : IsClimbing (drop taken keys.items)
+  pub bounded : AllByRecursion (λ k. k.0 ≤ bound) (drop taken keys.items)
+  pub unbounded : length keys.items < limit → bound ≡ 2 ^ 128 - 1
   pub past : taken ≤ length keys.items
   pub few : length keys.items ≤ limit
   pub low : limit ≤ 128
@@ -96,9 +99,9 @@ waiting_keys None taken keys pooled = pooled
 waiting_keys (Some limit) taken keys pooled = drop taken keys
 
 -- there is room for as many as can be wanted, and in the pool for so many, and what is kept fits
-pub record HasEntries {A : Type 0} (keys : Vec (Reverse ℕ) A) (taken : ℕ) (limit : Option ℕ) (pool : Pooled)
-    (capacity : ℕ) : Type 0 where
-  pub chosen : IfSome limit (IsChosen keys taken)
+pub record HasEntries {A : Type 0} (keys : Vec (Reverse ℕ) A) (taken bound : ℕ) (limit : Option ℕ)
+    (pool : Pooled) (capacity : ℕ) : Type 0 where
+  pub chosen : IfSome limit (IsChosen keys taken bound)
   pub room : 128 ≤ vec_capacity keys
   pub pool_room : pool.capacity ≡ capacity
   pub few : length (waiting_keys limit taken keys.items (keys_in pool)) ≤ capacity
