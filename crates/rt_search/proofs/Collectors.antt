@@ -1,7 +1,7 @@
 -- What a collector becomes with answers.
 use Rattle.std.proofs.{Common.{◌≡◌, ◌+◌, ◌∷◌, [], ℕ, List, length, map, ap, arith, rules}, lemmas.List.{length-map}}
 use Rattle.rt_tree.specs.Sorting.{put}
-use Rattle.rt_search.specs.{Answers.{Answer}, Items.{Limited, Waiting, item_cmp, item_of}, Joining.{KeepsHit}}
+use Rattle.rt_search.specs.{Answers.{Answer}, Items.{Gathered, Limited, item_cmp, item_of}, Joining.{KeepsHit}}
 use Rattle.rt_search.specs.{Joining.{join_answers}, Limits.{IsPut, KeepsEnough}, Walking.{HasTaken}}
 use Rattle.rt_search.specs.declared.{counting.Tally.{Tally}, item.Item.{Item}}
 use Rattle.rt_search.proofs.{Limits.{enough_itself, enough_put_all, enough_trans}, OrderedLists.{length-put_all}}
@@ -21,7 +21,7 @@ tally_counted old new (x ∷ xs) h = grind (arith, tally_counted (record { 0 = o
 
 -- ---- the hits, and what waits: the entries of the answers join
 
-pub hits_join : (old new : Waiting) (xs : List Answer) → HasTaken KeepsHit old xs new
+pub hits_join : (old new : Gathered) (xs : List Answer) → HasTaken KeepsHit old xs new
     → (new.items ≡ join_answers xs old.items) × (new.capacity ≡ old.capacity)
 hits_join old new [] h = (ap (λ w. w.items) h, ap (λ w. w.capacity) h)
 hits_join old new (a ∷ xs) h = search (rules, put_all-put, item_order, hits_join h.0 new xs h.1.1)

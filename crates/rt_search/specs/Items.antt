@@ -1,5 +1,5 @@
 -- What waits in a queue, and in which order it is taken out. Public calls speak of `SearchRoom` alone.
-use Rattle.std.specs.Prelude.{ℕ, Option, List}
+use Rattle.std.specs.Prelude.{Bool, ℕ, Option, List}
 use Rattle.std.specs.Ordering.{bool_cmp, int_cmp, nat_cmp, on, then_cmp}
 use Rattle.std.specs.declared.cmp.Ordering.{Ordering}
 use Rattle.std.specs.declared.cmp.Ordering.TheVariants.{Less, Greater}
@@ -47,4 +47,10 @@ pub record Limited : Type 0 where
 -- a part of it, which keeps all
 pub record Waiting : Type 0 where
   pub items : List Item
+  pub capacity : ℕ
+
+-- what was found, and whether it is in order already, so that nothing more may join
+pub record Gathered : Type 0 where
+  pub items : List Item
+  pub is_sorted : Bool
   pub capacity : ℕ

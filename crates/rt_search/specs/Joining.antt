@@ -9,7 +9,7 @@ use Rattle.rt_tree.specs.Packed.{Packed, no_box, node_at, root_of}
 use Rattle.rt_tree.specs.Sorting.{put}
 use Rattle.rt_tree.specs.declared.tree.Node.{Node}
 use Rattle.rt_search.specs.Answers.{Answer}
-use Rattle.rt_search.specs.Items.{Waiting, item_at, item_cmp, item_of}
+use Rattle.rt_search.specs.Items.{Gathered, item_at, item_cmp, item_of}
 use Rattle.rt_search.specs.Remaining.{put_all, waiting_node}
 use Rattle.rt_search.specs.Work.{info_of_node, info_under, is_kept}
 use Rattle.rt_search.specs.declared.item.Item.{Item}
@@ -25,8 +25,9 @@ abbrev pub join_answers : List Answer → List Item → List Item
 join_answers answers items = put_all item_cmp (map item_of answers) items
 
 -- the entry of an answer joined the hits
-pub record KeepsHit (old : Waiting) (a : Answer) (new : Waiting) : Type 0 where
+pub record KeepsHit (old : Gathered) (a : Answer) (new : Gathered) : Type 0 where
   pub items : new.items ≡ put item_cmp (item_of a) old.items
+  pub sorted : new.is_sorted ≡ old.is_sorted
   pub capacity : new.capacity ≡ old.capacity
 
 -- a node joins, unless it is NOT

@@ -1,5 +1,5 @@
 -- What takes answers fills at most a place with each.
-use Rattle.std.proofs.Common.{◌≡◌, ◌+◌, ◌-◌, ◌∷◌, [], true, false, cond, List, length, refl, ap, arith}
+use Rattle.std.proofs.Common.{◌≡◌, ◌+◌, ◌-◌, ◌∷◌, [], true, false, cond, if◌then◌else◌, List, length, refl, ap, arith}
 use Rattle.std.specs.Ordering.{is_gt}
 use Rattle.rt_tree.specs.Sorting.{put}
 use Rattle.rt_search.specs.Items.{item_cmp, item_of}
@@ -16,11 +16,12 @@ one_longer x (y ∷ ys) =
       | false ↦ omega arith
     ]
 
-pub hits-fill : IsFilling KeepsHit (λ h. h.capacity - length h.items)
+pub hits-fill : IsFilling KeepsHit (λ h. if h.is_sorted then 0 else h.capacity - length h.items)
 hits-fill old new a h =
     let long = ap length h.items in
+    let sorted = h.sorted in
     let same = h.capacity in
-    omega (arith, long, same, one_longer (item_of a) old.items)
+    grind (arith, long, same, one_longer (item_of a) old.items)
 
 pub entries-fill : IsFilling (λ old a new. IsPut (item_of a) old new) (λ q. q.capacity - length q.items)
 entries-fill old new a h =
