@@ -3,6 +3,7 @@
 import os
 import random
 import socket
+import sys
 import tempfile
 import threading
 import unittest
@@ -132,6 +133,8 @@ class Reloads(unittest.TestCase):
         """Each call is answered by one table, and none fails."""
         before = open_files()
         chance = random.Random(4)
+        self.addCleanup(sys.setswitchinterval, sys.getswitchinterval())
+        sys.setswitchinterval(0.0001)  # seconds, so that threads take turns often
         tables = [some_rows(chance, count, 1000, 100) for count in (300, 200)]
         for opened in self.BOTH:
             told: list[set[int]] = []
@@ -152,7 +155,7 @@ class Reloads(unittest.TestCase):
 
             def reload() -> None:
                 try:
-                    for at in range(20):
+                    for at in range(30):
                         boxes.reload(tables[(at + 1) % 2])
                 finally:
                     is_over.set()

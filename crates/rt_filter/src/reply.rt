@@ -24,7 +24,7 @@ pub(crate) fn push_line<K: Sink>(text: &Line, sink: &mut K) -> Result<(), WriteF
     Ok(())
 }
 
-/// Pushes a line for each answer that a search is still to give, and then their number. Returns the search, which is over.
+/// Pushes a line for each answer that a search is still to give, and then their number. Returns the search.
 pub(crate) fn push_search<A: AnswerStream + Drop, K: Sink>(
     search: A,
     line: u128,
