@@ -113,7 +113,7 @@ print(rtfilter.__file__)
         self.assertFalse((binaries / "rtfilter").exists())
 
     def test_a_folder_as_it_is(self) -> None:
-        before = sorted(PACKAGE.rglob("*"))
+        before = files_of_package()
         binaries = self.environment()
         self.pip(binaries, "install", "--no-index", "--editable", PACKAGE)
         code = f"import rtfilter; print(rtfilter.__file__, rtfilter.Rtfilter([], program={PROGRAM!r}).count(rtfilter.All()))"
@@ -121,7 +121,12 @@ print(rtfilter.__file__)
         told = run(binaries / "python", "-c", code, env=plain, cwd="/").split()
         self.assertEqual(told, [str(PACKAGE / "rtfilter/__init__.py"), "0"])
         self.pip(binaries, "uninstall", "--yes", "rtfilter")
-        self.assertEqual(sorted(PACKAGE.rglob("*")), before)
+        self.assertEqual(files_of_package(), before)
+
+
+def files_of_package() -> list[Path]:
+    """All but what Python keeps of modules, as tests of other parts leave it there at the same time."""
+    return sorted(file for file in PACKAGE.rglob("*") if "__pycache__" not in file.parts)
 
 
 if __name__ == "__main__":
