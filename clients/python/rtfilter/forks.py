@@ -14,7 +14,11 @@ STARTING = threading.RLock()
 
 
 class Owned:
-    """Something that works in the process that made it, and in no other."""
+    """Something that works in the process that made it, and in no other.
+
+    Its `__init__` comes last in that of what is owned: from then on a fork in another thread, or by the handler of a signal,
+    leaves it to the parent, and needs all of it for that.
+    """
 
     def __init__(self) -> None:
         self._maker = os.getpid()
@@ -39,8 +43,8 @@ class Waiting(Owned):
     woken."""
 
     def __init__(self, wake: Callable[[], object]) -> None:
-        super().__init__()
         self._wake = wake
+        super().__init__()
 
     def _leave_to_parent(self) -> None:
         super()._leave_to_parent()

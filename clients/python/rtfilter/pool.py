@@ -50,7 +50,6 @@ class Copies(Owned):
 
     def __init__(self, clients: list[Rtfilter], mend: Mend, end: Callable[[Deadline], None] = lambda _: None) -> None:
         """`end` is called once all clients are closed."""
-        super().__init__()
         self.clients = clients
         self.size = clients[0]._transport.size
         self._mend = mend
@@ -60,6 +59,7 @@ class Copies(Owned):
         self._lost: list[Rtfilter] = []  # those that can't be mended
         self._is_closed = False
         self._changed = threading.Lock()  # locked by the one of those who wait that looks next
+        super().__init__()
 
     def ask(self, call: Callable[[Rtfilter, Asked, Deadline], Given], asked: Asked, deadline: Deadline) -> Given:
         """What a call of a client gives."""

@@ -47,11 +47,11 @@ class Child(Transport):
     ) -> None:
         """`errors` is the file of its standard error, and others are closed with it. Whoever calls this holds `STARTING` since
         before the start."""
-        super().__init__(input, output)
         self._process = process
         self._files = input, output, *others, errors
         self._errors = errors
         self._drop = weakref.finalize(self, end_dropped, process, self._files)
+        super().__init__(input, output)
 
     @property
     def is_closed(self) -> bool:

@@ -31,7 +31,6 @@ class Transport(Owned, abc.ABC):
 
     def __init__(self, input: HasDescriptor, output: HasDescriptor) -> None:
         """Over what is open for lines and for replies, two descriptors."""
-        super().__init__()
         self.lines = 0
         self.size = 0
         self._input, self._output = input, output
@@ -43,6 +42,7 @@ class Transport(Owned, abc.ABC):
         self._is_abandoned = False
         self._is_closing = False
         self._why = ""
+        super().__init__()
 
     def load(self, deadline: Deadline) -> None:
         """Asks for the size. Nothing else tells that a table is there, or that it is faulty. Closed where that fails."""

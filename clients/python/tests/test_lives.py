@@ -19,6 +19,7 @@ from collections.abc import Callable, Iterator
 from concurrent.futures import ProcessPoolExecutor
 from functools import partial
 from pathlib import Path
+from types import FrameType
 from typing import Any
 from unittest import mock
 
@@ -30,6 +31,7 @@ from shards.places import places_of
 from shards.router import Cluster
 
 from rtfilter.deadlines import Deadline
+from rtfilter.forks import Owned
 from rtfilter.prefork import library_of
 from rtfilter.shared import Holder, Sharer
 from rtfilter.threads import in_threads
@@ -303,6 +305,35 @@ class Forks(Case):
 
         told = self.forked_in(lambda: in_threads(2, do, range(3)), is_over.set)
         self.assertEqual(told, ("WrongProcess", [0, 1, 2]))
+
+    def test_while_something_is_made(self) -> None:
+        """At each line of that, as another thread or a handler forks: the child leaves all to its parent, and is told so."""
+        faults: list[object] = []
+        told: list[tuple[object, object]] = []
+
+        def trace(frame: FrameType, event: str, _: object) -> Any:
+            if frame.f_code.co_name != "__init__" or not isinstance(frame.f_locals.get("self"), Owned):
+                return None
+            if event == "line":
+                told.append(in_child(lambda: (faults, given_or_raised(lambda: kept.count(All())))))
+            return trace
+
+        with mock.patch("sys.unraisablehook", lambda fault: faults.append(repr(fault.exc_value))):
+            with Service(self.folder / "socket") as service, Pool(2, BOXES, program=PROGRAM, timeout=5) as kept:
+                for opened in anything(
+                    partial(Pool, 2, BOXES, program=PROGRAM), partial(Pool, 2, BOXES, program=[PROGRAM]),
+                    partial(Rtfilter, address=service.path),
+                ):  # fmt: skip
+                    before = sys.gettrace()
+                    sys.settrace(trace)
+                    try:
+                        with opened() as boxes:
+                            answers = boxes.ask(["count all"] * 300)
+                    finally:
+                        sys.settrace(before)
+                    self.assertEqual(answers[-1].total, 5)
+        self.assertGreater(len(told), 100)
+        self.assertEqual({(str(faults), type(error)) for faults, error in told}, {("[]", WrongProcess)})
 
     def test_forks_in_what_a_call_is_given(self) -> None:
         with Rtfilter(BOXES, program=PROGRAM) as boxes:
