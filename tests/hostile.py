@@ -77,13 +77,11 @@ def in_no_order(at, count):
 
 def write_table(path, record, count):
     """The least id of the table that is written."""
-    least = 2**63
-    with open(path, "w") as table:
-        for at in range(count):
-            fields = record(at, count)
-            least = min(least, fields[0])
-            table.write(",".join(map(str, fields)) + "\n")
-    return least
+    records = [record(at, count) for at in range(count)]
+    row = b",".join([b"%d"] * len(records[0])) + b"\n"
+    with open(path, "wb") as table:
+        table.writelines(map(row.__mod__, records))
+    return min(records)[0]
 
 
 def rare_lines(count):

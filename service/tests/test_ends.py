@@ -42,9 +42,12 @@ class Ends(Case):
         until(lambda: not any(map(is_there, processes)), "the end of all processes")
 
     def test_who_connects_while_it_ends(self) -> None:
-        """Waits for the next service, where the socket stays: here a process of the program's is long in ending."""
-        program = Path(self.folder, "program")
-        program.write_text(f'#!/bin/sh\nexec 3<&0\nLD_PRELOAD= setsid sleep 1 <&3 3<&- &\nexec {PROGRAM} "$@" 3<&-\n')
+        """Waits for the next service, where the socket stays: here a process of the program's ends only when it may."""
+        program, may_end = Path(self.folder, "program"), Path(self.folder, "may end")
+        waiting = f"while ! test -e '{may_end}'; do sleep 0.05; done"
+        program.write_text(
+            f'#!/bin/sh\nexec 3<&0\nLD_PRELOAD= setsid sh -c "{waiting}" <&3 3<&- &\nexec {PROGRAM} "$@" 3<&-\n'
+        )
         program.chmod(0o700)
         put_library(Path(self.folder))
         with socket.socket(socket.AF_UNIX) as given, socket.socket(socket.AF_UNIX) as asker:
@@ -58,6 +61,7 @@ class Ends(Case):
             asker.connect(given.getsockname())
             asker.sendall(b"count all\n")
             self.assertIsNone(service.process.poll())
+            may_end.touch()
             self.assertEqual(service.process.wait(10), 0)
             self.served(**options)
             asker.settimeout(10)

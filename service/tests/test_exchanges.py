@@ -4,6 +4,7 @@ import contextlib
 import os
 import signal
 import socket
+import sys
 import threading
 import time
 import unittest
@@ -262,6 +263,8 @@ class Exchanges(Case):
 
     def test_a_storm_of_signals(self) -> None:
         """While others ask: no program that ends is overlooked meanwhile, and no signal to end."""
+        self.addCleanup(sys.setswitchinterval, sys.getswitchinterval())
+        sys.setswitchinterval(0.0001)  # seconds, so that the storm leaves this thread its turns
         service = self.served(self.table)
         is_over = threading.Event()
 

@@ -23,20 +23,29 @@ def anything(*cases: Any) -> tuple[Any, ...]:
     return cases
 
 
-def children_of(process: int) -> list[int]:
-    """The processes that another one has started and that haven't ended, the one that was started last at the end."""
-    found = []
-    for other in Path("/proc").glob("[0-9]*"):  # a file in its folder isn't globbed: that fails where it has just ended
+def parents() -> dict[int, int]:
+    """The process that has started each process that hasn't ended, in the order of their numbers."""
+    found = {}
+    for process in sorted(int(name) for name in os.listdir("/proc") if name.isdigit()):
         with contextlib.suppress(OSError):  # it has ended meanwhile
             # Behind the name, which is in brackets and may hold anything: from the third field of proc(5)'s stat on.
-            fields = (other / "stat").read_text().rpartition(")")[2].split()
-            if int(fields[1]) == process and fields[0] != "Z":
-                found.append(int(other.name))
-    return sorted(found)
+            state, parent = Path(f"/proc/{process}/stat").read_text().rpartition(")")[2].split()[:2]
+            if state != "Z":
+                found[process] = int(parent)
+    return found
+
+
+def children_of(process: int) -> list[int]:
+    """The processes that another one has started and that haven't ended, the one that was started last at the end."""
+    return [child for child, parent in parents().items() if parent == process]
 
 
 def descendants_of(process: int) -> list[int]:
-    return [it for child in children_of(process) for it in (child, *descendants_of(child))]
+    """The processes that another one has started, and those that these have, and so on."""
+    found, all_parents = [process], parents()
+    for known in found:  # which grows
+        found += [child for child, parent in all_parents.items() if parent == known]
+    return found[1:]
 
 
 def is_gone(process: int) -> bool:

@@ -223,7 +223,7 @@ class Tables(unittest.TestCase):
         """Its process alone is given up."""
         table = Path(self.enterContext(tempfile.TemporaryDirectory()), "boxes.csv")
         table.write_text("1,0,1,0,1\n")
-        with Server(table, "--timeout", "1") as server:
+        with Server(table, "--timeout", "2") as server:
             processes = children_of(server.program())
             if not processes:
                 self.skipTest("there is no C compiler")

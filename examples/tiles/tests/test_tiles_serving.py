@@ -129,7 +129,7 @@ class Told(Serving):
 
     def test_health(self) -> None:
         self.assertEqual(self.json("/health"), {"boxes": BOXES})
-        with Server(self.table, "--timeout", "0.5") as server:
+        with Server(self.table, "--timeout", "2") as server:
             (holder,) = children_of(server.process.pid)
             for process in (holder, *children_of(holder)):
                 os.kill(process, signal.SIGSTOP)
