@@ -3,10 +3,15 @@
 ghost use Rattle.std.specs.Prelude.{◌≡◌};
 ghost use Rattle.rt_geo.specs.declared.geometry.Within.TheVariants.{Partly};
 
+use crate::expect::expect_eq;
 use rt_geo::{Bounds, Geometry, Info, Layers, Rank, Shape, Verdict, Within};
 use std::process::Abort;
 
-pub(crate) fn boxed(rt: &impl Abort, min_x: i32, max_x: i32, min_y: i32, max_y: i32) -> Bounds {
+/// The least and the greatest x of a box, and its least and greatest y.
+pub(crate) type Sides = [i32; 4];
+
+pub(crate) fn boxed(rt: &impl Abort, sides: Sides) -> Bounds {
+    let [min_x, max_x, min_y, max_y] = sides;
     Bounds::new(min_x, max_x, min_y, max_y).expect(rt, "the minimums are at most the maximums")
 }
 
@@ -31,12 +36,39 @@ pub(crate) fn question_on(bounds: Bounds, layers: Layers, level: u8) -> Info
     }
 }
 
-pub(crate) fn state_of<S: Shape>(shape: &S, bounds: Bounds, level: u8) -> Within {
-    shape.within(&question(bounds, level))
+/// A shape's state of a box, on a level.
+pub(crate) fn expect_state<S: Shape>(
+    rt: &impl Abort,
+    shape: &S,
+    sides: Sides,
+    level: u8,
+    want: Within,
+) {
+    let state = shape.within(&question(boxed(rt, sides), level));
+    assert_eq!(rt; state, want, "{sides:?}, level {level}");
 }
 
-pub(crate) fn score_of<R: Rank>(rank: &R, bounds: Bounds, level: u8) -> u128 {
-    rank.score(&question(bounds, level))
+/// A shape's state of each of some boxes, on one level.
+pub(crate) fn expect_states<S: Shape>(
+    rt: &impl Abort,
+    shape: &S,
+    level: u8,
+    rows: &[(Sides, Within)],
+) {
+    for (sides, want) in rows {
+        expect_state(rt, shape, *sides, level, *want);
+    }
+}
+
+/// A rank's score of a box, on a level.
+pub(crate) fn expect_score<R: Rank>(
+    rt: &impl Abort,
+    rank: &R,
+    sides: Sides,
+    level: u8,
+    want: u128,
+) {
+    expect_eq(rt, rank.score(&question(boxed(rt, sides), level)), want);
 }
 
 pub(crate) fn verdict_of<G: Geometry>(geometry: &G, bounds: Bounds, level: u8) -> Verdict {

@@ -1,6 +1,8 @@
 //! Boxes, shapes, ranks and geometries, and their answers.
 
-use crate::asked::{boxed, question, score_of, state_of, verdict_of};
+ghost use Rattle.std.specs.Prelude.{◌≡◌, ◌+◌, ◌-◌, ◌<◌, ◌^◌};
+
+use crate::asked::{Sides, boxed, expect_score, expect_state, expect_states, question, verdict_of};
 use crate::expect::expect_eq;
 use crate::watched::Watched;
 use rt_geo::{
@@ -8,22 +10,45 @@ use rt_geo::{
     Layers, Near, Order, Point, Region, Smallest, Verdict, Window, Within, far2, hull, inside,
     near2, overlaps,
 };
+use std::process::Abort;
+
+const LOW: i32 = i32::MIN;
+
+const HIGH: i32 = i32::MAX;
+
+const SQUARE: Sides = [0, 10, 0, 10];
+
+const LEFT: Sides = [-5, -1, -5, -1];
+
+const PLANE: Sides = [LOW, HIGH, LOW, HIGH];
 
 #[test]
 fn bounds_tell_their_sides(rt: HostRuntime) {
-    let bounds = boxed(&rt, -5, 30, -6, 10);
+    let bounds = boxed(&rt, [-5, 30, -6, 10]);
     expect_eq(&rt, bounds.min_x(), -5);
     expect_eq(&rt, bounds.max_x(), 30);
     expect_eq(&rt, bounds.min_y(), -6);
     expect_eq(&rt, bounds.max_y(), 10);
-    assert!(rt; Bounds::new(1, 0, 0, 0).is_none());
-    assert!(rt; Bounds::new(0, 0, 1, 0).is_none());
-    assert!(rt; Bounds::new(i32::MIN, i32::MIN, i32::MAX, i32::MAX).is_some());
+}
+
+// Four numbers, and whether they are the sides of a box.
+static SIDES: [(Sides, bool); 3] = [
+    ([1, 0, 0, 0], false),
+    ([0, 0, 1, 0], false),
+    ([LOW, LOW, HIGH, HIGH], true),
+];
+
+#[test]
+fn bounds_have_no_minimum_above_its_maximum(rt: HostRuntime) {
+    for ([min_x, max_x, min_y, max_y], want) in &SIDES {
+        let bounds = Bounds::new(*min_x, *max_x, *min_y, *max_y);
+        expect_eq(&rt, bounds.is_some(), *want);
+    }
 }
 
 #[test]
 fn an_entry_is_shown_by_itself(rt: HostRuntime) {
-    let bounds = boxed(&rt, -5, 30, -6, 10);
+    let bounds = boxed(&rt, [-5, 30, -6, 10]);
     let want = Info {
         bounds,
         layers: Layers::of(9),
@@ -40,137 +65,148 @@ fn an_entry_is_shown_by_itself(rt: HostRuntime) {
     expect_eq(&rt, entry.info(), want);
 }
 
+// Two boxes, whether they overlap, and whether the first lies inside the second.
+static PAIRS: [(Sides, Sides, bool, bool); 8] = [
+    (SQUARE, [10, 20, 10, 20], true, false),
+    (SQUARE, [11, 20, 0, 10], false, false),
+    ([0, 5, 5, 10], SQUARE, true, true),
+    (SQUARE, SQUARE, true, true),
+    (SQUARE, [0, 5, 5, 10], true, false),
+    (PLANE, [LOW, LOW, LOW, LOW], true, false),
+    ([HIGH, HIGH, HIGH, HIGH], PLANE, true, true),
+    ([LOW, LOW, LOW, LOW], [HIGH, HIGH, HIGH, HIGH], false, false),
+];
+
 #[test]
 fn boxes_overlap_and_lie_inside(rt: HostRuntime) {
-    let unit = boxed(&rt, 0, 10, 0, 10);
-    let touching = boxed(&rt, 10, 20, 10, 20);
-    let apart = boxed(&rt, 11, 20, 0, 10);
-    let inner = boxed(&rt, 0, 5, 5, 10);
-    assert!(rt; overlaps(unit, touching));
-    assert!(rt; !overlaps(unit, apart));
-    assert!(rt; inside(inner, unit));
-    assert!(rt; inside(unit, unit));
-    assert!(rt; !inside(unit, inner));
-    expect_eq(&rt, hull(inner, apart), boxed(&rt, 0, 20, 0, 10));
-
-    let plane = boxed(&rt, i32::MIN, i32::MAX, i32::MIN, i32::MAX);
-    let first = boxed(&rt, i32::MIN, i32::MIN, i32::MIN, i32::MIN);
-    let last = boxed(&rt, i32::MAX, i32::MAX, i32::MAX, i32::MAX);
-    assert!(rt; overlaps(plane, first));
-    assert!(rt; overlaps(last, plane));
-    assert!(rt; !overlaps(first, last));
-    assert!(rt; inside(last, plane));
-    assert!(rt; !inside(plane, first));
+    for (one, other, is_overlap, is_inside) in &PAIRS {
+        let one = boxed(&rt, *one);
+        let other = boxed(&rt, *other);
+        expect_eq(&rt, overlaps(one, other), *is_overlap);
+        expect_eq(&rt, inside(one, other), *is_inside);
+    }
 }
+
+#[test]
+fn a_hull_has_both_boxes(rt: HostRuntime) {
+    let joined = hull(boxed(&rt, [0, 5, 5, 10]), boxed(&rt, [11, 20, 0, 10]));
+    expect_eq(&rt, joined, boxed(&rt, [0, 20, 0, 10]));
+}
+
+// A point and a box, and the squares of the distances of its nearest and its farthest point.
+static DISTANCES: [(Point, Sides, u128, u128); 3] = [
+    (
+        Point { x: LOW, y: LOW },
+        [HIGH, HIGH, HIGH, HIGH],
+        36893488130239234050,
+        36893488130239234050,
+    ),
+    (Point { x: LOW, y: LOW }, PLANE, 0, 36893488130239234050),
+    (Point { x: 10, y: -5 }, SQUARE, 25, 325),
+];
 
 #[test]
 fn distances_reach_from_corner_to_corner(rt: HostRuntime) {
-    let low = Point {
-        x: i32::MIN,
-        y: i32::MIN,
-    };
-    let corner = boxed(&rt, i32::MAX, i32::MAX, i32::MAX, i32::MAX);
-    let plane = boxed(&rt, i32::MIN, i32::MAX, i32::MIN, i32::MAX);
-    expect_eq(&rt, near2(low, corner), 36893488130239234050);
-    expect_eq(&rt, far2(low, corner), 36893488130239234050);
-    expect_eq(&rt, near2(low, plane), 0);
-    expect_eq(&rt, far2(low, plane), 36893488130239234050);
-    expect_eq(
-        &rt,
-        near2(Point { x: 10, y: -5 }, boxed(&rt, 0, 10, 0, 10)),
-        25,
-    );
-    expect_eq(
-        &rt,
-        far2(Point { x: 10, y: -5 }, boxed(&rt, 0, 10, 0, 10)),
-        325,
-    );
+    for (point, sides, near, far) in &DISTANCES {
+        let bounds = boxed(&rt, *sides);
+        expect_eq(&rt, near2(*point, bounds), *near);
+        expect_eq(&rt, far2(*point, bounds), *far);
+    }
 }
+
+// A circle, and its state of a box on a level.
+static CIRCLES: [(Point, u32, Sides, u8, Within); 4] = [
+    (Point { x: 0, y: 0 }, 2, LEFT, 0, Within::Partly),
+    (Point { x: 0, y: 0 }, 2, [0, 1, 0, 1], 1, Within::Fully),
+    (Point { x: 0, y: 0 }, 1, LEFT, 0, Within::Not),
+    (
+        Point { x: LOW, y: LOW },
+        u32::MAX,
+        [HIGH, HIGH, HIGH, HIGH],
+        0,
+        Within::Not,
+    ),
+];
 
 #[test]
 fn circles_answer_their_states(rt: HostRuntime) {
-    let origin = Point::default();
-    let low = Point {
-        x: i32::MIN,
-        y: i32::MIN,
-    };
-    let left = boxed(&rt, -5, -1, -5, -1);
-    let small = boxed(&rt, 0, 1, 0, 1);
-    let corner = boxed(&rt, i32::MAX, i32::MAX, i32::MAX, i32::MAX);
-    for (centre, radius, bounds, level, want) in [
-        (origin, 2, left, 0, Within::Partly),
-        (origin, 2, small, 1, Within::Fully),
-        (origin, 1, left, 0, Within::Not),
-        (low, u32::MAX, corner, 0, Within::Not),
-    ] {
-        let circle = Circle { centre, radius };
-        assert_eq!(rt;
-            state_of(&circle, bounds, level),
-            want,
-            "radius {radius}, level {level}"
-        );
+    for (centre, radius, sides, level, want) in &CIRCLES {
+        let circle = Circle {
+            centre: *centre,
+            radius: *radius,
+        };
+        expect_state(&rt, &circle, *sides, *level, *want);
     }
 }
 
 #[test]
 fn windows_answer_their_states(rt: HostRuntime) {
-    let square = boxed(&rt, 0, 10, 0, 10);
-    let left = boxed(&rt, -5, -1, -5, -1);
-    let wide = boxed(&rt, -5, 30, -5, 15);
+    let window = Window(boxed(&rt, [10, 20, 10, 20]));
+    expect_state(&rt, &window, SQUARE, 0, Within::Partly);
+    expect_state(&rt, &window, LEFT, 1, Within::Not);
+    expect_state(&rt, &window, [12, 12, 12, 12], 1, Within::Fully);
 
-    let inside = Inside(boxed(&rt, 0, 15, 0, 15));
-    expect_eq(&rt, state_of(&inside, wide, 2), Within::Partly);
-    expect_eq(&rt, state_of(&inside, wide, 0), Within::Not);
-    expect_eq(&rt, state_of(&inside, square, 0), Within::Fully);
-
-    let covers = Covers(boxed(&rt, 5, 5, 5, 5));
-    expect_eq(&rt, state_of(&covers, square, 1), Within::Partly);
-    expect_eq(&rt, state_of(&covers, left, 0), Within::Not);
-
-    let window = Window(boxed(&rt, 10, 20, 10, 20));
-    expect_eq(&rt, state_of(&window, square, 0), Within::Partly);
-    expect_eq(&rt, state_of(&window, left, 1), Within::Not);
-    expect_eq(
-        &rt,
-        state_of(&window, boxed(&rt, 12, 12, 12, 12), 1),
-        Within::Fully,
-    );
-
-    expect_eq(&rt, state_of(&All, left, 3), Within::Fully);
+    expect_state(&rt, &All, LEFT, 3, Within::Fully);
 }
 
 #[test]
+fn what_is_inside_or_covers_answers_its_states(rt: HostRuntime) {
+    let inside = Inside(boxed(&rt, [0, 15, 0, 15]));
+    expect_state(&rt, &inside, [-5, 30, -5, 15], 2, Within::Partly);
+    expect_state(&rt, &inside, [-5, 30, -5, 15], 0, Within::Not);
+    expect_state(&rt, &inside, SQUARE, 0, Within::Fully);
+
+    let covers = Covers(boxed(&rt, [5, 5, 5, 5]));
+    expect_state(&rt, &covers, SQUARE, 1, Within::Partly);
+    expect_state(&rt, &covers, LEFT, 0, Within::Not);
+}
+
+// Circles, each asked about each of the boxes, as an entry's and as a node's.
+static DISCS: [(Point, u32); 5] = [
+    (Point { x: 0, y: 0 }, 0),
+    (Point { x: 12, y: 14 }, 4),
+    (Point { x: 0, y: 0 }, 5),
+    (Point { x: HIGH, y: LOW }, u32::MAX),
+    (Point { x: HIGH, y: LOW }, 3),
+];
+
+static BOXES: [Sides; 4] = [
+    SQUARE,
+    [5, 5, 5, 5],
+    [-9, -3, -4, -4],
+    [LOW, LOW, HIGH, HIGH],
+];
+
+#[test]
 fn a_disc_answers_as_its_circle_and_the_distance(rt: HostRuntime) {
-    let far = Point {
-        x: i32::MAX,
-        y: i32::MIN,
-    };
-    let boxes = [
-        boxed(&rt, 0, 10, 0, 10),
-        boxed(&rt, 5, 5, 5, 5),
-        boxed(&rt, -9, -3, -4, -4),
-        boxed(&rt, i32::MIN, i32::MIN, i32::MAX, i32::MAX),
-    ];
-    for (centre, radius) in [
-        (Point::default(), 0),
-        (Point { x: 12, y: 14 }, 4),
-        (Point { x: 0, y: 0 }, 5),
-        (far, u32::MAX),
-        (far, 3),
-    ] {
-        let circle = Circle { centre, radius };
-        let guided = Guided {
-            shape: circle,
-            rank: Near(centre),
+    for (centre, radius) in &DISCS {
+        let circle = Circle {
+            centre: *centre,
+            radius: *radius,
         };
-        for bounds in boxes {
-            for level in [0, 2] {
-                let want = verdict_of(&guided, bounds, level);
-                expect_eq(&rt, verdict_of(&Disc::new(circle), bounds, level), want);
-            }
+        for sides in &BOXES {
+            expect_disc(&rt, circle, *sides, 0);
+            expect_disc(&rt, circle, *sides, 2);
         }
     }
 }
+
+fn expect_disc(rt: &impl Abort, circle: Circle, sides: Sides, level: u8) {
+    let bounds = boxed(rt, sides);
+    let guided = Guided {
+        shape: circle,
+        rank: Near(circle.centre),
+    };
+    let want = verdict_of(&guided, bounds, level);
+    expect_eq(rt, verdict_of(&Disc::new(circle), bounds, level), want);
+}
+
+// Orders, and whether a disc is made of the circle round (3, -4) and each.
+static ORDERS: [(Order, bool); 3] = [
+    (Order::Near(Near(Point { x: 3, y: -4 })), true),
+    (Order::Near(Near(Point { x: 3, y: 4 })), false),
+    (Order::ById(ById), false),
+];
 
 #[test]
 fn a_disc_is_made_where_the_order_is_from_its_middle(rt: HostRuntime) {
@@ -178,89 +214,111 @@ fn a_disc_is_made_where_the_order_is_from_its_middle(rt: HostRuntime) {
         centre: Point { x: 3, y: -4 },
         radius: 5,
     };
-    let order = Order::Near(Near(circle.centre));
-    expect_eq(
-        &rt,
-        Disc::from_parts(&circle, &order),
-        Some(Disc::new(circle)),
-    );
-
-    let elsewhere = Order::Near(Near(Point { x: 3, y: 4 }));
-    assert!(rt; Disc::from_parts(&circle, &elsewhere).is_none());
-    assert!(rt; Disc::from_parts(&circle, &Order::ById(ById)).is_none());
+    for (order, is_made) in &ORDERS {
+        let want = if *is_made {
+            Some(Disc::new(circle))
+        } else {
+            None
+        };
+        expect_eq(&rt, Disc::from_parts(&circle, order), want);
+    }
 }
 
 #[test]
 fn ranks_answer_their_scores(rt: HostRuntime) {
-    let square = boxed(&rt, 0, 10, 0, 10);
-    let node = boxed(&rt, -5, 30, -5, 10);
     let near = Near(Point { x: 12, y: 12 });
-    expect_eq(&rt, score_of(&near, node, 2), 4);
-    expect_eq(&rt, score_of(&near, square, 0), 8);
-    expect_eq(&rt, score_of(&Smallest, square, 0), 100);
-    expect_eq(&rt, score_of(&Smallest, square, 1), 0);
-    expect_eq(&rt, score_of(&ById, square, 0), 0);
+    expect_score(&rt, &near, [-5, 30, -5, 10], 2, 4);
+    expect_score(&rt, &near, SQUARE, 0, 8);
+    expect_score(&rt, &Smallest, SQUARE, 0, 100);
+    expect_score(&rt, &Smallest, SQUARE, 1, 0);
+    expect_score(&rt, &ById, SQUARE, 0, 0);
 }
 
 #[test]
-fn regions_and_orders_answer_as_their_parts(rt: HostRuntime) {
-    let square = boxed(&rt, 0, 10, 0, 10);
-    let point = boxed(&rt, 5, 5, 5, 5);
-    let origin = Point::default();
-    for (region, want) in [
-        (Region::All(All), Within::Fully),
-        (Region::Window(Window(point)), Within::Partly),
-        (Region::Inside(Inside(point)), Within::Not),
-        (Region::Covers(Covers(point)), Within::Partly),
-        (
-            Region::Circle(Circle {
-                centre: origin,
-                radius: 15,
-            }),
-            Within::Fully,
-        ),
-    ] {
-        expect_eq(&rt, state_of(&region, square, 0), want);
+fn regions_answer_as_their_parts(rt: HostRuntime) {
+    let point = boxed(&rt, [5, 5, 5, 5]);
+    let circle = Circle {
+        centre: Point { x: 0, y: 0 },
+        radius: 15,
+    };
+    expect_state(&rt, &Region::All(All), SQUARE, 0, Within::Fully);
+    expect_state(
+        &rt,
+        &Region::Window(Window(point)),
+        SQUARE,
+        0,
+        Within::Partly,
+    );
+    expect_state(&rt, &Region::Inside(Inside(point)), SQUARE, 0, Within::Not);
+    expect_state(
+        &rt,
+        &Region::Covers(Covers(point)),
+        SQUARE,
+        0,
+        Within::Partly,
+    );
+    expect_state(&rt, &Region::Circle(circle), SQUARE, 0, Within::Fully);
+}
+
+// Orders, and the score of the square by each.
+static SCORES: [(Order, u128); 3] = [
+    (Order::ById(ById), 0),
+    (Order::Near(Near(Point { x: 12, y: 12 })), 8),
+    (Order::Smallest(Smallest), 100),
+];
+
+#[test]
+fn orders_answer_as_their_parts(rt: HostRuntime) {
+    for (order, want) in &SCORES {
+        expect_score(&rt, order, SQUARE, 0, *want);
     }
-    for (order, want) in [
-        (Order::ById(ById), 0),
-        (Order::Near(Near(Point { x: 12, y: 12 })), 8),
-        (Order::Smallest(Smallest), 100),
-    ] {
-        expect_eq(&rt, score_of(&order, square, 0), want);
+}
+
+// A geometry whose verdict on the square is PARTLY, with a score of 100.
+fn guided(rt: &impl Abort) -> Guided<Region<'static>, Order> {
+    Guided {
+        shape: Region::Window(Window(boxed(rt, [10, 20, 10, 20]))),
+        rank: Order::Smallest(Smallest),
     }
+}
+
+const VERDICT: Verdict = Verdict {
+    within: Within::Partly,
+    score: 100,
+};
+
+#[test]
+fn a_geometry_answers_by_its_shape_and_its_rank(rt: HostRuntime) {
+    let square = boxed(&rt, SQUARE);
+    expect_eq(&rt, verdict_of(&guided(&rt), square, 0), VERDICT);
 }
 
 #[test]
 fn a_counted_geometry_tells_its_checks(rt: HostRuntime) {
-    let square = boxed(&rt, 0, 10, 0, 10);
-    let guided = Guided {
-        shape: Region::Window(Window(boxed(&rt, 10, 20, 10, 20))),
-        rank: Order::Smallest(Smallest),
-    };
-    let want = Verdict {
-        within: Within::Partly,
-        score: 100,
-    };
-    expect_eq(&rt, verdict_of(&guided, square, 0), want);
-
+    let guided = guided(&rt);
     let mut counted = Counted::new(&guided);
     expect_eq(&rt, counted.asked(), 0);
-    let verdict = counted.check(&question(square, 0));
-    expect_eq(&rt, verdict, want);
-    expect_eq(&rt, counted.asked(), 1);
+    expect_check(&rt, &mut counted, 1);
 
     let mut own = counted.take();
     expect_eq(&rt, counted.asked(), u64::MAX);
-    let verdict = own.check(&question(square, 0));
-    expect_eq(&rt, verdict, want);
+    expect_check(&rt, &mut own, 2);
     counted = own;
     expect_eq(&rt, counted.asked(), 2);
 }
 
+// A check of the square, after which so many were made.
+fn expect_check<G: Geometry>(rt: &impl Abort, counted: &mut Counted<'_, G>, asked: u64)
+    requires { counted.old.asked < 2 ^ 64 - 1 }
+    ensures { counted.new.asked ≡ counted.old.asked + 1 }
+{
+    expect_eq(rt, counted.check(&question(boxed(rt, SQUARE), 0)), VERDICT);
+    expect_eq(rt, counted.asked(), asked);
+}
+
 #[test]
 fn a_counted_geometry_asks_once_for_each_check(rt: HostRuntime) {
-    let square = boxed(&rt, 0, 10, 0, 10);
+    let square = boxed(&rt, SQUARE);
     let watched = Watched::new(Guided {
         shape: All,
         rank: ById,

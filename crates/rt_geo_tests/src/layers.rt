@@ -1,8 +1,11 @@
 //! Sets of layers, and shapes on some of them.
 
-use crate::asked::{boxed, question_on};
+ghost use Rattle.std.specs.Prelude.{◌≤◌};
+
+use crate::asked::{Sides, boxed, question_on};
 use crate::expect::expect_eq;
 use rt_geo::{Covers, Layers, OnLayers, Shape, Window, Within};
+use std::process::Abort;
 
 #[test]
 fn a_set_of_layers_has_those_whose_bits_are_set(rt: HostRuntime) {
@@ -10,17 +13,20 @@ fn a_set_of_layers_has_those_whose_bits_are_set(rt: HostRuntime) {
     expect_eq(&rt, some.bits(), 0x8000_0000_0000_0009);
     for layer in 0..=Layers::MOST {
         if layer <= 63 {
-            expect_eq(
-                &rt,
-                some.has(layer),
-                layer == 0 || layer == 3 || layer == 63,
-            );
-            assert!(rt; Layers::all().has(layer));
-            assert!(rt; Layers::of(layer).has(layer));
-            expect_eq(&rt, Layers::of(layer).is_subset(some), some.has(layer));
-            expect_eq(&rt, Layers::of(layer).is_disjoint(some), !some.has(layer));
+            expect_layer(&rt, some, layer, layer == 0 || layer == 3 || layer == 63);
         }
     }
+}
+
+// Whether a layer is in a set.
+fn expect_layer(rt: &impl Abort, some: Layers, layer: u8, want: bool)
+    requires { layer ≤ 63 }
+{
+    let one = Layers::of(layer);
+    expect_eq(rt, some.has(layer), want);
+    expect_eq(rt, Layers::all().has(layer) && one.has(layer), true);
+    expect_eq(rt, one.is_subset(some), want);
+    expect_eq(rt, one.is_disjoint(some), !want);
 }
 
 #[test]
@@ -42,7 +48,7 @@ fn sets_of_layers_are_joined_and_compared(rt: HostRuntime) {
 
 // The bits of an info's layers, whether its bounds lie in the window or only overlap it, or neither, and the state for
 // layers 0 and 3.
-static STATES: [(u64, [i32; 4], Within); 9] = [
+static STATES: [(u64, Sides, Within); 9] = [
     (0b1, [2, 3, 2, 3], Within::Fully),
     (0b1000, [2, 3, 2, 3], Within::Fully),
     (0b1001, [2, 3, 2, 3], Within::Fully),
@@ -56,20 +62,19 @@ static STATES: [(u64, [i32; 4], Within); 9] = [
 
 #[test]
 fn a_shape_on_layers_answers_for_both(rt: HostRuntime) {
-    let shape = Window(boxed(&rt, 0, 10, 0, 10));
+    let shape = Window(boxed(&rt, [0, 10, 0, 10]));
     let layers = Layers::new(0b1001);
     let on_layers = OnLayers { shape, layers };
-    for (bits, [min_x, max_x, min_y, max_y], want) in &STATES {
-        let bounds = boxed(&rt, *min_x, *max_x, *min_y, *max_y);
-        let info = question_on(bounds, Layers::new(*bits), 1);
+    for (bits, sides, want) in &STATES {
+        let info = question_on(boxed(&rt, *sides), Layers::new(*bits), 1);
         expect_eq(&rt, on_layers.within(&info), *want);
     }
 }
 
 #[test]
 fn what_covers_a_window_is_never_full_on_layers_either(rt: HostRuntime) {
-    let bounds = boxed(&rt, 0, 10, 0, 10);
-    let shape = Covers(boxed(&rt, 5, 5, 5, 5));
+    let bounds = boxed(&rt, [0, 10, 0, 10]);
+    let shape = Covers(boxed(&rt, [5, 5, 5, 5]));
     let on_layers = OnLayers {
         shape,
         layers: Layers::all(),

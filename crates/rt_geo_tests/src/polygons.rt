@@ -1,8 +1,8 @@
 //! Polygons that were worked out by hand.
 
-use crate::asked::{boxed, state_of};
+use crate::asked::{Sides, expect_state, expect_states};
 use crate::expect::expect_eq;
-use rt_geo::{Bounds, Point, Polygon, PolygonFault, PreparedPolygon, Region, Within};
+use rt_geo::{Point, Polygon, PolygonFault, PreparedPolygon, Region, Within};
 use std::process::Abort;
 
 fn at(x: i32, y: i32) -> Point {
@@ -49,11 +49,6 @@ fn prepared_polygon<'a>(rt: &impl Abort, polygon: &Polygon<'a>) -> PreparedPolyg
     polygon.prepare().expect(rt, "the edges are short")
 }
 
-/// The state of an entry's box.
-fn state_of_entry(polygon: &Polygon<'_>, bounds: Bounds) -> Within {
-    state_of(polygon, bounds, 0)
-}
-
 #[test]
 fn a_polygon_has_3_to_16_vertices(rt: HostRuntime) {
     expect_eq(&rt, fault_of(&mut parabola()), Some(PolygonFault::Count));
@@ -64,19 +59,14 @@ fn a_polygon_has_3_to_16_vertices(rt: HostRuntime) {
     );
     expect_eq(&rt, fault_of(&mut []), Some(PolygonFault::Count));
     expect_eq(&rt, fault_of(&mut triangle()), None);
+}
 
-    let mut widest = parabola();
-    let widest = polygon(&rt, &mut widest[..16]);
-    expect_eq(
-        &rt,
-        state_of_entry(&widest, boxed(&rt, 15, 15, 225, 225)),
-        Within::Fully,
-    );
-    expect_eq(
-        &rt,
-        state_of_entry(&widest, boxed(&rt, 0, 0, 1, 1)),
-        Within::Not,
-    );
+#[test]
+fn a_polygon_of_16_vertices_answers(rt: HostRuntime) {
+    let mut points = parabola();
+    let widest = polygon(&rt, &mut points[..16]);
+    expect_state(&rt, &widest, [15, 15, 225, 225], 0, Within::Fully);
+    expect_state(&rt, &widest, [0, 0, 1, 1], 0, Within::Not);
 }
 
 #[test]
@@ -113,68 +103,63 @@ fn a_clockwise_list_is_taken_reversed(rt: HostRuntime) {
     expect_eq(&rt, Polygon::new(&mut reverse), Polygon::new(&mut square));
 }
 
+// Boxes of entries, and the state that the triangle answers for each.
+static ENTRIES: [(Sides, Within); 5] = [
+    ([0, 10, 0, 10], Within::Fully),
+    ([5, 15, 5, 15], Within::Fully),
+    ([20, 30, 0, 10], Within::Partly),
+    ([-5, -1, -5, -1], Within::Not),
+    ([12, 12, 12, 12], Within::Fully),
+];
+
 #[test]
 fn a_triangle_tells_five_boxes(rt: HostRuntime) {
     let mut clockwise = [at(0, 0), at(0, 30), at(30, 0)];
-    for triangle in [polygon(&rt, &mut triangle()), polygon(&rt, &mut clockwise)] {
-        for (bounds, want) in [
-            (boxed(&rt, 0, 10, 0, 10), Within::Fully),
-            (boxed(&rt, 5, 15, 5, 15), Within::Fully),
-            (boxed(&rt, 20, 30, 0, 10), Within::Partly),
-            (boxed(&rt, -5, -1, -5, -1), Within::Not),
-            (boxed(&rt, 12, 12, 12, 12), Within::Fully),
-        ] {
-            assert_eq!(rt; state_of_entry(&triangle, bounds), want, "{bounds:?}");
-        }
-    }
+    expect_states(&rt, &polygon(&rt, &mut triangle()), 0, &ENTRIES);
+    expect_states(&rt, &polygon(&rt, &mut clockwise), 0, &ENTRIES);
 }
+
+// The same of nodes, for which an edge decides.
+static NODES: [(Sides, Within); 5] = [
+    ([25, 30, 25, 30], Within::Not),
+    ([15, 30, 15, 30], Within::Partly),
+    ([0, 10, 0, 20], Within::Fully),
+    ([0, 10, 0, 21], Within::Partly),
+    ([-1, 10, 0, 20], Within::Partly),
+];
 
 #[test]
 fn an_edge_decides_where_the_bounding_box_does_not(rt: HostRuntime) {
     let mut triangle = triangle();
-    let triangle = polygon(&rt, &mut triangle);
-    for (bounds, want) in [
-        (boxed(&rt, 25, 30, 25, 30), Within::Not),
-        (boxed(&rt, 15, 30, 15, 30), Within::Partly),
-        (boxed(&rt, 0, 10, 0, 20), Within::Fully),
-        (boxed(&rt, 0, 10, 0, 21), Within::Partly),
-        (boxed(&rt, -1, 10, 0, 20), Within::Partly),
-    ] {
-        assert_eq!(rt; state_of(&triangle, bounds, 1), want, "{bounds:?}");
-    }
+    expect_states(&rt, &polygon(&rt, &mut triangle), 1, &NODES);
 }
+
+const LOW: i32 = i32::MIN;
+
+const HIGH: i32 = i32::MAX;
+
+// The same of half of the plane.
+static OF_HALF: [(Sides, Within); 6] = [
+    ([20, 30, 0, 10], Within::Fully),
+    ([-5, -1, -5, -1], Within::Partly),
+    ([LOW, HIGH, LOW, HIGH], Within::Partly),
+    ([LOW, LOW, LOW, LOW], Within::Fully),
+    ([LOW, LOW, HIGH, HIGH], Within::Not),
+    ([LOW, HIGH - 1, HIGH, HIGH], Within::Not),
+];
 
 #[test]
 fn a_polygon_reaches_the_ends_of_the_plane(rt: HostRuntime) {
-    let (low, high) = (i32::MIN, i32::MAX);
-    let mut half = [at(low, low), at(high, low), at(high, high)];
-    let half = polygon(&rt, &mut half);
-    for (bounds, want) in [
-        (boxed(&rt, 20, 30, 0, 10), Within::Fully),
-        (boxed(&rt, -5, -1, -5, -1), Within::Partly),
-        (boxed(&rt, low, high, low, high), Within::Partly),
-        (boxed(&rt, low, low, low, low), Within::Fully),
-        (boxed(&rt, low, low, high, high), Within::Not),
-        (boxed(&rt, low, high - 1, high, high), Within::Not),
-    ] {
-        assert_eq!(rt; state_of_entry(&half, bounds), want, "{bounds:?}");
-    }
+    let mut half = [at(LOW, LOW), at(HIGH, LOW), at(HIGH, HIGH)];
+    expect_states(&rt, &polygon(&rt, &mut half), 0, &OF_HALF);
 }
 
 #[test]
 fn a_region_may_be_a_polygon(rt: HostRuntime) {
     let mut triangle = triangle();
     let region = Region::Polygon(polygon(&rt, &mut triangle));
-    expect_eq(
-        &rt,
-        state_of(&region, boxed(&rt, 5, 15, 5, 15), 0),
-        Within::Fully,
-    );
-    expect_eq(
-        &rt,
-        state_of(&region, boxed(&rt, 25, 25, 30, 30), 0),
-        Within::Not,
-    );
+    expect_state(&rt, &region, [5, 15, 5, 15], 0, Within::Fully);
+    expect_state(&rt, &region, [25, 25, 30, 30], 0, Within::Not);
 }
 
 #[test]
@@ -182,36 +167,25 @@ fn a_prepared_polygon_tells_what_the_polygon_tells(rt: HostRuntime) {
     let mut triangle = triangle();
     let triangle = polygon(&rt, &mut triangle);
     let prepared = prepared_polygon(&rt, &triangle);
-    for (bounds, want) in [
-        (boxed(&rt, 0, 10, 0, 10), Within::Fully),
-        (boxed(&rt, 20, 30, 0, 10), Within::Partly),
-        (boxed(&rt, -5, -1, -5, -1), Within::Not),
-        (boxed(&rt, 12, 12, 12, 12), Within::Fully),
-        (boxed(&rt, 25, 30, 25, 30), Within::Not),
-        (boxed(&rt, 15, 30, 15, 30), Within::Partly),
-        (boxed(&rt, 0, 10, 0, 20), Within::Fully),
-        (boxed(&rt, 0, 10, 0, 21), Within::Partly),
-        (boxed(&rt, -1, 10, 0, 20), Within::Partly),
-    ] {
-        assert_eq!(rt; state_of(&prepared, bounds, 1), want, "{bounds:?}");
-    }
+    expect_states(&rt, &prepared, 1, &ENTRIES);
+    expect_states(&rt, &prepared, 1, &NODES);
 }
+
+// The same of the corner of the plane that has its least coordinates.
+static OF_CORNER: [(Sides, Within); 6] = [
+    ([-30, -20, -50, -40], Within::Fully),
+    ([LOW, HIGH, LOW, HIGH], Within::Partly),
+    ([LOW, LOW, LOW, LOW], Within::Fully),
+    ([LOW, LOW, -1, HIGH], Within::Not),
+    ([LOW, -2, -1, HIGH], Within::Not),
+    ([LOW, -1, -1, HIGH], Within::Partly),
+];
 
 #[test]
 fn a_prepared_polygon_reaches_the_end_of_the_plane(rt: HostRuntime) {
-    let (low, high) = (i32::MIN, i32::MAX);
-    let mut corner = [at(low, low), at(-1, low), at(-1, -1)];
-    let corner = prepared_polygon(&rt, &polygon(&rt, &mut corner));
-    for (bounds, want) in [
-        (boxed(&rt, -30, -20, -50, -40), Within::Fully),
-        (boxed(&rt, low, high, low, high), Within::Partly),
-        (boxed(&rt, low, low, low, low), Within::Fully),
-        (boxed(&rt, low, low, -1, high), Within::Not),
-        (boxed(&rt, low, -2, -1, high), Within::Not),
-        (boxed(&rt, low, -1, -1, high), Within::Partly),
-    ] {
-        assert_eq!(rt; state_of(&corner, bounds, 1), want, "{bounds:?}");
-    }
+    let mut corner = [at(LOW, LOW), at(-1, LOW), at(-1, -1)];
+    let corner = polygon(&rt, &mut corner);
+    expect_states(&rt, &prepared_polygon(&rt, &corner), 1, &OF_CORNER);
 }
 
 #[test]
