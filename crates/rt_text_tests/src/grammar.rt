@@ -6,9 +6,7 @@ use rt_geo::{
     Smallest, Window,
 };
 use rt_text::{BoxQuery, Parsed, Query, QueryFault, Report, Vertices, parse};
-use std::alloc::Global;
 use std::process::Abort;
-use std::test::Fail;
 
 /// Lines that are faulty, each under its first fault from left to right.
 static FAULTS: [(&str, QueryFault); 45] = [
@@ -151,7 +149,8 @@ static COST_FAULTS: [(&str, QueryFault); 38] = [
     ("find all cost", QueryFault::StrayWord),
 ];
 
-fn expect_parsed(rt: &impl Abort, line: &[u8], want: Parsed<'_>) {
+/// What a line holds, with room of its own for vertices.
+pub(crate) fn expect_parsed(rt: &impl Abort, line: &[u8], want: Parsed<'_>) {
     expect_eq(rt, parse(line, &mut Vertices::new()), want);
 }
 
@@ -164,17 +163,9 @@ fn expect_faults(rt: &impl Abort, rows: &[(&str, QueryFault)]) {
 #[test]
 fn faults(rt: HostRuntime) {
     expect_faults(&rt, &FAULTS);
-    expect_parsed(&rt, b"\xff", Parsed::Fault(QueryFault::UnknownVerb));
-}
-
-#[test]
-fn faults_of_layers(rt: HostRuntime) {
     expect_faults(&rt, &LAYER_FAULTS);
-}
-
-#[test]
-fn faults_of_costs(rt: HostRuntime) {
     expect_faults(&rt, &COST_FAULTS);
+    expect_parsed(&rt, b"\xff", Parsed::Fault(QueryFault::UnknownVerb));
 }
 
 static SKIPPED: [&str; 7] = [
@@ -189,360 +180,355 @@ static SKIPPED: [&str; 7] = [
 
 #[test]
 fn skipped_lines(rt: HostRuntime) {
-    expect_skipped(&rt, &SKIPPED);
-}
-
-fn expect_skipped(rt: &impl Abort, lines: &[&str]) {
-    for line in lines {
-        expect_parsed(rt, line.as_bytes(), Parsed::Skip);
+    for line in &SKIPPED {
+        expect_parsed(&rt, line.as_bytes(), Parsed::Skip);
     }
 }
 
-// What `find` asks with this region, order and limit, and without `on`.
-fn find(region: Region<'_>, order: Order, limit: Option<u64>) -> Parsed<'_> {
-    find_on(region, order, limit, Layers::new(u64::MAX))
+/// A region as rows have it. Of a box they have the sides: the least and the greatest x, the least and the greatest y.
+#[derive(Clone, Copy)]
+enum Place {
+    All,
+    Window([i32; 4]),
+    Inside([i32; 4]),
+    Covers([i32; 4]),
+    Circle(Circle),
 }
 
-// What `find` asks with this region, order, limit and layers.
-fn find_on(region: Region<'_>, order: Order, limit: Option<u64>, layers: Layers) -> Parsed<'_> {
-    Parsed::Query(Query::Boxes(BoxQuery {
-        region,
-        layers,
-        order,
-        report: Report::Answers { limit },
-    }))
-}
+/// A line, and what it asks: the region, the order, what is reported, and the bits of the set of layers.
+type Row = (&'static str, Place, Order, Report, u64);
 
 fn boxed(rt: &impl Abort, sides: [i32; 4]) -> Bounds {
     let [min_x, max_x, min_y, max_y] = sides;
     Bounds::new(min_x, max_x, min_y, max_y).expect(rt, "the minimums are at most the maximums")
 }
 
-#[test]
-fn regions(rt: HostRuntime) {
-    let by_id = Order::ById(ById);
-    let sides = boxed(&rt, [-1, 2, -3, 4]);
-    let widest = boxed(&rt, [i32::MIN, i32::MAX, i32::MIN, i32::MAX]);
-    expect_parsed(&rt, b"find all", find(Region::All(All), by_id, None));
-    expect_parsed(
-        &rt,
-        b"\tfind  window -1 +2 -03 4 \r",
-        find(Region::Window(Window(sides)), by_id, None),
-    );
-    expect_parsed(
-        &rt,
-        b"find window -2147483648 2147483647 -2147483648 2147483647",
-        find(Region::Window(Window(widest)), by_id, None),
-    );
-    expect_parsed(
-        &rt,
-        b"find inside -1 2 -3 4",
-        find(Region::Inside(Inside(sides)), by_id, None),
-    );
-    expect_parsed(
-        &rt,
-        b"find covers -1 2 -3 4",
-        find(Region::Covers(Covers(sides)), by_id, None),
-    );
+fn region_of(rt: &impl Abort, place: Place) -> Region<'static> {
+    match place {
+        Place::All => Region::All(All),
+        Place::Window(sides) => Region::Window(Window(boxed(rt, sides))),
+        Place::Inside(sides) => Region::Inside(Inside(boxed(rt, sides))),
+        Place::Covers(sides) => Region::Covers(Covers(boxed(rt, sides))),
+        Place::Circle(circle) => Region::Circle(circle),
+    }
 }
 
+fn query_of(rt: &impl Abort, row: &Row) -> BoxQuery<'static> {
+    let (_, place, order, report, bits) = row;
+    BoxQuery {
+        region: region_of(rt, *place),
+        layers: Layers::new(*bits),
+        order: *order,
+        report: *report,
+    }
+}
+
+fn expect_asked(rt: &impl Abort, rows: &[Row]) {
+    for row in rows {
+        let query = Query::Boxes(query_of(rt, row));
+        expect_parsed(rt, row.0.as_bytes(), Parsed::Query(query));
+    }
+}
+
+const SIDES: [i32; 4] = [-1, 2, -3, 4];
+
+const WIDEST: [i32; 4] = [i32::MIN, i32::MAX, i32::MIN, i32::MAX];
+
+const CENTRE: Point = Point { x: 1, y: 2 };
+
+const CIRCLE: Circle = Circle {
+    centre: CENTRE,
+    radius: 3,
+};
+
+const BY_ID: Order = Order::ById(ById);
+
+const SMALLEST: Order = Order::Smallest(Smallest);
+
+const NEAR: Order = Order::Near(Near(Point { x: 5, y: -6 }));
+
+const NEAR_CENTRE: Order = Order::Near(Near(CENTRE));
+
+/// All answers.
+const EACH: Report = Report::Answers { limit: None };
+
+/// The bits of the set of all layers.
+const EVERY: u64 = u64::MAX;
+
+static REGIONS: [Row; 6] = [
+    ("find all", Place::All, BY_ID, EACH, EVERY),
+    (
+        "\tfind  window -1 +2 -03 4 \r",
+        Place::Window(SIDES),
+        BY_ID,
+        EACH,
+        EVERY,
+    ),
+    (
+        "find window -2147483648 2147483647 -2147483648 2147483647",
+        Place::Window(WIDEST),
+        BY_ID,
+        EACH,
+        EVERY,
+    ),
+    (
+        "find inside -1 2 -3 4",
+        Place::Inside(SIDES),
+        BY_ID,
+        EACH,
+        EVERY,
+    ),
+    (
+        "find covers -1 2 -3 4",
+        Place::Covers(SIDES),
+        BY_ID,
+        EACH,
+        EVERY,
+    ),
+    (
+        "find circle -1 2 4294967295",
+        Place::Circle(Circle {
+            centre: Point { x: -1, y: 2 },
+            radius: u32::MAX,
+        }),
+        Order::Near(Near(Point { x: -1, y: 2 })),
+        EACH,
+        EVERY,
+    ),
+];
+
 #[test]
-fn a_circle_and_a_polygon(rt: HostRuntime) {
-    let centre = Point { x: -1, y: 2 };
-    let circle = Circle {
-        centre,
-        radius: u32::MAX,
-    };
-    expect_parsed(
-        &rt,
-        b"find circle -1 2 4294967295",
-        find(Region::Circle(circle), Order::Near(Near(centre)), None),
-    );
+fn a_polygon(rt: HostRuntime) {
     let mut triangle = [
         Point { x: 0, y: 0 },
         Point { x: 30, y: 0 },
         Point { x: 0, y: 30 },
     ];
     let triangle = Polygon::new(&mut triangle);
+    let query = BoxQuery {
+        region: Region::Polygon(triangle.ok().expect(&rt, "it is convex")),
+        layers: Layers::new(EVERY),
+        order: BY_ID,
+        report: EACH,
+    };
     expect_parsed(
         &rt,
         b"find polygon 3 0 0 30 0 0 30",
-        find(
-            Region::Polygon(triangle.ok().expect(&rt, "it is convex")),
-            Order::ById(ById),
-            None,
-        ),
+        Parsed::Query(Query::Boxes(query)),
     );
 }
+
+static POLYGONS: [&str; 3] = [
+    "find polygon 4 0 0 9 0 9 9 0 9",
+    "find polygon 3 0 0 5 0 0",
+    "find polygon 3 0 0 0 30 30 0",
+];
 
 #[test]
 fn room_for_vertices_is_used_again(rt: HostRuntime) {
     let mut vertices = Vertices::new();
-    for line in [
-        b"find polygon 4 0 0 9 0 9 9 0 9".as_slice(),
-        b"find polygon 3 0 0 5 0 0",
-        b"find polygon 3 0 0 0 30 30 0",
-    ] {
-        expect_eq(
-            &rt,
-            parse(line, &mut vertices),
-            parse(line, &mut Vertices::new()),
-        );
+    for line in &POLYGONS {
+        expect_parsed(&rt, line.as_bytes(), parse(line.as_bytes(), &mut vertices));
     }
 }
 
-#[test]
-fn orders_and_limits(rt: HostRuntime) {
-    let near = Order::Near(Near(Point { x: 5, y: -6 }));
-    let smallest = Order::Smallest(Smallest);
-    expect_parsed(
-        &rt,
-        b"find all near 5 -6",
-        find(Region::All(All), near, None),
-    );
-    expect_parsed(
-        &rt,
-        b"find all smallest",
-        find(Region::All(All), smallest, None),
-    );
-    expect_parsed(
-        &rt,
-        b"find all first 0",
-        find(Region::All(All), Order::ById(ById), Some(0)),
-    );
-    expect_parsed(
-        &rt,
-        b"find all smallest first 18446744073709551615",
-        find(Region::All(All), smallest, Some(u64::MAX)),
-    );
-    expect_parsed(
-        &rt,
-        b"nearest 7 5 -6",
-        find(Region::All(All), near, Some(7)),
-    );
-    let circle = Circle {
-        centre: Point { x: 1, y: 2 },
-        radius: 3,
-    };
-    expect_parsed(
-        &rt,
-        b"find circle 1 2 3 near 5 -6 first 2",
-        find(Region::Circle(circle), near, Some(2)),
-    );
-}
-
-// What `count` asks with this region and layers.
-fn counted(region: Region<'_>, layers: Layers) -> BoxQuery<'_> {
-    BoxQuery {
-        region,
-        layers,
-        order: Order::ById(ById),
-        report: Report::Count,
-    }
-}
-
-#[test]
-fn counts_and_levels(rt: HostRuntime) {
-    expect_parsed(
-        &rt,
-        b"count all",
-        Parsed::Query(Query::Boxes(counted(Region::All(All), Layers::new(u64::MAX)))),
-    );
-    expect_parsed(&rt, b"levels\r", Parsed::Query(Query::Levels));
-}
-
-/// Lists of layers, and the bits of the set of each.
-static LISTS: [(&str, u64); 12] = [
-    ("0", 1),
-    ("3", 8),
-    ("0,3", 9),
-    ("3,0", 9),
-    ("0,0", 1),
-    ("63", 1 << 63),
-    ("63,62,61,0", 0xe000_0000_0000_0001),
-    ("+3", 8),
-    ("-0", 1),
-    ("0063,+001,1", 0x8000_0000_0000_0002),
+static ORDERS_AND_LIMITS: [Row; 6] = [
+    ("find all near 5 -6", Place::All, NEAR, EACH, EVERY),
+    ("find all smallest", Place::All, SMALLEST, EACH, EVERY),
     (
-        "00000000000000000000000000000000000000000000000000000000000007",
+        "find all first 0",
+        Place::All,
+        BY_ID,
+        Report::Answers { limit: Some(0) },
+        EVERY,
+    ),
+    (
+        "find all smallest first 18446744073709551615",
+        Place::All,
+        SMALLEST,
+        Report::Answers {
+            limit: Some(u64::MAX),
+        },
+        EVERY,
+    ),
+    (
+        "nearest 7 5 -6",
+        Place::All,
+        NEAR,
+        Report::Answers { limit: Some(7) },
+        EVERY,
+    ),
+    (
+        "find circle 1 2 3 near 5 -6 first 2",
+        Place::Circle(CIRCLE),
+        NEAR,
+        Report::Answers { limit: Some(2) },
+        EVERY,
+    ),
+];
+
+static COUNTS: [Row; 13] = [
+    ("count all", Place::All, BY_ID, Report::Count, EVERY),
+    ("count all on 0", Place::All, BY_ID, Report::Count, 1),
+    ("count all on 3", Place::All, BY_ID, Report::Count, 8),
+    ("count all on 0,3", Place::All, BY_ID, Report::Count, 9),
+    ("count all on 3,0", Place::All, BY_ID, Report::Count, 9),
+    ("count all on 0,0", Place::All, BY_ID, Report::Count, 1),
+    ("count all on 63", Place::All, BY_ID, Report::Count, 1 << 63),
+    (
+        "count all on 63,62,61,0",
+        Place::All,
+        BY_ID,
+        Report::Count,
+        0xe000_0000_0000_0001,
+    ),
+    ("count all on +3", Place::All, BY_ID, Report::Count, 8),
+    ("count all on -0", Place::All, BY_ID, Report::Count, 1),
+    (
+        "count all on 0063,+001,1",
+        Place::All,
+        BY_ID,
+        Report::Count,
+        0x8000_0000_0000_0002,
+    ),
+    (
+        "count all on 00000000000000000000000000000000000000000000000000000000000007",
+        Place::All,
+        BY_ID,
+        Report::Count,
         128,
     ),
     (
-        "0,1,2,3,4,5,6,7,8,9,10,11,12,13,14,15,16,17,18,19,20,21,22,23,24,25,26,27,28,29,30,31,32,33,34,35,36,37,38,39,40,41,42,43,44,45,46,47,48,49,50,51,52,53,54,55,56,57,58,59,60,61,62,63",
-        u64::MAX,
+        "count all on 0,1,2,3,4,5,6,7,8,9,10,11,12,13,14,15,16,17,18,19,20,21,22,23,24,25,26,27,28,29,30,31,32,33,34,35,36,37,38,39,40,41,42,43,44,45,46,47,48,49,50,51,52,53,54,55,56,57,58,59,60,61,62,63",
+        Place::All,
+        BY_ID,
+        Report::Count,
+        EVERY,
     ),
 ];
 
 #[test]
-fn lists_of_layers(rt: HostRuntime) -> Result<(), Fail> {
-    expect_lists(&rt, rt.alloc(), &LISTS)
+fn counts_and_levels(rt: HostRuntime) {
+    expect_asked(&rt, &COUNTS);
+    expect_parsed(&rt, b"levels\r", Parsed::Query(Query::Levels));
 }
 
-fn expect_lists(rt: &impl Abort, alloc: Global, rows: &[(&str, u64)]) -> Result<(), Fail> {
-    for (list, bits) in rows {
-        let mut line = Vec::new(alloc);
-        line.extend_from_slice(b"count all on ")?;
-        line.extend_from_slice(list.as_bytes())?;
-        let all_on = counted(Region::All(All), Layers::new(*bits));
-        expect_parsed(rt, &line, Parsed::Query(Query::Boxes(all_on)));
+// A circle is ordered near its centre on layers too, where no other order stands.
+static LAYERS: [Row; 5] = [
+    ("find all on 3", Place::All, BY_ID, EACH, 1 << 3),
+    (
+        "find all \ton  3 first 2\r",
+        Place::All,
+        BY_ID,
+        Report::Answers { limit: Some(2) },
+        1 << 3,
+    ),
+    (
+        "find all on 3 smallest first 2",
+        Place::All,
+        SMALLEST,
+        Report::Answers { limit: Some(2) },
+        1 << 3,
+    ),
+    (
+        "find circle 1 2 3 on 0,3",
+        Place::Circle(CIRCLE),
+        NEAR_CENTRE,
+        EACH,
+        9,
+    ),
+    (
+        "find circle 1 2 3 on 3 near 5 -6 first 1",
+        Place::Circle(CIRCLE),
+        NEAR,
+        Report::Answers { limit: Some(1) },
+        1 << 3,
+    ),
+];
+
+#[test]
+fn finds(rt: HostRuntime) {
+    expect_asked(&rt, &REGIONS);
+    expect_asked(&rt, &ORDERS_AND_LIMITS);
+    expect_asked(&rt, &LAYERS);
+}
+
+// What `cost nearest` is asked near.
+const FAR: Order = Order::Near(Near(Point { x: 12, y: -12 }));
+
+static COSTS: [Row; 12] = [
+    ("cost find all", Place::All, BY_ID, EACH, EVERY),
+    (" cost\t find  all \r", Place::All, BY_ID, EACH, EVERY),
+    (
+        "cost find all first 6",
+        Place::All,
+        BY_ID,
+        Report::Answers { limit: Some(6) },
+        EVERY,
+    ),
+    (
+        "cost find all on 1 first 3",
+        Place::All,
+        BY_ID,
+        Report::Answers { limit: Some(3) },
+        1 << 1,
+    ),
+    (
+        "cost find window 20 30 0 4",
+        Place::Window([20, 30, 0, 4]),
+        BY_ID,
+        EACH,
+        EVERY,
+    ),
+    (
+        "cost find inside -1 2 -3 4 smallest",
+        Place::Inside(SIDES),
+        SMALLEST,
+        EACH,
+        EVERY,
+    ),
+    (
+        "cost find circle 1 2 3 on 0,3",
+        Place::Circle(CIRCLE),
+        NEAR_CENTRE,
+        EACH,
+        9,
+    ),
+    (
+        "cost nearest 2 12 -12",
+        Place::All,
+        FAR,
+        Report::Answers { limit: Some(2) },
+        EVERY,
+    ),
+    (
+        "cost nearest 0 12 -12",
+        Place::All,
+        FAR,
+        Report::Answers { limit: Some(0) },
+        EVERY,
+    ),
+    ("cost count all", Place::All, BY_ID, Report::Count, EVERY),
+    (
+        "cost \tcount all on 1\r",
+        Place::All,
+        BY_ID,
+        Report::Count,
+        1 << 1,
+    ),
+    (
+        "cost count window 0 10 0 10",
+        Place::Window([0, 10, 0, 10]),
+        BY_ID,
+        Report::Count,
+        EVERY,
+    ),
+];
+
+#[test]
+fn costs(rt: HostRuntime) {
+    for row in &COSTS {
+        let query = Query::Cost(query_of(&rt, row));
+        expect_parsed(&rt, row.0.as_bytes(), Parsed::Query(query));
     }
-    Ok(())
-}
-
-#[test]
-fn layers_of_a_find(rt: HostRuntime) {
-    let by_id = Order::ById(ById);
-    let three = Layers::of(3);
-    expect_parsed(
-        &rt,
-        b"find all on 3",
-        find_on(Region::All(All), by_id, None, three),
-    );
-    expect_parsed(
-        &rt,
-        b"find all \ton  3 first 2\r",
-        find_on(Region::All(All), by_id, Some(2), three),
-    );
-    expect_parsed(
-        &rt,
-        b"find all on 3 smallest first 2",
-        find_on(Region::All(All), Order::Smallest(Smallest), Some(2), three),
-    );
-    // A circle is ordered near its centre on layers too, where no other order stands.
-    let centre = Point { x: 1, y: 2 };
-    expect_parsed(
-        &rt,
-        b"find circle 1 2 3 on 0,3",
-        find_on(
-            Region::Circle(Circle { centre, radius: 3 }),
-            Order::Near(Near(centre)),
-            None,
-            Layers::new(9),
-        ),
-    );
-    expect_parsed(
-        &rt,
-        b"find circle 1 2 3 on 3 near 5 -6 first 1",
-        find_on(
-            Region::Circle(Circle { centre, radius: 3 }),
-            Order::Near(Near(Point { x: 5, y: -6 })),
-            Some(1),
-            three,
-        ),
-    );
-}
-
-// What `cost find` asks with this region, order, limit and layers.
-fn cost_find(region: Region<'_>, order: Order, limit: Option<u64>, layers: Layers) -> Parsed<'_> {
-    Parsed::Query(Query::Cost(BoxQuery {
-        region,
-        layers,
-        order,
-        report: Report::Answers { limit },
-    }))
-}
-
-#[test]
-fn costs_of_finds(rt: HostRuntime) {
-    let by_id = Order::ById(ById);
-    let every = Layers::new(u64::MAX);
-    expect_parsed(
-        &rt,
-        b"cost find all",
-        cost_find(Region::All(All), by_id, None, every),
-    );
-    expect_parsed(
-        &rt,
-        b" cost\t find  all \r",
-        cost_find(Region::All(All), by_id, None, every),
-    );
-    expect_parsed(
-        &rt,
-        b"cost find all first 6",
-        cost_find(Region::All(All), by_id, Some(6), every),
-    );
-    expect_parsed(
-        &rt,
-        b"cost find all on 1 first 3",
-        cost_find(Region::All(All), by_id, Some(3), Layers::of(1)),
-    );
-    expect_parsed(
-        &rt,
-        b"cost find window 20 30 0 4",
-        cost_find(
-            Region::Window(Window(boxed(&rt, [20, 30, 0, 4]))),
-            by_id,
-            None,
-            every,
-        ),
-    );
-}
-
-#[test]
-fn costs_of_finds_in_an_order(rt: HostRuntime) {
-    let every = Layers::new(u64::MAX);
-    expect_parsed(
-        &rt,
-        b"cost find inside -1 2 -3 4 smallest",
-        cost_find(
-            Region::Inside(Inside(boxed(&rt, [-1, 2, -3, 4]))),
-            Order::Smallest(Smallest),
-            None,
-            every,
-        ),
-    );
-    // A circle is ordered near its centre, where no other order stands.
-    let centre = Point { x: 1, y: 2 };
-    expect_parsed(
-        &rt,
-        b"cost find circle 1 2 3 on 0,3",
-        cost_find(
-            Region::Circle(Circle { centre, radius: 3 }),
-            Order::Near(Near(centre)),
-            None,
-            Layers::new(9),
-        ),
-    );
-    expect_parsed(
-        &rt,
-        b"cost nearest 2 12 -12",
-        cost_find(
-            Region::All(All),
-            Order::Near(Near(Point { x: 12, y: -12 })),
-            Some(2),
-            every,
-        ),
-    );
-    expect_parsed(
-        &rt,
-        b"cost nearest 0 12 -12",
-        cost_find(
-            Region::All(All),
-            Order::Near(Near(Point { x: 12, y: -12 })),
-            Some(0),
-            every,
-        ),
-    );
-}
-
-#[test]
-fn costs_of_counts(rt: HostRuntime) {
-    expect_parsed(
-        &rt,
-        b"cost count all",
-        Parsed::Query(Query::Cost(counted(Region::All(All), Layers::new(u64::MAX)))),
-    );
-    expect_parsed(
-        &rt,
-        b"cost \tcount all on 1\r",
-        Parsed::Query(Query::Cost(counted(Region::All(All), Layers::of(1)))),
-    );
-    expect_parsed(
-        &rt,
-        b"cost count window 0 10 0 10",
-        Parsed::Query(Query::Cost(counted(
-            Region::Window(Window(boxed(&rt, [0, 10, 0, 10]))),
-            Layers::new(u64::MAX),
-        ))),
-    );
 }

@@ -1,34 +1,37 @@
 //! Lines that come in pieces, and lines as long as they may be.
 
 use crate::expect::expect_eq;
-use rt_text::{LONGEST_LINE, LineStart, Parsed, Query, QueryFault, Vertices, parse};
-use std::alloc::{AllocError, Global};
+use crate::grammar::expect_parsed;
+use rt_text::{LONGEST_LINE, LineStart, Parsed, Query, QueryFault, Vertices};
 use std::process::Abort;
-use std::test::Fail;
 
 const LEVELS: &[u8] = b"levels";
 
-/// A text with spaces up to a length.
-fn padded(alloc: Global, text: &[u8], len: usize) -> Result<Vec<u8>, AllocError> {
-    let mut line = Vec::from_slice(alloc, text)?;
-    line.resize(len, b' ')?;
-    Ok(line)
+static SPACES: [u8; 10_000] = [b' '; 10_000];
+
+/// `levels`, and spaces after it.
+fn padded() -> [u8; 10_000] {
+    let mut line = [b' '; 10_000];
+    line[..6].copy_from_slice(LEVELS);
+    line
+}
+
+fn first<'a>(rt: &impl Abort, text: &'a [u8], len: usize) -> &'a [u8] {
+    text.get(..len).expect(rt, "the text is at least as long")
+}
+
+// What the line is that this ends.
+fn expect_told(rt: &impl Abort, start: &mut LineStart, end: &[u8], want: Parsed<'_>) {
+    let mut vertices = Vertices::new();
+    expect_eq(rt, start.parse(end, &mut vertices), want);
 }
 
 fn expect_levels(rt: &impl Abort, start: &mut LineStart, end: &[u8]) {
-    let mut vertices = Vertices::new();
-    let found = start.parse(end, &mut vertices);
-    expect_eq(rt, found, Parsed::Query(Query::Levels));
+    expect_told(rt, start, end, Parsed::Query(Query::Levels));
 }
 
 fn expect_fault(rt: &impl Abort, start: &mut LineStart, end: &[u8], fault: QueryFault) {
-    let mut vertices = Vertices::new();
-    let found = start.parse(end, &mut vertices);
-    expect_eq(rt, found, Parsed::Fault(fault));
-}
-
-fn expect_parsed(rt: &impl Abort, line: &[u8], want: Parsed<'_>) {
-    expect_eq(rt, parse(line, &mut Vertices::new()), want);
+    expect_told(rt, start, end, Parsed::Fault(fault));
 }
 
 #[test]
@@ -52,49 +55,43 @@ fn nothing_is_begun_after_a_line(rt: HostRuntime) {
 }
 
 #[test]
-fn longest_lines(rt: HostRuntime) -> Result<(), Fail> {
-    let longest = padded(rt.alloc(), LEVELS, LONGEST_LINE)?;
-    expect_parsed(&rt, longest.as_slice(), Parsed::Query(Query::Levels));
-    let longer = padded(rt.alloc(), LEVELS, LONGEST_LINE + 1)?;
-    let fault = Parsed::Fault(QueryFault::LineTooLong);
-    expect_parsed(&rt, longer.as_slice(), fault);
-    Ok(())
+fn longest_lines(rt: HostRuntime) {
+    let line = padded();
+    let longest = first(&rt, &line, LONGEST_LINE);
+    expect_parsed(&rt, longest, Parsed::Query(Query::Levels));
+    let longer = first(&rt, &line, LONGEST_LINE + 1);
+    expect_parsed(&rt, longer, Parsed::Fault(QueryFault::LineTooLong));
 }
 
+// How many bytes have come of a line as long as it may be, and how many are left.
+static PIECES: [(usize, usize); 4] = [(6, 4090), (7, 4089), (4095, 1), (4096, 0)];
+
 #[test]
-fn longest_lines_in_pieces(rt: HostRuntime) -> Result<(), Fail> {
-    expect_longest(&rt, 6, 4090)?;
-    expect_longest(&rt, 7, 4089)?;
-    expect_longest(&rt, 4095, 1)?;
-    expect_longest(&rt, 4096, 0)?;
-    Ok(())
+fn longest_lines_in_pieces(rt: HostRuntime) {
+    let line = padded();
+    for (begun, left) in &PIECES {
+        let begun = first(&rt, &line, *begun);
+        expect_longest(&rt, begun, first(&rt, &SPACES, *left));
+    }
 }
 
 // A line as long as it may be, of two pieces, and one with a byte more.
-fn expect_longest<R: Abort + AllocGlobal>(
-    rt: &R,
-    begun: usize,
-    left: usize,
-) -> Result<(), AllocError> {
-    let begun = padded(rt.alloc(), LEVELS, begun)?;
-    let left = padded(rt.alloc(), b"", left)?;
+fn expect_longest(rt: &impl Abort, begun: &[u8], left: &[u8]) {
     let mut start = LineStart::new();
-    start.push(begun.as_slice());
-    expect_levels(rt, &mut start, left.as_slice());
-    start.push(begun.as_slice());
+    start.push(begun);
+    expect_levels(rt, &mut start, left);
+    start.push(begun);
     start.push(b" ");
-    expect_fault(rt, &mut start, left.as_slice(), QueryFault::LineTooLong);
-    Ok(())
+    expect_fault(rt, &mut start, left, QueryFault::LineTooLong);
 }
 
 #[test]
-fn lines_far_too_long(rt: HostRuntime) -> Result<(), Fail> {
-    let line = padded(rt.alloc(), LEVELS, 10_000)?;
+fn lines_far_too_long(rt: HostRuntime) {
+    let line = padded();
     let mut start = LineStart::new();
-    start.push(line.as_slice());
-    start.push(line.as_slice());
+    start.push(&line);
+    start.push(&line);
     expect_fault(&rt, &mut start, b"", QueryFault::LineTooLong);
-    expect_fault(&rt, &mut start, line.as_slice(), QueryFault::LineTooLong);
+    expect_fault(&rt, &mut start, &line, QueryFault::LineTooLong);
     expect_levels(&rt, &mut start, LEVELS);
-    Ok(())
 }

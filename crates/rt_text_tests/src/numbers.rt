@@ -31,11 +31,7 @@ static SMALL: [Row; 12] = [
     ),
 ];
 
-#[test]
-fn numbers_of_texts(rt: HostRuntime) {
-    expect_numbers(&rt, &SMALL, 0, 10);
-}
-
+// From the least to the greatest `i128`.
 static ENDS: [Row; 4] = [
     ("170141183460469231731687303715884105727", Ok(i128::MAX)),
     ("-170141183460469231731687303715884105728", Ok(i128::MIN)),
@@ -49,11 +45,7 @@ static ENDS: [Row; 4] = [
     ),
 ];
 
-#[test]
-fn ends_of_the_widest_range(rt: HostRuntime) {
-    expect_numbers(&rt, &ENDS, i128::MIN, i128::MAX);
-}
-
+// The same, of 19 and of 20 digits.
 static LONG: [Row; 4] = [
     ("9999999999999999999", Ok(9_999_999_999_999_999_999)),
     ("10000000000000000000", Ok(10_000_000_000_000_000_000)),
@@ -62,7 +54,9 @@ static LONG: [Row; 4] = [
 ];
 
 #[test]
-fn numbers_of_19_and_of_20_digits(rt: HostRuntime) {
+fn numbers_of_texts(rt: HostRuntime) {
+    expect_numbers(&rt, &SMALL, 0, 10);
+    expect_numbers(&rt, &ENDS, i128::MIN, i128::MAX);
     expect_numbers(&rt, &LONG, i128::MIN, i128::MAX);
 }
 

@@ -3,7 +3,7 @@
 use crate::expect::expect_eq;
 use rt_text::{RunFault, TableFault, run_fault_line};
 
-const FAULTS: [(RunFault, u8, &[u8]); 5] = [
+static FAULTS: [(RunFault, u8, &[u8]); 5] = [
     (
         RunFault::Table(TableFault::Repeated { number: 5 }),
         3,
@@ -21,9 +21,9 @@ const FAULTS: [(RunFault, u8, &[u8]); 5] = [
 
 #[test]
 fn statuses_and_lines(rt: HostRuntime) {
-    for (fault, status, text) in FAULTS {
-        expect_eq(&rt, fault.status(), status);
-        expect_eq(&rt, run_fault_line(&fault).bytes(), text);
+    for (fault, status, text) in &FAULTS {
+        expect_eq(&rt, fault.status(), *status);
+        expect_eq(&rt, run_fault_line(fault).bytes(), *text);
     }
 }
 
