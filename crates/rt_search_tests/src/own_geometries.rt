@@ -21,28 +21,44 @@ fn verdict_of<G: Geometry>(geometry: &G, bounds: Bounds, level: u8) -> Verdict {
     })
 }
 
+// The level and the score.
+static LEVELS: [(u8, u128); 5] = [(0, 10), (1, 1), (2, 2), (10, 10), (11, 10)];
+
 #[test]
 fn an_uneven_geometry_scores_by_level(rt: HostRuntime) {
-    for (level, want) in [(0, 10), (1, 1), (2, 2), (10, 10), (11, 10)] {
-        expect_score(&rt, level, want);
+    for (level, want) in &LEVELS {
+        expect_score(&rt, *level, *want);
     }
 }
 
 fn expect_score(rt: &impl Abort, level: u8, want: u128) {
     let verdict = verdict_of(&Uneven, boxed(rt, [0, 10, 0, 10]), level);
-    expect_eq(rt, verdict.within, Within::Fully);
-    assert_eq!(rt; verdict.score, want, "at level {level}");
+    let within = Within::Fully;
+    expect_eq(
+        rt,
+        (level, verdict),
+        (
+            level,
+            Verdict {
+                within,
+                score: want,
+            },
+        ),
+    );
 }
+
+// The line, the level of the box, and whether this lies to the left of the line.
+static LINES: [(i32, u8, Within); 4] = [
+    (10, 0, Within::Fully),
+    (9, 0, Within::Not),
+    (9, 1, Within::Partly),
+    (-1, 1, Within::Not),
+];
 
 #[test]
 fn a_shape_of_the_tests_own_is_guided(rt: HostRuntime) {
-    for (x, level, within) in [
-        (10, 0, Within::Fully),
-        (9, 0, Within::Not),
-        (9, 1, Within::Partly),
-        (-1, 1, Within::Not),
-    ] {
-        expect_within(&rt, x, level, within);
+    for (x, level, within) in &LINES {
+        expect_within(&rt, *x, *level, *within);
     }
 }
 
@@ -53,5 +69,5 @@ fn expect_within(rt: &impl Abort, x: i32, level: u8, within: Within) {
         rank: Near(Point { x: 12, y: 12 }),
     };
     let verdict = verdict_of(&guided, boxed(rt, [0, 10, 0, 10]), level);
-    assert_eq!(rt; verdict, Verdict { within, score: 8 }, "the line at {x}");
+    expect_eq(rt, (x, verdict), (x, Verdict { within, score: 8 }));
 }

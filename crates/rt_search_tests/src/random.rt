@@ -4,6 +4,7 @@
 ghost use Rattle.std.specs.Prelude.{◌≤◌};
 ghost use Rattle.rt_geo.specs.Layers.{most_layer};
 
+use crate::expect::expect_eq;
 use crate::tables::push_on;
 use rt_geo::{
     All, Bounds, ById, Circle, Counted, Geometry, Guided, Layers, Near, OnLayers, Point, Rank,
@@ -249,7 +250,7 @@ fn add_search<G: Geometry>(
     digest.add(counted.asked());
     assert!(rt; tree.len() <= frontier.capacity(), "there is room");
     let (opened, frontier) = cost(tree, frontier, Counted::new(geometry), limit);
-    assert_eq!(rt; opened, told);
+    expect_eq(rt, opened, told);
     frontier
 }
 
@@ -374,6 +375,6 @@ fn add_shapes(
 fn random_tables_are_searched_as_by_another_search(rt: HostRuntime) {
     for case in &CASES {
         let digest = digest_of(&rt, rt.alloc(), case);
-        assert_eq!(rt; digest, case.digest, "seed {}", case.seed);
+        expect_eq(&rt, (case.seed, digest), (case.seed, case.digest));
     }
 }

@@ -9,12 +9,12 @@ use crate::tables::{Sides, boxed, push};
 use crate::uneven::Uneven;
 use crate::watched::Watched;
 use rt_geo::{
-    All, Bounds, ById, Circle, Counted, Geometry, Guided, Inside, Layers, Near, OnLayers, Order,
-    Point, Region, Smallest, Window,
+    All, ById, Circle, Counted, Geometry, Guided, Inside, Layers, Near, OnLayers, Order, Point,
+    Region, Smallest, Window,
 };
 use rt_search::{Count, Frontier, FullSearch, Search, cost, count};
 use rt_tree::{Table, Tree};
-use std::alloc::Global;
+use std::alloc::AllocGlobal;
 use std::process::Abort;
 use std::test::Fail;
 
@@ -27,24 +27,25 @@ static BOXES: [(i64, Sides); 5] = [
     (5, [12, 12, 12, 12]),
 ];
 
-fn pack(rt: &impl Abort, alloc: Global, boxes: &[(i64, Sides)]) -> Tree {
-    let mut table = Table::empty(alloc);
+fn pack(rt: &(impl Abort + AllocGlobal), boxes: &[(i64, Sides)]) -> Tree {
+    let mut table = Table::empty(rt.alloc());
     for (id, sides) in boxes {
         push(rt, &mut table, *id, boxed(rt, *sides));
     }
-    Tree::pack(alloc, table, 2).expect(rt, "there is memory")
+    Tree::pack(rt.alloc(), table, 2).expect(rt, "there is memory")
 }
 
 // 64 boxes round the origin: all one point, or each wider than the last.
-fn nested(rt: &impl Abort, alloc: Global, grows: bool) -> Tree {
-    let mut table = Table::empty(alloc);
-    for id in 1..65_i32 {
+fn nested(grows: bool) -> [(i64, Sides); 64] {
+    let mut boxes = [(0, [0; 4]); 64];
+    let mut id = 0i32;
+    for named in &mut boxes {
+        id = id.wrapping_add(1);
         let high = if grows { id } else { 0 };
         let low = high.wrapping_neg();
-        let bounds = boxed(rt, [low, high, low, high]);
-        push(rt, &mut table, id as i64, bounds);
+        *named = (i64::from(id), [low, high, low, high]);
     }
-    Tree::pack(alloc, table, 2).expect(rt, "there is memory")
+    boxes
 }
 
 // What a search has to give and to do: its answers, the nodes opened and the checks made.
@@ -55,16 +56,23 @@ struct Want<'a> {
     asked: u64,
 }
 
+static NOTHING: Want<'static> = Want {
+    answers: &[],
+    opened: 0,
+    asked: 0,
+};
+
+// The boxes are packed by what searches them, so that a test has no tree of its own to drop.
 fn expect_search<G: Geometry>(
-    rt: &impl Abort,
-    alloc: Global,
-    tree: &Tree,
+    rt: &(impl Abort + AllocGlobal),
+    boxes: &[(i64, Sides)],
     geometry: &G,
     limit: Option<u64>,
     want: &Want<'_>,
 ) {
-    let frontier = Frontier::new(alloc, tree.len()).expect(rt, "there is memory");
-    expect_search_over(rt, tree, frontier, geometry, limit, want);
+    let tree = pack(rt, boxes);
+    let frontier = Frontier::new(rt.alloc(), tree.len()).expect(rt, "there is memory");
+    expect_search_over(rt, &tree, frontier, geometry, limit, want);
 }
 
 fn expect_search_over<G: Geometry>(
@@ -84,18 +92,18 @@ fn expect_search_over<G: Geometry>(
 
 // The same where each node scores 0, and is opened before the first answer.
 fn expect_unscored<G: Geometry>(
-    rt: &impl Abort,
-    alloc: Global,
-    tree: &Tree,
+    rt: &(impl Abort + AllocGlobal),
+    boxes: &[(i64, Sides)],
     geometry: &G,
     limit: Option<u64>,
     want: &Want<'_>,
 )
     requires { IsUnscored (G.meaning geometry.now) }
 {
-    expect_search(rt, alloc, tree, geometry, limit, want);
-    let frontier = Frontier::new(alloc, tree.len()).expect(rt, "there is memory");
-    let search = Search::start_unscored(tree, frontier, Counted::new(geometry), limit);
+    expect_search(rt, boxes, geometry, limit, want);
+    let tree = pack(rt, boxes);
+    let frontier = Frontier::new(rt.alloc(), tree.len()).expect(rt, "there is memory");
+    let search = Search::start_unscored(&tree, frontier, Counted::new(geometry), limit);
     expect_eq(rt, search.opened(), want.opened);
     expect_answers(rt, search, tree.len(), want);
 }
@@ -107,45 +115,55 @@ fn expect_answers<G: Geometry>(
     want: &Want<'_>,
 ) {
     let mut search = search;
-    for answer in want.answers {
-        expect_eq(rt, search.next(), Some(*answer));
+    for place in 0..want.answers.len() + 2 {
+        expect_eq(rt, search.next(), answer_at(want.answers, place));
     }
-    expect_eq(rt, search.next(), None);
-    expect_eq(rt, search.next(), None);
     expect_eq(rt, search.opened(), want.opened);
     expect_finished(rt, search.finish(), capacity, want.asked);
 }
 
+// What a search gives after so many answers: behind the last it gives none, however often it is asked.
+fn answer_at(answers: &[(i64, u128)], place: usize) -> Option<(i64, u128)> {
+    answers.get(place).copied()
+}
+
 // The nodes that a search for so many answers opens, told without the answers.
 fn expect_cost<G: Geometry>(
-    rt: &impl Abort,
-    alloc: Global,
-    tree: &Tree,
+    rt: &(impl Abort + AllocGlobal),
+    boxes: &[(i64, Sides)],
     geometry: &G,
     limit: Option<u64>,
     want: u64,
 ) {
-    let frontier = Frontier::new(alloc, tree.len()).expect(rt, "there is memory");
-    let (opened, frontier) = cost(tree, frontier, Counted::new(geometry), limit);
-    expect_eq(rt, opened, want);
-    expect_eq(rt, frontier.capacity(), tree.len());
+    let tree = pack(rt, boxes);
+    let frontier = Frontier::new(rt.alloc(), tree.len()).expect(rt, "there is memory");
+    let (opened, frontier) = cost(&tree, frontier, Counted::new(geometry), limit);
+    expect_eq(rt, (opened, frontier.capacity()), (want, tree.len()));
 }
 
 // What a search for all answers gives, one at a time and all at once, and the first so many of them.
 fn expect_full_search<G: Geometry>(
-    rt: &impl Abort,
-    alloc: Global,
-    tree: &Tree,
+    rt: &(impl Abort + AllocGlobal),
+    boxes: &[(i64, Sides)],
     geometry: &G,
     want: &Want<'_>,
 ) {
-    expect_search(rt, alloc, tree, geometry, None, want);
-    let frontier = Frontier::new(alloc, tree.len()).expect(rt, "there is memory");
-    let search = FullSearch::start(tree, frontier, Counted::new(geometry));
+    expect_search(rt, boxes, geometry, None, want);
+    let tree = pack(rt, boxes);
+    let search = full_search(rt, &tree, geometry);
     expect_all_answers(rt, search, tree.len(), want);
     for count in 0..want.answers.len() + 2 {
-        expect_first_answers(rt, alloc, tree, geometry, count, want);
+        expect_first_answers(rt, &tree, geometry, count, want);
     }
+}
+
+fn full_search<'a, G: Geometry>(
+    rt: &(impl Abort + AllocGlobal),
+    tree: &'a Tree,
+    geometry: &'a G,
+) -> FullSearch<'a, G> {
+    let frontier = Frontier::new(rt.alloc(), tree.len()).expect(rt, "there is memory");
+    FullSearch::start(tree, frontier, Counted::new(geometry))
 }
 
 fn expect_all_answers<G: Geometry>(
@@ -156,11 +174,9 @@ fn expect_all_answers<G: Geometry>(
 ) {
     let mut search = search;
     expect_eq(rt, search.opened(), want.opened);
-    for answer in want.answers {
-        expect_eq(rt, search.next(), Some(*answer));
+    for place in 0..want.answers.len() + 2 {
+        expect_eq(rt, search.next(), answer_at(want.answers, place));
     }
-    expect_eq(rt, search.next(), None);
-    expect_eq(rt, search.next(), None);
     expect_eq(rt, search.opened(), want.opened);
     expect_finished(rt, search.finish(), capacity, want.asked);
 }
@@ -172,39 +188,42 @@ fn expect_finished<G: Geometry>(
     capacity: u32,
     asked: u64,
 ) {
-    expect_eq(rt, finished.1.asked(), asked);
-    expect_eq(rt, finished.0.capacity(), capacity);
+    let (frontier, counted) = finished;
+    expect_eq(
+        rt,
+        (frontier.capacity(), counted.asked()),
+        (capacity, asked),
+    );
 }
 
 // The first so many of what a search for all answers gives: `want` has all.
 fn expect_first_answers<G: Geometry>(
-    rt: &impl Abort,
-    alloc: Global,
+    rt: &(impl Abort + AllocGlobal),
     tree: &Tree,
     geometry: &G,
     count: usize,
     want: &Want<'_>,
 ) {
-    let frontier = Frontier::new(alloc, tree.len()).expect(rt, "there is memory");
-    let search = FullSearch::start(tree, frontier, Counted::new(geometry));
-    let mut first = search.first(count as u64);
-    for answer in &want.answers[..count.min(want.answers.len())] {
-        expect_eq(rt, first.next(), Some(*answer));
+    let mut first = full_search(rt, tree, geometry).first(count as u64);
+    let answers = &want.answers[..count.min(want.answers.len())];
+    for place in 0..answers.len() + 2 {
+        expect_eq(rt, first.next(), answer_at(answers, place));
     }
-    expect_eq(rt, first.next(), None);
-    expect_eq(rt, first.next(), None);
     expect_finished(rt, first.finish(), tree.len(), want.asked);
 }
 
+// How many entries a count accepts, and how many nodes it opens.
 fn expect_count<G: Geometry>(
-    rt: &impl Abort,
-    alloc: Global,
-    tree: &Tree,
+    rt: &(impl Abort + AllocGlobal),
+    boxes: &[(i64, Sides)],
     geometry: &G,
-    want: Count,
+    accepted: u64,
+    opened: u64,
 ) {
-    let mut frontier = Frontier::new(alloc, tree.len()).expect(rt, "there is memory");
-    let _asked = expect_count_over(rt, tree, &mut frontier, geometry, want);
+    let want = Count { accepted, opened };
+    let tree = pack(rt, boxes);
+    let mut frontier = Frontier::new(rt.alloc(), tree.len()).expect(rt, "there is memory");
+    let _asked = expect_count_over(rt, &tree, &mut frontier, geometry, want);
 }
 
 // A count over a frontier, in which nothing is left. Returns the number of its checks.
@@ -230,119 +249,119 @@ fn near(x: i32, y: i32) -> Guided<All, Near> {
     }
 }
 
-fn all_by_id() -> Guided<All, ById> {
+static BY_ID: Guided<All, ById> = Guided {
+    shape: All,
+    rank: ById,
+};
+
+static BY_AREA: Guided<All, Smallest> = Guided {
+    shape: All,
+    rank: Smallest,
+};
+
+fn in_window(rt: &impl Abort, sides: Sides) -> Guided<Window, ById> {
     Guided {
-        shape: All,
+        shape: Window(boxed(rt, sides)),
         rank: ById,
     }
 }
 
-fn in_window(bounds: Bounds) -> Guided<Window, ById> {
-    Guided {
-        shape: Window(bounds),
-        rank: ById,
-    }
-}
+// How many of the nearest are asked for.
+static NEAREST: [(u64, Want<'static>); 3] = [
+    (
+        3,
+        Want {
+            answers: &[(2, 0), (5, 0), (1, 8)],
+            opened: 5,
+            asked: 9,
+        },
+    ),
+    (
+        2,
+        Want {
+            answers: &[(2, 0), (5, 0)],
+            opened: 3,
+            asked: 5,
+        },
+    ),
+    (
+        0,
+        Want {
+            answers: &[],
+            opened: 0,
+            asked: 0,
+        },
+    ),
+];
 
 #[test]
 fn the_nearest_are_found_with_exact_work(rt: HostRuntime) {
-    let tree = pack(&rt, rt.alloc(), &BOXES);
     let geometry = near(12, 12);
-    for (limit, want) in [
-        (
-            3,
-            Want {
-                answers: &[(2, 0), (5, 0), (1, 8)],
-                opened: 5,
-                asked: 9,
-            },
-        ),
-        (
-            2,
-            Want {
-                answers: &[(2, 0), (5, 0)],
-                opened: 3,
-                asked: 5,
-            },
-        ),
-        (
-            0,
-            Want {
-                answers: &[],
-                opened: 0,
-                asked: 0,
-            },
-        ),
-    ] {
-        expect_search(&rt, rt.alloc(), &tree, &geometry, Some(limit), &want);
-        expect_cost(&rt, rt.alloc(), &tree, &geometry, Some(limit), want.opened);
+    for (limit, want) in &NEAREST {
+        expect_search(&rt, &BOXES, &geometry, Some(*limit), want);
+        expect_cost(&rt, &BOXES, &geometry, Some(*limit), want.opened);
     }
-    expect_cost(&rt, rt.alloc(), &tree, &geometry, None, 6);
+    expect_cost(&rt, &BOXES, &geometry, None, 6);
 }
+
+static ALL_BY_ID: Want<'static> = Want {
+    answers: &[(1, 0), (2, 0), (3, 0), (4, 0), (5, 0)],
+    opened: 6,
+    asked: 10,
+};
 
 #[test]
 fn nodes_come_before_entries_at_equal_score(rt: HostRuntime) {
-    let tree = pack(&rt, rt.alloc(), &BOXES);
-    let want = Want {
-        answers: &[(1, 0), (2, 0), (3, 0), (4, 0), (5, 0)],
-        opened: 6,
-        asked: 10,
-    };
-    expect_full_search(&rt, rt.alloc(), &tree, &all_by_id(), &want);
+    expect_full_search(&rt, &BOXES, &BY_ID, &ALL_BY_ID);
 }
+
+static FIRST_TWO: Want<'static> = Want {
+    answers: &[(1, 0), (2, 0)],
+    opened: 6,
+    asked: 10,
+};
+
+static FIRST_IN_WINDOW: Want<'static> = Want {
+    answers: &[(1, 0)],
+    opened: 5,
+    asked: 9,
+};
 
 // However few are wanted, as no node has a score.
 #[test]
 fn nodes_without_a_score_are_opened_before_the_first_answer(rt: HostRuntime) {
-    let tree = pack(&rt, rt.alloc(), &BOXES);
-    let two = Want {
-        answers: &[(1, 0), (2, 0)],
-        opened: 6,
-        asked: 10,
-    };
-    expect_unscored(&rt, rt.alloc(), &tree, &all_by_id(), Some(2), &two);
-    let window = in_window(boxed(&rt, [0, 10, 0, 10]));
-    let first = Want {
-        answers: &[(1, 0)],
-        opened: 5,
-        asked: 9,
-    };
-    expect_unscored(&rt, rt.alloc(), &tree, &window, Some(1), &first);
+    expect_unscored(&rt, &BOXES, &BY_ID, Some(2), &FIRST_TWO);
+    let window = in_window(&rt, [0, 10, 0, 10]);
+    expect_unscored(&rt, &BOXES, &window, Some(1), &FIRST_IN_WINDOW);
 }
+
+static ALL_BY_AREA: Want<'static> = Want {
+    answers: &[(5, 0), (4, 16), (1, 100), (2, 100), (3, 100)],
+    opened: 6,
+    asked: 10,
+};
 
 #[test]
 fn areas_are_scores_of_entries_alone(rt: HostRuntime) {
-    let tree = pack(&rt, rt.alloc(), &BOXES);
-    let smallest = Guided {
-        shape: All,
-        rank: Smallest,
-    };
-    let areas = Want {
-        answers: &[(5, 0), (4, 16), (1, 100), (2, 100), (3, 100)],
-        opened: 6,
-        asked: 10,
-    };
-    expect_unscored(&rt, rt.alloc(), &tree, &smallest, None, &areas);
+    expect_unscored(&rt, &BOXES, &BY_AREA, None, &ALL_BY_AREA);
 }
 
 // Neither where none is wanted nor where there is none.
 #[test]
 fn nothing_is_opened_for_no_answer(rt: HostRuntime) {
-    let none = Want {
-        answers: &[],
-        opened: 0,
-        asked: 0,
-    };
-    let tree = pack(&rt, rt.alloc(), &BOXES);
-    expect_unscored(&rt, rt.alloc(), &tree, &all_by_id(), Some(0), &none);
-    let empty = pack(&rt, rt.alloc(), &[]);
-    expect_unscored(&rt, rt.alloc(), &empty, &all_by_id(), Some(1), &none);
+    expect_unscored(&rt, &BOXES, &BY_ID, Some(0), &NOTHING);
+    expect_unscored(&rt, &[], &BY_ID, Some(1), &NOTHING);
 }
+
+static IN_CIRCLE: Want<'static> = Want {
+    answers: &[(1, 0), (4, 0)],
+    opened: 3,
+    asked: 6,
+};
 
 // No query line asks so: one that has a circle and no order asks for the nearest first.
 #[test]
 fn circles_are_told_by_id_too(rt: HostRuntime) {
-    let tree = pack(&rt, rt.alloc(), &BOXES);
     let circle = Guided {
         shape: Region::Circle(Circle {
             centre: Point::default(),
@@ -350,69 +369,44 @@ fn circles_are_told_by_id_too(rt: HostRuntime) {
         }),
         rank: Order::ById(ById),
     };
-    let want = Want {
-        answers: &[(1, 0), (4, 0)],
-        opened: 3,
-        asked: 6,
-    };
-    expect_full_search(&rt, rt.alloc(), &tree, &circle, &want);
+    expect_full_search(&rt, &BOXES, &circle, &IN_CIRCLE);
 }
+
+static ALL_UNEVEN: Want<'static> = Want {
+    answers: &[(1, 10), (2, 10), (3, 10), (4, 10), (5, 10)],
+    opened: 6,
+    asked: 10,
+};
+
+static FIRST_UNEVEN: Want<'static> = Want {
+    answers: &[(1, 10)],
+    opened: 6,
+    asked: 10,
+};
 
 #[test]
 fn a_node_may_score_above_its_children(rt: HostRuntime) {
-    let tree = pack(&rt, rt.alloc(), &BOXES);
-    let all = Want {
-        answers: &[(1, 10), (2, 10), (3, 10), (4, 10), (5, 10)],
-        opened: 6,
-        asked: 10,
-    };
-    expect_full_search(&rt, rt.alloc(), &tree, &Uneven, &all);
-    let first = Want {
-        answers: &[(1, 10)],
-        opened: 6,
-        asked: 10,
-    };
-    expect_search(&rt, rt.alloc(), &tree, &Uneven, Some(1), &first);
+    expect_full_search(&rt, &BOXES, &Uneven, &ALL_UNEVEN);
+    expect_search(&rt, &BOXES, &Uneven, Some(1), &FIRST_UNEVEN);
 }
 
 #[test]
 fn a_search_of_ones_own_gives_the_first_answer(rt: HostRuntime) {
-    let tree = pack(&rt, rt.alloc(), &BOXES);
+    let tree = pack(&rt, &BOXES);
     let frontier = Frontier::new(rt.alloc(), tree.len()).expect(&rt, "there is memory");
     let (answer, opened, _frontier) = first_answer(&tree, frontier);
-    expect_eq(&rt, answer, Some((1, 10)));
-    expect_eq(&rt, opened, 6);
+    expect_eq(&rt, (answer, opened), (Some((1, 10)), 6));
 }
 
 #[test]
 fn counts_whole_subtrees(rt: HostRuntime) {
-    let tree = pack(&rt, rt.alloc(), &BOXES);
-    let window = in_window(boxed(&rt, [0, 10, 0, 10]));
-    expect_count(
-        &rt,
-        rt.alloc(),
-        &tree,
-        &window,
-        Count {
-            accepted: 2,
-            opened: 5,
-        },
-    );
-    expect_count(
-        &rt,
-        rt.alloc(),
-        &tree,
-        &all_by_id(),
-        Count {
-            accepted: 5,
-            opened: 1,
-        },
-    );
+    let window = in_window(&rt, [0, 10, 0, 10]);
+    expect_count(&rt, &BOXES, &window, 2, 5);
+    expect_count(&rt, &BOXES, &BY_ID, 5, 1);
 }
 
 #[test]
 fn a_layer_that_no_box_has_counts_nothing(rt: HostRuntime) {
-    let tree = pack(&rt, rt.alloc(), &BOXES);
     let on_one = Guided {
         shape: OnLayers {
             shape: All,
@@ -420,187 +414,143 @@ fn a_layer_that_no_box_has_counts_nothing(rt: HostRuntime) {
         },
         rank: ById,
     };
-    let want = Count {
-        accepted: 0,
-        opened: 1,
-    };
-    expect_count(&rt, rt.alloc(), &tree, &on_one, want);
+    expect_count(&rt, &BOXES, &on_one, 0, 1);
 }
 
 #[test]
 fn nothing_is_opened_in_an_empty_tree(rt: HostRuntime) {
-    let tree = pack(&rt, rt.alloc(), &[]);
-    let want = Want {
-        answers: &[],
-        opened: 0,
-        asked: 0,
-    };
-    expect_full_search(&rt, rt.alloc(), &tree, &all_by_id(), &want);
-    expect_cost(&rt, rt.alloc(), &tree, &all_by_id(), None, 0);
-    expect_count(
-        &rt,
-        rt.alloc(),
-        &tree,
-        &all_by_id(),
-        Count {
-            accepted: 0,
-            opened: 0,
-        },
-    );
+    expect_full_search(&rt, &[], &BY_ID, &NOTHING);
+    expect_cost(&rt, &[], &BY_ID, None, 0);
+    expect_count(&rt, &[], &BY_ID, 0, 0);
 }
+
+static NEAREST_OF_EQUAL: Want<'static> = Want {
+    answers: &[(1, 0)],
+    opened: 63,
+    asked: 126,
+};
+
+static BESIDE_EQUAL: Want<'static> = Want {
+    answers: &[],
+    opened: 1,
+    asked: 2,
+};
 
 #[test]
 fn equal_boxes_are_all_opened_for_the_nearest(rt: HostRuntime) {
-    let tree = nested(&rt, rt.alloc(), false);
-    let nearest = Want {
-        answers: &[(1, 0)],
-        opened: 63,
-        asked: 126,
-    };
-    expect_search(&rt, rt.alloc(), &tree, &near(0, 0), Some(1), &nearest);
-    let window = in_window(boxed(&rt, [1, 1, 1, 1]));
-    let none = Want {
-        answers: &[],
-        opened: 1,
-        asked: 2,
-    };
-    expect_full_search(&rt, rt.alloc(), &tree, &window, &none);
-    expect_count(
-        &rt,
-        rt.alloc(),
-        &tree,
-        &all_by_id(),
-        Count {
-            accepted: 64,
-            opened: 1,
-        },
-    );
+    let boxes = nested(false);
+    expect_search(&rt, &boxes, &near(0, 0), Some(1), &NEAREST_OF_EQUAL);
+    let window = in_window(&rt, [1, 1, 1, 1]);
+    expect_full_search(&rt, &boxes, &window, &BESIDE_EQUAL);
+    expect_count(&rt, &boxes, &BY_ID, 64, 1);
 }
+
+static NEAREST_OF_NESTED: Want<'static> = Want {
+    answers: &[(64, 2592)],
+    opened: 6,
+    asked: 12,
+};
 
 #[test]
 fn nested_boxes_are_told_apart(rt: HostRuntime) {
-    let tree = nested(&rt, rt.alloc(), true);
-    let nearest = Want {
-        answers: &[(64, 2592)],
-        opened: 6,
-        asked: 12,
-    };
-    expect_search(&rt, rt.alloc(), &tree, &near(100, 100), Some(1), &nearest);
+    let boxes = nested(true);
+    let geometry = near(100, 100);
+    expect_search(&rt, &boxes, &geometry, Some(1), &NEAREST_OF_NESTED);
     let inside = Guided {
         shape: Inside(boxed(&rt, [-32, 32, -32, 32])),
         rank: ById,
     };
-    expect_count(
-        &rt,
-        rt.alloc(),
-        &tree,
-        &inside,
-        Count {
-            accepted: 32,
-            opened: 32,
-        },
-    );
+    expect_count(&rt, &boxes, &inside, 32, 32);
 }
+
+static CORNERS: [(i64, Sides); 4] = [
+    (1, [i32::MIN, i32::MIN, i32::MIN, i32::MIN]),
+    (2, [i32::MAX, i32::MAX, i32::MIN, i32::MIN]),
+    (3, [i32::MIN, i32::MIN, i32::MAX, i32::MAX]),
+    (4, [i32::MAX, i32::MAX, i32::MAX, i32::MAX]),
+];
+
+static FROM_THE_FIRST_CORNER: Want<'static> = Want {
+    answers: &[
+        (1, 0),
+        (2, 18_446_744_065_119_617_025),
+        (3, 18_446_744_065_119_617_025),
+        (4, 36_893_488_130_239_234_050),
+    ],
+    opened: 3,
+    asked: 6,
+};
 
 #[test]
 fn the_corners_of_the_plane_have_their_scores(rt: HostRuntime) {
-    let corners: [(i64, Sides); 4] = [
-        (1, [i32::MIN, i32::MIN, i32::MIN, i32::MIN]),
-        (2, [i32::MAX, i32::MAX, i32::MIN, i32::MIN]),
-        (3, [i32::MIN, i32::MIN, i32::MAX, i32::MAX]),
-        (4, [i32::MAX, i32::MAX, i32::MAX, i32::MAX]),
-    ];
-    let tree = pack(&rt, rt.alloc(), &corners);
-    let want = Want {
-        answers: &[
-            (1, 0),
-            (2, 18_446_744_065_119_617_025),
-            (3, 18_446_744_065_119_617_025),
-            (4, 36_893_488_130_239_234_050),
-        ],
-        opened: 3,
-        asked: 6,
-    };
-    expect_search(
-        &rt,
-        rt.alloc(),
-        &tree,
-        &near(i32::MIN, i32::MIN),
-        Some(4),
-        &want,
-    );
+    let first = near(i32::MIN, i32::MIN);
+    expect_search(&rt, &CORNERS, &first, Some(4), &FROM_THE_FIRST_CORNER);
 }
+
+static AT_THE_ORIGIN: [(i64, Sides); 4] = [
+    (0, [0, 0, 0, 0]),
+    (i64::MAX, [0, 0, 0, 0]),
+    (i64::MIN, [0, 0, 0, 0]),
+    (-1, [0, 0, 0, 0]),
+];
+
+static EACH_AT_25: Want<'static> = Want {
+    answers: &[(i64::MIN, 25), (-1, 25), (0, 25), (i64::MAX, 25)],
+    opened: 3,
+    asked: 6,
+};
 
 #[test]
 fn at_equal_scores_the_lowest_id_comes_first(rt: HostRuntime) {
-    let origin: Sides = [0, 0, 0, 0];
-    let boxes: [(i64, Sides); 4] = [
-        (0, origin),
-        (i64::MAX, origin),
-        (i64::MIN, origin),
-        (-1, origin),
-    ];
-    let tree = pack(&rt, rt.alloc(), &boxes);
-    let want = Want {
-        answers: &[(i64::MIN, 25), (-1, 25), (0, 25), (i64::MAX, 25)],
-        opened: 3,
-        asked: 6,
-    };
-    expect_full_search(&rt, rt.alloc(), &tree, &near(3, 4), &want);
+    expect_full_search(&rt, &AT_THE_ORIGIN, &near(3, 4), &EACH_AT_25);
 }
 
 // The greatest x of what is shown, in the order in which nodes are opened and their children stand.
 #[test]
 fn nodes_are_opened_by_score_and_number(rt: HostRuntime) {
-    let tree = pack(&rt, rt.alloc(), &BOXES);
-    let all = Want {
-        answers: &[(1, 0), (2, 0), (3, 0), (4, 0), (5, 0)],
-        opened: 6,
-        asked: 10,
+    let by_id = Guided {
+        shape: All,
+        rank: ById,
     };
     // root; d, a, c; e, b
     let shown = [30, 15, 10, 30, -1, 10, 30, 15, 15, 12];
-    expect_shown(&rt, rt.alloc(), &tree, all_by_id(), None, &all, shown);
-    let three = Want {
-        answers: &[(2, 0), (5, 0), (1, 8)],
-        opened: 5,
-        asked: 9,
-    };
+    expect_shown(&rt, by_id, None, &ALL_BY_ID, shown);
     // root; e, b; d, a; never c
     let shown = [30, 15, 15, 15, 12, 10, 30, -1, 10, 0];
-    expect_shown(&rt, rt.alloc(), &tree, near(12, 12), Some(3), &three, shown);
+    expect_shown(&rt, near(12, 12), Some(3), &NEAREST[0].1, shown);
 }
 
 fn expect_shown<G: Geometry + Drop>(
-    rt: &impl Abort,
-    alloc: Global,
-    tree: &Tree,
+    rt: &(impl Abort + AllocGlobal),
     geometry: G,
     limit: Option<u64>,
     want: &Want<'_>,
     shown: [i32; 10],
 ) {
     let watched = Watched::new(geometry);
-    expect_search(rt, alloc, tree, &watched, limit, want);
+    expect_search(rt, &BOXES, &watched, limit, want);
     expect_eq(rt, watched.shown(), shown);
 }
+
+// What is shown for the window. d: a, never c; e: b
+static SHOWN_FOR_WINDOW: [i32; 10] = [30, 10, -1, 10, 30, 15, 15, 15, 12, 0];
 
 // The same of a full search and of a count, which go down to each child in turn. No box is shown twice.
 #[test]
 fn full_searches_and_counts_ask_about_each_child_once(rt: HostRuntime) {
-    let tree = pack(&rt, rt.alloc(), &BOXES);
-    let mut frontier = expect_shown_by_a_full_search(&rt, rt.alloc(), &tree);
-    let window = Watched::new(in_window(boxed(&rt, [0, 10, 0, 10])));
+    let tree = pack(&rt, &BOXES);
+    let mut frontier = expect_shown_by_a_full_search(&rt, &tree);
+    let window = Watched::new(in_window(&rt, [0, 10, 0, 10]));
     let _two = count(&tree, &mut frontier, &mut Counted::new(&window));
-    // d: a, never c; e: b
-    let want = [30, 10, -1, 10, 30, 15, 15, 15, 12, 0];
-    expect_eq(&rt, window.shown(), want);
+    expect_eq(&rt, window.shown(), SHOWN_FOR_WINDOW);
 }
 
-fn expect_shown_by_a_full_search(rt: &impl Abort, alloc: Global, tree: &Tree) -> Frontier {
-    let frontier = Frontier::new(alloc, tree.len()).expect(rt, "there is memory");
-    let all = Watched::new(all_by_id());
-    let search = FullSearch::start(tree, frontier, Counted::new(&all));
+fn expect_shown_by_a_full_search(rt: &(impl Abort + AllocGlobal), tree: &Tree) -> Frontier {
+    let all = Watched::new(Guided {
+        shape: All,
+        rank: ById,
+    });
+    let search = full_search(rt, tree, &all);
     // d: a, c; e: b
     let want = [30, 10, -1, 10, 30, 30, 15, 15, 15, 12];
     expect_eq(rt, all.shown(), want);
@@ -654,23 +604,21 @@ static IDS: [([i64; 5], [i64; 5]); 7] = [
 #[test]
 fn full_searches_give_ids_in_order(rt: HostRuntime) {
     for (ids, in_order) in &IDS {
-        let tree = of_ids(&rt, rt.alloc(), ids);
-        expect_ids(&rt, rt.alloc(), &tree, in_order);
+        let tree = of_ids(&rt, ids);
+        expect_ids(&rt, &tree, in_order);
     }
 }
 
-fn of_ids(rt: &impl Abort, alloc: Global, ids: &[i64]) -> Tree {
-    let mut table = Table::empty(alloc);
+fn of_ids(rt: &(impl Abort + AllocGlobal), ids: &[i64]) -> Tree {
+    let mut table = Table::empty(rt.alloc());
     for id in ids {
         push(rt, &mut table, *id, boxed(rt, [0, 0, 0, 0]));
     }
-    Tree::pack(alloc, table, 2).expect(rt, "there is memory")
+    Tree::pack(rt.alloc(), table, 2).expect(rt, "there is memory")
 }
 
-fn expect_ids(rt: &impl Abort, alloc: Global, tree: &Tree, ids: &[i64]) {
-    let frontier = Frontier::new(alloc, tree.len()).expect(rt, "there is memory");
-    let all = all_by_id();
-    let mut search = FullSearch::start(tree, frontier, Counted::new(&all));
+fn expect_ids(rt: &(impl Abort + AllocGlobal), tree: &Tree, ids: &[i64]) {
+    let mut search = full_search(rt, tree, &BY_ID);
     for id in ids {
         expect_eq(rt, search.next(), Some((*id, 0)));
     }
@@ -681,44 +629,38 @@ fn expect_ids(rt: &impl Abort, alloc: Global, tree: &Tree, ids: &[i64]) {
 // Of many that are found those behind the limit are given up first: by a sample where at most half are wanted.
 #[test]
 fn full_searches_up_to_a_limit_give_the_first_of_all(rt: HostRuntime) {
-    let tree = many(&rt, rt.alloc());
-    expect_first_of_all(&rt, rt.alloc(), &tree, &all_by_id());
-    let by_area = Guided {
-        shape: All,
-        rank: Smallest,
-    };
-    expect_first_of_all(&rt, rt.alloc(), &tree, &by_area);
-    expect_first_of_all(&rt, rt.alloc(), &tree, &near(i32::MAX, i32::MIN));
+    expect_first_of_all(&rt, &BY_ID);
+    expect_first_of_all(&rt, &BY_AREA);
+    expect_first_of_all(&rt, &near(i32::MAX, i32::MIN));
 }
 
-fn many(rt: &impl Abort, alloc: Global) -> Tree {
-    let mut table = Table::empty(alloc);
+fn many(rt: &(impl Abort + AllocGlobal)) -> Tree {
+    let mut table = Table::empty(rt.alloc());
     for i in 0..1_200 {
         let bounds = boxed(rt, [0, i % 40, 0, i % 30]);
         let id = i64::from(i) * 7_919 % 10_007 - 5_000;
         push(rt, &mut table, id, bounds);
     }
-    Tree::pack(alloc, table, 16).expect(rt, "there is memory")
+    Tree::pack(rt.alloc(), table, 16).expect(rt, "there is memory")
 }
 
-fn expect_first_of_all<G: Geometry>(rt: &impl Abort, alloc: Global, tree: &Tree, geometry: &G) {
-    for limit in [0, 1, 2, 129, 300, 599, 600, 601, 1_199, 1_200, 5_000] {
-        expect_first_so_many(rt, alloc, tree, geometry, limit);
+static LIMITS: [u64; 11] = [0, 1, 2, 129, 300, 599, 600, 601, 1_199, 1_200, 5_000];
+
+fn expect_first_of_all<G: Geometry>(rt: &(impl Abort + AllocGlobal), geometry: &G) {
+    let tree = many(rt);
+    for limit in &LIMITS {
+        expect_first_so_many(rt, &tree, geometry, *limit);
     }
 }
 
 fn expect_first_so_many<G: Geometry>(
-    rt: &impl Abort,
-    alloc: Global,
+    rt: &(impl Abort + AllocGlobal),
     tree: &Tree,
     geometry: &G,
     limit: u64,
 ) {
-    let frontier = Frontier::new(alloc, tree.len()).expect(rt, "there is memory");
-    let mut all = FullSearch::start(tree, frontier, Counted::new(geometry));
-    let frontier = Frontier::new(alloc, tree.len()).expect(rt, "there is memory");
-    let search = FullSearch::start(tree, frontier, Counted::new(geometry));
-    let mut first = search.first(limit);
+    let mut all = full_search(rt, tree, geometry);
+    let mut first = full_search(rt, tree, geometry).first(limit);
     for _ in 0..limit {
         expect_eq(rt, first.next(), all.next());
     }
@@ -730,59 +672,73 @@ fn expect_first_so_many<G: Geometry>(
 // The same of a search in whose order no node has a score: all is asked before the first answer, whatever the limit.
 #[test]
 fn unscored_searches_ask_about_each_child_once(rt: HostRuntime) {
-    let tree = pack(&rt, rt.alloc(), &BOXES);
-    let frontier = Frontier::new(rt.alloc(), tree.len()).expect(&rt, "there is memory");
-    let window = Watched::new(in_window(boxed(&rt, [0, 10, 0, 10])));
-    let mut search = Search::start_unscored(&tree, frontier, Counted::new(&window), Some(1));
-    // d: a, never c; e: b
-    let want = [30, 10, -1, 10, 30, 15, 15, 15, 12, 0];
-    expect_eq(&rt, window.shown(), want);
-    expect_eq(&rt, search.next(), Some((1, 0)));
-    let _end = search.finish();
-    expect_eq(&rt, window.shown(), want);
+    let window = Watched::new(in_window(&rt, [0, 10, 0, 10]));
+    expect_shown_at_the_start(&rt, &pack(&rt, &BOXES), &window);
+    expect_eq(&rt, window.shown(), SHOWN_FOR_WINDOW);
 }
+
+fn expect_shown_at_the_start(
+    rt: &(impl Abort + AllocGlobal),
+    tree: &Tree,
+    window: &Watched<Guided<Window, ById>>,
+) {
+    let frontier = Frontier::new(rt.alloc(), tree.len()).expect(rt, "there is memory");
+    let search = Search::start_unscored(tree, frontier, Counted::new(window), Some(1));
+    expect_eq(rt, window.shown(), SHOWN_FOR_WINDOW);
+    expect_first(rt, search, (1, 0));
+}
+
+fn expect_first<G: Geometry>(rt: &impl Abort, search: Search<'_, G>, answer: (i64, u128)) {
+    let mut search = search;
+    expect_eq(rt, search.next(), Some(answer));
+    let _end = search.finish();
+}
+
+static IN_WINDOW: Want<'static> = Want {
+    answers: &[(1, 0), (2, 0)],
+    opened: 5,
+    asked: 9,
+};
 
 // A search that is finished early leaves in its frontier what still waited.
 #[test]
 fn a_count_gives_up_what_a_search_left(rt: HostRuntime) {
-    let tree = pack(&rt, rt.alloc(), &BOXES);
-    let mut frontier = left_by_a_search(&rt, rt.alloc(), &tree);
-    assert!(rt; !frontier.is_empty());
-    let window = in_window(boxed(&rt, [0, 10, 0, 10]));
-    let counts = Count {
+    let tree = pack(&rt, &BOXES);
+    let mut frontier = left_by_a_search(&rt, &tree);
+    let window = in_window(&rt, [0, 10, 0, 10]);
+    let want = Count {
         accepted: 2,
         opened: 5,
     };
-    let asked = expect_count_over(&rt, &tree, &mut frontier, &window, counts);
+    let asked = expect_count_over(&rt, &tree, &mut frontier, &window, want);
     expect_eq(&rt, asked, 9);
-    let want = Want {
-        answers: &[(1, 0), (2, 0)],
-        opened: 5,
-        asked: 9,
-    };
-    expect_search_over(&rt, &tree, frontier, &window, None, &want);
+    expect_search_over(&rt, &tree, frontier, &window, None, &IN_WINDOW);
 }
 
-fn left_by_a_search(rt: &impl Abort, alloc: Global, tree: &Tree) -> Frontier
+fn left_by_a_search(rt: &(impl Abort + AllocGlobal), tree: &Tree) -> Frontier
     ensures room { length tree.now.entries ≤ result.capacity }
 {
-    let frontier = Frontier::new(alloc, tree.len()).expect(rt, "there is memory");
+    let frontier = Frontier::new(rt.alloc(), tree.len()).expect(rt, "there is memory");
     let nearest = near(12, 12);
     let mut search = Search::start(tree, frontier, Counted::new(&nearest), None);
     expect_eq(rt, search.next(), Some((2, 0)));
-    search.finish().0
+    let (frontier, _counted) = search.finish();
+    assert!(rt; !frontier.is_empty());
+    frontier
 }
+
+static CAPACITIES: [u32; 4] = [0, 1, 5, 100_000];
 
 // Where an allocator refuses one growth, as tests/refusals.py has it, this tells so, and else it passes.
 #[test]
 fn a_refused_frontier_is_told(rt: HostRuntime) -> Result<(), Fail> {
-    for capacity in [0, 1, 5, 100_000] {
-        let Ok(frontier) = Frontier::new(rt.alloc(), capacity) else {
-            assert!(rt; Frontier::new(rt.alloc(), capacity).is_ok());
+    for capacity in &CAPACITIES {
+        let Ok(frontier) = Frontier::new(rt.alloc(), *capacity) else {
+            assert!(rt; Frontier::new(rt.alloc(), *capacity).is_ok());
             return Err(Fail::new("told as refused"));
         };
-        expect_eq(&rt, frontier.capacity(), capacity);
-        assert!(rt; frontier.is_empty());
+        let told = (frontier.capacity(), frontier.is_empty());
+        expect_eq(&rt, told, (*capacity, true));
     }
     Ok(())
 }
