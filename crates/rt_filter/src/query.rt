@@ -153,12 +153,12 @@ fn find<G: Geometry + Drop, K: Sink>(
             let search = FullSearch::start(tree, frontier, counted).first(most);
             Ok(push_search(search, line, sink)?.finish().0)
         }
-        Some(_) if is_unscored => {
-            let search = Search::start_unscored(tree, frontier, counted, limit);
-            Ok(push_search(search, line, sink)?.finish().0)
-        }
         Some(_) => {
-            let search = Search::start(tree, frontier, counted, limit);
+            let search = if is_unscored {
+                Search::start_unscored(tree, frontier, counted, limit)
+            } else {
+                Search::start(tree, frontier, counted, limit)
+            };
             Ok(push_search(search, line, sink)?.finish().0)
         }
     }
