@@ -24,14 +24,45 @@ fn finds_windows(rt: HostRuntime) {
             given.expect(&rt, table, touching, corners, 0, None);
         }
     }
-    PLAIN.expect(
-        &rt,
-        BOXES,
-        b"find window -5 -5 -5 -5",
-        b"4 0\nok 1 1\n",
-        0,
-        None,
-    )
+}
+
+// Tables and queries, with what a run over both writes.
+static RUNS: [(&[u8], &[u8], &[u8]); 10] = [
+    (BOXES, b"find window -5 -5 -5 -5", b"4 0\nok 1 1\n"),
+    (BOXES, b"levels", b"1 1\n0 5\nok 1 2\n"),
+    (BOXES, b"cost find all", b"ok 1 1\n"),
+    (b"", b"cost find all", b"ok 1 0\n"),
+    (b"", b"cost count all", b"ok 1 0\n"),
+    (b"", b"find window 0 0 0 0\n", b"ok 1 0\n"),
+    (
+        b"",
+        b"find all\ncount all\nlevels",
+        b"ok 1 0\nok 2 0\n0 0\nok 3 1\n",
+    ),
+    (
+        b"1,2147483647,2147483647,2147483647,2147483647",
+        b"nearest 1 -2147483648 -2147483648",
+        b"1 36893488130239234050\nok 1 1\n",
+    ),
+    // A tie goes by id, whatever the order of the records.
+    (
+        b"7,0,0,0,0\n-7,0,0,0,0\n3,0,0,0,0",
+        b"find all first 2",
+        b"-7 0\n3 0\nok 1 2\n",
+    ),
+    // The corner of the bounding box that the triangle leaves out.
+    (
+        b"1,25,30,25,30",
+        b"find polygon 3 0 0 30 0 0 30",
+        b"ok 1 0\n",
+    ),
+];
+
+#[test]
+fn runs_over_tables(rt: HostRuntime) {
+    for (table, queries, written) in &RUNS {
+        PLAIN.expect(&rt, table, queries, written, 0, None);
+    }
 }
 
 // Lines over two boxes, of which the first has layer 3, with what each is answered.
@@ -78,15 +109,11 @@ static COSTS: [(&str, &str); 16] = [
 fn costs_are_told(rt: HostRuntime) {
     let two = Given { fanout: 2, ..PLAIN };
     two.expect_replies(&rt, BOXES, &COSTS);
-    PLAIN.expect(&rt, BOXES, b"cost find all", b"ok 1 1\n", 0, None);
-    PLAIN.expect(&rt, b"", b"cost count all", b"ok 1 0\n", 0, None);
-    PLAIN.expect(&rt, b"", b"cost find all", b"ok 1 0\n", 0, None);
 }
 
 #[test]
 fn serves_empty_tables_and_queries(rt: HostRuntime) {
     let nothing: &[u8] = b"find window 0 0 0 0\n";
-    PLAIN.expect(&rt, b"", nothing, b"ok 1 0\n", 0, None);
     let header = Given {
         header: true,
         ..PLAIN
@@ -108,26 +135,31 @@ fn serves_empty_tables_and_queries(rt: HostRuntime) {
     )
 }
 
+// Queries over the five boxes, some of them faulty, and what is written.
+static NUMBERED: [(&[u8], &[u8]); 3] = [
+    (
+        b"\n# c\nfind window 10 0 0 10\nfind all first 0\nfind\nfind all x\nnearest 1 99999999999 0\n",
+        b"error 3 Q7 minimum above maximum\nok 4 0\nerror 5 Q4 missing word\nerror 6 Q10 stray word\nerror 7 Q6 out of range\n",
+    ),
+    (
+        b"find  window 0 10 0 10 \r\nfrob\n\tfind all first 1",
+        b"1 0\n2 0\nok 1 2\nerror 2 Q2 unknown verb\n1 0\nok 3 1\n",
+    ),
+    (
+        b"\xff\nfind all\r\r\n\r\n",
+        b"error 1 Q2 unknown verb\nerror 2 Q3 unknown region\n",
+    ),
+];
+
 #[test]
 fn numbers_every_line(rt: HostRuntime) {
     for piece in [1, SESSION_ROOM] {
-        expect_numbers(&rt, Given { piece, ..PLAIN });
+        let given = Given { piece, ..PLAIN };
+        for (queries, written) in &NUMBERED {
+            given.expect(&rt, BOXES, queries, written, 1, None);
+        }
+        given.expect(&rt, BOXES, b"\r\n", b"", 0, None);
     }
-}
-
-fn expect_numbers<R: Abort + AllocGlobal>(rt: &R, given: Given) {
-    let queries: &[u8] =
-        b"\n# c\nfind window 10 0 0 10\nfind all first 0\nfind\nfind all x\nnearest 1 99999999999 0\n";
-    let written: &[u8] =
-        b"error 3 Q7 minimum above maximum\nok 4 0\nerror 5 Q4 missing word\nerror 6 Q10 stray word\nerror 7 Q6 out of range\n";
-    let odd: &[u8] = b"\xff\nfind all\r\r\n\r\n";
-    let told: &[u8] = b"error 1 Q2 unknown verb\nerror 2 Q3 unknown region\n";
-    let ends: &[u8] = b"find  window 0 10 0 10 \r\nfrob\n\tfind all first 1";
-    let ended: &[u8] = b"1 0\n2 0\nok 1 2\nerror 2 Q2 unknown verb\n1 0\nok 3 1\n";
-    given.expect(rt, BOXES, queries, written, 1, None);
-    given.expect(rt, BOXES, ends, ended, 1, None);
-    given.expect(rt, BOXES, odd, told, 1, None);
-    given.expect(rt, BOXES, b"\r\n", b"", 0, None);
 }
 
 /// Queries over the five boxes, at most two children for each node, and their replies.
@@ -172,42 +204,6 @@ static REPLIES: [(&str, &str); 19] = [
 fn replies_to_queries(rt: HostRuntime) {
     let two = Given { fanout: 2, ..PLAIN };
     two.expect_replies(&rt, BOXES, &REPLIES);
-    PLAIN.expect(&rt, BOXES, b"levels", b"1 1\n0 5\nok 1 2\n", 0, None);
-    PLAIN.expect(
-        &rt,
-        b"",
-        b"find all\ncount all\nlevels",
-        b"ok 1 0\nok 2 0\n0 0\nok 3 1\n",
-        0,
-        None,
-    );
-    let far: &[u8] = b"1,2147483647,2147483647,2147483647,2147483647";
-    PLAIN.expect(
-        &rt,
-        far,
-        b"nearest 1 -2147483648 -2147483648",
-        b"1 36893488130239234050\nok 1 1\n",
-        0,
-        None,
-    );
-    // A tie goes by id, whatever the order of the records.
-    PLAIN.expect(
-        &rt,
-        b"7,0,0,0,0\n-7,0,0,0,0\n3,0,0,0,0",
-        b"find all first 2",
-        b"-7 0\n3 0\nok 1 2\n",
-        0,
-        None,
-    );
-    // The corner of the bounding box that the triangle leaves out.
-    PLAIN.expect(
-        &rt,
-        b"1,25,30,25,30",
-        b"find polygon 3 0 0 30 0 0 30",
-        b"ok 1 0\n",
-        0,
-        None,
-    )
 }
 
 #[test]
