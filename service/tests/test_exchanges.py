@@ -90,6 +90,7 @@ class Exchanges(Case):
             for asker in (one, two):
                 asker.sendall(b"count all\n")
                 read_lines(asker, 1)
+            (old,) = service.programs
             service.exchange()
             with service.connect() as three:
                 three.sendall(b"count all\n")
@@ -102,7 +103,6 @@ class Exchanges(Case):
                     four.sendall(b"count all\n")
                     self.assertEqual(read_lines(four, 1), b"ok 1 5\n")
                     # What the old program takes with it is free again.
-                    old = min(service.programs)
                     os.kill(old, signal.SIGKILL)
                     self.assertEqual(one.recv(1), b"")
                     until(lambda: len(service.programs) == 1, "the end of the old table")

@@ -76,10 +76,11 @@ class Health(Case):
         table.write_bytes(BOXES.read_bytes())
         service.logs("^ready: 5 boxes$")
         self.assertEqual(service.get("/health"), (200, "ready\n"))
+        (program,) = service.programs
         service.signal(signal.SIGHUP)
         until(lambda: len(service.programs) == 2, "the load")
         self.assertEqual(service.get("/health"), (200, "ready\n"))
-        os.kill(min(service.programs), signal.SIGKILL)
+        os.kill(program, signal.SIGKILL)
         until(lambda: service.get("/health") == (503, "not ready\n"), "the end of the program")
         table.write_bytes(BOXES.read_bytes())
         until(lambda: service.get("/health") == (200, "ready\n"), "another program")

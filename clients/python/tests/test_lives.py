@@ -112,6 +112,11 @@ class Case(unittest.TestCase):
         self.alone = str(shutil.copy(PROGRAM, self.folder))  # without what makes a table one for many
         self.before = programs(), open_files()
 
+    def holder(self) -> int:
+        """The one process that the test has started itself."""
+        (process,) = set(children_of(os.getpid())) - self.before[0]
+        return process
+
     def assert_nothing_left(self) -> None:
         gc.collect()
         self.assertEqual((programs(), open_files()), self.before)
@@ -513,10 +518,6 @@ class SharedPools(Case):
         if library_of(PROGRAM) is None:
             self.skipTest("there is no C compiler")
 
-    def holder(self) -> int:
-        (process,) = set(children_of(os.getpid())) - self.before[0]
-        return process
-
     def test_one_load(self) -> None:
         loads = self.folder / "loads"
         os.mkfifo(loads)  # which gives its lines once
@@ -893,7 +894,7 @@ class Closes(Case):
 
     def test_shared_pool(self) -> None:
         boxes = Pool(2, BOXES, program=PROGRAM, timeout=60)
-        for process in children_of(min(programs() - self.before[0])):
+        for process in children_of(self.holder()):
             stop(process)
         with self.under_way(lambda: boxes.ask(["count all"] * 300)) as raised, self.at_once():
             boxes.close()

@@ -227,11 +227,13 @@ class Tables(unittest.TestCase):
             processes = children_of(server.program())
             if not processes:
                 self.skipTest("there is no C compiler")
-            send(signal.SIGSTOP, processes[-1])
-            status = {server.get("/ask?q=count+all")[0].status for _ in range(100)}
-            self.assertEqual(status, {200, 503})
-            response, body = server.get("/ask?q=count+all")
-            self.assertEqual((response.status, json.loads(body)["told"]), (200, 1))
+            send(signal.SIGSTOP, *processes)  # whichever is asked
+            self.assertEqual(server.get("/ask?q=count+all")[0].status, 503)
+            send(signal.SIGCONT, *processes)
+            for _ in range(100):
+                response, body = server.get("/ask?q=count+all")
+                self.assertEqual((response.status, json.loads(body)["told"]), (200, 1))
+            self.assertEqual(len({*processes} - {*children_of(server.program())}), 1)
 
 
 def send(number: signal.Signals, *processes: int) -> None:
