@@ -10,6 +10,7 @@ and in a table its layer behind them. The nodes that a `cost` line asks about ar
 """
 
 import argparse
+import functools
 import re
 import sys
 from collections.abc import Callable
@@ -163,6 +164,7 @@ def cut(vertices, depth):
     return left
 
 
+@functools.cache
 def shares_a_point(vertices, box):
     """Whether a convex polygon and a box share a point: something is left of the polygon between the box's sides."""
     for depth in (
@@ -226,7 +228,7 @@ class Words:
         return sides
 
     def polygon(self):
-        vertices = [self.point() for _ in range(self.number(VERTICES, "Q8"))]
+        vertices = tuple(self.point() for _ in range(self.number(VERTICES, "Q8")))
         if not is_strictly_convex(vertices):
             raise Fault("Q9")
         return vertices

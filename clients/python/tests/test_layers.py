@@ -51,7 +51,7 @@ def some_region(chance: random.Random) -> tuple[Region, Callable[[Box], bool]]:
     """A region, and which boxes it accepts."""
     x, y, reach = chance.randint(-25, 25), chance.randint(-25, 25), chance.choice([0, 3, 15, 40])
     sides = x, x + reach, y, y + reach
-    vertices = [(x, y), (x + reach + 1, y), (x, y + reach + 1)]
+    vertices = (x, y), (x + reach + 1, y), (x, y + reach + 1)
     choices: list[tuple[Region, Callable[[Box], bool]]] = [
         (All(), lambda box: True),
         (Window(*sides), lambda box: bool(reading.meet(box, sides))),

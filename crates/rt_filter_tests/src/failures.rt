@@ -1,8 +1,7 @@
 //! Runs whose devices fail, at each place.
 
-use crate::expect::expect_eq;
 use crate::given::{BOXES, FIND, FOUND, Given, PLAIN, WITH_HEADER};
-use rt_filter::{RunFault, SESSION_ROOM, Settings, SliceSink, SliceSource, run};
+use rt_filter::{RunFault, SESSION_ROOM};
 use rt_text::{Axis, TableFault};
 use std::io::{self, Read};
 use std::process::Abort;
@@ -140,47 +139,37 @@ impl<'a> Read for Broken<'a> {
     }
 }
 
-// The fault of a run over so many bytes of a table and then a failed read.
-fn broken_after<R: Abort + AllocGlobal>(rt: &R, table: &[u8], reads: usize) -> Option<RunFault> {
-    let reader = Broken {
+// A run over so many bytes of a table and then a failed read ends with this fault. Nothing is read or written beside it.
+fn expect_fault_after<R: Abort + AllocGlobal>(
+    rt: &R,
+    table: &[u8],
+    reads: usize,
+    fault: TableFault,
+) {
+    let broken = Broken {
         bytes: &table[..reads.min(table.len())],
         at: 0,
     };
-    fault_of(rt, reader)
-}
-
-// The fault of a run whose table fails. Nothing is read or written beside it.
-fn fault_of<R: Abort + AllocGlobal>(rt: &R, reader: Broken<'_>) -> Option<RunFault> {
-    let settings = Settings::new(false, 16, 16).expect(rt, "they are in range");
-    let mut source = SliceSource::new(FIND, SESSION_ROOM, Some(1));
-    let mut room = [0u8; 64];
-    let mut sink = SliceSink::new(&mut room, 64, Some(1));
-    let outcome = run(
-        rt.alloc(),
-        &settings,
-        reader,
-        &mut source,
-        &mut sink,
-        u64::MAX,
-    );
-    expect_eq(rt, outcome.status, 3);
-    expect_eq(rt, sink.written(), b"".as_slice());
-    outcome.fault
+    let closed = Given {
+        pull_fails: Some(1),
+        push_fails: Some(1),
+        ..PLAIN
+    };
+    closed.expect_of(rt, broken, FIND, b"", 3, Some(RunFault::Table(fault)));
 }
 
 #[test]
 fn tells_each_failed_read_of_the_table(rt: HostRuntime) {
-    let read = Some(RunFault::Table(TableFault::Read));
     for reads in 0..=BOXES.len() {
-        expect_eq(&rt, broken_after(&rt, BOXES, reads), read);
+        expect_fault_after(&rt, BOXES, reads, TableFault::Read);
     }
     let turned: &[u8] = b"1,5,4,0,0\n";
-    let own = Some(RunFault::Table(TableFault::MinAboveMax {
+    for reads in 0..10 {
+        expect_fault_after(&rt, turned, reads, TableFault::Read);
+    }
+    let own = TableFault::MinAboveMax {
         number: 1,
         axis: Axis::X,
-    }));
-    for reads in 0..10 {
-        expect_eq(&rt, broken_after(&rt, turned, reads), read);
-    }
-    expect_eq(&rt, broken_after(&rt, turned, 10), own);
+    };
+    expect_fault_after(&rt, turned, 10, own);
 }

@@ -7,6 +7,7 @@ use rt_filter::{
 use rt_text::read_table;
 use rt_tree::Tree;
 use std::alloc::Global;
+use std::io::Read;
 use std::process::Abort;
 
 pub(crate) const BOXES: &[u8] =
@@ -50,11 +51,24 @@ pub(crate) const PLAIN: Given = Given {
 };
 
 impl Given {
-    /// Runs, and compares what was written, the status and the fault.
+    /// Runs over a table in memory, as `expect_of` does.
     pub(crate) fn expect<R: Abort + AllocGlobal>(
         self,
         rt: &R,
         table: &[u8],
+        queries: &[u8],
+        written: &[u8],
+        status: u8,
+        fault: Option<RunFault>,
+    ) {
+        self.expect_of(rt, table, queries, written, status, fault);
+    }
+
+    /// Runs, and compares what was written, the status and the fault.
+    pub(crate) fn expect_of<R: Abort + AllocGlobal, T: Read + Drop>(
+        self,
+        rt: &R,
+        table: T,
         queries: &[u8],
         written: &[u8],
         status: u8,

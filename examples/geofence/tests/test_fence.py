@@ -10,6 +10,7 @@ import sys
 import tempfile
 import unittest
 from fractions import Fraction
+from functools import cache, partial
 from pathlib import Path
 from typing import Any
 
@@ -227,14 +228,14 @@ class Random(Folder):
         for _ in range(150):
             high = chance.choice([3, 10, 40])
             rings = [some_ring_on_grid(chance, high) for _ in range(chance.randint(1, 3))]
-            held, outline = held_by(rings), Outline(rings)
+            held, outline, banded = held_by(rings), Outline(rings), cache(partial(Bands, rings))
             with_bands += isinstance(held, Bands)
             xs, ys = zip(*(place for ring in rings for place in ring))
             for x in range(min(xs) - 1, max(xs) + 2):
                 for y in range(min(ys), max(ys) + 1):
                     self.assertEqual(held.holds(x, y), outline.holds(x, y), (rings, x, y))
                     if isinstance(held, Bands):
-                        self.assertEqual(Bands(rings, chance.randint(1, 99)).holds(x, y), outline.holds(x, y))
+                        self.assertEqual(banded(chance.randint(1, 99)).holds(x, y), outline.holds(x, y))
         self.assertGreater(with_bands, 75)
         comb = [(x, y * 1000) for x in range(0, 4000, 2) for y in ((0, 1) if x % 4 else (1, 0))]
         self.assertIsInstance(held_by([[*comb, (4000, -1), (0, -1), comb[0]]]), Outline)
