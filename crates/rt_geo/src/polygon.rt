@@ -4,12 +4,15 @@
 //! four corners of the box for each edge. One corner is enough: the one farthest to the left of the edge shows
 //! whether the box meets the half-plane of the edge, the opposite one whether it lies in it.
 
-ghost use Rattle.std.specs.{List.{list_all}, Prelude.{◌≡◌, ◌<◌, ◌≤◌, ◌^◌, ◌-◌, true, not, ◌&&◌, IfSome, is_some, ◌-ℤ◌}};
-ghost use Rattle.std.specs.Prelude.{◌*ℤ◌, unsigned_abs, ◌∷◌, length, slice_index_or, count_by};
+ghost use Rattle.std.specs.{List.{list_all}, Prelude.{◌≡◌, ◌≢◌, ◌<◌, ◌≤◌, ◌^◌, ◌-◌, true, not, ◌&&◌, IfSome, is_some}};
+ghost use Rattle.std.specs.Prelude.{◌-ℤ◌, ◌*ℤ◌, unsigned_abs, ◌∷◌, length, slice_index_or, count_by};
 ghost use Rattle.rt_geo.specs.{Boxes.{IsRect}, Lemmas.HalfPlanes.{corner, leftmost_corner, rightmost_corner}};
-ghost use Rattle.rt_geo.specs.Polygons.{bounding_box, cross, edges, is_left, lies_in_half_plane, meets_half_plane};
-ghost use Rattle.rt_geo.specs.Polygons.{IsPolygonOf, IsStrictlyConvex, has_polygon_count, is_strictly_convex};
-ghost use Rattle.rt_geo.specs.{Polygons.{polygon_of}, Regions.{state_by}, ShortEdges.{has_short_edges}};
+ghost use Rattle.rt_geo.specs.{Lemmas.Regions.{region-faithful}, Polygons.{HoldsEachPoint, IsPolygonOf, IsStrictlyConvex}};
+ghost use Rattle.rt_geo.specs.Polygons.{SharesNoPoint, SharesPoint, bounding_box, cross, edges, has_polygon_count};
+ghost use Rattle.rt_geo.specs.Polygons.{is_left, is_strictly_convex, lies_in_half_plane, meets_half_plane, polygon_of};
+ghost use Rattle.rt_geo.specs.{Regions.{region_accepts, region_state, state_by}, ShortEdges.{has_short_edges}};
+ghost use Rattle.rt_geo.specs.declared.geometry.Within.TheVariants.{Not, Fully};
+ghost use Rattle.rt_geo.specs.declared.region.Region.TheVariants as region;
 
 use crate::bounds::{Bounds, hull, inside, overlaps};
 use crate::distance::Point;
@@ -133,11 +136,6 @@ impl<'a> Polygon<'a> {
 }
 
 impl<'a> Shape for Polygon<'a> {
-    ghost use Rattle.std.specs.Prelude.{◌≡◌, ◌≢◌};
-    ghost use Rattle.rt_geo.specs.{Polygons.{HoldsEachPoint, SharesNoPoint, SharesPoint}, Regions.{region_accepts}};
-    ghost use Rattle.rt_geo.specs.{Regions.{region_state}, declared.geometry.Within.TheVariants.{Not, Fully}};
-    ghost use Rattle.rt_geo.specs.declared.region.Region.TheVariants as region;
-
     ghost accepts = { λ s. region_accepts (region.Polygon s) };
 
     ghost state = { λ s. region_state (region.Polygon s) };
@@ -154,8 +152,6 @@ impl<'a> Shape for Polygon<'a> {
         let lies_inside = inside(info.bounds, self.bounds);
         state_by_edges(self.vertices, info.bounds, lies_inside)
     }
-
-    ghost use Rattle.rt_geo.specs.Lemmas.Regions.{region-faithful};
 
     ghost faithful = { λ s. region-faithful (region.Polygon s) };
 }

@@ -3,11 +3,14 @@
 //! What is the same for all boxes is computed once: where each edge leads, how far its line lies from the origin,
 //! and which corner of a box lies farthest to its left. The products of short edges with coordinates have 63 bits.
 
-ghost use Rattle.std.specs.{List.{list_all}, Prelude.{◌≡◌, ◌<◌, ◌≤◌, ◌^◌, ◌*ℤ◌, ◌-ℤ◌, true, not, ◌&&◌, length}};
+ghost use Rattle.std.specs.{List.{list_all}, Prelude.{◌≡◌, ◌≢◌, ◌<◌, ◌≤◌, ◌^◌, ◌*ℤ◌, ◌-ℤ◌, true, not, ◌&&◌, length}};
 ghost use Rattle.std.specs.Prelude.{unsigned_abs, is_some, IfSome, count_by};
 ghost use Rattle.rt_geo.specs.{Boxes.{IsRect}, HalfPlanes.{half_plane_of, half_planes_of, is_coordinate, is_small}};
-ghost use Rattle.rt_geo.specs.{HalfPlanes.{is_strictly_left, reaches, sides_of, turned_sides_of}, Polygons.{is_left}};
-ghost use Rattle.rt_geo.specs.{Polygons.{path_from}, Regions.{state_by}, ShortEdges.{has_short_edges, is_short}};
+ghost use Rattle.rt_geo.specs.HalfPlanes.{is_strictly_left, reaches, sides_of, turned_sides_of};
+ghost use Rattle.rt_geo.specs.{Lemmas.Regions.{region-faithful}, Polygons.{HoldsEachPoint, SharesNoPoint, SharesPoint}};
+ghost use Rattle.rt_geo.specs.{Polygons.{is_left, path_from}, Regions.{region_accepts, region_state, state_by}};
+ghost use Rattle.rt_geo.specs.{ShortEdges.{has_short_edges, is_short}, declared.geometry.Within.TheVariants.{Not, Fully}};
+ghost use Rattle.rt_geo.specs.declared.region.Region.TheVariants as region;
 
 use crate::bounds::{Bounds, inside, overlaps};
 use crate::distance::Point;
@@ -59,11 +62,6 @@ impl<'a> Model for PreparedPolygon<'a> {
 }
 
 impl<'a> Shape for PreparedPolygon<'a> {
-    ghost use Rattle.std.specs.Prelude.{◌≡◌, ◌≢◌};
-    ghost use Rattle.rt_geo.specs.{Polygons.{HoldsEachPoint, SharesNoPoint, SharesPoint}, Regions.{region_accepts}};
-    ghost use Rattle.rt_geo.specs.{Regions.{region_state}, declared.geometry.Within.TheVariants.{Not, Fully}};
-    ghost use Rattle.rt_geo.specs.declared.region.Region.TheVariants as region;
-
     ghost accepts = { λ s. region_accepts (region.Polygon s) };
 
     ghost state = { λ s. region_state (region.Polygon s) };
@@ -78,8 +76,6 @@ impl<'a> Shape for PreparedPolygon<'a> {
         let lies_inside = inside(info.bounds, self.bounds);
         state_by_half_planes(&self.half_planes, info.bounds, overlapping, lies_inside)
     }
-
-    ghost use Rattle.rt_geo.specs.Lemmas.Regions.{region-faithful};
 
     ghost faithful = { λ s. region-faithful (region.Polygon s) };
 }

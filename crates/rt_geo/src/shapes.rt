@@ -3,6 +3,8 @@
 //! `specs/Regions.antt` has the tables of what they accept and of their states. No state looks at the parent's.
 
 ghost use Rattle.std.specs.Prelude.{◌≡◌, Decides};
+ghost use Rattle.rt_geo.specs.{Lemmas.Regions.{region-faithful}, Regions.{region_accepts, region_state}};
+ghost use Rattle.rt_geo.specs.declared.region.Region.TheVariants as region;
 
 use crate::bounds::{Bounds, inside, overlaps};
 use crate::distance::{Point, far2, near2};
@@ -43,9 +45,6 @@ impl Circle {
 }
 
 impl Shape for All {
-    ghost use Rattle.rt_geo.specs.Regions.{region_accepts, region_state};
-    ghost use Rattle.rt_geo.specs.declared.region.Region.TheVariants as region;
-
     ghost accepts = { λ s. region_accepts (region.All s) };
 
     ghost state = { λ s. region_state (region.All s) };
@@ -54,15 +53,10 @@ impl Shape for All {
         Within::Fully
     }
 
-    ghost use Rattle.rt_geo.specs.Lemmas.Regions.{region-faithful};
-
     ghost faithful = { λ s. region-faithful (region.All s) };
 }
 
 impl Shape for Window {
-    ghost use Rattle.rt_geo.specs.Regions.{region_accepts, region_state};
-    ghost use Rattle.rt_geo.specs.declared.region.Region.TheVariants as region;
-
     ghost accepts = { λ s. region_accepts (region.Window s) };
 
     ghost state = { λ s. region_state (region.Window s) };
@@ -77,15 +71,10 @@ impl Shape for Window {
         }
     }
 
-    ghost use Rattle.rt_geo.specs.Lemmas.Regions.{region-faithful};
-
     ghost faithful = { λ s. region-faithful (region.Window s) };
 }
 
 impl Shape for Inside {
-    ghost use Rattle.rt_geo.specs.Regions.{region_accepts, region_state};
-    ghost use Rattle.rt_geo.specs.declared.region.Region.TheVariants as region;
-
     ghost accepts = { λ s. region_accepts (region.Inside s) };
 
     ghost state = { λ s. region_state (region.Inside s) };
@@ -106,15 +95,10 @@ impl Shape for Inside {
         }
     }
 
-    ghost use Rattle.rt_geo.specs.Lemmas.Regions.{region-faithful};
-
     ghost faithful = { λ s. region-faithful (region.Inside s) };
 }
 
 impl Shape for Covers {
-    ghost use Rattle.rt_geo.specs.Regions.{region_accepts, region_state};
-    ghost use Rattle.rt_geo.specs.declared.region.Region.TheVariants as region;
-
     ghost accepts = { λ s. region_accepts (region.Covers s) };
 
     ghost state = { λ s. region_state (region.Covers s) };
@@ -128,15 +112,10 @@ impl Shape for Covers {
         }
     }
 
-    ghost use Rattle.rt_geo.specs.Lemmas.Regions.{region-faithful};
-
     ghost faithful = { λ s. region-faithful (region.Covers s) };
 }
 
 impl Shape for Circle {
-    ghost use Rattle.rt_geo.specs.Regions.{region_accepts, region_state};
-    ghost use Rattle.rt_geo.specs.declared.region.Region.TheVariants as region;
-
     ghost accepts = { λ s. region_accepts (region.Circle s) };
 
     ghost state = { λ s. region_state (region.Circle s) };
@@ -151,8 +130,6 @@ impl Shape for Circle {
             Within::Partly
         }
     }
-
-    ghost use Rattle.rt_geo.specs.Lemmas.Regions.{region-faithful};
 
     ghost faithful = { λ s. region-faithful (region.Circle s) };
 }
