@@ -15,17 +15,6 @@ pub fn answer_line(id: i64, score: u128) -> Line
     text
 }
 
-/// The same in the place of another line, so that a line for each of many answers is put together where it is read.
-pub fn set_answer_line(text: &mut Line, id: i64, score: u128)
-    ensures { text.new ≡ answer_line id score }
-{
-    text.clear();
-    text.prepend_byte(b'\n');
-    text.prepend_wide(score);
-    text.prepend_byte(b' ');
-    text.prepend_signed(id);
-}
-
 /// The line that ends a reply: the number of the query line, and a count.
 pub fn ok_line(line: u128, n: u64) -> Line
     ensures { result ≡ ok_line line n }
@@ -33,18 +22,6 @@ pub fn ok_line(line: u128, n: u64) -> Line
     let mut text = Line::new(b"");
     set_ok_line(&mut text, line, n);
     text
-}
-
-/// The same in the place of another line.
-pub fn set_ok_line(text: &mut Line, line: u128, n: u64)
-    ensures { text.new ≡ ok_line line n }
-{
-    text.clear();
-    text.prepend_byte(b'\n');
-    text.prepend_number(n);
-    text.prepend_byte(b' ');
-    text.prepend_wide(line);
-    text.prepend(b"ok ");
 }
 
 /// The line of a level of the tree: how many entries or nodes stand on it.
@@ -68,6 +45,29 @@ pub fn error_line(line: u128, fault: QueryFault) -> Line
     text.prepend_wide(line);
     text.prepend(b"error ");
     text
+}
+
+/// [`answer_line`] in the place of another line, so that each of many answers is put together where it is read.
+pub fn set_answer_line(text: &mut Line, id: i64, score: u128)
+    ensures { text.new ≡ answer_line id score }
+{
+    text.clear();
+    text.prepend_byte(b'\n');
+    text.prepend_wide(score);
+    text.prepend_byte(b' ');
+    text.prepend_signed(id);
+}
+
+/// [`ok_line`] in the place of another line.
+pub fn set_ok_line(text: &mut Line, line: u128, n: u64)
+    ensures { text.new ≡ ok_line line n }
+{
+    text.clear();
+    text.prepend_byte(b'\n');
+    text.prepend_number(n);
+    text.prepend_byte(b' ');
+    text.prepend_wide(line);
+    text.prepend(b"ok ");
 }
 
 fn fault_text(fault: QueryFault) -> &'static [u8]
