@@ -5,7 +5,7 @@ use Rattle.std.specs.{List.{IsDistinct, Sorted.{IsPermutation}}, Ordering.{int_e
 use Rattle.rt_geo.specs.{Laws.{Meaning}, declared.entry.Entry.{Entry}}
 use Rattle.rt_tree.specs.{Entries.{ids_of}, Levels.{level_sizes}, Packed.{IsSound, Packed}, Sorting.{limited}}
 use Rattle.rt_tree.proofs.{PackSound.{entries-IsPermutation}, Repacked.{pack_of-IsPermutation}}
-use Rattle.rt_text.specs.{ReplyLines.{ok_line}, declared.query.{BoxQuery.{BoxQuery}, Parsed.{Parsed}, Query.{Query}}}
+use Rattle.rt_text.specs.{ReplyLines.{ok_line}, declared.query.{Parsed.{Parsed}, Query.{Query}}}
 use Rattle.rt_text.specs.declared.query.{Query.TheVariants.{Boxes, Cost, Levels}, Report.{Report}}
 use Rattle.rt_text.specs.declared.query.Report.TheVariants.{Answers, Count}
 use Rattle.rt_search.specs.Answers.{answers}
@@ -66,8 +66,3 @@ module _ (tree : Packed) (loaded : Loaded) (sound : IsSound tree) (packed : tree
   output_same lines =
       output-IsPermutation loaded.fanout loaded.entries tree.entries sound.table.distinct moved lines
       ∙ ap (λ fanout. output (record { entries = tree.entries; fanout = fanout }) lines) (sym fanout_same)
-
--- a cost is told of the tree itself
-pub cost_line : (tree : Packed) (line : ℕ) (asked : BoxQuery) (opened : ℕ) → tree ≡ tree_of (loaded_tree tree)
-    → opened ≡ opened_for tree (meaning_of asked) asked.report → query_reply (loaded_tree tree) line (Cost asked) ≡ ok_line line opened
-cost_line tree line asked opened packed h = search (rules, packed, h)

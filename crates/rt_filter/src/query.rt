@@ -5,16 +5,16 @@
 
 ghost use Rattle.std.specs.Prelude.{◌≡◌, ◌-◌, ◌<◌, ◌≤◌, ◌^◌, IfOk, length, true};
 ghost use Rattle.rt_tree.specs.Levels.{level_sizes};
-ghost use Rattle.rt_text.specs.{ReplyLines.{ok_line}, declared.query.Query.TheVariants.{Boxes, Cost}};
+ghost use Rattle.rt_text.specs.declared.query.Query.TheVariants.{Boxes};
 ghost use Rattle.rt_search.specs.{Answers.{answers}, Work.{IsUnscored}};
 ghost use Rattle.rt_filter.specs.{Pushes.{Pushed}, Reports.{report_on}, Stages.{loaded_tree}};
-ghost use Rattle.rt_filter.specs.Replies.{find_reply, levels_reply, query_reply};
+ghost use Rattle.rt_filter.specs.Replies.{find_reply, levels_reply, meaning_of, opened_for, query_reply, tree_of};
 
-use crate::reply::{push_line, push_search};
+use crate::reply::{push_line, push_ok, push_search};
 use rt_device::{Sink, WriteFault};
 use rt_geo::{ById, Counted, Disc, Geometry, Guided, OnLayers, Order, Region, Shape};
 use rt_search::{Frontier, FullSearch, Search, cost, count};
-use rt_text::{BoxQuery, Report, level_line, ok_line};
+use rt_text::{BoxQuery, Report, level_line};
 use rt_tree::Tree;
 
 /// Where each node scores 0, up to so many answers are kept in order as they are found; for more, all are found first.
@@ -31,7 +31,7 @@ pub(crate) fn push_levels<K: Sink>(tree: &Tree, line: u128, sink: &mut K) -> Res
         let level = count - 1 - above;
         push_line(&level_line(level, tree.level_len(level)), sink)?;
     }
-    push_line(&ok_line(line, u64::from(count)), sink)
+    push_ok(line, u64::from(count), sink)
 }
 
 /// Pushes the report on boxes. Where they are those of all layers, a polygon is prepared where it can be, and a circle whose
@@ -103,7 +103,7 @@ fn push_in_shape<S: Shape + Drop, K: Sink>(
             let geometry = Guided { shape, rank: ById };
             let mut frontier = frontier;
             let counted = count(tree, &mut frontier, &mut Counted::new(&geometry));
-            return push_line(&ok_line(line, counted.accepted), sink).and(Ok(frontier));
+            return push_ok(line, counted.accepted, sink).and(Ok(frontier));
         }
     };
     match order {
@@ -164,33 +164,24 @@ fn find<G: Geometry + Drop, K: Sink>(
     }
 }
 
-// Pushes how many nodes a report on boxes opens.
-pub(crate) fn push_cost<K: Sink>(
-    tree: &Tree,
-    frontier: Frontier,
-    line: u128,
-    asked: BoxQuery<'_>,
-    sink: &mut K,
-) -> Result<Frontier, WriteFault>
+// How many nodes a report on boxes opens.
+pub(crate) fn opened_for(tree: &Tree, frontier: Frontier, asked: BoxQuery<'_>) -> (u64, Frontier)
     requires room { length tree.now.entries ≤ frontier.capacity }
-    requires count { K.failed sink.old < 2 ^ 64 - 1 }
-    ensures pushed { Pushed K.written K.failed sink.old sink.new result
-        (query_reply (loaded_tree tree.now) line (Cost asked.entry)) }
-    ensures capacity { IfOk result (λ left. left.capacity ≡ frontier.capacity) }
+    ensures opened { let loaded = loaded_tree tree.now in
+        result.0 ≡ opened_for (tree_of loaded) (meaning_of asked.entry) asked.entry.report }
+    ensures capacity { result.1.capacity ≡ frontier.capacity }
 {
     // (called, so that it is known that the tree is the packed one of its own entries)
     let _ = tree.len();
     let (shape, layers, rank) = (asked.region, asked.layers, asked.order);
     let shape = OnLayers { shape, layers };
     let geometry = Guided { shape, rank };
-    let counted = Counted::new(&geometry);
-    let (opened, frontier) = match asked.report {
-        Report::Answers { limit } => cost(tree, frontier, counted, limit),
+    match asked.report {
+        Report::Answers { limit } => cost(tree, frontier, Counted::new(&geometry), limit),
         Report::Count => {
-            let (mut frontier, mut counted) = (frontier, counted);
-            let opened = count(tree, &mut frontier, &mut counted).opened;
-            (opened, frontier)
+            let mut frontier = frontier;
+            let counted = count(tree, &mut frontier, &mut Counted::new(&geometry));
+            (counted.opened, frontier)
         }
-    };
-    push_line(&ok_line(line, opened), sink).and(Ok(frontier))
+    }
 }

@@ -1,12 +1,13 @@
 //! Lines of replies, pushed.
 
 ghost use Rattle.std.specs.Prelude.{◌≡◌, ◌-◌, ◌<◌, ◌^◌, [], ◌∷◌, IfOk, MatchOption, length};
+ghost use Rattle.rt_text.specs.ReplyLines.{ok_line};
 ghost use Rattle.rt_filter.specs.{Pushes.{Coming, Pushed}, Replies.{find_reply}};
 
 use rt_device::{Sink, WriteFault};
 use rt_geo::Geometry;
 use rt_search::{FirstAnswers, FullSearch, Search};
-use rt_text::{Line, set_answer_line, set_ok_line};
+use rt_text::{Line, ok_line, set_answer_line, set_ok_line};
 
 /// Pushes a line until all of it is taken, each time on from where the sink stopped. It isn't flushed.
 pub(crate) fn push_line<K: Sink>(text: &Line, sink: &mut K) -> Result<(), WriteFault>
@@ -22,6 +23,14 @@ pub(crate) fn push_line<K: Sink>(text: &Line, sink: &mut K) -> Result<(), WriteF
         rest = &rest[n..];
     }
     Ok(())
+}
+
+/// Pushes the line that ends a reply.
+pub(crate) fn push_ok<K: Sink>(line: u128, n: u64, sink: &mut K) -> Result<(), WriteFault>
+    requires count { K.failed sink.old < 2 ^ 64 - 1 }
+    ensures pushed { Pushed K.written K.failed sink.old sink.new result (ok_line line n) }
+{
+    push_line(&ok_line(line, n), sink)
 }
 
 /// Pushes a line for each answer that a search is still to give, and then their number. Returns the search.

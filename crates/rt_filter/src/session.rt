@@ -7,8 +7,8 @@ ghost use Rattle.rt_filter.specs.{Replies.{Loaded, any_fault, is_fault, output, 
 ghost use Rattle.rt_filter.specs.Sessions.{HasPushed, heard_of};
 ghost use Rattle.rt_text.specs.Queries.{query_of};
 
-use crate::query::{push_cost, push_in_region, push_levels};
-use crate::reply::push_line;
+use crate::query::{opened_for, push_in_region, push_levels};
+use crate::reply::{push_line, push_ok};
 use memchr::memchr;
 use rt_device::{Sink, WriteFault};
 use rt_search::Frontier;
@@ -188,7 +188,10 @@ impl Heard {
                 *is_pushed = true;
                 match query {
                     Query::Boxes(asked) => push_in_region(tree, frontier, self.lines, asked, sink),
-                    Query::Cost(asked) => push_cost(tree, frontier, self.lines, asked, sink),
+                    Query::Cost(asked) => {
+                        let (opened, frontier) = opened_for(tree, frontier, asked);
+                        push_ok(self.lines, opened, sink).and(Ok(frontier))
+                    }
                     Query::Levels => push_levels(tree, self.lines, sink).and(Ok(frontier)),
                 }
             }

@@ -16,8 +16,8 @@ returns g c =
     let sizes = level_sizes (length c.args.tree.now.entries) c.args.tree.now.fanout in
     let count = c.top-count.ensures.levels in
     let end : length sizes ≤ c.loop-above.above = omega (arith, count) in
-    let text = c.ok_line.ensures ∙ ap (ok_line c.args.line) (c.from.ensures ∙ count) in record {
-      pushed = pushed_last g.K.Sink.written g.K.Sink.failed c.args.sink.now c.loop-above.sink c.push_line-2.new.sink (levels_reply c.args.line sizes) c.ok_line.result c.push_line-2.result
-          (levels_end c.args.line sizes (levels_reply c.args.line sizes) (g.K.Sink.written c.args.sink.now) (g.K.Sink.written c.loop-above.sink) (g.K.Sink.written c.loop-above.sink) c.loop-above.above c.ok_line.result c.loop-above.invariant.pushed end text)
-          c.loop-above.invariant.count c.push_line-2.ensures.pushed;
+    let text = ap (ok_line c.args.line) (c.from.ensures ∙ count) in record {
+      pushed = pushed_last g.K.Sink.written g.K.Sink.failed c.args.sink.now c.loop-above.sink c.push_ok.new.sink (levels_reply c.args.line sizes) _ c.push_ok.result
+          (levels_end c.args.line sizes (levels_reply c.args.line sizes) (g.K.Sink.written c.args.sink.now) (g.K.Sink.written c.loop-above.sink) (g.K.Sink.written c.loop-above.sink) c.loop-above.above _ c.loop-above.invariant.pushed end text)
+          c.loop-above.invariant.count c.push_ok.ensures.pushed;
     }
