@@ -16,7 +16,7 @@ from collections import namedtuple
 from pathlib import Path
 
 ROWS = Path(__file__).resolve().parent.parent / "crates/rt_tree_tests/src/trees.rt"
-ROW = re.compile(r"\(Kind::(\w+), (\d+), (\d+), (-?[\d_]+)\)")
+ROW = re.compile(r"\(Kind::(\w+), (\d+), (\d+), (0x[0-9a-f]+)\)")
 FANOUTS = 2, 3, 4, 16, 64
 FACTOR = 6364136223846793005
 
@@ -135,11 +135,11 @@ def packed(table, fanout):
 
 
 def told(numbers):
-    """One number for many, of 64 bits with a sign."""
+    """One number for many, of 64 bits."""
     all_of_them = 0
     for number in numbers:
         all_of_them = (all_of_them * FACTOR + number) % 2**64
-    return all_of_them - 2**64 if all_of_them >= 2**63 else all_of_them
+    return all_of_them
 
 
 def numbers_of(entries, nodes, levels):
@@ -170,16 +170,16 @@ def rows():
 def main():
     if sys.argv[1:] == ["--rows"]:
         for kind, fanout, count, number in rows():
-            print(f"    (Kind::{kind}, {fanout}, {count}, {number}),")
+            print(f"    (Kind::{kind}, {fanout}, {count}, {number:#018x}),")
         return 0
     stored = [
-        (kind, int(fanout), int(count), int(number.replace("_", "")))
+        (kind, int(fanout), int(count), int(number, 16))
         for kind, fanout, count, number in ROW.findall(ROWS.read_text())
     ]
     own = list(rows())
     wrong = [row for row in own if row not in stored] + [row for row in stored if row not in own]
     for kind, fanout, count, number in wrong:
-        print(f"{kind}, fanout {fanout}, {count} entries: {number} is told by one side alone")
+        print(f"{kind}, fanout {fanout}, {count} entries: {number:#018x} is told by one side alone")
     print(f"{len(own) - len([row for row in own if row not in stored])} passed, {len(wrong)} failed")
     return 1 if wrong else 0
 
