@@ -24,7 +24,7 @@ LAYERS = 8
 ROOM = 0.1
 
 # The name of each kind of line, with the instructions of one, how many are asked, and the line at a place.
-LOAD = 2123
+LOAD = 2111
 KINDS = {
     "find window": (4755, 300, lambda x, y: f"find window {box(x, y, 3)}"),
     "find window on": (8369, 300, lambda x, y: f"find window {box(x, y, 3)} on 1,5"),
