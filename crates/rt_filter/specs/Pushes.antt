@@ -4,11 +4,6 @@ use Rattle.std.specs.Io.{StartsWith}
 use Rattle.rt_text.specs.ReplyLines.{answer_line}
 use Rattle.rt_search.specs.Answers.{Answer}
 
--- the answers that a search is still to give, and how much room its frontier has
-pub record Coming : Type 0 where
-  pub answers : List Answer
-  pub capacity : ℕ
-
 -- a line for each answer
 abbrev pub answer_lines : List Answer → List ℕ
 answer_lines found = flat_map (λ answer. answer_line answer.0 answer.1) found

@@ -12,13 +12,10 @@ ghost use Rattle.rt_filter.specs.Replies.{find_reply, levels_reply, meaning_of, 
 
 use crate::reply::{push_line, push_ok, push_search};
 use rt_device::{Sink, WriteFault};
-use rt_geo::{ById, Counted, Disc, Geometry, Guided, OnLayers, Order, Region, Shape};
-use rt_search::{Frontier, FullSearch, Search, cost, count};
+use rt_geo::{ById, Counted, Disc, Geometry, Guided, OnLayers, Order, Region, Shape, Unscored};
+use rt_search::{Frontier, Search, cost, count};
 use rt_text::{BoxQuery, Report, level_line};
 use rt_tree::Tree;
-
-/// Where each node scores 0, up to so many answers are kept in order as they are found; for more, all are found first.
-const FEW: u64 = 64;
 
 // Pushes a line for each level, from the top down, and then their number.
 pub(crate) fn push_levels<K: Sink>(tree: &Tree, line: u128, sink: &mut K) -> Result<(), WriteFault>
@@ -68,7 +65,7 @@ pub(crate) fn push_in_region<K: Sink>(
         Region::Circle(circle) => {
             if let Report::Answers { limit } = report {
                 if let Some(disc) = Disc::from_parts(&circle, &order) {
-                    return find(tree, frontier, line, disc, false, limit, sink);
+                    return find_near(tree, frontier, line, disc, limit, sink);
                 }
             }
             push_in_shape(tree, frontier, line, circle, order, report, sink)
@@ -109,34 +106,50 @@ fn push_in_shape<S: Shape + Drop, K: Sink>(
     match order {
         Order::ById(rank) => {
             let geometry = Guided { shape, rank };
-            find(tree, frontier, line, geometry, true, limit, sink)
+            find(tree, frontier, line, geometry, limit, sink)
         }
-        Order::Near(rank) => {
-            let geometry = Guided { shape, rank };
-            find(tree, frontier, line, geometry, false, limit, sink)
-        }
+        Order::Near(rank) => find_near(tree, frontier, line, Guided { shape, rank }, limit, sink),
         Order::Smallest(rank) => {
             let geometry = Guided { shape, rank };
-            find(tree, frontier, line, geometry, true, limit, sink)
+            find(tree, frontier, line, geometry, limit, sink)
         }
     }
 }
 
-// Pushes a line for each answer of one geometry, and then their number. Where all are wanted, or more than a few and each
-// node scores 0, as in the orders by id and by area, all are found first.
+// The same for a geometry that scores nodes. Where all answers are asked for, nodes need no scores: so all are found before
+// they are sorted, which takes less time than a queue.
+fn find_near<G: Geometry + Drop, K: Sink>(
+    tree: &Tree,
+    frontier: Frontier,
+    line: u128,
+    geometry: G,
+    limit: Option<u64>,
+    sink: &mut K,
+) -> Result<Frontier, WriteFault>
+    requires room { length tree.now.entries ≤ frontier.capacity }
+    requires count { K.failed sink.old < 2 ^ 64 - 1 }
+    ensures pushed { Pushed K.written K.failed sink.old sink.new result
+        (find_reply line (answers tree.now.entries (G.meaning geometry) limit)) }
+    ensures capacity { IfOk result (λ left. left.capacity ≡ frontier.capacity) }
+{
+    if limit.is_none() {
+        return find(tree, frontier, line, Unscored(geometry), limit, sink);
+    }
+    find(tree, frontier, line, geometry, limit, sink)
+}
+
+// Pushes a line for each answer of one geometry, and then their number.
 #[tactic(auto, using(crate::proofs::PushLemmas::as_failed))]
 fn find<G: Geometry + Drop, K: Sink>(
     tree: &Tree,
     frontier: Frontier,
     line: u128,
     geometry: G,
-    is_unscored: bool,
     limit: Option<u64>,
     sink: &mut K,
 ) -> Result<Frontier, WriteFault>
     requires room { length tree.now.entries ≤ frontier.capacity }
     requires count { K.failed sink.old < 2 ^ 64 - 1 }
-    requires unscored { is_unscored ≡ true → IsUnscored (G.meaning geometry) }
     ensures pushed { Pushed K.written K.failed sink.old sink.new result
         (find_reply line (answers tree.now.entries (G.meaning geometry) limit)) }
     ensures capacity { IfOk result (λ left. left.capacity ≡ frontier.capacity) }
@@ -144,24 +157,8 @@ fn find<G: Geometry + Drop, K: Sink>(
     // (called, so that it is known that the number of answers fits)
     let _ = tree.len();
     let counted = Counted::new(&geometry);
-    match limit {
-        None => {
-            let search = FullSearch::start(tree, frontier, counted);
-            Ok(push_search(search, line, sink)?.finish().0)
-        }
-        Some(most) if is_unscored && FEW < most => {
-            let search = FullSearch::start(tree, frontier, counted).first(most);
-            Ok(push_search(search, line, sink)?.finish().0)
-        }
-        Some(_) => {
-            let search = if is_unscored {
-                Search::start_unscored(tree, frontier, counted, limit)
-            } else {
-                Search::start(tree, frontier, counted, limit)
-            };
-            Ok(push_search(search, line, sink)?.finish().0)
-        }
-    }
+    let search = Search::start(tree, frontier, counted, limit);
+    Ok(push_search(search, line, sink)?.finish().0)
 }
 
 // How many nodes a report on boxes opens.

@@ -1,5 +1,5 @@
 -- What a query function means, and the laws by which a search may skip a whole subtree.
-use Rattle.std.specs.Prelude.{◌≡◌, ◌↔◌, ◌<◌, ◌≤◌, ◌^◌, ℕ, Bool, true, false}
+use Rattle.std.specs.Prelude.{◌≡◌, ◌↔◌, ◌<◌, ◌≤◌, ◌==◌, ◌^◌, ℕ, Bool, true, false, if◌then◌else◌}
 use Rattle.rt_geo.specs.Boxes.{Rect, IsRect, inside, plane}
 use Rattle.rt_geo.specs.Layers.{HasSome, IsOneLayer, only, subset}
 use Rattle.rt_geo.specs.declared.entry.Entry.{Entry}
@@ -52,6 +52,17 @@ pub record Meaning : Type 0 where
   pub score : Extent → ℕ
   pub verdict : Info → Verdict
 
+-- the score that is answered
+abbrev pub estimate_of : Meaning → Info → ℕ
+estimate_of meaning info = (meaning.verdict info).score
+
+-- the same boxes and scores, and 0 for each node
+abbrev pub unscored_meaning : Meaning → Meaning
+unscored_meaning meaning = record meaning {
+  verdict = λ info. let verdict = meaning.verdict info in
+      record verdict { score = if info.level == 0 then verdict.score else 0 };
+}
+
 -- that of a shape and a rank: what the one accepts and the states that it answers, the scores of the other and its
 -- estimates of them
 abbrev pub guided : (accepts : Extent → Bool) → (state : Info → Within) → (score : Extent → ℕ) → (estimate : Info → ℕ)
@@ -64,13 +75,17 @@ guided accepts state score estimate = record {
 
 -- ---- what it may be asked
 
--- an info that shows an entry or a node: its bounds are a box of the plane, as each `Bounds` is, it has some layer, an
--- entry has exactly one, and its numbers have the ranges of their types
+-- some layer is shown, and of an entry exactly one
+pub record ShowsLayers (info : Info) : Type 0 where
+  pub some : HasSome info.layers
+  pub one : info.level ≡ 0 → IsOneLayer info.layers
+
+-- an info that shows an entry or a node: its bounds are a box of the plane, as each `Bounds` is, it shows layers, and its
+-- numbers have the ranges of their types
 pub record IsWellFormed (info : Info) : Type 0 where
   pub box : IsRect info.bounds
   pub coordinates : inside info.bounds plane ≡ true
-  pub layers : HasSome info.layers
-  pub one : info.level ≡ 0 → IsOneLayer info.layers
+  pub layers : ShowsLayers info
   pub level : info.level < 2 ^ 8
   pub top : info.top < 2 ^ 8
   pub parent_score : info.parent_score < 2 ^ 128
@@ -106,6 +121,10 @@ pub record IsAdmissible (score : Extent → ℕ) (estimate : Info → ℕ) : Typ
   -- a node has at most the score of each box inside
   pub admissibility : (i : Info) → IsWellFormed i → 0 < i.level
       → (b : Extent) → IsBoxInside b (extent_of i) → estimate i ≤ score b
+
+-- each node scores 0, as in the orders by id and by area
+abbrev pub IsUnscored : (score : Info → ℕ) → Type 0
+IsUnscored score = (i : Info) → 0 < i.level → score i ≡ 0
 
 -- the laws of a geometry
 pub record IsLawful (meaning : Meaning) : Type 0 where

@@ -13,3 +13,4 @@ pub mod Polygons
 pub mod Products
 pub mod Regions
 pub mod Shapes
+pub mod Unscored

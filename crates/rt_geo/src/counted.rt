@@ -1,7 +1,7 @@
 //! A geometry that counts its checks.
 
 ghost use Rattle.std.specs.Prelude.{◌≡◌, ◌+◌, ◌-◌, ◌^◌, ◌<◌};
-ghost use Rattle.rt_geo.specs.Laws.{IsHonest};
+ghost use Rattle.rt_geo.specs.Laws.{IsHonest, ShowsLayers};
 
 use crate::geometry::{Geometry, Info, Verdict};
 use std::marker::Model;
@@ -44,6 +44,7 @@ impl<'a, G: Geometry> Counted<'a, G> {
     /// What the geometry answers. The number of checks rises by one, and has to be below [`u64::MAX`].
     pub fn check(&mut self, info: &Info) -> Verdict
         requires honest { IsHonest (G.meaning self.old.geometry).accepts info.now }
+        requires layers { ShowsLayers info.now }
         requires room { self.old.asked < 2 ^ 64 - 1 }
         ensures verdict { result ≡ (G.meaning self.old.geometry).verdict info.now }
         ensures geometry { self.new.geometry ≡ self.old.geometry }

@@ -9,8 +9,9 @@
 //! of its extent, inside its bounds and on its layers, is accepted, and a node's score is at most that of
 //! each accepted box of its extent.
 
-ghost use Rattle.std.specs.Prelude.{◌≡◌, ℕ, Bool};
-ghost use Rattle.rt_geo.specs.Laws.{Extent, IsAdmissible, IsFaithful, IsHonest, IsLawful, Meaning};
+ghost use Rattle.std.specs.Prelude.{◌≡◌, ℕ, Bool, false};
+ghost use Rattle.rt_geo.specs.Laws.{Extent, IsAdmissible, IsFaithful, IsHonest, IsLawful, IsUnscored, Meaning};
+ghost use Rattle.rt_geo.specs.Laws.{ShowsLayers, estimate_of};
 ghost use Rattle.rt_geo.specs.{declared.geometry.Info.{Info}, declared.geometry.Within.{Within}};
 
 use crate::bounds::Bounds;
@@ -32,7 +33,7 @@ pub enum Within {
 pub struct Info {
     /// The entry's box, or a box in which all the entries under the node lie.
     pub bounds: Bounds,
-    /// The entry's layer alone, or the layers of all the entries under the node.
+    /// The entry's layer alone, or the layers of all the entries under the node. There is at least one.
     pub layers: Layers,
     /// 0 for an entry; levels rise towards the root.
     pub level: u8,
@@ -67,7 +68,8 @@ pub trait Shape {
     /// How many of the boxes of the extent are accepted. Where the parent was [`Within::Fully`], it may
     /// answer so without a test.
     fn within(&self, info: &Info) -> Within
-        requires { IsHonest (accepts self.now) info.now }
+        requires honest { IsHonest (accepts self.now) info.now }
+        requires layers { ShowsLayers info.now }
         ensures { result ≡ state self.now info.now };
 
     /// The leaf, pruning and fullness laws.
@@ -76,6 +78,12 @@ pub trait Shape {
 
 /// The order of a query's answers: the lowest score first.
 pub trait Rank {
+    /// Whether nodes have scores. Where they haven't, each scores 0: whatever the first answer is, each node that may hold
+    /// answers has to be opened before it.
+    const SCORES_NODES: bool;
+
+    ghost SCORES_NODES: { Bool };
+
     /// The score of a box: the meaning of the rank.
     ghost score: { Self → Extent → ℕ };
 
@@ -88,6 +96,9 @@ pub trait Rank {
 
     /// An entry's score is exact, a node's is admissible.
     ghost admissible: { (r : Self) → IsAdmissible (score r) (estimate r) };
+
+    /// The law of `SCORES_NODES`.
+    ghost no_scores: { (r : Self) → SCORES_NODES ≡ false → IsUnscored (estimate r) };
 }
 
 /// A query function: which boxes a query accepts, and the order of its answers.
@@ -95,14 +106,24 @@ pub trait Rank {
 /// [`Guided`](crate::Guided) makes one of a [`Shape`] and a [`Rank`];
 /// `docs/write-your-own-geometry.md` shows how to write one whole.
 pub trait Geometry {
+    /// Whether nodes have scores. Where they haven't, each scores 0, and a search opens all that may hold answers before
+    /// the first answer.
+    const SCORES_NODES: bool;
+
+    ghost SCORES_NODES: { Bool };
+
     /// Which boxes are accepted, the score of each of them, and what `check` answers.
     ghost meaning: { Self → Meaning };
 
     /// The state and the score of an entry or of a node.
     fn check(&self, info: &Info) -> Verdict
-        requires { IsHonest (meaning self.now).accepts info.now }
+        requires honest { IsHonest (meaning self.now).accepts info.now }
+        requires layers { ShowsLayers info.now }
         ensures { result ≡ (meaning self.now).verdict info.now };
 
     /// The leaf, pruning, fullness and admissibility laws.
     ghost lawful: { (g : Self) → IsLawful (meaning g) };
+
+    /// The law of `SCORES_NODES`.
+    ghost no_scores: { (g : Self) → SCORES_NODES ≡ false → IsUnscored (estimate_of (meaning g)) };
 }

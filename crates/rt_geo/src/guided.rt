@@ -16,6 +16,10 @@ pub struct Guided<S: Shape, R: Rank> {
 }
 
 impl<S: Shape, R: Rank> Geometry for Guided<S, R> {
+    const SCORES_NODES: bool = R::SCORES_NODES;
+
+    ghost SCORES_NODES = { R.SCORES_NODES };
+
     ghost meaning = { λ g.
         guided (S.accepts g.shape) (S.state g.shape) (R.score g.rank) (R.estimate g.rank) };
 
@@ -30,4 +34,6 @@ impl<S: Shape, R: Rank> Geometry for Guided<S, R> {
 
     ghost lawful = { λ g. guided-lawful (S.accepts g.shape) (S.state g.shape)
         (R.score g.rank) (R.estimate g.rank) (S.faithful g.shape) (R.admissible g.rank) };
+
+    ghost no_scores = { λ g. R.no_scores g.rank };
 }

@@ -10,7 +10,7 @@
 //! - Distances: [`Point`], [`near2`], [`far2`].
 //! - Query functions: [`Shape`], [`Rank`], [`Geometry`], asked with an [`Info`], answering a [`Within`],
 //!   a score or a [`Verdict`]; [`Guided`] joins a shape and a rank, [`Disc`] is a circle and the order by distance from
-//!   its centre in one; [`Counted`] counts the checks.
+//!   its centre in one; [`Unscored`] is a geometry without the scores of its nodes; [`Counted`] counts the checks.
 //! - Shapes: [`All`], [`Window`], [`Inside`], [`Covers`], [`Circle`], [`Polygon`], and the enum [`Region`] of
 //!   these; [`OnLayers`] is one of them on some layers. A [`PreparedPolygon`] is a polygon that is asked faster.
 //! - Ranks: [`ById`], [`Near`], [`Smallest`], and the enum [`Order`] of these.
@@ -37,6 +37,7 @@ mod prepared;
 mod ranks;
 mod region;
 mod shapes;
+mod unscored;
 
 pub use bounds::{Bounds, hull, inside, overlaps};
 pub use counted::Counted;
@@ -53,3 +54,4 @@ pub use prepared::PreparedPolygon;
 pub use ranks::{ById, Near, Smallest};
 pub use region::Region;
 pub use shapes::{All, Circle, Covers, Inside, Window};
+pub use unscored::Unscored;

@@ -12,6 +12,13 @@ pub enum Order {
 }
 
 impl Rank for Order {
+    // (by distance they have them)
+    const SCORES_NODES: bool = true;
+
+    ghost use Rattle.std.specs.Prelude.{true};
+
+    ghost SCORES_NODES = { true };
+
     ghost use Rattle.rt_geo.specs.Orders.{order_estimate, order_score};
 
     ghost score = { order_score };
@@ -26,7 +33,9 @@ impl Rank for Order {
         }
     }
 
-    ghost use Rattle.rt_geo.specs.Lemmas.Orders.{order-admissible};
+    ghost use Rattle.rt_geo.specs.Lemmas.{Laws.{IsUnscored-never}, Orders.{order-admissible}};
 
     ghost admissible = { order-admissible };
+
+    ghost no_scores = { λ r. IsUnscored-never (order_estimate r) };
 }

@@ -19,6 +19,12 @@ pub struct Near(pub Point);
 pub struct Smallest;
 
 impl Rank for ById {
+    const SCORES_NODES: bool = false;
+
+    ghost use Rattle.std.specs.Prelude.{false};
+
+    ghost SCORES_NODES = { false };
+
     ghost use Rattle.rt_geo.specs.Orders.{order_estimate, order_score};
     ghost use Rattle.rt_geo.specs.declared.order.Order.TheVariants as order;
 
@@ -30,12 +36,20 @@ impl Rank for ById {
         0
     }
 
-    ghost use Rattle.rt_geo.specs.Lemmas.Orders.{order-admissible};
+    ghost use Rattle.rt_geo.specs.Lemmas.Orders.{order-admissible, order-unscored};
 
     ghost admissible = { λ r. order-admissible (order.ById r) };
+
+    ghost no_scores = { λ r. order-unscored (order.ById r) };
 }
 
 impl Rank for Near {
+    const SCORES_NODES: bool = true;
+
+    ghost use Rattle.std.specs.Prelude.{true};
+
+    ghost SCORES_NODES = { true };
+
     ghost use Rattle.rt_geo.specs.Orders.{order_estimate, order_score};
     ghost use Rattle.rt_geo.specs.declared.order.Order.TheVariants as order;
 
@@ -47,12 +61,20 @@ impl Rank for Near {
         near2(self.0, info.bounds)
     }
 
-    ghost use Rattle.rt_geo.specs.Lemmas.Orders.{order-admissible};
+    ghost use Rattle.rt_geo.specs.Lemmas.Orders.{order-admissible, order-unscored};
 
     ghost admissible = { λ r. order-admissible (order.Near r) };
+
+    ghost no_scores = { λ r. order-unscored (order.Near r) };
 }
 
 impl Rank for Smallest {
+    const SCORES_NODES: bool = false;
+
+    ghost use Rattle.std.specs.Prelude.{false};
+
+    ghost SCORES_NODES = { false };
+
     ghost use Rattle.rt_geo.specs.Orders.{order_estimate, order_score};
     ghost use Rattle.rt_geo.specs.declared.order.Order.TheVariants as order;
 
@@ -69,7 +91,9 @@ impl Rank for Smallest {
         }
     }
 
-    ghost use Rattle.rt_geo.specs.Lemmas.Orders.{order-admissible};
+    ghost use Rattle.rt_geo.specs.Lemmas.Orders.{order-admissible, order-unscored};
 
     ghost admissible = { λ r. order-admissible (order.Smallest r) };
+
+    ghost no_scores = { λ r. order-unscored (order.Smallest r) };
 }

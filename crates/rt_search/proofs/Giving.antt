@@ -1,5 +1,5 @@
 -- A search gives its answers one after the other, up to its limit.
-use Rattle.std.proofs.Common.{◌≡◌, ◌≢◌, ◌<◌, ◌≤◌, ◌+◌, ℕ, zero, suc, List, [], ◌∷◌, length, take, drop}
+use Rattle.std.proofs.Common.{◌≡◌, ◌≢◌, ◌<◌, ◌≤◌, ◌+◌, ◌^◌, ℕ, zero, suc, Bool, false, List, [], ◌∷◌, length, take, drop}
 use Rattle.std.proofs.Common.{Option, Some, None, refl, sym, ◌∙◌, ap, arith, rules, add-one}
 use Rattle.std.proofs.lemmas.List.{drop_all, length-drop, length-map, length-take}
 use Rattle.std.proofs.lemmas.Option.{slice_get_past}
@@ -8,15 +8,15 @@ use Rattle.std.proofs.lemmas.List.Sorted.{length_permutation}
 use Rattle.std.specs.Prelude.{IfSome, slice_get}
 use Rattle.rt_geo.specs.Laws.{Meaning}
 use Rattle.rt_geo.specs.{declared.{entry.Entry.{Entry}}}
-use Rattle.rt_tree.specs.{Packed.{Packed}, Sorting.{limited}, declared.tree.Node.{Node}}
+use Rattle.rt_tree.specs.{Packed.{IsSound, Packed}, Sorting.{limited}, declared.tree.Node.{Node}}
 use Rattle.rt_tree.proofs.SortingLemmas.{IsPermutation-sorted}
-use Rattle.rt_search.specs.{Answers.{Answer, answer_cmp, answers, scored}, Limits.{one_less}}
-use Rattle.rt_search.specs.{Progress.{IsFound, IsGiving, IsInLimit, IsOver}, declared.item.Item.{Item}}
+use Rattle.rt_search.specs.{Answers.{Answer, answer_cmp, answers, scored}, Items.{Gathered, Limited}, Limits.{one_less}}
+use Rattle.rt_search.specs.Progress.{HasEnded, IsFound, IsGiven, IsGiving, IsGoing, IsInLimit, IsOver, gathers}
 use Rattle.rt_search.specs.Work.{HasWorked, is_reached, search_work, reached_from_root}
 
 -- ---- lists that are given one by one
 
-drop_step : {X : Type 0} (xs : List X) (g : ℕ) (x : X) (rest : List X) → drop g xs ≡ x ∷ rest
+pub drop_step : {X : Type 0} (xs : List X) (g : ℕ) (x : X) (rest : List X) → drop g xs ≡ x ∷ rest
     → (slice_get xs g ≡ Some x) × (drop (suc g) xs ≡ rest)
 drop_step [] zero x rest h = cc
 drop_step [] (suc g) x rest h = cc
@@ -42,7 +42,7 @@ limited_end : {X : Type 0} (limit : Option ℕ) (g : ℕ) (xs : List X) → drop
 limited_end None g xs h = h
 limited_end (Some k) g xs h = drop_all g (take k xs) (omega (arith, length-take k xs, length-drop g xs, ap length h))
 
-next_in_limit : (limit : Option ℕ) (g : ℕ) → IsInLimit limit g → limit ≢ Some g → IsInLimit limit (suc g)
+pub next_in_limit : (limit : Option ℕ) (g : ℕ) → IsInLimit limit g → limit ≢ Some g → IsInLimit limit (suc g)
 next_in_limit limit g le n = grind arith
 
 -- ---- how many are still wanted
@@ -75,46 +75,50 @@ module _ (meaning : Meaning) (t : Packed) where
 
 -- ---- the steps
 
--- an answer is given
-pub record IsGiven (meaning : Meaning) (t : Packed)
-    (limit : Option ℕ) (given next opened asked capacity : ℕ) (wanted : Option ℕ) (a : Answer) (items : List Item)
-    : Type 0 where
-  pub going : IsGiving meaning t limit next opened asked capacity wanted items
-  pub answer : drop given (answers t.entries meaning limit) ≡ a ∷ drop next (answers t.entries meaning limit)
-  pub worked : HasWorked meaning t (Some next) opened asked
+limited_le : {X : Type 0} (limit : Option ℕ) (xs : List X) → length (limited limit xs) ≤ length xs
+limited_le None xs = omega arith
+limited_le (Some k) xs = omega (arith, length-take k xs)
 
--- no answer is left
-pub record HasEnded (meaning : Meaning) (t : Packed)
-    (limit : Option ℕ) (given opened asked capacity : ℕ) (wanted : Option ℕ) (items : List Item) : Type 0 where
-  pub going : IsGiving meaning t limit given opened asked capacity wanted items
-  pub answer : drop given (answers t.entries meaning limit) ≡ []
-  pub worked : HasWorked meaning t limit opened asked
+-- while an answer is to come, few were given
+pub few_given : (meaning : Meaning) (t : Packed) → IsSound t → (limit : Option ℕ) (given : ℕ) (a : Answer)
+    (rest : List Answer) → drop given (answers t.entries meaning limit) ≡ a ∷ rest → given + 1 ≤ 2 ^ 32
+few_given meaning t sound limit given a rest first =
+    omega (
+      arith,
+      sound.table.few,
+      ap length first,
+      length-drop given (answers t.entries meaning limit),
+      limited_le limit (answers t.entries meaning None),
+      length_permutation _ _ (IsPermutation-sorted answer_cmp (scored t.entries meaning)),
+      length-scored meaning t.entries,
+    )
 
-module _ {meaning : Meaning} {t : Packed} {limit : Option ℕ}
-    {given opened asked capacity : ℕ} {wanted : Option ℕ} {items : List Item}
-    (going : IsGiving meaning t limit given opened asked capacity wanted items) where
-  -- the number stays small
-  pub given_low : {opened' asked' : ℕ} {wanted' : Option ℕ} {a : Answer} {new : List Item}
-      → IsFound meaning t opened' asked' wanted'
-      (drop given (answers t.entries meaning None)) a new → given + 1 ≤ 16777216
-  given_low found =
-      omega (
-        arith,
-        ap length found.first,
-        length-drop given (answers t.entries meaning None),
-        length_permutation _ _ (IsPermutation-sorted answer_cmp (scored t.entries meaning)),
-        length-scored meaning t.entries,
-      )
+module _ {scores_nodes : Bool} {meaning : Meaning} {t : Packed} {limit : Option ℕ} {given opened asked : ℕ}
+    {old_queue : Limited} {old_hits : Gathered} (going : IsGoing scores_nodes meaning t limit given opened asked old_queue old_hits)
+    (more : limit ≢ Some given) {opened' asked' : ℕ} {queue : Limited} {hits : Gathered} where
+  -- ---- with a queue
 
-  module _ (more : limit ≢ Some given) {opened' asked' : ℕ} {wanted' : Option ℕ} {new : List Item} where
-    pub give : {a : Answer} → wanted' ≡ one_less wanted → IsFound meaning t opened' asked' wanted'
-        (drop given (answers t.entries meaning None)) a new
-        → IsGiven meaning t limit given (given + 1) opened' asked' capacity wanted' a new
+  module _ (queued : gathers scores_nodes limit ≡ false) (same : hits.capacity ≡ queue.capacity)
+      (room : queue.capacity ≡ old_queue.capacity) where
+    pub give : {a : Answer} → queue.wanted ≡ one_less old_queue.wanted → IsFound meaning t opened' asked' queue.wanted
+        (drop given (answers t.entries meaning None)) a queue.items
+        → IsGiven scores_nodes meaning t limit given opened' asked' a queue hits
     give {a} less found =
+        let was = going.giving queued in
         let worked : HasWorked meaning t (Some (suc given)) opened' asked' = search (rules, work_after) in
-        rw (add-one given) (search (rules, drop_step, next_in_limit, next_still, limited_step))
+        let few = few_given meaning t found.state.state.tree None given a found.rest found.first in
+        let now : IsGiving meaning t limit (suc given) opened' asked' queue.capacity queue.wanted queue.items =
+        search (rules, drop_step, next_in_limit, next_still) in
+        record {
+          going = record { same_room = same; giving = λ _. rw (add-one given) now; gathering = λ h. absurd (grind arith) };
+          answer = rw (add-one given) (search (rules, limited_step));
+          worked = rw (add-one given) worked;
+          few = few;
+        }
 
-    pub end : wanted' ≡ wanted → IsOver meaning t opened' asked' wanted'
-        (drop given (answers t.entries meaning None)) new
-        → HasEnded meaning t limit given opened' asked' capacity wanted' new
-    end same over = search (rules, work_in_all, limited_end)
+    pub end : queue.wanted ≡ old_queue.wanted → IsOver meaning t opened' asked' queue.wanted
+        (drop given (answers t.entries meaning None)) queue.items
+        → HasEnded scores_nodes meaning t limit given opened' asked' queue hits
+    end same_wanted over =
+        let was = going.giving queued in
+        search (rules, work_in_all, limited_end)

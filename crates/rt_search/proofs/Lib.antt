@@ -5,6 +5,7 @@ pub mod Chosen
 pub mod Collectors
 pub mod Elements
 pub mod Firsts
+pub mod Gathering
 pub mod Giving
 pub mod Heaps
 pub mod Joined

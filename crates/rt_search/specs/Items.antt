@@ -1,4 +1,4 @@
--- What waits in a queue, and in which order it is taken out. Public calls speak of `SearchRoom` alone.
+-- What waits in a queue, and in which order it is taken out. Public calls speak of `Waiting` alone.
 use Rattle.std.specs.Prelude.{Bool, ℕ, Option, List}
 use Rattle.std.specs.Ordering.{bool_cmp, int_cmp, nat_cmp, on, then_cmp}
 use Rattle.std.specs.declared.cmp.Ordering.{Ordering}
@@ -31,22 +31,15 @@ place_cmp (Entry i) (Entry j) = int_cmp i j
 abbrev pub item_cmp : Item → Item → Ordering
 item_cmp = then_cmp (on (λ x. x.score) nat_cmp) (on (λ x. x.place) place_cmp)
 
--- a frontier: what waits, in the order in which it is taken out; what a full search found, in order; how many items
--- have room
-pub record SearchRoom : Type 0 where
+-- what waits, in the order in which it is taken out, and how many items have room
+pub record Waiting : Type 0 where
   pub items : List Item
-  pub hits : List Item
   pub capacity : ℕ
 
--- what waits in it, and how many entries are still wanted, where that is known: what comes behind so many needn't be kept
+-- and how many entries are still wanted, where that is known: what comes behind so many needn't be kept
 pub record Limited : Type 0 where
   pub items : List Item
   pub wanted : Option ℕ
-  pub capacity : ℕ
-
--- a part of it, which keeps all
-pub record Waiting : Type 0 where
-  pub items : List Item
   pub capacity : ℕ
 
 -- what was found, and whether it is in order already, so that nothing more may join

@@ -1,14 +1,16 @@
 -- What holds of a search between two answers. Nothing that a public call promises speaks of this.
-use Rattle.std.specs.Prelude.{◌≡◌, ◌+◌, ◌≤◌, ◌==◌, ℕ, Bool, false, if◌then◌else◌, Option, Some, None, List, [], ◌∷◌, drop, length}
-use Rattle.std.specs.Prelude.{IfSome}
+use Rattle.std.specs.Prelude.{◌≡◌, ◌+◌, ◌-◌, ◌≤◌, ◌^◌, ◌==◌, ℕ, nat_lt, Bool, true, false, if◌then◌else◌, Option, Some, None}
+use Rattle.std.specs.Prelude.{IfSome, List, [], ◌∷◌, drop, length}
 use Rattle.std.specs.List.{AllByRecursion, sum_by}
+use Rattle.std.specs.Option.{option_map}
 use Rattle.std.specs.Ordering.{is_gt}
 use Rattle.rt_geo.specs.Laws.{Meaning}
 use Rattle.rt_geo.specs.declared.geometry.Verdict.{Verdict}
 use Rattle.rt_tree.specs.Packed.{Packed, IsSound, node_at}
+use Rattle.rt_tree.specs.Sorting.{limited}
 use Rattle.rt_tree.specs.declared.tree.Node.{Node}
 use Rattle.rt_search.specs.Answers.{Answer, answers}
-use Rattle.rt_search.specs.Items.{item_at, item_cmp}
+use Rattle.rt_search.specs.Items.{Gathered, Limited, item_at, item_cmp}
 use Rattle.rt_search.specs.Joining.{join_answers, join_nodes}
 use Rattle.rt_search.specs.Kept.{IsRising}
 use Rattle.rt_search.specs.Limits.{IsEnough}
@@ -74,7 +76,7 @@ join_children meaning t s n items =
 -- what holds after a node was opened
 pub record IsNodeStep (meaning : Meaning) (t : Packed)
     (opened asked s : ℕ) (n : WaitingNode) (items new : List Item) : Type 0 where
-  pub state : IsSearching meaning t (opened + 1) (asked + (node_at t n.number.number).count) new
+  pub state : IsSearching meaning t opened asked new
   pub same : remaining t meaning new ≡ remaining t meaning (item_at s (place.Node n) ∷ items)
 
 -- an item that was taken out stood before the others
@@ -91,6 +93,15 @@ pub record IsUnderWay (meaning : Meaning) (t : Packed)
   pub rising : IsRising all
   pub follows : remaining t meaning all ≡ to_come
   pub enough : IsEnough wanted items all
+
+-- an item was taken out of such a search, and these wait
+pub record IsOut (meaning : Meaning) (t : Packed)
+    (opened asked : ℕ) (wanted : Option ℕ) (to_come : List Answer) (x : Item) (items : List Item) : Type 0 where
+  pub others : List Item
+  pub taken : IsTaken meaning t opened asked x others
+  pub rising : IsRising others
+  pub follows : remaining t meaning (x ∷ others) ≡ to_come
+  pub enough : IsEnough wanted items others
 
 -- it opened as many nodes and made as many checks as a bound makes necessary
 pub record HasReached (meaning : Meaning) (t : Packed) (bound : Option ℕ) (opened asked : ℕ) : Type 0 where
@@ -118,7 +129,7 @@ abbrev pub IsInLimit : (limit : Option ℕ) → (given : ℕ) → Type 0
 IsInLimit None given = Unit {0}
 IsInLimit (Some limit) given = given ≤ limit
 
--- what holds of a search
+-- what holds of a search that has a queue
 pub record IsGiving (meaning : Meaning) (t : Packed)
     (limit : Option ℕ) (given opened asked capacity : ℕ) (wanted : Option ℕ) (items : List Item) : Type 0 where
   pub state : IsUnderWay meaning t opened asked wanted (drop given (answers t.entries meaning None)) items
@@ -126,3 +137,57 @@ pub record IsGiving (meaning : Meaning) (t : Packed)
   pub in_limit : IsInLimit limit given
   pub still : IfSome wanted (λ n. limit ≡ Some (given + n))
   pub stopped : limit ≡ Some given → HasWorked meaning t limit opened asked
+
+-- ---- all answers at once
+
+-- all answers are found before the first is given, without a queue: nodes have no scores, and more than 64 answers are
+-- wanted
+abbrev pub gathers : (scores_nodes : Bool) → (limit : Option ℕ) → Bool
+gathers true limit = false
+gathers false None = true
+gathers false (Some limit) = nat_lt 64 limit
+
+-- how many answers are left up to the limit
+abbrev pub left : (limit : Option ℕ) → (given : ℕ) → Option ℕ
+left limit given = option_map (λ limit. limit - given) limit
+
+-- all were found: the hits stand for the answers to come
+pub record HasGathered (meaning : Meaning) (t : Packed)
+    (limit : Option ℕ) (given opened asked : ℕ) (hits : List Item) : Type 0 where
+  pub tree : IsSound t
+  pub in_limit : IsInLimit limit given
+  pub to_come : drop given (answers t.entries meaning limit) ≡ limited (left limit given) (remaining t meaning hits)
+  pub reached : HasReached meaning t None opened asked
+
+-- what holds of a search that finds all at once: they are found, and in order, or nothing was done yet
+pub record IsGathering (meaning : Meaning) (t : Packed)
+    (limit : Option ℕ) (given opened asked : ℕ) (items : List Item) (hits : Gathered) : Type 0 where
+  pub room : length t.entries ≤ hits.capacity
+  pub none_waits : items ≡ []
+  pub before : hits.is_sorted ≡ false → (given ≡ 0) × ((opened ≡ 0) × (asked ≡ 0))
+  pub after : hits.is_sorted ≡ true → HasGathered meaning t limit given opened asked hits.items
+
+-- ---- in one of the two ways
+
+-- what holds of a search
+pub record IsGoing (scores_nodes : Bool) (meaning : Meaning) (t : Packed)
+    (limit : Option ℕ) (given opened asked : ℕ) (queue : Limited) (hits : Gathered) : Type 0 where
+  pub same_room : hits.capacity ≡ queue.capacity
+  pub giving : gathers scores_nodes limit ≡ false
+      → IsGiving meaning t limit given opened asked queue.capacity queue.wanted queue.items
+  pub gathering : gathers scores_nodes limit ≡ true → IsGathering meaning t limit given opened asked queue.items hits
+
+-- an answer is given
+pub record IsGiven (scores_nodes : Bool) (meaning : Meaning) (t : Packed)
+    (limit : Option ℕ) (given opened asked : ℕ) (a : Answer) (queue : Limited) (hits : Gathered) : Type 0 where
+  pub going : IsGoing scores_nodes meaning t limit (given + 1) opened asked queue hits
+  pub answer : drop given (answers t.entries meaning limit) ≡ a ∷ drop (given + 1) (answers t.entries meaning limit)
+  pub worked : HasWorked meaning t (Some (given + 1)) opened asked
+  pub few : given + 1 ≤ 2 ^ 32
+
+-- no answer is left
+pub record HasEnded (scores_nodes : Bool) (meaning : Meaning) (t : Packed)
+    (limit : Option ℕ) (given opened asked : ℕ) (queue : Limited) (hits : Gathered) : Type 0 where
+  pub going : IsGoing scores_nodes meaning t limit given opened asked queue hits
+  pub answer : drop given (answers t.entries meaning limit) ≡ []
+  pub worked : HasWorked meaning t limit opened asked

@@ -14,13 +14,3 @@ pub record Searching (G : Type 0) : Type 0 where
   pub opened : ℕ
   pub asked : ℕ
   pub capacity : ℕ
-
--- a search for all answers: what is searched and for what, the answers still to come, the nodes opened and the checks
--- made, and the room of the frontier
-pub record FullSearching (G : Type 0) : Type 0 where
-  pub tree : Packed
-  pub geometry : G
-  pub to_come : List Answer
-  pub opened : ℕ
-  pub asked : ℕ
-  pub capacity : ℕ

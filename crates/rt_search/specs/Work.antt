@@ -1,5 +1,5 @@
 -- What a search and a count do: the nodes that they open, and the checks that they make.
-use Rattle.std.specs.Prelude.{◌≡◌, ◌<◌, ℕ, zero, suc, ◌+◌, ◌-◌, ◌==◌, nat_le, Bool, true, false, ◌&&◌, if◌then◌else◌}
+use Rattle.std.specs.Prelude.{◌≡◌, ℕ, zero, suc, ◌+◌, ◌-◌, ◌==◌, nat_le, Bool, true, false, ◌&&◌, if◌then◌else◌}
 use Rattle.std.specs.Prelude.{Option, Some, None, List, length, slice_get}
 use Rattle.std.specs.List.{sum_by}
 use Rattle.std.specs.Option.{option_and_then, option_map, option_map_or}
@@ -64,10 +64,6 @@ its_children n = n.count
 abbrev pub is_kept : Within → Bool
 is_kept Not = false
 is_kept other = true
-
--- each node scores 0, as in the orders by id and by area
-abbrev pub IsUnscored : Meaning → Type 0
-IsUnscored meaning = (info : Info) → 0 < info.level → (meaning.verdict info).score ≡ 0
 
 -- a search opens what isn't NOT and scores at most the bound, if there is one
 abbrev pub is_reached : (bound : Option ℕ) → Verdict → Bool

@@ -88,7 +88,6 @@ pub fn count<G: Geometry>(
     ensures capacity { frontier.new.capacity ≡ frontier.old.capacity }
     ensures geometry { counted.new.geometry ≡ counted.old.geometry }
 {
-    // (nothing waits after a count, as after a full search)
     frontier.rooms.queue.clear(None);
     let mut tally = Tally(0);
     let opened = walk(tree, &mut tally, counted);

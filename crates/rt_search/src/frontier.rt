@@ -1,7 +1,7 @@
 //! The room of searches.
 
-ghost use Rattle.std.specs.Prelude.{◌≡◌, ◌==◌, ◌≤◌, [], length, IfOk};
-ghost use Rattle.rt_search.specs.Items.{SearchRoom};
+ghost use Rattle.std.specs.Prelude.{◌≡◌, ◌≤◌, [], length, IfOk};
+ghost use Rattle.rt_search.specs.Items.{Waiting};
 
 use crate::hits::Hits;
 use crate::queue::Queue;
@@ -10,14 +10,14 @@ use std::marker::Model;
 
 /// The room in which searches work, one after the other; a count only clears its queue. It is made once, and never grows.
 ///
-/// It is seen as the items that wait in it, in the order in which they are taken out, what a full search found, and its
-/// capacity. It is one pointer, since each query hands it on by value.
+/// It is seen as the items that wait in it, in the order in which they are taken out, and its capacity. It is one pointer,
+/// since each query hands it on by value.
 #[derive(Drop)]
 pub struct Frontier {
     pub(crate) rooms: Box<Rooms>,
 }
 
-/// What waits in a search, and what a full search finds.
+/// What waits in a search, and what one finds that has no queue.
 #[derive(Drop)]
 pub(crate) struct Rooms {
     pub queue: Queue,
@@ -25,11 +25,10 @@ pub(crate) struct Rooms {
 }
 
 impl Model for Frontier {
-    ghost Value = { SearchRoom };
+    ghost Value = { Waiting };
 
     ghost view = { λ f. let rooms = f.rooms.value in record {
       items = rooms.queue.items;
-      hits = rooms.hits.items;
       capacity = rooms.queue.capacity;
     } };
 
@@ -49,10 +48,9 @@ impl Frontier {
         Ok(Frontier { rooms })
     }
 
-    /// How many items it has room for, and how many hits.
+    /// How many items it has room for.
     pub fn capacity(&self) -> u32
-        ensures value { result ≡ self.now.capacity }
-        ensures hits { length self.now.hits ≤ self.now.capacity }
+        ensures { result ≡ self.now.capacity }
     {
         self.rooms.hits.capacity()
     }
@@ -63,12 +61,5 @@ impl Frontier {
         ensures room { length self.now.items ≤ self.now.capacity }
     {
         self.rooms.queue.len()
-    }
-
-    /// Whether nothing waits in it.
-    pub fn is_empty(&self) -> bool
-        ensures { result ≡ (length self.now.items == 0) }
-    {
-        self.len() == 0
     }
 }

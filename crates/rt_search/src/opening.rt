@@ -1,14 +1,15 @@
-//! Opening a node of a best-first search: each of its children is asked about, and joins the queue where it may hold
+//! Opening a node of a search that has a queue: each of its children is checked, and joins the queue where it may hold
 //! answers.
 
-ghost use Rattle.std.specs.Prelude.{◌≡◌, ◌+◌, ◌-◌, ◌<◌, ◌≤◌, ◌^◌, [], length};
+ghost use Rattle.std.specs.Prelude.{◌≡◌, ◌+◌, ◌-◌, ◌<◌, ◌≤◌, ◌^◌, List, [], length};
 ghost use Rattle.rt_tree.specs.Packed.{IsSound, node_at};
-ghost use Rattle.rt_search.specs.{Joining.{root_items}, Limits.{KeepsEnough}, Progress.{join_children}};
-ghost use Rattle.rt_search.specs.Remaining.{IsOpenable, verdict_on};
+ghost use Rattle.rt_search.specs.{Answers.{Answer}, Items.{item_at}, Joining.{root_items}, Limits.{KeepsEnough}};
+ghost use Rattle.rt_search.specs.{Progress.{IsOut, IsUnderWay, join_children}, Remaining.{IsOpenable, verdict_on}};
+ghost use Rattle.rt_search.specs.declared.item.Place.TheVariants as place;
 
 use crate::item::{ScoredNode, WaitingNode};
 use crate::queue::Queue;
-use crate::walk::{Collector, info_under};
+use crate::walk::{Collector, info_under, walk_under};
 use rt_geo::{Counted, Geometry, Verdict, Within};
 use rt_tree::{NodeNo, Tree};
 
@@ -27,8 +28,41 @@ pub(crate) fn put_root(tree: &Tree, queue: &mut Queue)
     queue.put_node(root, number);
 }
 
-/// Opens a node that was taken out.
-pub(crate) fn open_node<G: Geometry>(
+/// Opens a node that was taken out. Where nodes have no scores, each node under it that may hold answers has to be opened
+/// before the next answer, so that all are opened at once.
+#[inline(always)]
+pub(crate) fn open<G: Geometry>(
+    tree: &Tree,
+    queue: &mut Queue,
+    counted: &mut Counted<'_, G>,
+    opened: &mut u64,
+    taken: ScoredNode,
+)
+    requires capacity { length tree.now.entries ≤ queue.old.capacity }
+    requires state { let meaning = G.meaning counted.old.geometry in (to_come : List Answer) ×
+        IsOut meaning tree.now opened.old counted.old.asked queue.old.wanted to_come
+        (item_at taken.score (place.Node taken.node)) queue.old.items }
+    ensures state { let meaning = G.meaning counted.old.geometry in (to_come : List Answer) →
+        IsOut meaning tree.now opened.old counted.old.asked queue.old.wanted to_come
+        (item_at taken.score (place.Node taken.node)) queue.old.items →
+        IsUnderWay meaning tree.now opened.new counted.new.asked queue.new.wanted to_come
+        queue.new.items }
+    ensures more { opened.old < opened.new }
+    ensures wanted { queue.new.wanted ≡ queue.old.wanted }
+    ensures capacity { queue.new.capacity ≡ queue.old.capacity }
+    ensures geometry { counted.new.geometry ≡ counted.old.geometry }
+{
+    if G::SCORES_NODES {
+        *opened += 1;
+        open_node(tree, queue, counted, taken);
+        return;
+    }
+    let parent = verdict_on(taken.score, taken.node);
+    walk_under(tree, queue, counted, opened, taken.node.number, parent);
+}
+
+// Opens one node that was taken out.
+fn open_node<G: Geometry>(
     tree: &Tree,
     queue: &mut Queue,
     counted: &mut Counted<'_, G>,

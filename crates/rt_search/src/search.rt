@@ -1,52 +1,27 @@
-//! Best-first search.
+//! Searches: the answers to a query, one at a time.
+//!
+//! A search with a queue opens what may hold the next answer before it gives it. Where nodes have no scores, all that may
+//! hold answers has to be opened before the first. So with a limit above [`FEW`], or none, all answers are then found at
+//! once, and sorted, in place of a queue. [`gathers`] decides which way a search goes.
 
-ghost use Rattle.std.specs.Prelude.{◌≡◌, ◌≢◌, ◌+◌, ◌≤◌, [], ◌∷◌, List, IfNone, IfSome, MatchOption, drop, length};
-ghost use Rattle.rt_search.specs.{Answers.{Answer, answers}, Limits.{one_less}, Progress.{IsFound, IsGiving, IsOver}};
-ghost use Rattle.rt_search.specs.{Progress.{IsUnderWay}, Searching.{Searching}};
-ghost use Rattle.rt_search.specs.Work.{HasWorked, IsUnscored, opened_by_search};
+ghost use Rattle.std.specs.Prelude.{◌≡◌, ◌≢◌, ◌+◌, ◌≤◌, ℕ, [], ◌∷◌, List, IfNone, IfSome, MatchOption, drop, length};
+ghost use Rattle.std.specs.Prelude.{false, true};
+ghost use Rattle.rt_search.specs.{Answers.{Answer, answers}, Limits.{one_less}};
+ghost use Rattle.rt_search.specs.Progress.{HasEnded, HasGathered, IsFound, IsGathering, IsGiven, IsGoing, IsOver};
+ghost use Rattle.rt_search.specs.{Progress.{IsUnderWay, gathers}, Searching.{Searching}};
+ghost use Rattle.rt_search.specs.{Work.{HasWorked, opened_by_search}, declared.item.Item.{Item}};
 
 use crate::frontier::{Frontier, Rooms};
-use crate::full_search::FullSearch;
-use crate::opening::{open_node, put_root};
+use crate::hits::Hits;
+use crate::opening::{open, put_root};
 use crate::queue::Queue;
 use crate::walk::walk;
 use rt_geo::{Counted, Geometry};
 use rt_tree::Tree;
 use std::marker::Model;
 
-// Takes items out until an entry comes: the next answer. None comes where no item is left.
-fn pull<G: Geometry>(
-    tree: &Tree,
-    queue: &mut Queue,
-    counted: &mut Counted<'_, G>,
-    opened: &mut u64,
-) -> Option<(i64, u128)>
-    requires more { queue.old.wanted ≢ Some 0 }
-    requires capacity { length tree.now.entries ≤ queue.old.capacity }
-    requires state { let meaning = G.meaning counted.old.geometry in (to_come : List Answer) ×
-        IsUnderWay meaning tree.now opened.old counted.old.asked queue.old.wanted to_come
-        queue.old.items }
-    ensures step { let meaning = G.meaning counted.old.geometry in (to_come : List Answer) →
-        IsUnderWay meaning tree.now opened.old counted.old.asked queue.old.wanted to_come
-        queue.old.items → MatchOption result
-        (IsOver meaning tree.now opened.new counted.new.asked queue.new.wanted to_come
-        queue.new.items)
-        (λ a. IsFound meaning tree.now opened.new counted.new.asked queue.new.wanted to_come a
-        queue.new.items) }
-    ensures wanted { MatchOption result (queue.new.wanted ≡ queue.old.wanted)
-        (λ _. queue.new.wanted ≡ one_less queue.old.wanted) }
-    ensures capacity { queue.new.capacity ≡ queue.old.capacity }
-    ensures geometry { counted.new.geometry ≡ counted.old.geometry }
-{
-    loop {
-        let (node, entry) = queue.take();
-        let Some(node) = node else {
-            return entry;
-        };
-        *opened += 1;
-        open_node(tree, queue, counted, node);
-    }
-}
+/// Where nodes have no scores, up to so many answers are kept in a queue as they are found.
+const FEW: u64 = 64;
 
 /// A search that gives the answers to a query one at a time, those of the lowest score first.
 ///
@@ -76,16 +51,14 @@ impl<'a, G: Geometry> Model for Search<'a, G> {
       capacity = s.rooms.value.queue.capacity;
     } };
 
-    ghost invariant = { λ s. let rooms = s.rooms.value in record {
-      same_room : rooms.hits.capacity ≡ rooms.queue.capacity;
-      giving : IsGiving (G.meaning s.counted.geometry) s.tree.now s.limit s.given s.opened
-          s.counted.asked rooms.queue.capacity rooms.queue.wanted rooms.queue.items;
-    } };
+    ghost invariant = { λ s. let rooms = s.rooms.value in
+        IsGoing G.SCORES_NODES (G.meaning s.counted.geometry) s.tree.now s.limit s.given s.opened
+        s.counted.asked rooms.queue rooms.hits };
 }
 
 impl<'a, G: Geometry> Search<'a, G> {
-    /// A search for so many answers, or for all where there is no limit. What waited in the frontier is given up. No node
-    /// is opened yet.
+    /// A search for so many answers, or for all where there is no limit. What the frontier held is given up. No node is
+    /// opened yet.
     pub fn start(
         tree: &'a Tree,
         frontier: Frontier,
@@ -106,8 +79,7 @@ impl<'a, G: Geometry> Search<'a, G> {
         ensures capacity { result.capacity ≡ frontier.capacity }
     {
         let mut rooms = frontier.rooms;
-        rooms.queue.clear(limit);
-        put_root(tree, &mut rooms.queue);
+        begin::<G>(tree, &mut rooms, limit);
         Search {
             tree,
             rooms,
@@ -115,48 +87,6 @@ impl<'a, G: Geometry> Search<'a, G> {
             limit,
             given: 0,
             opened: 0,
-        }
-    }
-
-    /// A search with the same answers, for a geometry that scores each node 0, as the orders by id and by area do.
-    /// Whatever the first answer is, each node that may hold answers is opened before it: so all are opened here, from
-    /// the root downwards, and none waits. Where no answer is wanted, none is opened.
-    pub fn start_unscored(
-        tree: &'a Tree,
-        frontier: Frontier,
-        counted: Counted<'a, G>,
-        limit: Option<u64>,
-    ) -> Search<'a, G>
-        requires capacity { length tree.now.entries ≤ frontier.capacity }
-        requires asked { counted.asked ≡ 0 }
-        requires unscored { IsUnscored (G.meaning counted.geometry) }
-        ensures to_come { result.to_come
-            ≡ answers tree.now.entries (G.meaning counted.entry.geometry) limit }
-        ensures limit { result.limit ≡ limit }
-        ensures given { result.given ≡ 0 }
-
-        // The work is done: it is that of a search for so many answers.
-        ensures worked { HasWorked (G.meaning counted.entry.geometry) tree.now limit
-            result.opened result.asked }
-
-        ensures tree { result.tree ≡ tree.now }
-        ensures geometry { result.geometry ≡ counted.entry.geometry }
-        ensures capacity { result.capacity ≡ frontier.capacity }
-    {
-        if limit == Some(0) {
-            return Search::start(tree, frontier, counted, limit);
-        }
-        let mut rooms = frontier.rooms;
-        let mut counted = counted;
-        rooms.queue.clear(limit);
-        let opened = walk(tree, &mut rooms.queue, &mut counted);
-        Search {
-            tree,
-            rooms,
-            counted,
-            limit,
-            given: 0,
-            opened,
         }
     }
 
@@ -184,11 +114,12 @@ impl<'a, G: Geometry> Search<'a, G> {
         if self.limit == Some(self.given) {
             return None;
         }
-        let answer = pull(
+        let answer = advance(
             self.tree,
-            &mut self.rooms.queue,
+            &mut self.rooms,
             &mut self.counted,
             &mut self.opened,
+            self.limit,
         )?;
         self.given += 1;
         Some(answer)
@@ -214,8 +145,152 @@ impl<'a, G: Geometry> Search<'a, G> {
     }
 }
 
-/// How many nodes a search opens for so many answers, or for all where there is no limit, and the frontier. What
-/// waited in the frontier is given up.
+// Whether all answers are found at once, without a queue.
+#[inline(always)]
+fn gathers<G: Geometry>(limit: Option<u64>) -> bool
+    ensures { result ≡ gathers G.SCORES_NODES limit }
+{
+    if G::SCORES_NODES {
+        return false;
+    }
+    match limit {
+        None => true,
+        Some(limit) => FEW < limit,
+    }
+}
+
+// Gives up what the rooms held. The root waits, where there is a queue.
+#[inline(always)]
+fn begin<G: Geometry>(tree: &Tree, rooms: &mut Rooms, limit: Option<u64>)
+    requires capacity { length tree.now.entries ≤ rooms.old.queue.capacity }
+    requires same_room { rooms.old.hits.capacity ≡ rooms.old.queue.capacity }
+    ensures going { (geometry : G) → IsGoing G.SCORES_NODES (G.meaning geometry) tree.now limit 0 0 0
+        rooms.new.queue rooms.new.hits }
+    ensures capacity { rooms.new.queue.capacity ≡ rooms.old.queue.capacity }
+{
+    rooms.queue.clear(limit);
+    if gathers::<G>(limit) {
+        rooms.hits.clear();
+        return;
+    }
+    put_root(tree, &mut rooms.queue);
+}
+
+// The next answer, where the limit isn't reached. `None` where none is left.
+#[inline(always)]
+fn advance<G: Geometry>(
+    tree: &Tree,
+    rooms: &mut Rooms,
+    counted: &mut Counted<'_, G>,
+    opened: &mut u64,
+    limit: Option<u64>,
+) -> Option<(i64, u128)>
+    requires state { let meaning = G.meaning counted.old.geometry in (given : ℕ) ×
+        ((limit ≢ Some given) × IsGoing G.SCORES_NODES meaning tree.now limit given opened.old
+        counted.old.asked rooms.old.queue rooms.old.hits) }
+    ensures step { let meaning = G.meaning counted.old.geometry in (given : ℕ) →
+        limit ≢ Some given → IsGoing G.SCORES_NODES meaning tree.now limit given opened.old
+        counted.old.asked rooms.old.queue rooms.old.hits → MatchOption result
+        (HasEnded G.SCORES_NODES meaning tree.now limit given opened.new counted.new.asked
+        rooms.new.queue rooms.new.hits)
+        (λ a. IsGiven G.SCORES_NODES meaning tree.now limit given opened.new counted.new.asked a
+        rooms.new.queue rooms.new.hits) }
+    ensures capacity { rooms.new.queue.capacity ≡ rooms.old.queue.capacity }
+    ensures geometry { counted.new.geometry ≡ counted.old.geometry }
+{
+    if gathers::<G>(limit) {
+        gather(tree, &mut rooms.hits, counted, opened, limit);
+        return rooms.hits.take();
+    }
+    // (of its own, so that a hit stays in registers)
+    let answer = pull(tree, &mut rooms.queue, counted, opened)?;
+    Some(answer)
+}
+
+// Finds all answers, unless they were found.
+#[inline(always)]
+fn gather<G: Geometry>(
+    tree: &Tree,
+    hits: &mut Hits,
+    counted: &mut Counted<'_, G>,
+    opened: &mut u64,
+    limit: Option<u64>,
+)
+    requires capacity { length tree.now.entries ≤ hits.old.capacity }
+    requires before { hits.old.is_sorted ≡ false → counted.old.asked ≡ 0 }
+    ensures state { let meaning = G.meaning counted.old.geometry in (given : ℕ) (items : List Item) →
+        IsGathering meaning tree.now limit given opened.old counted.old.asked items hits.old →
+        HasGathered meaning tree.now limit given opened.new counted.new.asked hits.new.items }
+    ensures sorted { hits.new.is_sorted ≡ true }
+    ensures capacity { hits.new.capacity ≡ hits.old.capacity }
+    ensures geometry { counted.new.geometry ≡ counted.old.geometry }
+{
+    if hits.is_sorted() {
+        return;
+    }
+    find_all(tree, hits, counted, opened, limit);
+}
+
+// Finds all answers, and puts those up to the limit in order. Out of line, as it is done once a search.
+#[inline(never)]
+fn find_all<G: Geometry>(
+    tree: &Tree,
+    hits: &mut Hits,
+    counted: &mut Counted<'_, G>,
+    opened: &mut u64,
+    limit: Option<u64>,
+)
+    requires capacity { length tree.now.entries ≤ hits.old.capacity }
+    requires asked { counted.old.asked ≡ 0 }
+    ensures found { HasGathered (G.meaning counted.old.geometry) tree.now limit 0 opened.new
+        counted.new.asked hits.new.items }
+    ensures sorted { hits.new.is_sorted ≡ true }
+    ensures capacity { hits.new.capacity ≡ hits.old.capacity }
+    ensures geometry { counted.new.geometry ≡ counted.old.geometry }
+{
+    hits.clear();
+    *opened = walk(tree, hits, counted);
+    match limit {
+        None => hits.sort(),
+        Some(limit) => hits.sort_first(limit),
+    }
+}
+
+// Takes items out of the queue until an entry comes: the next answer. None comes where no item is left.
+fn pull<G: Geometry>(
+    tree: &Tree,
+    queue: &mut Queue,
+    counted: &mut Counted<'_, G>,
+    opened: &mut u64,
+) -> Option<(i64, u128)>
+    requires more { queue.old.wanted ≢ Some 0 }
+    requires capacity { length tree.now.entries ≤ queue.old.capacity }
+    requires state { let meaning = G.meaning counted.old.geometry in (to_come : List Answer) ×
+        IsUnderWay meaning tree.now opened.old counted.old.asked queue.old.wanted to_come
+        queue.old.items }
+    ensures step { let meaning = G.meaning counted.old.geometry in (to_come : List Answer) →
+        IsUnderWay meaning tree.now opened.old counted.old.asked queue.old.wanted to_come
+        queue.old.items → MatchOption result
+        (IsOver meaning tree.now opened.new counted.new.asked queue.new.wanted to_come
+        queue.new.items)
+        (λ a. IsFound meaning tree.now opened.new counted.new.asked queue.new.wanted to_come a
+        queue.new.items) }
+    ensures wanted { MatchOption result (queue.new.wanted ≡ queue.old.wanted)
+        (λ _. queue.new.wanted ≡ one_less queue.old.wanted) }
+    ensures capacity { queue.new.capacity ≡ queue.old.capacity }
+    ensures geometry { counted.new.geometry ≡ counted.old.geometry }
+{
+    loop {
+        let (node, entry) = queue.take();
+        let Some(node) = node else {
+            return entry;
+        };
+        open(tree, queue, counted, opened, node);
+    }
+}
+
+/// How many nodes a search opens for so many answers, or for all where there is no limit, and the frontier. What the
+/// frontier held is given up.
 pub fn cost<G: Geometry>(
     tree: &Tree,
     frontier: Frontier,
@@ -229,8 +304,13 @@ pub fn cost<G: Geometry>(
     ensures items { length result.1.items ≤ length tree.now.entries }
 {
     if limit.is_none() {
-        let search = FullSearch::start(tree, frontier, counted);
-        return (search.opened(), search.finish().0);
+        // (each node that may hold answers is opened, in whatever order)
+        let mut rooms = frontier.rooms;
+        let mut counted = counted;
+        rooms.queue.clear(None);
+        rooms.hits.clear();
+        let opened = walk(tree, &mut rooms.hits, &mut counted);
+        return (opened, Frontier { rooms });
     }
     let mut search = Search::start(tree, frontier, counted, limit);
     while search.next().is_some() {}

@@ -1,8 +1,8 @@
 //! Walking over the nodes of a tree: what is asked about the children of an opened node, and who takes what is found.
 //!
-//! A full search, a count and a search in whose order each node scores 0 walk from the root downwards. What they do at
-//! a node and with an entry is their [`Visitor`]. A best-first search opens one node at a time, in an order of its own,
-//! and needs a [`Collector`] alone.
+//! A count, and a search whose nodes have no scores, walk from the root downwards. What they do at a node and with an
+//! entry is their [`Visitor`]. A best-first search opens one node at a time, in an order of its own, and needs a
+//! [`Collector`] alone.
 
 ghost use Rattle.std.specs.Prelude.{◌≡◌, ◌+◌, ◌-◌, ◌<◌, ◌≤◌, ◌^◌, ℕ, Bool, List, [], if◌then◌else◌, length};
 ghost use Rattle.rt_geo.specs.{Laws.{Extent}, declared.geometry.Verdict.{Verdict}};
@@ -120,7 +120,7 @@ pub(crate) fn walk<V: Visitor, G: Geometry>(
 
 // Opens a node, and goes on under it.
 #[cycle(walk)]
-fn walk_under<V: Visitor, G: Geometry>(
+pub(crate) fn walk_under<V: Visitor, G: Geometry>(
     tree: &Tree,
     visitor: &mut V,
     counted: &mut Counted<'_, G>,

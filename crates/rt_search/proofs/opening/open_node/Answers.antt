@@ -1,5 +1,5 @@
 use Rattle.std.proofs.{Common.{◌∙◌, arith, rules, add-one}, lemmas.Grind.{common_steps}}
-use Rattle.rt_search.proofs.{Children.{asked, children_inside, children_of, honest_child}, Collectors.{entries_join}}
+use Rattle.rt_search.proofs.{Children.{asked, children_inside, children_of, node_question}, Collectors.{entries_join}}
 use Rattle.rt_search.proofs.{Limits.{enough_node}, UnderWay.{leaf_joins, nodes_join}, Working.{length-join_nodes}}
 use Rattle.rt_search.proofs.opening.open_node.Goals as goal
 
@@ -23,7 +23,17 @@ check-requires g c =
     let here = children_of c.requires.node c.node-node.ensures c.if-node-eq1.false c.child_nodes-children.ensures in
     let k = asked here c.loop-i.i c.verdict_on-parent.result c.loop-i-test.true c.index-children-i.is c.new-number.ensures
     c.node-whole.ensures c.info_under-info.ensures in
-    search (rules, honest_child)
+    let tree = c.args.tree.now in
+    let meaning = g.G.Geometry.meaning c.args.counted.now.geometry in
+    let parent = c.verdict_on-parent in
+    let below = rw (← parent.ensures) at c.requires.node.below in
+    let question = node_question meaning tree c.requires.sound parent.result (search rules) _ _ _ _ c.requires.node.low below k.child in
+    let info = k.info_is in
+    rw c.loop-i.invariant.geometry (record {
+      honest = rw info question.honest;
+      layers = rw info question.well_formed.layers;
+      room = search rules;
+    })
 
 pub put_node-requires : goal.put_node-requires
 put_node-requires g c =

@@ -1,7 +1,5 @@
-use Rattle.rt_search.proofs.UnderWay.{few_wait}
+use Rattle.rt_search.proofs.Gathering.{few}
 use Rattle.rt_search.proofs.search.Search.finish.Goals as goal
 
 pub returns-clause-items : goal.returns-clause-items
-returns-clause-items g c =
-    let geometry = c.self.inside.counted.geometry in
-    rw (← c.self.view_is) (few_wait (g.G.Geometry.meaning geometry) c.self.inside.tree.now c.self.invariant.giving.state)
+returns-clause-items g c = rw (← c.self.view_is) (few c.self.invariant)

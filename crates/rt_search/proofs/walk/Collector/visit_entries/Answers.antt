@@ -27,6 +27,17 @@ check-verdict-requires-clause-honest g c =
     (entry_question (g.G.Geometry.meaning c.args.counted.now.geometry) c.args.tree.now c.requires.leaf.sound
     c.args.parent (search rules) c.args.node _ c.loop-i.i c.requires.leaf.below k.at).honest
 
+pub check-verdict-requires-clause-layers : goal.check-verdict-requires-clause-layers
+check-verdict-requires-clause-layers g c =
+    let k = leaf_read c.args.tree.now c.args.node c.loop-i.i c.index-entries-i.result
+    c.child_entries-entries.result.now c.requires.leaf.sound.table c.requires.leaf.node c.child_entries-entries.ensures
+    c.loop-i-test.true c.index-entries-i.is in
+    let layers = subst (λ o. IfSome o (λ e. c.layers_at-layers.result ≡ (extent_of_entry e).layers)) k.at.found
+    c.layers_at-layers.ensures in
+    rw (c.info_under-info.ensures, k.is, layers)
+    (entry_question (g.G.Geometry.meaning c.args.counted.now.geometry) c.args.tree.now c.requires.leaf.sound
+    c.args.parent (search rules) c.args.node _ c.loop-i.i c.requires.leaf.below k.at).well_formed.layers
+
 pub check-verdict-requires-clause-room : goal.check-verdict-requires-clause-room
 check-verdict-requires-clause-room g c = grind (arith, entries_count)
 

@@ -1,0 +1,54 @@
+use Rattle.std.proofs.Common.{◌≡◌, None, arith, false, rules}
+use Rattle.rt_search.specs.Progress.{gathers}
+use Rattle.rt_search.proofs.{Gathering.{hit}, Giving.{end, give}}
+use Rattle.rt_search.proofs.search.advance.Goals as goal
+
+-- ---- from the hits
+
+pub gather-requires : goal.gather-requires
+gather-requires g c =
+    let gathering = c.requires.state.1.1.gathering (search rules) in
+    record { capacity = gathering.room; before = λ h. (gathering.before h).1.1 }
+
+pub returns-then-gathers-clause-step : goal.returns-then-gathers-clause-step
+returns-then-gathers-clause-step g c so_far more going =
+    let is = c.gathers.ensures in
+    let gathering = going.gathering (search rules) in
+    let room = gathering.room in
+    let same = going.same_room in
+    let e = c.gather.ensures in
+    let t = c.take.ensures in
+    hit (record {
+      gathered = search rules;
+      unscored = g.met.G.Geometry.no_scores c.args.counted.now.geometry (search rules);
+      room = grind arith;
+      same = grind arith;
+      none = gathering.none_waits;
+      is_sorted = t.sorted;
+      all = e.state so_far c.args.rooms.now.queue.items gathering;
+    }) more c.take.result t.entries t.taken
+
+-- ---- from the queue
+
+pub pull-requires : goal.pull-requires
+pull-requires g c =
+    let giving = c.requires.state.1.1.giving (search rules) in
+    record { more = search rules; capacity = giving.room; state = (_, giving.state) }
+
+pub returns-in_err-answer-clause-step : goal.returns-in_err-answer-clause-step
+returns-in_err-answer-clause-step g c so_far more going =
+    let same = going.same_room in
+    let queued : gathers g.G.Geometry.SCORES_NODES c.args.limit ≡ false = search rules in
+    let giving = going.giving queued in
+    let e = c.pull.ensures in
+    let none : c.from_residual.result ≡ None = search rules in
+    rw none (end going more queued (grind arith) e.capacity c.in_err-answer.ensures.wanted
+    (c.in_err-answer.ensures.step _ giving.state))
+
+pub returns-clause-step : goal.returns-clause-step
+returns-clause-step g c so_far more going =
+    let same = going.same_room in
+    let giving = going.giving (search rules) in
+    let e = c.pull.ensures in
+    give going more (search rules) (grind arith) e.capacity c.in_ok-answer.ensures.wanted
+    (c.in_ok-answer.ensures.step _ giving.state)

@@ -1,0 +1,36 @@
+use Rattle.std.proofs.Common.{◌≤◌, arith, length, refl}
+use Rattle.rt_search.proofs.Starting.{started}
+use Rattle.rt_search.proofs.search.begin.Goals as goal
+
+pub returns-then-gathers-clause-going : goal.returns-then-gathers-clause-going
+returns-then-gathers-clause-going g c geometry =
+    let is = c.gathers.ensures in
+    let same = c.requires.same_room in
+    let room = c.requires.capacity in
+    let cleared = c.clear.ensures in
+    let hits = c.clear-then-gathers.ensures in
+    record {
+      same_room = grind arith;
+      giving = λ h. absurd (grind arith);
+      gathering = λ h. record {
+        room = grind arith;
+        none_waits = cleared.items;
+        before = λ h. (refl, (refl, refl));
+        after = λ h. absurd (grind arith);
+      };
+    }
+
+pub returns-clause-going : goal.returns-clause-going
+returns-clause-going g c geometry =
+    let is = c.gathers.ensures in
+    let put = c.put_root.ensures in
+    let cleared = c.clear.ensures in
+    let same = c.requires.same_room in
+    let room : length c.args.tree.now.entries ≤ c.put_root.new.queue.capacity = grind arith in
+    record {
+      same_room = grind arith;
+      giving = λ h. started (g.G.Geometry.meaning geometry) c.args.tree.now put.sound c.args.limit
+          c.put_root.new.queue.capacity c.put_root.new.queue.wanted c.put_root.new.queue.items room
+          (rw put.root.wanted cleared.wanted) (rw put.root.wanted put.root.items);
+      gathering = λ h. absurd (grind arith);
+    }
