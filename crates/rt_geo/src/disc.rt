@@ -15,15 +15,14 @@ use crate::shapes::Circle;
 /// distance for both.
 #[derive(Clone, Copy, Debug, PartialEq, Eq)]
 pub struct Disc {
-    /// The centre of the disc.
-    pub centre: Point,
-    /// The square of how far the disc reaches from there.
-    pub radius2: u128,
+    centre: Point,
+    // the square of how far the disc reaches from there
+    radius2: u128,
 }
 
 impl Disc {
-    /// The disc of a circle.
-    pub fn new(circle: Circle) -> Disc
+    // The disc of a circle.
+    fn new(circle: Circle) -> Disc
         ensures { result ≡ disc_of circle }
     {
         let radius = circle.radius as u128;
@@ -40,7 +39,7 @@ impl Disc {
         ensures means { IfSome result (λ disc. MeansBoth disc circle.now order.now) }
     {
         match order {
-            Order::Near(rank) if circle.is_around(rank.0) => Some(Disc::new(*circle)),
+            Order::Near(rank) if rank.0 == circle.centre => Some(Disc::new(*circle)),
             _ => None,
         }
     }

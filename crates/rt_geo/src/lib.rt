@@ -18,8 +18,8 @@
 //! The definitions that the contracts cite stand in `specs/`: `Boxes`, `Layers`, `Entries`, `Distances`, `Laws`,
 //! `Polygons`, `ShortEdges`, `Regions`, `OnLayers`, `Orders`, `Discs`, `Counted`. They are in whole numbers without
 //! bounds; that each `Bounds` is a box of the plane of 32-bit coordinates is a fact of its own (`HasBox`
-//! of an entry, `IsWellFormed` of an info), which the readers of the sides and [`Entry::info`] tell. What stands below
-//! `specs/Lemmas` is proved, and needn't be believed; `HalfPlanes` is for this crate's code alone.
+//! of an entry, `IsWellFormed` of an info), which the readers of the sides state. What stands below `specs/Lemmas` is
+//! proved, and needn't be believed; `HalfPlanes` is for this crate's code alone.
 #![tactic(auto)]
 
 mod bounds;

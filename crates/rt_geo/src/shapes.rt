@@ -2,7 +2,7 @@
 //!
 //! `specs/Regions.antt` has the tables of what they accept and of their states. No state looks at the parent's.
 
-ghost use Rattle.std.specs.Prelude.{◌≡◌, Decides};
+ghost use Rattle.std.specs.Prelude.{◌≡◌};
 ghost use Rattle.rt_geo.specs.{Lemmas.Regions.{region-faithful}, Regions.{region_accepts, region_state}};
 ghost use Rattle.rt_geo.specs.declared.region.Region.TheVariants as region;
 
@@ -33,15 +33,6 @@ pub struct Circle {
     pub centre: Point,
     /// How far the disc reaches from there.
     pub radius: u32,
-}
-
-impl Circle {
-    /// Whether a point is the centre of the disc.
-    pub fn is_around(&self, point: Point) -> bool
-        ensures { Decides result (self.now.centre ≡ point) }
-    {
-        self.centre.x == point.x && self.centre.y == point.y
-    }
 }
 
 impl Shape for All {

@@ -1,6 +1,7 @@
 //! Boxes, and what shapes, ranks and geometries answer about them.
 
-ghost use Rattle.std.specs.Prelude.{◌≡◌};
+ghost use Rattle.std.specs.Prelude.{◌≡◌, ◌<◌};
+ghost use Rattle.rt_geo.specs.Laws.{ShowsLayers};
 ghost use Rattle.rt_geo.specs.declared.geometry.Within.TheVariants.{Partly};
 
 use crate::expect::expect_eq;
@@ -17,19 +18,29 @@ pub(crate) fn boxed(rt: &impl Abort, sides: Sides) -> Bounds {
 
 /// A question about an entry (level 0) or a node whose parent was PARTLY.
 pub(crate) fn question(bounds: Bounds, level: u8) -> Info
-    ensures { result.parent_within ≡ Partly }
+    ensures parent { result.parent_within ≡ Partly }
+    ensures layers { ShowsLayers result }
 {
-    question_on(bounds, Layers::of(0), level)
+    Info {
+        bounds,
+        layers: Layers::of(0),
+        level,
+        top: 3,
+        parent_within: Within::Partly,
+        parent_score: 0,
+    }
 }
 
-/// The same of an entry or a node on these layers.
-pub(crate) fn question_on(bounds: Bounds, layers: Layers, level: u8) -> Info
-    ensures { result.parent_within ≡ Partly }
+/// A question about a node of level 1 on these layers.
+pub(crate) fn question_on(bounds: Bounds, layers: Layers) -> Info
+    requires { 0 < layers.bits }
+    ensures parent { result.parent_within ≡ Partly }
+    ensures layers { ShowsLayers result }
 {
     Info {
         bounds,
         layers,
-        level,
+        level: 1,
         top: 3,
         parent_within: Within::Partly,
         parent_score: 0,

@@ -46,25 +46,6 @@ fn bounds_have_no_minimum_above_its_maximum(rt: HostRuntime) {
     }
 }
 
-#[test]
-fn an_entry_is_shown_by_itself(rt: HostRuntime) {
-    let bounds = boxed(&rt, [-5, 30, -6, 10]);
-    let want = Info {
-        bounds,
-        layers: Layers::of(9),
-        level: 0,
-        top: 0,
-        parent_within: Within::Partly,
-        parent_score: 0,
-    };
-    let entry = Entry {
-        id: 7,
-        bounds,
-        layer: 9,
-    };
-    expect_eq(&rt, entry.info(), want);
-}
-
 // Two boxes, whether they overlap, and whether the first lies inside the second.
 static PAIRS: [(Sides, Sides, bool, bool); 8] = [
     (SQUARE, [10, 20, 10, 20], true, false),
@@ -198,7 +179,13 @@ fn expect_disc(rt: &impl Abort, circle: Circle, sides: Sides, level: u8) {
         rank: Near(circle.centre),
     };
     let want = verdict_of(&guided, bounds, level);
-    expect_eq(rt, verdict_of(&Disc::new(circle), bounds, level), want);
+    let disc = disc_of(rt, circle);
+    expect_eq(rt, verdict_of(&disc, bounds, level), want);
+}
+
+fn disc_of(rt: &impl Abort, circle: Circle) -> Disc {
+    let order = Order::Near(Near(circle.centre));
+    Disc::from_parts(&circle, &order).expect(rt, "the order is from its centre")
 }
 
 // Orders, and whether a disc is made of the circle round (3, -4) and each.
@@ -215,12 +202,8 @@ fn a_disc_is_made_where_the_order_is_from_its_middle(rt: HostRuntime) {
         radius: 5,
     };
     for (order, is_made) in &ORDERS {
-        let want = if *is_made {
-            Some(Disc::new(circle))
-        } else {
-            None
-        };
-        expect_eq(&rt, Disc::from_parts(&circle, order), want);
+        let disc = Disc::from_parts(&circle, order);
+        expect_eq(&rt, disc.is_some(), *is_made);
     }
 }
 

@@ -66,7 +66,8 @@ fn a_shape_on_layers_answers_for_both(rt: HostRuntime) {
     let layers = Layers::new(0b1001);
     let on_layers = OnLayers { shape, layers };
     for (bits, sides, want) in &STATES {
-        let info = question_on(boxed(&rt, *sides), Layers::new(*bits), 1);
+        assert!(rt; 0 < *bits);
+        let info = question_on(boxed(&rt, *sides), Layers::new(*bits));
         expect_eq(&rt, on_layers.within(&info), *want);
     }
 }
@@ -81,7 +82,7 @@ fn what_covers_a_window_is_never_full_on_layers_either(rt: HostRuntime) {
     };
     expect_eq(
         &rt,
-        on_layers.within(&question_on(bounds, Layers::of(7), 1)),
+        on_layers.within(&question_on(bounds, Layers::of(7))),
         Within::Partly,
     );
 }

@@ -31,6 +31,10 @@ impl<G: Geometry> Watched<G> {
 }
 
 impl<G: Geometry> Geometry for Watched<G> {
+    const SCORES_NODES: bool = G::SCORES_NODES;
+
+    ghost SCORES_NODES = { G.SCORES_NODES };
+
     ghost meaning = { λ w. G.meaning w.geometry };
 
     fn check(&self, info: &Info) -> Verdict {
@@ -40,4 +44,6 @@ impl<G: Geometry> Geometry for Watched<G> {
     }
 
     ghost lawful = { λ w. G.lawful w.geometry };
+
+    ghost no_scores = { λ w. G.no_scores w.geometry };
 }

@@ -116,7 +116,7 @@ module _ {scores_nodes : Bool} {meaning : Meaning} {t : Packed} {limit : Option 
       → HasWorked meaning t limit opened asked
   stopped_by false sorted queued is unscored at = (going.giving queued).stopped at
   stopped_by true false gathered is unscored at =
-      let none = ((going.gathering gathered).before is).0 in
+      let none = ((going.gathering gathered).before is).none_given in
       absurd (some_limit scores_nodes limit gathered (at ∙ ap Some none))
   stopped_by true true gathered is unscored at =
       work_is (unscored (grind arith)) ((going.gathering gathered).after is) limit (some_limit scores_nodes limit gathered)

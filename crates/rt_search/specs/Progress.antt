@@ -159,12 +159,19 @@ pub record HasGathered (meaning : Meaning) (t : Packed)
   pub to_come : drop given (answers t.entries meaning limit) ≡ limited (left limit given) (remaining t meaning hits)
   pub reached : HasReached meaning t None opened asked
 
+-- nothing was done yet
+pub record IsFresh (given opened asked : ℕ) (hits : List Item) : Type 0 where
+  pub none_given : given ≡ 0
+  pub none_opened : opened ≡ 0
+  pub none_asked : asked ≡ 0
+  pub none_found : hits ≡ []
+
 -- what holds of a search that finds all at once: they are found, and in order, or nothing was done yet
 pub record IsGathering (meaning : Meaning) (t : Packed)
     (limit : Option ℕ) (given opened asked : ℕ) (items : List Item) (hits : Gathered) : Type 0 where
   pub room : length t.entries ≤ hits.capacity
   pub none_waits : items ≡ []
-  pub before : hits.is_sorted ≡ false → (given ≡ 0) × ((opened ≡ 0) × (asked ≡ 0))
+  pub before : hits.is_sorted ≡ false → IsFresh given opened asked hits.items
   pub after : hits.is_sorted ≡ true → HasGathered meaning t limit given opened asked hits.items
 
 -- ---- in one of the two ways

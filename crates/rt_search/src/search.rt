@@ -217,7 +217,8 @@ fn gather<G: Geometry>(
     limit: Option<u64>,
 )
     requires capacity { length tree.now.entries ≤ hits.old.capacity }
-    requires before { hits.old.is_sorted ≡ false → counted.old.asked ≡ 0 }
+    requires asked { hits.old.is_sorted ≡ false → counted.old.asked ≡ 0 }
+    requires none { hits.old.is_sorted ≡ false → hits.old.items ≡ [] }
     ensures state { let meaning = G.meaning counted.old.geometry in (given : ℕ) (items : List Item) →
         IsGathering meaning tree.now limit given opened.old counted.old.asked items hits.old →
         HasGathered meaning tree.now limit given opened.new counted.new.asked hits.new.items }
@@ -242,13 +243,14 @@ fn find_all<G: Geometry>(
 )
     requires capacity { length tree.now.entries ≤ hits.old.capacity }
     requires asked { counted.old.asked ≡ 0 }
+    requires none { hits.old.items ≡ [] }
+    requires unsorted { hits.old.is_sorted ≡ false }
     ensures found { HasGathered (G.meaning counted.old.geometry) tree.now limit 0 opened.new
         counted.new.asked hits.new.items }
     ensures sorted { hits.new.is_sorted ≡ true }
     ensures capacity { hits.new.capacity ≡ hits.old.capacity }
     ensures geometry { counted.new.geometry ≡ counted.old.geometry }
 {
-    hits.clear();
     *opened = walk(tree, hits, counted);
     match limit {
         None => hits.sort(),
@@ -307,9 +309,10 @@ pub fn cost<G: Geometry>(
         // (each node that may hold answers is opened, in whatever order)
         let mut rooms = frontier.rooms;
         let mut counted = counted;
-        rooms.queue.clear(None);
-        rooms.hits.clear();
-        let opened = walk(tree, &mut rooms.hits, &mut counted);
+        let Rooms { queue, hits } = &mut *rooms;
+        queue.clear(None);
+        hits.clear();
+        let opened = walk(tree, hits, &mut counted);
         return (opened, Frontier { rooms });
     }
     let mut search = Search::start(tree, frontier, counted, limit);

@@ -1,7 +1,6 @@
 //! Searches and counts over small trees, with answers and numbers that were worked out by hand.
 
 ghost use Rattle.std.specs.Prelude.{◌≡◌, ◌≤◌, length};
-ghost use Rattle.rt_search.specs.Work.{IsUnscored};
 
 use crate::expect::expect_eq;
 use crate::searching::first_answer;
@@ -10,9 +9,9 @@ use crate::uneven::Uneven;
 use crate::watched::Watched;
 use rt_geo::{
     All, ById, Circle, Counted, Geometry, Guided, Inside, Layers, Near, OnLayers, Order, Point,
-    Region, Smallest, Window,
+    Region, Smallest, Unscored, Window,
 };
-use rt_search::{Count, Frontier, FullSearch, Search, cost, count};
+use rt_search::{Count, Frontier, Search, cost, count};
 use rt_tree::{Table, Tree};
 use std::alloc::AllocGlobal;
 use std::process::Abort;
@@ -90,24 +89,6 @@ fn expect_search_over<G: Geometry>(
     expect_answers(rt, search, tree.len(), want);
 }
 
-// The same where each node scores 0, and is opened before the first answer.
-fn expect_unscored<G: Geometry>(
-    rt: &(impl Abort + AllocGlobal),
-    boxes: &[(i64, Sides)],
-    geometry: &G,
-    limit: Option<u64>,
-    want: &Want<'_>,
-)
-    requires { IsUnscored (G.meaning geometry.now) }
-{
-    expect_search(rt, boxes, geometry, limit, want);
-    let tree = pack(rt, boxes);
-    let frontier = Frontier::new(rt.alloc(), tree.len()).expect(rt, "there is memory");
-    let search = Search::start_unscored(&tree, frontier, Counted::new(geometry), limit);
-    expect_eq(rt, search.opened(), want.opened);
-    expect_answers(rt, search, tree.len(), want);
-}
-
 fn expect_answers<G: Geometry>(
     rt: &impl Abort,
     search: Search<'_, G>,
@@ -141,8 +122,9 @@ fn expect_cost<G: Geometry>(
     expect_eq(rt, (opened, frontier.capacity()), (want, tree.len()));
 }
 
-// What a search for all answers gives, one at a time and all at once, and the first so many of them.
-fn expect_full_search<G: Geometry>(
+// What a search gives without a limit, and the first of that with one. Where nodes have no scores, each limit but 0 opens
+// the same nodes, all of them before the first answer.
+fn expect_with_limits<G: Geometry>(
     rt: &(impl Abort + AllocGlobal),
     boxes: &[(i64, Sides)],
     geometry: &G,
@@ -150,35 +132,19 @@ fn expect_full_search<G: Geometry>(
 ) {
     expect_search(rt, boxes, geometry, None, want);
     let tree = pack(rt, boxes);
-    let search = full_search(rt, &tree, geometry);
-    expect_all_answers(rt, search, tree.len(), want);
     for count in 0..want.answers.len() + 2 {
         expect_first_answers(rt, &tree, geometry, count, want);
     }
 }
 
-fn full_search<'a, G: Geometry>(
+fn search<'a, G: Geometry>(
     rt: &(impl Abort + AllocGlobal),
     tree: &'a Tree,
     geometry: &'a G,
-) -> FullSearch<'a, G> {
+    limit: Option<u64>,
+) -> Search<'a, G> {
     let frontier = Frontier::new(rt.alloc(), tree.len()).expect(rt, "there is memory");
-    FullSearch::start(tree, frontier, Counted::new(geometry))
-}
-
-fn expect_all_answers<G: Geometry>(
-    rt: &impl Abort,
-    search: FullSearch<'_, G>,
-    capacity: u32,
-    want: &Want<'_>,
-) {
-    let mut search = search;
-    expect_eq(rt, search.opened(), want.opened);
-    for place in 0..want.answers.len() + 2 {
-        expect_eq(rt, search.next(), answer_at(want.answers, place));
-    }
-    expect_eq(rt, search.opened(), want.opened);
-    expect_finished(rt, search.finish(), capacity, want.asked);
+    Search::start(tree, frontier, Counted::new(geometry), limit)
 }
 
 // The frontier of a search that is finished, and the geometry with the number of its checks.
@@ -196,7 +162,6 @@ fn expect_finished<G: Geometry>(
     );
 }
 
-// The first so many of what a search for all answers gives: `want` has all.
 fn expect_first_answers<G: Geometry>(
     rt: &(impl Abort + AllocGlobal),
     tree: &Tree,
@@ -204,12 +169,17 @@ fn expect_first_answers<G: Geometry>(
     count: usize,
     want: &Want<'_>,
 ) {
-    let mut first = full_search(rt, tree, geometry).first(count as u64);
+    let mut first = search(rt, tree, geometry, Some(count as u64));
+    expect_eq(rt, first.opened(), 0);
     let answers = &want.answers[..count.min(want.answers.len())];
     for place in 0..answers.len() + 2 {
         expect_eq(rt, first.next(), answer_at(answers, place));
+        if !G::SCORES_NODES {
+            expect_eq(rt, first.opened(), if count == 0 { 0 } else { want.opened });
+        }
     }
-    expect_finished(rt, first.finish(), tree.len(), want.asked);
+    let (frontier, _counted) = first.finish();
+    expect_eq(rt, frontier.capacity(), tree.len());
 }
 
 // How many entries a count accepts, and how many nodes it opens.
@@ -238,8 +208,15 @@ fn expect_count_over<G: Geometry>(
 {
     let mut counted = Counted::new(geometry);
     expect_eq(rt, count(tree, frontier, &mut counted), want);
-    assert!(rt; frontier.is_empty());
+    expect_eq(rt, frontier.len(), 0);
     counted.asked()
+}
+
+fn all_by_id() -> Guided<All, ById> {
+    Guided {
+        shape: All,
+        rank: ById,
+    }
 }
 
 fn near(x: i32, y: i32) -> Guided<All, Near> {
@@ -312,7 +289,7 @@ static ALL_BY_ID: Want<'static> = Want {
 
 #[test]
 fn nodes_come_before_entries_at_equal_score(rt: HostRuntime) {
-    expect_full_search(&rt, &BOXES, &BY_ID, &ALL_BY_ID);
+    expect_with_limits(&rt, &BOXES, &BY_ID, &ALL_BY_ID);
 }
 
 static FIRST_TWO: Want<'static> = Want {
@@ -330,9 +307,9 @@ static FIRST_IN_WINDOW: Want<'static> = Want {
 // However few are wanted, as no node has a score.
 #[test]
 fn nodes_without_a_score_are_opened_before_the_first_answer(rt: HostRuntime) {
-    expect_unscored(&rt, &BOXES, &BY_ID, Some(2), &FIRST_TWO);
+    expect_search(&rt, &BOXES, &BY_ID, Some(2), &FIRST_TWO);
     let window = in_window(&rt, [0, 10, 0, 10]);
-    expect_unscored(&rt, &BOXES, &window, Some(1), &FIRST_IN_WINDOW);
+    expect_search(&rt, &BOXES, &window, Some(1), &FIRST_IN_WINDOW);
 }
 
 static ALL_BY_AREA: Want<'static> = Want {
@@ -343,14 +320,14 @@ static ALL_BY_AREA: Want<'static> = Want {
 
 #[test]
 fn areas_are_scores_of_entries_alone(rt: HostRuntime) {
-    expect_unscored(&rt, &BOXES, &BY_AREA, None, &ALL_BY_AREA);
+    expect_with_limits(&rt, &BOXES, &BY_AREA, &ALL_BY_AREA);
 }
 
 // Neither where none is wanted nor where there is none.
 #[test]
 fn nothing_is_opened_for_no_answer(rt: HostRuntime) {
-    expect_unscored(&rt, &BOXES, &BY_ID, Some(0), &NOTHING);
-    expect_unscored(&rt, &[], &BY_ID, Some(1), &NOTHING);
+    expect_search(&rt, &BOXES, &BY_ID, Some(0), &NOTHING);
+    expect_search(&rt, &[], &BY_ID, Some(1), &NOTHING);
 }
 
 static IN_CIRCLE: Want<'static> = Want {
@@ -369,7 +346,7 @@ fn circles_are_told_by_id_too(rt: HostRuntime) {
         }),
         rank: Order::ById(ById),
     };
-    expect_full_search(&rt, &BOXES, &circle, &IN_CIRCLE);
+    expect_with_limits(&rt, &BOXES, &circle, &IN_CIRCLE);
 }
 
 static ALL_UNEVEN: Want<'static> = Want {
@@ -386,7 +363,7 @@ static FIRST_UNEVEN: Want<'static> = Want {
 
 #[test]
 fn a_node_may_score_above_its_children(rt: HostRuntime) {
-    expect_full_search(&rt, &BOXES, &Uneven, &ALL_UNEVEN);
+    expect_with_limits(&rt, &BOXES, &Uneven, &ALL_UNEVEN);
     expect_search(&rt, &BOXES, &Uneven, Some(1), &FIRST_UNEVEN);
 }
 
@@ -419,7 +396,7 @@ fn a_layer_that_no_box_has_counts_nothing(rt: HostRuntime) {
 
 #[test]
 fn nothing_is_opened_in_an_empty_tree(rt: HostRuntime) {
-    expect_full_search(&rt, &[], &BY_ID, &NOTHING);
+    expect_with_limits(&rt, &[], &BY_ID, &NOTHING);
     expect_cost(&rt, &[], &BY_ID, None, 0);
     expect_count(&rt, &[], &BY_ID, 0, 0);
 }
@@ -441,7 +418,7 @@ fn equal_boxes_are_all_opened_for_the_nearest(rt: HostRuntime) {
     let boxes = nested(false);
     expect_search(&rt, &boxes, &near(0, 0), Some(1), &NEAREST_OF_EQUAL);
     let window = in_window(&rt, [1, 1, 1, 1]);
-    expect_full_search(&rt, &boxes, &window, &BESIDE_EQUAL);
+    expect_with_limits(&rt, &boxes, &window, &BESIDE_EQUAL);
     expect_count(&rt, &boxes, &BY_ID, 64, 1);
 }
 
@@ -502,19 +479,17 @@ static EACH_AT_25: Want<'static> = Want {
 
 #[test]
 fn at_equal_scores_the_lowest_id_comes_first(rt: HostRuntime) {
-    expect_full_search(&rt, &AT_THE_ORIGIN, &near(3, 4), &EACH_AT_25);
+    expect_with_limits(&rt, &AT_THE_ORIGIN, &near(3, 4), &EACH_AT_25);
 }
 
-// The greatest x of what is shown, in the order in which nodes are opened and their children stand.
+// The greatest x of what is shown, in the order in which nodes are opened and their children stand: where nodes have no
+// scores, from the root downwards.
 #[test]
-fn nodes_are_opened_by_score_and_number(rt: HostRuntime) {
-    let by_id = Guided {
-        shape: All,
-        rank: ById,
-    };
-    // root; d, a, c; e, b
-    let shown = [30, 15, 10, 30, -1, 10, 30, 15, 15, 12];
-    expect_shown(&rt, by_id, None, &ALL_BY_ID, shown);
+fn nodes_are_opened_by_score_and_number_or_in_turn(rt: HostRuntime) {
+    // root: d: a, c; e: b
+    let shown = [30, 10, -1, 10, 30, 30, 15, 15, 15, 12];
+    expect_shown(&rt, all_by_id(), None, &ALL_BY_ID, shown);
+    expect_shown(&rt, all_by_id(), Some(2), &FIRST_TWO, shown);
     // root; e, b; d, a; never c
     let shown = [30, 15, 15, 15, 12, 10, 30, -1, 10, 0];
     expect_shown(&rt, near(12, 12), Some(3), &NEAREST[0].1, shown);
@@ -535,29 +510,17 @@ fn expect_shown<G: Geometry + Drop>(
 // What is shown for the window. d: a, never c; e: b
 static SHOWN_FOR_WINDOW: [i32; 10] = [30, 10, -1, 10, 30, 15, 15, 15, 12, 0];
 
-// The same of a full search and of a count, which go down to each child in turn. No box is shown twice.
+// The same of a count. No box is shown twice.
 #[test]
-fn full_searches_and_counts_ask_about_each_child_once(rt: HostRuntime) {
+fn a_count_asks_about_each_child_once(rt: HostRuntime) {
     let tree = pack(&rt, &BOXES);
-    let mut frontier = expect_shown_by_a_full_search(&rt, &tree);
+    let mut frontier = Frontier::new(rt.alloc(), tree.len()).expect(&rt, "there is memory");
     let window = Watched::new(in_window(&rt, [0, 10, 0, 10]));
     let _two = count(&tree, &mut frontier, &mut Counted::new(&window));
     expect_eq(&rt, window.shown(), SHOWN_FOR_WINDOW);
 }
 
-fn expect_shown_by_a_full_search(rt: &(impl Abort + AllocGlobal), tree: &Tree) -> Frontier {
-    let all = Watched::new(Guided {
-        shape: All,
-        rank: ById,
-    });
-    let search = full_search(rt, tree, &all);
-    // d: a, c; e: b
-    let want = [30, 10, -1, 10, 30, 30, 15, 15, 15, 12];
-    expect_eq(rt, all.shown(), want);
-    search.finish().0
-}
-
-/// Ids, in no order and then in order: those that lie close together are put in order by marks, and others sorted.
+// Ids, in no order and then in order: those that lie close together are put in order by marks, and others sorted.
 static IDS: [([i64; 5], [i64; 5]); 7] = [
     ([5, 3, 4, 1, 2], [1, 2, 3, 4, 5]),
     ([1, 0, -2, 2, -1], [-2, -1, 0, 1, 2]),
@@ -602,7 +565,7 @@ static IDS: [([i64; 5], [i64; 5]); 7] = [
 ];
 
 #[test]
-fn full_searches_give_ids_in_order(rt: HostRuntime) {
+fn all_answers_come_in_order_of_their_ids(rt: HostRuntime) {
     for (ids, in_order) in &IDS {
         let tree = of_ids(&rt, ids);
         expect_ids(&rt, &tree, in_order);
@@ -618,7 +581,7 @@ fn of_ids(rt: &(impl Abort + AllocGlobal), ids: &[i64]) -> Tree {
 }
 
 fn expect_ids(rt: &(impl Abort + AllocGlobal), tree: &Tree, ids: &[i64]) {
-    let mut search = full_search(rt, tree, &BY_ID);
+    let mut search = search(rt, tree, &BY_ID, None);
     for id in ids {
         expect_eq(rt, search.next(), Some((*id, 0)));
     }
@@ -628,7 +591,7 @@ fn expect_ids(rt: &(impl Abort + AllocGlobal), tree: &Tree, ids: &[i64]) {
 
 // Of many that are found those behind the limit are given up first: by a sample where at most half are wanted.
 #[test]
-fn full_searches_up_to_a_limit_give_the_first_of_all(rt: HostRuntime) {
+fn a_limit_gives_the_first_of_all(rt: HostRuntime) {
     expect_first_of_all(&rt, &BY_ID);
     expect_first_of_all(&rt, &BY_AREA);
     expect_first_of_all(&rt, &near(i32::MAX, i32::MIN));
@@ -644,7 +607,9 @@ fn many(rt: &(impl Abort + AllocGlobal)) -> Tree {
     Tree::pack(rt.alloc(), table, 16).expect(rt, "there is memory")
 }
 
-static LIMITS: [u64; 11] = [0, 1, 2, 129, 300, 599, 600, 601, 1_199, 1_200, 5_000];
+static LIMITS: [u64; 15] = [
+    0, 1, 2, 63, 64, 65, 128, 129, 300, 599, 600, 601, 1_199, 1_200, 5_000,
+];
 
 fn expect_first_of_all<G: Geometry>(rt: &(impl Abort + AllocGlobal), geometry: &G) {
     let tree = many(rt);
@@ -659,8 +624,8 @@ fn expect_first_so_many<G: Geometry>(
     geometry: &G,
     limit: u64,
 ) {
-    let mut all = full_search(rt, tree, geometry);
-    let mut first = full_search(rt, tree, geometry).first(limit);
+    let mut all = search(rt, tree, geometry, None);
+    let mut first = search(rt, tree, geometry, Some(limit));
     for _ in 0..limit {
         expect_eq(rt, first.next(), all.next());
     }
@@ -669,29 +634,78 @@ fn expect_first_so_many<G: Geometry>(
     let _first = first.finish();
 }
 
-// The same of a search in whose order no node has a score: all is asked before the first answer, whatever the limit.
+// The same of a search whose nodes have no scores: none is shown before the first answer is asked for, and then all.
 #[test]
-fn unscored_searches_ask_about_each_child_once(rt: HostRuntime) {
-    let window = Watched::new(in_window(&rt, [0, 10, 0, 10]));
-    expect_shown_at_the_start(&rt, &pack(&rt, &BOXES), &window);
-    expect_eq(&rt, window.shown(), SHOWN_FOR_WINDOW);
+fn nodes_without_scores_are_shown_at_the_first_answer(rt: HostRuntime) {
+    for limit in [None, Some(1), Some(64), Some(65)] {
+        let window = Watched::new(in_window(&rt, [0, 10, 0, 10]));
+        expect_shown_at_the_first(&rt, &pack(&rt, &BOXES), &window, limit);
+    }
 }
 
-fn expect_shown_at_the_start(
+fn expect_shown_at_the_first(
     rt: &(impl Abort + AllocGlobal),
     tree: &Tree,
     window: &Watched<Guided<Window, ById>>,
+    limit: Option<u64>,
 ) {
-    let frontier = Frontier::new(rt.alloc(), tree.len()).expect(rt, "there is memory");
-    let search = Search::start_unscored(tree, frontier, Counted::new(window), Some(1));
+    let mut search = search(rt, tree, window, limit);
+    expect_eq(rt, window.shown(), [0; 10]);
+    expect_eq(rt, search.next(), Some((1, 0)));
     expect_eq(rt, window.shown(), SHOWN_FOR_WINDOW);
-    expect_first(rt, search, (1, 0));
+    let _end = search.finish();
 }
 
-fn expect_first<G: Geometry>(rt: &impl Abort, search: Search<'_, G>, answer: (i64, u128)) {
-    let mut search = search;
-    expect_eq(rt, search.next(), Some(answer));
+// With scores the first answer comes before the last node is opened, whether there is a limit or none.
+#[test]
+fn the_first_answer_comes_before_the_last_node_is_opened(rt: HostRuntime) {
+    let tree = many(&rt);
+    for limit in [None, Some(1), Some(100), Some(5_000)] {
+        expect_early(&rt, &tree, limit);
+    }
+}
+
+fn expect_early(rt: &(impl Abort + AllocGlobal), tree: &Tree, limit: Option<u64>) {
+    let geometry = near(i32::MAX, i32::MIN);
+    let mut search = search(rt, tree, &geometry, limit);
+    assert!(rt; search.next().is_some());
+    assert!(rt; 0 < search.opened() && search.opened() < u64::from(tree.node_len()) / 2);
     let _end = search.finish();
+}
+
+// The same boxes and scores without the scores of nodes: the same answers, and without a limit as many nodes opened.
+#[test]
+fn without_the_scores_of_nodes_the_answers_are_the_same(rt: HostRuntime) {
+    let tree = many(&rt);
+    let scored = near(i32::MAX, i32::MIN);
+    for limit in [None, Some(64), Some(65), Some(1_200)] {
+        expect_same(
+            &rt,
+            &tree,
+            &scored,
+            &Unscored(near(i32::MAX, i32::MIN)),
+            limit,
+        );
+    }
+}
+
+fn expect_same<G: Geometry, H: Geometry>(
+    rt: &(impl Abort + AllocGlobal),
+    tree: &Tree,
+    scored: &G,
+    unscored: &H,
+    limit: Option<u64>,
+) {
+    let mut one = search(rt, tree, scored, limit);
+    let mut other = search(rt, tree, unscored, limit);
+    for _ in 0..1_201 {
+        expect_eq(rt, one.next(), other.next());
+    }
+    if limit.is_none() {
+        expect_eq(rt, one.opened(), other.opened());
+    }
+    let _one = one.finish();
+    let _other = other.finish();
 }
 
 static IN_WINDOW: Want<'static> = Want {
@@ -723,7 +737,7 @@ fn left_by_a_search(rt: &(impl Abort + AllocGlobal), tree: &Tree) -> Frontier
     let mut search = Search::start(tree, frontier, Counted::new(&nearest), None);
     expect_eq(rt, search.next(), Some((2, 0)));
     let (frontier, _counted) = search.finish();
-    assert!(rt; !frontier.is_empty());
+    assert!(rt; 0 < frontier.len());
     frontier
 }
 
@@ -737,8 +751,7 @@ fn a_refused_frontier_is_told(rt: HostRuntime) -> Result<(), Fail> {
             assert!(rt; Frontier::new(rt.alloc(), *capacity).is_ok());
             return Err(Fail::new("told as refused"));
         };
-        let told = (frontier.capacity(), frontier.is_empty());
-        expect_eq(&rt, told, (*capacity, true));
+        expect_eq(&rt, (frontier.capacity(), frontier.len()), (*capacity, 0));
     }
     Ok(())
 }

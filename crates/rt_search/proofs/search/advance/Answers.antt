@@ -8,7 +8,11 @@ use Rattle.rt_search.proofs.search.advance.Goals as goal
 pub gather-requires : goal.gather-requires
 gather-requires g c =
     let gathering = c.requires.state.1.1.gathering (search rules) in
-    record { capacity = gathering.room; before = λ h. (gathering.before h).1.1 }
+    record {
+      capacity = gathering.room;
+      asked = λ h. (gathering.before h).none_asked;
+      none = λ h. (gathering.before h).none_found;
+    }
 
 pub returns-then-gathers-clause-step : goal.returns-then-gathers-clause-step
 returns-then-gathers-clause-step g c so_far more going =

@@ -15,7 +15,7 @@ returns-then-gathers-clause-going g c geometry =
       gathering = λ h. record {
         room = grind arith;
         none_waits = cleared.items;
-        before = λ h. (refl, (refl, refl));
+        before = λ h. record { none_given = refl; none_opened = refl; none_asked = refl; none_found = hits.items };
         after = λ h. absurd (grind arith);
       };
     }

@@ -5,11 +5,11 @@ use Rattle.rt_search.proofs.search.cost.Goals as goal
 pub invariant_of-result : goal.invariant_of-result
 invariant_of-result g c =
     let e = c.walk-opened.ensures in
-    let joined = hits_join c.deref_mut-then-is_none-2.result.now.hits c.walk-opened.new.visitor _ e.taken in
+    let joined = hits_join c.clear-then-is_none.new.self c.walk-opened.new.visitor _ e.taken in
     let same = c.frontier.invariant in
     let cleared = c.clear.ensures in
     let hits = c.clear-then-is_none.ensures in
-    let value = c.deref_mut-then-is_none-2.ensures.value in
+    let value = c.deref_mut.ensures.value in
     search rules
 
 pub returns-clause-opened : goal.returns-clause-opened

@@ -6,14 +6,14 @@ pub returns-in-None : goal.returns-in-None
 returns-in-None g c =
     let geometry = c.args.counted.now.geometry in
     let e = c.walk.ensures in
-    let joined = hits_join c.clear.new.self c.walk.new.visitor _ e.taken in
-    let found = all_found (g.met.G.Geometry.lawful geometry) c.args.tree.now e.sound c.walk.new.visitor.items (rw c.clear.ensures.items at joined.0) in
+    let joined = hits_join c.args.hits.now c.walk.new.visitor _ e.taken in
+    let found = all_found (g.met.G.Geometry.lawful geometry) c.args.tree.now e.sound c.walk.new.visitor.items (rw c.requires.none at joined.0) in
     search rules
 
 pub returns-in-Some : goal.returns-in-Some
 returns-in-Some g c =
     let geometry = c.args.counted.now.geometry in
     let e = c.walk.ensures in
-    let joined = hits_join c.clear.new.self c.walk.new.visitor _ e.taken in
-    let found = all_found (g.met.G.Geometry.lawful geometry) c.args.tree.now e.sound c.walk.new.visitor.items (rw c.clear.ensures.items at joined.0) in
+    let joined = hits_join c.args.hits.now c.walk.new.visitor _ e.taken in
+    let found = all_found (g.met.G.Geometry.lawful geometry) c.args.tree.now e.sound c.walk.new.visitor.items (rw c.requires.none at joined.0) in
     search rules
