@@ -15,6 +15,8 @@ mod searches;
 #[cfg(test)]
 mod searching;
 #[cfg(test)]
+mod surface;
+#[cfg(test)]
 mod tables;
 #[cfg(test)]
 mod uneven;
