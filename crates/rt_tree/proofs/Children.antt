@@ -1,12 +1,13 @@
 -- In a packed tree each node but the root is a child once, and so is each entry.
-use Rattle.std.proofs.Common.{◌≡◌, ◌<◌, ◌-◌, ℕ, suc, nat_lt, ◌==◌, if◌then◌else◌, List, [], ◌∷◌, ◌++◌}
+use Rattle.std.proofs.Common.{◌≡◌, ◌<◌, ◌-◌, ℕ, suc, List, [], ◌∷◌, ◌++◌}
 use Rattle.std.proofs.{Common.{length, refl, sym, ◌∙◌, ap, subst, arith, IsPermutation}, lemmas.Grind.{flat_map-append}}
 use Rattle.std.proofs.lemmas.{Bool.Decides.{nat_tests}, List.{append-nil}}
 use Rattle.std.proofs.lemmas.List.Sorted.{IsPermutation-append, IsPermutation-append_right, IsPermutation-cons}
 use Rattle.std.proofs.lemmas.List.Sorted.{IsPermutation-refl, IsPermutation-sym, IsPermutation-to_front, IsPermutation-trans}
 use Rattle.std.specs.List.{AllByRecursion, flat_map}
 use Rattle.rt_geo.specs.declared.entry.Entry.{Entry}
-use Rattle.rt_tree.specs.{Packed.{Packed, IsSubtree, child_entries, child_nodes, extent_of_node}, Packing.{joined, nodes_over}}
+use Rattle.rt_tree.specs.Packed.{IsSubtree, Packed, child_entries, child_nodes, extent_of_node, nodes_under, right_under}
+use Rattle.rt_tree.specs.Packing.{joined, nodes_over}
 use Rattle.rt_tree.specs.declared.tree.Node.{Node}
 use Rattle.rt_tree.proofs.{LevelOrder.{AreOn}, OrderLemmas.{flat_map-IsPermutation, flat_map-same}}
 use Rattle.rt_tree.proofs.Soundness.{children_more, inner-range, over_flat, tree}
@@ -15,13 +16,6 @@ flat_map-none : {X Y : Type 0} (f : X → List Y) (P : X → Type 0) → ((x : X
     → AllByRecursion P xs → flat_map f xs ≡ []
 flat_map-none f P none [] a = refl
 flat_map-none f P none (x ∷ xs) a = rw (none x a.0) (flat_map-none f P none xs a.1)
-
--- the nodes right under a node above level 1, and the entries right under a node of level 1
-abbrev pub nodes_under : Packed → Node → List Node
-nodes_under t n = if nat_lt 1 n.level then child_nodes t n else []
-
-abbrev pub right_under : Packed → Node → List Entry
-right_under t n = if n.level == 1 then child_entries t n else []
 
 -- under each of these nodes is what its level asks for
 abbrev pub AreSubtrees : Packed → List Node → Type 0

@@ -1,22 +1,17 @@
 -- The nodes of a packed tree stand level by level, as many on each as its size asks for.
 use Rattle.std.proofs.Common.{◌≡◌, ◌<◌, ◌≤◌, ◌+◌, ℕ, zero, suc, true, nat_le, List, [], ◌∷◌}
-use Rattle.std.proofs.Common.{◌++◌, length, map, drop, replicate, refl, sym, ◌∙◌, ap, arith, inl, inr}
+use Rattle.std.proofs.Common.{length, map, drop, replicate, refl, sym, ◌∙◌, ap, arith, inl, inr}
 use Rattle.std.proofs.lemmas.{Bool.{cases_lt, Decides.{nat_tests}}, List.{append-nil, map-append}}
 use Rattle.std.proofs.lemmas.List.Sorted.{length_permutation}
 use Rattle.std.specs.{Int.{div_ceil}, List.{AllByRecursion}}
 use Rattle.rt_geo.specs.Laws.{Extent}
-use Rattle.rt_tree.specs.{Levels.{level_sizes}, Packed.{extent_of_node}, declared.tree.Node.{Node}}
+use Rattle.rt_tree.specs.{Levels.{level_by_level, level_sizes}, Packed.{extent_of_node}, declared.tree.Node.{Node}}
 use Rattle.rt_tree.specs.Packing.{joined, nodes_from, nodes_over}
 use Rattle.rt_tree.proofs.LevelLemmas.{div_ceil-positive, sizes_above-step, sizes_from, sizes_from-step}
 use Rattle.rt_tree.proofs.PackCounts.{above, cut, fewer, length-above, nodes_from-last, nodes_from-more}
 use Rattle.rt_tree.proofs.{OrderLemmas.{all_moved}, TileLemmas.{groups-moved}}
 
 -- ---- level by level
-
--- the levels of so many nodes each, from one level on
-abbrev pub level_by_level : (level : ℕ) → (sizes : List ℕ) → List ℕ
-level_by_level level [] = []
-level_by_level level (size ∷ sizes) = replicate size level ++ level_by_level (suc level) sizes
 
 -- nodes of one level
 abbrev pub AreOn : ℕ → List Node → Type 0

@@ -6,14 +6,15 @@ use Rattle.std.proofs.lemmas.List.Sorted.{All-permutation, IsPermutation-refl, I
 use Rattle.std.proofs.lemmas.{List.Sorted.{IsPermutation-trans, length_permutation}, Option.{get_or_from_slice_get}}
 use Rattle.std.specs.{Int.{div_ceil}, List.{AllByRecursion, flat_map}, Ordering.{int_cmp, on}}
 use Rattle.rt_geo.specs.{Entries.{HasBox, HasLayer}, Laws.{extent_of_entry}, declared.entry.Entry.{Entry}}
-use Rattle.rt_tree.specs.{Entries.{IsTable}, Levels.{level_sizes}, Packed.{IsSubtree}, Sorting.{sorted}}
-use Rattle.rt_tree.specs.Packed.{entries_under, extent_of_node, no_node, node_at, root_of, Packed, IsSound}
+use Rattle.rt_tree.specs.{Entries.{IsTable}, Levels.{level_by_level, level_sizes}, Packed.{IsSubtree}, Sorting.{sorted}}
+use Rattle.rt_tree.specs.Packed.{entries_under, extent_of_node, no_node, node_at, nodes_under, root_of, Packed}
+use Rattle.rt_tree.specs.Packed.{IsSound, IsWhole}
 use Rattle.rt_tree.specs.{Packing.{groups, joined, nodes_from, nodes_over, pack_of}, declared.tree.Node.{Node}}
-use Rattle.rt_tree.proofs.Children.{AreOnce, AreSubtrees, nodes_once, nodes_under, once_first, once_more, right_under}
+use Rattle.rt_tree.proofs.Children.{AreOnce, AreSubtrees, nodes_once, once_first, once_more}
 use Rattle.rt_tree.proofs.{EntryLemmas.{distinct-IsPermutation}, TileLemmas.{groups-chunks, groups-moved, groups-nil}}
 use Rattle.rt_tree.proofs.LevelLemmas.{div_ceil-positive, sizes_from, sizes_from-step}
 use Rattle.rt_tree.proofs.SortingLemmas.{IsPermutation-sorted}
-use Rattle.rt_tree.proofs.LevelOrder.{level_by_level, nodes_from-levels, nodes_over-AreOn, sizes_from_first}
+use Rattle.rt_tree.proofs.LevelOrder.{nodes_from-levels, nodes_over-AreOn, sizes_from_first}
 use Rattle.rt_tree.proofs.OrderLemmas.{all_append, all_moved, flat_map-IsPermutation}
 use Rattle.rt_tree.proofs.PackCounts.{IsCounted, above, all_nodes, counted_more, course, cut, fewer, length-above}
 use Rattle.rt_tree.proofs.PackCounts.{leaf_nodes-few, length-groups, nodes_from-last, some_above}
@@ -26,13 +27,6 @@ level_of t (suc h) n s = s.level
 
 at_its_level : (t : Packed) (h : ℕ) (n : Node) → IsSubtree t h n → IsSubtree t (n.level - 1) n
 at_its_level t h n s = subst (λ k. IsSubtree t k n) (let e = level_of t h n s in omega arith) s
-
--- that a tree has each node and each entry once, and the nodes level by level. No search rests on it
-pub record IsWhole (t : Packed) : Type 0 where
-  -- each entry is a child of exactly one node, and so is each node but the root
-  pub entries_once : IsPermutation (flat_map (right_under t) t.nodes) t.entries
-  pub nodes_once : 0 < length t.nodes → IsPermutation (root_of t ∷ flat_map (nodes_under t) t.nodes) t.nodes
-  pub levels : map (λ n. n.level) t.nodes ≡ level_by_level 1 (drop 1 (level_sizes (length t.entries) t.fanout))
 
 module _ (fanout : ℕ) (several : 2 ≤ fanout) (es : List Entry) where
   -- the nodes of the lower levels, numbered, and those of this level, as they were made

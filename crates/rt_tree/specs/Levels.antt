@@ -1,5 +1,5 @@
 -- The sizes of the levels of a packed tree.
-use Rattle.std.specs.Prelude.{ℕ, zero, suc, nat_le, if◌then◌else◌, List, [], ◌∷◌}
+use Rattle.std.specs.Prelude.{ℕ, zero, suc, nat_le, if◌then◌else◌, List, [], ◌∷◌, ◌++◌, replicate}
 use Rattle.std.specs.Int.{div_ceil}
 
 -- the sizes of the levels above one of so many items: each time the last size divided by the fanout and rounded up, at
@@ -13,3 +13,8 @@ sizes_above (suc fuel) fanout size =
 abbrev pub level_sizes : (len fanout : ℕ) → List ℕ
 level_sizes zero fanout = 0 ∷ []
 level_sizes (suc n) fanout = suc n ∷ sizes_above (suc n) fanout (suc n)
+
+-- a level for each of its nodes, from one level on
+abbrev pub level_by_level : (level : ℕ) → (sizes : List ℕ) → List ℕ
+level_by_level level [] = []
+level_by_level level (size ∷ sizes) = replicate size level ++ level_by_level (suc level) sizes

@@ -1,6 +1,6 @@
 -- A packed tree: its entries in the order of their places, and its nodes in the order of their numbers.
-use Rattle.std.specs.Prelude.{◌↔◌, ◌≡◌, ◌+◌, ◌-◌, ◌<◌, ◌≤◌, ◌^◌, ℕ, zero, suc, true, pos}
-use Rattle.std.specs.Prelude.{List, drop, get_or, length, map, take, unwrap_or}
+use Rattle.std.specs.Prelude.{◌↔◌, ◌≡◌, ◌+◌, ◌-◌, ◌<◌, ◌≤◌, ◌^◌, ◌==◌, ℕ, nat_lt, zero, suc, true, pos, if◌then◌else◌}
+use Rattle.std.specs.Prelude.{List, [], ◌∷◌, drop, get_or, length, map, take, unwrap_or}
 use Rattle.std.specs.List.{All, AllByRecursion, flat_map, reduce, sum_by}
 use Rattle.std.specs.List.Sorted.{IsPermutation}
 use Rattle.rt_geo.specs.Boxes.{Rect, IsRect, hull, inside, plane, rect_of}
@@ -9,7 +9,7 @@ use Rattle.rt_geo.specs.Laws.{Extent, IsBoxInside, IsPart, extent_of_entry}
 use Rattle.rt_geo.specs.declared.entry.Entry.{Entry}
 use Rattle.rt_geo.specs.declared.layers.Layers.{Layers}
 use Rattle.rt_tree.specs.Entries.{IsTable}
-use Rattle.rt_tree.specs.Levels.{level_sizes}
+use Rattle.rt_tree.specs.Levels.{level_by_level, level_sizes}
 use Rattle.rt_tree.specs.declared.tree.Node.{Node}
 
 -- ---- what a tree holds
@@ -116,3 +116,16 @@ pub record IsSound (t : Packed) : Type 0 where
   pub top : (root_of t).level + 1 ≡ length (level_sizes (length t.entries) t.fanout)
   pub few_levels : (root_of t).level ≤ 24
   pub few_nodes : length t.nodes < 2 ^ 32
+
+-- the nodes right under a node above level 1, and the entries right under a node of level 1
+abbrev pub nodes_under : Packed → Node → List Node
+nodes_under t n = if nat_lt 1 n.level then child_nodes t n else []
+
+abbrev pub right_under : Packed → Node → List Entry
+right_under t n = if n.level == 1 then child_entries t n else []
+
+-- each entry is a child of exactly one node, and so is each node but the root; the nodes stand level by level
+pub record IsWhole (t : Packed) : Type 0 where
+  pub entries_once : IsPermutation (flat_map (right_under t) t.nodes) t.entries
+  pub nodes_once : 0 < length t.nodes → IsPermutation (root_of t ∷ flat_map (nodes_under t) t.nodes) t.nodes
+  pub levels : map (λ n. n.level) t.nodes ≡ level_by_level 1 (drop 1 (level_sizes (length t.entries) t.fanout))

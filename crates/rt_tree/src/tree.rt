@@ -4,7 +4,7 @@ ghost use Rattle.std.specs.{Int.{div_ceil}, Prelude.{◌≡◌, ◌==◌, ◌+�
 ghost use Rattle.std.specs.Prelude.{All, Some, length, map, slice_get, ℕ, sum_by, IsPermutation};
 ghost use Rattle.rt_geo.specs.Laws.{extent_of_entry};
 ghost use Rattle.rt_tree.specs.{Entries.{most_entries}, Leaves.{without_layer}, Levels.{level_sizes}};
-ghost use Rattle.rt_tree.specs.Packed.{IsSound, child_entries, child_nodes, node_at, root_of};
+ghost use Rattle.rt_tree.specs.Packed.{IsSound, IsWhole, child_entries, child_nodes, node_at, root_of};
 ghost use Rattle.rt_tree.specs.{Packing.{nodes_from, pack_of}, PlainNodes.{without_layers}, SortKeys.{IsInPlane}};
 
 use crate::entries::{Entries, LeafEntry};
@@ -112,6 +112,7 @@ impl Tree {
     pub fn len(&self) -> u32
         ensures value { result ≡ length self.now.entries }
         ensures sound { IsSound self.now }
+        ensures whole { IsWhole self.now }
         ensures packed { self.now ≡ pack_of self.now.fanout self.now.entries }
     {
         self.leaves.len() as u32
