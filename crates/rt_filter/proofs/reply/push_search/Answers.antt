@@ -10,7 +10,7 @@ returns-in_err-push_line-clause-pushed g c =
     let line : c.set_answer_line.new.text ≡ answer_line c.in-Some.id c.in-Some.score = search rules in
     let cut = rw line at c.in_err-push_line.ensures.pushed in
     as_failed g.K.Sink.written g.K.Sink.failed _ c.loop-id.sink _ c.from_residual.result _ _ c.from_residual.ensures.1 (
-      answer_cut (find_reply c.args.line (g.A.AnswerStream.seen c.args.search).answers) _ _ _ _ _ c.in-Some.id c.in-Some.score
+      answer_cut (find_reply c.args.line c.args.search.to_come) _ _ _ _ _ c.in-Some.id c.in-Some.score
           _ _ c.in-Some.ensures.answer c.loop-id.invariant.pushed cut.0,
       cut.1 ∙ ap (λ n. n + 1) c.loop-id.invariant.count,
     )
