@@ -2,6 +2,7 @@ mod FindLemmas
 mod LayerLemmas
 mod LevelLemmas
 mod LineLemmas
+mod LineStarts
 mod PushLemmas
 mod RunLemmas
 mod RunRows

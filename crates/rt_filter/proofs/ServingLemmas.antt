@@ -5,8 +5,7 @@ use Rattle.std.proofs.{Math.Seq.{take-append_seam}, lemmas.List.{length-append, 
 use Rattle.std.specs.{Io.{StartsWith, KnownBytes.{Consumes, IsAtEnd}}, Prelude.{unwrap_or}}
 use Rattle.rt_device.specs.Devices.{IsSameIfTold, PulledTimes}
 use Rattle.rt_text.specs.Words.{is_empty}
-use Rattle.rt_filter.specs.{Endings.{ConsumedAtLeast, Happened, Serves, SinkTells, SourceTells}, Lines.{completed}}
-use Rattle.rt_text.specs.Queries.{longest_line}
+use Rattle.rt_filter.specs.{Endings.{ConsumedAtLeast, Happened, Serves, SinkTells, SourceTells}, Lines.{completed, longest_line}}
 use Rattle.rt_filter.specs.{Lines.{numbered_lines}, Pushes.{WasCut, WasPushed}, Replies.{Loaded}}
 use Rattle.rt_filter.specs.{Replies.{any_fault, output}, Sessions.{heard_of}, Stages.{IsServing}}
 use Rattle.rt_filter.specs.declared.session.Heard.{Heard}

@@ -5,10 +5,9 @@ use Rattle.std.proofs.lemmas.{Grind.{flat_map-append}, List.{length-append, Fold
 use Rattle.std.specs.{Io.KnownBytes.{Keeps}, Prelude.{MatchResult, Result}}
 use Rattle.memchr.specs.Find.{IsFirstByte, is_byte}
 use Rattle.rt_device.specs.Devices.{IsSameIfTold}
-use Rattle.rt_filter.specs.{Lines.{begun_line, completed, numbered_lines}, Pushes.{WasCut, WasPushed}}
-use Rattle.rt_text.specs.{Queries.{longest_line, query_of}}
-use Rattle.rt_text.proofs.LineStarts.{kept_more, kept_parsed}
-use Rattle.rt_filter.specs.{Replies.{Loaded, any_fault, is_fault, output, reply}, Sessions.{heard_of}}
+use Rattle.rt_filter.specs.{Lines.{begun_line, completed, longest_line, numbered_lines}, Pushes.{WasCut, WasPushed}}
+use Rattle.rt_filter.proofs.LineStarts.{kept_more, kept_parsed}
+use Rattle.rt_filter.specs.{Replies.{Loaded, any_fault, is_fault, output, parsed_line, reply}, Sessions.{heard_of}}
 use Rattle.rt_filter.specs.declared.session.Heard.{Heard}
 use Rattle.rt_filter.specs.Stages.{HasNoLineFeed, IsAnswered, line_feed, lines_from}
 use Rattle.rt_filter.proofs.LineLemmas.{IsCutAt, begun-found, begun-none, completed-all, completed-append, completed-ended}
@@ -19,10 +18,10 @@ use Rattle.std.proofs.Common.{rules}
 -- ---- replies to some lines and then others
 
 pub output-append : (loaded : Loaded) (xs ys : List (ℕ × List ℕ)) → output loaded (xs ++ ys) ≡ output loaded xs ++ output loaded ys
-output-append loaded xs ys = flat_map-append (λ (line : ℕ × List ℕ). reply loaded line.0 (query_of line.1)) xs ys
+output-append loaded xs ys = flat_map-append (λ (line : ℕ × List ℕ). reply loaded line.0 (parsed_line line.1)) xs ys
 
 pub any_fault-append : (xs ys : List (ℕ × List ℕ)) → any_fault (xs ++ ys) ≡ (any_fault xs || any_fault ys)
-any_fault-append xs ys = list_any-append (λ (line : ℕ × List ℕ). is_fault (query_of line.1)) xs ys
+any_fault-append xs ys = list_any-append (λ (line : ℕ × List ℕ). is_fault (parsed_line line.1)) xs ys
 
 pub pushed_then : (old mid new : Option (List ℕ)) (xs ys : List ℕ) → WasPushed old mid xs → WasPushed mid new ys → WasPushed old new (xs ++ ys)
 pushed_then old mid new xs ys h k = grind (arith, append_assoc, h, k)
@@ -52,7 +51,7 @@ module _ (fed line : List ℕ) (clear : HasNoLineFeed line) where
   one_more = completed-all fed (line ++ line_feed ∷ []) false ∙ ap (λ ls. numbered_lines fed false ++ ls) (completed-found fed line [] false clear)
 
   heard-line : (heard : Heard) → heard ≡ heard_of fed
-      → record { lines = heard.lines + 1; bad = heard.bad || is_fault (query_of (heard.begun ++ line)); begun = [] } ≡ heard_of (fed ++ (line ++ line_feed ∷ []))
+      → record { lines = heard.lines + 1; bad = heard.bad || is_fault (parsed_line (heard.begun ++ line)); begun = [] } ≡ heard_of (fed ++ (line ++ line_feed ∷ []))
   heard-line heard e = search (rules, length-append, kept_parsed, or-false, any_fault-append, heard_with, one_more, begun-found)
 
 heard-rest : (fed rest : List ℕ) → HasNoLineFeed rest → (heard : Heard) → heard ≡ heard_of fed
@@ -65,18 +64,18 @@ module _ (loaded : Loaded) (old heard : Heard) (old_out out : Option (List ℕ))
   -- a line was answered
   module _ (n : ℕ) (at : IsFirstByte (is_byte line_feed) rest (Some n)) where
     abbrev asked : List ℕ
-    asked = reply loaded (heard.lines + 1) (query_of (heard.begun ++ take n rest))
+    asked = reply loaded (heard.lines + 1) (parsed_line (heard.begun ++ take n rest))
 
     cut : IsCutAt rest (take n rest) (drop (n + 1) rest)
     cut = found rest n at
 
     -- the reply is that to the line that is complete now
     asked-is : (fed : List ℕ) → old ≡ heard_of fed
-        → asked ≡ reply loaded (length (numbered_lines (fed ++ s.front) false) + 1) (query_of (begun_line (fed ++ s.front) ++ take n rest))
+        → asked ≡ reply loaded (length (numbered_lines (fed ++ s.front) false) + 1) (parsed_line (begun_line (fed ++ s.front) ++ take n rest))
     asked-is fed e = search (rules, kept_parsed)
 
     pub answered-more : (left : List ℕ) (now : Heard) (sent : Option (List ℕ)) → left ≡ drop (n + 1) rest
-        → now ≡ record { lines = heard.lines + 1; bad = heard.bad || is_fault (query_of (heard.begun ++ take n rest)); begun = [] }
+        → now ≡ record { lines = heard.lines + 1; bad = heard.bad || is_fault (parsed_line (heard.begun ++ take n rest)); begun = [] }
         → WasPushed out sent asked → IsAnswered loaded old now old_out sent bytes left
     answered-more left now sent l e w =
         let line : List ℕ = take n rest ++ line_feed ∷ [] in
@@ -96,15 +95,15 @@ module _ (loaded : Loaded) (old heard : Heard) (old_out out : Option (List ℕ))
     pub answered-cut : (sent : Option (List ℕ)) → WasCut out sent asked → (fed : List ℕ) → old ≡ heard_of fed → WasCut old_out sent (output loaded (completed fed bytes false))
     answered-cut sent w fed is = search (rules, lines-later, output-append, cut_then, asked-is)
 
-    pub fault-cut : (bad : Bool) → bad ≡ (heard.bad || is_fault (query_of (heard.begun ++ take n rest))) → (fed : List ℕ) → old ≡ heard_of fed
+    pub fault-cut : (bad : Bool) → bad ≡ (heard.bad || is_fault (parsed_line (heard.begun ++ take n rest))) → (fed : List ℕ) → old ≡ heard_of fed
         → bad ≡ true → any_fault (numbered_lines (fed ++ bytes) false) ≡ true
     fault-cut bad b fed is h =
-        let so : (any_fault (numbered_lines (fed ++ s.front) false) || is_fault (query_of (begun_line (fed ++ s.front) ++ take n rest))) ≡ true = search (rules, kept_parsed) in
+        let so : (any_fault (numbered_lines (fed ++ s.front) false) || is_fault (parsed_line (begun_line (fed ++ s.front) ++ take n rest))) ≡ true = search (rules, kept_parsed) in
         let whole = ap (λ zs. numbered_lines (fed ++ zs) false) (s.parts ∙ ap (λ zs. s.front ++ zs) cut.parts)
         ∙ ap (λ zs. numbered_lines zs false) (sym (append_assoc fed s.front (take n rest ++ line_feed ∷ drop (n + 1) rest)))
         ∙ completed-all (fed ++ s.front) (take n rest ++ line_feed ∷ drop (n + 1) rest) false
         ∙ ap (λ ls. numbered_lines (fed ++ s.front) false ++ ls) (completed-found (fed ++ s.front) (take n rest) (drop (n + 1) rest) false cut.clear) in
-        rw (whole, any_fault-append (numbered_lines (fed ++ s.front) false)) (or_more (any_fault (numbered_lines (fed ++ s.front) false)) (is_fault (query_of (begun_line (fed ++ s.front) ++ take n rest))) _ so)
+        rw (whole, any_fault-append (numbered_lines (fed ++ s.front) false)) (or_more (any_fault (numbered_lines (fed ++ s.front) false)) (is_fault (parsed_line (begun_line (fed ++ s.front) ++ take n rest))) _ so)
 
   -- all lines are answered, and how the next begins is kept
   pub answered-heard : HasNoLineFeed rest → (now : Heard) → now ≡ record heard { begun = take (longest_line + 1) (heard.begun ++ rest) }

@@ -1,7 +1,7 @@
 -- What a session is once the room that it lent is filled.
 use Rattle.std.specs.Prelude.{◌+◌, ℕ, List}
-use Rattle.rt_text.specs.Queries.{longest_line}
 use Rattle.std.specs.Borrow.{Lends, MutBor, Fml, Array, u8}
+use Rattle.rt_filter.specs.Lines.{longest_line}
 use Rattle.rt_filter.specs.Sessions.{Hearing}
 use Rattle.rt_filter.specs.contracts.session.Session.{the_row}
 

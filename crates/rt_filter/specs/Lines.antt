@@ -31,3 +31,7 @@ begun_line bytes = last_part (slice_split is_line_feed bytes)
 -- the lines that are complete with more bytes and weren't before, the last one too where they have ended
 abbrev pub completed : (bytes more : List ℕ) → (ended : Bool) → List (ℕ × List ℕ)
 completed bytes more ended = drop (length (numbered_lines bytes false)) (numbered_lines (bytes ++ more) ended)
+
+-- a line of more bytes is too long
+abbrev pub longest_line : ℕ
+longest_line = 4096

@@ -1,8 +1,7 @@
 -- What a session makes of the query bytes that it was fed.
 use Rattle.std.specs.Prelude.{◌≡◌, ◌+◌, ℕ, false, List, ◌++◌, length, take, Option, IfSome, Some, Result, MatchResult}
 use Rattle.std.specs.Io.{StartsWith}
-use Rattle.rt_text.specs.Queries.{longest_line}
-use Rattle.rt_filter.specs.Lines.{begun_line, numbered_lines}
+use Rattle.rt_filter.specs.Lines.{longest_line, begun_line, numbered_lines}
 use Rattle.rt_filter.specs.Replies.{any_fault}
 use Rattle.rt_filter.specs.declared.session.Heard.{Heard}
 

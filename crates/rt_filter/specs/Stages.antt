@@ -5,8 +5,7 @@ use Rattle.std.specs.Io.KnownBytes.{Consumes}
 use Rattle.rt_command.specs.Choices.{Choices}
 use Rattle.rt_text.specs.Tables.{IsFaultOf}
 use Rattle.rt_tree.specs.Packed.{Packed}
-use Rattle.rt_text.specs.Queries.{longest_line}
-use Rattle.rt_filter.specs.Lines.{completed, is_line_feed, lines_of_parts, numbered_lines}
+use Rattle.rt_filter.specs.Lines.{longest_line, completed, is_line_feed, lines_of_parts, numbered_lines}
 use Rattle.rt_filter.specs.Pushes.{WasPushed}
 use Rattle.rt_filter.specs.Replies.{Loaded, output, tree_of}
 use Rattle.rt_filter.specs.Runs.{loaded_of}

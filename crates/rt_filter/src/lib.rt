@@ -9,6 +9,7 @@
 #![tactic(auto)]
 
 mod filter;
+mod line_start;
 mod query;
 mod reply;
 mod serving;

@@ -3,16 +3,16 @@
 ghost use Rattle.std.specs.{Borrow.{sem}, Prelude.{◌≡◌, ◌+◌, ◌-◌, ◌||◌, ◌<◌, ◌≤◌, ◌^◌, ◌++◌, ℕ}};
 ghost use Rattle.std.specs.Prelude.{List, [], IfOk, OnOk, MatchResult, length, take, false, true};
 ghost use Rattle.rt_filter.specs.{Lending.{LendsRoom}, Lines.{completed, numbered_lines}, Pushes.{Pushed}};
-ghost use Rattle.rt_filter.specs.{Replies.{Loaded, any_fault, is_fault, output, reply, tree_of}, Stages.{loaded_tree}};
+ghost use Rattle.rt_filter.specs.{Replies.{Loaded, any_fault, is_fault, output, parsed_line, reply, tree_of}, Stages.{loaded_tree}};
 ghost use Rattle.rt_filter.specs.Sessions.{HasPushed, heard_of};
-ghost use Rattle.rt_text.specs.Queries.{query_of};
 
-use crate::query::{opened_for, push_in_region, push_levels};
-use crate::reply::{push_line, push_ok};
+use crate::line_start::{LONGEST_LINE, LineStart};
+use crate::query::push_reply;
+use crate::reply::push_line;
 use memchr::memchr;
 use rt_device::{Sink, WriteFault};
 use rt_search::Frontier;
-use rt_text::{LONGEST_LINE, LineStart, Parsed, Query, Vertices, error_line};
+use rt_text::{Parsed, QueryFault, error_line, parse};
 use rt_tree::Tree;
 use std::marker::Model;
 
@@ -169,37 +169,37 @@ impl Heard {
         requires count { K.failed sink.old < 2 ^ 64 - 1 }
         requires few { self.old.lines + 1 < 2 ^ 128 }
         ensures pushed { Pushed K.written K.failed sink.old sink.new result (reply
-            (loaded_tree tree.now) (self.old.lines + 1) (query_of (self.old.begun ++ tail.now))) }
+            (loaded_tree tree.now) (self.old.lines + 1) (parsed_line (self.old.begun ++ tail.now))) }
         ensures heard { self.new ≡ record {
           lines = self.old.lines + 1;
-          bad = self.old.bad || is_fault (query_of (self.old.begun ++ tail.now));
+          bad = self.old.bad || is_fault (parsed_line (self.old.begun ++ tail.now));
           begun = [];
         } }
         ensures capacity { IfOk result (λ left. left.capacity ≡ frontier.capacity) }
         ensures untouched { is_pushed.new ≡ false
             → (is_pushed.old ≡ false) × (sink.new ≡ sink.old) }
     {
-        let mut vertices = Vertices::new();
-        let parsed = self.begun.parse(tail, &mut vertices);
         self.lines += 1;
-        match parsed {
-            Parsed::Skip => Ok(frontier),
-            Parsed::Query(query) => {
-                *is_pushed = true;
-                match query {
-                    Query::Boxes(asked) => push_in_region(tree, frontier, self.lines, asked, sink),
-                    Query::Cost(asked) => {
-                        let (opened, frontier) = opened_for(tree, frontier, asked);
-                        push_ok(self.lines, opened, sink).and(Ok(frontier))
-                    }
-                    Query::Levels => push_levels(tree, self.lines, sink).and(Ok(frontier)),
+        let line = self.begun.whole(tail);
+        let fault = if line.len() > LONGEST_LINE {
+            QueryFault::LineTooLong
+        } else {
+            match &parse(line) {
+                Parsed::Skip => {
+                    self.begun.clear();
+                    return Ok(frontier);
                 }
+                Parsed::Query(query) => {
+                    *is_pushed = true;
+                    self.begun.clear();
+                    return push_reply(tree, frontier, self.lines, query, sink);
+                }
+                Parsed::Fault(fault) => *fault,
             }
-            Parsed::Fault(fault) => {
-                *is_pushed = true;
-                self.bad = true;
-                push_line(&error_line(self.lines, fault), sink).and(Ok(frontier))
-            }
-        }
+        };
+        self.begun.clear();
+        *is_pushed = true;
+        self.bad = true;
+        push_line(&error_line(self.lines, fault), sink).and(Ok(frontier))
     }
 }

@@ -4,10 +4,13 @@ use crate::expect::expect_eq;
 use crate::given::{BOXES, FIND, FOUND, Given, PLAIN, WITH_HEADER};
 use itoa::Buffer;
 use rt_filter::{Outcome, RunFault, SESSION_ROOM, Settings, Sink, Source, run_fault_line, run_std};
-use rt_text::{Axis, LONGEST_LINE, TableFault};
+use rt_text::{Axis, TableFault};
 use std::alloc::{AllocError, Global};
 use std::process::Abort;
 use std::test::Fail;
+
+/// The most bytes of a query line.
+const LONGEST_LINE: usize = SESSION_ROOM - 1;
 
 #[test]
 fn finds_windows(rt: HostRuntime) {

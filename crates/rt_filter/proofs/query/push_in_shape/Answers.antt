@@ -12,7 +12,7 @@ pub returns-in-ById-clause-pushed : goal.returns-in-ById-clause-pushed
 returns-in-ById-clause-pushed g c = rw (c.in-Answers.is, c.in-ById.is) c.find.ensures.pushed
 
 pub returns-in-Near-clause-pushed : goal.returns-in-Near-clause-pushed
-returns-in-Near-clause-pushed g c = rw (c.in-Answers.is, c.in-Near.is) c.find-in-Near.ensures.pushed
+returns-in-Near-clause-pushed g c = rw (c.in-Answers.is, c.in-Near.is) c.find_by_distance.ensures.pushed
 
 pub returns-in-Smallest-clause-pushed : goal.returns-in-Smallest-clause-pushed
 returns-in-Smallest-clause-pushed g c = rw (c.in-Answers.is, c.in-Smallest.is) c.find-in-Smallest.ensures.pushed
