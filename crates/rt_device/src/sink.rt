@@ -2,7 +2,7 @@
 
 ghost use Rattle.std.specs.{Io.KnownBytes.{Keeps}, Prelude.{◌≡◌, ◌+◌, ◌-◌, ◌<◌, ◌≤◌, ◌^◌, ℕ, Bool, List, Option, IfOk}};
 ghost use Rattle.std.specs.Prelude.{OnOk, OnErr, false, length};
-ghost use Rattle.rt_device.specs.Devices.{Pushes};
+ghost use Rattle.rt_device.specs.Devices.{IsSameIfTold, Pushes};
 
 /// A push or a flush that failed.
 #[derive(Clone, Copy, Debug, PartialEq, Eq)]
@@ -35,7 +35,7 @@ pub trait Sink {
         ensures bytes { OnOk result (Keeps (written self.old) (written self.new)) }
         ensures handed_on { OnOk result (waits self.new ≡ false) }
         ensures went { OnOk result (failed self.new ≡ failed self.old) }
-        ensures lost { OnErr result (Keeps (written self.old) (written self.new)) }
+        ensures lost { OnErr result (IsSameIfTold (written self.old) (written self.new)) }
         ensures fails { OnErr result (failed self.new ≡ failed self.old + 1) };
 
     /// How many calls failed so far.
