@@ -172,7 +172,14 @@ fn push_in_shape<S: Shape + Drop, K: Sink>(
             let geometry = Guided { shape, rank };
             find(tree, frontier, line, geometry, limit, sink)
         }
-        Order::Near(rank) => find_by_distance(tree, frontier, line, Guided { shape, rank }, limit, sink),
+        Order::Near(rank) => find_by_distance(
+            tree,
+            frontier,
+            line,
+            Guided { shape, rank },
+            limit,
+            sink,
+        ),
         Order::Smallest(rank) => {
             let geometry = Guided { shape, rank };
             find(tree, frontier, line, geometry, limit, sink)

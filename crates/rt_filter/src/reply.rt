@@ -42,8 +42,8 @@ pub(crate) fn push_search<'a, G: Geometry, K: Sink>(
     requires few { length search.to_come < 2 ^ 32 }
     requires count { K.failed sink.old < 2 ^ 64 - 1 }
     ensures pushed { Pushed K.written K.failed sink.old sink.new result
-        (find_reply line search.to_come) }
-    ensures capacity { IfOk result (λ left. left.capacity ≡ search.capacity) }
+        (find_reply line search.entry.to_come) }
+    ensures capacity { IfOk result (λ left. left.capacity ≡ search.entry.capacity) }
 {
     let mut search = search;
     let mut text = Line::new(b"");

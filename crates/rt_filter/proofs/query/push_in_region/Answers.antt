@@ -1,4 +1,4 @@
-use Rattle.std.proofs.Common.{◌∙◌, arith, rules, sym}
+use Rattle.std.proofs.Common.{◌∙◌, rules, sym}
 use Rattle.rt_geo.specs.Regions.{region_accepts}
 use Rattle.rt_filter.proofs.LayerLemmas.{report_on_all, report_on-disc}
 use Rattle.rt_filter.proofs.query.push_in_region.Goals as goal
@@ -12,10 +12,7 @@ returns-in-Some-clause-pushed g c =
           c.len.ensures.sound.table.layers (sym c.bits.ensures ∙ c.if-bits-ne18446744073709551615.false),
       report_on-disc entries c.args.line region c.in-Answers.order c.args.report c.in-Answers.limit c.in-Circle.circle
           c.in-Some.disc c.in-Circle.is c.in-Answers.is c.in-Some.ensures.means,
-    ) c.find.ensures.pushed
-
-pub find-requires-clause-unscored : goal.find-requires-clause-unscored
-find-requires-clause-unscored g c e = absurd (grind (arith, e))
+    ) c.find_by_distance.ensures.pushed
 
 pub returns-in-Inside-clause-pushed : goal.returns-in-Inside-clause-pushed
 returns-in-Inside-clause-pushed g c = search (rules, report_on_all)

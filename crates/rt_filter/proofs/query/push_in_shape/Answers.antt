@@ -1,4 +1,3 @@
-use Rattle.std.proofs.Common.{arith}
 use Rattle.rt_filter.proofs.PushLemmas.{pushed_and}
 use Rattle.rt_filter.proofs.query.push_in_shape.Goals as goal
 
@@ -16,6 +15,3 @@ returns-in-Near-clause-pushed g c = rw (c.in-Answers.is, c.in-Near.is) c.find_by
 
 pub returns-in-Smallest-clause-pushed : goal.returns-in-Smallest-clause-pushed
 returns-in-Smallest-clause-pushed g c = rw (c.in-Answers.is, c.in-Smallest.is) c.find-in-Smallest.ensures.pushed
-
-pub find-requires-in-Near-clause-unscored : goal.find-requires-in-Near-clause-unscored
-find-requires-in-Near-clause-unscored g c e = absurd (grind (arith, e))
