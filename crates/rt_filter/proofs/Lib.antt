@@ -1,10 +1,11 @@
+mod BufferLemmas
 mod FindLemmas
 mod LayerLemmas
 mod LevelLemmas
 mod LineLemmas
+mod ProgressLemmas
 mod PushLemmas
 mod RunLemmas
 mod RunRows
 mod ServingLemmas
-mod SessionLemmas
 mod TreeLemmas

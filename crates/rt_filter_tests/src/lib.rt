@@ -12,6 +12,4 @@ mod replies;
 #[cfg(test)]
 mod runs;
 #[cfg(test)]
-mod sessions;
-#[cfg(test)]
 mod turns;
