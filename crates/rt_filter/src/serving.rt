@@ -33,8 +33,9 @@ pub struct Served {
 /// Answers the query lines that a source gives, and pushes the answers to a sink, each line by itself.
 ///
 /// At most `turns` pulls are made. Before each all lines that are complete are answered, and what was pushed is
-/// flushed, so that who waits for an answer before the next line has it (`exchange.rt`). No memory is taken: a pull gives
-/// at most 4,097 bytes, and a line of more than 4,096 is reported as too long.
+/// flushed, so that a client that waits for an answer before it sends its next line has it (`exchange.rt`). No call can
+/// fail with out of memory: the queries are pulled into a buffer of 4,097 bytes, and a line of more than 4,096 is
+/// reported as too long.
 pub fn serve<S: Source, K: Sink>(
     tree: &Tree,
     frontier: Frontier,

@@ -8,6 +8,8 @@ mod failures;
 #[cfg(test)]
 mod given;
 #[cfg(test)]
+mod pulls;
+#[cfg(test)]
 mod replies;
 #[cfg(test)]
 mod runs;

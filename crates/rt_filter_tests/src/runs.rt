@@ -260,7 +260,7 @@ fn refuses_a_long_comment(rt: HostRuntime) -> Result<(), Fail> {
 
 // Some of the lines are faulty.
 fn expect_in_pieces<R: Abort + AllocGlobal>(rt: &R, queries: &[u8], written: &[u8]) {
-    for piece in [1, LONGEST_LINE - 1, LONGEST_PIECE] {
+    for piece in [1, LONGEST_LINE - 1, LONGEST_LINE, LONGEST_PIECE] {
         Given { piece, ..PLAIN }.expect(rt, BOXES, queries, written, 1, None);
     }
 }
