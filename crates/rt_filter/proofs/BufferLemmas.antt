@@ -4,8 +4,7 @@ use Rattle.std.proofs.Math.Seq.{drop-append_seam, take-add, take-append-add, tak
 use Rattle.std.proofs.lemmas.{List.{drop-drop, length-append, length-drop, length-take-le, take-append-drop, take-take}, Slice.{take-put_mid, take-put_mid_below}}
 use borrow.Rule.Slice.PartMut.{put_mid}
 use Rattle.memchr.specs.Find.{IsFirstByte, is_byte}
-use Rattle.rt_text.specs.Queries.{longest_line}
-use Rattle.rt_filter.specs.Stages.{line_feed}
+use Rattle.rt_filter.specs.{Lines.{longest_line}, Stages.{line_feed}}
 
 -- the bytes from `start` to `searched`, in which no line feed stands, and those from there on
 module _ (bytes : List ℕ) (start searched : ℕ) (order : start ≤ searched) where

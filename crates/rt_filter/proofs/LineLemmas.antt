@@ -6,7 +6,7 @@ use Rattle.std.proofs.lemmas.List.{take-append-drop, Elements.{All-from_get_or, 
 use Rattle.std.proofs.lemmas.List.{FromFn.{length-enumerate_from}, Splits.{length-slice_split, slice_split_at, slice_split_none}}
 use Rattle.std.specs.List.{enumerate_from, slice_split}
 use Rattle.memchr.specs.Find.{IsFirstByte, is_byte}
-use Rattle.rt_filter.specs.Lines.{begun_line, completed, is_line_feed, last_part, lines_of_parts, numbered_lines}
+use Rattle.rt_filter.specs.{Lines.{is_line_feed, lines_of_parts, numbered_lines}, Progresses.{begun_line, completed, last_part}}
 use Rattle.rt_filter.specs.Stages.{HasNoLineFeed, line_feed, lines_from}
 
 -- ---- where the first line feed stands

@@ -5,10 +5,10 @@ use Rattle.std.proofs.lemmas.{Bool.Decides.{nat_tests}, Grind.{flat_map-append},
 use Rattle.std.specs.{Io.KnownBytes.{Keeps}, Prelude.{◌⊎◌}}
 use Rattle.memchr.specs.Find.{IsFirstByte, is_byte}
 use Rattle.rt_device.specs.Devices.{IsSameIfTold}
-use Rattle.rt_filter.specs.{Lines.{begun_line, completed, numbered_lines}, Pushes.{WasCut, WasPushed}}
-use Rattle.rt_text.specs.{Queries.{longest_line, query_of}, declared.query.Parsed.{Parsed}}
-use Rattle.rt_filter.specs.Replies.{Loaded, any_fault, is_fault, output, reply}
-use Rattle.rt_filter.specs.Progresses.{IsAfter, IsLeft, LeftOf, is_too_long, kept_of, parsed_of, progress_of}
+use Rattle.rt_filter.specs.{Lines.{is_too_long, longest_line, numbered_lines}, Pushes.{WasCut, WasPushed}}
+use Rattle.rt_text.specs.declared.query.Parsed.{Parsed}
+use Rattle.rt_filter.specs.Replies.{Loaded, any_fault, is_fault, output, parsed_line, reply}
+use Rattle.rt_filter.specs.Progresses.{IsAfter, IsLeft, LeftOf, begun_line, completed, kept_of, parsed_of, progress_of}
 use Rattle.rt_filter.specs.declared.progress.Progress.{Progress}
 use Rattle.rt_filter.specs.Stages.{HasNoLineFeed, IsAnswering, line_feed, lines_from}
 use Rattle.rt_filter.proofs.LineLemmas.{IsCutAt, begun-found, begun-none, completed-all, completed-append, completed-ended}
@@ -19,10 +19,10 @@ use Rattle.std.proofs.Common.{rules}
 -- ---- replies to some lines and then others
 
 pub output-append : (loaded : Loaded) (xs ys : List (ℕ × List ℕ)) → output loaded (xs ++ ys) ≡ output loaded xs ++ output loaded ys
-output-append loaded xs ys = flat_map-append (λ (line : ℕ × List ℕ). reply loaded line.0 (query_of line.1)) xs ys
+output-append loaded xs ys = flat_map-append (λ (line : ℕ × List ℕ). reply loaded line.0 (parsed_line line.1)) xs ys
 
 pub any_fault-append : (xs ys : List (ℕ × List ℕ)) → any_fault (xs ++ ys) ≡ (any_fault xs || any_fault ys)
-any_fault-append xs ys = list_any-append (λ (line : ℕ × List ℕ). is_fault (query_of line.1)) xs ys
+any_fault-append xs ys = list_any-append (λ (line : ℕ × List ℕ). is_fault (parsed_line line.1)) xs ys
 
 pub pushed_then : (old mid new : Option (List ℕ)) (xs ys : List ℕ) → WasPushed old mid xs → WasPushed mid new ys → WasPushed old new (xs ++ ys)
 pushed_then old mid new xs ys h k = grind (arith, append_assoc, h, k)
@@ -36,16 +36,21 @@ cut_then old mid new xs ys zs h k =
 longer_too : (begun end : List ℕ) → is_too_long begun ≡ true → is_too_long (begun ++ end) ≡ true
 longer_too begun end long = grind (arith, long, nat_tests, length-append begun end)
 
+fitting : (line : List ℕ) → length line ≤ longest_line → is_too_long line ≡ false
+fitting line few = grind (arith, few, nat_tests)
+
 -- its kept part asks with its end what it does
 pub parsed-begun : (begun end : List ℕ) → length (kept_of begun ++ end) ≤ longest_line
-    → parsed_of (is_too_long begun) (kept_of begun ++ end) ≡ query_of (begun ++ end)
+    → parsed_of (is_too_long begun) (kept_of begun ++ end) ≡ parsed_line (begun ++ end)
 parsed-begun begun end fits = by (is_too_long begun) refl
   where
-    by : (b : Bool) → is_too_long begun ≡ b → parsed_of (is_too_long begun) (kept_of begun ++ end) ≡ query_of (begun ++ end)
+    by : (b : Bool) → is_too_long begun ≡ b → parsed_of (is_too_long begun) (kept_of begun ++ end) ≡ parsed_line (begun ++ end)
     by true long =
         let longer : is_too_long (begun ++ end) ≡ true = longer_too begun end long in
         rw (long, longer) refl
-    by false short = rw short refl
+    by false short =
+        let whole : is_too_long (begun ++ end) ≡ false = fitting (begun ++ end) (rw short at fits) in
+        rw (short, whole) refl
 
 kept-fits : (begun : List ℕ) → length (kept_of begun) ≤ longest_line
 kept-fits begun = by (is_too_long begun) refl
@@ -118,12 +123,12 @@ module _ (loaded : Loaded) (old progress : Progress) (old_out out : Option (List
     cut = found rest n at
 
     -- it is the line that is complete now
-    asked-is : (pulled : List ℕ) → IsAfter old kept pulled → asked ≡ query_of (begun_line (pulled ++ s.front) ++ take n rest)
+    asked-is : (pulled : List ℕ) → IsAfter old kept pulled → asked ≡ parsed_line (begun_line (pulled ++ s.front) ++ take n rest)
     asked-is pulled is = rw line-is (search (rules, parsed-begun, short))
 
     -- so the reply is the one to it
     reply-is : (pulled : List ℕ) → IsAfter old kept pulled
-        → reply loaded (progress.lines + 1) asked ≡ reply loaded (length (numbered_lines (pulled ++ s.front) false) + 1) (query_of (begun_line (pulled ++ s.front) ++ take n rest))
+        → reply loaded (progress.lines + 1) asked ≡ reply loaded (length (numbered_lines (pulled ++ s.front) false) + 1) (parsed_line (begun_line (pulled ++ s.front) ++ take n rest))
     reply-is pulled is = search (rules, asked-is)
 
     pub answered-more : (left : List ℕ) (now : Progress) (sent : Option (List ℕ)) → left ≡ drop (n + 1) rest
@@ -160,12 +165,12 @@ module _ (loaded : Loaded) (old progress : Progress) (old_out out : Option (List
     pub fault-cut : (bad : Bool) → bad ≡ (progress.bad || is_fault asked) → (pulled : List ℕ) → IsAfter old kept pulled
         → bad ≡ true → any_fault (numbered_lines (pulled ++ given) false) ≡ true
     fault-cut bad b pulled is h =
-        let so : (any_fault (numbered_lines (pulled ++ s.front) false) || is_fault (query_of (begun_line (pulled ++ s.front) ++ take n rest))) ≡ true = search (rules, asked-is) in
+        let so : (any_fault (numbered_lines (pulled ++ s.front) false) || is_fault (parsed_line (begun_line (pulled ++ s.front) ++ take n rest))) ≡ true = search (rules, asked-is) in
         let whole = ap (λ zs. numbered_lines (pulled ++ zs) false) (s.parts ∙ ap (λ zs. s.front ++ zs) cut.parts)
         ∙ ap (λ zs. numbered_lines zs false) (sym (append_assoc pulled s.front (take n rest ++ line_feed ∷ drop (n + 1) rest)))
         ∙ completed-all (pulled ++ s.front) (take n rest ++ line_feed ∷ drop (n + 1) rest) false
         ∙ ap (λ ls. numbered_lines (pulled ++ s.front) false ++ ls) (completed-found (pulled ++ s.front) (take n rest) (drop (n + 1) rest) false cut.clear) in
-        rw (whole, any_fault-append (numbered_lines (pulled ++ s.front) false)) (or_more (any_fault (numbered_lines (pulled ++ s.front) false)) (is_fault (query_of (begun_line (pulled ++ s.front) ++ take n rest))) _ so)
+        rw (whole, any_fault-append (numbered_lines (pulled ++ s.front) false)) (or_more (any_fault (numbered_lines (pulled ++ s.front) false)) (is_fault (parsed_line (begun_line (pulled ++ s.front) ++ take n rest))) _ so)
 
   -- all lines are answered, and the rest is left
   pub answered-left : HasNoLineFeed rest → (pulled : List ℕ) → IsAfter old kept pulled → IsLeft progress (begun ++ rest) (pulled ++ given)
@@ -208,9 +213,9 @@ ended-lines pulled = ap (λ zs. numbered_lines zs true) (sym (append-nil pulled)
 
 module _ (pulled : List ℕ) (progress : Progress) (line : List ℕ) (is : IsAfter progress line pulled) where
   -- what is kept asks what the line does
-  ended-asked : parsed_of progress.is_too_long line ≡ query_of (begun_line pulled)
+  ended-asked : parsed_of progress.is_too_long line ≡ parsed_line (begun_line pulled)
   ended-asked =
-      let asked : parsed_of (is_too_long (begun_line pulled)) (kept_of (begun_line pulled)) ≡ query_of (begun_line pulled) =
+      let asked : parsed_of (is_too_long (begun_line pulled)) (kept_of (begun_line pulled)) ≡ parsed_line (begun_line pulled) =
       rw (append-nil (kept_of (begun_line pulled)), append-nil (begun_line pulled)) at
       (parsed-begun (begun_line pulled) [] (rw (append-nil (kept_of (begun_line pulled))) (kept-fits (begun_line pulled)))) in
       rw (is.0, is.1) asked

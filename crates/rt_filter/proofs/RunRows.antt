@@ -1,11 +1,11 @@
 -- Worked rows of runs: the definitions compute what is written, the fault and the status.
-use Rattle.std.proofs.Common.{◌≡◌, ◌∙◌, pos, false, true, ap, List, [], ◌∷◌, ◌++◌, ℕ, refl}
+use Rattle.std.proofs.Common.{◌≡◌, ◌∙◌, pos, false, true, ap, List, [], ◌∷◌, ◌++◌, ℕ, refl, replicate}
 use Rattle.std.specs.{Fmt.{digits}, Prelude.{Ok, Err, Some, None, codes}}
 use Rattle.rt_command.specs.Choices.{Choices}
 use Rattle.rt_geo.specs.{Layers.{all_layers}, Orders.{near}, declared.order.Order.TheVariants.{ById}}
 use Rattle.rt_geo.specs.declared.region.Region.TheVariants.{All, Circle}
 use Rattle.rt_text.proofs.Rows.{boxes, boxes_entries, boxes_load, line}
-use Rattle.rt_text.specs.declared.query.{Query.TheVariants.{Boxes}, Report.TheVariants.{Answers}}
+use Rattle.rt_text.specs.declared.query.Query.TheVariants.{Find}
 use Rattle.rt_search.specs.Answers.{answers}
 use Rattle.rt_filter.specs.{Lines.{numbered_lines}, Replies.{meaning_of, query_reply}, Runs.{run_of, run_over}}
 use Rattle.rt_text.specs.{RunFaults.{run_fault_line}, declared.run_faults.RunFault.TheVariants.{Table}}
@@ -25,7 +25,7 @@ row_ended = refl
 -- ---- answers
 
 -- unequal scores, a tie that goes by id, and a limit
-row_nearest : answers boxes_entries (meaning_of (record { region = All (record {}); layers = all_layers; order = near (record { x = pos 12; y = pos 12 }); report = Answers (Some 3) })) (Some 3)
+row_nearest : answers boxes_entries (meaning_of (All (record {})) all_layers (near (record { x = pos 12; y = pos 12 }))) (Some 3)
     ≡ (pos 2, 0) ∷ (pos 5, 0) ∷ (pos 1, 8) ∷ []
 row_nearest = refl
 
@@ -47,7 +47,7 @@ unfolding digits
 row_circle = refl
 
 -- a circle's boxes by id, which no line asks for
-row_circle_by_id : query_reply (record { entries = boxes_entries; fanout = 2 }) 7 (Boxes (record { region = Circle (record { centre = record { x = pos 0; y = pos 0 }; radius = 2 }); layers = all_layers; order = ById (record {}); report = Answers None })) ≡ line (codes "1 0") ++ line (codes "4 0") ++ line (codes "ok 7 2")
+row_circle_by_id : query_reply (record { entries = boxes_entries; fanout = 2 }) 7 (Find (Circle (record { centre = record { x = pos 0; y = pos 0 }; radius = 2 })) (ById (record {})) None all_layers) ≡ line (codes "1 0") ++ line (codes "4 0") ++ line (codes "ok 7 2")
 unfolding digits
 row_circle_by_id = refl
 
@@ -67,6 +67,11 @@ row_costs = refl
 row_numbers : answered (line [] ++ line (codes "# c") ++ line (codes "find window 1 0 0 0") ++ line (codes "find all first 0")) ≡ whole_run (line (codes "error 3 Q7 minimum above maximum") ++ line (codes "ok 4 0")) true
 unfolding digits
 row_numbers = refl
+
+-- the longest line, and one byte more
+row_longest : answered (line (codes "levels" ++ replicate 4090 32) ++ codes "#" ++ replicate 4096 32) ≡ whole_run (line (codes "3 1") ++ line (codes "2 2") ++ line (codes "1 3") ++ line (codes "0 5") ++ line (codes "ok 1 4") ++ line (codes "error 2 Q1 line too long")) true
+unfolding digits
+row_longest = refl
 
 -- ---- whole runs
 

@@ -5,10 +5,9 @@ use Rattle.std.proofs.{Math.Seq.{take-append_seam}, lemmas.List.{length-append, 
 use Rattle.std.specs.{Io.{StartsWith, KnownBytes.{Consumes, IsAtEnd}}, Prelude.{unwrap_or}}
 use Rattle.rt_device.specs.Devices.{IsSameIfTold, PulledTimes}
 use Rattle.rt_text.specs.Words.{is_empty}
-use Rattle.rt_filter.specs.{Endings.{ConsumedAtLeast, Happened, Serves, ServesWith, SinkTells, SourceTells}, Lines.{completed}}
-use Rattle.rt_text.specs.Queries.{longest_line}
-use Rattle.rt_filter.specs.{Lines.{numbered_lines}, Pushes.{WasCut, WasPushed}, Replies.{Loaded}}
-use Rattle.rt_filter.specs.{Progresses.{IsAfter, progress_of}, Replies.{any_fault, output}, Stages.{IsServing}}
+use Rattle.rt_filter.specs.{Endings.{ConsumedAtLeast, Happened, Serves, ServesWith, SinkTells, SourceTells}}
+use Rattle.rt_filter.specs.{Lines.{longest_line, numbered_lines}, Pushes.{WasCut, WasPushed}, Replies.{Loaded}}
+use Rattle.rt_filter.specs.{Progresses.{IsAfter, completed, progress_of}, Replies.{any_fault, output}, Stages.{IsServing}}
 use Rattle.rt_filter.specs.declared.progress.Progress.{Progress}
 use Rattle.rt_filter.specs.declared.serving.{ServeFault.{ServeFault}, Served.{Served}}
 use Rattle.rt_filter.proofs.{LineLemmas.{completed-all}, PushLemmas.{behind, nothing_pushed}}

@@ -2,14 +2,13 @@
 use Rattle.std.proofs.Common.{◌≡◌, ◌∙◌, ℕ, List, [], ◌∷◌, Option, refl, ap, sym, arith, rules}
 use Rattle.std.proofs.lemmas.List.{Concat.{flat_map-cons}, Sorted.{IsPermutation-sym, length_permutation}}
 use Rattle.std.specs.{List.{IsDistinct, Sorted.{IsPermutation}}, Ordering.{int_eq}}
-use Rattle.rt_geo.specs.{Laws.{Meaning}, declared.entry.Entry.{Entry}}
+use Rattle.rt_geo.specs.{Laws.{Meaning}, Orders.{by_id}, declared.entry.Entry.{Entry}}
 use Rattle.rt_tree.specs.{Entries.{ids_of}, Levels.{level_sizes}, Packed.{IsSound, Packed}, Sorting.{limited}}
 use Rattle.rt_tree.proofs.{PackSound.{entries-IsPermutation}, Repacked.{pack_of-IsPermutation}}
 use Rattle.rt_text.specs.{ReplyLines.{ok_line}, declared.query.{Parsed.{Parsed}, Query.{Query}}}
-use Rattle.rt_text.specs.declared.query.{Query.TheVariants.{Boxes, Cost, Levels}, Report.{Report}}
-use Rattle.rt_text.specs.declared.query.Report.TheVariants.{Answers, Count}
-use Rattle.rt_search.specs.Answers.{answers}
-use Rattle.rt_filter.specs.Replies.{Loaded, levels_reply, meaning_of, opened_for, output, query_reply, reply, report_of}
+use Rattle.rt_text.specs.declared.query.Query.TheVariants.{CostCount, CostFind, Count, Find, Levels}
+use Rattle.rt_search.specs.{Answers.{answers}, Work.{opened_by_count, opened_by_search}}
+use Rattle.rt_filter.specs.Replies.{Loaded, find_reply, levels_reply, meaning_of, output, query_reply, reply}
 use Rattle.rt_filter.specs.{Replies.{tree_of}, Stages.{loaded_tree}}
 use Rattle.rt_search.proofs.Answering.{accepted-IsPermutation, among-IsPermutation}
 use Rattle.rt_text.specs.declared.query.Parsed.TheVariants as parsed
@@ -32,16 +31,16 @@ module _ (fanout : ℕ) (xs ys : List Entry) (distinct : IsDistinct int_eq (ids_
   same_tree : tree_of first ≡ tree_of other
   same_tree = sym (pack_of-IsPermutation fanout ys xs distinct (IsPermutation-sym xs ys moved))
 
-  report_same : (line : ℕ) (meaning : Meaning) (report : Report)
-      → report_of xs line meaning report ≡ report_of ys line meaning report
-  report_same line meaning (Answers limit) = search (rules, answers-IsPermutation, moved)
-  report_same line meaning Count =
-      ap (ok_line line) (sym (length_permutation _ _ (accepted-IsPermutation meaning xs ys moved)))
-
   query_same : (line : ℕ) (query : Query) → query_reply first line query ≡ query_reply other line query
-  query_same line (Boxes asked) = report_same line (meaning_of asked) asked.report
-  query_same line (Cost asked) = ap (λ tree. ok_line line (opened_for tree (meaning_of asked) asked.report)) same_tree
+  query_same line (Find region order limit layers) =
+      ap (find_reply line) (answers-IsPermutation xs ys (meaning_of region layers order) limit moved)
+  query_same line (Count region layers) =
+      ap (ok_line line) (sym (length_permutation _ _ (accepted-IsPermutation (meaning_of region layers by_id) xs ys moved)))
   query_same line Levels = ap (λ n. levels_reply line (level_sizes n fanout)) (sym (length_permutation xs ys moved))
+  query_same line (CostFind region order limit layers) =
+      ap (λ tree. ok_line line (opened_by_search (meaning_of region layers order) tree limit)) same_tree
+  query_same line (CostCount region layers) =
+      ap (λ tree. ok_line line (opened_by_count (meaning_of region layers by_id) tree)) same_tree
 
   reply_same : (line : ℕ) (parsed : Parsed) → reply first line parsed ≡ reply other line parsed
   reply_same line parsed.Skip = refl

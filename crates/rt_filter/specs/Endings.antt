@@ -3,10 +3,10 @@ use Rattle.std.specs.Prelude.{◌≡◌, ◌+◌, ◌≤◌, ℕ, List, [], ◌+
 use Rattle.std.specs.Io.{StartsWith}
 use Rattle.std.specs.Io.KnownBytes.{Consumes}
 use Rattle.rt_command.specs.Choices.{Choices}
-use Rattle.rt_text.specs.{Queries.{longest_line}, Words.{is_empty}}
+use Rattle.rt_text.specs.Words.{is_empty}
 use Rattle.rt_text.specs.declared.tables.TableFault.{TableFault}
 use Rattle.rt_text.specs.declared.tables.TableFault.TheVariants as load
-use Rattle.rt_filter.specs.Lines.{numbered_lines}
+use Rattle.rt_filter.specs.Lines.{longest_line, numbered_lines}
 use Rattle.rt_filter.specs.Replies.{Loaded, any_fault, output}
 use Rattle.rt_filter.specs.Runs.{loaded_of, run_over}
 use Rattle.rt_filter.specs.declared.filter.Outcome.{Outcome}

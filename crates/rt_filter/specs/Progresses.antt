@@ -1,15 +1,27 @@
 -- How far the lines of the bytes that were pulled are answered. No public contract cites it.
-use Rattle.std.specs.Prelude.{◌≡◌, ℕ, Bool, true, false, nat_lt, if◌then◌else◌, List, [], length}
-use Rattle.rt_text.specs.Queries.{longest_line, query_of}
+use Rattle.std.specs.Prelude.{◌≡◌, ℕ, Bool, true, false, if◌then◌else◌, List, [], ◌∷◌, ◌++◌, drop, length}
+use Rattle.std.specs.List.{slice_split}
+use Rattle.rt_text.specs.Queries.{query_of}
 use Rattle.rt_text.specs.declared.query.Parsed.{Parsed}
 use Rattle.rt_text.specs.declared.query.Parsed.TheVariants as parsed
 use Rattle.rt_text.specs.declared.query.QueryFault.TheVariants as fault
-use Rattle.rt_filter.specs.Lines.{begun_line, numbered_lines}
+use Rattle.rt_filter.specs.Lines.{is_line_feed, is_too_long, numbered_lines}
 use Rattle.rt_filter.specs.Replies.{any_fault}
 use Rattle.rt_filter.specs.declared.progress.Progress.{Progress}
 
-abbrev pub is_too_long : (line : List ℕ) → Bool
-is_too_long line = nat_lt longest_line (length line)
+-- of the parts between line feeds the last, which begins a line that isn't complete
+abbrev pub last_part : List (List ℕ) → List ℕ
+last_part [] = []
+last_part (part ∷ []) = part
+last_part (part ∷ next ∷ more) = last_part (next ∷ more)
+
+-- what stands behind the last line feed
+abbrev pub begun_line : List ℕ → List ℕ
+begun_line bytes = last_part (slice_split is_line_feed bytes)
+
+-- the lines that are complete with more bytes and weren't before, the last one too where they have ended
+abbrev pub completed : (bytes more : List ℕ) → (ended : Bool) → List (ℕ × List ℕ)
+completed bytes more ended = drop (length (numbered_lines bytes false)) (numbered_lines (bytes ++ more) ended)
 
 -- what is kept of the line that is begun: nothing once it is too long
 abbrev pub kept_of : (begun : List ℕ) → List ℕ

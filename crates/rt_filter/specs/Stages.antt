@@ -5,12 +5,11 @@ use Rattle.std.specs.Io.KnownBytes.{Consumes}
 use Rattle.rt_command.specs.Choices.{Choices}
 use Rattle.rt_text.specs.Tables.{IsFaultOf}
 use Rattle.rt_tree.specs.Packed.{Packed}
-use Rattle.rt_text.specs.Queries.{longest_line}
-use Rattle.rt_filter.specs.Lines.{completed, is_line_feed, lines_of_parts, numbered_lines}
+use Rattle.rt_filter.specs.Lines.{is_line_feed, lines_of_parts, longest_line, numbered_lines}
 use Rattle.rt_filter.specs.Pushes.{WasPushed}
 use Rattle.rt_filter.specs.Replies.{Loaded, output, tree_of}
 use Rattle.rt_filter.specs.Runs.{loaded_of}
-use Rattle.rt_filter.specs.Progresses.{IsAfter}
+use Rattle.rt_filter.specs.Progresses.{IsAfter, completed}
 use Rattle.rt_filter.specs.declared.progress.Progress.{Progress}
 use Rattle.rt_text.specs.declared.run_faults.RunFault.{RunFault}
 use Rattle.rt_text.specs.declared.run_faults.RunFault.TheVariants.{Table, Memory}

@@ -2,18 +2,20 @@
 
 ghost use Rattle.std.specs.Prelude.{◌≡◌, ◌+◌, ◌-◌, ◌||◌, ◌<◌, ◌≤◌, ◌^◌, ◌++◌, ℕ, List, [], false, true};
 ghost use Rattle.std.specs.Prelude.{IfOk, OnOk, MatchResult, drop, length, take};
-ghost use Rattle.rt_text.specs.Queries.{longest_line};
-ghost use Rattle.rt_filter.specs.{Lines.{completed, numbered_lines}, Pushes.{Pushed}, Stages.{loaded_tree}};
-ghost use Rattle.rt_filter.specs.Progresses.{IsAfter, IsLeft, parsed_of, progress_of};
+ghost use Rattle.rt_filter.specs.{Lines.{longest_line, numbered_lines}, Pushes.{Pushed}, Stages.{loaded_tree}};
+ghost use Rattle.rt_filter.specs.Progresses.{IsAfter, IsLeft, completed, parsed_of, progress_of};
 ghost use Rattle.rt_filter.specs.Replies.{any_fault, is_fault, output, reply};
 
-use crate::query::{opened_for, push_in_region, push_levels};
-use crate::reply::{push_line, push_ok};
+use crate::query::push_reply;
+use crate::reply::push_line;
 use memchr::memchr;
 use rt_device::{Sink, WriteFault};
 use rt_search::Frontier;
-use rt_text::{LONGEST_LINE, Parsed, Query, QueryFault, Vertices, error_line, parse};
+use rt_text::{Parsed, QueryFault, error_line, parse};
 use rt_tree::Tree;
+
+/// How many bytes a query line has at most, a carriage return at its end included and its line feed not.
+const LONGEST_LINE: usize = 4096;
 
 /// How many bytes the buffer for queries holds: those of the longest line and its line feed.
 pub(crate) const BUFFER_LEN: usize = LONGEST_LINE + 1;
@@ -171,32 +173,22 @@ impl Progress {
         ensures untouched { is_pushed.new ≡ false
             → (is_pushed.old ≡ false) × (sink.new ≡ sink.old) }
     {
-        let mut vertices = Vertices::new();
-        let parsed = if self.is_too_long {
-            Parsed::Fault(QueryFault::LineTooLong)
-        } else {
-            parse(line, &mut vertices)
-        };
         self.lines += 1;
-        self.is_too_long = false;
-        match parsed {
-            Parsed::Skip => Ok(frontier),
-            Parsed::Query(query) => {
-                *is_pushed = true;
-                match query {
-                    Query::Boxes(asked) => push_in_region(tree, frontier, self.lines, asked, sink),
-                    Query::Cost(asked) => {
-                        let (opened, frontier) = opened_for(tree, frontier, asked);
-                        push_ok(self.lines, opened, sink).and(Ok(frontier))
-                    }
-                    Query::Levels => push_levels(tree, self.lines, sink).and(Ok(frontier)),
+        let fault = if self.is_too_long {
+            self.is_too_long = false;
+            QueryFault::LineTooLong
+        } else {
+            match &parse(line) {
+                Parsed::Skip => return Ok(frontier),
+                Parsed::Query(query) => {
+                    *is_pushed = true;
+                    return push_reply(tree, frontier, self.lines, query, sink);
                 }
+                Parsed::Fault(fault) => *fault,
             }
-            Parsed::Fault(fault) => {
-                *is_pushed = true;
-                self.bad = true;
-                push_line(&error_line(self.lines, fault), sink).and(Ok(frontier))
-            }
-        }
+        };
+        *is_pushed = true;
+        self.bad = true;
+        push_line(&error_line(self.lines, fault), sink).and(Ok(frontier))
     }
 }

@@ -4,24 +4,24 @@
 //! on some layers the region is matched for each box, and of a cost both are.
 
 ghost use Rattle.std.specs.Prelude.{◌≡◌, ◌-◌, ◌<◌, ◌≤◌, ◌^◌, IfOk, length, true};
+ghost use Rattle.rt_geo.specs.{OnLayers.{on_layers_accepts}, Orders.{by_id}, Regions.{region_accepts}};
 ghost use Rattle.rt_tree.specs.Levels.{level_sizes};
-ghost use Rattle.rt_text.specs.declared.query.Query.TheVariants.{Boxes};
-ghost use Rattle.rt_search.specs.{Answers.{answers}, Work.{IsUnscored}};
+ghost use Rattle.rt_search.specs.{Answers.{answers}, Work.{IsUnscored, opened_by_count, opened_by_search}};
 ghost use Rattle.rt_filter.specs.{Pushes.{Pushed}, Reports.{report_on}, Stages.{loaded_tree}};
-ghost use Rattle.rt_filter.specs.Replies.{find_reply, levels_reply, meaning_of, opened_for, query_reply, tree_of};
+ghost use Rattle.rt_filter.specs.Replies.{find_reply, levels_reply, meaning_of, query_reply, tree_of};
 
 use crate::reply::{push_line, push_ok, push_search};
 use rt_device::{Sink, WriteFault};
-use rt_geo::{ById, Counted, Disc, Geometry, Guided, OnLayers, Order, Region, Shape};
+use rt_geo::{ById, Counted, Disc, Geometry, Guided, Layers, OnLayers, Order, Region, Shape};
 use rt_search::{Frontier, FullSearch, Search, cost, count};
-use rt_text::{BoxQuery, Report, level_line};
+use rt_text::{Query, level_line};
 use rt_tree::Tree;
 
 /// Where each node scores 0, up to so many answers are kept in order as they are found; for more, all are found first.
 const FEW: u64 = 64;
 
 // Pushes a line for each level, from the top down, and then their number.
-pub(crate) fn push_levels<K: Sink>(tree: &Tree, line: u128, sink: &mut K) -> Result<(), WriteFault>
+fn push_levels<K: Sink>(tree: &Tree, line: u128, sink: &mut K) -> Result<(), WriteFault>
     requires count { K.failed sink.old < 2 ^ 64 - 1 }
     ensures pushed { let sizes = level_sizes (length tree.now.entries) tree.now.fanout in
         Pushed K.written K.failed sink.old sink.new result (levels_reply line sizes) }
@@ -34,48 +34,111 @@ pub(crate) fn push_levels<K: Sink>(tree: &Tree, line: u128, sink: &mut K) -> Res
     push_ok(line, u64::from(count), sink)
 }
 
-/// Pushes the report on boxes. Where they are those of all layers, a polygon is prepared where it can be, and a circle whose
-/// order is by the distance from its centre takes one distance for both.
+/// Pushes the reply to a query.
 #[inline]
-#[tactic(auto, using(crate::proofs::LayerLemmas::boxes_on_all))]
-pub(crate) fn push_in_region<K: Sink>(
+pub(crate) fn push_reply<K: Sink>(
     tree: &Tree,
     frontier: Frontier,
     line: u128,
-    asked: BoxQuery<'_>,
+    query: &Query,
     sink: &mut K,
 ) -> Result<Frontier, WriteFault>
     requires room { length tree.now.entries ≤ frontier.capacity }
     requires count { K.failed sink.old < 2 ^ 64 - 1 }
     ensures pushed { Pushed K.written K.failed sink.old sink.new result
-        (query_reply (loaded_tree tree.now) line (Boxes asked.entry)) }
+        (query_reply (loaded_tree tree.now) line query.now) }
+    ensures capacity { IfOk result (λ left. left.capacity ≡ frontier.capacity) }
+{
+    match query {
+        Query::Find {
+            region,
+            order,
+            limit,
+            layers,
+        } => {
+            let report = Report::Answers {
+                order: *order,
+                limit: *limit,
+            };
+            push_in_region(tree, frontier, line, region, *layers, report, sink)
+        }
+        Query::Count { region, layers } => {
+            push_in_region(tree, frontier, line, region, *layers, Report::Count, sink)
+        }
+        Query::Levels => push_levels(tree, line, sink).and(Ok(frontier)),
+        Query::CostFind {
+            region,
+            order,
+            limit,
+            layers,
+        } => {
+            let (opened, frontier) = opened_by_find(
+                tree, frontier, region, *layers, *order, *limit,
+            );
+            push_ok(line, opened, sink).and(Ok(frontier))
+        }
+        Query::CostCount { region, layers } => {
+            let (opened, frontier) = opened_by_count(tree, frontier, region, *layers);
+            push_ok(line, opened, sink).and(Ok(frontier))
+        }
+    }
+}
+
+// What is reported of boxes.
+#[derive(Drop)]
+enum Report {
+    // A line for each in the order, of the first so many where there is a limit, and then their number.
+    Answers { order: Order, limit: Option<u64> },
+    // Their number.
+    Count,
+}
+
+// Pushes the report on boxes. Where they are those of all layers, a polygon is prepared where it can be, and a circle whose
+// order is by the distance from its centre takes one distance for both.
+#[inline(always)]
+#[tactic(auto, using(crate::proofs::LayerLemmas::report_on_all))]
+fn push_in_region<K: Sink>(
+    tree: &Tree,
+    frontier: Frontier,
+    line: u128,
+    region: &Region,
+    layers: Layers,
+    report: Report,
+    sink: &mut K,
+) -> Result<Frontier, WriteFault>
+    requires room { length tree.now.entries ≤ frontier.capacity }
+    requires count { K.failed sink.old < 2 ^ 64 - 1 }
+    ensures pushed { let accepts = on_layers_accepts (region_accepts region.now) layers in
+        Pushed K.written K.failed sink.old sink.new result
+        (report_on tree.now.entries accepts line report) }
     ensures capacity { IfOk result (λ left. left.capacity ≡ frontier.capacity) }
 {
     // (called, so that it is known which layers the entries have)
     let _ = tree.len();
-    let BoxQuery { order, report, .. } = asked;
     // (all layers are those of all entries: none is checked)
-    if asked.layers.bits() != u64::MAX {
-        let (shape, layers) = (asked.region, asked.layers);
-        let shape = OnLayers { shape, layers };
-        return push_in_shape(tree, frontier, line, shape, order, report, sink);
+    if layers.bits() != u64::MAX {
+        let shape = OnLayers {
+            shape: region,
+            layers,
+        };
+        return push_in_shape(tree, frontier, line, shape, report, sink);
     }
-    match asked.region {
-        Region::All(shape) => push_in_shape(tree, frontier, line, shape, order, report, sink),
-        Region::Window(shape) => push_in_shape(tree, frontier, line, shape, order, report, sink),
-        Region::Inside(shape) => push_in_shape(tree, frontier, line, shape, order, report, sink),
-        Region::Covers(shape) => push_in_shape(tree, frontier, line, shape, order, report, sink),
+    match region {
+        Region::All(shape) => push_in_shape(tree, frontier, line, *shape, report, sink),
+        Region::Window(shape) => push_in_shape(tree, frontier, line, *shape, report, sink),
+        Region::Inside(shape) => push_in_shape(tree, frontier, line, *shape, report, sink),
+        Region::Covers(shape) => push_in_shape(tree, frontier, line, *shape, report, sink),
         Region::Circle(circle) => {
-            if let Report::Answers { limit } = report {
-                if let Some(disc) = Disc::from_parts(&circle, &order) {
-                    return find(tree, frontier, line, disc, false, limit, sink);
+            if let Report::Answers { order, limit } = &report {
+                if let Some(disc) = Disc::from_parts(circle, order) {
+                    return find(tree, frontier, line, disc, false, *limit, sink);
                 }
             }
-            push_in_shape(tree, frontier, line, circle, order, report, sink)
+            push_in_shape(tree, frontier, line, *circle, report, sink)
         }
         Region::Polygon(polygon) => match polygon.prepare() {
-            Some(prepared) => push_in_shape(tree, frontier, line, prepared, order, report, sink),
-            None => push_in_shape(tree, frontier, line, polygon, order, report, sink),
+            Some(prepared) => push_in_shape(tree, frontier, line, &prepared, report, sink),
+            None => push_in_shape(tree, frontier, line, polygon, report, sink),
         },
     }
 }
@@ -87,18 +150,17 @@ fn push_in_shape<S: Shape + Drop, K: Sink>(
     frontier: Frontier,
     line: u128,
     shape: S,
-    order: Order,
     report: Report,
     sink: &mut K,
 ) -> Result<Frontier, WriteFault>
     requires room { length tree.now.entries ≤ frontier.capacity }
     requires count { K.failed sink.old < 2 ^ 64 - 1 }
     ensures pushed { Pushed K.written K.failed sink.old sink.new result
-        (report_on tree.now.entries (S.accepts shape) line order report) }
+        (report_on tree.now.entries (S.accepts shape) line report) }
     ensures capacity { IfOk result (λ left. left.capacity ≡ frontier.capacity) }
 {
-    let limit = match report {
-        Report::Answers { limit } => limit,
+    let (order, limit) = match report {
+        Report::Answers { order, limit } => (order, limit),
         Report::Count => {
             let geometry = Guided { shape, rank: ById };
             let mut frontier = frontier;
@@ -164,24 +226,52 @@ fn find<G: Geometry + Drop, K: Sink>(
     }
 }
 
-// How many nodes a report on boxes opens.
-pub(crate) fn opened_for(tree: &Tree, frontier: Frontier, asked: BoxQuery<'_>) -> (u64, Frontier)
+// How many nodes a find opens.
+#[inline(never)]
+fn opened_by_find(
+    tree: &Tree,
+    frontier: Frontier,
+    region: &Region,
+    layers: Layers,
+    order: Order,
+    limit: Option<u64>,
+) -> (u64, Frontier)
     requires room { length tree.now.entries ≤ frontier.capacity }
     ensures opened { let loaded = loaded_tree tree.now in
-        result.0 ≡ opened_for (tree_of loaded) (meaning_of asked.entry) asked.entry.report }
+        result.0 ≡ opened_by_search (meaning_of region.now layers order) (tree_of loaded) limit }
     ensures capacity { result.1.capacity ≡ frontier.capacity }
 {
     // (called, so that it is known that the tree is the packed one of its own entries)
     let _ = tree.len();
-    let (shape, layers, rank) = (asked.region, asked.layers, asked.order);
-    let shape = OnLayers { shape, layers };
-    let geometry = Guided { shape, rank };
-    match asked.report {
-        Report::Answers { limit } => cost(tree, frontier, Counted::new(&geometry), limit),
-        Report::Count => {
-            let mut frontier = frontier;
-            let counted = count(tree, &mut frontier, &mut Counted::new(&geometry));
-            (counted.opened, frontier)
-        }
-    }
+    let shape = OnLayers {
+        shape: region,
+        layers,
+    };
+    let geometry = Guided { shape, rank: order };
+    cost(tree, frontier, Counted::new(&geometry), limit)
+}
+
+// How many nodes a count opens.
+#[inline(never)]
+fn opened_by_count(
+    tree: &Tree,
+    frontier: Frontier,
+    region: &Region,
+    layers: Layers,
+) -> (u64, Frontier)
+    requires room { length tree.now.entries ≤ frontier.capacity }
+    ensures opened { let loaded = loaded_tree tree.now in
+        result.0 ≡ opened_by_count (meaning_of region.now layers by_id) (tree_of loaded) }
+    ensures capacity { result.1.capacity ≡ frontier.capacity }
+{
+    // (called, so that it is known that the tree is the packed one of its own entries)
+    let _ = tree.len();
+    let shape = OnLayers {
+        shape: region,
+        layers,
+    };
+    let geometry = Guided { shape, rank: ById };
+    let mut frontier = frontier;
+    let counted = count(tree, &mut frontier, &mut Counted::new(&geometry));
+    (counted.opened, frontier)
 }

@@ -2,7 +2,7 @@
 
 use crate::expect::expect_eq;
 use rt_filter::{Outcome, RunFault, Settings, Sink, SliceSink, SliceSource, Source, run};
-use rt_text::{LONGEST_LINE, read_table};
+use rt_text::read_table;
 use rt_tree::Tree;
 use std::alloc::Global;
 use std::io::Read;
@@ -17,6 +17,9 @@ pub(crate) const WITH_HEADER: &[u8] =
 pub(crate) const FIND: &[u8] = b"find window 0 10 0 10\n";
 
 pub(crate) const FOUND: &[u8] = b"1 0\n2 0\nok 1 2\n";
+
+/// How many bytes a query line has at most, without its line feed.
+pub(crate) const LONGEST_LINE: usize = 4096;
 
 /// A pull gives at most as many bytes: those of the longest line and its line feed.
 pub(crate) const LONGEST_PIECE: usize = LONGEST_LINE + 1;

@@ -1,9 +1,8 @@
 //! How much each pull of a run may give, and how many pulls there are.
 
 use crate::expect::expect_eq;
-use crate::given::{BOXES, Given, LONGEST_PIECE, PLAIN};
+use crate::given::{BOXES, Given, LONGEST_LINE, LONGEST_PIECE, PLAIN};
 use rt_filter::{ReadFault, RunFault, Settings, SliceSink, Source, run};
-use rt_text::LONGEST_LINE;
 use std::process::Abort;
 use std::test::Fail;
 

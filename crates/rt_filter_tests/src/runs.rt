@@ -1,10 +1,10 @@
 //! Runs over bytes in memory, compared byte for byte. The expected bytes were worked out by hand.
 
 use crate::expect::expect_eq;
-use crate::given::{BOXES, FIND, FOUND, Given, LONGEST_PIECE, PLAIN, WITH_HEADER};
+use crate::given::{BOXES, FIND, FOUND, Given, LONGEST_LINE, LONGEST_PIECE, PLAIN, WITH_HEADER};
 use itoa::Buffer;
 use rt_filter::{Outcome, RunFault, Settings, Sink, Source, run_fault_line, run_std};
-use rt_text::{Axis, LONGEST_LINE, TableFault};
+use rt_text::{Axis, TableFault};
 use std::alloc::{AllocError, Global};
 use std::process::Abort;
 use std::test::Fail;

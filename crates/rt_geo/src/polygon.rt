@@ -18,6 +18,7 @@ use crate::bounds::{Bounds, hull, inside, overlaps};
 use crate::distance::Point;
 use crate::geometry::{Info, Shape, Within};
 use crate::prepared::{PreparedPolygon, is_short, left_of_short, prepare};
+use arrayvec::ArrayVec;
 use std::marker::Model;
 
 /// The fewest vertices of a polygon.
@@ -36,35 +37,34 @@ pub enum PolygonFault {
     NotConvex,
 }
 
-/// Accepts the boxes that a strictly convex polygon of 3 to 16 vertices meets, its edges included. The vertices stand
-/// elsewhere, so that it is small.
+/// Accepts the boxes that a strictly convex polygon of 3 to 16 vertices meets, its edges included.
 ///
 /// The boxes are those that no axis parts from it. A box that is dropped shares no point with the polygon, not
 /// even one in fractions, and each other box shares one with it: these are clauses of `within`.
 #[derive(Debug, Drop)]
-pub struct Polygon<'a> {
-    vertices: &'a [Point],
+pub struct Polygon {
+    vertices: ArrayVec<Point, MOST_VERTICES>,
     bounds: Bounds,
 }
 
-impl<'a> Model for Polygon<'a> {
+impl Model for Polygon {
     ghost use Rattle.std.specs.Prelude.{◌≡◌, true, List};
     ghost use Rattle.rt_geo.specs.Polygons.{bounding_box, has_polygon_count, is_strictly_convex};
     ghost use Rattle.rt_geo.specs.declared.distance.Point.{Point};
 
     ghost Value = { List Point };
 
-    ghost view = { λ p. p.vertices.now };
+    ghost view = { λ p. p.vertices.items };
 
     ghost invariant = { λ p. record {
-      count : has_polygon_count p.vertices.now ≡ true;
-      convex : is_strictly_convex p.vertices.now ≡ true;
-      bounds : p.bounds ≡ bounding_box p.vertices.now;
+      count : has_polygon_count p.vertices.items ≡ true;
+      convex : is_strictly_convex p.vertices.items ≡ true;
+      bounds : p.bounds ≡ bounding_box p.vertices.items;
     } };
 }
 
 /// Polygons are equal where their vertices are, in turn from the first.
-impl<'a> PartialEq for Polygon<'a> {
+impl PartialEq for Polygon {
     ghost use Rattle.std.specs.{Cmp.Lexicographic.{pointwise}, Cmp.Rules.{comparing}};
     ghost use Rattle.std.specs.Ordering.{eq_of_both, int_eq, on};
     ghost use Rattle.std.proofs.Common.{rules};
@@ -73,27 +73,27 @@ impl<'a> PartialEq for Polygon<'a> {
 
     ghost laws = { Prim.search (comparing, rules) };
 
-    fn eq(&self, other: &Polygon<'a>) -> bool {
+    fn eq(&self, other: &Polygon) -> bool {
         self.vertices == other.vertices
     }
 }
 
-impl<'a> Eq for Polygon<'a> {
+impl Eq for Polygon {
     ghost use Rattle.std.specs.Cmp.Rules.{comparing};
     ghost use Rattle.std.proofs.Common.{rules};
 
     ghost laws = { Prim.search (comparing, rules) };
 }
 
-impl<'a> Polygon<'a> {
-    /// The polygon with these vertices in turn, counterclockwise or clockwise. They may be reversed where they stand.
+impl Polygon {
+    /// The polygon with these vertices in turn, counterclockwise or clockwise.
     ///
     /// [`PolygonFault::Count`] where there are not 3 to 16 of them, [`PolygonFault::NotConvex`] where there
     /// are and they aren't strictly convex either way round, as where three are in line.
     #[inline(always)]
-    pub fn new(points: &'a mut [Point]) -> Result<Polygon<'a>, PolygonFault>
-        ensures value { result ≡ polygon_of points.old }
-        ensures polygon { IsPolygonOf points.old result }
+    pub fn new(points: &[Point]) -> Result<Polygon, PolygonFault>
+        ensures value { result ≡ polygon_of points.now }
+        ensures polygon { IsPolygonOf points.now result }
     {
         if points.len() < FEWEST_VERTICES || points.len() > MOST_VERTICES {
             return Err(PolygonFault::Count);
@@ -101,9 +101,13 @@ impl<'a> Polygon<'a> {
         if is_strictly_convex(points) {
             return Ok(of_convex(points));
         }
-        points.reverse();
-        if is_strictly_convex(points) {
-            return Ok(of_convex(points));
+        // (in part of an array, so that the compiler knows that it is short)
+        let mut room = [points[0]; MOST_VERTICES];
+        let reversed = &mut room[..points.len()];
+        reversed.copy_from_slice(points);
+        reversed.reverse();
+        if is_strictly_convex(reversed) {
+            return Ok(of_convex(reversed));
         }
         Err(PolygonFault::NotConvex)
     }
@@ -111,7 +115,7 @@ impl<'a> Polygon<'a> {
     /// The same polygon, made ready to be asked about many boxes, where each edge leads less than 2^31 far on each
     /// axis. `None` where one leads farther.
     #[inline(always)]
-    pub fn prepare(&self) -> Option<PreparedPolygon<'a>>
+    pub fn prepare(&self) -> Option<PreparedPolygon>
         ensures when { is_some result ≡ has_short_edges self.now }
         ensures value { IfSome result (λ prepared. prepared ≡ self.now) }
     {
@@ -119,12 +123,12 @@ impl<'a> Polygon<'a> {
     }
 
     /// The vertices in turn, counterclockwise.
-    pub(crate) fn vertices(&self) -> &'a [Point]
+    pub(crate) fn vertices(&self) -> &[Point]
         ensures value { result.now ≡ self.now }
         ensures count { has_polygon_count result.now ≡ true }
         ensures convex { is_strictly_convex result.now ≡ true }
     {
-        self.vertices
+        &self.vertices
     }
 
     /// The least box around the vertices.
@@ -135,7 +139,7 @@ impl<'a> Polygon<'a> {
     }
 }
 
-impl<'a> Shape for Polygon<'a> {
+impl Shape for Polygon {
     ghost accepts = { λ s. region_accepts (region.Polygon s) };
 
     ghost state = { λ s. region_state (region.Polygon s) };
@@ -150,7 +154,7 @@ impl<'a> Shape for Polygon<'a> {
             return Within::Not;
         }
         let lies_inside = inside(info.bounds, self.bounds);
-        state_by_edges(self.vertices, info.bounds, lies_inside)
+        state_by_edges(&self.vertices, info.bounds, lies_inside)
     }
 
     ghost faithful = { λ s. region-faithful (region.Polygon s) };
@@ -294,16 +298,27 @@ fn left_of(edge: Edge, points: &[Point]) -> usize
 
 /// The polygon with these vertices.
 #[inline(always)]
-fn of_convex(vertices: &[Point]) -> Polygon<'_>
-    requires count { has_polygon_count vertices.now ≡ true }
-    requires convex { is_strictly_convex vertices.now ≡ true }
-    ensures value { result ≡ vertices.now }
+fn of_convex(points: &[Point]) -> Polygon
+    requires count { has_polygon_count points.now ≡ true }
+    requires convex { is_strictly_convex points.now ≡ true }
+    ensures value { result ≡ points.now }
     ensures convex { IsStrictlyConvex result }
 {
     Polygon {
-        vertices,
-        bounds: bounding_box(vertices),
+        vertices: list_of(points),
+        bounds: bounding_box(points),
     }
+}
+
+/// A list of these points.
+#[inline(always)]
+pub(crate) fn list_of(points: &[Point]) -> ArrayVec<Point, MOST_VERTICES>
+    requires { length points.now ≤ MOST_VERTICES }
+    ensures { result.items ≡ points.now }
+{
+    let mut list = ArrayVec::new();
+    let _fits = list.try_extend_from_slice(points);
+    list
 }
 
 /// The least box around the points.

@@ -15,7 +15,7 @@ ghost use Rattle.rt_geo.specs.declared.region.Region.TheVariants as region;
 use crate::bounds::{Bounds, inside, overlaps};
 use crate::distance::Point;
 use crate::geometry::{Info, Shape, Within};
-use crate::polygon::{Edge, MOST_VERTICES, Polygon, difference, last_vertex};
+use crate::polygon::{Edge, MOST_VERTICES, Polygon, difference, last_vertex, list_of};
 use arrayvec::ArrayVec;
 use std::marker::Model;
 
@@ -36,13 +36,13 @@ pub(crate) struct HalfPlane {
 
 /// A [`Polygon`] each edge of which leads less than 2^31 far on each axis. It is asked faster.
 #[derive(Debug, Drop)]
-pub struct PreparedPolygon<'a> {
-    vertices: &'a [Point],
+pub struct PreparedPolygon {
+    vertices: ArrayVec<Point, MOST_VERTICES>,
     bounds: Bounds,
     half_planes: ArrayVec<HalfPlane, MOST_VERTICES>,
 }
 
-impl<'a> Model for PreparedPolygon<'a> {
+impl Model for PreparedPolygon {
     ghost use Rattle.std.specs.{List.{list_all}, Prelude.{◌≡◌, true, List, map}};
     ghost use Rattle.rt_geo.specs.HalfPlanes.{edges_from_last, half_plane_of};
     ghost use Rattle.rt_geo.specs.Polygons.{bounding_box, has_polygon_count, is_strictly_convex};
@@ -50,18 +50,18 @@ impl<'a> Model for PreparedPolygon<'a> {
 
     ghost Value = { List Point };
 
-    ghost view = { λ p. p.vertices.now };
+    ghost view = { λ p. p.vertices.items };
 
     ghost invariant = { λ p. record {
-      count : has_polygon_count p.vertices.now ≡ true;
-      convex : is_strictly_convex p.vertices.now ≡ true;
-      short : has_short_edges p.vertices.now ≡ true;
-      bounds : p.bounds ≡ bounding_box p.vertices.now;
-      half_planes : p.half_planes.items ≡ map half_plane_of (edges_from_last p.vertices.now);
+      count : has_polygon_count p.vertices.items ≡ true;
+      convex : is_strictly_convex p.vertices.items ≡ true;
+      short : has_short_edges p.vertices.items ≡ true;
+      bounds : p.bounds ≡ bounding_box p.vertices.items;
+      half_planes : p.half_planes.items ≡ map half_plane_of (edges_from_last p.vertices.items);
     } };
 }
 
-impl<'a> Shape for PreparedPolygon<'a> {
+impl Shape for PreparedPolygon {
     ghost accepts = { λ s. region_accepts (region.Polygon s) };
 
     ghost state = { λ s. region_state (region.Polygon s) };
@@ -161,14 +161,14 @@ fn turned_sides(bounds: Bounds) -> [i64; 4]
 
 /// The polygon with the half-planes of its edges. `None` where an edge isn't short.
 #[inline(always)]
-pub(crate) fn prepare<'a>(polygon: &Polygon<'a>) -> Option<PreparedPolygon<'a>>
+pub(crate) fn prepare(polygon: &Polygon) -> Option<PreparedPolygon>
     ensures when { is_some result ≡ has_short_edges polygon.now }
     ensures value { IfSome result (λ prepared. prepared ≡ polygon.now) }
 {
     let vertices = polygon.vertices();
     match half_planes(last_vertex(vertices), vertices) {
         Some(half_planes) => Some(PreparedPolygon {
-            vertices,
+            vertices: list_of(vertices),
             bounds: polygon.bounds(),
             half_planes,
         }),

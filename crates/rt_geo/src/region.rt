@@ -6,16 +6,16 @@ use crate::shapes::{All, Circle, Covers, Inside, Window};
 
 /// A shape that is chosen while the program runs.
 #[derive(Debug, PartialEq, Eq, Drop)]
-pub enum Region<'a> {
+pub enum Region {
     All(All),
     Window(Window),
     Inside(Inside),
     Covers(Covers),
     Circle(Circle),
-    Polygon(Polygon<'a>),
+    Polygon(Polygon),
 }
 
-impl<'a> Shape for Region<'a> {
+impl Shape for Region {
     ghost use Rattle.rt_geo.specs.Regions.{region_accepts, region_state};
 
     ghost accepts = { region_accepts };

@@ -44,6 +44,19 @@ impl Circle {
     }
 }
 
+/// A borrowed shape is asked as the shape.
+impl<S: Shape> Shape for &S {
+    ghost accepts = { λ s. S.accepts s.now };
+
+    ghost state = { λ s. S.state s.now };
+
+    fn within(&self, info: &Info) -> Within {
+        (**self).within(info)
+    }
+
+    ghost faithful = { λ s. S.faithful s.now };
+}
+
 impl Shape for All {
     ghost accepts = { λ s. region_accepts (region.All s) };
 

@@ -275,7 +275,7 @@ fn orders_answer_as_their_parts(rt: HostRuntime) {
 }
 
 // A geometry whose verdict on the square is PARTLY, with a score of 100.
-fn guided(rt: &impl Abort) -> Guided<Region<'static>, Order> {
+fn guided(rt: &impl Abort) -> Guided<Region, Order> {
     Guided {
         shape: Region::Window(Window(boxed(rt, [10, 20, 10, 20]))),
         rank: Order::Smallest(Smallest),

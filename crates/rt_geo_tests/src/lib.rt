@@ -13,4 +13,6 @@ mod layers;
 #[cfg(test)]
 mod polygons;
 #[cfg(test)]
+mod surface;
+#[cfg(test)]
 mod watched;

@@ -9,12 +9,12 @@ fn at(x: i32, y: i32) -> Point {
     Point { x, y }
 }
 
-fn polygon<'a>(rt: &impl Abort, points: &'a mut [Point]) -> Polygon<'a> {
+fn polygon(rt: &impl Abort, points: &[Point]) -> Polygon {
     Polygon::new(points).expect(rt, "the points are those of a convex polygon")
 }
 
 /// Why the points are those of no polygon, if they are none.
-fn fault_of(points: &mut [Point]) -> Option<PolygonFault> {
+fn fault_of(points: &[Point]) -> Option<PolygonFault> {
     Polygon::new(points).err()
 }
 
@@ -45,46 +45,42 @@ fn parabola() -> [Point; 17] {
     ]
 }
 
-fn prepared_polygon<'a>(rt: &impl Abort, polygon: &Polygon<'a>) -> PreparedPolygon<'a> {
+fn prepared_polygon(rt: &impl Abort, polygon: &Polygon) -> PreparedPolygon {
     polygon.prepare().expect(rt, "the edges are short")
 }
 
 #[test]
 fn a_polygon_has_3_to_16_vertices(rt: HostRuntime) {
-    expect_eq(&rt, fault_of(&mut parabola()), Some(PolygonFault::Count));
+    expect_eq(&rt, fault_of(&parabola()), Some(PolygonFault::Count));
     expect_eq(
         &rt,
-        fault_of(&mut [at(0, 0), at(1, 1)]),
+        fault_of(&[at(0, 0), at(1, 1)]),
         Some(PolygonFault::Count),
     );
-    expect_eq(&rt, fault_of(&mut []), Some(PolygonFault::Count));
-    expect_eq(&rt, fault_of(&mut triangle()), None);
+    expect_eq(&rt, fault_of(&[]), Some(PolygonFault::Count));
+    expect_eq(&rt, fault_of(&triangle()), None);
 }
 
 #[test]
 fn a_polygon_of_16_vertices_answers(rt: HostRuntime) {
-    let mut points = parabola();
-    let widest = polygon(&rt, &mut points[..16]);
+    let points = parabola();
+    let widest = polygon(&rt, &points[..16]);
     expect_state(&rt, &widest, [15, 15, 225, 225], 0, Within::Fully);
     expect_state(&rt, &widest, [0, 0, 1, 1], 0, Within::Not);
 }
 
 #[test]
 fn a_polygon_is_strictly_convex(rt: HostRuntime) {
-    let mut in_line = [at(0, 0), at(5, 5), at(10, 10)];
-    expect_eq(&rt, fault_of(&mut in_line), Some(PolygonFault::NotConvex));
+    let in_line = [at(0, 0), at(5, 5), at(10, 10)];
+    expect_eq(&rt, fault_of(&in_line), Some(PolygonFault::NotConvex));
 
-    let mut flat_corner = [at(0, 0), at(5, 0), at(10, 0), at(0, 10)];
-    expect_eq(
-        &rt,
-        fault_of(&mut flat_corner),
-        Some(PolygonFault::NotConvex),
-    );
+    let flat_corner = [at(0, 0), at(5, 0), at(10, 0), at(0, 10)];
+    expect_eq(&rt, fault_of(&flat_corner), Some(PolygonFault::NotConvex));
 
-    let mut star = [at(0, 3), at(2, -3), at(-3, 1), at(3, 1), at(-2, -3)];
-    expect_eq(&rt, fault_of(&mut star), Some(PolygonFault::NotConvex));
+    let star = [at(0, 3), at(2, -3), at(-3, 1), at(3, 1), at(-2, -3)];
+    expect_eq(&rt, fault_of(&star), Some(PolygonFault::NotConvex));
 
-    let mut twice = [
+    let twice = [
         at(0, 0),
         at(30, 0),
         at(0, 30),
@@ -92,15 +88,15 @@ fn a_polygon_is_strictly_convex(rt: HostRuntime) {
         at(30, 0),
         at(0, 30),
     ];
-    expect_eq(&rt, fault_of(&mut twice), Some(PolygonFault::NotConvex));
+    expect_eq(&rt, fault_of(&twice), Some(PolygonFault::NotConvex));
 }
 
 #[test]
 fn a_clockwise_list_is_taken_reversed(rt: HostRuntime) {
-    let mut square = [at(0, 0), at(10, 0), at(10, 10), at(0, 10)];
-    let mut reverse = [at(0, 10), at(10, 10), at(10, 0), at(0, 0)];
-    assert!(rt; Polygon::new(&mut square).is_ok());
-    expect_eq(&rt, Polygon::new(&mut reverse), Polygon::new(&mut square));
+    let square = [at(0, 0), at(10, 0), at(10, 10), at(0, 10)];
+    let reverse = [at(0, 10), at(10, 10), at(10, 0), at(0, 0)];
+    assert!(rt; Polygon::new(&square).is_ok());
+    expect_eq(&rt, Polygon::new(&reverse), Polygon::new(&square));
 }
 
 // Boxes of entries, and the state that the triangle answers for each.
@@ -114,9 +110,9 @@ static ENTRIES: [(Sides, Within); 5] = [
 
 #[test]
 fn a_triangle_tells_five_boxes(rt: HostRuntime) {
-    let mut clockwise = [at(0, 0), at(0, 30), at(30, 0)];
-    expect_states(&rt, &polygon(&rt, &mut triangle()), 0, &ENTRIES);
-    expect_states(&rt, &polygon(&rt, &mut clockwise), 0, &ENTRIES);
+    let clockwise = [at(0, 0), at(0, 30), at(30, 0)];
+    expect_states(&rt, &polygon(&rt, &triangle()), 0, &ENTRIES);
+    expect_states(&rt, &polygon(&rt, &clockwise), 0, &ENTRIES);
 }
 
 // The same of nodes, for which an edge decides.
@@ -130,8 +126,7 @@ static NODES: [(Sides, Within); 5] = [
 
 #[test]
 fn an_edge_decides_where_the_bounding_box_does_not(rt: HostRuntime) {
-    let mut triangle = triangle();
-    expect_states(&rt, &polygon(&rt, &mut triangle), 1, &NODES);
+    expect_states(&rt, &polygon(&rt, &triangle()), 1, &NODES);
 }
 
 const LOW: i32 = i32::MIN;
@@ -150,22 +145,20 @@ static OF_HALF: [(Sides, Within); 6] = [
 
 #[test]
 fn a_polygon_reaches_the_ends_of_the_plane(rt: HostRuntime) {
-    let mut half = [at(LOW, LOW), at(HIGH, LOW), at(HIGH, HIGH)];
-    expect_states(&rt, &polygon(&rt, &mut half), 0, &OF_HALF);
+    let half = [at(LOW, LOW), at(HIGH, LOW), at(HIGH, HIGH)];
+    expect_states(&rt, &polygon(&rt, &half), 0, &OF_HALF);
 }
 
 #[test]
 fn a_region_may_be_a_polygon(rt: HostRuntime) {
-    let mut triangle = triangle();
-    let region = Region::Polygon(polygon(&rt, &mut triangle));
+    let region = Region::Polygon(polygon(&rt, &triangle()));
     expect_state(&rt, &region, [5, 15, 5, 15], 0, Within::Fully);
     expect_state(&rt, &region, [25, 25, 30, 30], 0, Within::Not);
 }
 
 #[test]
 fn a_prepared_polygon_tells_what_the_polygon_tells(rt: HostRuntime) {
-    let mut triangle = triangle();
-    let triangle = polygon(&rt, &mut triangle);
+    let triangle = polygon(&rt, &triangle());
     let prepared = prepared_polygon(&rt, &triangle);
     expect_states(&rt, &prepared, 1, &ENTRIES);
     expect_states(&rt, &prepared, 1, &NODES);
@@ -183,16 +176,16 @@ static OF_CORNER: [(Sides, Within); 6] = [
 
 #[test]
 fn a_prepared_polygon_reaches_the_end_of_the_plane(rt: HostRuntime) {
-    let mut corner = [at(LOW, LOW), at(-1, LOW), at(-1, -1)];
-    let corner = polygon(&rt, &mut corner);
+    let corner = [at(LOW, LOW), at(-1, LOW), at(-1, -1)];
+    let corner = polygon(&rt, &corner);
     expect_states(&rt, &prepared_polygon(&rt, &corner), 1, &OF_CORNER);
 }
 
 #[test]
 fn a_polygon_with_a_long_edge_cannot_be_prepared(rt: HostRuntime) {
-    let mut longest = [at(0, 0), at(i32::MAX, 0), at(0, 1)];
-    assert!(rt; polygon(&rt, &mut longest).prepare().is_some());
+    let longest = [at(0, 0), at(i32::MAX, 0), at(0, 1)];
+    assert!(rt; polygon(&rt, &longest).prepare().is_some());
 
-    let mut too_long = [at(-1, 0), at(i32::MAX, 0), at(0, 1)];
-    assert!(rt; polygon(&rt, &mut too_long).prepare().is_none());
+    let too_long = [at(-1, 0), at(i32::MAX, 0), at(0, 1)];
+    assert!(rt; polygon(&rt, &too_long).prepare().is_none());
 }

@@ -1,7 +1,6 @@
 mod DigitLemmas
 mod LayerLemmas
 mod LeadingLemmas
-pub mod LineStarts
 mod NumberLemmas
 mod PointLemmas
 mod QueryRows

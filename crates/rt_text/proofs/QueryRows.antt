@@ -1,47 +1,35 @@
 -- Worked rows of query lines: the definitions compute what a line asks, or its first fault.
-use Rattle.std.proofs.Common.{◌≡◌, ◌++◌, ℕ, pos, negsuc, [], Option, None, Some, codes, refl, replicate}
+use Rattle.std.proofs.Common.{◌≡◌, ◌++◌, pos, negsuc, [], None, Some, codes, refl, replicate}
 use Rattle.std.specs.Fmt.{digits}
 use Rattle.rt_geo.specs.Boxes.{rect_of}
 use Rattle.rt_geo.specs.Layers.{all_layers, only}
-use Rattle.rt_geo.specs.Orders.{by_id, near}
-use Rattle.rt_geo.specs.declared.layers.Layers.{Layers}
-use Rattle.rt_geo.specs.declared.order.Order.{Order}
+use Rattle.rt_geo.specs.Orders.{near}
 use Rattle.rt_geo.specs.declared.order.Order.TheVariants.{ById, Smallest}
-use Rattle.rt_geo.specs.declared.region.Region.{Region}
 use Rattle.rt_geo.specs.declared.region.Region.TheVariants.{All, Circle, Inside, Window}
 use Rattle.rt_text.specs.Queries.{query_of}
 use Rattle.rt_text.specs.ReplyLines.{answer_line, error_line, level_line, ok_line}
-use Rattle.rt_text.specs.declared.query.BoxQuery.{BoxQuery}
 use Rattle.rt_text.specs.declared.query.Parsed.TheVariants.{Fault, Query, Skip}
-use Rattle.rt_text.specs.declared.query.Query.TheVariants.{Boxes, Cost, Levels}
+use Rattle.rt_text.specs.declared.query.Query.TheVariants.{CostCount, CostFind, Count, Find, Levels}
 use Rattle.rt_text.specs.declared.query.QueryFault.TheVariants as fault
-use Rattle.rt_text.specs.declared.query.Report.TheVariants.{Answers, Count}
-
--- what a find asks, and a count
-abbrev asked : Region → Order → Option ℕ → Layers → BoxQuery
-asked region order limit layers = record { region = region; layers = layers; order = order; report = Answers limit }
-
-abbrev counted : Region → Layers → BoxQuery
-counted region layers = record { region = region; layers = layers; order = by_id; report = Count }
 
 -- ---- queries
 
-row_window : query_of (codes "find window 0 10 -5 +10") ≡ Query (Boxes (asked (Window (record { 0 = rect_of (pos 0) (pos 10) (negsuc 4) (pos 10) })) (ById (record {})) None all_layers))
+row_window : query_of (codes "find window 0 10 -5 +10") ≡ Query (Find (Window (record { 0 = rect_of (pos 0) (pos 10) (negsuc 4) (pos 10) })) (ById (record {})) None all_layers)
 row_window = refl
 
-row_smallest : query_of (codes "find all smallest first 3") ≡ Query (Boxes (asked (All (record {})) (Smallest (record {})) (Some 3) all_layers))
+row_smallest : query_of (codes "find all smallest first 3") ≡ Query (Find (All (record {})) (Smallest (record {})) (Some 3) all_layers)
 row_smallest = refl
 
-row_circle : query_of (codes "find circle 1 2 3") ≡ Query (Boxes (asked (Circle (record { centre = record { x = pos 1; y = pos 2 }; radius = 3 })) (near (record { x = pos 1; y = pos 2 })) None all_layers))
+row_circle : query_of (codes "find circle 1 2 3") ≡ Query (Find (Circle (record { centre = record { x = pos 1; y = pos 2 }; radius = 3 })) (near (record { x = pos 1; y = pos 2 })) None all_layers)
 row_circle = refl
 
-row_circle_near : query_of (codes "find circle 1 2 3 near 4 5") ≡ Query (Boxes (asked (Circle (record { centre = record { x = pos 1; y = pos 2 }; radius = 3 })) (near (record { x = pos 4; y = pos 5 })) None all_layers))
+row_circle_near : query_of (codes "find circle 1 2 3 near 4 5") ≡ Query (Find (Circle (record { centre = record { x = pos 1; y = pos 2 }; radius = 3 })) (near (record { x = pos 4; y = pos 5 })) None all_layers)
 row_circle_near = refl
 
-row_nearest : query_of (codes "nearest 2 10 -5") ≡ Query (Boxes (asked (All (record {})) (near (record { x = pos 10; y = negsuc 4 })) (Some 2) all_layers))
+row_nearest : query_of (codes "nearest 2 10 -5") ≡ Query (Find (All (record {})) (near (record { x = pos 10; y = negsuc 4 })) (Some 2) all_layers)
 row_nearest = refl
 
-row_count : query_of (codes "count inside 0 15 0 15") ≡ Query (Boxes (counted (Inside (record { 0 = rect_of (pos 0) (pos 15) (pos 0) (pos 15) })) all_layers))
+row_count : query_of (codes "count inside 0 15 0 15") ≡ Query (Count (Inside (record { 0 = rect_of (pos 0) (pos 15) (pos 0) (pos 15) })) all_layers)
 row_count = refl
 
 row_levels : query_of (codes "\tlevels  \r") ≡ Query Levels
@@ -55,37 +43,37 @@ row_comment = refl
 
 -- ---- layers
 
-row_on : query_of (codes "find all on 3") ≡ Query (Boxes (asked (All (record {})) (ById (record {})) None (only 3)))
+row_on : query_of (codes "find all on 3") ≡ Query (Find (All (record {})) (ById (record {})) None (only 3))
 row_on = refl
 
-row_on_two : query_of (codes "find all on 0,3") ≡ Query (Boxes (asked (All (record {})) (ById (record {})) None (record { bits = 9 })))
+row_on_two : query_of (codes "find all on 0,3") ≡ Query (Find (All (record {})) (ById (record {})) None (record { bits = 9 }))
 row_on_two = refl
 
-row_on_last : query_of (codes "find all on +63,0063") ≡ Query (Boxes (asked (All (record {})) (ById (record {})) None (only 63)))
+row_on_last : query_of (codes "find all on +63,0063") ≡ Query (Find (All (record {})) (ById (record {})) None (only 63))
 row_on_last = refl
 
-row_count_on : query_of (codes "count all on 0,0") ≡ Query (Boxes (counted (All (record {})) (only 0)))
+row_count_on : query_of (codes "count all on 0,0") ≡ Query (Count (All (record {})) (only 0))
 row_count_on = refl
 
 -- a circle's usual order is near its centre on layers too
-row_circle_on : query_of (codes "find circle 1 2 3 on 3") ≡ Query (Boxes (asked (Circle (record { centre = record { x = pos 1; y = pos 2 }; radius = 3 })) (near (record { x = pos 1; y = pos 2 })) None (only 3)))
+row_circle_on : query_of (codes "find circle 1 2 3 on 3") ≡ Query (Find (Circle (record { centre = record { x = pos 1; y = pos 2 }; radius = 3 })) (near (record { x = pos 1; y = pos 2 })) None (only 3))
 row_circle_on = refl
 
-row_circle_on_near : query_of (codes "find circle 0 0 2 on 3 near 4 5 first 1") ≡ Query (Boxes (asked (Circle (record { centre = record { x = pos 0; y = pos 0 }; radius = 2 })) (near (record { x = pos 4; y = pos 5 })) (Some 1) (only 3)))
+row_circle_on_near : query_of (codes "find circle 0 0 2 on 3 near 4 5 first 1") ≡ Query (Find (Circle (record { centre = record { x = pos 0; y = pos 0 }; radius = 2 })) (near (record { x = pos 4; y = pos 5 })) (Some 1) (only 3))
 row_circle_on_near = refl
 
 -- ---- costs
 
-row_cost_find : query_of (codes "cost find all on 1 first 3") ≡ Query (Cost (asked (All (record {})) (ById (record {})) (Some 3) (only 1)))
+row_cost_find : query_of (codes "cost find all on 1 first 3") ≡ Query (CostFind (All (record {})) (ById (record {})) (Some 3) (only 1))
 row_cost_find = refl
 
-row_cost_circle : query_of (codes "cost find circle 1 2 3") ≡ Query (Cost (asked (Circle (record { centre = record { x = pos 1; y = pos 2 }; radius = 3 })) (near (record { x = pos 1; y = pos 2 })) None all_layers))
+row_cost_circle : query_of (codes "cost find circle 1 2 3") ≡ Query (CostFind (Circle (record { centre = record { x = pos 1; y = pos 2 }; radius = 3 })) (near (record { x = pos 1; y = pos 2 })) None all_layers)
 row_cost_circle = refl
 
-row_cost_nearest : query_of (codes "cost nearest 2 10 -5") ≡ Query (Cost (asked (All (record {})) (near (record { x = pos 10; y = negsuc 4 })) (Some 2) all_layers))
+row_cost_nearest : query_of (codes "cost nearest 2 10 -5") ≡ Query (CostFind (All (record {})) (near (record { x = pos 10; y = negsuc 4 })) (Some 2) all_layers)
 row_cost_nearest = refl
 
-row_cost_count : query_of (codes "\tcost  count window 0 10 0 10 on 1 \r") ≡ Query (Cost (counted (Window (record { 0 = rect_of (pos 0) (pos 10) (pos 0) (pos 10) })) (only 1)))
+row_cost_count : query_of (codes "\tcost  count window 0 10 0 10 on 1 \r") ≡ Query (CostCount (Window (record { 0 = rect_of (pos 0) (pos 10) (pos 0) (pos 10) })) (only 1))
 row_cost_count = refl
 
 -- ---- faults, from left to right
@@ -203,16 +191,16 @@ row_cost_count_limit = refl
 row_cost_last : query_of (codes "find all cost") ≡ Fault fault.StrayWord
 row_cost_last = refl
 
--- ---- the longest line, and one byte more
+-- ---- a line of any length
 
-row_longest : query_of (codes "levels" ++ replicate 4090 32) ≡ Query Levels
-row_longest = refl
+row_long : query_of (codes "levels" ++ replicate 4994 32) ≡ Query Levels
+row_long = refl
 
-row_too_long : query_of (codes "levels" ++ replicate 4091 32) ≡ Fault fault.LineTooLong
-row_too_long = refl
+row_long_comment : query_of (codes "#" ++ replicate 4999 32) ≡ Skip
+row_long_comment = refl
 
-row_comment_too_long : query_of (codes "#" ++ replicate 4096 32) ≡ Fault fault.LineTooLong
-row_comment_too_long = refl
+row_long_stray : query_of (codes "levels" ++ replicate 4993 32 ++ codes "x") ≡ Fault fault.StrayWord
+row_long_stray = refl
 
 -- ---- the lines of a reply
 

@@ -1,5 +1,5 @@
 -- What a query line asks: a recursion on its words from left to right, whose first fault is the line's.
-use Rattle.std.specs.Prelude.{drop, false, ◌≡◌, ℕ, zero, suc, ◌-◌, ◌^◌, ◌==◌, nat_eq, ℤ, pos, int_lt, unsigned_abs, nat_lt, Bool, ◌||◌, if◌then◌else◌, List, [], ◌∷◌, length, Option, Some, None, Result, Ok, Err, codes}
+use Rattle.std.specs.Prelude.{drop, false, ◌≡◌, ℕ, zero, suc, ◌-◌, ◌^◌, ◌==◌, nat_eq, ℤ, pos, int_lt, unsigned_abs, Bool, ◌||◌, if◌then◌else◌, List, [], ◌∷◌, Option, Some, None, Result, Ok, Err, codes}
 use Rattle.std.specs.List.{slice_split, starts_with}
 use Rattle.std.specs.Str.{bytes_eq}
 use Rattle.std.specs.Str.Lines.{strip_carriage_return}
@@ -19,14 +19,12 @@ use Rattle.rt_geo.specs.declared.shapes.Circle.{Circle as Disc}
 use Rattle.rt_text.specs.Numbers.{fault_as, number_in}
 use Rattle.rt_text.specs.Steps.{◌>>=◌, map_fault, map_value}
 use Rattle.rt_text.specs.Words.{words}
-use Rattle.rt_text.specs.declared.query.BoxQuery.{BoxQuery}
 use Rattle.rt_text.specs.declared.query.Parsed.{Parsed}
 use Rattle.rt_text.specs.declared.query.Parsed.TheVariants as parsed
 use Rattle.rt_text.specs.declared.query.Query.{Query}
-use Rattle.rt_text.specs.declared.query.Query.TheVariants.{Boxes, Cost, Levels}
+use Rattle.rt_text.specs.declared.query.Query.TheVariants.{CostCount, CostFind, Count, Find, Levels}
 use Rattle.rt_text.specs.declared.query.QueryFault.{QueryFault}
 use Rattle.rt_text.specs.declared.query.QueryFault.TheVariants as fault
-use Rattle.rt_text.specs.declared.query.Report.TheVariants.{Answers, Count}
 
 -- what was read, and the words that are left after it
 abbrev pub Taken : Type 0 → Type 0
@@ -167,33 +165,33 @@ finished [] = Ok (record {})
 finished (word ∷ more) = Err fault.StrayWord
 
 -- the words after `find`: a region, its layers, an order, a limit
-abbrev pub find : List (List ℕ) → Result BoxQuery QueryFault
+abbrev pub find : List (List ℕ) → Result Query QueryFault
 find words = do
   found ← region words
   on ← on_list found.1
   ordered ← order found.0 on.1
   limited ← limit ordered.1
   end ← finished limited.1
-  Ok (record { region = found.0; layers = on.0; order = ordered.0; report = Answers limited.0 })
+  Ok (Find found.0 ordered.0 limited.0 on.0)
 
 -- the words after `nearest`: K X Y, K of 64 bits, which is `find all near X Y first K`
-abbrev pub nearest : List (List ℕ) → Result BoxQuery QueryFault
+abbrev pub nearest : List (List ℕ) → Result Query QueryFault
 nearest words = do
   limited ← word_as (natural (2 ^ 64 - 1)) words
   centre ← point limited.1
   end ← finished centre.1
-  Ok (record { region = All (record {}); layers = all_layers; order = near centre.0; report = Answers (Some limited.0) })
+  Ok (Find (All (record {})) (near centre.0) (Some limited.0) all_layers)
 
 -- the words after `count`: a region, its layers
-abbrev pub count : List (List ℕ) → Result BoxQuery QueryFault
+abbrev pub count : List (List ℕ) → Result Query QueryFault
 count words = do
   found ← region words
   on ← on_list found.1
   end ← finished on.1
-  Ok (record { region = found.0; layers = on.0; order = by_id; report = Count })
+  Ok (Count found.0 on.0)
 
 -- a query for boxes, by its first word
-abbrev pub box_query : List (List ℕ) → Result BoxQuery QueryFault
+abbrev pub box_query : List (List ℕ) → Result Query QueryFault
 box_query [] = Err fault.MissingWord
 box_query (verb ∷ more) =
     if bytes_eq verb (codes "find") then find more
@@ -201,12 +199,18 @@ box_query (verb ∷ more) =
     else if bytes_eq verb (codes "count") then count more
     else Err fault.UnknownVerb
 
+-- the cost of a query for boxes is asked
+abbrev pub cost_of : Query → Query
+cost_of (Find region order limit layers) = CostFind region order limit layers
+cost_of (Count region layers) = CostCount region layers
+cost_of other = other
+
 -- a query by its first word; after `cost` stands one for boxes, whose cost is asked and whose faults stay
 abbrev pub query : (verb : List ℕ) → (more : List (List ℕ)) → Result Query QueryFault
 query verb more =
     if bytes_eq verb (codes "levels") then map_value (λ end. Levels) (finished more)
-    else if bytes_eq verb (codes "cost") then map_value Cost (box_query more)
-    else map_value Boxes (box_query (verb ∷ more))
+    else if bytes_eq verb (codes "cost") then map_value cost_of (box_query more)
+    else box_query (verb ∷ more)
 
 -- ---- lines
 
@@ -220,14 +224,9 @@ abbrev pub parsed_words : List (List ℕ) → Parsed
 parsed_words [] = parsed.Skip
 parsed_words (verb ∷ more) = if starts_with nat_eq verb (codes "#") then parsed.Skip else parsed_of (query verb more)
 
--- a line of more bytes is too long
-abbrev pub longest_line : ℕ
-longest_line = 4096
-
--- what a line asks, unless it is too long; one carriage return at its end is dropped
+-- what a line of any length asks; one carriage return at its end is dropped
 abbrev pub query_of : List ℕ → Parsed
-query_of line =
-    if nat_lt longest_line (length line) then parsed.Fault fault.LineTooLong else parsed_words (words (strip_carriage_return line))
+query_of line = parsed_words (words (strip_carriage_return line))
 
 -- a parser's result, and the words that it left, as a definition wants them
 abbrev pub Takes : {X : Type 0} → Result (Taken X) QueryFault → Result X QueryFault → List (List ℕ) → Type 0

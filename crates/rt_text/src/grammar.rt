@@ -5,14 +5,16 @@
 
 ghost use Rattle.std.specs.Prelude.{◌≡◌, ◌≤◌, ◌≤ℤ◌, ◌∷◌, [], ℕ, IfErr, IfOk, List, MatchOption, Some, Ok, Err};
 ghost use Rattle.std.specs.Str.Lines.{strip_carriage_return};
-ghost use Rattle.rt_text.specs.{Numbers.{number_text}, Queries.{Takes, box_query, circle, coordinate, count, find, finished}};
-ghost use Rattle.rt_text.specs.Queries.{layers_of, limit, natural, nearest, number, on_list, order, point, points, polygon};
-ghost use Rattle.rt_text.specs.Queries.{query, query_of, region, sides, usual_order, vertex_count, word_as};
+ghost use Rattle.rt_text.specs.{Numbers.{number_text}, Queries.{Takes, box_query, circle, coordinate, cost_of, count, find}};
+ghost use Rattle.rt_text.specs.Queries.{finished, layers_of, limit, natural, nearest, number, on_list, order, point, points};
+ghost use Rattle.rt_text.specs.Queries.{polygon, query, query_of, region, sides, usual_order, vertex_count, word_as};
+ghost use Rattle.rt_text.specs.Steps.{map_value};
 ghost use Rattle.rt_geo.specs.Layers.{most_layer};
 
 use crate::numbers::{self, NumberFault};
-use crate::query::{BoxQuery, Parsed, Query, QueryFault, Report, Vertices};
+use crate::query::{Parsed, Query, QueryFault};
 use crate::words::Words;
+use arrayvec::ArrayVec;
 use rt_geo::{
     All, Bounds, ById, Circle, Covers, FEWEST_VERTICES, Inside, Layers, MOST_VERTICES, Near, Order,
     Point, Polygon, PolygonFault, Region, Smallest, Window,
@@ -21,17 +23,10 @@ use rt_geo::{
 /// A part of a query, or what is wrong with it.
 type Judged<T> = Result<T, QueryFault>;
 
-/// The most bytes of a query line, a carriage return included and the line feed not.
-pub const LONGEST_LINE: usize = 4096;
-
-/// What a line asks, without its line feed. One carriage return at its end is dropped. It takes no memory: the vertices of
-/// a polygon stand in `vertices`, whatever stood there.
-pub fn parse<'a>(line: &[u8], vertices: &'a mut Vertices) -> Parsed<'a>
+/// What a line of any length asks, without its line feed. One carriage return at its end is dropped. It takes no memory.
+pub fn parse(line: &[u8]) -> Parsed
     ensures { result ≡ query_of line.now }
 {
-    if line.len() > LONGEST_LINE {
-        return Parsed::Fault(QueryFault::LineTooLong);
-    }
     let line = match line {
         [rest @ .., b'\r'] => rest,
         _ => line,
@@ -41,7 +36,7 @@ pub fn parse<'a>(line: &[u8], vertices: &'a mut Vertices) -> Parsed<'a>
         Some(verb) if !verb.starts_with(b"#") => verb,
         _ => return Parsed::Skip,
     };
-    match query(verb, &mut words, vertices) {
+    match query(verb, &mut words) {
         Ok(query) => Parsed::Query(query),
         Err(fault) => Parsed::Fault(fault),
     }
@@ -50,88 +45,104 @@ pub fn parse<'a>(line: &[u8], vertices: &'a mut Vertices) -> Parsed<'a>
 // ---- queries
 
 #[inline(always)]
-fn query<'a>(verb: &[u8], words: &mut Words, vertices: &'a mut Vertices) -> Judged<Query<'a>>
+fn query(verb: &[u8], words: &mut Words) -> Judged<Query>
     ensures { result ≡ query verb.now words.old }
 {
     if verb == b"levels".as_slice() {
         finished(words)?;
         Ok(Query::Levels)
     } else if verb == b"cost".as_slice() {
-        Ok(Query::Cost(costed(words, vertices)?))
+        costed(words)
     } else {
-        Ok(Query::Boxes(box_query(verb, words, vertices)?))
+        box_query(verb, words)
     }
 }
 
 // Kept out of line: only lines with `cost` have need of it.
 #[inline(never)]
-fn costed<'a>(words: &mut Words, vertices: &'a mut Vertices) -> Judged<BoxQuery<'a>>
-    ensures { result ≡ box_query words.old }
+fn costed(words: &mut Words) -> Judged<Query>
+    ensures { result ≡ map_value cost_of (box_query words.old) }
 {
     let verb = next_word(words)?;
-    box_query(verb, words, vertices)
+    Ok(cost_of(box_query(verb, words)?))
+}
+
+// The cost of a find or a count.
+fn cost_of(query: Query) -> Query
+    ensures { result ≡ cost_of query }
+{
+    match query {
+        Query::Find {
+            region,
+            order,
+            limit,
+            layers,
+        } => Query::CostFind {
+            region,
+            order,
+            limit,
+            layers,
+        },
+        Query::Count { region, layers } => Query::CostCount { region, layers },
+        other => other,
+    }
 }
 
 #[inline(always)]
-fn box_query<'a>(verb: &[u8], words: &mut Words, vertices: &'a mut Vertices) -> Judged<BoxQuery<'a>>
+fn box_query(verb: &[u8], words: &mut Words) -> Judged<Query>
     ensures { result ≡ box_query (verb.now ∷ words.old) }
 {
     if verb == b"find".as_slice() {
-        find(words, vertices)
+        find(words)
     } else if verb == b"nearest".as_slice() {
         nearest(words)
     } else if verb == b"count".as_slice() {
-        count(words, vertices)
+        count(words)
     } else {
         Err(QueryFault::UnknownVerb)
     }
 }
 
 #[inline(always)]
-fn find<'a>(words: &mut Words, vertices: &'a mut Vertices) -> Judged<BoxQuery<'a>>
+fn find(words: &mut Words) -> Judged<Query>
     ensures { result ≡ find words.old }
 {
-    let region = region(words, vertices)?;
+    let region = region(words)?;
     let layers = on_list(words)?;
     let order = order(&region, words)?;
     let limit = limit(words)?;
     finished(words)?;
-    Ok(BoxQuery {
+    Ok(Query::Find {
         region,
-        layers,
         order,
-        report: Report::Answers { limit },
+        limit,
+        layers,
     })
 }
 
 #[inline(always)]
-fn nearest<'a>(words: &mut Words) -> Judged<BoxQuery<'a>>
+fn nearest(words: &mut Words) -> Judged<Query>
     ensures { result ≡ nearest words.old }
 {
     let limit = natural_word(words, u64::MAX)?;
     let centre = point(words)?;
     finished(words)?;
-    Ok(BoxQuery {
+    Ok(Query::Find {
         region: Region::All(All),
-        layers: Layers::all(),
         order: Order::Near(Near(centre)),
-        report: Report::Answers { limit: Some(limit) },
+        limit: Some(limit),
+        layers: Layers::all(),
     })
 }
 
 #[inline(always)]
-fn count<'a>(words: &mut Words, vertices: &'a mut Vertices) -> Judged<BoxQuery<'a>>
+fn count(words: &mut Words) -> Judged<Query>
     ensures { result ≡ count words.old }
 {
-    let region = region(words, vertices)?;
+    let region = region(words)?;
     let layers = on_list(words)?;
     finished(words)?;
-    Ok(BoxQuery {
-        region,
-        layers,
-        order: Order::ById(ById),
-        report: Report::Count,
-    })
+    Ok(Query::Count { region, layers })
 }
 
 // Whether no word is left.
@@ -208,7 +219,7 @@ fn limit(words: &mut Words) -> Judged<Option<u64>>
 // ---- regions
 
 #[inline(always)]
-fn region<'a>(words: &mut Words, vertices: &'a mut Vertices) -> Judged<Region<'a>>
+fn region(words: &mut Words) -> Judged<Region>
     ensures { Takes (region words.old) result words.new }
 {
     let name = next_word(words)?;
@@ -223,7 +234,7 @@ fn region<'a>(words: &mut Words, vertices: &'a mut Vertices) -> Judged<Region<'a
     } else if name == b"circle".as_slice() {
         Ok(Region::Circle(circle(words)?))
     } else if name == b"polygon".as_slice() {
-        Ok(Region::Polygon(polygon(words, vertices)?))
+        Ok(Region::Polygon(polygon(words)?))
     } else {
         Err(QueryFault::UnknownRegion)
     }
@@ -251,12 +262,13 @@ fn circle(words: &mut Words) -> Judged<Circle>
 }
 
 #[inline(always)]
-fn polygon<'a>(words: &mut Words, vertices: &'a mut Vertices) -> Judged<Polygon<'a>>
+fn polygon(words: &mut Words) -> Judged<Polygon>
     ensures { Takes (polygon words.old) result words.new }
 {
     let count = vertex_count(words)?;
-    points(count, words, vertices)?;
-    match Polygon::new(vertices.as_mut_slice()) {
+    let mut vertices = ArrayVec::new();
+    points(count, words, &mut vertices)?;
+    match Polygon::new(&vertices) {
         Ok(polygon) => Ok(polygon),
         Err(PolygonFault::Count) => Err(QueryFault::VertexCount),
         Err(PolygonFault::NotConvex) => Err(QueryFault::NotConvex),
@@ -274,14 +286,14 @@ fn vertex_count(words: &mut Words) -> Judged<usize>
 
 // So many points, one after the other.
 #[inline(always)]
-fn points(count: usize, words: &mut Words, vertices: &mut Vertices) -> Judged<()>
-    requires { count ≤ MOST_VERTICES }
-    ensures ok { IfOk result (λ _. points count words.old ≡ Ok (vertices.new.items, words.new)) }
+fn points(count: usize, words: &mut Words, found: &mut ArrayVec<Point, MOST_VERTICES>) -> Judged<()>
+    requires few { count ≤ MOST_VERTICES }
+    requires none { found.old.items ≡ [] }
+    ensures ok { IfOk result (λ _. points count words.old ≡ Ok (found.new.items, words.new)) }
     ensures fault { IfErr result (λ cause. points count words.old ≡ Err cause) }
 {
-    vertices.clear();
     for _vertex in 0..count {
-        vertices.push(point(words)?);
+        found.push(point(words)?);
     }
     Ok(())
 }

@@ -1,44 +1,43 @@
 //! What a query line asks.
 
-use arrayvec::ArrayVec;
-use rt_geo::{Layers, MOST_VERTICES, Order, Point, Region};
+use rt_geo::{Layers, Order, Region};
 
-/// Room for the vertices of a query's polygon, beside the query, so that it is small: it is moved many times.
-pub type Vertices = ArrayVec<Point, MOST_VERTICES>;
-
-/// What is reported of boxes.
-#[derive(Clone, Copy, Debug, PartialEq, Eq)]
-pub enum Report {
-    /// A line for each, in order, of the first so many where there is a limit, and then their number.
-    Answers { limit: Option<u64> },
-    /// Their number.
-    Count,
-}
-
-/// A query for boxes: the report on those on the layers that the region accepts. Their number is the same in any order.
+/// A query. Its answers are the boxes that the region accepts and whose layer is among the layers.
 #[derive(Debug, PartialEq, Eq, Drop)]
-pub struct BoxQuery<'a> {
-    pub region: Region<'a>,
-    pub layers: Layers,
-    pub order: Order,
-    pub report: Report,
-}
-
-/// A query.
-#[derive(Debug, PartialEq, Eq, Drop)]
-pub enum Query<'a> {
-    /// The report on boxes.
-    Boxes(BoxQuery<'a>),
-    /// How many nodes that report opens. Where answers reach their limit, only those up to the last answer count.
-    Cost(BoxQuery<'a>),
+pub enum Query {
+    /// A line for each answer in the order, of the first so many where there is a limit, and then their number.
+    Find {
+        region: Region,
+        order: Order,
+        limit: Option<u64>,
+        layers: Layers,
+    },
+    /// The number of answers.
+    Count {
+        region: Region,
+        layers: Layers,
+    },
     /// How many entries or nodes stand on each level of the tree.
     Levels,
+    /// How many nodes a find opens. Where answers reach their limit, only those up to the last answer count.
+    CostFind {
+        region: Region,
+        order: Order,
+        limit: Option<u64>,
+        layers: Layers,
+    },
+    /// How many nodes a count opens.
+    CostCount {
+        region: Region,
+        layers: Layers,
+    },
 }
 
 /// What is wrong with a query line: the first fault from left to right.
 #[derive(Clone, Copy, Debug, PartialEq, Eq)]
 pub enum QueryFault {
-    /// The line has more than [`LONGEST_LINE`](crate::LONGEST_LINE) bytes, a carriage return at its end included.
+    /// The line has more bytes than are allowed where lines are cut. [`parse`](crate::parse) takes lines of any length, and
+    /// never returns this.
     LineTooLong,
     /// The first word is no query, or the one after `cost` none that has a cost.
     UnknownVerb,
@@ -62,11 +61,11 @@ pub enum QueryFault {
 
 /// What a query line holds.
 #[derive(Debug, PartialEq, Eq, Drop)]
-pub enum Parsed<'a> {
+pub enum Parsed {
     /// No words, or a comment.
     Skip,
     /// A query.
-    Query(Query<'a>),
+    Query(Query),
     /// The first fault.
     Fault(QueryFault),
 }

@@ -9,7 +9,7 @@ use rt_text::QueryFault::{
     MinAboveMax, MissingWord, NotConvex, NotNumber, OutOfRange, StrayWord, UnknownRegion,
     UnknownVerb, VertexCount,
 };
-use rt_text::{BoxQuery, Parsed, Query, QueryFault, Report, Vertices, parse};
+use rt_text::{Parsed, Query, QueryFault, parse};
 use std::process::Abort;
 
 /// Lines that are faulty, each under its first fault from left to right.
@@ -147,9 +147,9 @@ static COST_FAULTS: [(&str, QueryFault); 38] = [
     ("find all cost", StrayWord),
 ];
 
-/// What a line holds, with room of its own for vertices.
-pub(crate) fn expect_parsed(rt: &impl Abort, line: &[u8], want: Parsed<'_>) {
-    expect_eq(rt, parse(line, &mut Vertices::new()), want);
+/// What a line holds.
+fn expect_parsed(rt: &impl Abort, line: &[u8], want: Parsed) {
+    expect_eq(rt, parse(line), want);
 }
 
 fn expect_faults(rt: &impl Abort, rows: &[(&str, QueryFault)]) {
@@ -193,15 +193,18 @@ enum Place {
     Circle(Circle),
 }
 
-/// A line, and what it asks: the region, the order, what is reported, and the bits of the set of layers.
-type Row = (&'static str, Place, Order, Report, u64);
+/// A line, and what it finds: the region, the order, the limit, and the bits of the set of layers.
+type Row = (&'static str, Place, Order, Option<u64>, u64);
+
+/// A line, and what it counts: the region, and the bits of the set of layers.
+type CountRow = (&'static str, Place, u64);
 
 fn boxed(rt: &impl Abort, sides: [i32; 4]) -> Bounds {
     let [min_x, max_x, min_y, max_y] = sides;
     Bounds::new(min_x, max_x, min_y, max_y).expect(rt, "the minimums are at most the maximums")
 }
 
-fn region_of(rt: &impl Abort, place: Place) -> Region<'static> {
+fn region_of(rt: &impl Abort, place: Place) -> Region {
     match place {
         Place::All => Region::All(All),
         Place::Window(sides) => Region::Window(Window(boxed(rt, sides))),
@@ -211,20 +214,25 @@ fn region_of(rt: &impl Abort, place: Place) -> Region<'static> {
     }
 }
 
-fn query_of(rt: &impl Abort, row: &Row) -> BoxQuery<'static> {
-    let (_, place, order, report, bits) = row;
-    BoxQuery {
-        region: region_of(rt, *place),
-        layers: Layers::new(*bits),
-        order: *order,
-        report: *report,
+fn expect_finds(rt: &impl Abort, rows: &[Row]) {
+    for (line, place, order, limit, bits) in rows {
+        let query = Query::Find {
+            region: region_of(rt, *place),
+            order: *order,
+            limit: *limit,
+            layers: Layers::new(*bits),
+        };
+        expect_parsed(rt, line.as_bytes(), Parsed::Query(query));
     }
 }
 
-fn expect_asked(rt: &impl Abort, rows: &[Row]) {
-    for row in rows {
-        let query = Query::Boxes(query_of(rt, row));
-        expect_parsed(rt, row.0.as_bytes(), Parsed::Query(query));
+fn expect_counts(rt: &impl Abort, rows: &[CountRow]) {
+    for (line, place, bits) in rows {
+        let query = Query::Count {
+            region: region_of(rt, *place),
+            layers: Layers::new(*bits),
+        };
+        expect_parsed(rt, line.as_bytes(), Parsed::Query(query));
     }
 }
 
@@ -248,7 +256,7 @@ const NEAR: Order = Order::Near(Near(Point { x: 5, y: -6 }));
 const NEAR_CENTRE: Order = Order::Near(Near(CENTRE));
 
 /// All answers.
-const EACH: Report = Report::Answers { limit: None };
+const EACH: Option<u64> = None;
 
 /// The bits of the set of all layers.
 const EVERY: u64 = u64::MAX;
@@ -297,117 +305,72 @@ static REGIONS: [Row; 6] = [
 
 #[test]
 fn a_polygon(rt: HostRuntime) {
-    let mut triangle = [
+    let triangle = Polygon::new(&[
         Point { x: 0, y: 0 },
         Point { x: 30, y: 0 },
         Point { x: 0, y: 30 },
-    ];
-    let triangle = Polygon::new(&mut triangle);
-    let query = BoxQuery {
-        region: Region::Polygon(triangle.ok().expect(&rt, "it is convex")),
-        layers: Layers::new(EVERY),
+    ]);
+    let query = Query::Find {
+        region: Region::Polygon(triangle.expect(&rt, "it is convex")),
         order: BY_ID,
-        report: EACH,
+        limit: None,
+        layers: Layers::all(),
     };
-    expect_parsed(
-        &rt,
-        b"find polygon 3 0 0 30 0 0 30",
-        Parsed::Query(Query::Boxes(query)),
-    );
-}
-
-static POLYGONS: [&str; 3] = [
-    "find polygon 4 0 0 9 0 9 9 0 9",
-    "find polygon 3 0 0 5 0 0",
-    "find polygon 3 0 0 0 30 30 0",
-];
-
-#[test]
-fn room_for_vertices_is_used_again(rt: HostRuntime) {
-    let mut vertices = Vertices::new();
-    for line in &POLYGONS {
-        expect_parsed(&rt, line.as_bytes(), parse(line.as_bytes(), &mut vertices));
-    }
+    expect_parsed(&rt, b"find polygon 3 0 0 30 0 0 30", Parsed::Query(query));
 }
 
 static ORDERS_AND_LIMITS: [Row; 6] = [
     ("find all near 5 -6", Place::All, NEAR, EACH, EVERY),
     ("find all smallest", Place::All, SMALLEST, EACH, EVERY),
-    (
-        "find all first 0",
-        Place::All,
-        BY_ID,
-        Report::Answers { limit: Some(0) },
-        EVERY,
-    ),
+    ("find all first 0", Place::All, BY_ID, Some(0), EVERY),
     (
         "find all smallest first 18446744073709551615",
         Place::All,
         SMALLEST,
-        Report::Answers {
-            limit: Some(u64::MAX),
-        },
+        Some(u64::MAX),
         EVERY,
     ),
-    (
-        "nearest 7 5 -6",
-        Place::All,
-        NEAR,
-        Report::Answers { limit: Some(7) },
-        EVERY,
-    ),
+    ("nearest 7 5 -6", Place::All, NEAR, Some(7), EVERY),
     (
         "find circle 1 2 3 near 5 -6 first 2",
         Place::Circle(CIRCLE),
         NEAR,
-        Report::Answers { limit: Some(2) },
+        Some(2),
         EVERY,
     ),
 ];
 
-static COUNTS: [Row; 13] = [
-    ("count all", Place::All, BY_ID, Report::Count, EVERY),
-    ("count all on 0", Place::All, BY_ID, Report::Count, 1),
-    ("count all on 3", Place::All, BY_ID, Report::Count, 8),
-    ("count all on 0,3", Place::All, BY_ID, Report::Count, 9),
-    ("count all on 3,0", Place::All, BY_ID, Report::Count, 9),
-    ("count all on 0,0", Place::All, BY_ID, Report::Count, 1),
-    ("count all on 63", Place::All, BY_ID, Report::Count, 1 << 63),
-    (
-        "count all on 63,62,61,0",
-        Place::All,
-        BY_ID,
-        Report::Count,
-        0xe000_0000_0000_0001,
-    ),
-    ("count all on +3", Place::All, BY_ID, Report::Count, 8),
-    ("count all on -0", Place::All, BY_ID, Report::Count, 1),
+static COUNTS: [CountRow; 13] = [
+    ("count all", Place::All, EVERY),
+    ("count all on 0", Place::All, 1),
+    ("count all on 3", Place::All, 8),
+    ("count all on 0,3", Place::All, 9),
+    ("count all on 3,0", Place::All, 9),
+    ("count all on 0,0", Place::All, 1),
+    ("count all on 63", Place::All, 1 << 63),
+    ("count all on 63,62,61,0", Place::All, 0xe000_0000_0000_0001),
+    ("count all on +3", Place::All, 8),
+    ("count all on -0", Place::All, 1),
     (
         "count all on 0063,+001,1",
         Place::All,
-        BY_ID,
-        Report::Count,
         0x8000_0000_0000_0002,
     ),
     (
         "count all on 00000000000000000000000000000000000000000000000000000000000007",
         Place::All,
-        BY_ID,
-        Report::Count,
         128,
     ),
     (
         "count all on 0,1,2,3,4,5,6,7,8,9,10,11,12,13,14,15,16,17,18,19,20,21,22,23,24,25,26,27,28,29,30,31,32,33,34,35,36,37,38,39,40,41,42,43,44,45,46,47,48,49,50,51,52,53,54,55,56,57,58,59,60,61,62,63",
         Place::All,
-        BY_ID,
-        Report::Count,
         EVERY,
     ),
 ];
 
 #[test]
 fn counts_and_levels(rt: HostRuntime) {
-    expect_asked(&rt, &COUNTS);
+    expect_counts(&rt, &COUNTS);
     expect_parsed(&rt, b"levels\r", Parsed::Query(Query::Levels));
 }
 
@@ -418,14 +381,14 @@ static LAYERS: [Row; 5] = [
         "find all \ton  3 first 2\r",
         Place::All,
         BY_ID,
-        Report::Answers { limit: Some(2) },
+        Some(2),
         1 << 3,
     ),
     (
         "find all on 3 smallest first 2",
         Place::All,
         SMALLEST,
-        Report::Answers { limit: Some(2) },
+        Some(2),
         1 << 3,
     ),
     (
@@ -439,36 +402,30 @@ static LAYERS: [Row; 5] = [
         "find circle 1 2 3 on 3 near 5 -6 first 1",
         Place::Circle(CIRCLE),
         NEAR,
-        Report::Answers { limit: Some(1) },
+        Some(1),
         1 << 3,
     ),
 ];
 
 #[test]
 fn finds(rt: HostRuntime) {
-    expect_asked(&rt, &REGIONS);
-    expect_asked(&rt, &ORDERS_AND_LIMITS);
-    expect_asked(&rt, &LAYERS);
+    expect_finds(&rt, &REGIONS);
+    expect_finds(&rt, &ORDERS_AND_LIMITS);
+    expect_finds(&rt, &LAYERS);
 }
 
 // What `cost nearest` is asked near.
 const FAR: Order = Order::Near(Near(Point { x: 12, y: -12 }));
 
-static COSTS: [Row; 12] = [
+static COSTS: [Row; 9] = [
     ("cost find all", Place::All, BY_ID, EACH, EVERY),
     (" cost\t find  all \r", Place::All, BY_ID, EACH, EVERY),
-    (
-        "cost find all first 6",
-        Place::All,
-        BY_ID,
-        Report::Answers { limit: Some(6) },
-        EVERY,
-    ),
+    ("cost find all first 6", Place::All, BY_ID, Some(6), EVERY),
     (
         "cost find all on 1 first 3",
         Place::All,
         BY_ID,
-        Report::Answers { limit: Some(3) },
+        Some(3),
         1 << 1,
     ),
     (
@@ -492,41 +449,36 @@ static COSTS: [Row; 12] = [
         EACH,
         9,
     ),
-    (
-        "cost nearest 2 12 -12",
-        Place::All,
-        FAR,
-        Report::Answers { limit: Some(2) },
-        EVERY,
-    ),
-    (
-        "cost nearest 0 12 -12",
-        Place::All,
-        FAR,
-        Report::Answers { limit: Some(0) },
-        EVERY,
-    ),
-    ("cost count all", Place::All, BY_ID, Report::Count, EVERY),
-    (
-        "cost \tcount all on 1\r",
-        Place::All,
-        BY_ID,
-        Report::Count,
-        1 << 1,
-    ),
+    ("cost nearest 2 12 -12", Place::All, FAR, Some(2), EVERY),
+    ("cost nearest 0 12 -12", Place::All, FAR, Some(0), EVERY),
+];
+
+static COSTS_OF_COUNTS: [CountRow; 3] = [
+    ("cost count all", Place::All, EVERY),
+    ("cost \tcount all on 1\r", Place::All, 1 << 1),
     (
         "cost count window 0 10 0 10",
         Place::Window([0, 10, 0, 10]),
-        BY_ID,
-        Report::Count,
         EVERY,
     ),
 ];
 
 #[test]
 fn costs(rt: HostRuntime) {
-    for row in &COSTS {
-        let query = Query::Cost(query_of(&rt, row));
-        expect_parsed(&rt, row.0.as_bytes(), Parsed::Query(query));
+    for (line, place, order, limit, bits) in &COSTS {
+        let query = Query::CostFind {
+            region: region_of(&rt, *place),
+            order: *order,
+            limit: *limit,
+            layers: Layers::new(*bits),
+        };
+        expect_parsed(&rt, line.as_bytes(), Parsed::Query(query));
+    }
+    for (line, place, bits) in &COSTS_OF_COUNTS {
+        let query = Query::CostCount {
+            region: region_of(&rt, *place),
+            layers: Layers::new(*bits),
+        };
+        expect_parsed(&rt, line.as_bytes(), Parsed::Query(query));
     }
 }

@@ -6,12 +6,12 @@ mod expect;
 #[cfg(test)]
 mod grammar;
 #[cfg(test)]
-mod line_starts;
-#[cfg(test)]
 mod numbers;
 #[cfg(test)]
 mod reply_lines;
 #[cfg(test)]
 mod run_faults;
+#[cfg(test)]
+mod surface;
 #[cfg(test)]
 mod tables;

@@ -1,7 +1,6 @@
 use Rattle.std.proofs.Common.{◌≡◌, ◌*◌, ◌≤◌, false, length, take}
 use Rattle.rt_device.specs.Devices.{PulledTimes}
-use Rattle.rt_text.specs.Queries.{longest_line}
-use Rattle.rt_filter.specs.{Endings.{ConsumedAtLeast}, Stages.{IsServing, loaded_tree, most_pulled}}
+use Rattle.rt_filter.specs.{Endings.{ConsumedAtLeast}, Lines.{longest_line}, Stages.{IsServing, loaded_tree, most_pulled}}
 use Rattle.rt_filter.proofs.serving.exchange.Given as goal
 
 -- no call has failed, each turn gave a byte at least, and what was pulled is answered and flushed

@@ -2,4 +2,4 @@ use Rattle.rt_geo.proofs.Convexity.{strictly_convex}
 use Rattle.rt_geo.proofs.polygon.of_convex.Goals as goal
 
 pub returns-clause-convex : goal.returns-clause-convex
-returns-clause-convex c = strictly_convex c.args.vertices.now c.requires.convex
+returns-clause-convex c = rw c.list_of.ensures (strictly_convex c.args.points.now c.requires.convex)

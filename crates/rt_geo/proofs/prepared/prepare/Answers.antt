@@ -9,15 +9,16 @@ invariant_of-result c =
     are_made vertices.result.now vertices.result.now c.last_vertex.result c.in-Some.half_planes
     vertices.ensures.count refl c.last_vertex.ensures c.in-Some.ensures in
     record {
-      count = vertices.ensures.count;
-      convex = vertices.ensures.convex;
-      short = made.short;
-      bounds = rw vertices.ensures.value c.bounds.ensures;
-      half_planes = made.half_planes;
+      count = rw c.list_of.ensures vertices.ensures.count;
+      convex = rw c.list_of.ensures vertices.ensures.convex;
+      short = rw c.list_of.ensures made.short;
+      bounds = rw (c.list_of.ensures, vertices.ensures.value) c.bounds.ensures;
+      half_planes = rw c.list_of.ensures made.half_planes;
     }
 
 pub returns-in-Some-clause-when : goal.returns-in-Some-clause-when
-returns-in-Some-clause-when c = rw (← c.vertices-vertices.ensures.value) (sym (invariant_of-result c).short)
+returns-in-Some-clause-when c =
+    rw (← c.vertices-vertices.ensures.value, ← c.list_of.ensures) (sym (invariant_of-result c).short)
 
 pub returns-in-None-clause-when : goal.returns-in-None-clause-when
 returns-in-None-clause-when c =

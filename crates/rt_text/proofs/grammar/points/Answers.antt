@@ -5,7 +5,7 @@ use Rattle.rt_text.proofs.grammar.points.Goals as goal
 
 pub returns-in_err-point-clause-fault : goal.returns-in_err-point-clause-fault
 returns-in_err-point-clause-fault c =
-    let so_far = c.loop-vertex.vertices.items in
+    let so_far = c.loop-vertex.found.items in
     let before = c.loop-vertex.words in
     let left = c.args.count - (c.loop-vertex._vertex + 1) in
     let step : c.args.count - c.loop-vertex._vertex ≡ suc left = omega arith in
@@ -16,7 +16,7 @@ returns-in_err-point-clause-fault c =
 
 pub loop-vertex-preserved : goal.loop-vertex-preserved
 loop-vertex-preserved c =
-    let so_far = c.loop-vertex.vertices.items in
+    let so_far = c.loop-vertex.found.items in
     let before = c.loop-vertex.words in
     let after = c.point.new.words in
     let left = c.args.count - (c.loop-vertex._vertex + 1) in

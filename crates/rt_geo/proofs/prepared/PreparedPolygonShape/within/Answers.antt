@@ -8,12 +8,12 @@ use Rattle.rt_geo.proofs.prepared.PreparedPolygonShape.within.Goals as goal
 pub state_by_half_planes-requires : goal.state_by_half_planes-requires
 state_by_half_planes-requires c =
     rw (c.deref.ensures.0, c.self.invariant.half_planes)
-    (all_small-edges c.self.inside.vertices.now c.self.invariant.short)
+    (all_small-edges c.self.inside.vertices.items c.self.invariant.short)
 
 pub returns-clause-state : goal.returns-clause-state
 returns-clause-state c =
     let told =
-    state_is c.self.inside.vertices.now c.args.info.now c.deref.result.now c.self.inside.bounds
+    state_is c.self.inside.vertices.items c.args.info.now c.deref.result.now c.self.inside.bounds
     c.overlaps-overlapping.result c.inside-lies_inside.result c.state_by_half_planes.ensures.valid
     (c.deref.ensures.0 ∙ c.self.invariant.half_planes) c.self.invariant.bounds c.overlaps-overlapping.ensures.value
     c.inside-lies_inside.ensures in

@@ -1,0 +1,7 @@
+use Rattle.rt_filter.proofs.query.push_reply.Goals as goal
+
+pub returns-in-Find-clause-pushed : goal.returns-in-Find-clause-pushed
+returns-in-Find-clause-pushed g c = rw c.in-Find.is c.push_in_region.ensures.pushed
+
+pub returns-in-Count-clause-pushed : goal.returns-in-Count-clause-pushed
+returns-in-Count-clause-pushed g c = rw c.in-Count.is c.push_in_region-in-Count.ensures.pushed
