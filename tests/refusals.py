@@ -43,7 +43,7 @@ MANY = b"".join(
 )
 LINES = [b"count all\n"] * 2000
 REPLIES = [b"ok %d 1000\n" % at for at in range(1, 2001)]
-MOST_PULLED = 4097
+BUFFER = 4097
 
 FILES = {
     "boxes.csv": BOXES,
@@ -165,8 +165,8 @@ def fronts():
     made, held, left = 0, 0, b"".join(LINES)
     yield b""
     while left:
-        size = min(MOST_PULLED, len(left))
-        lines = left[:size].count(b"\n")
+        size = min(BUFFER - held, len(left))
+        lines = (held + size) // len(LINES[0])
         held = size + held - lines * len(LINES[0])
         made, left = made + lines, left[size:]
         yield b"".join(REPLIES[:made])
@@ -219,6 +219,18 @@ def opens(refuser, program):
         yield f"opens, {' '.join(words)}", len(found), wrong
 
 
+def files_first(refuser, program):
+    """No memory is taken between the opening of TABLE and that of QUERIES."""
+    refusal = Refusal("memory", errno.ENOMEM, ONCE)
+    no_table, no_queries = (
+        refuser.each([program, *words], refusal) for words in (["none.csv", "boxes.csv"], ["boxes.csv", "none.csv"])
+    )
+    wrong = differences([no_table[1], no_queries[1]], [[one] for one in NOT_OPENED])
+    if len(no_table[0]) != len(no_queries[0]):
+        wrong.append(f"growths without TABLE and without QUERIES: {len(no_table[0])}, {len(no_queries[0])}")
+    yield "memory before QUERIES is opened", len(no_queries[0]), wrong
+
+
 def short(refuser, program):
     """Reads and writes that move a single byte: the run is as ever."""
     for words, stdin, wanted in [*RUNS, (["many.csv"], b"find all\n", reading.expected(MANY, b"find all\n"))]:
@@ -250,6 +262,7 @@ def outcomes(refuser, program):
     yield from devices(refuser, program)
     yield from long_answers(refuser, program)
     yield from opens(refuser, program)
+    yield from files_first(refuser, program)
     yield from short(refuser, program)
     yield from calls(refuser)
 

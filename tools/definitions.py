@@ -30,13 +30,12 @@ MOST_LINES = {"contracts": 890, "headline": 700}
 HEADLINE = ("rt_filter", "run", "headline")
 
 # That a tree is sound follows from its being the packed tree of its entries, and what a polygon's state says of points
-# from the state. What a session has heard is only handed from call to call: any function of the bytes would do.
+# from the state.
 SAID_AGAIN = {
     ("rt_tree", "Packed", "IsSound"),
     ("rt_geo", "Polygons", "HoldsEachPoint"),
     ("rt_geo", "Polygons", "SharesNoPoint"),
     ("rt_geo", "Polygons", "SharesPoint"),
-    ("rt_filter", "Sessions", "heard_of"),
 }
 
 IMPORT = re.compile(r"^ *(?:ghost )?use Rattle\.(\w+)\.specs\.([A-Z]\w*)(.*?);?$", re.MULTILINE)

@@ -1,11 +1,11 @@
+mod BufferLemmas
 mod FindLemmas
 mod LayerLemmas
 mod LevelLemmas
 mod LineLemmas
-mod LineStarts
+mod ProgressLemmas
 mod PushLemmas
 mod RunLemmas
 mod RunRows
 mod ServingLemmas
-mod SessionLemmas
 mod TreeLemmas

@@ -6,7 +6,7 @@ use Rattle.std.proofs.lemmas.List.{take-append-drop, Elements.{All-from_get_or, 
 use Rattle.std.proofs.lemmas.List.{FromFn.{length-enumerate_from}, Splits.{length-slice_split, slice_split_at, slice_split_none}}
 use Rattle.std.specs.List.{enumerate_from, slice_split}
 use Rattle.memchr.specs.Find.{IsFirstByte, is_byte}
-use Rattle.rt_filter.specs.Lines.{begun_line, completed, is_line_feed, last_part, lines_of_parts, numbered_lines}
+use Rattle.rt_filter.specs.{Lines.{is_line_feed, lines_of_parts, numbered_lines}, Progresses.{begun_line, completed, last_part}}
 use Rattle.rt_filter.specs.Stages.{HasNoLineFeed, line_feed, lines_from}
 
 -- ---- where the first line feed stands
@@ -138,13 +138,13 @@ completed-none xs ys clear = search (rules, completed-is, lines_from-none, clear
 pub begun-none : (xs ys : List ℕ) → HasNoLineFeed ys → begun_line (xs ++ ys) ≡ begun_line xs ++ ys
 begun-none xs ys clear = begun_line-append xs ys ∙ ap last_part (one_part (begun_line xs ++ ys) (clear-append (begun_line xs) ys (begun_clear xs) clear))
 
--- at the end a line is complete as if a line feed followed, unless it is empty
-pub completed-ended : (xs : List ℕ) → (x : ℕ) (begun : List ℕ) → begun_line xs ≡ x ∷ begun → completed xs [] true ≡ completed xs (line_feed ∷ []) false
+-- at the end a line is complete without one, unless it is empty
+pub completed-ended : (xs : List ℕ) → (x : ℕ) (begun : List ℕ) → begun_line xs ≡ x ∷ begun
+    → completed xs [] true ≡ (length (numbered_lines xs false) + 1, begun_line xs) ∷ []
 completed-ended xs x begun e =
     completed-is xs [] true ∙ ap (λ line. lines_from (length (numbered_lines xs false)) line true) (append-nil (begun_line xs) ∙ e)
     ∙ lines_from-last (length (numbered_lines xs false)) x begun (rw e at (begun_clear xs))
-    ∙ ap (λ line. (length (numbered_lines xs false) + 1, line) ∷ []) (sym e ∙ sym (append-nil (begun_line xs)))
-    ∙ sym (completed-found xs [] [] false tt)
+    ∙ ap (λ line. (length (numbered_lines xs false) + 1, line) ∷ []) (sym e)
 
 pub completed-ended_none : (xs : List ℕ) → begun_line xs ≡ [] → completed xs [] true ≡ []
 completed-ended_none xs e = search (rules, completed-is)

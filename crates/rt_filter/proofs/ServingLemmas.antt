@@ -1,17 +1,17 @@
 -- One turn after the other, and how serving ends.
-use Rattle.std.proofs.Common.{◌≡◌, ◌∙◌, ◌+◌, ◌<◌, ◌≤◌, ℕ, true, false, List, [], ◌++◌, length, take, Option, Some}
+use Rattle.std.proofs.Common.{◌≡◌, ◌∙◌, ◌+◌, ◌<◌, ◌≤◌, ℕ, Bool, true, false, List, [], ◌++◌, length, take, Option, Some}
 use Rattle.std.proofs.Common.{None, refl, sym, ap, subst, arith, append_assoc, append-nil, rules}
 use Rattle.std.proofs.{Math.Seq.{take-append_seam}, lemmas.List.{length-append, length-take-le}}
 use Rattle.std.specs.{Io.{StartsWith, KnownBytes.{Consumes, IsAtEnd}}, Prelude.{unwrap_or}}
 use Rattle.rt_device.specs.Devices.{IsSameIfTold, PulledTimes}
 use Rattle.rt_text.specs.Words.{is_empty}
-use Rattle.rt_filter.specs.{Endings.{ConsumedAtLeast, Happened, Serves, SinkTells, SourceTells}, Lines.{completed, longest_line}}
-use Rattle.rt_filter.specs.{Lines.{numbered_lines}, Pushes.{WasCut, WasPushed}, Replies.{Loaded}}
-use Rattle.rt_filter.specs.{Replies.{any_fault, output}, Sessions.{heard_of}, Stages.{IsServing}}
-use Rattle.rt_filter.specs.declared.session.Heard.{Heard}
-use Rattle.rt_filter.specs.declared.serving.Served.{Served}
+use Rattle.rt_filter.specs.{Endings.{ConsumedAtLeast, Happened, Serves, ServesWith, SinkTells, SourceTells}}
+use Rattle.rt_filter.specs.{Lines.{longest_line, numbered_lines}, Pushes.{WasCut, WasPushed}, Replies.{Loaded}}
+use Rattle.rt_filter.specs.{Progresses.{IsAfter, completed, progress_of}, Replies.{any_fault, output}, Stages.{IsServing}}
+use Rattle.rt_filter.specs.declared.progress.Progress.{Progress}
+use Rattle.rt_filter.specs.declared.serving.{ServeFault.{ServeFault}, Served.{Served}}
 use Rattle.rt_filter.proofs.{LineLemmas.{completed-all}, PushLemmas.{behind, nothing_pushed}}
-use Rattle.rt_filter.proofs.SessionLemmas.{any_fault-append, ended-lines, or_first, output-append, pushed_then}
+use Rattle.rt_filter.proofs.ProgressLemmas.{any_fault-append, ended-lines, or_first, output-append, pushed_then}
 use Rattle.rt_filter.specs.declared.serving.ServeFault.TheVariants as serve
 
 -- ---- what a source and a sink tell
@@ -78,78 +78,99 @@ starts-between before xs front back h = let is = behind xs front h in grind (ari
 
 -- ---- serving
 
-pub serving_first : (loaded : Loaded) (coming written : Option (List ℕ)) (heard : Heard) → heard ≡ heard_of [] → IsServing loaded coming coming written written heard
-serving_first loaded coming written heard e = record { consumed = []; given = consumes_none coming; so = e; pushed = nothing_pushed written }
+pub serving_first : (loaded : Loaded) (coming written : Option (List ℕ)) (progress : Progress) → progress ≡ progress_of []
+    → IsServing loaded coming coming written written progress []
+serving_first loaded coming written progress e =
+    record { pulled = []; given = consumes_none coming; so = (e, refl); pushed = nothing_pushed written }
 
-module _ (loaded : Loaded) (coming0 coming written0 written : Option (List ℕ)) (heard : Heard) (s : IsServing loaded coming0 coming written0 written heard) where
+module _ (loaded : Loaded) (coming0 coming written0 written : Option (List ℕ)) (progress : Progress) (kept : List ℕ) (s : IsServing loaded coming0 coming written0 written progress kept) where
   abbrev replied : List ℕ
-  replied = output loaded (numbered_lines s.consumed false)
+  replied = output loaded (numbered_lines s.pulled false)
 
   -- a pull, and its lines answered
-  pub serving_more : (now out : Option (List ℕ)) (more : Heard) (given : List ℕ) → Consumes coming now given → more ≡ heard_of (s.consumed ++ given)
-      → WasPushed written out (output loaded (completed s.consumed given false)) → IsServing loaded coming0 now written0 out more
-  serving_more now out more given h e w = search (rules, consumes_more, completed-all, output-append, pushed_then)
+  pub serving_more : (now out : Option (List ℕ)) (more : Progress) (left given : List ℕ) → Consumes coming now given → IsAfter more left (s.pulled ++ given)
+      → WasPushed written out (output loaded (completed s.pulled given false)) → IsServing loaded coming0 now written0 out more left
+  serving_more now out more left given h e w = search (rules, consumes_more, completed-all, output-append, pushed_then)
 
   -- a failed pull, or turns that are used up
-  pub serves_read : (now : Option (List ℕ)) (served : Served) → IsSameIfTold coming now → served.bad ≡ heard.bad → served.fault ≡ Some serve.Read
+  pub serves_read : (now : Option (List ℕ)) (served : Served) → IsSameIfTold coming now → served.bad ≡ progress.bad → served.fault ≡ Some serve.Read
       → Serves loaded coming0 now written0 written served
   serves_read now served h b f = rw (b, f) (
-    so_far s.consumed coming replied,
-    source_failed (Some serve.Read ≡ Some serve.Read) refl coming0 coming now s.consumed replied s.given h,
-    sink_tells (Some serve.Read ≡ Some serve.Write) written0 written (so_far s.consumed coming replied) s.pushed,
-    record { replies = refl; faults = ap (λ h. h.bad) s.so },
+    so_far s.pulled coming replied,
+    source_failed (Some serve.Read ≡ Some serve.Read) refl coming0 coming now s.pulled replied s.given h,
+    sink_tells (Some serve.Read ≡ Some serve.Write) written0 written (so_far s.pulled coming replied) s.pushed,
+    record { replies = refl; faults = ap (λ (p : Progress). p.bad) s.so.0 },
   )
 
   -- all was read and written
-  pub serves_all : (now out : Option (List ℕ)) (served : Served) → Consumes coming now [] → IsAtEnd now → WasPushed written out (output loaded (completed s.consumed [] true))
-      → served.bad ≡ any_fault (numbered_lines s.consumed true) → served.fault ≡ None → Serves loaded coming0 now written0 out served
+  pub serves_all : (now out : Option (List ℕ)) (served : Served) → Consumes coming now [] → IsAtEnd now → WasPushed written out (output loaded (completed s.pulled [] true))
+      → served.bad ≡ any_fault (numbered_lines s.pulled true) → served.fault ≡ None → Serves loaded coming0 now written0 out served
   serves_all now out served h at w b f =
-      let all : WasPushed written0 out (output loaded (numbered_lines s.consumed true)) =
+      let all : WasPushed written0 out (output loaded (numbered_lines s.pulled true)) =
       search (rules, ended-lines, output-append, pushed_then) in
       rw (b, f) (
-        so_far s.consumed now (output loaded (numbered_lines s.consumed true)),
-        source_tells (None ≡ Some serve.Read) coming0 now s.consumed (output loaded (numbered_lines s.consumed true)) (subst (Consumes coming0 now) (append-nil s.consumed) (consumes_more coming0 coming now s.consumed [] s.given h)),
-        sink_tells (None ≡ Some serve.Write) written0 out (so_far s.consumed now (output loaded (numbered_lines s.consumed true))) all,
+        so_far s.pulled now (output loaded (numbered_lines s.pulled true)),
+        source_tells (None ≡ Some serve.Read) coming0 now s.pulled (output loaded (numbered_lines s.pulled true)) (subst (Consumes coming0 now) (append-nil s.pulled) (consumes_more coming0 coming now s.pulled [] s.given h)),
+        sink_tells (None ≡ Some serve.Write) written0 out (so_far s.pulled now (output loaded (numbered_lines s.pulled true))) all,
         (ended now at, record { replies = refl; faults = refl }),
       )
 
   -- a push or a flush failed on the way
   cut_row : (now out : Option (List ℕ)) (served : Served) (given : List ℕ) (lines later : List (ℕ × List ℕ)) → Consumes coming now given → length given ≤ longest_line + 1
-      → WasCut written out (output loaded lines) → numbered_lines (s.consumed ++ given) (is_empty (rest_of now)) ≡ numbered_lines s.consumed false ++ (lines ++ later)
-      → (served.bad ≡ true → any_fault (numbered_lines (s.consumed ++ given) (is_empty (rest_of now))) ≡ true) → served.fault ≡ Some serve.Write
+      → WasCut written out (output loaded lines) → numbered_lines (s.pulled ++ given) (is_empty (rest_of now)) ≡ numbered_lines s.pulled false ++ (lines ++ later)
+      → (served.bad ≡ true → any_fault (numbered_lines (s.pulled ++ given) (is_empty (rest_of now))) ≡ true) → served.fault ≡ Some serve.Write
       → Serves loaded coming0 now written0 out served
   cut_row now out served given lines later h few cut all b f =
-      let w = went_out (Some serve.Write ≡ Some serve.Write) refl written0 written out (s.consumed ++ given) (rest_of now) replied (output loaded lines) s.pushed cut in
+      let w = went_out (Some serve.Write ≡ Some serve.Write) refl written0 written out (s.pulled ++ given) (rest_of now) replied (output loaded lines) s.pushed cut in
       rw f (
-        so_far (s.consumed ++ given) now (replied ++ w.out),
-        source_tells (Some serve.Write ≡ Some serve.Read) coming0 now (s.consumed ++ given) (replied ++ w.out) (consumes_more coming0 coming now s.consumed given s.given h),
+        so_far (s.pulled ++ given) now (replied ++ w.out),
+        source_tells (Some serve.Write ≡ Some serve.Read) coming0 now (s.pulled ++ given) (replied ++ w.out) (consumes_more coming0 coming now s.pulled given s.given h),
         w.tells,
         record {
           replies = search (rules, output-append, starts-between);
           faults = b;
-          answered = length s.consumed;
-          shorter = omega (arith, length-append s.consumed given, few);
-          replied = rw (take-append_seam s.consumed given) (take-append_seam replied w.out);
+          answered = length s.pulled;
+          shorter = omega (arith, length-append s.pulled given, few);
+          replied = rw (take-append_seam s.pulled given) (take-append_seam replied w.out);
         },
       )
 
   pub serves_cut : (now out : Option (List ℕ)) (served : Served) (given : List ℕ) → Consumes coming now given → length given ≤ longest_line + 1
-      → WasCut written out (output loaded (completed s.consumed given false))
-      → (served.bad ≡ true → any_fault (numbered_lines (s.consumed ++ given) false) ≡ true) → served.fault ≡ Some serve.Write
+      → WasCut written out (output loaded (completed s.pulled given false))
+      → (served.bad ≡ true → any_fault (numbered_lines (s.pulled ++ given) false) ≡ true) → served.fault ≡ Some serve.Write
       → Serves loaded coming0 now written0 out served
   serves_cut now out served given h few cut b f =
       let ended = is_empty (rest_of now) in
-      let later : List (ℕ × List ℕ) = completed (s.consumed ++ given) [] ended in
-      let more : numbered_lines (s.consumed ++ given) ended ≡ numbered_lines (s.consumed ++ given) false ++ later =
-      ap (λ zs. numbered_lines zs ended) (sym (append-nil (s.consumed ++ given))) ∙ completed-all (s.consumed ++ given) [] ended in
-      cut_row now out served given (completed s.consumed given false) later h few cut
-      (more ∙ ap (λ ls. ls ++ later) (completed-all s.consumed given false) ∙ append_assoc (numbered_lines s.consumed false) (completed s.consumed given false) later)
-      (λ e. rw (more, any_fault-append (numbered_lines (s.consumed ++ given) false)) (or_first (any_fault (numbered_lines (s.consumed ++ given) false)) (any_fault later) (b e))) f
+      let later : List (ℕ × List ℕ) = completed (s.pulled ++ given) [] ended in
+      let more : numbered_lines (s.pulled ++ given) ended ≡ numbered_lines (s.pulled ++ given) false ++ later =
+      ap (λ zs. numbered_lines zs ended) (sym (append-nil (s.pulled ++ given))) ∙ completed-all (s.pulled ++ given) [] ended in
+      cut_row now out served given (completed s.pulled given false) later h few cut
+      (more ∙ ap (λ ls. ls ++ later) (completed-all s.pulled given false) ∙ append_assoc (numbered_lines s.pulled false) (completed s.pulled given false) later)
+      (λ e. rw (more, any_fault-append (numbered_lines (s.pulled ++ given) false)) (or_first (any_fault (numbered_lines (s.pulled ++ given) false)) (any_fault later) (b e))) f
 
   -- at the end
-  pub serves_cut_at_end : (now out : Option (List ℕ)) (served : Served) → Consumes coming now [] → IsAtEnd now → WasCut written out (output loaded (completed s.consumed [] true))
-      → (served.bad ≡ true → any_fault (numbered_lines s.consumed true) ≡ true) → served.fault ≡ Some serve.Write → Serves loaded coming0 now written0 out served
+  pub serves_cut_at_end : (now out : Option (List ℕ)) (served : Served) → Consumes coming now [] → IsAtEnd now → WasCut written out (output loaded (completed s.pulled [] true))
+      → (served.bad ≡ true → any_fault (numbered_lines s.pulled true) ≡ true) → served.fault ≡ Some serve.Write → Serves loaded coming0 now written0 out served
   serves_cut_at_end now out served h at cut b f =
-      cut_row now out served [] (completed s.consumed [] true) [] h (omega arith) cut
-      (rw (ended now at, append-nil (completed s.consumed [] true)) (completed-all s.consumed [] true))
-      (rw (ended now at, append-nil s.consumed) b) f
+      cut_row now out served [] (completed s.pulled [] true) [] h (omega arith) cut
+      (rw (ended now at, append-nil (completed s.pulled [] true)) (completed-all s.pulled [] true))
+      (rw (ended now at, append-nil s.pulled) b) f
+
+-- ---- other entries
+
+-- serving ends with the same replies over other entries
+pub serves_same : (loaded other : Loaded) → ((lines : List (ℕ × List ℕ)) → output other lines ≡ output loaded lines)
+    → (coming coming' written written' : Option (List ℕ)) (served : Served) → Serves loaded coming coming' written written' served
+    → Serves other coming coming' written written' served
+serves_same loaded other same coming coming' written written' served s = (s.0, s.1, s.2, with_same s.0 served.bad served.fault s.3)
+  where
+    with_same : (what : Happened) (bad : Bool) (fault : Option ServeFault) → ServesWith loaded what bad fault → ServesWith other what bad fault
+    with_same what bad None h = (h.0, record { replies = h.1.replies ∙ sym (same (numbered_lines what.consumed true)); faults = h.1.faults })
+    with_same what bad (Some serve.Read) h = record { replies = h.replies ∙ sym (same (numbered_lines what.consumed false)); faults = h.faults }
+    with_same what bad (Some serve.Write) h = record {
+      replies = rw (same (numbered_lines what.consumed (is_empty what.rest))) h.replies;
+      faults = h.faults;
+      answered = h.answered;
+      shorter = h.shorter;
+      replied = rw (same (numbered_lines (take h.answered what.consumed) false)) h.replied;
+    }

@@ -1,11 +1,11 @@
 pub mod Endings
-pub mod Lending
+pub mod Exchanges
 pub mod Lines
+pub mod Progresses
 pub mod Pushes
 pub mod Replies
 pub mod Reports
 pub mod Runs
-pub mod Sessions
 pub mod Stages
 pub use Rattle.rt_command.specs.Choices
 pub use Rattle.rt_command.specs.Invocations

@@ -1,5 +1,5 @@
 -- The lines of query bytes.
-use Rattle.std.specs.Prelude.{ℕ, ◌==◌, ◌&&◌, Bool, false, not, if◌then◌else◌, List, [], ◌∷◌, ◌++◌, length, drop}
+use Rattle.std.specs.Prelude.{ℕ, ◌==◌, ◌&&◌, nat_lt, Bool, not, if◌then◌else◌, List, [], ◌∷◌, length}
 use Rattle.std.specs.List.{enumerate_from, slice_split}
 use Rattle.rt_text.specs.Words.{is_empty}
 
@@ -18,20 +18,9 @@ lines_of_parts ended (part ∷ next ∷ more) = part ∷ lines_of_parts ended (n
 abbrev pub numbered_lines : List ℕ → (ended : Bool) → List (ℕ × List ℕ)
 numbered_lines bytes ended = enumerate_from 1 (lines_of_parts ended (slice_split is_line_feed bytes))
 
--- of the parts between line feeds the last, which begins a line that isn't complete
-abbrev pub last_part : List (List ℕ) → List ℕ
-last_part [] = []
-last_part (part ∷ []) = part
-last_part (part ∷ next ∷ more) = last_part (next ∷ more)
-
--- what stands behind the last line feed
-abbrev pub begun_line : List ℕ → List ℕ
-begun_line bytes = last_part (slice_split is_line_feed bytes)
-
--- the lines that are complete with more bytes and weren't before, the last one too where they have ended
-abbrev pub completed : (bytes more : List ℕ) → (ended : Bool) → List (ℕ × List ℕ)
-completed bytes more ended = drop (length (numbered_lines bytes false)) (numbered_lines (bytes ++ more) ended)
-
 -- a line of more bytes is too long
 abbrev pub longest_line : ℕ
 longest_line = 4096
+
+abbrev pub is_too_long : (line : List ℕ) → Bool
+is_too_long line = nat_lt longest_line (length line)

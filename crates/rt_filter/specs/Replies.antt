@@ -1,5 +1,5 @@
 -- The bytes that lines are answered with.
-use Rattle.std.specs.Prelude.{ℕ, nat_lt, Bool, true, false, if◌then◌else◌, List, [], ◌++◌, length, flat_map, reverse}
+use Rattle.std.specs.Prelude.{ℕ, Bool, true, false, if◌then◌else◌, List, [], ◌++◌, length, flat_map, reverse}
 use Rattle.std.specs.List.{enumerate_from, list_any}
 use Rattle.rt_geo.specs.Laws.{Meaning, guided}
 use Rattle.rt_geo.specs.OnLayers.{on_layers_accepts, on_layers_state}
@@ -21,7 +21,7 @@ use Rattle.rt_text.specs.declared.query.Query.TheVariants.{CostCount, CostFind, 
 use Rattle.rt_text.specs.declared.query.QueryFault.TheVariants.{LineTooLong}
 use Rattle.rt_search.specs.Answers.{Answer, accepted, answers}
 use Rattle.rt_search.specs.Work.{opened_by_count, opened_by_search}
-use Rattle.rt_filter.specs.Lines.{longest_line}
+use Rattle.rt_filter.specs.Lines.{is_too_long}
 
 -- what queries are asked of: the entries of a table, and how many children a node of its tree may have
 pub record Loaded : Type 0 where
@@ -67,7 +67,7 @@ reply loaded line (parsed.Fault cause) = error_line line cause
 
 -- what a line asks, unless it is too long
 abbrev pub parsed_line : List ℕ → Parsed
-parsed_line line = if nat_lt longest_line (length line) then parsed.Fault LineTooLong else query_of line
+parsed_line line = if is_too_long line then parsed.Fault LineTooLong else query_of line
 
 -- the replies to numbered lines, one after the other
 abbrev pub output : Loaded → List (ℕ × List ℕ) → List ℕ

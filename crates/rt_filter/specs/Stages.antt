@@ -5,12 +5,12 @@ use Rattle.std.specs.Io.KnownBytes.{Consumes}
 use Rattle.rt_command.specs.Choices.{Choices}
 use Rattle.rt_text.specs.Tables.{IsFaultOf}
 use Rattle.rt_tree.specs.Packed.{Packed}
-use Rattle.rt_filter.specs.Lines.{longest_line, completed, is_line_feed, lines_of_parts, numbered_lines}
+use Rattle.rt_filter.specs.Lines.{is_line_feed, lines_of_parts, longest_line, numbered_lines}
 use Rattle.rt_filter.specs.Pushes.{WasPushed}
 use Rattle.rt_filter.specs.Replies.{Loaded, output, tree_of}
 use Rattle.rt_filter.specs.Runs.{loaded_of}
-use Rattle.rt_filter.specs.Sessions.{heard_of}
-use Rattle.rt_filter.specs.declared.session.Heard.{Heard}
+use Rattle.rt_filter.specs.Progresses.{IsAfter, completed}
+use Rattle.rt_filter.specs.declared.progress.Progress.{Progress}
 use Rattle.rt_text.specs.declared.run_faults.RunFault.{RunFault}
 use Rattle.rt_text.specs.declared.run_faults.RunFault.TheVariants.{Table, Memory}
 
@@ -54,19 +54,22 @@ lines_from number bytes ended = enumerate_from (number + 1) (lines_of_parts ende
 abbrev pub HasNoLineFeed : List ℕ → Type 0
 HasNoLineFeed = AllByRecursion (λ c. is_line_feed c ≡ false)
 
--- ---- sessions
+-- ---- serving
 
--- of these bytes some are answered, and the rest are to come: whatever was fed before
-pub record IsAnswered (loaded : Loaded) (old now : Heard) (old_out out : Option (List ℕ)) (bytes rest : List ℕ)
+-- of the bytes that a pull gave the front is answered, and of what stands behind the last line feed `begun` was searched
+-- and `rest` wasn't: whatever was pulled before
+pub record IsAnswering (loaded : Loaded) (old now : Progress) (old_out out : Option (List ℕ)) (kept given begun rest : List ℕ)
     : Type 0 where
   pub front : List ℕ
-  pub parts : bytes ≡ front ++ rest
-  pub so : (fed : List ℕ) → old ≡ heard_of fed
-      → (now ≡ heard_of (fed ++ front)) × WasPushed old_out out (output loaded (completed fed front false))
+  pub parts : given ≡ front ++ rest
+  pub so : (pulled : List ℕ) → IsAfter old kept pulled
+      → IsAfter now begun (pulled ++ front)
+      × WasPushed old_out out (output loaded (completed pulled front false))
 
 -- the queries are answered as far as they were pulled
-pub record IsServing (loaded : Loaded) (old_coming coming old_out out : Option (List ℕ)) (heard : Heard) : Type 0 where
-  pub consumed : List ℕ
-  pub given : Consumes old_coming coming consumed
-  pub so : heard ≡ heard_of consumed
-  pub pushed : WasPushed old_out out (output loaded (numbered_lines consumed false))
+pub record IsServing (loaded : Loaded) (old_coming coming old_out out : Option (List ℕ)) (progress : Progress) (kept : List ℕ)
+    : Type 0 where
+  pub pulled : List ℕ
+  pub given : Consumes old_coming coming pulled
+  pub so : IsAfter progress kept pulled
+  pub pushed : WasPushed old_out out (output loaded (numbered_lines pulled false))

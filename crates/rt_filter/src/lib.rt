@@ -8,12 +8,12 @@
 //! by [`settings_of`], of `rt_command`.
 #![tactic(auto)]
 
+mod exchange;
 mod filter;
-mod line_start;
+mod progress;
 mod query;
 mod reply;
 mod serving;
-mod session;
 
 pub use filter::{Outcome, run, run_std};
 pub use rt_command::{ArgFault, Invocation, Name, Settings, settings_of};
@@ -22,4 +22,3 @@ pub use rt_device::{
 };
 pub use rt_text::{RunFault, run_fault_line};
 pub use serving::{ServeFault, Served, serve};
-pub use session::{SESSION_ROOM, Session};

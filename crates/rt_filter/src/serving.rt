@@ -2,12 +2,15 @@
 
 ghost use Rattle.std.specs.Prelude.{◌≡◌, ◌+◌, ◌-◌, ◌<◌, ◌≤◌, ◌^◌, ◌⊎◌, ◌≢◌, ℕ, Some, length, false};
 ghost use Rattle.rt_device.specs.Devices.{PulledTimes};
-ghost use Rattle.rt_filter.specs.{Endings.{ConsumedAtLeast, Serves}, Replies.{Loaded, tree_of}};
+ghost use Rattle.rt_filter.specs.{Endings.{ConsumedAtLeast, Serves}, Exchanges.{IsServed, connection_of}};
+ghost use Rattle.rt_filter.specs.{Replies.{Loaded, tree_of}, Stages.{loaded_tree}};
 
-use crate::session::Session;
+use crate::exchange::{Exchange, Start};
+use crate::progress::{BUFFER_LEN, Progress};
 use rt_device::{Sink, Source};
 use rt_search::Frontier;
 use rt_tree::Tree;
+use std::marker::Brand;
 
 /// Why serving ended before all was read and written.
 #[derive(Clone, Copy, Debug, PartialEq, Eq)]
@@ -30,8 +33,9 @@ pub struct Served {
 /// Answers the query lines that a source gives, and pushes the answers to a sink, each line by itself.
 ///
 /// At most `turns` pulls are made. Before each all lines that are complete are answered, and what was pushed is
-/// flushed, so that who waits for an answer before the next line has it ([`Session`]). No memory is taken: a pull gives
-/// at most 4,097 bytes, and a line of more than 4,096 is reported as too long.
+/// flushed, so that a client that waits for an answer before it sends its next line has it (`exchange.rt`). No call can
+/// fail with out of memory: the queries are pulled into a buffer of 4,097 bytes, and a line of more than 4,096 is
+/// reported as too long.
 pub fn serve<S: Source, K: Sink>(
     tree: &Tree,
     frontier: Frontier,
@@ -65,31 +69,78 @@ pub fn serve<S: Source, K: Sink>(
     ensures flushed { result.fault ≢ Some ServeFault.Write
         → K.waits sink.old ≡ false → K.waits sink.new ≡ false }
 {
+    // (called, so that it is known that the tree is the packed one of its own entries)
+    let _ = tree.len();
+    serve_from::<Brand, S, K>(tree, frontier, source, sink, turns)
+}
+
+// Serves, where `B` says how it begins.
+fn serve_from<B: Start, S: Source, K: Sink>(
+    tree: &Tree,
+    frontier: Frontier,
+    source: &mut S,
+    sink: &mut K,
+    turns: u64,
+) -> Served
+    requires room { length tree.now.entries ≤ frontier.capacity }
+    requires source_count { S.failed source.old < 2 ^ 64 - 1 }
+    requires sink_count { K.failed sink.old < 2 ^ 64 - 1 }
+    requires loaded { B.at_start.loaded ≡ loaded_tree tree.now }
+    requires devices { B.at_start.devices ≡ connection_of S.coming S.failed S.pulled
+        K.written K.failed K.waits source.old sink.old }
+    ensures { IsServed B.at_start (connection_of S.coming S.failed S.pulled
+        K.written K.failed K.waits source.new sink.new) turns result }
+{
+    exchange::<B, S, K>(tree, frontier, source, sink, turns)
+}
+
+// Serves. The source is pulled from by `pull_next` alone, so only once all that was pulled before is answered and flushed.
+fn exchange<B: Start, S: Exchange<B, K>, K: Sink>(
+    tree: &Tree,
+    frontier: Frontier,
+    source: &mut S,
+    sink: &mut K,
+    turns: u64,
+) -> Served
+    requires room { length tree.now.entries ≤ frontier.capacity }
+    requires source_count { S.failed source.old < 2 ^ 64 - 1 }
+    requires sink_count { K.failed sink.old < 2 ^ 64 - 1 }
+    requires loaded { B.at_start.loaded ≡ loaded_tree tree.now }
+    requires devices { B.at_start.devices ≡ connection_of S.coming S.failed S.pulled
+        K.written K.failed K.waits source.old sink.old }
+    ensures { IsServed B.at_start (connection_of S.coming S.failed S.pulled
+        K.written K.failed K.waits source.new sink.new) turns result }
+{
     let mut frontier = frontier;
-    let mut session = Session::new();
+    let mut progress = Progress::new();
+    let mut buffer = [0; BUFFER_LEN];
+    let mut kept = 0;
     for _turn in 0..turns {
-        let Ok(n) = source.pull(session.room()) else {
-            return ended(&session, Some(ServeFault::Read));
+        let Ok(n) = source.pull_next(sink, &mut buffer[kept..]) else {
+            return ended(&progress, Some(ServeFault::Read));
         };
         if n == 0 {
-            let Ok(_) = session.end(tree, frontier, sink) else {
-                return ended(&session, Some(ServeFault::Write));
+            let Ok(_) = progress.answer_last(tree, frontier, &buffer[..kept], sink) else {
+                return ended(&progress, Some(ServeFault::Write));
             };
-            return ended(&session, None);
+            return ended(&progress, None);
         }
-        let Ok(left) = session.answer(tree, frontier, n, sink) else {
-            return ended(&session, Some(ServeFault::Write));
+        let filled = kept + n;
+        let answered = progress.answer_lines(tree, frontier, &buffer[..filled], kept, sink);
+        let Ok((left, start)) = answered else {
+            return ended(&progress, Some(ServeFault::Write));
         };
         frontier = left;
+        kept = progress.keep(&mut buffer, start, filled);
     }
-    ended(&session, Some(ServeFault::Read))
+    ended(&progress, Some(ServeFault::Read))
 }
 
 // How serving ends.
-fn ended(session: &Session, fault: Option<ServeFault>) -> Served
-    ensures bad { result.bad ≡ session.now.heard.bad }
+fn ended(progress: &Progress, fault: Option<ServeFault>) -> Served
+    ensures bad { result.bad ≡ progress.now.bad }
     ensures fault { result.fault ≡ fault }
 {
-    let bad = session.is_bad();
+    let bad = progress.is_bad();
     Served { bad, fault }
 }

@@ -1,7 +1,7 @@
 //! Runs whose devices fail, at each place.
 
-use crate::given::{BOXES, FIND, FOUND, Given, PLAIN, WITH_HEADER};
-use rt_filter::{RunFault, SESSION_ROOM};
+use crate::given::{BOXES, FIND, FOUND, Given, LONGEST_PIECE, PLAIN, WITH_HEADER};
+use rt_filter::RunFault;
 use rt_text::{Axis, TableFault};
 use std::io::{self, Read};
 use std::process::Abort;
@@ -49,7 +49,7 @@ fn drops_a_long_line_that_never_ends(rt: HostRuntime) -> Result<(), Fail> {
 fn tells_room_that_runs_out(rt: HostRuntime) {
     let write = Some(RunFault::Write);
     let front: &[u8] = b"\x31\x20\x30\x0a\x32";
-    for piece in [1, 2, SESSION_ROOM] {
+    for piece in [1, 2, LONGEST_PIECE] {
         for (header, table) in [(false, BOXES), (true, WITH_HEADER)] {
             let small = Given {
                 header,

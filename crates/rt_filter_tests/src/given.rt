@@ -1,9 +1,7 @@
 //! A run over bytes in memory: what it is given, and what it has to give.
 
 use crate::expect::expect_eq;
-use rt_filter::{
-    Outcome, RunFault, SESSION_ROOM, Settings, Sink, SliceSink, SliceSource, Source, run,
-};
+use rt_filter::{Outcome, RunFault, Settings, Sink, SliceSink, SliceSource, Source, run};
 use rt_text::read_table;
 use rt_tree::Tree;
 use std::alloc::Global;
@@ -19,6 +17,12 @@ pub(crate) const WITH_HEADER: &[u8] =
 pub(crate) const FIND: &[u8] = b"find window 0 10 0 10\n";
 
 pub(crate) const FOUND: &[u8] = b"1 0\n2 0\nok 1 2\n";
+
+/// How many bytes a query line has at most, without its line feed.
+pub(crate) const LONGEST_LINE: usize = 4096;
+
+/// A pull gives at most as many bytes: those of the longest line and its line feed.
+pub(crate) const LONGEST_PIECE: usize = LONGEST_LINE + 1;
 
 /// The five boxes of the examples, at most two children for each node.
 pub(crate) fn pack(rt: &impl Abort, alloc: Global) -> Tree {
@@ -43,7 +47,7 @@ pub(crate) const PLAIN: Given = Given {
     header: false,
     fanout: 16,
     max_entries: 16_777_216,
-    piece: SESSION_ROOM,
+    piece: LONGEST_PIECE,
     room: 256,
     pull_fails: None,
     push_fails: None,

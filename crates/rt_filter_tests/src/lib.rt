@@ -8,10 +8,10 @@ mod failures;
 #[cfg(test)]
 mod given;
 #[cfg(test)]
+mod pulls;
+#[cfg(test)]
 mod replies;
 #[cfg(test)]
 mod runs;
-#[cfg(test)]
-mod sessions;
 #[cfg(test)]
 mod turns;

@@ -1,22 +1,19 @@
 //! Runs over bytes in memory, compared byte for byte. The expected bytes were worked out by hand.
 
 use crate::expect::expect_eq;
-use crate::given::{BOXES, FIND, FOUND, Given, PLAIN, WITH_HEADER};
+use crate::given::{BOXES, FIND, FOUND, Given, LONGEST_LINE, LONGEST_PIECE, PLAIN, WITH_HEADER};
 use itoa::Buffer;
-use rt_filter::{Outcome, RunFault, SESSION_ROOM, Settings, Sink, Source, run_fault_line, run_std};
+use rt_filter::{Outcome, RunFault, Settings, Sink, Source, run_fault_line, run_std};
 use rt_text::{Axis, TableFault};
 use std::alloc::{AllocError, Global};
 use std::process::Abort;
 use std::test::Fail;
 
-/// The most bytes of a query line.
-const LONGEST_LINE: usize = SESSION_ROOM - 1;
-
 #[test]
 fn finds_windows(rt: HostRuntime) {
     let touching: &[u8] = b"find window 10 20 10 20\n";
     let corners: &[u8] = b"1 0\n2 0\n3 0\n5 0\nok 1 4\n";
-    for piece in [1, 2, 7, SESSION_ROOM] {
+    for piece in [1, 2, 7, LONGEST_PIECE] {
         for (header, table) in [(false, BOXES), (true, WITH_HEADER)] {
             let given = Given {
                 header,
@@ -156,7 +153,7 @@ static NUMBERED: [(&[u8], &[u8]); 3] = [
 
 #[test]
 fn numbers_every_line(rt: HostRuntime) {
-    for piece in [1, SESSION_ROOM] {
+    for piece in [1, LONGEST_PIECE] {
         let given = Given { piece, ..PLAIN };
         for (queries, written) in &NUMBERED {
             given.expect(&rt, BOXES, queries, written, 1, None);
@@ -263,7 +260,7 @@ fn refuses_a_long_comment(rt: HostRuntime) -> Result<(), Fail> {
 
 // Some of the lines are faulty.
 fn expect_in_pieces<R: Abort + AllocGlobal>(rt: &R, queries: &[u8], written: &[u8]) {
-    for piece in [1, LONGEST_LINE - 1, SESSION_ROOM] {
+    for piece in [1, LONGEST_LINE - 1, LONGEST_LINE, LONGEST_PIECE] {
         Given { piece, ..PLAIN }.expect(rt, BOXES, queries, written, 1, None);
     }
 }

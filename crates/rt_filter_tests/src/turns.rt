@@ -3,8 +3,8 @@
 ghost use Rattle.std.specs.Prelude.{◌≡◌};
 
 use crate::expect::expect_eq;
-use crate::given::{BOXES, FIND, FOUND, Given, PLAIN};
-use rt_filter::{ReadFault, RunFault, SESSION_ROOM, Settings, Sink, Source, WriteFault, run};
+use crate::given::{BOXES, FIND, FOUND, Given, LONGEST_PIECE, PLAIN};
+use rt_filter::{ReadFault, RunFault, Settings, Sink, Source, WriteFault, run};
 use std::cell::Cell;
 use std::process::Abort;
 use std::test::Fail;
@@ -35,12 +35,12 @@ fn counts_pulls_and_not_bytes(rt: HostRuntime) {
 #[test]
 fn pulls_at_most_a_longest_line(rt: HostRuntime) -> Result<(), Fail> {
     let whole = Given {
-        piece: 2 * SESSION_ROOM,
+        piece: 2 * LONGEST_PIECE,
         turns: 2,
         ..PLAIN
     };
     let mut queries = Vec::from_slice(rt.alloc(), FIND)?;
-    queries.resize(SESSION_ROOM, b'\n')?;
+    queries.resize(LONGEST_PIECE, b'\n')?;
     whole.expect(&rt, BOXES, queries.as_slice(), FOUND, 0, None);
     queries.push(b'\n')?;
     whole.expect(

@@ -5,12 +5,12 @@
 #![tactic(auto)]
 
 use rt_filter::{
-    ArgFault, Invocation, Name, Outcome, RunFault, run_fault_line, run_std, settings_of,
+    ArgFault, Invocation, Name, Outcome, RunFault, Settings, run_fault_line, run_std, settings_of,
 };
 use rt_text::Line;
 use std::env;
 use std::fs::File;
-use std::io::{self, BufWriter, ErrorKind, Write};
+use std::io::{self, BufWriter, ErrorKind, Read, Write};
 use std::process::ExitCode;
 use std::rt::{Env, Files};
 
@@ -108,20 +108,30 @@ fn help(rt: &impl Print) -> Ending {
     }
 }
 
-// Opens the files and runs, with standard output as the writer, buffered, so that a line is not a system call.
+// Opens the files, and then runs.
 fn open_and_run<R: Files + Input + Print + AllocGlobal>(rt: &R, invocation: &Invocation) -> Ending {
     let Ok(table) = File::open(rt, invocation.table.text()) else {
         return Ending::NoTable;
     };
-    let Ok(answers) = BufWriter::with_capacity(rt.alloc(), OUTPUT_ROOM, io::writer(rt)) else {
-        return Ending::NoMemory;
-    };
     let settings = &invocation.settings;
     match &invocation.queries {
-        None => Ending::Ran(run_std(rt.alloc(), settings, table, rt.reader(), answers).0),
+        None => run_buffered(rt, settings, table, rt.reader()),
         Some(queries) => match File::open(rt, queries.text()) {
-            Ok(queries) => Ending::Ran(run_std(rt.alloc(), settings, table, queries, answers).0),
+            Ok(queries) => run_buffered(rt, settings, table, queries),
             Err(_) => Ending::NoQueries,
         },
     }
+}
+
+// Runs with standard output as the writer, buffered, so that a line is not a system call.
+fn run_buffered<R: Print + AllocGlobal, T: Read + Drop, Q: Read + Drop>(
+    rt: &R,
+    settings: &Settings,
+    table: T,
+    queries: Q,
+) -> Ending {
+    let Ok(answers) = BufWriter::with_capacity(rt.alloc(), OUTPUT_ROOM, io::writer(rt)) else {
+        return Ending::NoMemory;
+    };
+    Ending::Ran(run_std(rt.alloc(), settings, table, queries, answers).0)
 }

@@ -1,0 +1,77 @@
+-- Bytes in a buffer, by their places.
+use Rattle.std.proofs.Common.{◌≡◌, ◌∙◌, ◌+◌, ◌-◌, ◌<◌, ◌≤◌, ℕ, List, ◌++◌, length, take, drop, Some, ap, refl, sym, arith}
+use Rattle.std.proofs.Math.Seq.{drop-append_seam, take-add, take-append-add, take-append_seam}
+use Rattle.std.proofs.lemmas.{List.{drop-drop, length-append, length-drop, length-take-le, take-append-drop, take-take}, Slice.{take-put_mid, take-put_mid_below}}
+use borrow.Rule.Slice.PartMut.{put_mid}
+use Rattle.memchr.specs.Find.{IsFirstByte, is_byte}
+use Rattle.rt_filter.specs.{Lines.{longest_line}, Stages.{line_feed}}
+
+-- the bytes from `start` to `searched`, in which no line feed stands, and those from there on
+module _ (bytes : List ℕ) (start searched : ℕ) (order : start ≤ searched) where
+  abbrev pub begun_at : List ℕ
+  begun_at = take (searched - start) (drop start bytes)
+
+  behind : drop (searched - start) (drop start bytes) ≡ drop searched bytes
+  behind =
+      let there : start + (searched - start) ≡ searched = omega (arith, order) in
+      drop-drop (searched - start) start bytes ∙ ap (λ n. drop n bytes) there
+
+  pub all_begun : drop start bytes ≡ begun_at ++ drop searched bytes
+  all_begun = sym (take-append-drop (searched - start) (drop start bytes)) ∙ ap (λ zs. begun_at ++ zs) behind
+
+  -- a line that ends at a place from `searched` on
+  pub line_at : (n : ℕ) → take (searched + n - start) (drop start bytes) ≡ begun_at ++ take n (drop searched bytes)
+  line_at n =
+      let long : searched + n - start ≡ searched - start + n = omega (arith, order) in
+      ap (λ k. take k (drop start bytes)) long ∙ take-add (searched - start) n (drop start bytes)
+      ∙ ap (λ zs. begun_at ++ take n zs) behind
+
+  -- it is no longer than a line may be where the buffer has room for no more and its line feed
+  pub line_fits : (n : ℕ) → IsFirstByte (is_byte line_feed) (drop searched bytes) (Some n) → length bytes ≤ longest_line + 1
+      → length (take (searched + n - start) (drop start bytes)) ≤ longest_line
+  line_fits n at most =
+      let below : searched + n < length bytes = omega (arith, at.0.high, length-drop searched bytes) in
+      let long = length-take-le (searched + n - start) (drop start bytes) (omega (arith, order, below, length-drop start bytes)) in
+      omega (arith, long, below, most)
+
+-- the bytes behind a line feed
+pub behind_line : (bytes : List ℕ) (searched n : ℕ) → drop (searched + n + 1) bytes ≡ drop (n + 1) (drop searched bytes)
+behind_line bytes searched n =
+    let there : searched + (n + 1) ≡ searched + n + 1 = omega arith in
+    sym (drop-drop (n + 1) searched bytes ∙ ap (λ k. drop k bytes) there)
+
+pub none_begun : (bytes : List ℕ) (n : ℕ) → take (n - n) (drop n bytes) ≡ take 0 (drop n bytes)
+none_begun bytes n =
+    let none : n - n ≡ 0 = omega arith in
+    ap (λ k. take k (drop n bytes)) none
+
+pub from_front : (bytes : List ℕ) (n : ℕ) → take (n - 0) bytes ≡ take n bytes
+from_front bytes n =
+    let all : n - 0 ≡ n = omega arith in
+    ap (λ k. take k bytes) all
+
+-- ---- what a pull puts behind the bytes that are kept
+
+pub kept_same : (buffer room : List ℕ) (kept k : ℕ) → kept ≤ length buffer → take kept (put_mid kept k buffer room) ≡ take kept buffer
+kept_same buffer room kept k fits = take-put_mid_below kept k buffer room kept (omega arith) fits
+
+module _ (buffer room : List ℕ) (kept k n : ℕ) (fits : kept ≤ length buffer) (few : n ≤ length room) where
+  long : length (take kept buffer) ≡ kept
+  long = length-take-le kept buffer fits
+
+  pub filled : take (kept + n) (put_mid kept k buffer room) ≡ take kept buffer ++ take n room
+  filled =
+      let all : take (kept + length room) (put_mid kept k buffer room) ≡ take kept buffer ++ room =
+      take-put_mid kept k buffer room (kept + length room) refl fits in
+      let front : take (kept + n) (take (kept + length room) (put_mid kept k buffer room)) ≡ take (kept + n) (put_mid kept k buffer room) =
+      take-take (kept + n) (kept + length room) (put_mid kept k buffer room) (omega (arith, few)) in
+      sym front ∙ ap (take (kept + n)) all ∙ ap (λ m. take (m + n) (take kept buffer ++ room)) (sym long) ∙ take-append-add (take kept buffer) room n
+
+  pub front_of : take kept (take (kept + n) (put_mid kept k buffer room)) ≡ take kept buffer
+  front_of = ap (take kept) filled ∙ ap (λ m. take m (take kept buffer ++ take n room)) (sym long) ∙ take-append_seam (take kept buffer) (take n room)
+
+  pub rest_of : drop kept (take (kept + n) (put_mid kept k buffer room)) ≡ take n room
+  rest_of = ap (drop kept) filled ∙ ap (λ m. drop m (take kept buffer ++ take n room)) (sym long) ∙ drop-append_seam (take kept buffer) (take n room)
+
+  pub length_filled : length (take (kept + n) (put_mid kept k buffer room)) ≡ kept + n
+  length_filled = ap length filled ∙ length-append (take kept buffer) (take n room) ∙ omega (arith, long, length-take-le n room few)

@@ -1,0 +1,53 @@
+//! Pulls of query bytes, each of which waits for the replies to those before: they are pushed and flushed.
+
+ghost use Rattle.std.specs.Prelude.{◌≡◌, ◌+◌, ◌-◌, ◌<◌, ◌≤◌, ◌^◌, ℕ, List, Option, IfOk, OnOk, OnErr, false, length};
+ghost use Rattle.rt_device.specs.Devices.{PulledTimes, Pulls};
+ghost use Rattle.rt_filter.specs.Exchanges.{AtStart, IsAnswered, nothing};
+
+use rt_device::{ReadFault, Sink, Source};
+use std::marker::Brand;
+
+/// What is known when serving begins.
+pub(crate) trait Start {
+    ghost at_start: { AtStart };
+}
+
+impl Start for Brand {
+    ghost at_start = { nothing };
+}
+
+/// A source of queries whose replies go to a sink, which is pulled from only where all that was pulled before is answered.
+pub(crate) trait Exchange<B: Start, K: Sink> {
+    // As of a source: the bytes to come, how many pulls failed, and how many were made.
+    ghost coming: { Self → Option (List ℕ) };
+
+    ghost failed: { Self → ℕ };
+
+    ghost pulled: { Self → Option ℕ };
+
+    /// Puts the next bytes at the front of the room, and returns how many: 0 only where none are to come.
+    fn pull_next(&mut self, sink: &K, room: &mut [u8]) -> Result<usize, ReadFault>
+        // The replies to the lines that are complete are written, and nothing else.
+        requires answered { IsAnswered B.at_start (coming self.old) (K.written sink.now) }
+        // They are flushed too, if nothing waited for a flush when serving began.
+        requires flushed { B.at_start.devices.waits ≡ false → K.waits sink.now ≡ false }
+        requires room { 0 < length room.old }
+        requires count { failed self.old < 2 ^ 64 - 1 }
+        ensures bound { IfOk result (λ n. n ≤ length room.new) }
+        ensures bytes { Pulls (coming self.old) (coming self.new) result room.new }
+        ensures went { OnOk result (failed self.new ≡ failed self.old) }
+        ensures fails { OnErr result (failed self.new ≡ failed self.old + 1) }
+        ensures counted { PulledTimes 1 (pulled self.old) (pulled self.new) };
+}
+
+impl<B: Start, S: Source, K: Sink> Exchange<B, K> for S {
+    ghost coming = { S.coming };
+
+    ghost failed = { S.failed };
+
+    ghost pulled = { S.pulled };
+
+    fn pull_next(&mut self, _sink: &K, room: &mut [u8]) -> Result<usize, ReadFault> {
+        self.pull(room)
+    }
+}

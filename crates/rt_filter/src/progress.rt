@@ -1,0 +1,194 @@
+//! How far the query lines are answered.
+
+ghost use Rattle.std.specs.Prelude.{◌≡◌, ◌+◌, ◌-◌, ◌||◌, ◌<◌, ◌≤◌, ◌^◌, ◌++◌, ℕ, List, [], false, true};
+ghost use Rattle.std.specs.Prelude.{IfOk, OnOk, MatchResult, drop, length, take};
+ghost use Rattle.rt_filter.specs.{Lines.{longest_line, numbered_lines}, Pushes.{Pushed}, Stages.{loaded_tree}};
+ghost use Rattle.rt_filter.specs.Progresses.{IsAfter, IsLeft, completed, parsed_of, progress_of};
+ghost use Rattle.rt_filter.specs.Replies.{any_fault, is_fault, output, reply};
+
+use crate::query::push_reply;
+use crate::reply::push_line;
+use memchr::memchr;
+use rt_device::{Sink, WriteFault};
+use rt_search::Frontier;
+use rt_text::{Parsed, QueryFault, error_line, parse};
+use rt_tree::Tree;
+
+/// How many bytes a query line has at most, a carriage return at its end included and its line feed not.
+const LONGEST_LINE: usize = 4096;
+
+/// How many bytes the buffer for queries holds: those of the longest line and its line feed.
+pub(crate) const BUFFER_LEN: usize = LONGEST_LINE + 1;
+
+/// How far the lines of the queries that were pulled are answered. The bytes of the line that is begun stand at the
+/// front of the buffer, unless it is too long.
+#[derive(Drop)]
+pub(crate) struct Progress {
+    // How many lines are complete.
+    lines: u128,
+    // Whether one of them is faulty.
+    bad: bool,
+    // Whether the line that is begun is too long: its bytes are dropped.
+    is_too_long: bool,
+}
+
+impl Progress {
+    /// Nothing is pulled.
+    pub(crate) fn new() -> Progress
+        ensures { result ≡ progress_of [] }
+    {
+        Progress {
+            lines: 0,
+            bad: false,
+            is_too_long: false,
+        }
+    }
+
+    /// Whether a line that is complete is faulty.
+    pub(crate) fn is_bad(&self) -> bool
+        ensures { result ≡ self.now.bad }
+    {
+        self.bad
+    }
+
+    /// Answers the lines that are complete in these bytes, of which the first `kept` were there before the last pull, and
+    /// flushes where there is a reply. Returns the frontier, and where the line that is begun starts.
+    pub(crate) fn answer_lines<K: Sink>(
+        &mut self,
+        tree: &Tree,
+        frontier: Frontier,
+        bytes: &[u8],
+        kept: usize,
+        sink: &mut K,
+    ) -> Result<(Frontier, usize), WriteFault>
+        requires kept { kept ≤ length bytes.now }
+        requires room { length tree.now.entries ≤ frontier.capacity }
+        requires count { K.failed sink.old < 2 ^ 64 - 1 }
+        requires fits { length bytes.now ≤ longest_line + 1 }
+        requires few { self.old.lines + length bytes.now < 2 ^ 128 }
+        // Whatever was pulled before.
+        ensures pushed { (pulled : List ℕ) → IsAfter self.old (take kept bytes.now) pulled
+            → Pushed K.written K.failed sink.old sink.new result
+            (output (loaded_tree tree.now) (completed pulled (drop kept bytes.now) false)) }
+        ensures progress { (pulled : List ℕ) → IsAfter self.old (take kept bytes.now) pulled
+            → MatchResult result
+            (λ done. IsLeft self.new (drop done.1 bytes.now) (pulled ++ drop kept bytes.now))
+            (λ _. self.new.bad ≡ true
+            → any_fault (numbered_lines (pulled ++ drop kept bytes.now) false) ≡ true) }
+        ensures start { IfOk result (λ done. done.1 ≤ length bytes.now) }
+        ensures few { self.new.lines ≤ self.old.lines + length bytes.now }
+        ensures flushed { OnOk result (K.waits sink.old ≡ false → K.waits sink.new ≡ false) }
+        ensures capacity { IfOk result (λ done. done.0.capacity ≡ frontier.capacity) }
+    {
+        let mut frontier = frontier;
+        let mut is_pushed = false;
+        let mut start = 0;
+        let mut searched = kept;
+        while let Some(at) = memchr(b'\n', &bytes[searched..]) {
+            let end = searched + at;
+            let line = &bytes[start..end];
+            frontier = self.answer_line(tree, frontier, line, &mut is_pushed, sink)?;
+            start = end + 1;
+            searched = start;
+        }
+        if is_pushed {
+            sink.flush()?;
+        }
+        Ok((frontier, start))
+    }
+
+    /// Answers the line that is begun, as no more bytes come, and flushes where there is a reply.
+    pub(crate) fn answer_last<K: Sink>(
+        &mut self,
+        tree: &Tree,
+        frontier: Frontier,
+        line: &[u8],
+        sink: &mut K,
+    ) -> Result<(), WriteFault>
+        requires room { length tree.now.entries ≤ frontier.capacity }
+        requires count { K.failed sink.old < 2 ^ 64 - 1 }
+        requires few { self.old.lines + 1 < 2 ^ 128 }
+        ensures pushed { (pulled : List ℕ) → IsAfter self.old line.now pulled
+            → Pushed K.written K.failed sink.old sink.new result
+            (output (loaded_tree tree.now) (completed pulled [] true)) }
+        ensures bad { (pulled : List ℕ) → IsAfter self.old line.now pulled
+            → self.new.bad ≡ any_fault (numbered_lines pulled true) }
+        ensures flushed { OnOk result (K.waits sink.old ≡ false → K.waits sink.new ≡ false) }
+    {
+        let mut is_pushed = false;
+        // (where no line is begun, this is an empty one, which has no reply)
+        self.answer_line(tree, frontier, line, &mut is_pushed, sink)?;
+        if is_pushed {
+            sink.flush()?;
+        }
+        Ok(())
+    }
+
+    /// Moves the line that is begun, the first `filled` bytes from `start` on, to the front of the buffer. Returns how many
+    /// bytes are kept: none of a line that is too long.
+    pub(crate) fn keep(
+        &mut self,
+        buffer: &mut [u8; BUFFER_LEN],
+        start: usize,
+        filled: usize,
+    ) -> usize
+        requires start { start ≤ filled }
+        requires filled { filled ≤ longest_line + 1 }
+        ensures kept { (pulled : List ℕ)
+            → IsLeft self.old (drop start (take filled buffer.old)) pulled
+            → IsAfter self.new (take result buffer.new) pulled }
+        ensures room { result ≤ longest_line }
+        ensures few { self.new.lines ≡ self.old.lines }
+    {
+        let left = filled - start;
+        self.is_too_long = self.is_too_long || left == BUFFER_LEN;
+        if self.is_too_long {
+            return 0;
+        }
+        buffer.copy_within(start..filled, 0);
+        left
+    }
+
+    // Answers a line, which is the next one. `is_pushed` is set where something is pushed; else it is left as it was, and
+    // the sink too.
+    fn answer_line<K: Sink>(
+        &mut self,
+        tree: &Tree,
+        frontier: Frontier,
+        line: &[u8],
+        is_pushed: &mut bool,
+        sink: &mut K,
+    ) -> Result<Frontier, WriteFault>
+        requires room { length tree.now.entries ≤ frontier.capacity }
+        requires count { K.failed sink.old < 2 ^ 64 - 1 }
+        requires few { self.old.lines + 1 < 2 ^ 128 }
+        ensures pushed { Pushed K.written K.failed sink.old sink.new result (reply
+            (loaded_tree tree.now) (self.old.lines + 1) (parsed_of self.old.is_too_long line.now)) }
+        ensures progress { self.new ≡ record {
+          lines = self.old.lines + 1;
+          bad = self.old.bad || is_fault (parsed_of self.old.is_too_long line.now);
+          is_too_long = false;
+        } }
+        ensures capacity { IfOk result (λ left. left.capacity ≡ frontier.capacity) }
+        ensures untouched { is_pushed.new ≡ false
+            → (is_pushed.old ≡ false) × (sink.new ≡ sink.old) }
+    {
+        self.lines += 1;
+        let fault = if self.is_too_long {
+            self.is_too_long = false;
+            QueryFault::LineTooLong
+        } else {
+            match &parse(line) {
+                Parsed::Skip => return Ok(frontier),
+                Parsed::Query(query) => {
+                    *is_pushed = true;
+                    return push_reply(tree, frontier, self.lines, query, sink);
+                }
+                Parsed::Fault(fault) => *fault,
+            }
+        };
+        *is_pushed = true;
+        self.bad = true;
+        push_line(&error_line(self.lines, fault), sink).and(Ok(frontier))
+    }
+}
