@@ -55,7 +55,8 @@ fn query(verb: &[u8], words: &mut Words, found: &mut Query) -> Judged<()>
         *found = Query::Levels;
         finished(words)
     } else if verb == b"cost".as_slice() {
-        costed(words, found)
+        *found = costed(words)?;
+        Ok(())
     } else {
         box_query(verb, words, found)
     }
@@ -63,14 +64,13 @@ fn query(verb: &[u8], words: &mut Words, found: &mut Query) -> Judged<()>
 
 // Kept out of line: only lines with `cost` have need of it.
 #[inline(never)]
-fn costed(words: &mut Words, found: &mut Query) -> Judged<()>
-    ensures { Reads (map_value cost_of (box_query words.old)) result found.new }
+fn costed(words: &mut Words) -> Judged<Query>
+    ensures { result ≡ map_value cost_of (box_query words.old) }
 {
     let verb = next_word(words)?;
     let mut query = Query::Levels;
     box_query(verb, words, &mut query)?;
-    *found = cost_of(query);
-    Ok(())
+    Ok(cost_of(query))
 }
 
 // The cost of a find or a count.
