@@ -44,7 +44,7 @@ impl Circle {
     }
 }
 
-/// A borrowed shape is asked as the shape.
+/// A reference to a shape is the same shape.
 impl<S: Shape> Shape for &S {
     ghost accepts = { λ s. S.accepts s.now };
 

@@ -293,7 +293,7 @@ fn vertex_count(words: &mut Words) -> Judged<usize>
     Ok(count.unsigned_abs() as usize)
 }
 
-// So many points, one after the other.
+// As many points as the count, one after the other.
 #[inline(always)]
 fn points(count: usize, words: &mut Words, found: &mut ArrayVec<Point, MOST_VERTICES>) -> Judged<()>
     requires few { count ≤ MOST_VERTICES }
