@@ -86,7 +86,7 @@ pub(crate) fn push_reply<K: Sink>(
 // What is reported of boxes.
 #[derive(Drop)]
 enum Report {
-    // A line for each in the order, of the first so many where there is a limit, and then their number.
+    // A line for each, in this order, up to the limit where there is one, and then their number.
     Answers { order: Order, limit: Option<u64> },
     // Their number.
     Count,

@@ -232,3 +232,8 @@ query_of line = parsed_words (words (strip_carriage_return line))
 abbrev pub Takes : {X : Type 0} → Result (Taken X) QueryFault → Result X QueryFault → List (List ℕ) → Type 0
 Takes want (Ok x) left = want ≡ Ok (x, left)
 Takes want (Err cause) left = want ≡ Err cause
+
+-- the same of a parser that writes what it has read; at a fault what it wrote is left open
+abbrev pub Reads : {X : Type 0} → Result X QueryFault → Result (Unit {0}) QueryFault → X → Type 0
+Reads want (Ok done) x = want ≡ Ok x
+Reads want (Err cause) x = want ≡ Err cause

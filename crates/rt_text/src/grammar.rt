@@ -5,7 +5,7 @@
 
 ghost use Rattle.std.specs.Prelude.{◌≡◌, ◌≤◌, ◌≤ℤ◌, ◌∷◌, [], ℕ, IfErr, IfOk, List, MatchOption, Some, Ok, Err};
 ghost use Rattle.std.specs.Str.Lines.{strip_carriage_return};
-ghost use Rattle.rt_text.specs.{Numbers.{number_text}, Queries.{Takes, box_query, circle, coordinate, cost_of, count, find}};
+ghost use Rattle.rt_text.specs.{Numbers.{number_text}, Queries.{Reads, Takes, box_query, circle, coordinate, cost_of, count, find}};
 ghost use Rattle.rt_text.specs.Queries.{finished, layers_of, limit, natural, nearest, number, on_list, order, point, points};
 ghost use Rattle.rt_text.specs.Queries.{polygon, query, query_of, region, sides, usual_order, vertex_count, word_as};
 ghost use Rattle.rt_text.specs.Steps.{map_value};
@@ -36,25 +36,29 @@ pub fn parse(line: &[u8]) -> Parsed
         Some(verb) if !verb.starts_with(b"#") => verb,
         _ => return Parsed::Skip,
     };
-    match query(verb, &mut words) {
-        Ok(query) => Parsed::Query(query),
+    let mut found = Query::Levels;
+    match query(verb, &mut words, &mut found) {
+        Ok(()) => Parsed::Query(found),
         Err(fault) => Parsed::Fault(fault),
     }
 }
 
 // ---- queries
 
+// What is found is written where it is to stand: a query has room for a polygon, and each move would copy it.
+
 #[inline(always)]
-fn query(verb: &[u8], words: &mut Words) -> Judged<Query>
-    ensures { result ≡ query verb.now words.old }
+fn query(verb: &[u8], words: &mut Words, found: &mut Query) -> Judged<()>
+    ensures { Reads (query verb.now words.old) result found.new }
 {
     if verb == b"levels".as_slice() {
-        finished(words)?;
-        Ok(Query::Levels)
+        *found = Query::Levels;
+        finished(words)
     } else if verb == b"cost".as_slice() {
-        costed(words)
+        *found = costed(words)?;
+        Ok(())
     } else {
-        box_query(verb, words)
+        box_query(verb, words, found)
     }
 }
 
@@ -64,7 +68,9 @@ fn costed(words: &mut Words) -> Judged<Query>
     ensures { result ≡ map_value cost_of (box_query words.old) }
 {
     let verb = next_word(words)?;
-    Ok(cost_of(box_query(verb, words)?))
+    let mut query = Query::Levels;
+    box_query(verb, words, &mut query)?;
+    Ok(cost_of(query))
 }
 
 // The cost of a find or a count.
@@ -89,60 +95,63 @@ fn cost_of(query: Query) -> Query
 }
 
 #[inline(always)]
-fn box_query(verb: &[u8], words: &mut Words) -> Judged<Query>
-    ensures { result ≡ box_query (verb.now ∷ words.old) }
+fn box_query(verb: &[u8], words: &mut Words, found: &mut Query) -> Judged<()>
+    ensures { Reads (box_query (verb.now ∷ words.old)) result found.new }
 {
     if verb == b"find".as_slice() {
-        find(words)
+        find(words, found)
     } else if verb == b"nearest".as_slice() {
-        nearest(words)
+        nearest(words, found)
     } else if verb == b"count".as_slice() {
-        count(words)
+        count(words, found)
     } else {
         Err(QueryFault::UnknownVerb)
     }
 }
 
 #[inline(always)]
-fn find(words: &mut Words) -> Judged<Query>
-    ensures { result ≡ find words.old }
+fn find(words: &mut Words, found: &mut Query) -> Judged<()>
+    ensures { Reads (find words.old) result found.new }
 {
     let region = region(words)?;
     let layers = on_list(words)?;
     let order = order(&region, words)?;
     let limit = limit(words)?;
     finished(words)?;
-    Ok(Query::Find {
+    *found = Query::Find {
         region,
         order,
         limit,
         layers,
-    })
+    };
+    Ok(())
 }
 
 #[inline(always)]
-fn nearest(words: &mut Words) -> Judged<Query>
-    ensures { result ≡ nearest words.old }
+fn nearest(words: &mut Words, found: &mut Query) -> Judged<()>
+    ensures { Reads (nearest words.old) result found.new }
 {
     let limit = natural_word(words, u64::MAX)?;
     let centre = point(words)?;
     finished(words)?;
-    Ok(Query::Find {
+    *found = Query::Find {
         region: Region::All(All),
         order: Order::Near(Near(centre)),
         limit: Some(limit),
         layers: Layers::all(),
-    })
+    };
+    Ok(())
 }
 
 #[inline(always)]
-fn count(words: &mut Words) -> Judged<Query>
-    ensures { result ≡ count words.old }
+fn count(words: &mut Words, found: &mut Query) -> Judged<()>
+    ensures { Reads (count words.old) result found.new }
 {
     let region = region(words)?;
     let layers = on_list(words)?;
     finished(words)?;
-    Ok(Query::Count { region, layers })
+    *found = Query::Count { region, layers };
+    Ok(())
 }
 
 // Whether no word is left.
@@ -284,7 +293,7 @@ fn vertex_count(words: &mut Words) -> Judged<usize>
     Ok(count.unsigned_abs() as usize)
 }
 
-// So many points, one after the other.
+// As many points as the count, one after the other.
 #[inline(always)]
 fn points(count: usize, words: &mut Words, found: &mut ArrayVec<Point, MOST_VERTICES>) -> Judged<()>
     requires few { count ≤ MOST_VERTICES }

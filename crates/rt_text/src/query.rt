@@ -5,7 +5,7 @@ use rt_geo::{Layers, Order, Region};
 /// A query. Its answers are the boxes that the region accepts and whose layer is among the layers.
 #[derive(Debug, PartialEq, Eq, Drop)]
 pub enum Query {
-    /// A line for each answer in the order, of the first so many where there is a limit, and then their number.
+    /// A line for each answer, in this order, up to the limit where there is one, and then their number.
     Find {
         region: Region,
         order: Order,
@@ -36,8 +36,8 @@ pub enum Query {
 /// What is wrong with a query line: the first fault from left to right.
 #[derive(Clone, Copy, Debug, PartialEq, Eq)]
 pub enum QueryFault {
-    /// The line has more bytes than are allowed where lines are cut. [`parse`](crate::parse) takes lines of any length, and
-    /// never returns this.
+    /// The line is too long. [`parse`](crate::parse) takes lines of any length and never returns this: the length is judged
+    /// where lines are cut.
     LineTooLong,
     /// The first word is no query, or the one after `cost` none that has a cost.
     UnknownVerb,
