@@ -62,6 +62,7 @@ class Interrupts(unittest.TestCase):
         self.assertEqual(told, [5] * self.N)
 
     def test_at_each_moment(self) -> None:
+        boxes: Pool
         for program in anything(PROGRAM, [PROGRAM]):
             for ask, among in anything(
                 (lambda: boxes.count(All()), ()), (lambda: boxes.ask(["count all"] * 150), FILES),
@@ -117,6 +118,7 @@ class Interrupts(unittest.TestCase):
 
     def test_in_the_middle_of_a_call_of_the_same_thread(self) -> None:
         """A pool isn't asked by the handler of a signal where all its copies may be those of the calls that wait for it."""
+        boxes: Pool
         for program in anything(PROGRAM, [PROGRAM]):
             for handle in anything(
                 lambda: boxes.count(All()), lambda: boxes.ask(["count all"] * 150), lambda: boxes.reload()
