@@ -68,6 +68,10 @@ test:
 test-users: all
 	@tests/users.py build/rtfilter $(if $(filter all,$(NEED)),--need-all)
 
+# The Debian packages that the tests want, by apt-get, as root or with sudo.
+test-packages:
+	@tests/packages
+
 # The greatest table that is allowed: some 1.2 GB of memory, and half a minute. No part of test.
 test-full: build/rtfilter
 	@tests/sizes.py build/rtfilter --full
@@ -124,5 +128,5 @@ uninstall:
 clean:
 	rm -rf build crates/*/out
 
-.PHONY: all example check test test-users test-full bench deb wheel reference install uninstall clean
+.PHONY: all example check test test-users test-packages test-full bench deb wheel reference install uninstall clean
 .DEFAULT_GOAL := all
