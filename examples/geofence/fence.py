@@ -75,8 +75,10 @@ def serve(args: argparse.Namespace, fence: Fence, next_line: int, signals: Signa
     if args.unix is None:
         if args.resume is not None:
             tell(f"goes on from line {next_line} of the input")
-        answer, first = (partial(fence.told_from, next_line), 1) if args.skip_answered else (fence.told_of, next_line)
-        Stream(answer, signals, *standard_ends(), first).serve()
+        if args.skip_answered:
+            Stream(partial(fence.told_from, next_line), signals, *standard_ends()).serve()
+        else:
+            Stream(fence.told_of, signals, *standard_ends(), next_line).serve()
         return
     most = min(args.connections, resource.getrlimit(resource.RLIMIT_NOFILE)[0] - OTHER_FILES)
     with unix_listener(args.unix, args.mode) as listener:

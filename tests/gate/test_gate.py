@@ -65,8 +65,8 @@ class Gate(unittest.TestCase):
 
     def test_the_gate_goes_on(self) -> None:
         """As root it installs first. Where that fails, and for any other user, it goes on."""
-        for words, count in (({}, 3), ({"NO_NETWORK": "1"}, 3), ({"USER_ID": "1000"}, 1)):
-            status, told, calls = self.run_script(".ci/run", lacking="mypy", **words)
+        for no_network, user, count in (("", "0", 3), ("1", "0", 3), ("", "1000", 1)):
+            status, told, calls = self.run_script(".ci/run", lacking="mypy", NO_NETWORK=no_network, USER_ID=user)
             self.assertEqual((status, len(calls), calls[-1]), (0, count, "make --no-print-directory test"), told)
 
     def test_what_is_not_tried_is_named(self) -> None:

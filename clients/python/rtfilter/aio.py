@@ -15,7 +15,7 @@ from typing import TYPE_CHECKING, Any, Self, TypeVar
 
 from . import arrays
 from .answers import Answers
-from .client import ANSWERED, LINE_FEED, PROGRAM, Command, checked_timeout, command, query_lines
+from .client import LINE_FEED, PROGRAM, Command, checked_timeout, command, query_lines
 from .connection import Address, Connection
 from .deadlines import ENDLESS
 from .errors import TimedOut
@@ -24,7 +24,7 @@ from .queries import All, Covers, Inside, Layers, Order, Region, Window
 from .queries import count_line, find_form, find_line, nearest_line
 from .replies import Reply, all_answers, answers_of, cut, cut_one, may_be_skipped
 from .tables import Table, again, file_of, named
-from .transport import CLOSED, PIECE, Loads, Transport
+from .transport import ANSWERED, CLOSED, PIECE, Loads, Transport
 
 if TYPE_CHECKING:
     from numpy.typing import NDArray

@@ -16,7 +16,7 @@ from .deadlines import ENDLESS, Deadline, Turns
 from .program import Program
 from .replies import OneReply, Reply, answers_of, cut, may_be_skipped
 from .tables import File, Table, again, file_of, named
-from .transport import CLOSED, Loads, Transport
+from .transport import ANSWERED, CLOSED, Loads, Transport
 
 Command = Union[File, Sequence[str]]
 """The program: its name or path, or the words of a command, which options and the table's name are to follow."""
@@ -24,9 +24,6 @@ Command = Union[File, Sequence[str]]
 PROGRAM = "rtfilter"
 
 LINE_FEED = "a line feed in a query line: {!r:.200}"
-
-ANSWERED = "find all first 0"
-"""A line that is always answered, for a text whose last line may have no reply."""
 
 
 class Rtfilter(Boxes):
@@ -110,7 +107,8 @@ class Rtfilter(Boxes):
     def _told(self, text: bytes, lines: int, deadline: Deadline) -> tuple[int, bytes]:
         """The number of the first of these lines, and the replies to them."""
         transport = self._open(deadline)
-        return transport.lines + 1, transport.replies_to(text, lines, deadline)
+        replies = transport.replies_to(text, lines, deadline)
+        return transport.lines - lines + 1, replies
 
     def _texts(self, texts: Iterable[tuple[str, int]], deadline: Deadline) -> Iterator[bytes]:
         replies = self._turns.take(partial(self._all_told, texts, deadline), deadline)

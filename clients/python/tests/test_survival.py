@@ -231,8 +231,8 @@ class Times(unittest.TestCase):
                 boxes.find(All())
 
     def test_an_interrupt(self) -> None:
-        """What comes after it isn't taken for another line's reply."""
-        with Rtfilter(BOXES, program=acting("exec sleep 60")) as boxes:
+        """What comes after it isn't taken for another line's reply: the next call waits until that is there, or it times out."""
+        with Rtfilter(BOXES, program=acting("exec sleep 60"), timeout=SOON) as boxes:
             def interrupt(*_: object) -> None:
                 raise KeyboardInterrupt
 
@@ -243,8 +243,9 @@ class Times(unittest.TestCase):
                     boxes.count(All())
             finally:
                 signal.signal(signal.SIGALRM, before)
-            with self.assertRaises(Ended):
-                boxes.count(All())
+            for error in (TimedOut, Ended):
+                with self.assertRaises(error):
+                    boxes.count(All())
 
     @mock.patch.object(subprocess.Popen, "poll", side_effect=AssertionError)
     @mock.patch.object(subprocess.Popen, "wait", side_effect=AssertionError)
@@ -260,7 +261,7 @@ class Times(unittest.TestCase):
                 boxes.count(All())
 
     def test_interrupts_at_any_moment(self) -> None:
-        """Whatever they meet, no reply is another line's."""
+        """Whatever they meet, no reply is another line's, and the program goes on."""
         chance = random.Random(5)
         lines = ["find all", "# none", "x", "nearest 2 12 12"]
 
@@ -272,10 +273,11 @@ class Times(unittest.TestCase):
 
         with Rtfilter(BOXES, program=PROGRAM, timeout=60) as boxes:
             wanted = {size: list(written(boxes.replies(lines * size))) for size in (1, 50)}
-            by_itself, met = boxes.find(All()), {Interrupt: 0, Ended: 0}
+            by_itself, interrupts = boxes.find(All()), 0
+            program = children_of(os.getpid())
             before = signal.signal(signal.SIGALRM, interrupt)
             try:
-                while min(met.values()) < 20:
+                while interrupts < 200:
                     try:
                         try:
                             signal.setitimer(signal.ITIMER_REAL, chance.uniform(0.00005, 0.002))
@@ -286,12 +288,10 @@ class Times(unittest.TestCase):
                         finally:
                             signal.setitimer(signal.ITIMER_REAL, 0)
                     except Interrupt:
-                        met[Interrupt] += 1
-                    except Ended:
-                        met[Ended] += 1
-                        boxes.reload()
+                        interrupts += 1
             finally:
                 signal.signal(signal.SIGALRM, before)
+            self.assertEqual(children_of(os.getpid()), program)
 
 
 class Pieces(unittest.TestCase):
