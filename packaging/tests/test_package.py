@@ -89,7 +89,8 @@ class Versions(unittest.TestCase):
         wheels = {it for page in ("docs/python-client.md", "clients/python/README.md")
                   for it in re.findall(r"rtfilter-([\d.]+)-py3", (ROOT / page).read_text(encoding="utf-8"))}
         served = run(sys.executable, "-B", ROOT / "service/serve.py", "--version").split()[-1]
-        self.assertEqual([project["version"], *manuals, changes, *wheels, served], [VERSION] * 6)
+        client = run(sys.executable, "-B", "-c", "import rtfilter; print(rtfilter.__version__)", env={**os.environ, "PYTHONPATH": PACKAGE})
+        self.assertEqual([project["version"], *manuals, changes, *wheels, served, client.strip()], [VERSION] * 7)
 
 
 class Packages(unittest.TestCase):
