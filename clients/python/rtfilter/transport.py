@@ -53,6 +53,7 @@ class Transport(Owned, abc.ABC):
         self._is_under_way = False  # a call, or one was broken off: `lines` are those up to its last one
         self._unsent: Text = b""  # what a write was given last
         self._taken = 0  # bytes of that
+        self._line = b""  # what was read last of a line, or the whole of it
         super().__init__()
 
     def load(self, deadline: Deadline) -> None:
@@ -230,12 +231,12 @@ class Transport(Owned, abc.ABC):
         """Writes and reads by turns, so that neither side waits for ever for the other to read; a piece may have been read
         before. The pieces as they come, up to the end of the reply to the last line."""
         ends = b"ok %d " % self.lines, b"error %d " % self.lines
-        line = b""  # the last one that was read, or what is there of it
+        self._line = line = b""
         while True:
             if piece:
                 yield piece
                 begin = piece.rfind(b"\n", 0, -1) + 1
-                line = piece[begin:] if begin or line.endswith(b"\n") else line + piece
+                self._line = line = piece[begin:] if begin or line.endswith(b"\n") else line + piece
                 if line.endswith(b"\n") and line.startswith(ends):
                     return
             unsent = self._send(unsent)
