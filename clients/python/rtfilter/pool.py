@@ -251,8 +251,10 @@ class Pool(Boxes):
         self, loads: Loads, name: str, is_unchanged: Callable[[], bool], deadline: Deadline, library: Path
     ) -> Copies:
         """Copies that are one table in memory, each asked by a process of its own."""
-        def start(deadline: Deadline) -> Holder:
-            return loads.ready(Holder([*self._words, "--", name], library), deadline)
+        words = [*self._words, "--", name]
+
+        def start(deadline: Deadline) -> Holder:  # without this pool, which would then be dropped later than by all else
+            return loads.ready(Holder(words, library), deadline)
 
         shared = Shared(start, is_unchanged, deadline)
         clients: list[Rtfilter] = []

@@ -10,6 +10,7 @@ import threading
 import time
 import unittest
 from collections.abc import Callable
+from functools import partial
 
 from support import BOXES, PROGRAM, anything, descendants_of
 
@@ -24,7 +25,7 @@ FILES = pool.__file__, threads.__file__, deadlines.__file__
 OF_CALLS = transport.__file__, program.__file__
 ROWS = [(at, 0, 10, 0, 10) for at in range(300)]
 CELL = """
-boxes = rtfilter.Rtfilter(ROWS, program=PROGRAM)
+boxes = opened()
 boxes.count(rtfilter.All())
 boxes.ask(["find all"] * 100)
 boxes.find(rtfilter.All())
@@ -94,16 +95,21 @@ class OneProgram(unittest.TestCase):
                 boxes.ask(["find"])
 
     def test_a_cell_that_runs_again(self) -> None:
-        """As in a notebook, which keeps what the last line shows and where the last error was: there is one program."""
-        shell = code.InteractiveInterpreter({"rtfilter": rtfilter, "ROWS": ROWS, "PROGRAM": PROGRAM})
-        cell = compile(CELL, "cell", "exec")
-        with contextlib.redirect_stderr(io.StringIO()):
-            for number in range(8):
-                is_interrupted(lambda: shell.runcode(cell), 200 + 100 * number, OF_CALLS)
-                self.assertEqual(len(self.programs()), 1)
-        shell.runcode(compile("count = len(boxes)", "cell", "exec"))
-        self.assertEqual(shell.locals["count"], 300)
-        shell.locals["boxes"].close()
+        """As in a notebook, which keeps where the last error was: there is one program, or one pool, once all are through."""
+        for opened, least in (partial(Rtfilter, ROWS, program=PROGRAM), 1), (partial(Pool, 2, ROWS, program=PROGRAM), 3):
+            shell = code.InteractiveInterpreter({"rtfilter": rtfilter, "opened": opened})
+            cell = compile(CELL, "cell", "exec")
+            with contextlib.redirect_stderr(io.StringIO()):
+                for number in range(8):
+                    is_interrupted(lambda: shell.runcode(cell), 200 + 100 * number, OF_CALLS)
+                shell.runcode(cell)
+                until = time.monotonic() + LONG
+                while len(self.programs()) != least:  # which takes a moment, and no collection of garbage
+                    self.assertLess(time.monotonic(), until, self.programs())
+                    time.sleep(0.01)
+            shell.runcode(compile("count = len(boxes)", "cell", "exec"))
+            self.assertEqual(shell.locals["count"], 300)
+            shell.locals["boxes"].close()
 
 
 class Interrupts(unittest.TestCase):
