@@ -63,7 +63,7 @@ class Geos:
 
     def __init__(self, folder, boxes, windows):
         program, files = Path(folder, "geos_bulk"), [Path(folder, name) for name in ("boxes", "windows")]
-        subprocess.run(["cc", "-O2", "-o", program, self.SOURCE, "-lgeos_c"], check=True)
+        subprocess.run(["cc", "-O", "-o", program, self.SOURCE, "-lgeos_c"], check=True)
         for file, rows in zip(files, (boxes, windows)):
             file.write_bytes(rows.astype("i8").tobytes())
         self._process = subprocess.Popen([program, *files], stdin=subprocess.PIPE, stdout=subprocess.PIPE)
