@@ -68,6 +68,10 @@ test:
 test-users: all
 	@tests/users.py build/rtfilter $(if $(filter all,$(NEED)),--need-all)
 
+# The Debian packages that the tests want, by apt-get, as root or with sudo.
+test-packages:
+	@tests/packages
+
 # The greatest table that is allowed: some 1.2 GB of memory, and half a minute. No part of test.
 test-full: build/rtfilter
 	@tests/sizes.py build/rtfilter --full
@@ -92,31 +96,37 @@ SHARE := $(DESTDIR)$(PREFIX)/share
 LIBRARY := $(DESTDIR)$(PREFIX)/lib/rtfilter
 UNITS := $(DESTDIR)$(PREFIX)/lib/systemd/system
 SERVICE := $(addprefix service/,serve.py service.py listening.py health.py) clients/python/rtfilter/prefork.py
-COMPLETION := $(SHARE)/bash-completion/completions/rtfilter
+COMPLETIONS := $(SHARE)/bash-completion/completions
+
+# What makes the units of many tables of those of one: an instance has the name of its table.
+INSTANCE := s|rtfilter\.socket|rtfilter@%i.socket|; s|/boxes\.csv|/%i.csv|; s|/run/rtfilter/socket|/run/rtfilter/%i.socket|; \
+  s|/rtfilter-service$$|&-%i|; s|^Description=.*|& of %i|
 
 # The service too, where there is a C compiler.
 install: $(PROGRAM) $(PREFORK)
 	install -D $(PROGRAM) "$(DESTDIR)$(PREFIX)/bin/rtfilter"
 	install -D -m 644 docs/rtfilter.1 "$(SHARE)/man/man1/rtfilter.1"
-	install -D -m 644 packaging/rtfilter.bash "$(COMPLETION)"
+	install -D -m 644 packaging/rtfilter.bash "$(COMPLETIONS)/rtfilter"
 ifdef PREFORK
 	install -d "$(LIBRARY)" "$(UNITS)"
 	install -m 644 $(PREFORK) $(SERVICE) "$(LIBRARY)"
 	install -D -m 644 docs/rtfilter-serve.1 "$(SHARE)/man/man1/rtfilter-serve.1"
+	install -D -m 644 packaging/rtfilter-serve.bash "$(COMPLETIONS)/rtfilter-serve"
 	chmod 755 "$(LIBRARY)/serve.py"
 	ln -sf ../lib/rtfilter/serve.py "$(DESTDIR)$(PREFIX)/bin/rtfilter-serve"
-	for unit in rtfilter.service rtfilter.socket; do \
-	  sed 's|/usr/local|$(PREFIX)|g' service/$$unit > "$(UNITS)/$$unit"; done
+	for kind in service socket; do \
+	  sed 's|/usr/local|$(PREFIX)|g' service/rtfilter.$$kind > "$(UNITS)/rtfilter.$$kind"; \
+	  sed '$(INSTANCE)' "$(UNITS)/rtfilter.$$kind" > "$(UNITS)/rtfilter@.$$kind"; done
 endif
 
 uninstall:
-	rm -f "$(DESTDIR)$(PREFIX)/bin/rtfilter" "$(COMPLETION)"
+	rm -f "$(DESTDIR)$(PREFIX)/bin/rtfilter" "$(COMPLETIONS)/rtfilter" "$(COMPLETIONS)/rtfilter-serve"
 	rm -f "$(SHARE)/man/man1/rtfilter.1" "$(SHARE)/man/man1/rtfilter-serve.1"
-	rm -f "$(DESTDIR)$(PREFIX)/bin/rtfilter-serve" "$(UNITS)/rtfilter.service" "$(UNITS)/rtfilter.socket"
+	rm -f "$(DESTDIR)$(PREFIX)/bin/rtfilter-serve" $(foreach it,.service .socket @.service @.socket,"$(UNITS)/rtfilter$(it)")
 	rm -rf "$(LIBRARY)"
 
 clean:
 	rm -rf build crates/*/out
 
-.PHONY: all example check test test-users test-full bench deb wheel reference install uninstall clean
+.PHONY: all example check test test-users test-packages test-full bench deb wheel reference install uninstall clean
 .DEFAULT_GOAL := all

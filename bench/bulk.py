@@ -1,16 +1,19 @@
 #!/usr/bin/python3
-"""Measures many questions at once from Python: arrays beside rtree and geopandas, and asyncio beside threads.
+"""Measures many questions at once from Python: arrays beside rtree, geopandas and GEOS, and asyncio beside threads.
 
 usage: bench/bulk.py PROGRAM [BOXES]
 
 Prints the tables of docs/python-client.md. Time is that of the wall, the least of some runs in which the cases take turns.
-Answers are compared. It wants python3-numpy; who isn't there of python3-rtree and python3-geopandas is told. No part of the
-gate.
+Answers are compared. It wants python3-numpy; who isn't there of python3-rtree, python3-geopandas, and gcc with libgeos-dev is
+told. No part of the gate.
 """
 
 import asyncio
+import contextlib
 import os
+import subprocess
 import sys
+import tempfile
 import time
 from pathlib import Path
 
@@ -22,11 +25,13 @@ sys.path.insert(0, str(Path(__file__).resolve().parent.parent / "clients/python"
 from rtfilter import Pool, Rtfilter, Window, aio
 
 try:
+    import rtree as of_rtree
     from rtree import index as rtree
 except ImportError:
     rtree = None
 try:
     import geopandas
+    import shapely
     from shapely.geometry import box
 except ImportError:
     geopandas = None
@@ -49,6 +54,45 @@ def some_windows(chance, boxes):
 
 def in_geopandas(sides):
     return geopandas.GeoSeries([box(x1, y1, x2, y2) for x1, x2, y1, y2 in sides.tolist()])
+
+
+class Geos:
+    """GEOS's tree, asked by a program in C over pipes: some bytes a pair are what they cost."""
+
+    SOURCE = Path(__file__).with_name("peers") / "geos_bulk.c"
+
+    def __init__(self, folder, boxes, windows):
+        program, files = Path(folder, "geos_bulk"), [Path(folder, name) for name in ("boxes", "windows")]
+        subprocess.run(["cc", "-O", "-o", program, self.SOURCE, "-lgeos_c"], check=True)
+        for file, rows in zip(files, (boxes, windows)):
+            file.write_bytes(rows.astype("i8").tobytes())
+        self._process = subprocess.Popen([program, *files], stdin=subprocess.PIPE, stdout=subprocess.PIPE)
+        self.pairs()  # once they are loaded
+
+    def pairs(self):
+        self._process.stdin.write(b"\n")
+        self._process.stdin.flush()
+        count = int.from_bytes(self._process.stdout.read(8), sys.byteorder)
+        return numpy.frombuffer(self._process.stdout.read(16 * count), numpy.int64).reshape(-1, 2)
+
+    def sorted(self):
+        pairs = self.pairs()
+        return pairs[numpy.lexsort((pairs[:, 1], pairs[:, 0]))].T
+
+    def close(self):
+        self._process.stdin.close()
+        self._process.wait()
+
+
+def geos_over(stack, boxes, windows):
+    """GEOS, where it can be compiled."""
+    folder = stack.enter_context(tempfile.TemporaryDirectory())
+    with contextlib.suppress(OSError, subprocess.CalledProcessError):
+        return stack.enter_context(contextlib.closing(Geos(folder, boxes, windows)))
+
+
+def version_of_geos():
+    return subprocess.run(["geos-config", "--version"], stdout=subprocess.PIPE, text=True).stdout.strip()
 
 
 def one_by_one(theirs, windows):
@@ -82,7 +126,7 @@ def tell(title, least):
 
 
 def arrays(program, table, windows):
-    with Rtfilter(table, program=program) as client, Pool(4, table, program=program) as pool:
+    with Rtfilter(table, program=program) as client, Pool(4, table, program=program) as pool, contextlib.ExitStack() as stack:
         cases = {
             "`query_bulk`": lambda: client.query_bulk(windows),
             "`query_bulk` of a pool of 4": lambda: pool.query_bulk(windows),
@@ -90,13 +134,21 @@ def arrays(program, table, windows):
         }
         if rtree:
             theirs = rtree.Index((id, (x1, y1, x2, y2), None) for id, x1, x2, y1, y2 in table.tolist())
-            cases["rtree's `intersection`, one by one"] = lambda: one_by_one(theirs, windows)
+            cases[f"`intersection` of rtree {of_rtree.__version__}, one by one"] = lambda: one_by_one(theirs, windows)
         if geopandas:
             there = in_geopandas(table[:, 1:]).sindex
             asked = in_geopandas(windows)
-            cases["geopandas' `query_bulk`"] = lambda: there.query_bulk(asked, sort=True)
+            over = f"shapely {shapely.__version__}, " * there.__module__.count("shapely") + type(there).__name__
+            name = f"`query_bulk` of geopandas {geopandas.__version__} ({over})"
+            cases[name] = lambda: there.query_bulk(asked, sort=True)
+        if geos := geos_over(stack, table[:, 1:], windows):
+            cases[of_geos := f"GEOS {version_of_geos()} from C, its STRtree"] = geos.pairs
         least, given = measured(cases, WINDOWS)
         places, ids = given.pop("`query_bulk`")
+        if geos:
+            given[of_geos] = geos.sorted()
+        else:
+            print("GEOS can't be compiled here")
         for name, (others, found) in given.items():
             assert numpy.array_equal(others, places) and numpy.array_equal(found, ids), name
     tell(f"a window of about {HITS} boxes, {WINDOWS:,} at once, over {len(table):,} boxes", least)

@@ -25,16 +25,15 @@ MAINTAINER = "The maintainers of rtfilter <maintainers@rtfilter.invalid>"  # as 
 REVISION = "1"  # of the packages of one version
 WIDTH = 76  # of the changes
 
-# The pages for users, as docs/README.md has them.
-USERS = "PERFORMANCE", "SCALING", "python-client", "query-language", "recipes", "table-format", "usage"
-PAGES = [f"{name}.md" for name in USERS]
+# All pages but docs/README.md, which names the folders of the repository: README.md links to them, and they to each other.
+PAGES = sorted(f"docs/{page.name}" for page in (ROOT / "docs").glob("*.md") if page.name != "README.md")
 
 # What packages are made of, beside the program.
 SOURCES = [
-    "Makefile", "README.md", "crates.txt", *(f"docs/{name}" for name in PAGES), "docs/pictures", "docs/rtfilter.1", "docs/rtfilter-serve.1", "packaging/rtfilter.bash", "service/README.md",
-    "service/prefork.c", "service/serve.py", "service/service.py", "service/listening.py", "service/health.py",
+    "Makefile", "README.md", "CONTRIBUTING.md", "crates.txt", *PAGES, "docs/pictures", "docs/rtfilter.1",
+    "docs/rtfilter-serve.1", "packaging/rtfilter.bash", "packaging/rtfilter-serve.bash", "service/README.md", "service/prefork.c", "service/serve.py", "service/service.py", "service/listening.py", "service/health.py",
     "service/rtfilter.service", "service/rtfilter.socket", "clients/python/rtfilter",
-    *(f"examples/{name}" for name in ("common", "data", "geofence", "languages", "roads", "tiles")),
+    *(f"examples/{name}" for name in ("cluster", "common", "data", "geofence", "languages", "roads", "tiles")),
 ]
 RELEASE = re.compile(r"^## (\S+), (\d{4}-\d\d-\d\d)\n\n((?:- .*\n|  .*\n)+)", re.MULTILINE)
 

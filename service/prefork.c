@@ -17,6 +17,10 @@
  *
  *   The starter's end closed, by its death too: the kernel ends the program, with its connections.
  *
+ * A file that the starter names by its descriptor (RTFILTER_COMMON) has two pages, each with one number. In the first all
+ * connections count the lines that they have answered. Where the second, which they can only read, isn't 0, each of them
+ * ends behind a line.
+ *
  * Standard output is the log: it becomes standard error when the program begins, for what is told of a load can be
  * another file. The program leads its group of processes, which are killed with it. prefork.py starts programs so.
  */
@@ -28,10 +32,13 @@
 #include <linux/seccomp.h>
 #include <poll.h>
 #include <signal.h>
+#include <stdatomic.h>
 #include <stddef.h>
 #include <stdint.h>
 #include <stdio.h>
+#include <stdlib.h>
 #include <string.h>
+#include <sys/mman.h>
 #include <sys/prctl.h>
 #include <sys/signalfd.h>
 #include <sys/socket.h>
@@ -52,6 +59,11 @@ struct report {
     int process, status;
 };
 enum { NONE = -1, BEGUN = -1 };
+
+enum { PAGE = 4096 };
+static _Atomic uint64_t of_none, never; /* what stands in the place of a file */
+static _Atomic uint64_t *all_answered = &of_none;
+static const _Atomic uint64_t *is_ending = &never;
 
 static int is_given, is_confining;
 static sigset_t no_signals, of_children;
@@ -98,6 +110,56 @@ static void become(int connection, pid_t parent)
         _exit(NOT_BEGUN);
 }
 
+enum line { BLANK, ANSWERED, COMMENT }; /* what there is of a line so far */
+static enum line line = BLANK;
+static int is_in_line;
+static uint64_t answered; /* lines that were read, and have their replies at the next read */
+
+/* Counts the lines that end in what was read. */
+static void count_lines(const char *text, size_t size)
+{
+    const char *end = text + size;
+    is_in_line = end[-1] != '\n';
+    while (text < end) {
+        if (line == BLANK) {
+            while (text < end && (*text == ' ' || *text == '\t' || *text == '\r'))
+                text++;
+            if (text < end && *text != '\n')
+                line = *text == '#' ? COMMENT : ANSWERED;
+        }
+        text = memchr(text, '\n', (size_t)(end - text));
+        if (!text)
+            return;
+        text++;
+        answered += line == ANSWERED;
+        line = BLANK;
+    }
+}
+
+/* The read of a connection. Where the starter wants an end, it comes behind a line, and a part of one isn't answered. */
+static ssize_t read_lines(void *buffer, size_t size)
+{
+    ssize_t got;
+    *all_answered += answered;
+    answered = 0;
+    if (*is_ending && !is_in_line)
+        return 0;
+    do /* a read with a limit of time fails where the process was stopped and goes on */
+        got = syscall(SYS_read, STDIN_FILENO, buffer, size);
+    while (got < 0 && errno == EINTR);
+    if (got > 0) {
+        count_lines(buffer, (size_t)got);
+        TRY(buffer, got);
+    } else if (got == 0 && *is_ending && is_in_line) {
+        errno = ECANCELED;
+        return -1;
+    } else if (got == 0) {
+        *all_answered += line == ANSWERED; /* the last line, without an end */
+        line = BLANK;
+    }
+    return got;
+}
+
 /* ---- in the program */
 
 /* Tells the starter, where it listens; that it has ended is noticed elsewhere. */
@@ -111,6 +173,7 @@ static void tell(int process, int status)
 /* Forks for the next connection. Whether this is its child. */
 static int begin(void)
 {
+    static int is_first = 1; /* whose line is the starter's own, and not counted */
     char byte;
     int connection = NONE;
     _Alignas(struct cmsghdr) char extra[CMSG_SPACE(sizeof connection)];
@@ -123,9 +186,11 @@ static int begin(void)
         memcpy(&connection, CMSG_DATA(CMSG_FIRSTHDR(&message)), sizeof connection);
     pid_t parent = getpid(), child = connection == NONE ? NONE : fork();
     if (child == 0) {
+        all_answered = is_first ? &of_none : all_answered;
         become(connection, parent);
         return 1;
     }
+    is_first = 0;
     tell(child, child > 0 ? BEGUN : connection == NONE ? EMFILE : errno);
     if (child > 0)
         kill(child, SIGCHLD); /* it goes on */
@@ -150,7 +215,12 @@ static void serve(void)
 {
     sigaddset(&of_children, SIGCHLD);
     struct pollfd polled[] = { { CONTROL, POLLIN, 0 }, { signalfd(-1, &of_children, SFD_CLOEXEC), POLLIN, 0 } };
-    if (polled[1].fd < 0 || sigprocmask(SIG_BLOCK, &of_children, NULL) || dup2(LOG, STDERR_FILENO) < 0 ||
+    const char *file = getenv("RTFILTER_COMMON");
+    if (file) {
+        all_answered = mmap(NULL, PAGE, PROT_READ | PROT_WRITE, MAP_SHARED, atoi(file), 0);
+        is_ending = mmap(NULL, PAGE, PROT_READ, MAP_SHARED, atoi(file), PAGE);
+    }
+    if (all_answered == MAP_FAILED || is_ending == MAP_FAILED || polled[1].fd < 0 || sigprocmask(SIG_BLOCK, &of_children, NULL) || dup2(LOG, STDERR_FILENO) < 0 ||
         fcntl(CONTROL, F_SETFL, 0)) /* no more SIGIO: from here on it is polled */
         _exit(NOT_BEGUN);
 #ifndef UNCONFINED /* in a test build for valgrind, which makes calls of its own */
@@ -188,15 +258,9 @@ __attribute__((constructor)) static void watch_starter(void)
 ssize_t read(int file, void *buffer, size_t size)
 {
     static int has_begun;
-    ssize_t got;
     if (is_given && file == STDIN_FILENO && !has_begun) {
         has_begun = 1;
         serve();
     }
-    do /* a read with a limit of time fails where the process was stopped and goes on */
-        got = syscall(SYS_read, file, buffer, size);
-    while (got < 0 && errno == EINTR && has_begun);
-    if (has_begun && file == STDIN_FILENO && got > 0)
-        TRY(buffer, got);
-    return got;
+    return has_begun && file == STDIN_FILENO ? read_lines(buffer, size) : syscall(SYS_read, file, buffer, size);
 }

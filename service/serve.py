@@ -89,7 +89,7 @@ def parser_of_words() -> argparse.ArgumentParser:
     add("--tcp", metavar="[HOST:]PORT", type=host_and_port, action="append", default=[], help="listen on TCP (loopback)")
     add("--health", metavar="[HOST:]PORT", type=host_and_port, help="answer /health and /metrics over HTTP there")
     add("--connections", metavar="N", type=within(int, 1, MOST_CONNECTIONS), default=128, help="the most at a time (128)")
-    add("--silence", metavar="SECONDS", type=seconds, default=0.0, help="that a connection may be silent (0: for ever)")
+    add("--silence", metavar="SECONDS", type=seconds, default=600.0, help="that a connection may be silent (600)")
     add("--patience", metavar="SECONDS", type=seconds, default=60.0, help="that a reader may let replies wait (60)")
     add("--drain", metavar="SECONDS", type=seconds, default=300.0, help="that connections keep the old table (300)")
     add("--load-timeout", metavar="SECONDS", type=seconds, default=300.0, help="that a load may take (300)")

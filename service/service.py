@@ -15,6 +15,7 @@ import time
 from argparse import Namespace
 from collections import Counter, deque
 from collections.abc import Callable, Mapping
+from functools import partial
 
 import health
 import prefork
@@ -28,16 +29,33 @@ RESERVED = 100  # descriptors that connections leave to loads and to health, or 
 LONGEST_ERROR = 1 << 12  # bytes of what a program tells of a load
 NO_SERVICE = 1
 SIGNALS = signal.SIGHUP, signal.SIGTERM, signal.SIGINT
+UNREADABLE = 4  # the status of a connection that couldn't be read, or was silent for too long
+NAME = "rtfilter-serve"  # how a line begins that is no reply
+MORE_BOXES = "too many entries", "; docs/SCALING.md says what holds more boxes"  # a fault of a table, and what helps
 
-Start = Callable[[int, int], prefork.Started]  # of a program, with descriptors for what it tells of its load and later
+# Of a program, with descriptors for what it tells of its load and later.
+Start = Callable[[int, int, prefork.Common], prefork.Started]
 End = asyncio.Future[int | None]  # the status of a connection's process, or None where it wasn't begun
 
 
 def log(text: str) -> None:
-    """One line, where it can be written without a wait."""
+    """One line, where it can be written without a wait. It has the time, unless the journal takes it and adds that."""
     with contextlib.suppress(OSError):
         if select.select([], [2], [], 0)[1]:
-            os.write(2, f"{text}\n".encode(errors="surrogateescape"))
+            moment = "" if is_journal(2) else time.strftime("%Y-%m-%dT%H:%M:%SZ ", time.gmtime())
+            os.write(2, f"{moment}{text}\n".encode(errors="surrogateescape"))
+
+
+def is_journal(descriptor: int) -> bool:
+    """Whether systemd's journal takes what is written, as JOURNAL_STREAM tells."""
+    status = os.fstat(descriptor)
+    return os.environ.get("JOURNAL_STREAM") == f"{status.st_dev}:{status.st_ino}"
+
+
+def tell(connection: socket.socket, text: str) -> None:
+    """A line for who is connected, where it is taken without a wait: no reply begins so."""
+    with contextlib.suppress(OSError):
+        connection.send(f"{NAME}: {text}\n".encode(), socket.MSG_DONTWAIT | socket.MSG_NOSIGNAL)
 
 
 def handle_signals(loop: asyncio.AbstractEventLoop, handlers: Mapping[int, Callable[[], object]]) -> None:
@@ -74,10 +92,14 @@ class Service:
         self._tables: list[Table] = []  # whose programs haven't ended: at most two
         self._table: Table | None = None  # of new connections
         self._is_reload_requested = False
+        self._is_end_urgent = False
         self._changed = asyncio.Event()  # any of these
+        self._common = prefork.Common()
+        self._open: set[socket.socket] = set()  # connections that have a process
         self._counts = Counter(
-            connections=0, connections_total=0, connections_refused_total=0, connections_not_begun_total=0
-        )
+            connections=0, connections_total=0, connections_refused_total=0, connections_not_begun_total=0,
+            table_generation=0, loads_failed_total=0,
+        )  # fmt: skip
         descriptors, _ = resource.getrlimit(resource.RLIMIT_NOFILE)
         self._room = descriptors - min(RESERVED, descriptors // 2)  # for connections
         self._last_complaint = -BETWEEN_COMPLAINTS
@@ -96,14 +118,29 @@ class Service:
                 listener.setsockopt(socket.IPPROTO_TCP, socket.TCP_NODELAY, 1)
                 listener.setsockopt(socket.SOL_SOCKET, socket.SO_KEEPALIVE, 1)
         keeping = loop.create_task(self._keep_loaded())
-        handlers = dict(zip(SIGNALS, (self._request_reload, keeping.cancel, keeping.cancel)))
+        handlers = dict(zip(SIGNALS, (self._request_reload, *[partial(self._request_end, keeping)] * 2)))
         threading.Thread(target=handle_signals, args=(loop, handlers), daemon=True).start()
         await asyncio.wait([keeping])
         notify("STOPPING=1")
         self._table = None
         self._state_changed()  # who connects now waits for another service, where systemd has the sockets
+        await self._end_connections()
         await asyncio.gather(*map(self._end, self._tables))
         return 0 if keeping.cancelled() else self._status
+
+    def _request_end(self, keeping: "asyncio.Task[None]") -> None:
+        """Once, connections may still write what they have begun; the second time they are ended."""
+        self._is_end_urgent = keeping.cancelled()
+        keeping.cancel()
+        self._state_changed()
+
+    async def _end_connections(self) -> None:
+        """Has connections end once they have answered the lines that they have read, for as long as `--drain` lets them."""
+        self._common.end()
+        for connection in self._open:
+            with contextlib.suppress(OSError):
+                connection.shutdown(socket.SHUT_RD)
+        await self._wait_until(lambda: self._is_end_urgent or not self._open, self._args.drain)
 
     def _request_reload(self) -> None:
         if not self._is_reload_requested:  # else it is one of a storm of signals, which are to cost little
@@ -155,7 +192,7 @@ class Service:
         """Has a program load the table, and then answer. Raises `OSError`, where it doesn't."""
         reply = b""
         with open(os.memfd_create("rtfilter-errors"), "rb") as errors:
-            table = Table(self._start(errors.fileno(), 2))
+            table = Table(self._start(errors.fileno(), 2, self._common))
             asyncio.get_running_loop().add_reader(table.control, self._read_reports, table)
             self._tables.append(table)
             with table.first, contextlib.suppress(BlockingIOError, ConnectionError):  # it hasn't answered, nor read
@@ -164,9 +201,13 @@ class Service:
             found = re.fullmatch(rb"ok 1 (\d+)\n", reply)
             if found and table in self._tables:  # it hasn't ended since
                 table.size, table.loaded = int(found[1]), time.monotonic()
+                self._counts["table_generation"] += 1
                 return self._switch_to(table, what)
             await self._end(table)
             told = " ".join(os.pread(errors.fileno(), LONGEST_ERROR, 0).decode(errors="replace").split())
+        fault, help = MORE_BOXES
+        told += help * (fault in told)
+        self._counts["loads_failed_total"] += 1
         self._status = max(table.process.returncode, NO_SERVICE)
         if not is_over:
             told = f"it wasn't loaded in {self._args.load_timeout:g} seconds"
@@ -266,6 +307,7 @@ class Service:
         if self._counts["connections"] > self._args.connections:
             self._counts["connections_refused_total"] += 1
             how = f"refused, there are {self._args.connections} connections"
+            tell(connection, how)
         elif (status := await self._exit_status_of(connection)) < 0:
             self._counts["connections_not_begun_total"] += 1
             how = f"not begun: {os.strerror(-status)}"
@@ -274,6 +316,8 @@ class Service:
             kind, code = ("status", code) if code >= 0 else ("signal", -code)
             self._counts[f'connections_ended_total{{{kind}="{code}"}}'] += 1
             how = f"{kind}={code} seconds={time.monotonic() - begun:.3f}"
+            if kind == "status" and code == UNREADABLE and 0 < self._args.silence <= time.monotonic() - begun:
+                tell(connection, f"silent for {self._args.silence:g} seconds")
         self._counts["connections"] -= 1
         with contextlib.suppress(OSError), connection:
             connection.shutdown(socket.SHUT_RDWR)  # a process that was killed may hold it for a moment yet
@@ -291,6 +335,7 @@ class Service:
                 with contextlib.suppress(ConnectionError):  # it has just ended, and nothing is begun
                     prefork.give(table.control, connection)
                 table.pending.append(end := End())
+                self._open.add(connection)
                 if not self._accepting_table():
                     self._state_changed()
                 if (status := await end) is not None:
@@ -299,9 +344,12 @@ class Service:
             return -(error.errno or errno.EIO)
         except asyncio.CancelledError:  # the service ends
             return signal.SIGKILL
+        finally:
+            self._open.discard(connection)
 
     def _metrics(self) -> dict[str, float]:
+        counts = {**self._counts, "lines_answered_total": self._common.answered}
         if self._table is None:
-            return {"ready": 0, **self._counts}
+            return {"ready": 0, **counts}
         age = round(time.monotonic() - self._table.loaded, 3)
-        return {"ready": 1, "boxes": self._table.size, "table_age_seconds": age, **self._counts}
+        return {"ready": 1, "boxes": self._table.size, "table_age_seconds": age, **counts}

@@ -271,7 +271,7 @@ def main():
     program = str(Path(sys.argv[1]).resolve())
     compiler = shutil.which(os.environ.get("CC", "cc"))
     if compiler is None:
-        print("no C compiler: nothing was refused\n0 passed, 0 failed")
+        print("skipped refusals: no C compiler\n0 passed, 0 failed")
         return 0
     passed = failed = 0
     with tempfile.TemporaryDirectory() as folder:

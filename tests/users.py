@@ -1,5 +1,5 @@
 #!/usr/bin/env python3
-"""Tries what stands in clients/, service/, packaging/ and examples/, and the recipes of docs/, with the built program.
+"""Tries what stands in clients/, service/, packaging/ and examples/, the recipes of docs/ and the gate, with the built program.
 
 usage: tests/users.py PROGRAM [--need-all] [--only NAME]..
 
@@ -33,8 +33,9 @@ TESTS = {  # those that take longest first
     "languages": ROOT / "examples/languages/tests",
     "package": ROOT / "packaging/tests",
     "recipes": ROOT / "tests/recipes",
+    "gate": ROOT / "tests/gate",
 }
-sys.path.insert(0, str(TESTS["client"]))  # support.py, which recipes and package need too
+sys.path.insert(0, str(TESTS["client"]))  # support.py, which recipes, package and gate need too
 LIBRARY = "build/rtfilter-prefork.so"
 AT_ONCE = 2  # parts: some measure how long a call takes
 TOO_LONG = 300  # seconds of one test: something waits for ever

@@ -15,9 +15,10 @@ NUMBER = rb"(-?(?:0|[1-9][0-9]*)(?:\.[0-9]+)?(?:[eE][-+]?[0-9]+)?)"
 class Cutter:
     """Cuts what is read into lines, and counts them."""
 
-    def __init__(self) -> None:
+    def __init__(self, first: int = 1) -> None:
+        """The first line has this number."""
         self._part = b""
-        self._next = 1
+        self._next = first
 
     def cut(self, piece: bytes) -> tuple[int, list[bytes]]:
         """The lines that end in a piece, which begins where the one before ended. The first of them has the number."""

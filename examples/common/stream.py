@@ -23,20 +23,20 @@ def standard_ends() -> tuple[int, int]:
 
 
 class Stream:
-    """An input and an output."""
+    """An input, whose first line has this number, and an output."""
 
-    def __init__(self, answer: Answer, signals: Signals, input: int, output: int) -> None:
+    def __init__(self, answer: Answer, signals: Signals, input: int, output: int, first: int = 1) -> None:
         self._answer = answer
         self._signals = signals
         self._input, self._output = input, output
+        self._cutter = Cutter(first)
 
     def serve(self) -> None:
         """Answers each read before the next one, until the input ends or a signal comes that ends it. Raises `OSError`
         where a read or a write fails."""
-        cutter = Cutter()
         while self._is_ready(self._input, select.POLLIN):
             piece = os.read(self._input, READ)
-            answered = self._answer(*(cutter.cut(piece) if piece else cutter.rest()))
+            answered = self._answer(*(self._cutter.cut(piece) if piece else self._cutter.rest()))
             if not (self._write(answered) and piece):
                 return
 

@@ -1,21 +1,28 @@
 """When each device was last heard of, and which zones held it then: some 150 bytes a device."""
 
+import contextlib
 import json
 import math
 import re
 from array import array
-from collections.abc import Iterable
-from typing import Any
+from collections.abc import Iterable, Sequence
+from typing import Any, NamedTuple
 
 from fences import Held, Zone
 
-
-REFUSAL = re.compile(r'\{"line": [0-9]+, "event": "refused", ')
-"""How a line begins that tells of a position which wasn't taken."""
+ANSWER = re.compile(r'\{"line": ([0-9]{1,18}), "event": ("refused", )?')
+"""How a line begins that tells of a line of the input: perhaps that it wasn't taken."""
 
 
 class Refused(Exception):
     """Why a position isn't taken."""
+
+
+class Past(NamedTuple):
+    """What events of before say, beside what they say of devices."""
+
+    strays: int  # lines that are neither events nor refusals
+    next_line: int  # of the input: all lines before it are answered
 
 
 class Devices:
@@ -46,6 +53,15 @@ class Devices:
         before, self._held[place] = self._held[place], held
         return before
 
+    def hear(self, device: bytes, moment: float) -> None:
+        """Takes that a device was heard of at a moment, and nothing of where it was then."""
+        place = self._place_of.get(device)
+        if place is not None:
+            self._moments[place] = max(self._moments[place], moment)
+            return
+        with contextlib.suppress(Refused):
+            self._add(device, moment, ())
+
     def _add(self, device: bytes, moment: float, held: Held) -> None:
         if len(self) == self._most:
             raise Refused(f"one device more than {self._most}")
@@ -53,15 +69,17 @@ class Devices:
         self._moments.append(moment)
         self._held.append(held)
 
-    def resume(self, lines: Iterable[str]) -> int:
-        """Takes from events that were told before when each device was last told of, and which zones held it then. Gives
-        how many lines are no events, as one that was cut off; a refusal is one that tells nothing here."""
+    def resume(self, lines: Iterable[str]) -> Past:
+        """Takes from events that were told before when each device was last told of, and which zones held it then."""
         same: dict[Any, Any] = {}  # so that what is equal is kept once
-        strays = 0
+        strays, last = 0, None
         for line in lines:
-            change = change_of(line)
+            change, answer = change_of(line), ANSWER.match(line)
+            if change is None and (answer is None or answer[2] is None):
+                strays += 1
+                continue
+            last = answer
             if change is None:
-                strays += REFUSAL.match(line) is None
                 continue
             device, moment, is_in, zone = change
             if device not in self._place_of:
@@ -71,7 +89,14 @@ class Devices:
             held = (*others, same.setdefault(zone, zone)) if is_in else others
             self._held[place] = same.setdefault(held, held)
             self._moments[place] = moment
-        return strays
+        # A refusal is all that is told of its line. An event may be one of several, of which the others were lost.
+        return Past(strays, int(last[1]) + (last[2] is not None) if last else 1)
+
+    def arrange(self, zones: Sequence[Zone]) -> None:
+        """Has the zones that hold each device in the order of a file, in which they are told. Others come last."""
+        places = {zone: place for place, zone in enumerate(zones)}
+        arranged = {held: tuple(sorted(held, key=lambda zone: places.get(zone, len(zones)))) for held in {*self._held}}
+        self._held = [arranged[held] for held in self._held]
 
 
 def change_of(line: str) -> tuple[bytes, float, bool, Zone] | None:

@@ -36,6 +36,13 @@ class Fence:
             told.sort(key=itemgetter(0))  # which leaves the events of a line as they are
         return "".join([text for _, text in told]).encode()
 
+    def told_from(self, next_line: int, first: int, lines: list[bytes]) -> bytes:
+        """The same, where all lines before one were answered before: of these nothing is told again."""
+        answered = max(0, min(next_line - first, len(lines)))
+        for _, device, _, _, moment, _, _ in positions_of(first, lines[:answered])[0]:
+            self._devices.hear(device, moment)
+        return self.told_of(first + answered, lines[answered:])
+
     def _exchange_zones(self) -> None:
         fresh = self._exchange.taken()
         if fresh is not None:

@@ -1,8 +1,8 @@
 #!/usr/bin/env python3
 """Tells which devices enter and leave the zones of a file, as their positions come.
 
-usage: fence.py [--unix PATH] [--layer PROPERTY] [--on LAYERS] [--devices N] [--resume EVENTS] [--mode MODE]
-                [--connections N] [--patience SECONDS] [--timeout SECONDS] [--program PROGRAM] ZONES
+usage: fence.py [--unix PATH] [--layer PROPERTY] [--on LAYERS] [--devices N] [--resume EVENTS [--skip-answered]]
+                [--mode MODE] [--connections N] [--patience SECONDS] [--timeout SECONDS] [--program PROGRAM] ZONES
 
 Positions are lines DEVICE,LONGITUDE,LATITUDE,TIME on standard input, or from all who connect to PATH; what is told of
 them are lines of JSON. README.md says which.
@@ -23,6 +23,7 @@ from devices import Devices, Refused
 from events import Fence
 from exchange import Exchange
 from fences import Fences
+from fragments import cut_fragment
 from listening import unix_listener
 from signals import Signals
 from stream import Stream, standard_ends
@@ -43,11 +44,14 @@ def arguments() -> argparse.Namespace:
     parser.add_argument("--on", default="", metavar="LAYERS", help="which matter where a position names none, by ; (all)")
     parser.add_argument("--devices", type=int, default=1_000_000, metavar="N", help="that are known at most (1000000)")
     parser.add_argument("--resume", metavar="EVENTS", help="goes on from what was told before, a file of events")
+    parser.add_argument("--skip-answered", action="store_true", help="the input is the one before, from its first line")
     parser.add_argument("--timeout", type=float, default=30.0, metavar="SECONDS", help="for the program (30)")
     parser.add_argument("--program", default="rtfilter", help="rtfilter, by its name or path")
     args = parser.parse_args()
     if min(args.devices, args.connections) < 1:
         parser.error("one device and one connection or more are known")
+    if args.skip_answered and (args.resume is None or args.unix is not None):
+        parser.error("--skip-answered wants --resume, and standard input")
     return args
 
 
@@ -56,19 +60,25 @@ def tell(text: str) -> None:
         print(f"fence.py: {text}", file=sys.stderr, flush=True)
 
 
-def resumed(file: str | None, most: int) -> Devices:
-    """What is known of devices at the start: nothing, or what events of before tell."""
-    devices = Devices(most)
-    if file is not None:
-        with open(file, encoding="utf-8", errors="replace") as events:
-            strays = devices.resume(events)
-        tell(f"devices: {len(devices)}; lines that are no events: {strays}")
-    return devices
+def resumed(file: str, devices: Devices) -> int:
+    """The line of the input from which a fence goes on. Devices are as a file of events leaves them, whose last line is
+    removed where it was cut off."""
+    if fragment := cut_fragment(file):
+        tell(f"{file}: the last line was cut off, and is removed: {fragment} bytes")
+    with open(file, encoding="utf-8", errors="replace") as events:
+        past = devices.resume(events)
+    tell(f"devices: {len(devices)}; lines that are no events: {past.strays}")
+    return past.next_line
 
 
-def serve(args: argparse.Namespace, fence: Fence, signals: Signals) -> None:
+def serve(args: argparse.Namespace, fence: Fence, next_line: int, signals: Signals) -> None:
     if args.unix is None:
-        Stream(fence.told_of, signals, *standard_ends()).serve()
+        if args.resume is not None:
+            tell(f"goes on from line {next_line} of the input")
+        if args.skip_answered:
+            Stream(partial(fence.told_from, next_line), signals, *standard_ends()).serve()
+        else:
+            Stream(fence.told_of, signals, *standard_ends(), next_line).serve()
         return
     most = min(args.connections, resource.getrlimit(resource.RLIMIT_NOFILE)[0] - OTHER_FILES)
     with unix_listener(args.unix, args.mode) as listener:
@@ -80,13 +90,15 @@ def main() -> int:
     args = arguments()
     load = partial(Fences, args.zones, args.layer, args.on, args.program, args.timeout)
     try:
-        devices = resumed(args.resume, args.devices)
+        devices = Devices(args.devices)
+        next_line = 1 if args.resume is None else resumed(args.resume, devices)
         exchange = Exchange(load, tell)
         signals = Signals(exchange.begin)
         fences = load()
+        devices.arrange(fences.zones)
         tell(f"zones: {len(fences.zones)}")
         with contextlib.closing(Fence(fences, devices, exchange)) as fence:
-            serve(args, fence, signals.hold())
+            serve(args, fence, next_line, signals.hold())
     except (RtfilterError, Refused, OSError, ValueError) as error:
         tell(str(error))
         return 1

@@ -3,6 +3,7 @@
 
 const LEAST = -(2 ** 31), GREATEST = 2 ** 31 - 1, GREATEST_RADIUS = 2 ** 32 - 1; // of the query language
 const MOST_VERTICES = 16;
+const CLICK = 4; // pixels that a pointer may move between down and up, for a click
 const FINEST = 0.05, COARSEST = 2 ** 32 / 200; // units for a pixel
 const COLOURS = ["#b08d57", "#c8324b", "#e0782a", "#8a7f3c", "#888888", "#4a76b5", "#3c8d6e", "#8a5fae"];
 const FOUND = "#d01060", NEAREST = "#0a8a4a";
@@ -24,6 +25,16 @@ const downOf = y => canvas.height / 2 - (y - place.y) / place.scale;
 const xOf = across => clamped(place.x + (across - canvas.width / 2) * place.scale, LEAST, GREATEST);
 const yOf = down => clamped(place.y + (canvas.height / 2 - down) * place.scale, LEAST, GREATEST);
 const pointOf = event => ({x: xOf(event.offsetX), y: yOf(event.offsetY)});
+const isInView = ([x1, x2, y1, y2]) => x1 <= xOf(canvas.width) && x2 >= xOf(0) && y1 <= yOf(0) && y2 >= yOf(canvas.height);
+
+// Has a box in the middle of the view, and all of it there.
+function moveTo([x1, x2, y1, y2]) {
+  place.x = (x1 + x2) / 2;
+  place.y = (y1 + y2) / 2;
+  place.scale = Math.max(place.scale, 1.05 * Math.max((x2 - x1) / canvas.width, (y2 - y1) / canvas.height));
+  draw();
+  look();
+}
 
 // ---- layers
 
@@ -122,6 +133,7 @@ function tell(line, reply, count) {
   shown.answers = answers.filter(answer => answer.box);
   const told = count?.told === undefined ? `ok, ${reply.told}` : `${reply.told} of ${count.told} boxes`;
   say("told", reply.fault ?? told + costOf(reply));
+  if (shown.answers.length > 0 && !shown.answers.some(answer => isInView(answer.box))) moveTo(shown.answers[0].box);
   element("told").dataset.line = line;
   element("answers").replaceChildren(...answers.map(rowOf));
 }
@@ -129,6 +141,7 @@ function tell(line, reply, count) {
 function rowOf(answer) {
   const row = document.createElement("tr");
   for (const text of [answer.id, answer.score, answer.name ?? ""]) row.insertCell().textContent = text;
+  if (answer.box) row.onclick = () => moveTo(answer.box);
   return row;
 }
 
@@ -153,6 +166,15 @@ function askShape() {
   if (isNoLayerChosen()) return;
   const region = regionOf(shown.shape) + onWords();
   ask(`find ${region} first ${about.answers}`, `count ${region}`);
+}
+
+// The boxes that hold a point, the smallest first, and the one nearest to it.
+function askPoint({x, y}) {
+  shown.shape = null;
+  lookNear({x, y});
+  if (isNoLayerChosen()) return;
+  const region = `covers ${x} ${x} ${y} ${y}${onWords()}`;
+  ask(`find ${region} smallest first ${about.answers}`, `count ${region}`);
 }
 
 function addVertex(vertex) {
@@ -246,8 +268,10 @@ canvas.onpointermove = event => {
 
 canvas.onpointerup = event => {
   if (drag === null) return;
-  const {tool, from} = drag;
+  const {tool, from, across, down} = drag;
   drag = null;
+  const isClick = Math.hypot(event.offsetX - across, event.offsetY - down) <= CLICK;
+  if (tool === "pan" && isClick) askPoint(pointOf(event));
   if (tool === "pan") return;
   if (tool === "polygon") addVertex(pointOf(event));
   else shown.shape = {kind: tool, from, to: pointOf(event)};

@@ -3,17 +3,20 @@
 
 usage: serve.py [--header] [--names FILE] [--layers FILE] [--listen ADDRESS] [--port PORT] [--host NAME] [--url URL]
                 [--origin ORIGIN] [--max-age SECONDS] [--processes N] [--idle SECONDS] [--timeout SECONDS]
-                [--program PROGRAM] TABLE
+                [--log FILE] [--program PROGRAM] TABLE
 
-Once the table is loaded, the page's address is printed. README.md says what is served, and what is refused.
+Once the table is loaded, the page's address is printed. SIGHUP has it loaded anew. README.md says what is served, and what is refused.
 """
 
 import argparse
 import contextlib
 import hashlib
 import json
+import logging
+import logging.handlers
 import os
 import re
+import signal
 import socket
 import sys
 import threading
@@ -29,9 +32,11 @@ from typing import Any
 from urllib.parse import parse_qsl, urlsplit
 
 HERE = Path(__file__).resolve().parent
-sys.path.insert(0, str(HERE.parent.parent / "clients/python"))
+sys.path[:0] = [str(HERE.parent.parent / folder) for folder in ("clients/python", "service")]
 
 from addresses import style, tile_json
+from counts import Counts
+from health import shown
 from mercator import DEEPEST
 from negotiation import LEAST_PACKED, is_known, packed, takes_gzip
 from table import Places, Table, names_of
@@ -63,6 +68,14 @@ HEADERS = {
 }
 ANY_ORIGIN = "*"
 
+STATUSES = 200, 204, 304, 400, 403, 404, 405, 414, 421, 503
+REPLIES = {status: f'replies_total{{status="{status}"}}' for status in STATUSES}
+OTHER_REPLIES = 'replies_total{status="other"}'
+COUNTED = [
+    "connections", "connections_total", "connections_refused_total", "loads_failed_total", *REPLIES.values(), OTHER_REPLIES,
+]  # fmt: skip
+ACCESSES = logging.getLogger("accesses")
+
 
 class Refused(Exception):
     """A request that isn't answered, with its status and a reason."""
@@ -85,23 +98,31 @@ class Settings:
     idle: float  # seconds for which a connection may be silent
 
 
+@dataclass(frozen=True)
+class Served:
+    """What a request is answered from, whatever is loaded meanwhile. Where nobody has it any more its program ends."""
+
+    views: Views
+    settings: Settings
+    generation: int  # how many were loaded, with this one
+    loaded: float  # when
+
+
 class Server(ThreadingHTTPServer):
     """Answers each connection in a thread of its own, and so many at once; a further one is closed."""
 
     daemon_threads = True
 
-    def __init__(self, listener: socket.socket, views: Views, settings: Settings, ends: Ends | None) -> None:
+    def __init__(self, listener: socket.socket, served: Served, counts: Counts, ends: Ends | None) -> None:
         """`ends` is what one of many processes has, all of which listen."""
         super().__init__(listener.getsockname(), Handler, bind_and_activate=False)
         self.socket.close()
         self.socket = listener
-        self.views = views
-        self.settings = settings
+        self.served = served
+        self.counts = counts
         self.failure: Exception | None = None
         self._is_over = False
         self._ends = ends
-        self._connections = 0
-        self._lock = threading.Lock()  # of their number
 
     def get_request(self) -> Any:
         """A connection. Of many processes one that has fewer of them takes it first."""
@@ -110,6 +131,7 @@ class Server(ThreadingHTTPServer):
         return super().get_request()
 
     def process_request(self, request: Any, client_address: Any) -> None:
+        self.counts.add("connections_total")
         if self._count(1) <= MOST_CONNECTIONS:
             try:
                 super().process_request(request, client_address)
@@ -118,6 +140,7 @@ class Server(ThreadingHTTPServer):
                 raise
         else:
             self._count(-1)
+            self.counts.add("connections_refused_total")
             self.shutdown_request(request)
 
     def process_request_thread(self, request: Any, client_address: Any) -> None:
@@ -128,11 +151,17 @@ class Server(ThreadingHTTPServer):
 
     def _count(self, more: int) -> int:
         """How many connections there are, now that there are more, or fewer."""
-        with self._lock:
-            self._connections += more
-            if self._ends is not None:
-                self._ends.tell_load(self._connections)
-            return self._connections
+        connections = self.counts.add("connections", more)
+        if self._ends is not None:
+            self._ends.tell_load(connections)
+        return connections
+
+    def metrics(self) -> dict[str, float]:
+        """Of this process's table, and what all processes have counted."""
+        served = self.served
+        age = round(time.monotonic() - served.loaded, 3)
+        table = {"boxes": len(served.views), "table_age_seconds": age, "table_generation": served.generation}
+        return {"ready": 1, **table, **self.counts.sums()}
 
     def handle_error(self, request: Any, client_address: Any) -> None:
         """Who leaves in the middle of an answer is no error, and neither is the end of it all."""
@@ -164,10 +193,12 @@ class Handler(BaseHTTPRequestHandler):
     def setup(self) -> None:
         super().setup()
         self.headers = HTTPMessage()  # those of what is no request
-        self.connection.settimeout(self.server.settings.idle)
+        self.served = self.server.served
+        self.connection.settimeout(self.served.settings.idle)
 
     def parse_request(self) -> bool:
         """Whether a request is to be answered. One that isn't ends the connection: what follows may belong to it."""
+        self.served = self.server.served
         if not super().parse_request():
             return False
         try:
@@ -187,7 +218,7 @@ class Handler(BaseHTTPRequestHandler):
         hosts: list[str] = self.headers.get_all("Host", [])
         if len(hosts) != 1:
             raise Refused(HTTPStatus.BAD_REQUEST, "one Host is wanted")
-        if self.host not in self.server.settings.hosts:
+        if self.host not in self.served.settings.hosts:
             raise Refused(HTTPStatus.MISDIRECTED_REQUEST, "that Host isn't served here")
         if set(self.headers.get_all("Content-Length", [])) - {"0"} or "Transfer-Encoding" in self.headers:
             raise Refused(HTTPStatus.BAD_REQUEST, "a GET has no body")
@@ -202,12 +233,12 @@ class Handler(BaseHTTPRequestHandler):
     def is_own_page(self) -> bool:
         """Whether it is no page that asks, or one that is served under a name of this server."""
         origin = self.headers.get("Origin")
-        return origin is None or host_of(origin) in self.server.settings.hosts
+        return origin is None or host_of(origin) in self.served.settings.hosts
 
     @property
     def allowed_origin(self) -> str | None:
         """What tells a browser that a page of another origin may read a reply."""
-        origins, origin = self.server.settings.origins, self.headers.get("Origin")
+        origins, origin = self.served.settings.origins, self.headers.get("Origin")
         if ANY_ORIGIN in origins:
             return ANY_ORIGIN
         return origin if origin in origins else None
@@ -215,7 +246,7 @@ class Handler(BaseHTTPRequestHandler):
     @property
     def address(self) -> str:
         """This server's own, as whoever asks reaches it."""
-        return self.server.settings.url or f"http://{self.host}/"
+        return self.served.settings.url or f"http://{self.host}/"
 
     def do_GET(self) -> None:
         try:
@@ -234,18 +265,21 @@ class Handler(BaseHTTPRequestHandler):
 
     def answer(self) -> None:
         path, query = parted(self.path)
-        if path in ASSETS:
+        if path == "/metrics":
+            parameters(query)
+            self.reply(HTTPStatus.OK, "text/plain; version=0.0.4", shown(self.server.metrics()).encode())
+        elif path in ASSETS:
             name, kind = ASSETS[path]
             parameters(query)
             self.reply_kept(kind, (HERE / name).read_bytes)
         elif path in QUESTIONS:
-            self.reply(HTTPStatus.OK, "application/json", json_of(QUESTIONS[path](self.server.views, query)))
+            self.reply(HTTPStatus.OK, "application/json", json_of(QUESTIONS[path](self.served.views, query)))
         elif path in TOLD:
             parameters(query)
-            self.reply_kept("application/json", lambda: json_of(TOLD[path](self.server.views, self.address)))
+            self.reply_kept("application/json", lambda: json_of(TOLD[path](self.served.views, self.address)))
         else:
-            tile = tile_of(self.server.views, path, query)
-            self.reply_kept("application/vnd.mapbox-vector-tile", tile, self.server.settings.max_age)
+            tile = tile_of(self.served.views, path, query)
+            self.reply_kept("application/vnd.mapbox-vector-tile", tile, self.served.settings.max_age)
 
     def reply_kept(self, kind: str, body_of: Callable[[], bytes], max_age: int = 0) -> None:
         """Replies with what another table alone would change. It isn't made again for whoever has it."""
@@ -261,7 +295,7 @@ class Handler(BaseHTTPRequestHandler):
 
     def tag(self, is_packed: bool) -> str:
         """That of what is served; the same in gzip's format has another one."""
-        return f'"{self.server.settings.tag}{"-gzip" if is_packed else ""}"'
+        return f'"{self.served.settings.tag}{"-gzip" if is_packed else ""}"'
 
     def is_to_pack(self, body: bytes) -> bool:
         return len(body) >= LEAST_PACKED and takes_gzip(", ".join(self.headers.get_all("Accept-Encoding", [])))
@@ -281,11 +315,19 @@ class Handler(BaseHTTPRequestHandler):
             headers["Connection"] = "close"
         headers |= {"Date": self.date_time_string(), **HEADERS, **self.headers_for_origins(), **(more or {})}
         head = head_of(status, headers)
+        self.server.counts.add(REPLIES.get(status, OTHER_REPLIES))
+        self.log_access(status, 0 if self.command == "HEAD" else len(body))
         self.wfile.write(head if self.command == "HEAD" else head + body)  # at once: whoever asks wakes up once
+
+    def log_access(self, status: HTTPStatus, size: int) -> None:
+        """A line in the Common Log Format. What isn't text of ASCII is escaped."""
+        if ACCESSES.handlers:
+            moment = time.strftime("%d/%b/%Y:%H:%M:%S +0000", time.gmtime())
+            ACCESSES.info("%s - - [%s] %s %d %d", self.client_address[0], moment, json.dumps(self.requestline), status, size)
 
     def headers_for_origins(self) -> dict[str, str]:
         """What tells a browser which pages may read a reply."""
-        if not self.server.settings.origins:
+        if not self.served.settings.origins:
             return {"Cross-Origin-Resource-Policy": "same-origin", "Vary": "Accept-Encoding"}
         allowed = self.allowed_origin
         told = {} if allowed is None else {"Access-Control-Allow-Origin": allowed}
@@ -301,7 +343,7 @@ class Handler(BaseHTTPRequestHandler):
         self.refuse(Refused(status, status.phrase))
 
     def log_message(self, format: str, *args: Any) -> None:
-        """Nothing is logged."""
+        """What http.server would log isn't: `log_access` does that."""
 
 
 def head_of(status: HTTPStatus, headers: dict[str, str]) -> bytes:
@@ -414,6 +456,7 @@ def arguments() -> argparse.Namespace:
     parser.add_argument("--processes", type=int, default=1, metavar="N", help="that serve side by side (1)")
     parser.add_argument("--idle", type=float, default=10.0, metavar="SECONDS", help="for a silent connection (10)")
     parser.add_argument("--timeout", type=float, default=10.0, metavar="SECONDS", help="for a question (10)")
+    parser.add_argument("--log", metavar="FILE", help="of accesses; - is standard error (none)")
     parser.add_argument("--program", default="rtfilter", help="rtfilter, by its name or path")
     args = parser.parse_args()
     if args.processes < 1 or args.max_age < 0:
@@ -462,30 +505,72 @@ def check_size(table: Table, boxes: Boxes) -> None:
         raise ValueError("the table has changed while it was read")
 
 
+def served_by(args: argparse.Namespace, port: int, table: Table | None = None, generation: int = 1) -> Served:
+    """What is served of the files as they are now, or of a table that is read already."""
+    with contextlib.ExitStack() as kept:
+        boxes = kept.enter_context(opened(args))
+        if table is None:
+            table = loaded(args, boxes)
+        check_size(table, boxes)
+        served = Served(Views(boxes, table), settings_of(args, port), generation, time.monotonic())
+        kept.pop_all()
+    return served
+
+
 def serve(
     args: argparse.Namespace,
     listener: socket.socket,
     table: Table | None,
     ready: Callable[[Server], None],
+    counts: Counts,
     ends: Ends | None = None,
 ) -> None:
     """Answers until it is interrupted. `ready` is called once it begins. Raises why it can't go on."""
-    with opened(args) as boxes:
-        if table is None:
-            table = loaded(args, boxes)
-        check_size(table, boxes)
-        with Server(listener, Views(boxes, table), settings_of(args, listener.getsockname()[1]), ends) as server:
+    again = os.eventfd(0)
+    signal.signal(signal.SIGHUP, lambda *_: os.eventfd_write(again, 1))
+    port = listener.getsockname()[1]
+    log_accesses(args.log)
+    with Server(listener, served_by(args, port, table), counts, ends) as server:
+        try:
+            threading.Thread(target=keep_loaded, args=(args, server, port, again), daemon=True).start()
             ready(server)
             with contextlib.suppress(KeyboardInterrupt):
                 server.serve_forever()
-            if server.failure is not None:
-                raise server.failure
+        finally:
+            server.served.views.close()
+        if server.failure is not None:
+            raise server.failure
+
+
+def keep_loaded(args: argparse.Namespace, server: Server, port: int, again: int) -> None:
+    """Loads the files beside those that are served, once for all signals that came meanwhile. What can't be loaded changes
+    nothing."""
+    while os.eventfd_read(again):
+        try:
+            server.served = served_by(args, port, generation=server.served.generation + 1)
+            tell(f"the table is exchanged: {len(server.served.views)} boxes")
+        except Exception as error:  # whatever it is: requests are answered from the table that is there
+            server.counts.add("loads_failed_total")
+            tell(f"{error}; the table is the one of before")
+
+
+def tell(text: str) -> None:
+    print(f"serve.py: {text}", file=sys.stderr, flush=True)
+
+
+def log_accesses(name: str | None) -> None:
+    """Has accesses logged to a file, which is opened anew where another one stands in its place."""
+    if name is not None:
+        own = logging.StreamHandler() if name == "-" else logging.handlers.WatchedFileHandler(name, encoding="ascii")
+        ACCESSES.addHandler(own)
+        ACCESSES.setLevel(logging.INFO)
+        ACCESSES.propagate = False
 
 
 FAILURES = Ended, TimedOut, Disconnected, OSError, OverflowError, ValueError
 
 
-def work(args: argparse.Namespace, listener: socket.socket, table: Table, ends: Ends) -> int:
+def work(args: argparse.Namespace, listener: socket.socket, table: Table, counts: Counts, ends: Ends) -> int:
     """Serves as one of many processes."""
 
     def ready(server: Server) -> None:
@@ -496,8 +581,9 @@ def work(args: argparse.Namespace, listener: socket.socket, table: Table, ends: 
         threading.Thread(target=end, daemon=True).start()
         ends.tell_ready()
 
+    counts.take(ends.place)
     try:
-        serve(args, listener, table, ready, ends)
+        serve(args, listener, table, ready, counts, ends)
     except FAILURES as error:
         ends.tell(f"serve.py: {error}")
         return 1
@@ -513,14 +599,15 @@ def main() -> int:
     try:
         with socket.create_server((args.listen, args.port), backlog=MOST_CONNECTIONS * args.processes) as listener:
             listener.setblocking(False)  # many may be told of one who connects
+            counts = Counts(COUNTED, args.processes)
             if args.processes == 1:
-                serve(args, listener, None, tell_address)
+                serve(args, listener, None, tell_address, counts)
                 return 0
             with Rtfilter(args.table, header=args.header, program=args.program, timeout=args.timeout) as boxes:
                 table = loaded(args, boxes)
-            return run_together(args.processes, partial(work, args, listener, table), tell_address)
+            return run_together(args.processes, partial(work, args, listener, table, counts), tell_address)
     except FAILURES as error:
-        print(f"serve.py: {error}", file=sys.stderr)
+        tell(str(error))
         return 1
 
 

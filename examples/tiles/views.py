@@ -1,13 +1,14 @@
 """What is shown of a table: windows of a map, tiles, and the answers to a query line. Each has a bound."""
 
+import heapq
 import math
 import re
 from collections.abc import Sequence
 from typing import Any
 
 import mvt
+from mercator import DEEPEST, cells_of, cuts, window_of
 from mercator import Window as Sides
-from mercator import cells_of, cuts, window_of
 from table import Table
 
 from rtfilter import All, Boxes, QueryError, Window
@@ -18,6 +19,8 @@ MOST_IN_TILE = 5000
 MOST_ANSWERS = 1000
 MOST_CELLS = 2304  # of a view
 TILE_CELLS = 32  # cells of a tile, on each side
+MOST_COUNTED = 20_000  # tiles that are counted to find the levels that show counts
+KEPT_LEVELS = 256  # choices of layers for which that is kept
 
 LIMIT = re.compile(r"\+?([0-9]{1,9})")
 WITH_BOXES = ("find", "nearest")
@@ -37,6 +40,14 @@ class Views:
         self.fields = {"name": "String"} | ({"id": "Number"} if table.places.has_id_below_zero() else {})
         self.about = {"boxes": len(boxes), "bounds": self.bounds, "layers": layers, "answers": MOST_ANSWERS}
         """What a page has to know at its start."""
+        self._levels: dict[tuple[int, ...] | None, int] = {}  # the deepest that shows counts, by the layers that are asked
+
+    def __len__(self) -> int:
+        """How many boxes were loaded."""
+        return len(self._table.places)
+
+    def close(self) -> None:
+        self._boxes.close()
 
     def size(self) -> int:
         """How many boxes the program has."""
@@ -82,12 +93,13 @@ class Views:
         return {"told": reply.total, "answers": answers, "nodes": nodes}
 
     def tile(self, z: int, x: int, y: int, on: list[int] | None) -> bytes:
-        """A vector tile: a layer for each layer of boxes that meet it, or one with counts, whose name is `density`.
+        """A vector tile: a layer for each layer of boxes that meet it, or one with counts, whose name is `density`: all tiles
+        of a level have the same.
 
         A feature's own id is its box's; one below 0, which a tile can't hold, is a property.
         """
         window = window_of(z, x, y)
-        if self._boxes.count(Window(*window), on=on) > MOST_IN_TILE:
+        if z <= self._level_with_counts(on and tuple(sorted(set(on)))) or self._boxes.count(Window(*window), on=on) > MOST_IN_TILE:
             return self._density_tile(window, on)
         ids = self._boxes.find(Window(*window), on=on).ids
         boxes = [*self._table.places.boxes(ids)]
@@ -99,6 +111,34 @@ class Views:
         for (_, _, _, _, number), feature in zip(boxes, mvt.rectangles(window, boxes, owns)):
             layers[number].features.append(feature)
         return b"".join([layer.encoded() for layer in layers.values() if layer.features])
+
+    def _level_with_counts(self, on: tuple[int, ...] | None) -> int:
+        if on not in self._levels:
+            if len(self._levels) >= KEPT_LEVELS:
+                self._levels.clear()
+            self._levels[on] = self._deepest_full(on)
+        return self._levels[on]
+
+    def _deepest_full(self, on: tuple[int, ...] | None) -> int:
+        """The deepest level with a tile that has too many boxes; -1 where none has. A tile has no fewer than those in it, so that
+        only under such tiles others are looked at, the fullest first. Of a table that has very many of them some may be left:
+        these tiles show counts beside others."""
+        deepest, counted = -1, 0
+        full = [(-count, 0, x, y) for count, x, y in self._counted([(0, 0, 0)], on) if count > MOST_IN_TILE]
+        while full and deepest < DEEPEST and counted < MOST_COUNTED:
+            _, z, x, y = heapq.heappop(full)
+            deepest = max(deepest, z)
+            inside = [(z + 1, 2 * x + right, 2 * y + south) for right in (0, 1) for south in (0, 1)]
+            counted += len(inside)
+            for count, x, y in self._counted(inside, on):
+                if count > MOST_IN_TILE:
+                    heapq.heappush(full, (-count, z + 1, x, y))
+        return deepest
+
+    def _counted(self, tiles: list[tuple[int, int, int]], on: tuple[int, ...] | None) -> list[tuple[int, int, int]]:
+        """Some tiles of one level, each as how many boxes meet it, and its place."""
+        counts = self._counts([window_of(*tile) for tile in tiles], on and [*on])
+        return [(count, x, y) for count, (_, x, y) in zip(counts, tiles)]
 
     def _properties(self, id: int) -> dict[str, mvt.Value]:
         """What a feature has beside its own id."""

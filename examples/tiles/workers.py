@@ -45,7 +45,7 @@ Work = Callable[[Ends], int]
 
 def run_together(count: int, work: Work, when_ready: Callable[[], None]) -> int:
     """Starts so many workers, and calls `when_ready` once all of them are. Where one ends all do, and where this process
-    ends, by whatever signal. Gives the status of the worker that ended first, and writes what was told first on standard
+    ends, by whatever signal; but SIGHUP is handed on to all of them. Gives the status of the worker that ended first, and writes what was told first on standard
     error.
 
     There are to be no threads yet, since they don't live on in a fork.
@@ -53,7 +53,10 @@ def run_together(count: int, work: Work, when_ready: Callable[[], None]) -> int:
     reading, telling = os.pipe()
     ending, holding = os.pipe()
     loads = mmap.mmap(-1, count)
-    workers = [forked(work, Ends(telling, ending, loads, place), (reading, holding)) for place in range(count)]
+    workers: list[int] = []
+    signal.signal(signal.SIGHUP, lambda *_: hand_on(signal.SIGHUP, workers))
+    for place in range(count):
+        workers.append(forked(work, Ends(telling, ending, loads, place), (reading, holding)))
     os.close(telling)
     os.close(ending)
     watched = {os.pidfd_open(worker): worker for worker in workers}
@@ -74,6 +77,13 @@ def run_together(count: int, work: Work, when_ready: Callable[[], None]) -> int:
     return 0 if first is None else statuses[first]
 
 
+def hand_on(number: int, workers: list[int]) -> None:
+    """Sends a signal to those that haven't ended."""
+    for worker in workers:
+        with contextlib.suppress(ProcessLookupError):
+            os.kill(worker, number)
+
+
 def status_of(watching: int, worker: int) -> int:
     """The status of a worker, which is killed where it doesn't end; the number of a signal that ended it."""
     if not select.select([watching], [], [], GRACE)[0]:
@@ -88,6 +98,7 @@ def forked(work: Work, ends: Ends, theirs: tuple[int, int]) -> int:
     if process:
         return process
     status = 1
+    signal.signal(signal.SIGHUP, signal.SIG_IGN)  # until the work has a handler of its own
     try:
         for end in theirs:
             os.close(end)

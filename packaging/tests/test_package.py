@@ -32,17 +32,30 @@ FILES = {  # beside each package's own documents
         "etc/default/rtfilter-service": 0o644,
         "usr/bin/rtfilter-serve": 0o755,
         "usr/lib/rtfilter/serve.py": 0o755,
+        "usr/share/bash-completion/completions/rtfilter-serve": 0o644,
         **MODULES,
         "usr/share/man/man1/rtfilter-serve.1.gz": 0o644,
     },
 }
 # The programs of python3-rtfilter, each with its page beside it.
 PROGRAMS = (
-    "geofence/fence.py", "geofence/measure.py", "languages/ask.sh", "roads/measure.py", "roads/snap.py", "tiles/make_map.py",
+    "cluster/ask.py", "cluster/cut.py", "cluster/measure.py", "cluster/trial.py", "geofence/fence.py", "geofence/measure.py", "languages/ask.sh", "roads/measure.py", "roads/snap.py", "tiles/make_map.py",
     "tiles/measure.py", "tiles/serve.py",
 )
 # lintian may say nothing else than that the debug symbols are names alone: the toolchain writes no line numbers.
 FINE = ("debug-file-with-no-debug-symbols",)
+UNITS = {f"rtfilter{it}" for it in (".service", ".socket", "@.service", "@.socket")}
+ALL_UNITS = "rtfilter.service rtfilter.socket"
+INSTANCES = "rtfilter@*.socket rtfilter@*.service"
+# Stands for a program of the system: it logs its words. Nothing was enabled, and units are as ACTIVE has them.
+LOGGING = """#!/bin/sh
+echo "${0##*/} $*" >> %s
+case $* in
+  *was-enabled* | *debian-installed*) exit 1 ;;
+  *is-enabled*) echo disabled; exit 1 ;;
+  *is-active*) exit "$ACTIVE" ;;
+esac
+"""
 THERE = "Package: {}\nStatus: install ok installed\nVersion: {}\nArchitecture: amd64\nMaintainer: none\nDescription: none\n"
 PROMPT = "ready> "
 LONGEST = 10  # seconds that bash may take for a line
@@ -76,7 +89,8 @@ class Versions(unittest.TestCase):
         wheels = {it for page in ("docs/python-client.md", "clients/python/README.md")
                   for it in re.findall(r"rtfilter-([\d.]+)-py3", (ROOT / page).read_text(encoding="utf-8"))}
         served = run(sys.executable, "-B", ROOT / "service/serve.py", "--version").split()[-1]
-        self.assertEqual([project["version"], *manuals, changes, *wheels, served], [VERSION] * 6)
+        client = run(sys.executable, "-B", "-c", "import rtfilter; print(rtfilter.__version__)", env={**os.environ, "PYTHONPATH": PACKAGE})
+        self.assertEqual([project["version"], *manuals, changes, *wheels, served, client.strip()], [VERSION] * 7)
 
 
 class Packages(unittest.TestCase):
@@ -116,7 +130,7 @@ class Packages(unittest.TestCase):
             documents = {it: mode for it, mode in self.held(name).items() if it.startswith("usr/share/doc/")}
             units = {it: mode for it, mode in self.held(name).items() if "systemd" in it}
             self.assertEqual(self.held(name), files | documents | units)
-            self.assertEqual({Path(it).name for it in units}, {"rtfilter.service", "rtfilter.socket"} if "service" in name else set())
+            self.assertEqual({Path(it).name for it in units}, UNITS if "service" in name else set())
             self.assertLessEqual({f"usr/share/doc/{name}/{it}" for it in ("changelog.Debian.gz", "copyright")}, documents.keys())
         modules = {f"usr/lib/python3/dist-packages/rtfilter/{it.name}" for it in (PACKAGE / "rtfilter").iterdir() if it.is_file()}
         self.assertEqual({it for it in self.held("python3-rtfilter") if "dist-packages" in it}, modules)
@@ -131,6 +145,7 @@ class Packages(unittest.TestCase):
             package = self.room / (command if command == "rtfilter" else "rtfilter-service")
             manual = gzip.decompress((package / f"usr/share/man/man1/{command}.1.gz").read_bytes())
             self.assertEqual(manual, (ROOT / f"docs/{command}.1").read_bytes())
+        self.assertIn(".BR rtfilter-serve (1)", (ROOT / "docs/rtfilter.1").read_text())
         changes = gzip.decompress((tree / "usr/share/doc/rtfilter/changelog.Debian.gz").read_bytes()).decode()
         self.assertTrue(changes.startswith(f"rtfilter ({VERSION}-1) "), changes)
 
@@ -188,16 +203,17 @@ class Packages(unittest.TestCase):
         run("dpkg-deb", "--control", self.packages["rtfilter-service"], control)
         self.assertEqual((control / "conffiles").read_text(), "/etc/default/rtfilter-service\n")
         with tempfile.TemporaryDirectory() as folder:
-            for tool in ("adduser", "deb-systemd-helper", "deb-systemd-invoke", "systemctl"):
-                Path(folder, tool).write_text(f'#!/bin/sh\necho "{tool} $*" >> "{folder}/told"\ncase $* in *was-enabled*) exit 1 ;; esac\n')
-                Path(folder, tool).chmod(0o755)
+            log_calls(Path(folder), Path(folder, "log"), "adduser", "deb-systemd-helper", "deb-systemd-invoke", "systemctl")
             run("sh", control / "postinst", "configure", env={"PATH": f"{folder}:{os.environ['PATH']}"})
-            told = Path(folder, "told").read_text()
-            self.assertIn("adduser --quiet --system --group --home /var/lib/rtfilter", told)
-            self.assertNotRegex(told, "deb-systemd-invoke (start|restart)|deb-systemd-helper enable")
+            logged = Path(folder, "log").read_text()
+            self.assertIn("adduser --quiet --system --group --home /var/lib/rtfilter", logged)
+            self.assertNotIn("deb-systemd-helper enable", logged)
             for unit in (tree / "lib/systemd/system").iterdir():
                 Path(folder, unit.name).write_text(unit.read_text().replace("/usr/bin/rtfilter-serve", str(tree / "usr/bin/rtfilter-serve")))
-            said = run("systemd-analyze", "--man=no", "--recursive-errors=no", "verify", *Path(folder).glob("rtfilter.s*"))
+            for kind in ("service", "socket"):
+                Path(folder, f"rtfilter@towns.{kind}").symlink_to(f"rtfilter@.{kind}")
+            units = [*Path(folder).glob("rtfilter.s*"), *Path(folder).glob("rtfilter@towns.s*")]
+            said = run("systemd-analyze", "--man=no", "--recursive-errors=no", "verify", *units)
             self.assertEqual([line for line in said.splitlines() if "rtfilter" in line], [])
         text = (tree / "lib/systemd/system/rtfilter.service").read_text()
         self.assertIn("\nExecStart=/usr/bin/rtfilter-serve --program /usr/bin/rtfilter $OPTIONS ${TABLE}\n", text)
@@ -206,8 +222,83 @@ class Packages(unittest.TestCase):
         self.assertEqual(re.findall(r"^(\w+)=", defaults, re.MULTILINE), ["TABLE", "OPTIONS"])
 
 
+    def test_an_upgrade_restarts_what_runs(self) -> None:
+        """A first installation starts nothing. A purge stops what runs, instances too."""
+        wants(self, "dpkg", "deb-systemd-invoke")
+        if os.geteuid() != 0:
+            self.skipTest("root: the scripts of packages run in a folder that stands for the system")
+        with tempfile.TemporaryDirectory() as folder:
+            system, newer = Path(folder, "system"), Path(folder, "newer.deb")
+            make_system(system)
+            run("dpkg-deb", "--raw-extract", self.packages["rtfilter-service"], f"{folder}/newer")
+            control = Path(folder, "newer/DEBIAN/control")
+            control.write_text(control.read_text().replace(f"Version: {VERSION}-1\n", f"Version: {VERSION}-2\n"))
+            run("dpkg-deb", "--root-owner-group", "--build", f"{folder}/newer", newer)
+            dpkg = ["env", f"PATH={os.environ['PATH']}:/usr/sbin:/sbin", "dpkg", f"--root={system}", f"--log={os.devnull}"]
+            run(*dpkg, "--install", self.packages["rtfilter"])
+            for words, active, wanted in (
+                (("--install", self.packages["rtfilter-service"]), False, []),
+                (("--install", newer), True, [f"--quiet --system restart {ALL_UNITS}", f"try-restart {INSTANCES}"]),
+                (("--install", newer), False, [f"try-restart {INSTANCES}"]),
+                (("--purge", "rtfilter-service"), True, [f"stop {INSTANCES}", f"stop {ALL_UNITS}"]),
+            ):
+                (system / "log").unlink(missing_ok=True)
+                run(*dpkg, *words)
+                self.assertEqual(self.called(system / "log", active), wanted, words)
+
+    def called(self, log: Path, active: bool) -> list[str]:
+        """What the system's deb-systemd-invoke has systemctl do, as it is called in a log."""
+        with tempfile.TemporaryDirectory() as folder:
+            log_calls(Path(folder), Path(folder, "log"), "systemctl")
+            words = {"PATH": f"{folder}:{os.environ['PATH']}", "ACTIVE": str(int(not active)), "DPKG_ROOT": folder}
+            for line in log.read_text().splitlines():
+                if line.startswith("deb-systemd-invoke "):
+                    run(*line.split(), env=words)
+            logged = Path(folder, "log").read_text().splitlines()
+        return [line.removeprefix("systemctl ") for line in logged if " is-" not in line]
+
+    def test_links_of_pages(self) -> None:
+        """Each leads to a page that is installed, and to a heading of it."""
+        share = self.room / "python3-rtfilter/usr/share/rtfilter"
+        pages = [*share.rglob("*.md")]
+        self.assertIn(share / "README.md", pages)
+        for page in pages:
+            for link in re.findall(r"\]\(([^)\s]+)\)", page.read_text()):
+                name, _, heading = link.partition("#")
+                if ":" not in name:
+                    target = page.parent / name if name else page
+                    self.assertTrue(target.exists(), f"{page}: {link}")
+                    self.assertTrue(not heading or heading in headings(target), f"{page}: {link}")
+
+
+def log_calls(folder: Path, log: Path, *tools: str) -> None:
+    """Has programs of these names log their words."""
+    for tool in tools:
+        Path(folder, tool).write_text(LOGGING % log)
+        Path(folder, tool).chmod(0o755)
+
+
+def make_system(system: Path) -> None:
+    """What dpkg and the scripts of a package want of a system that runs systemd."""
+    for name in ("var/lib/dpkg/info", "var/lib/dpkg/updates", "usr/bin", "bin", "dev", "run/systemd/system"):
+        (system / name).mkdir(parents=True)
+    versions = {"libc6": "2.36-9", "python3": "3.11.2-1", "adduser": "3.134"}
+    (system / "var/lib/dpkg/status").write_text("\n".join(THERE.format(*it) for it in versions.items()))
+    (system / "dev/null").touch()
+    for file in ("/bin/sh", *re.findall(r"/\S+", run("ldd", "/bin/sh"))):
+        Path(f"{system}{file}").parent.mkdir(parents=True, exist_ok=True)
+        shutil.copy(file, f"{system}{file}")
+    log_calls(system / "usr/bin", Path("/log"), "adduser", "deb-systemd-helper", "deb-systemd-invoke", "systemctl")
+
+
+def headings(page: Path) -> set[str]:
+    """The headings of a page, as links name them."""
+    titles = re.findall(r"^#+ (.*)$", page.read_text(), re.MULTILINE)
+    return {re.sub(r"[^\w\- ]", "", title.lower()).replace(" ", "-") for title in titles}
+
+
 class Completion(unittest.TestCase):
-    """Keys go to a bash of its own, where `rtfilter` shows its words."""
+    """Keys go to a bash of its own, where the commands show their words."""
 
     def setUp(self) -> None:
         folder = self.enterContext(tempfile.TemporaryDirectory())
@@ -216,7 +307,8 @@ class Completion(unittest.TestCase):
         start = Path(folder, ".start")
         start.write_text(
             f"PS1='{PROMPT}'; bind 'set enable-bracketed-paste off'; bind 'set bell-style none'; unset HISTFILE\n"
-            f". '{ROOT}/packaging/rtfilter.bash'; rtfilter() {{ printf '<%s>' \"$@\"; echo; }}\n"
+            f". '{ROOT}/packaging/rtfilter.bash'; . '{ROOT}/packaging/rtfilter-serve.bash'\n"
+            "rtfilter() { printf '<%s>' \"$@\"; echo; }; rtfilter-serve() { rtfilter \"$@\"; }\n"
         )
         child, self.terminal = pty.fork()
         if child == 0:
@@ -250,5 +342,7 @@ class Completion(unittest.TestCase):
             ("rtfilter --m\t9 --hea\tmy\t", "<--max-entries><9><--header><my table>"),
             ("rtfilter -- towns.csv -o\t", "<--><towns.csv><-odd>"),
             ("rtfilter towns.csv m\t", "<towns.csv><my table>"),
+            ("rtfilter-serve --con\t9 --fanout 1\t --drain=5 to\t", "<--connections><9><--fanout><16><--drain=5><towns.csv>"),
+            ("rtfilter-serve --unix my\t --patience \tto", "<--unix><my table><--patience><to>"),
         ):
             self.assertEqual(self.words(keys), words, keys)

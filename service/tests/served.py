@@ -26,6 +26,7 @@ SOURCE = ROOT / "service/prefork.c"
 FLAGS = ["-std=gnu11", "-O", "-fPIC", "-shared"]
 TRIES = "-include", Path(__file__).with_name("tries.h")
 SYSTEM_PYTHON = "/usr/bin/python3"  # which other users may run too
+MOMENT = re.compile(r"^\d{4}-\d\d-\d\dT\d\d:\d\d:\d\dZ ", re.MULTILINE)  # at which a line was logged
 LONG = 20.0  # seconds after which what is waited for doesn't come
 
 sys.path[:0] = [str(PACKAGE), str(ROOT / "tests")]
@@ -105,17 +106,23 @@ class Served:
         return self
 
     def __exit__(self, *_: object) -> None:
-        self.process.send_signal(signal.SIGTERM)
-        try:
-            self.process.wait(LONG)
-        except subprocess.TimeoutExpired:
-            self.process.kill()
-            self.process.wait()
-            raise
+        """Ends it. The second signal ends connections that still write."""
+        until_then = time.monotonic() + LONG
+        while True:
+            self.process.send_signal(signal.SIGTERM)
+            try:
+                self.process.wait(0.3)
+                return
+            except subprocess.TimeoutExpired:
+                if time.monotonic() > until_then:
+                    self.process.kill()
+                    self.process.wait()
+                    raise
 
     @property
     def log(self) -> str:
-        return self.log_file.read_text()
+        """What it has logged, without the times."""
+        return MOMENT.sub("", self.log_file.read_text())
 
     def place(self, what: str = "listening") -> tuple[str, int]:
         """Where it listens on TCP."""

@@ -108,7 +108,8 @@ class Address(Case):
             with self.assertRaises(Disconnected) as raised:
                 Rtfilter(address=service.path)
             error = raised.exception
-            self.assertEqual(str(error), f"the service at {service.path} closed the connection")
+            told = "closed the connection: refused, there are 1 connections"
+            self.assertEqual(str(error), f"the service at {service.path} {told}")
             self.assertEqual(vars(pickle.loads(pickle.dumps(error))), vars(error))
             self.assertEqual(boxes.count(All()), 5)
 

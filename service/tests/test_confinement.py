@@ -48,14 +48,18 @@ class Confinement(Case):
             self.assertEqual((int(blocked, 16), int(caught, 16)), (0, 0))
 
     def test_its_memory(self) -> None:
-        """It shares none that can be written."""
+        """Of what it shares, one page can be written, in which lines are counted."""
         service = self.served(BOXES, "--connections", "100000")
         with service.connect() as asker:
             asker.sendall(b"count all\n")
             read_lines(asker, 1)
             maps = Path(f"/proc/{service.connections[0]}/maps").read_text()
             self.assertIn(" rw-p ", maps)
-            self.assertNotIn(" rw-s ", maps)
+            shared = [line for line in maps.splitlines() if line.split()[1][3] == "s"]
+            self.assertEqual([line.split()[1] for line in shared], ["r--s", "rw-s"])
+            for line in shared:
+                begin, end = (int(it, 16) for it in line.split()[0].split("-"))
+                self.assertEqual((end - begin, "memfd:rtfilter-common" in line), (4096, True))
 
     def test_calls(self) -> None:
         """What strace sees, whatever is asked, to the end."""
@@ -105,7 +109,7 @@ class Confinement(Case):
                 asker.sendall(b"count all\n")
                 self.assertEqual(read_lines(asker, 1), b"ok 1 5\n")
             with service.connect() as three:
-                self.assertEqual(three.recv(1), b"")
+                self.assertTrue(three.recv(100).startswith(b"rtfilter-serve: refused"))
             service.exchange()
         service.logs("status=1 ", 3)
         service.logs("status=0 ", 2)

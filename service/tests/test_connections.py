@@ -217,7 +217,8 @@ class Askers(Case):
                 asker.sendall(b"count all\n")
                 self.assertEqual(read_lines(asker, 1), b"ok %d 5\n" % at)
                 time.sleep(0.3)
-            self.assertEqual((silent.recv(1), other.recv(1)), (b"", b""))
+            for ended in (silent, other):
+                self.assertEqual((ended.recv(100), ended.recv(1)), (b"rtfilter-serve: silent for 0.6 seconds\n", b""))
             self.assertEqual(len(service.logs(r"status=4 seconds=[01]\.\d{3}$", 2)), 2)
         service.logs("^rtfilter: cannot read queries$", 2)
 
@@ -271,7 +272,7 @@ class Askers(Case):
                 asker.sendall(b"count all\n")
                 self.assertEqual(read_lines(asker, 1), b"ok 1 5\n")
             with service.connect() as three:
-                self.assertEqual(three.recv(100), b"")
+                self.assertEqual((three.recv(100), three.recv(1)), (b"rtfilter-serve: refused, there are 2 connections\n", b""))
             service.logs(r"^connection 3 \(.*\): refused, there are 2 connections$")
             one.shutdown(socket.SHUT_WR)
             self.assertEqual(one.recv(1), b"")

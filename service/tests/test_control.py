@@ -9,7 +9,7 @@ import sys
 import time
 import unittest
 
-from served import BOXES, LONG, PACKAGE, SERVICE, Case, Served, is_there, read_lines, send, table_of, until
+from served import BOXES, LONG, MOMENT, PACKAGE, SERVICE, Case, Served, is_there, read_lines, send, table_of, until
 
 # A service whose program has told its size and ended, both before the service looks.
 ENDING = """
@@ -19,7 +19,7 @@ sys.path += sys.argv[1:]
 import prefork
 from service import SIGNALS, Service
 
-def start(errors, log):
+def start(errors, log, common):
     control, its_control = socket.socketpair(socket.AF_UNIX, socket.SOCK_SEQPACKET)
     first, its_first = socket.socketpair()
     control.setblocking(False)
@@ -33,7 +33,7 @@ def start(errors, log):
     return prefork.Started(subprocess.Popen(["true"], process_group=0), control, first)
 
 signal.pthread_sigmask(signal.SIG_BLOCK, SIGNALS)
-sys.exit(asyncio.run(Service(Namespace(load_timeout=10.0), start, []).run(None)))
+sys.exit(asyncio.run(Service(Namespace(load_timeout=10.0, drain=1.0), start, []).run(None)))
 """
 
 MANY = 300  # more than a program is given at once, and more reports than its socket holds
@@ -55,7 +55,7 @@ class Control(Case):
         """It isn't the table: its end comes with what it tells of its size."""
         words = [sys.executable, "-c", ENDING, str(SERVICE.parent), str(PACKAGE / "rtfilter")]
         done = subprocess.run(words, capture_output=True, text=True, timeout=LONG)
-        self.assertEqual((done.returncode, done.stderr), (1, "the program has ended, with status 0\n"))
+        self.assertEqual((done.returncode, MOMENT.sub("", done.stderr)), (1, "the program has ended, with status 0\n"))
 
     def test_a_program_that_is_stopped_for_a_while(self) -> None:
         """Who connects waits."""
@@ -93,7 +93,7 @@ class Control(Case):
 
     def test_a_program_that_takes_nothing_and_a_service_that_ends(self) -> None:
         """Who waits is told of, too."""
-        service = self.served()
+        service = self.served(BOXES, "--drain", "1")
         send(signal.SIGSTOP, service.programs)
         askers = self.opened(service, 3)
         time.sleep(0.3)

@@ -12,13 +12,15 @@ import unittest
 from pathlib import Path
 from typing import Any
 
-from served import BOXES, PROGRAM, TRIES, Case, Served, is_there, put_library, read_lines, send, table_of, until
+from served import (
+    BOXES, PROGRAM, TRIES, Case, Served, answers, is_there, put_library, read_lines, send, table_of, until,
+)  # fmt: skip
 
 
 class Ends(Case):
     def test_the_service_ends(self) -> None:
         """With a connection that reads nothing, one that is silent, one that is stopped, and one to the old table."""
-        service = self.served(table_of(self.folder, "many", 0, 100_000), "--tcp", "0")
+        service = self.served(table_of(self.folder, "many", 0, 100_000), "--tcp", "0", "--drain", "1")
         with service.connect() as old:
             old.sendall(b"count all\n")
             read_lines(old, 1)
@@ -37,9 +39,39 @@ class Ends(Case):
                 self.assertEqual(service.process.wait(10), 0)
                 self.assertLess(time.monotonic() - begun, 4)
                 self.assertEqual((silent.recv(1), stopped.recv(1), old.recv(1)), (b"", b"", b""))
-        self.assertEqual(len(service.logs(r"^connection \d+ \(.*\): signal=9 ", 4)), 4)
+        self.assertEqual(len(service.logs(r"^connection \d+ \(.*\): (status=0|signal=9) ", 4)), 4)
+        service.logs("signal=9 ")
         self.assertFalse(os.path.exists(service.path))
         until(lambda: not any(map(is_there, processes)), "the end of all processes")
+
+    def test_replies_that_are_being_written(self) -> None:
+        """They come to their end, and a part of a line isn't answered; the second signal waits for nobody."""
+        service = self.served(table_of(self.folder, "many", 0, 100_000), "--tcp", "0", "--drain", "60")
+        with service.connect() as reading, socket.create_connection(service.tcp) as other, service.connect() as part:
+            wanted = b"".join(answers(0, 100_000) + b"ok %d 100000\n" % at for at in range(1, 5))
+            for asker in (reading, other):
+                asker.settimeout(20)
+                asker.sendall(b"find all\n" * 4)
+                self.assertTrue(asker.recv(1))
+            part.sendall(b"count all\ncount al")
+            self.assertEqual(read_lines(part, 1), b"ok 1 100000\n")
+            service.signal(signal.SIGTERM)
+            self.assertEqual(part.recv(100), b"")
+            for asker in (reading, other):
+                self.assertEqual(b"".join(iter(lambda: asker.recv(1 << 18), b"")), wanted[1:])
+        self.assertEqual(service.process.wait(20), 0)
+        self.assertEqual(len(service.logs(r"^connection \d \(.*\): status=[04] ", 3)), 3)
+
+    def test_an_end_that_is_urgent(self) -> None:
+        service = self.served(table_of(self.folder, "many", 0, 100_000), "--drain", "60")
+        with service.connect() as reads_nothing:
+            reads_nothing.sendall(b"find all\n" * 50)
+            self.assertTrue(reads_nothing.recv(1))
+            service.signal(signal.SIGTERM)
+            time.sleep(0.5)
+            self.assertIsNone(service.process.poll())
+            service.signal(signal.SIGINT)
+            self.assertEqual(service.process.wait(10), 0)
 
     def test_who_connects_while_it_ends(self) -> None:
         """Waits for the next service, where the socket stays: here a process of the program's ends only when it may."""
@@ -159,6 +191,8 @@ class Ends(Case):
                         found = read_lines(asker, 20)
                     except (ConnectionResetError, BrokenPipeError):
                         continue
+                if found.startswith(b"rtfilter-serve: refused"):
+                    continue
                 if not b"".join(b"ok %d 5\n" % at for at in range(1, 21)).startswith(found):
                     faults.append(found)
 

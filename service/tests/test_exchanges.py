@@ -96,7 +96,7 @@ class Exchanges(Case):
                 three.sendall(b"count all\n")
                 self.assertEqual(read_lines(three, 1), b"ok 1 5\n")
                 with service.connect() as four:
-                    self.assertEqual(four.recv(1), b"")
+                    self.assertEqual(four.recv(100), b"rtfilter-serve: refused, there are 3 connections\n")
                 two.shutdown(socket.SHUT_WR)
                 self.assertEqual(two.recv(1), b"")
                 with service.connect() as four:

@@ -5,11 +5,13 @@ import os
 import re
 import signal
 import socket
+import subprocess
+import sys
 import time
 import unittest
 from pathlib import Path
 
-from served import BOXES, PROGRAM, Case, Served, library_of, read_lines, until
+from served import BOXES, MOMENT, PROGRAM, SERVICE, Case, Served, library_of, read_lines, until
 
 HEAD = re.compile(
     rb"HTTP/1\.0 (\d{3}) [A-Za-z ]+\r\nContent-Type: text/plain; version=0\.0\.4; charset=utf-8\r\n"
@@ -60,6 +62,7 @@ class Health(Case):
             "rtfilter_connections_refused_total": "1", "rtfilter_connections_not_begun_total": "0",
             'rtfilter_connections_ended_total{status="0"}': "1",
             'rtfilter_connections_ended_total{status="1"}': "1", 'rtfilter_connections_ended_total{signal="9"}': "1",
+            "rtfilter_lines_answered_total": "4", "rtfilter_table_generation": "2", "rtfilter_loads_failed_total": "0",
         })
         types = dict(re.findall(r"^# TYPE (\w+) (\w+)$", text, re.MULTILINE))
         self.assertEqual({name: "counter" if name.endswith("_total") else "gauge" for name in types}, types)
@@ -84,6 +87,40 @@ class Health(Case):
         until(lambda: service.get("/health") == (503, "not ready\n"), "the end of the program")
         table.write_bytes(BOXES.read_bytes())
         until(lambda: service.get("/health") == (200, "ready\n"), "another program")
+
+    def test_lines_and_loads(self) -> None:
+        """Lines that are answered, of all connections and tables: no blank ones and no comments."""
+        table = Path(self.folder, "table")
+        table.write_bytes(BOXES.read_bytes())
+        service = self.served(table, "--health", "0", "--max-entries", "5")
+        lines = b"count all\n\n# find all\n \t\r\n  x\n" + b"#" * 70_000 + b"\nfind all"
+        self.assertEqual(service.ask(lines).count(b"\n"), 3 + 1 + 5)  # a line that is too long is answered, whatever it is
+        self.assertEqual(service.metric("rtfilter_lines_answered_total"), 3)
+        service.exchange()
+        with service.connect() as asker:
+            for at in range(1, 4):
+                asker.sendall(b"count all\n")
+                read_lines(asker, 1)
+                until(lambda: service.metric("rtfilter_lines_answered_total") == 3 + at, "a line")
+        with open(table, "a") as more:
+            more.write("6,0,1,0,1\n")
+        service.signal(signal.SIGHUP)
+        fault = "table record 6: too many entries; docs/SCALING.md says what holds more boxes"
+        service.logs(f"^the new table isn't taken, the old one stays: rtfilter: {fault}$")
+        self.assertEqual([service.metric(f"rtfilter_{it}") for it in ("table_generation", "loads_failed_total")], [2, 1])
+
+    def test_times_in_the_log(self) -> None:
+        """None where the journal adds them."""
+        service = self.served()
+        lines = service.log_file.read_text().splitlines()
+        self.assertTrue(lines and all(map(MOMENT.match, lines)), lines)
+        with open(Path(self.folder, "journal"), "wb") as journal:
+            status = os.fstat(journal.fileno())
+            stream = {**os.environ, "JOURNAL_STREAM": f"{status.st_dev}:{status.st_ino}"}
+            words = ["--unix", f"{self.folder}/other", "--program", PROGRAM, "/no/such/table"]
+            subprocess.run([sys.executable, "-B", SERVICE, *words], stderr=journal, env=stream, timeout=20)
+        told = Path(self.folder, "journal").read_text().splitlines()
+        self.assertEqual(told, [f"listening on {self.folder}/other", "rtfilter: cannot open table"])
 
     def test_requests(self) -> None:
         service = self.served(BOXES, "--health", "0")

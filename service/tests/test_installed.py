@@ -12,7 +12,7 @@ import unittest
 from pathlib import Path
 from typing import Any
 
-from served import BOXES, PROGRAM, ROOT, Case, found, read_lines, talk
+from served import BOXES, MOMENT, PROGRAM, ROOT, Case, found, read_lines, talk
 
 PAGE = ROOT / "service/README.md"
 UNITS = ROOT / "service/rtfilter.socket", ROOT / "service/rtfilter.service"
@@ -36,8 +36,8 @@ class Installed(Case):
         words = [self.place / "bin/rtfilter-serve", "--program", self.place / "bin/rtfilter", "--unix", path, BOXES]
         with subprocess.Popen([*map(str, words)], env=PLAIN, cwd="/", stderr=subprocess.PIPE, text=True) as service:
             assert service.stderr
-            self.assertEqual(service.stderr.readline(), f"listening on {path}\n")
-            self.assertEqual(service.stderr.readline(), "ready: 5 boxes\n")
+            lines = [MOMENT.sub("", service.stderr.readline()) for _ in range(2)]
+            self.assertEqual(lines, [f"listening on {path}\n", "ready: 5 boxes\n"])
             with socket.socket(socket.AF_UNIX) as asker:
                 asker.connect(path)
                 self.assertEqual(talk(asker, [b"count all\n"]), b"ok 1 5\n")
@@ -95,7 +95,9 @@ class QuickStart(Case):
         with started as service, contextlib.ExitStack() as stack:
             stack.callback(service.kill)  # where something fails, nobody waits for its end
             assert service.stderr
-            self.assertEqual([service.stderr.readline().rstrip("\n") for _ in told], told)
+            logged = [service.stderr.readline().rstrip("\n") for _ in told]
+            self.assertEqual([MOMENT.sub("", line) for line in logged], [MOMENT.sub("", line) for line in told])
+            self.assertTrue(all(map(MOMENT.match, [*logged, *told])))
             typed = "".join(f"{line[4:]}\n" for line in session.splitlines() if line.startswith((">>> ", "... "))) + "\n"
             shown = [line for line in session.splitlines() if not line.startswith((">>> ", "... "))]
             done = subprocess.run(client.strip(), input=typed, stdout=subprocess.PIPE, timeout=60, **words)

@@ -14,7 +14,9 @@ import time
 import unittest
 from pathlib import Path
 
-from served import BOXES, PROGRAM, SERVICE, SYSTEM_PYTHON, Case, Served, children_of, read_lines, table_of, talk, until
+from served import (
+    BOXES, MOMENT, PROGRAM, SERVICE, SYSTEM_PYTHON, Case, Served, children_of, read_lines, table_of, talk, until,
+)  # fmt: skip
 
 PIDFD_GETFD = 438  # a call of Linux: another process's descriptor
 
@@ -23,7 +25,7 @@ def run(*words: object) -> tuple[int, str]:
     """A service that is to end by itself: its status, and what it tells."""
     command = [sys.executable, "-B", str(SERVICE), "--program", PROGRAM, *map(str, words)]
     done = subprocess.run(command, capture_output=True, text=True, timeout=20)
-    return done.returncode, done.stderr
+    return done.returncode, MOMENT.sub("", done.stderr)
 
 
 class Sockets(Case):
@@ -86,9 +88,9 @@ class Sockets(Case):
         until(lambda: sum(service.poll() is not None for service in services) == 3, "the end of three")
         (winner,) = [service for service in services if service.poll() is None]
         assert winner.stderr
-        self.assertEqual(winner.stderr.readline(), f"listening on {path}\n")
+        self.assertEqual(MOMENT.sub("", winner.stderr.readline()), f"listening on {path}\n")
         # (the others have looked whether somebody listens, which the log tells as connections, perhaps before this)
-        self.assertIn("ready: 5 boxes\n", iter(winner.stderr.readline, ""))
+        self.assertIn("ready: 5 boxes\n", (MOMENT.sub("", line) for line in iter(winner.stderr.readline, "")))
         with socket.socket(socket.AF_UNIX) as asker:
             asker.connect(path)
             self.assertEqual(talk(asker, [b"count all"]), b"ok 1 5\n")

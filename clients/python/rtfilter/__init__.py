@@ -16,13 +16,15 @@ from .answers import Answers
 from .boxes import Boxes
 from .client import Command, Rtfilter
 from .connection import Address
-from .errors import Disconnected, Ended, FeatureError, QueryError, RtfilterError, TimedOut, WrongProcess
+from .errors import Disconnected, Ended, FeatureError, QueryError, RtfilterError, TableNotFound, TimedOut, WrongProcess
 from .geojson import rows_from
 from .joining import join
 from .pool import Pool
 from .queries import All, ById, Circle, Covers, Inside, Layers, Near, Order, Polygon, Region, Smallest, Window
 from .replies import Reply
 from .tables import Row, Table
+
+__version__ = "0.2.0"
 
 __all__ = [
     "Address",
@@ -50,6 +52,7 @@ __all__ = [
     "RtfilterError",
     "Smallest",
     "Table",
+    "TableNotFound",
     "TimedOut",
     "Window",
     "WrongProcess",

@@ -15,7 +15,7 @@ from typing import TYPE_CHECKING, Any, Self, TypeVar
 
 from . import arrays
 from .answers import Answers
-from .client import ANSWERED, LINE_FEED, PROGRAM, Command, checked_timeout, command, query_lines
+from .client import LINE_FEED, PROGRAM, Command, checked_timeout, command, query_lines
 from .connection import Address, Connection
 from .deadlines import ENDLESS
 from .errors import TimedOut
@@ -23,8 +23,8 @@ from .program import Program
 from .queries import All, Covers, Inside, Layers, Order, Region, Window
 from .queries import count_line, find_form, find_line, nearest_line
 from .replies import Reply, all_answers, answers_of, cut, cut_one, may_be_skipped
-from .tables import Table, again, file_of, named
-from .transport import CLOSED, PIECE, Loads, Transport
+from .tables import Table, again, either, file_of, named
+from .transport import ANSWERED, CLOSED, PIECE, Loads, Transport
 
 if TYPE_CHECKING:
     from numpy.typing import NDArray
@@ -205,6 +205,7 @@ class Rtfilter:
         self,
         table: Table | None = None,
         *,
+        bounds: Any = None,
         address: Address | None = None,
         header: bool = False,
         fanout: int | None = None,
@@ -212,6 +213,7 @@ class Rtfilter:
         program: Command = PROGRAM,
         timeout: float | None = None,
     ) -> None:
+        table = either(table, bounds)
         has_options = (header, fanout, max_entries, program) != (False, None, None, PROGRAM)
         if (table is None) == (address is None) or (address is not None and has_options):
             raise ValueError("either a table, with the options of a program, or an address")
@@ -333,10 +335,15 @@ class Rtfilter:
         return list(await self._answers("levels"))
 
     async def query_bulk(
-        self, windows: Any, *, region: type[Window | Inside | Covers] = Window, on: Layers | None = None
+        self,
+        windows: Any = None,
+        *,
+        bounds: Any = None,
+        region: type[Window | Inside | Covers] = Window,
+        on: Layers | None = None,
     ) -> "tuple[Wholes, Wholes]":
         """As `rtfilter.Boxes.query_bulk`."""
-        rows = arrays.whole_rows(windows, "windows", arrays.SIDES)
+        rows = arrays.windows_of(windows, bounds)
         counts, answers = await self._bulk(find_form(region, on), rows)
         return arrays.places_of(counts), arrays.ids_of(answers)
 
@@ -368,9 +375,10 @@ class Rtfilter:
         """How many boxes there are."""
         return await self.count(All())
 
-    async def reload(self, table: Table | None = None) -> None:
+    async def reload(self, table: Table | None = None, *, bounds: Any = None) -> None:
         """As `rtfilter.Boxes.reload`; by address, as `rtfilter.Rtfilter.reload`."""
         self._current()
+        table = either(table, bounds)
         if self._address is not None and table is not None:
             raise ValueError("the table behind an address is the service's")
         if self._address is None:

@@ -20,6 +20,7 @@ AT_ONCE = 1000  # rows
 ID = ("id",)
 SIDES = ("min_x", "max_x", "min_y", "max_y")
 LAYER = ("layer",)
+BOUNDS = ("min_x", "min_y", "max_x", "max_y")
 POINT = ("x", "y")
 
 
@@ -38,8 +39,29 @@ def rows_of(table: Any) -> Iterable[Any]:
     """The rows of a table that is an array or a frame, or those that are given."""
     if not is_array(table) and not is_frame(table):
         return table  # type: ignore[no-any-return]
-    array = whole_rows(table, "the table", ID + SIDES, LAYER)
+    return listed(whole_rows(table, "the table", ID + SIDES, LAYER))
+
+
+def listed(array: "NDArray[Any]") -> Iterator[list[int]]:
+    """The rows of an array as lists."""
     return chain.from_iterable(array[at : at + AT_ONCE].tolist() for at in range(0, len(array), AT_ONCE))
+
+
+def rows_of_bounds(bounds: Any) -> Iterator[Any]:
+    """The rows of a table, from the bounds of its boxes; the ids are their places, from 0."""
+    return ((place, *sides) for place, sides in enumerate(listed(sides_of(bounds))))
+
+
+def sides_of(bounds: Any) -> "NDArray[Any]":
+    """Rows of min_x, max_x, min_y, max_y, from rows of min_x, min_y, max_x, max_y."""
+    return whole_rows(bounds, "bounds", BOUNDS)[:, [0, 2, 1, 3]]
+
+
+def windows_of(windows: Any, bounds: Any) -> "NDArray[Any]":
+    """The sides of many windows, of which either these or their bounds are given."""
+    if (windows is None) == (bounds is None):
+        raise ValueError("either windows or their bounds")
+    return sides_of(bounds) if windows is None else whole_rows(windows, "windows", SIDES)
 
 
 def whole_rows(value: Any, name: str, wanted: Sequence[str], optional: Sequence[str] = ()) -> "NDArray[Any]":

@@ -38,7 +38,7 @@ class Boxes(Owned, Closing):
         """
 
     @abc.abstractmethod
-    def reload(self, table: Table | None = None) -> None:
+    def reload(self, table: Table | None = None, *, bounds: Any = None) -> None:
         """Exchanges the table for another, or for what the same file holds now, while questions are asked.
 
         The new one is loaded beside the old, which answers until that is done, and is closed then. Each call is answered by
@@ -69,18 +69,24 @@ class Boxes(Owned, Closing):
         return self._answers(nearest_line(k, x, y))
 
     def query_bulk(
-        self, windows: Any, *, region: type[Window | Inside | Covers] = Window, on: Layers | None = None
+        self,
+        windows: Any = None,
+        *,
+        bounds: Any = None,
+        region: type[Window | Inside | Covers] = Window,
+        on: Layers | None = None,
     ) -> "tuple[Wholes, Wholes]":
         """The boxes that each of many windows accepts, as two arrays of numpy: the place of the window, from 0, and the id.
 
         `windows` are rows of x1, x2, y1, y2: an array of whole numbers of shape (n, 4), a frame of pandas or an array with
-        the columns min_x, max_x, min_y and max_y, or anything that has such rows. Pairs come by place and then id. `region`
-        says what a window accepts, as in `find`, and so does `on`.
+        the columns min_x, max_x, min_y and max_y, or anything that has such rows. `bounds` in their place are rows of min_x,
+        min_y, max_x, max_y, the order of shapely, GeoJSON and rtree. Pairs come by place and then id. `region` says what a
+        window accepts, as in `find`, and so does `on`.
 
         Raises `TypeError` for numbers that aren't whole, another shape and another region, `QueryError`, with a note of the place, for
         the first window that is none, and `ImportError` without numpy.
         """
-        rows = arrays.whole_rows(windows, "windows", arrays.SIDES)
+        rows = arrays.windows_of(windows, bounds)
         counts, answers = self._bulk(find_form(region, on), rows)
         return arrays.places_of(counts), arrays.ids_of(answers)
 

@@ -6,7 +6,7 @@ from collections.abc import Iterable, Iterator, Sequence
 from functools import partial
 from operator import index
 from threading import get_ident
-from typing import Union
+from typing import Any, Union
 
 from . import bundled
 from .answers import Answers
@@ -15,8 +15,8 @@ from .connection import Address, Connection
 from .deadlines import ENDLESS, Deadline, Turns
 from .program import Program
 from .replies import OneReply, Reply, answers_of, cut, may_be_skipped
-from .tables import File, Table, again, file_of, named
-from .transport import CLOSED, Loads, Transport
+from .tables import File, Table, again, either, file_of, named
+from .transport import ANSWERED, CLOSED, Loads, Transport
 
 Command = Union[File, Sequence[str]]
 """The program: its name or path, or the words of a command, which options and the table's name are to follow."""
@@ -25,15 +25,13 @@ PROGRAM = "rtfilter"
 
 LINE_FEED = "a line feed in a query line: {!r:.200}"
 
-ANSWERED = "find all first 0"
-"""A line that is always answered, for a text whose last line may have no reply."""
-
 
 class Rtfilter(Boxes):
     """A table of boxes that the program `rtfilter` holds, as a process beside this one or behind a service.
 
     `table` is the name of a CSV file, or rows, whose numbers are id, min_x, max_x, min_y, max_y and, for a box that isn't of
-    layer 0, its layer, 0 to 63. With `header`, the first record of a file is one. `fanout` (2 to 64) and `max_entries` (1 to
+    layer 0, its layer, 0 to 63. In its place `bounds` are rows of min_x, min_y, max_x, max_y, the order of shapely, GeoJSON
+    and rtree; each box has its place among them, from 0, as its id. With `header`, the first record of a file is one. `fanout` (2 to 64) and `max_entries` (1 to
     16777216) are the program's options. `program` is the program's name or path, or the words of a command that runs it; by
     default the one in this package, if it has one, else `rtfilter` on the path. `timeout` is how many seconds each call may
     wait, for the program, for the calls of other threads and for a connection, all together, the load here too; None sets
@@ -43,7 +41,7 @@ class Rtfilter(Boxes):
     a port. A connection keeps its table; one that was lost is made anew by the next question, and by `reload`.
 
     The table is loaded when this returns. Raises `Ended` where the program refuses the table or an option, with its status
-    and its line, `FileNotFoundError` where there is no such program, what making the rows raises, `OSError` where no
+    and its line, `FileNotFoundError` where there is no such program or no such table, what making the rows raises, `OSError` where no
     service can be reached, `Disconnected` where it takes no more connections, and `ValueError` for a table beside an
     address.
 
@@ -54,6 +52,7 @@ class Rtfilter(Boxes):
         self,
         table: Table | None = None,
         *,
+        bounds: Any = None,
         address: Address | None = None,
         header: bool = False,
         fanout: int | None = None,
@@ -62,6 +61,7 @@ class Rtfilter(Boxes):
         timeout: float | None = None,
         _loads: Loads | None = None,
     ) -> None:
+        table = either(table, bounds)
         has_options = (header, fanout, max_entries, program) != (False, None, None, PROGRAM)
         if (table is None) == (address is None) or (address is not None and has_options):
             raise ValueError("either a table, with the options of a program, or an address")
@@ -110,7 +110,8 @@ class Rtfilter(Boxes):
     def _told(self, text: bytes, lines: int, deadline: Deadline) -> tuple[int, bytes]:
         """The number of the first of these lines, and the replies to them."""
         transport = self._open(deadline)
-        return transport.lines + 1, transport.replies_to(text, lines, deadline)
+        replies = transport.replies_to(text, lines, deadline)
+        return transport.lines - lines + 1, replies
 
     def _texts(self, texts: Iterable[tuple[str, int]], deadline: Deadline) -> Iterator[bytes]:
         replies = self._turns.take(partial(self._all_told, texts, deadline), deadline)
@@ -162,8 +163,9 @@ class Rtfilter(Boxes):
         """Whether further calls raise `Ended`, until `reload`."""
         return self._address is None and self._transport.is_abandoned
 
-    def reload(self, table: Table | None = None) -> None:
+    def reload(self, table: Table | None = None, *, bounds: Any = None) -> None:
         self._check_process()
+        table = either(table, bounds)
         if self._address is None:
             table = again(table, self._file)
             self._exchange(*self._loaded(table))

@@ -21,6 +21,7 @@ Address = Union[File, tuple[str, int]]
 
 PAUSES = 0.001, 0.05  # seconds between two looks at a connection that is being made, the first and the longest
 HOST_AND_PORT = re.compile(r"[^/]*:[0-9]+")
+TOLD = "rtfilter-serve: "  # how a line begins in which the service tells why it closes a connection
 UNDER_WAY = errno.EINPROGRESS, errno.EALREADY, errno.EINTR
 
 IsWanted = Callable[[], bool]
@@ -53,7 +54,8 @@ class Connection(Transport):
             return len(text)
 
     def _ended(self) -> Disconnected:
-        return Disconnected(f"the service at {self._name} closed the connection")
+        _, is_told, why = self._line.decode(errors="replace").rstrip("\n").partition(TOLD)
+        return Disconnected(f"the service at {self._name} closed the connection{is_told and ': '}{why}")
 
     def _end_at_once(self) -> None:
         with contextlib.suppress(OSError):  # where the other side was first

@@ -1,6 +1,22 @@
 """What may go wrong. Each error is made of the arguments that it keeps, so that pickling gives it back whole."""
 
+import errno
+import os
+from typing import Any
+
 LONGEST_SHOWN = 200  # of a query, in a message
+
+# What helps against a fault, by the program's text of it.
+HINTS = {
+    "minimum above maximum":
+        "the order here is min_x, max_x, min_y, max_y; that of from_bounds and bounds= is min_x, min_y, max_x, max_y",
+    "too many entries": "a program holds 16777216 boxes at most, or max_entries; for more see docs/SCALING.md of rtfilter",
+}  # fmt: skip
+
+
+def with_hint(message: str, text: str) -> str:
+    """A message, and behind it what helps against the fault that the program's text names."""
+    return "; ".join([message, *(hint for fault, hint in HINTS.items() if fault in text)])
 
 
 class RtfilterError(Exception):
@@ -20,7 +36,7 @@ class QueryError(RtfilterError):
         self.text = text
 
     def __str__(self) -> str:
-        return f"{self.code} {self.text}: {self.line:.{LONGEST_SHOWN}}"
+        return with_hint(f"{self.code} {self.text}: {self.line:.{LONGEST_SHOWN}}", self.text)
 
 
 class Ended(RtfilterError):
@@ -35,7 +51,21 @@ class Ended(RtfilterError):
         self.text = text
 
     def __str__(self) -> str:
-        return self.text or f"the program ended with status {self.status}"
+        return with_hint(self.text, self.text) or f"the program ended with status {self.status}"
+
+
+class TableNotFound(Ended, FileNotFoundError):
+    """The program has ended since there is no such file as its table. `filename` is its name."""
+
+    def __init__(self, status: int, text: str, filename: str) -> None:
+        super().__init__(status, text)
+        self.errno, self.strerror, self.filename = errno.ENOENT, os.strerror(errno.ENOENT), filename
+
+    def __str__(self) -> str:
+        return f"{self.text}: {self.strerror}: {self.filename!r}"
+
+    def __reduce__(self) -> tuple[Any, ...]:
+        return type(self), (self.status, self.text, self.filename), vars(self)
 
 
 class Disconnected(RtfilterError, ConnectionError):

@@ -10,7 +10,7 @@ from functools import partial
 from itertools import chain
 from pathlib import Path
 from threading import get_ident
-from typing import TypeVar
+from typing import Any, TypeVar
 
 from .boxes import Boxes
 from .client import Command, Rtfilter, checked_timeout, command, program_of, query_lines
@@ -21,7 +21,7 @@ from .prefork import library_of
 from .program import GRACE
 from .replies import Reply
 from .shared import Holder, Shared, Sharer
-from .tables import Table, again, file_of, named
+from .tables import Table, again, either, file_of, named
 from .threads import in_threads
 from .transport import CLOSED, Loads
 
@@ -163,8 +163,9 @@ class Pool(Boxes):
     def __init__(
         self,
         n: int,
-        table: Table,
+        table: Table | None = None,
         *,
+        bounds: Any = None,
         header: bool = False,
         fanout: int | None = None,
         max_entries: int | None = None,
@@ -173,6 +174,9 @@ class Pool(Boxes):
     ) -> None:
         if n < 1:
             raise ValueError("a pool has at least one copy")
+        table = either(table, bounds)
+        if table is None:
+            raise ValueError("a pool has a table")
         super().__init__()
         self._n = n
         self._file = file_of(table)
@@ -247,8 +251,10 @@ class Pool(Boxes):
         self, loads: Loads, name: str, is_unchanged: Callable[[], bool], deadline: Deadline, library: Path
     ) -> Copies:
         """Copies that are one table in memory, each asked by a process of its own."""
-        def start(deadline: Deadline) -> Holder:
-            return loads.ready(Holder([*self._words, "--", name], library), deadline)
+        words = [*self._words, "--", name]
+
+        def start(deadline: Deadline) -> Holder:  # without this pool, which would then be dropped later than by all else
+            return loads.ready(Holder(words, library), deadline)
 
         shared = Shared(start, is_unchanged, deadline)
         clients: list[Rtfilter] = []
@@ -304,11 +310,11 @@ class Pool(Boxes):
             lambda copies: in_threads(self._n, lambda part: copies.ask(call, part, deadline), parts)
         )
 
-    def reload(self, table: Table | None = None) -> None:
+    def reload(self, table: Table | None = None, *, bounds: Any = None) -> None:
         self._check_process()
         if self._own_calls():
             Turns.refuse()
-        table = again(table, self._file)
+        table = again(either(table, bounds), self._file)
         file = file_of(table)
         copies, deadline = self._loaded(table)
         with self._exchanging:

@@ -5,6 +5,7 @@ The head of `service/prefork.c` has the rules. This module needs no other one of
 
 import contextlib
 import fcntl
+import mmap
 import os
 import shutil
 import socket
@@ -18,6 +19,8 @@ LIBRARY = "rtfilter-prefork.so"
 SIZE = b"count all\n"  # what a program is asked first
 REPORT = struct.Struct("ii")  # the number of a process, and its status
 BEGUN = -1  # in place of a status
+NUMBER = struct.Struct("Q")
+PAGE = 4096
 FIRST_FREE = 3  # descriptor: those below are standard files, even where they are closed here
 
 
@@ -40,6 +43,25 @@ class Started(NamedTuple):
     first: socket.socket  # `ok 1 SIZE` comes here once it serves; an end without that, where it never will
 
 
+class Common:
+    """What a starter has in common with the connections of all its programs: a page that they write to, and one that they
+    read."""
+
+    def __init__(self) -> None:
+        self.file = os.memfd_create("rtfilter-common")
+        os.ftruncate(self.file, 2 * PAGE)
+        self._memory = mmap.mmap(self.file, 2 * PAGE)
+
+    @property
+    def answered(self) -> int:
+        """How many lines were answered."""
+        return int(NUMBER.unpack_from(self._memory)[0])
+
+    def end(self) -> None:
+        """Has each connection end behind a line. One that waits for the next has to be woken, by an end of its input."""
+        NUMBER.pack_into(self._memory, PAGE, 1)
+
+
 def give(control: socket.socket, connection: socket.socket) -> None:
     """Hands a connection over. Raises `BlockingIOError` where the program has enough to take, and `ConnectionError` where it
     has ended."""
@@ -54,11 +76,13 @@ def pair(kind: int = socket.SOCK_STREAM) -> tuple[socket.socket, socket.socket]:
     return ends
 
 
-def start(command: Sequence[str], library: Path, errors: int, log: int) -> Started:
+def start(command: Sequence[str], library: Path, errors: int, log: int, common: Common | None = None) -> Started:
     """Starts a program, and doesn't wait for it. Raises `OSError` where it can't be started.
 
     `errors` is the descriptor of its standard error until it serves, and `log` that from then on.
     """
+    more = {"RTFILTER_COMMON": str(common.file)} if common else {}
+    passed = [common.file] if common else []
     control, its_control = pair(socket.SOCK_SEQPACKET)
     first, its_first = pair()
     with contextlib.ExitStack() as kept, its_control, its_first:
@@ -73,7 +97,7 @@ def start(command: Sequence[str], library: Path, errors: int, log: int) -> Start
             paths = f"/proc/self/fd/{preloaded.fileno()} {os.environ.get('LD_PRELOAD', '')}"
             process = subprocess.Popen(
                 command, bufsize=0, stdin=its_control.fileno(), stdout=log, stderr=errors,
-                pass_fds=[preloaded.fileno()], process_group=0, env={**os.environ, "LD_PRELOAD": paths},
+                pass_fds=[preloaded.fileno(), *passed], process_group=0, env={**os.environ, "LD_PRELOAD": paths, **more},
             )  # fmt: skip
         kept.pop_all()
     return Started(process, control, first)

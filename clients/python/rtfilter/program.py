@@ -105,6 +105,8 @@ class Child(Transport):
 class Program(Child):
     """A process that loads its table and answers lines."""
 
+    _knows_taken = True
+
     def __init__(self, command: Sequence[str]) -> None:
         """Starts the process, which loads from then on: `load` waits for it."""
         with STARTING:
@@ -124,12 +126,15 @@ class Program(Child):
         os.set_blocking(process.stdin.fileno(), False)
 
     def _write(self, text: Text) -> int:
+        self._unsent, self._taken = text, 0
         try:
-            return os.write(self._input_number, text)
+            # Between the write and the assignment CPython calls no handler of a signal.
+            (self._taken,) = map(os.write, (self._input_number,), (text,))
         except BlockingIOError:
             return 0
         except ConnectionError:
             return len(text)
+        return self._taken
 
 
 def errors_file() -> IO[bytes]:

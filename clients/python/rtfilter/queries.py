@@ -9,7 +9,7 @@ touches shares a point.
 from collections.abc import Iterable
 from dataclasses import dataclass
 from operator import index
-from typing import ClassVar, Union
+from typing import ClassVar, Self, Union
 
 _keep = object.__setattr__  # of a value that is frozen once it is made
 
@@ -48,6 +48,12 @@ class _Sides:
         _keep_x2(self, index(x2))
         _keep_y1(self, index(y1))
         _keep_y2(self, index(y2))
+
+    @classmethod
+    def from_bounds(cls, bounds: Iterable[int]) -> Self:
+        """The same from (min_x, min_y, max_x, max_y): the order of shapely's `bounds`, of GeoJSON's `bbox` and of rtree."""
+        x1, y1, x2, y2 = bounds
+        return cls(x1, x2, y1, y2)
 
     def __str__(self) -> str:
         return self._form % (self.x1, self.x2, self.y1, self.y2)

@@ -8,8 +8,8 @@ from itertools import chain, islice
 from operator import index
 from typing import Any, Union
 
-from .arrays import AT_ONCE, rows_of
-from .errors import Ended, TimedOut
+from .arrays import AT_ONCE, rows_of, rows_of_bounds
+from .errors import Ended, TableNotFound, TimedOut
 
 Row = Sequence[int]
 """A box: id, min_x, max_x, min_y, max_y, and its layer where that isn't 0, each a whole number."""
@@ -21,6 +21,7 @@ Table = Union[File, Iterable[Row], Any]
 """The name of a CSV file, or rows: an iterable of them, an array of numpy of shape (n, 5) or (n, 6), or an array with fields
 or a frame of pandas that has the columns id, min_x, max_x, min_y, max_y and, perhaps, layer."""
 
+NOT_OPENED = "rtfilter: cannot open table"
 FIELDS = 5  # of a row without a layer
 RECORD = "%d,%d,%d,%d,%d\n"
 LAYERED_RECORD = "%d,%d,%d,%d,%d,%d\n"
@@ -33,15 +34,18 @@ def named(table: Table, header: bool) -> Iterator[str]:
     Rows go to a file of their own, in the folder for temporary files, before any program is started: whatever making them
     raises is raised here, and more than one program may read them. A row that isn't five or six whole numbers raises
     `TypeError`, and rows with a header `ValueError`; whether the numbers make a box is the program's to judge. Where the
-    program refuses a file, or takes too long, a note tells which one it is.
+    program refuses a file, or takes too long, a note tells which one it is; one that isn't there raises `TableNotFound`.
     """
     if isinstance(table, (str, os.PathLike)):
         try:
             yield os.fspath(table)
         except (Ended, TimedOut) as error:
             note = f"the table is {os.fspath(table)}"
-            if note not in getattr(error, "__notes__", ()):
-                error.add_note(note)
+            if isinstance(error, TableNotFound) or note in getattr(error, "__notes__", ()):
+                raise
+            if isinstance(error, Ended) and error.text == NOT_OPENED and not os.path.lexists(table):
+                raise TableNotFound(error.status, error.text, os.fspath(table)) from None
+            error.add_note(note)
             raise
         return
     if header:
@@ -91,6 +95,15 @@ def record(row: Row, number: int) -> str:
     if len(numbers) not in (FIELDS, FIELDS + 1):
         raise TypeError(f"rows[{number}]: a row has five or six numbers, and not {len(numbers)}")
     return (RECORD if len(numbers) == FIELDS else LAYERED_RECORD) % numbers
+
+
+def either(table: Table | None, bounds: Any) -> Table | None:
+    """The table that is given, by itself or by the bounds of its boxes; None where neither is."""
+    if bounds is None:
+        return table
+    if table is not None:
+        raise ValueError("either a table or the bounds of boxes, and not both")
+    return rows_of_bounds(bounds)
 
 
 def file_of(table: Table | None) -> File | None:

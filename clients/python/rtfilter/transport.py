@@ -14,6 +14,9 @@ from .replies import OneReply, cut_one
 PIECE = 1 << 16  # bytes of a read: what a pipe holds
 CLOSED = "the table was closed"
 
+ANSWERED = "find all first 0"
+"""A line that is always answered, for a text whose last line may have no reply."""
+
 Text = Union[bytes, memoryview]
 
 
@@ -27,7 +30,12 @@ class Transport(Owned, abc.ABC):
     """Carries lines out and replies back. For one thread at a time; `abandon` and `hang_up` are for any.
 
     Lines are numbered from 1; `lines` is how many they are so far. `size` is how many boxes there were at the start.
+
+    A call that an exception of a signal's handler breaks off, as `KeyboardInterrupt`, leaves replies that are still to come.
+    Where `_write` knows all the same what was taken, the next call first reads these; else this is abandoned.
     """
+
+    _knows_taken = False
 
     def __init__(self, input: HasDescriptor, output: HasDescriptor) -> None:
         """Over what is open for lines and for replies, two descriptors."""
@@ -42,6 +50,10 @@ class Transport(Owned, abc.ABC):
         self._is_abandoned = False
         self._is_closing = False
         self._why = ""
+        self._is_under_way = False  # a call, or one was broken off: `lines` are those up to its last one
+        self._unsent: Text = b""  # what a write was given last
+        self._taken = 0  # bytes of that
+        self._line = b""  # what was read last of a line, or the whole of it
         super().__init__()
 
     def load(self, deadline: Deadline) -> None:
@@ -109,14 +121,17 @@ class Transport(Owned, abc.ABC):
         """The replies to a text of so many lines, of which the last has to be one that is answered.
 
         Raises what `_ended` tells where the other side ends, `TimedOut` where it takes too long, and `ValueError` where
-        this was closed. Whatever is raised, it is abandoned: replies that are still to come would be taken for those to
-        later lines.
+        this was closed. Then it is abandoned: replies that are still to come would be taken for those to later lines.
         """
         if not self._is_usable:
             self._check_open()
         try:
-            self.lines += lines
-            return b"".join(self._exchanged(memoryview(text), deadline))
+            if self._is_under_way:
+                self._finish(deadline)
+            self.lines, self._unsent, self._taken, self._is_under_way = self.lines + lines, text, 0, True
+            reply = b"".join(self._exchanged(memoryview(text), deadline))
+            self._is_under_way = False
+            return reply
         except BaseException as error:
             self._abandon_for(error)
             raise
@@ -127,7 +142,9 @@ class Transport(Owned, abc.ABC):
         if not self._is_usable:
             self._check_open()
         try:
-            self.lines += lines
+            if self._is_under_way:
+                self._finish(deadline)
+            self.lines, self._unsent, self._taken, self._is_under_way = self.lines + lines, text, 0, True
             return self._pieces(self._send(memoryview(text)), deadline)
         except BaseException as error:
             self._abandon_for(error)
@@ -143,6 +160,7 @@ class Transport(Owned, abc.ABC):
                     part = piece[end:]
                 else:
                     part += piece
+            self._is_under_way = False
         except BaseException as error:
             self._abandon_for(error)
             raise
@@ -153,15 +171,20 @@ class Transport(Owned, abc.ABC):
         if not self._is_usable:
             self._check_open()
         try:
-            self.lines += 1
+            if self._is_under_way:
+                self._finish(deadline)
+            self.lines, self._unsent, self._taken, self._is_under_way = self.lines + 1, line, 0, True
             # The line is mostly sent at once, and one read has its reply.
             sent = self._write(line)
             reply = self._read(deadline) if sent == len(line) else b""
             if reply.endswith(b"\n"):
                 answers, found, told = reply.rpartition(b"ok %d " % self.lines)  # no answer has a letter
                 if found:
+                    self._is_under_way = False
                     return answers, told, False
-            return cut_one(b"".join(self._exchanged(line[sent:], deadline, reply)))
+            reply = b"".join(self._exchanged(line[sent:], deadline, reply))
+            self._is_under_way = False
+            return cut_one(reply)
         except BaseException as error:
             self._abandon_for(error)
             raise
@@ -188,19 +211,32 @@ class Transport(Owned, abc.ABC):
         fork in the middle of a call, as by the handler of a signal, the call ends with `WrongProcess`."""
         if isinstance(error, Exception):
             self._check_process()
+        is_own = self._is_closing or isinstance(error, (RtfilterError, GeneratorExit))
+        if self._knows_taken and not is_own:  # the handler's of a signal
+            return
         is_met = isinstance(error, TimedOut) or not isinstance(error, RtfilterError)
         self.abandon(f"ended because of an earlier call: {str(error) or type(error).__name__}" if is_met else "")
+
+    def _finish(self, deadline: Deadline) -> None:
+        """Reads what is still to come of a call that was broken off. The line that is sent next, or by half, gets its rest; one
+        that is surely answered comes behind it, and replies are read up to that one's. This may be broken off as well."""
+        line, end, others = bytes(self._unsent[self._taken :]).partition(b"\n")
+        text = line + end + f"{ANSWERED}\n".encode()
+        self.lines, self._unsent, self._taken = self.lines - others.count(b"\n") + 1, text, 0
+        for _ in self._exchanged(memoryview(text), deadline):
+            pass
+        self._is_under_way = False
 
     def _exchanged(self, unsent: Text, deadline: Deadline, piece: bytes = b"") -> Iterator[bytes]:
         """Writes and reads by turns, so that neither side waits for ever for the other to read; a piece may have been read
         before. The pieces as they come, up to the end of the reply to the last line."""
         ends = b"ok %d " % self.lines, b"error %d " % self.lines
-        line = b""  # the last one that was read, or what is there of it
+        self._line = line = b""
         while True:
             if piece:
                 yield piece
                 begin = piece.rfind(b"\n", 0, -1) + 1
-                line = piece[begin:] if begin or line.endswith(b"\n") else line + piece
+                self._line = line = piece[begin:] if begin or line.endswith(b"\n") else line + piece
                 if line.endswith(b"\n") and line.startswith(ends):
                     return
             unsent = self._send(unsent)

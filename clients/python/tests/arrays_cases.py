@@ -107,6 +107,43 @@ class Tables(unittest.TestCase):
                 with self.assertRaisesRegex(TypeError, f"^the table: .*{text}"):
                     opened(table, program=PROGRAM)
 
+    def test_bounds(self) -> None:
+        """min_x, min_y, max_x, max_y: a box has its place as its id, as in shapely's tree."""
+        bounds = numpy.array([(0, 5, 10, 6), (20, 0, 30, 4), (-3, -9, -1, 7)])
+        frame = pandas.DataFrame(bounds, columns=["minx", "miny", "maxx", "maxy"])  # as geopandas names them
+        window = [(0, 0, 30, 5)]
+        for given in anything(bounds, bounds.tolist(), frame, frame[["maxx", "minx", "maxy", "miny"]], bounds.astype("u8")[:2]):
+            for opened in anything(Rtfilter, lambda **more: Pool(2, **more)):
+                with opened(bounds=given, program=PROGRAM) as boxes:
+                    self.assertEqual(len(boxes), len(given))
+                    self.assertEqual([*boxes.find(Covers(5, 5, 5, 6)).ids], [0])
+                    self.assertEqual([*boxes.find(Window.from_bounds(window[0])).ids], [0, 1])
+                    places, ids = boxes.query_bulk(bounds=window)
+                    self.assertEqual((places.tolist(), ids.tolist()), ([0, 0], [0, 1]))
+                    boxes.reload(bounds=given[:1])
+                    self.assertEqual(len(boxes), 1)
+                    for call in anything(lambda: boxes.query_bulk(), lambda: boxes.query_bulk(window, bounds=window),
+                                         lambda: boxes.reload(ROWS, bounds=given), lambda: boxes.reload()):  # fmt: skip
+                        with self.assertRaises(ValueError):
+                            call()
+        for faulty, error in ((bounds.astype(float), TypeError), (bounds[:, :3], TypeError), (bounds[:, ::-1], Ended)):
+            with self.assertRaises(error):
+                Rtfilter(bounds=faulty, program=PROGRAM)
+        for given in anything({"table": ROWS, "bounds": bounds}, {"address": "nowhere", "bounds": bounds}, {}):
+            with self.assertRaises(ValueError):
+                Rtfilter(**given)
+        with self.assertRaises(ValueError):
+            Pool(2, program=PROGRAM)
+
+    def test_bounds_with_asyncio(self) -> None:
+        async def ask() -> list[int]:
+            async with aio.Rtfilter(bounds=[(0, 5, 10, 6)], program=PROGRAM) as boxes:
+                _, ids = await boxes.query_bulk(bounds=[(0, 0, 9, 5)])
+                await boxes.reload(bounds=[(0, 5, 10, 6), (0, 0, 1, 1)])
+                return [*ids.tolist(), await boxes.size()]
+
+        self.assertEqual(asyncio.run(ask()), [0, 2])
+
     def test_pools_and_reloads(self) -> None:
         table = some_table(2500)
         with Pool(2, table, program=PROGRAM) as boxes:

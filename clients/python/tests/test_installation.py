@@ -76,7 +76,7 @@ class Types(unittest.TestCase):
     CHECKED = {
         "clients/python:clients/python/tests:examples/cluster:tests": [
             "clients/python/rtfilter", "clients/python/wheel_here.py", "clients/python/tests/*.py", "packaging/*.py",
-            "packaging/tests/*.py", "service/tests/*.py",
+            "packaging/tests/*.py", "service/tests/*.py", "tests/gate/*.py",
         ],
         "clients/python/rtfilter:clients/python:tests": ["service/*.py"],  # whose modules stand beside prefork.py
     }  # fmt: skip

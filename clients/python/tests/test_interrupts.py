@@ -1,22 +1,35 @@
-"""An exception that the handler of a signal raises, at whatever moment it comes, leaves a pool as it was."""
+"""An exception that the handler of a signal raises, at whatever moment it comes, leaves a client or a pool as it was."""
 
+import code
 import contextlib
 import gc
+import io
 import os
 import signal
 import threading
 import time
 import unittest
 from collections.abc import Callable
+from functools import partial
 
 from support import BOXES, PROGRAM, anything, descendants_of
 
 from interrupts import is_interrupted
 
-from rtfilter import All, Boxes, Pool, deadlines, pool, threads
+import rtfilter
+from rtfilter import All, Boxes, Pool, QueryError, Rtfilter, deadlines, pool, program, threads, transport
 from rtfilter.deadlines import Deadline
+from rtfilter.replies import Reply
 
 FILES = pool.__file__, threads.__file__, deadlines.__file__
+OF_CALLS = transport.__file__, program.__file__
+ROWS = [(at, 0, 10, 0, 10) for at in range(300)]
+CELL = """
+boxes = opened()
+boxes.count(rtfilter.All())
+boxes.ask(["find all"] * 100)
+boxes.find(rtfilter.All())
+"""
 LONG = 10.0  # seconds that nothing takes which doesn't wait for ever
 
 
@@ -31,6 +44,72 @@ def raised_by_handler(call: Callable[[], object], handle: Callable[[], object]) 
     finally:
         signal.signal(signal.SIGALRM, before)
     return None
+
+
+class OneProgram(unittest.TestCase):
+    """Of rows, which are read once: where the program ended, so would the table."""
+
+    def setUp(self) -> None:
+        gc.collect()
+        self.others = {*descendants_of(os.getpid())}
+
+    def programs(self) -> list[int]:
+        return [process for process in descendants_of(os.getpid()) if process not in self.others]
+
+    def test_at_each_moment(self) -> None:
+        """Of a call that finds, one whose lines are more than a pipe takes, and the call that reads what is left of them."""
+        lines = ["find all", "", "find window 1", "count all"] * 4000
+        with Rtfilter(ROWS, program=PROGRAM, timeout=60) as boxes:
+            whole, (process,) = boxes.replies(lines[:4]), self.programs()
+            calls: list[tuple[Callable[[], object], int]] = [
+                (lambda: boxes.find(All()), 8), (lambda: boxes.ask(["find all"] * 3), 12), (lambda: boxes.replies(lines), 40),
+            ]  # fmt: skip
+            for call, least in calls:
+                number = 1
+                while is_interrupted(call, number, OF_CALLS) and number < 150:
+                    if number % 3 == 0:  # where that is broken off as well
+                        is_interrupted(call, 1 + number // 3, OF_CALLS)
+                    self.assertEqual(len(boxes.find(All())), 300, number)
+                    self.assert_same(boxes.replies(lines[:4]), whole)
+                    number += 1
+                self.assertGreater(number, least)
+            self.assertEqual(self.programs(), [process])
+
+    def assert_same(self, replies: list[Reply], others: list[Reply]) -> None:
+        self.assertEqual([*map(repr, replies)], [*map(repr, others)])
+
+    def test_of_a_line_that_is_long(self) -> None:
+        """Of which the program has a part: the rest comes before anything else."""
+        with Rtfilter(ROWS, program=PROGRAM, timeout=60) as boxes:
+            (process,) = self.programs()
+            os.kill(process, signal.SIGSTOP)
+
+            def interrupt() -> None:
+                os.kill(process, signal.SIGCONT)
+                raise KeyboardInterrupt
+
+            with self.assertRaises(KeyboardInterrupt):
+                raised_by_handler(lambda: boxes.ask(["find all" + " " * 3000] * 100), interrupt)
+            self.assertEqual(boxes.count(All()), 300)
+            with self.assertRaises(QueryError):
+                boxes.ask(["find"])
+
+    def test_a_cell_that_runs_again(self) -> None:
+        """As in a notebook, which keeps where the last error was: there is one program, or one pool, once all are through."""
+        for opened, least in (partial(Rtfilter, ROWS, program=PROGRAM), 1), (partial(Pool, 2, ROWS, program=PROGRAM), 3):
+            shell = code.InteractiveInterpreter({"rtfilter": rtfilter, "opened": opened})
+            cell = compile(CELL, "cell", "exec")
+            with contextlib.redirect_stderr(io.StringIO()):
+                for number in range(8):
+                    is_interrupted(lambda: shell.runcode(cell), 200 + 100 * number, OF_CALLS)
+                shell.runcode(cell)
+                until = time.monotonic() + LONG
+                while len(self.programs()) != least:  # which takes a moment, and no collection of garbage
+                    self.assertLess(time.monotonic(), until, self.programs())
+                    time.sleep(0.01)
+            shell.runcode(compile("count = len(boxes)", "cell", "exec"))
+            self.assertEqual(shell.locals["count"], 300)
+            shell.locals["boxes"].close()
 
 
 class Interrupts(unittest.TestCase):
@@ -62,6 +141,7 @@ class Interrupts(unittest.TestCase):
         self.assertEqual(told, [5] * self.N)
 
     def test_at_each_moment(self) -> None:
+        boxes: Pool
         for program in anything(PROGRAM, [PROGRAM]):
             for ask, among in anything(
                 (lambda: boxes.count(All()), ()), (lambda: boxes.ask(["count all"] * 150), FILES),
@@ -117,6 +197,7 @@ class Interrupts(unittest.TestCase):
 
     def test_in_the_middle_of_a_call_of_the_same_thread(self) -> None:
         """A pool isn't asked by the handler of a signal where all its copies may be those of the calls that wait for it."""
+        boxes: Pool
         for program in anything(PROGRAM, [PROGRAM]):
             for handle in anything(
                 lambda: boxes.count(All()), lambda: boxes.ask(["count all"] * 150), lambda: boxes.reload()

@@ -42,7 +42,7 @@ AT_ONCE = 0.5  # seconds that a busy machine may take for what takes no time
 held: Boxes  # by the process that the tests run in
 
 
-def in_child(act: Callable[[], object]) -> subprocess.CompletedProcess[bytes] | object:
+def in_child(act: Callable[[], object]) -> Any:
     """What a function gives in a child of a fork, or the exception that it raises there."""
     reader, writer = os.pipe()
     child = os.fork()
@@ -278,12 +278,17 @@ class Forks(Case):
         for timeout in (None, 60):
             with Rtfilter(BOXES, program=PROGRAM, timeout=timeout) as one, Pool(1, BOXES, program=self.alone, timeout=timeout) as pool:
                 processes = programs() - self.before[0]
+
+                def reloaded_and_asked() -> int:
+                    pool.reload()
+                    return pool.count(All())
+
                 for boxes, ask in anything(
                     (one, lambda: one.count(All())),
                     (one, lambda: one.ask(["count all"])[0].total),
                     (pool, lambda: pool.count(All())),
                     (pool, lambda: pool.ask(["count all"] * 300)[-1].total),
-                    (pool, lambda: pool.reload() or pool.count(All())),
+                    (pool, reloaded_and_asked),
                 ):
                     for process in processes:
                         stop(process)

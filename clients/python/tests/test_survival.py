@@ -1,6 +1,8 @@
 """Whatever goes wrong is told, nothing waits for ever, and nothing is left open."""
 
+import asyncio
 import contextlib
+import errno
 import os
 import pickle
 import random
@@ -20,13 +22,22 @@ from typing import Any
 
 from support import BOXES, PROGRAM, anything, children_of, open_files, parent_of, some_lines, written
 
-from rtfilter import All, Ended, Pool, QueryError, Rtfilter, TimedOut
+from rtfilter import All, Ended, Pool, QueryError, Rtfilter, TimedOut, Window, aio
 
 SMALL_PIPES = mock.patch("subprocess.Popen", partial(subprocess.Popen, pipesize=4096))
 
 
+BOTH_ORDERS = "the order here is min_x, max_x, min_y, max_y; that of from_bounds and bounds= is min_x, min_y, max_x, max_y"
 SLEEPING = ["sh", "-c", "exec sleep 60"]
 SOON = 1.0  # seconds in which a script answers, however busy the machine is
+
+
+def open_aio(*table: Any, **options: Any) -> None:
+    async def open() -> None:
+        async with aio.Rtfilter(*table, **options):
+            pass
+
+    asyncio.run(open())
 
 
 def acting(script: str) -> list[str]:
@@ -52,7 +63,29 @@ class Ends(unittest.TestCase):
             with self.assertRaises(Ended) as raised:
                 Rtfilter(table, program=PROGRAM)
             self.assert_ended(raised.exception, 3, text)
-            self.assertEqual(str(raised.exception), text)
+            self.assertTrue(str(raised.exception).startswith(text))
+        with self.assertRaisesRegex(Ended, f"minimum above maximum in x; {BOTH_ORDERS}"):
+            Rtfilter([(1, 10, 0, 0, 10)], program=PROGRAM)
+        with self.assertRaisesRegex(Ended, "record 2: too many entries; .* see docs/SCALING.md of rtfilter$"):
+            Rtfilter(BOXES, program=PROGRAM, max_entries=1)
+        with self.assertRaisesRegex(QueryError, f"^Q7 minimum above maximum: find window 10 0 0 10; {BOTH_ORDERS}"):
+            Rtfilter(BOXES, program=PROGRAM).find(Window(10, 0, 0, 10))
+
+    def test_a_table_that_is_not_there(self) -> None:
+        """It is named; what is there and can't be opened is another fault."""
+        told = "rtfilter: cannot open table: No such file or directory: '/no/such/table'"
+        for opened in anything(Rtfilter, partial(Pool, 2), open_aio):
+            for program in anything(PROGRAM, [PROGRAM]):
+                with self.assertRaises(FileNotFoundError) as raised:
+                    opened("/no/such/table", program=program)
+                self.assertEqual((raised.exception.filename, str(raised.exception)), ("/no/such/table", told))
+                again = pickle.loads(pickle.dumps(raised.exception))
+                self.assertEqual((again.filename, str(again), again.errno), ("/no/such/table", told, errno.ENOENT))
+        with tempfile.TemporaryDirectory() as folder:
+            os.symlink("nowhere", f"{folder}/link")
+            with self.assertRaises(Ended) as ended:
+                Rtfilter(f"{folder}/link", program=PROGRAM)
+            self.assertEqual((type(ended.exception), ended.exception.__notes__), (Ended, [f"the table is {folder}/link"]))
 
     def test_faulty_options(self) -> None:
         for options in anything({"fanout": 1}, {"fanout": 65}, {"max_entries": 0}):
@@ -88,9 +121,11 @@ class Ends(unittest.TestCase):
             self.assertEqual(str(raised.exception), f"rows[2345]: {text}")
         for opened in anything(Rtfilter, lambda *its, **more: Pool(2, *its, **more)):
             for program in anything(PROGRAM, [PROGRAM]):
-                with self.assertRaises(Ended) as ended:
-                    opened("/no/such/table", program=program)
-                self.assertEqual(ended.exception.__notes__, ["the table is /no/such/table"])
+                with tempfile.NamedTemporaryFile("w") as faulty, self.assertRaises(Ended) as ended:
+                    faulty.write("x")
+                    faulty.flush()
+                    opened(faulty.name, program=program)
+                self.assertEqual(ended.exception.__notes__, [f"the table is {faulty.name}"])
         for address, name in anything(("/no/such/socket", "/no/such/socket"), (("127.0.0.1", 1), "127.0.0.1:1")):
             with self.assertRaises(OSError) as nowhere:
                 Rtfilter(address=address)
@@ -231,8 +266,8 @@ class Times(unittest.TestCase):
                 boxes.find(All())
 
     def test_an_interrupt(self) -> None:
-        """What comes after it isn't taken for another line's reply."""
-        with Rtfilter(BOXES, program=acting("exec sleep 60")) as boxes:
+        """What comes after it isn't taken for another line's reply: the next call waits until that is there, or it times out."""
+        with Rtfilter(BOXES, program=acting("exec sleep 60"), timeout=SOON) as boxes:
             def interrupt(*_: object) -> None:
                 raise KeyboardInterrupt
 
@@ -243,8 +278,9 @@ class Times(unittest.TestCase):
                     boxes.count(All())
             finally:
                 signal.signal(signal.SIGALRM, before)
-            with self.assertRaises(Ended):
-                boxes.count(All())
+            for error in (TimedOut, Ended):
+                with self.assertRaises(error):
+                    boxes.count(All())
 
     @mock.patch.object(subprocess.Popen, "poll", side_effect=AssertionError)
     @mock.patch.object(subprocess.Popen, "wait", side_effect=AssertionError)
@@ -260,7 +296,7 @@ class Times(unittest.TestCase):
                 boxes.count(All())
 
     def test_interrupts_at_any_moment(self) -> None:
-        """Whatever they meet, no reply is another line's."""
+        """Whatever they meet, no reply is another line's, and the program goes on."""
         chance = random.Random(5)
         lines = ["find all", "# none", "x", "nearest 2 12 12"]
 
@@ -272,10 +308,11 @@ class Times(unittest.TestCase):
 
         with Rtfilter(BOXES, program=PROGRAM, timeout=60) as boxes:
             wanted = {size: list(written(boxes.replies(lines * size))) for size in (1, 50)}
-            by_itself, met = boxes.find(All()), {Interrupt: 0, Ended: 0}
+            by_itself, interrupts = boxes.find(All()), 0
+            program = children_of(os.getpid())
             before = signal.signal(signal.SIGALRM, interrupt)
             try:
-                while min(met.values()) < 20:
+                while interrupts < 200:
                     try:
                         try:
                             signal.setitimer(signal.ITIMER_REAL, chance.uniform(0.00005, 0.002))
@@ -286,12 +323,10 @@ class Times(unittest.TestCase):
                         finally:
                             signal.setitimer(signal.ITIMER_REAL, 0)
                     except Interrupt:
-                        met[Interrupt] += 1
-                    except Ended:
-                        met[Ended] += 1
-                        boxes.reload()
+                        interrupts += 1
             finally:
                 signal.signal(signal.SIGALRM, before)
+            self.assertEqual(children_of(os.getpid()), program)
 
 
 class Pieces(unittest.TestCase):

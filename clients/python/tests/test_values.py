@@ -68,6 +68,14 @@ class Regions(unittest.TestCase):
             self.assertEqual(pickle.loads(pickle.dumps(value)), value)
             self.assertNotIn("Index", repr(value))
 
+    def test_from_bounds(self) -> None:
+        """Which have the least corner before the greatest, as shapely's."""
+        for kind in (Window, Inside, Covers):
+            self.assertEqual(kind.from_bounds((1, 2, 3, 4)), kind(1, 3, 2, 4))
+            for bounds, error in anything(((1, 2, 3), ValueError), ((1, 2, 3, 4.0), TypeError), (None, TypeError)):
+                with self.assertRaises(error):
+                    kind.from_bounds(bounds)
+
     def test_equal_by_kind_and_numbers(self) -> None:
         self.assertEqual(len(WORDS), 10)
         self.assertEqual(Window(1, 2, 3, 4), Window(1, 2, 3, 4))

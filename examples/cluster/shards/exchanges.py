@@ -4,9 +4,9 @@ import contextlib
 from collections.abc import Iterable, Iterator, Mapping
 from typing import Union
 
-from rtfilter.client import ANSWERED
 from rtfilter.deadlines import Deadline
 from rtfilter.replies import LAST_LINE, may_be_skipped
+from rtfilter.transport import ANSWERED
 
 from .places import Carrier
 

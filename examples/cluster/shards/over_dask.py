@@ -19,7 +19,7 @@ import time
 from collections.abc import Callable, Iterator, Sequence
 from dataclasses import dataclass, field
 from pathlib import Path
-from typing import Any
+from typing import Any, TypeVar
 
 import pandas
 from distributed import Client, Future  # which is not typed throughout
@@ -32,6 +32,8 @@ from rtfilter.pool import CHANGED, state_of
 
 from .places import Place
 from .sinks import text_of
+
+Given = TypeVar("Given")
 
 PATHS = [str(Path(module).resolve().parents[1]) for module in (__file__, rtfilter.__file__)]
 """The folders of the modules that a worker needs, for its PYTHONPATH."""
@@ -84,7 +86,7 @@ class Table:
         if self.state is not None and (state_of(self._file) or ())[2:] != self.state[2:]:
             raise ValueError(f"{self._file}: {CHANGED}")
 
-    def told(self, call: Callable[[Rtfilter], Any]) -> Any:
+    def told(self, call: Callable[[Rtfilter], Given]) -> Given:
         """What a call gives. A program that has ended is started anew, once. Other threads may still ask the old one: it is
         closed when nobody has it any more."""
         boxes = self.boxes

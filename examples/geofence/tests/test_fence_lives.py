@@ -184,7 +184,8 @@ class Ends(Lives):
         refusal = '{"line": 7, "event": "refused", "why": "no position"}'
         log.write_text("".join(f"{line}\n" for line in [*kept, refusal]) + kept[0][:30])
         more = self.enterContext(Running(self.zones, "--resume", str(log)))
-        self.assertEqual(more.errors.next(), "fence.py: devices: 2; lines that are no events: 1")
+        self.assertEqual(more.errors.next(), f"fence.py: {log}: the last line was cut off, and is removed: 30 bytes")
+        self.assertEqual(more.errors.next(), "fence.py: devices: 2; lines that are no events: 0")
         more.started().send("a,1,1,6", "a,50,1,4", "a,50,1,8", "b,25,1,5", "b,25,1,6")
         older = "older than the last position of its device"
         wanted = [("a", "refused", older), ("a", "leave", "park"), ("b", "refused", older), ("b", "enter", "lake")]

@@ -31,13 +31,16 @@ class Chromium:
         try:
             page = self.call("Target.createTarget", url="about:blank")["targetId"]
             self._session = self.call("Target.attachToTarget", targetId=page, flatten=True)["sessionId"]
-            metrics = {"width": wide, "height": high, "deviceScaleFactor": 1, "mobile": False}
-            self.call("Emulation.setDeviceMetricsOverride", **metrics)
+            self.resize(wide, high)
             for domain in ("Page", "Runtime", "Log"):
                 self.call(f"{domain}.enable")
         except BaseException:
             self.close()
             raise
+
+    def resize(self, wide: int, high: int) -> None:
+        metrics = {"width": wide, "height": high, "deviceScaleFactor": 1, "mobile": False}
+        self.call("Emulation.setDeviceMetricsOverride", **metrics)
 
     def _start(self, wide: int, high: int) -> None:
         """The browser reads file 3 and writes file 4. Its ends of the pipes lie above: neither hides the other."""

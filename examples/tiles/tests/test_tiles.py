@@ -74,7 +74,7 @@ class Tiles(Mapped):
         chance = random.Random(2)
         rows = [[*map(int, line.split(","))] for line in self.table.read_text().splitlines()]
         found = set()
-        for z in (7, 8, 9, 10, 12, 14, 16, DEEPEST):
+        for z in (7, 9, 11, 12, 13, 14, 16, DEEPEST):
             _, x1, _, y1, _, _ = chance.choice(rows)
             side = 2 * HALF / 2**z
             found.add((z, int((x1 + HALF) / side), int((HALF - y1) / side)))
@@ -87,7 +87,7 @@ class Tiles(Mapped):
         for z, x, y in self.some_tiles():
             window = window_of(z, x, y)
             line = "window %d %d %d %d" % window
-            if number_told(self.table, f"count {line}") > 5000:
+            if self.is_density(z, x, y, ""):
                 continue
             features = self.features(z, x, y)
             self.assertEqual(len(features), number_told(self.table, f"count {line}"), line)
@@ -122,6 +122,33 @@ class Tiles(Mapped):
             features = self.features(z, x, y)
             self.assertEqual([int(properties["count"]) for _, properties, _ in features], wanted)
             self.assertEqual({layer for layer, _, _ in features}, {"density"})
+
+    def test_counts_are_those_of_a_whole_level(self) -> None:
+        """No tile with boxes stands beside one with counts, of all layers and of some."""
+        kinds = {}
+        for on in ("", "?on=3,4", "?on=0"):
+            for z in range(5, 11):
+                first, last = (self.tile_at(z, side) for side in self.bounds())
+                tiles = [(x, y) for x in range(first[0], last[0] + 1) for y in range(last[1], first[1] + 1)]
+                shown = {self.is_density(z, x, y, on) for x, y in tiles[:: max(1, len(tiles) // 60)]} - {None}
+                self.assertEqual(len(shown), 1, (on, z))
+                kinds[on, z] = shown.pop()
+        self.assertEqual([kinds["", z] for z in range(5, 11)], sorted((kinds["", z] for z in range(5, 11)), reverse=True))
+        self.assertEqual({*kinds.values()}, {True, False})
+
+    def bounds(self) -> list[tuple[int, int]]:
+        """The corners of all boxes."""
+        x1, x2, y1, y2 = self.json("/about")["bounds"]
+        return [(x1, y1), (x2, y2)]
+
+    def tile_at(self, z: int, place: tuple[int, int]) -> tuple[int, int]:
+        side = 2 * HALF / 2**z
+        return int((place[0] + HALF) / side), int((HALF - place[1]) / side)
+
+    def is_density(self, z: int, x: int, y: int, on: str) -> bool | None:
+        """Whether a tile has counts; None where it is empty."""
+        _, tile = self.server.get(f"/{z}/{x}/{y}.pbf{on}")
+        return b"density" in tile[:40] if tile else None
 
     def test_a_name_and_an_empty_tile(self) -> None:
         (line,) = (line for line in self.table.read_text().splitlines() if line.startswith("1,"))

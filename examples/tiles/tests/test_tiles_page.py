@@ -64,14 +64,14 @@ class Page(Mapped):
         for number, place in zip(numbers, wanted):
             self.assertAlmostEqual(float(number), place, delta=3)
 
-    def assert_answer(self, begins: str) -> list[str]:
+    def assert_answer(self, begins: str, ends: str = " first 1000") -> list[str]:
         """The answer that is shown is the program's, and isn't empty. Gives the words of its line."""
         line: str = self.browser.until("document.getElementById('line').value")
         self.browser.until(f"document.getElementById('told').dataset.line === {json.dumps(line)}")
         self.assertTrue(line.startswith(begins), line)
         cells = "[...row.cells].slice(0, 2).map(cell => cell.textContent).join(' ')"
         rows = self.browser.value(f"[...document.querySelectorAll('#answers tr')].map(row => {cells})")
-        counting = line.replace("find", "count", 1).replace(" first 1000", "")
+        counting = line.replace("find", "count", 1).replace(ends, "")
         answers, cost, count = told(self.table, [line, f"cost {line}", counting])
         self.assertEqual(rows, answers[:-1], line)
         self.assertGreater(len(rows), 0, line)
@@ -99,6 +99,54 @@ class Page(Mapped):
         self.assert_places([x, y], (330, 300))
         end = self.place_of(400, 360)
         self.assertAlmostEqual(int(radius), math.dist((int(x), int(y)), end), delta=3)
+
+    def test_a_click(self) -> None:
+        """Asks for the boxes at that point, the smallest first, and for the nearest to it."""
+        x1, x2, y1, y2 = self.json("/ask?q=find+all+on+0+first+1")["answers"][0]["box"]
+        pixel = self.pixel_of((x1 + x2) / 2, (y1 + y2) / 2)
+        self.browser.click(*pixel)
+        _, _, x, same_x, y, same_y, *_ = self.assert_answer("find covers ", " smallest first 1000")
+        self.assertEqual((x, y), (same_x, same_y))
+        self.assert_places([x, y], pixel)
+        self.browser.until("document.getElementById('near-told').textContent")
+        self.assert_nearest(*pixel)
+        line = self.browser.value("document.getElementById('line').value")
+        self.browser.drag((300, 300), (350, 300))  # which is none
+        self.assertEqual(self.browser.value("document.getElementById('line').value"), line)
+
+    def test_an_answer_out_of_view(self) -> None:
+        """The map moves to it; so it does for a row of the answers that is clicked."""
+        self.browser.drag((300, 300), (900, 300))
+        for _ in range(4):
+            self.browser.wheel(300, 300, -1000)
+        found = self.json("/ask?q=nearest+2+9000000+9000000")["answers"]
+        self.assert_out_of_view(found[0]["box"])
+        self.typed("nearest 2 9000000 9000000")
+        self.assert_in_view(found[0]["box"])
+        self.browser.value("place.x -= 1e7; place.scale /= 8; look()")
+        self.assert_out_of_view(found[1]["box"])
+        self.browser.value("document.querySelectorAll('#answers tr')[1].click()")
+        self.assert_in_view(found[1]["box"])
+
+    def assert_in_view(self, box: list[int]) -> None:
+        self.browser.until(f"isInView({box}) && shown.view")
+        self.assertTrue(self.browser.value(f"acrossOf({box[0]}) >= 0 && acrossOf({box[1]}) <= canvas.width"))
+
+    def assert_out_of_view(self, box: list[int]) -> None:
+        self.assertFalse(self.browser.value(f"isInView({box})"))
+
+    def test_a_narrow_window(self) -> None:
+        """The map has the greater part of it, and nothing is wider than it."""
+        self.browser.resize(420, 800)
+        self.addCleanup(self.browser.resize, 1000, 600)
+        self.browser.until("canvas.width === 420")
+        wide, high = self.browser.value("[canvas.clientWidth, canvas.clientHeight]")
+        self.assertEqual((wide, self.browser.value("document.documentElement.scrollWidth")), (420, 420))
+        self.assertGreater(high, 450)
+        self.choose("window")
+        self.browser.drag((100, 100), (300, 400))
+        self.assert_answer("find window ")
+        self.assertEqual(self.browser.value("[canvas.width, canvas.height]"), [wide, high])
 
     def test_a_polygon(self) -> None:
         self.choose("polygon")

@@ -11,6 +11,7 @@ import signal
 import subprocess
 import tempfile
 import threading
+import time
 import unittest
 from collections.abc import Callable, Iterator
 from http.client import HTTPResponse
@@ -77,11 +78,11 @@ class Told(Serving):
         wants("ogrinfo")
         address = self.server.address
         options = ["-oo", f"METADATA_FILE={address}tiles.json", "-oo", "CLIP=NO"]
-        names = subprocess.run(["ogrinfo", "-ro", f"MVT:{address}10", *options], capture_output=True, text=True, timeout=LONGEST)
+        names = subprocess.run(["ogrinfo", "-ro", f"MVT:{address}11", *options], capture_output=True, text=True, timeout=LONGEST)
         self.assertEqual(re.findall(r"^\d+: (.*)$", names.stdout, re.MULTILINE), [*LAYERS, "density"])
-        x1, x2, y1, y2 = window_of(10, 512, 511)
+        x1, x2, y1, y2 = window_of(11, 1024, 1023)
         inside = [str(it) for it in (x1 / 100 + 1, y1 / 100 + 1, x2 / 100 - 1, y2 / 100 - 1)]
-        words = ["ogrinfo", "-ro", "-al", "-q", f"MVT:{address}10", *options, "-spat", *inside]
+        words = ["ogrinfo", "-ro", "-al", "-q", f"MVT:{address}11", *options, "-spat", *inside]
         done = subprocess.run(words, capture_output=True, text=True, timeout=LONGEST)
         ids = {int(it) for it in re.findall(r"mvt_id \(Integer64\) = (\d+)", done.stdout)}
         view = self.json(f"/view?x1={x1}&x2={x2}&y1={y1}&y2={y2}")
@@ -316,6 +317,100 @@ class Ids(Serving):
             ])  # fmt: skip
             fields = json.loads(self.asked("/tiles.json", server)[1])["vector_layers"][0]["fields"]
             self.assertEqual(fields, {"name": "String", "id": "Number"})
+
+
+class Reloads(unittest.TestCase):
+    """SIGHUP has the files loaded anew, by one process and by many."""
+
+    def setUp(self) -> None:
+        self.folder = Path(self.enterContext(tempfile.TemporaryDirectory()))
+        self.table = self.folder / "boxes.csv"
+        self.write(5)
+
+    def write(self, boxes: int, rest: str = "") -> None:
+        """A table of so many boxes round the middle of the map, put there in one step."""
+        lines = "".join(f"{at},{at},{at + 10},0,10\n" for at in range(boxes))
+        (self.folder / "new").write_text(lines + rest)
+        (self.folder / "new").replace(self.table)
+
+    def test_the_table_is_exchanged(self) -> None:
+        """Requests are answered all the while; the program of the table before ends. A faulty table changes nothing."""
+        for processes in (1, 3):
+            self.write(5)
+            with Server(self.table, "--processes", str(processes)) as server:
+                connection = server.connected()
+                tags = {self.tag(server)}
+                for boxes in (7, 9):
+                    self.write(boxes)
+                    server.process.send_signal(signal.SIGHUP)
+                    until(lambda: {self.size(server) for _ in range(4 * processes)} == {boxes})
+                    tags.add(self.tag(server))
+                    connection.request("GET", "/health")
+                    self.assertEqual(connection.getresponse().read(), b'{"boxes": %d}' % boxes)
+                self.assertEqual(len(tags), 3)
+                self.write(5, "nonsense\n")
+                server.process.send_signal(signal.SIGHUP)
+                until(lambda: metric(server, "rtfilter_loads_failed_total") == processes)
+                self.assertEqual(self.size(server), 9)
+                connection.close()
+                found = [metric(server, f"rtfilter_{it}") for it in ("boxes", "table_generation", "connections")]
+                self.assertEqual(found, [9, 3, 1])
+                workers = [server.process.pid] if processes == 1 else children_of(server.process.pid)
+                until(lambda: all(len(children_of(worker)) == 1 for worker in workers))
+                status, told = server.end(signal.SIGINT)
+            self.assertEqual(status, 0)
+            self.assertEqual(told.count("serve.py: the table is exchanged: 9 boxes\n"), processes, told)
+            self.assertEqual(told.count("; the table is the one of before\n"), processes, told)
+
+    def size(self, server: Server) -> int:
+        boxes: int = json.loads(server.get("/health")[1])["boxes"]
+        return boxes
+
+    def tag(self, server: Server) -> str | None:
+        return server.get("/tiles.json")[0].getheader("ETag")
+
+    def test_accesses_are_logged(self) -> None:
+        """In the Common Log Format, to a file that may be moved away, and each as one line, whatever was asked."""
+        log = self.folder / "log"
+        with Server(self.table, "--log", str(log)) as server:
+            server.get("/health")
+            server.told(b'GET /"x"\xff\x07 HTTP/1.1\r\nHost: localhost\r\n\r\n')
+            log.replace(self.folder / "older")
+            server.get("/22/0/0.pbf")
+        older, newer = (it.read_text().splitlines() for it in (self.folder / "older", log))
+        moment = r'\[\d\d/[A-Z][a-z]{2}/\d{4}:\d\d:\d\d:\d\d \+0000\]'
+        self.assertEqual((len(older), len(newer)), (2, 1))
+        self.assertRegex(older[0], rf'^127\.0\.0\.1 - - {moment} "GET /health HTTP/1\.1" 200 12$')
+        self.assertRegex(older[1], rf'^127\.0\.0\.1 - - {moment} "GET /\\"x\\"\\u00ff\\u0007 HTTP/1\.1" 40\d \d+$')
+        self.assertTrue(newer[0].endswith('"GET /22/0/0.pbf HTTP/1.1" 204 0'), newer)
+
+    def test_metrics(self) -> None:
+        """Of all processes, whichever is asked."""
+        with Server(self.table, "--processes", "2") as server:
+            for target in ("/health", "/nowhere", "/22/0/0.pbf"):
+                for _ in range(5):
+                    server.get(target)
+            reply, body = server.get("/metrics")
+            self.assertEqual(reply.getheader("Content-Type"), "text/plain; version=0.0.4; charset=utf-8")
+            self.assertIn(b"# TYPE rtfilter_replies_total counter\n", body)
+            counts = {status: metric(server, f'rtfilter_replies_total{{status="{status}"}}') for status in (200, 204, 404)}
+            self.assertEqual((counts[204], counts[404]), (5, 5))
+            self.assertGreaterEqual(counts[200], 6)
+
+
+def metric(server: Server, name: str) -> float:
+    text = server.get("/metrics")[1].decode()
+    (found,) = re.findall(rf"^{re.escape(name)} (\S+)$", text, re.MULTILINE)
+    return float(found)
+
+
+def until(is_so: Callable[[], bool]) -> None:
+    """Waits until something is so."""
+    end = time.monotonic() + LONGEST
+    while not is_so():
+        if time.monotonic() > end:
+            raise TimeoutError
+        time.sleep(0.02)
 
 
 class Processes(unittest.TestCase):
