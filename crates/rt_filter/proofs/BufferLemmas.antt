@@ -1,8 +1,8 @@
 -- Bytes in a buffer, by their places.
-use Rattle.std.proofs.Common.{◌≡◌, ◌∙◌, ◌+◌, ◌-◌, ◌<◌, ◌≤◌, ℕ, List, ◌++◌, length, take, drop, Some, ap, refl, sym, arith}
+use Rattle.std.proofs.Common.{◌≡◌, ◌∙◌, ◌+◌, ◌-◌, ◌<◌, ◌≤◌, ℕ, List, ◌++◌, [], ◌∷◌, length, take, drop, set, Some, ap, refl, sym, arith}
 use Rattle.std.proofs.Math.Seq.{drop-append_seam, take-add, take-append-add, take-append_seam}
-use Rattle.std.proofs.lemmas.{List.{drop-drop, length-append, length-drop, length-take-le, take-append-drop, take-take}, Slice.{take-put_mid, take-put_mid_below}}
-use borrow.Rule.Slice.PartMut.{put_mid}
+use Rattle.std.proofs.lemmas.{List.{drop-drop, length-append, length-drop, length-take-le, take-append-drop, take-take, take_more_set}, Slice.{take-put_mid, take-put_mid_below}}
+use borrow.Rule.Slice.PartMut.{put_mid, same_len_mid}
 use Rattle.memchr.specs.Find.{IsFirstByte, is_byte}
 use Rattle.rt_filter.specs.{Lines.{longest_line}, Stages.{line_feed}}
 
@@ -50,28 +50,40 @@ from_front bytes n =
     let all : n - 0 ≡ n = omega arith in
     ap (λ k. take k bytes) all
 
--- ---- what a pull puts behind the bytes that are kept
+-- ---- what stands behind the bytes that are kept
 
-pub kept_same : (buffer room : List ℕ) (kept k : ℕ) → kept ≤ length buffer → take kept (put_mid kept k buffer room) ≡ take kept buffer
-kept_same buffer room kept k fits = take-put_mid_below kept k buffer room kept (omega arith) fits
-
-module _ (buffer room : List ℕ) (kept k n : ℕ) (fits : kept ≤ length buffer) (few : n ≤ length room) where
+module _ (buffer filled tail : List ℕ) (kept : ℕ) (fits : kept ≤ length buffer) (is : filled ≡ take kept buffer ++ tail) where
   long : length (take kept buffer) ≡ kept
   long = length-take-le kept buffer fits
 
-  pub filled : take (kept + n) (put_mid kept k buffer room) ≡ take kept buffer ++ take n room
-  filled =
-      let all : take (kept + length room) (put_mid kept k buffer room) ≡ take kept buffer ++ room =
-      take-put_mid kept k buffer room (kept + length room) refl fits in
-      let front : take (kept + n) (take (kept + length room) (put_mid kept k buffer room)) ≡ take (kept + n) (put_mid kept k buffer room) =
-      take-take (kept + n) (kept + length room) (put_mid kept k buffer room) (omega (arith, few)) in
-      sym front ∙ ap (take (kept + n)) all ∙ ap (λ m. take (m + n) (take kept buffer ++ room)) (sym long) ∙ take-append-add (take kept buffer) room n
+  pub front_of : take kept filled ≡ take kept buffer
+  front_of = ap (take kept) is ∙ ap (λ m. take m (take kept buffer ++ tail)) (sym long) ∙ take-append_seam (take kept buffer) tail
 
-  pub front_of : take kept (take (kept + n) (put_mid kept k buffer room)) ≡ take kept buffer
-  front_of = ap (take kept) filled ∙ ap (λ m. take m (take kept buffer ++ take n room)) (sym long) ∙ take-append_seam (take kept buffer) (take n room)
+  pub rest_of : drop kept filled ≡ tail
+  rest_of = ap (drop kept) is ∙ ap (λ m. drop m (take kept buffer ++ tail)) (sym long) ∙ drop-append_seam (take kept buffer) tail
 
-  pub rest_of : drop kept (take (kept + n) (put_mid kept k buffer room)) ≡ take n room
-  rest_of = ap (drop kept) filled ∙ ap (λ m. drop m (take kept buffer ++ take n room)) (sym long) ∙ drop-append_seam (take kept buffer) (take n room)
+-- what a pull gave
+pub pulled : (buffer room : List ℕ) (kept k n : ℕ) → kept ≤ length buffer → n ≤ length room
+    → take (kept + n) (put_mid kept k buffer room) ≡ take kept buffer ++ take n room
+pulled buffer room kept k n fits few =
+    let all : take (kept + length room) (put_mid kept k buffer room) ≡ take kept buffer ++ room =
+    take-put_mid kept k buffer room (kept + length room) refl fits in
+    let front : take (kept + n) (take (kept + length room) (put_mid kept k buffer room)) ≡ take (kept + n) (put_mid kept k buffer room) =
+    take-take (kept + n) (kept + length room) (put_mid kept k buffer room) (omega (arith, few)) in
+    sym front ∙ ap (take (kept + n)) all ∙ ap (λ m. take (m + n) (take kept buffer ++ room)) (sym (length-take-le kept buffer fits))
+    ∙ take-append-add (take kept buffer) room n
 
-  pub length_filled : length (take (kept + n) (put_mid kept k buffer room)) ≡ kept + n
-  length_filled = ap length filled ∙ length-append (take kept buffer) (take n room) ∙ omega (arith, long, length-take-le n room few)
+pub length_pulled : (buffer room : List ℕ) (kept k n : ℕ) → kept ≤ length buffer → n ≤ length room
+    → length (take (kept + n) (put_mid kept k buffer room)) ≡ kept + n
+length_pulled buffer room kept k n fits few =
+    ap length (pulled buffer room kept k n fits few) ∙ length-append (take kept buffer) (take n room)
+    ∙ omega (arith, length-take-le kept buffer fits, length-take-le n room few)
+
+-- a line feed, which is put there when no more bytes come
+pub ended : (buffer room : List ℕ) (kept k : ℕ) → kept < length buffer → kept + k ≡ length buffer → length room ≡ k
+    → take (kept + 1) (set (put_mid kept k buffer room) kept line_feed) ≡ take kept buffer ++ line_feed ∷ []
+ended buffer room kept k fits parts many =
+    let part = length-take-le k (drop kept buffer) (omega (arith, parts, length-drop kept buffer)) in
+    let all = same_len_mid kept k buffer room (many ∙ sym part) in
+    take_more_set (put_mid kept k buffer room) kept line_feed (omega (arith, fits, all))
+    ∙ ap (λ front. front ++ line_feed ∷ []) (take-put_mid_below kept k buffer room kept (omega arith) (omega (arith, fits)))

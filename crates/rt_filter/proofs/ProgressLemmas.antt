@@ -2,7 +2,7 @@
 use Rattle.std.proofs.Common.{◌≡◌, ◌∙◌, ◌+◌, ℕ, Bool, true, false, ◌||◌, List, [], ◌∷◌, ◌++◌, ◌≤◌, length, take, drop, Option, Some}
 use Rattle.std.proofs.{Common.{refl, sym, ap, arith, append_assoc, append-nil}, Math.Bool.{or-false}}
 use Rattle.std.proofs.lemmas.{Bool.Decides.{nat_tests}, Grind.{flat_map-append}, List.{length-append, Folds.{list_any-append}}}
-use Rattle.std.specs.{Io.KnownBytes.{Keeps}, Prelude.{◌⊎◌}}
+use Rattle.std.specs.{Io.KnownBytes.{Keeps}}
 use Rattle.memchr.specs.Find.{IsFirstByte, is_byte}
 use Rattle.rt_device.specs.Devices.{IsSameIfTold}
 use Rattle.rt_filter.specs.{Lines.{is_too_long, longest_line, numbered_lines}, Pushes.{WasCut, WasPushed}}
@@ -51,13 +51,6 @@ parsed-begun begun end fits = by (is_too_long begun) refl
     by false short =
         let whole : is_too_long (begun ++ end) ≡ false = fitting (begun ++ end) (rw short at fits) in
         rw (short, whole) refl
-
-kept-fits : (begun : List ℕ) → length (kept_of begun) ≤ longest_line
-kept-fits begun = by (is_too_long begun) refl
-  where
-    by : (b : Bool) → is_too_long begun ≡ b → length (kept_of begun) ≤ longest_line
-    by true long = rw long (omega arith)
-    by false short = rw short (grind (arith, short, nat_tests))
 
 progress_with : (pulled : List ℕ) (lines : List (ℕ × List ℕ)) (begun : List ℕ) → numbered_lines pulled false ≡ lines → begun_line pulled ≡ begun
     → progress_of pulled ≡ record { lines = length lines; bad = any_fault lines; is_too_long = is_too_long begun }
@@ -211,20 +204,16 @@ ended-with f empty pulled = by (begun_line pulled) refl
 pub ended-lines : (pulled : List ℕ) → numbered_lines pulled true ≡ numbered_lines pulled false ++ completed pulled [] true
 ended-lines pulled = ap (λ zs. numbered_lines zs true) (sym (append-nil pulled)) ∙ completed-all pulled [] true
 
-module _ (pulled : List ℕ) (progress : Progress) (line : List ℕ) (is : IsAfter progress line pulled) where
-  -- what is kept asks what the line does
-  ended-asked : parsed_of progress.is_too_long line ≡ parsed_line (begun_line pulled)
-  ended-asked =
-      let asked : parsed_of (is_too_long (begun_line pulled)) (kept_of (begun_line pulled)) ≡ parsed_line (begun_line pulled) =
-      rw (append-nil (kept_of (begun_line pulled)), append-nil (begun_line pulled)) at
-      (parsed-begun (begun_line pulled) [] (rw (append-nil (kept_of (begun_line pulled))) (kept-fits (begun_line pulled)))) in
-      rw (is.0, is.1) asked
+-- it is one as if a line feed followed
+ended-line : (pulled : List ℕ) → completed pulled (line_feed ∷ []) false ≡ (length (numbered_lines pulled false) + 1, begun_line pulled) ∷ []
+ended-line pulled = completed-found pulled [] [] false tt ∙ ap (λ begun. (length (numbered_lines pulled false) + 1, begun) ∷ []) (append-nil (begun_line pulled))
 
-  pub ended-output : (loaded : Loaded) → reply loaded (progress.lines + 1) (parsed_of progress.is_too_long line) ≡ output loaded (completed pulled [] true)
-  ended-output loaded = rw (ended-asked, is.0) (sym (ended-with (output loaded) (λ number. refl) pulled ∙ append-nil _))
+pub ended-output : (loaded : Loaded) (pulled : List ℕ) → output loaded (completed pulled (line_feed ∷ []) false) ≡ output loaded (completed pulled [] true)
+ended-output loaded pulled = ap (output loaded) (ended-line pulled) ∙ sym (ended-with (output loaded) (λ number. refl) pulled)
 
-  pub ended-fault : (progress.bad || is_fault (parsed_of progress.is_too_long line)) ≡ any_fault (numbered_lines pulled true)
-  ended-fault =
-      let lines = numbered_lines pulled false in
-      rw (ended-asked, is.0) (sym (ap any_fault (ended-lines pulled) ∙ any_fault-append lines _
-      ∙ ap (λ fault. any_fault lines || fault) (ended-with any_fault (λ number. refl) pulled ∙ or-false _)))
+pub ended-fault : (pulled : List ℕ) → any_fault (numbered_lines (pulled ++ line_feed ∷ []) false) ≡ any_fault (numbered_lines pulled true)
+ended-fault pulled =
+    let lines = numbered_lines pulled false in
+    ap any_fault (completed-all pulled (line_feed ∷ []) false) ∙ any_fault-append lines _
+    ∙ ap (λ fault. any_fault lines || fault) (ap any_fault (ended-line pulled) ∙ sym (ended-with any_fault (λ number. refl) pulled))
+    ∙ sym (ap any_fault (ended-lines pulled) ∙ any_fault-append lines _)

@@ -5,6 +5,7 @@ ghost use Rattle.std.specs.Prelude.{IfOk, OnOk, MatchResult, drop, length, take}
 ghost use Rattle.rt_filter.specs.{Lines.{longest_line, numbered_lines}, Pushes.{Pushed}, Stages.{loaded_tree}};
 ghost use Rattle.rt_filter.specs.Progresses.{IsAfter, IsLeft, completed, parsed_of, progress_of};
 ghost use Rattle.rt_filter.specs.Replies.{any_fault, is_fault, output, reply};
+ghost use Rattle.rt_text.specs.ReplyLines.{error_line};
 
 use crate::query::push_reply;
 use crate::reply::push_line;
@@ -97,33 +98,6 @@ impl Progress {
         Ok((frontier, start))
     }
 
-    /// Answers the line that is begun, as no more bytes come, and flushes where there is a reply.
-    pub(crate) fn answer_last<K: Sink>(
-        &mut self,
-        tree: &Tree,
-        frontier: Frontier,
-        line: &[u8],
-        sink: &mut K,
-    ) -> Result<(), WriteFault>
-        requires room { length tree.now.entries ≤ frontier.capacity }
-        requires count { K.failed sink.old < 2 ^ 64 - 1 }
-        requires few { self.old.lines + 1 < 2 ^ 128 }
-        ensures pushed { (pulled : List ℕ) → IsAfter self.old line.now pulled
-            → Pushed K.written K.failed sink.old sink.new result
-            (output (loaded_tree tree.now) (completed pulled [] true)) }
-        ensures bad { (pulled : List ℕ) → IsAfter self.old line.now pulled
-            → self.new.bad ≡ any_fault (numbered_lines pulled true) }
-        ensures flushed { OnOk result (K.waits sink.old ≡ false → K.waits sink.new ≡ false) }
-    {
-        let mut is_pushed = false;
-        // (where no line is begun, this is an empty one, which has no reply)
-        self.answer_line(tree, frontier, line, &mut is_pushed, sink)?;
-        if is_pushed {
-            sink.flush()?;
-        }
-        Ok(())
-    }
-
     /// Moves the line that is begun, the first `filled` bytes from `start` on, to the front of the buffer. Returns how many
     /// bytes are kept: none of a line that is too long.
     pub(crate) fn keep(
@@ -174,20 +148,37 @@ impl Progress {
             → (is_pushed.old ≡ false) × (sink.new ≡ sink.old) }
     {
         self.lines += 1;
-        let fault = if self.is_too_long {
+        if self.is_too_long {
             self.is_too_long = false;
-            QueryFault::LineTooLong
-        } else {
-            match &parse(line) {
-                Parsed::Skip => return Ok(frontier),
-                Parsed::Query(query) => {
-                    *is_pushed = true;
-                    return push_reply(tree, frontier, self.lines, query, sink);
-                }
-                Parsed::Fault(fault) => *fault,
+            *is_pushed = true;
+            return self.push_fault(frontier, QueryFault::LineTooLong, sink);
+        }
+        match &parse(line) {
+            Parsed::Skip => Ok(frontier),
+            Parsed::Query(query) => {
+                *is_pushed = true;
+                push_reply(tree, frontier, self.lines, query, sink)
             }
-        };
-        *is_pushed = true;
+            Parsed::Fault(fault) => {
+                *is_pushed = true;
+                self.push_fault(frontier, *fault, sink)
+            }
+        }
+    }
+
+    // Pushes the reply to a faulty line, the last one that is counted.
+    fn push_fault<K: Sink>(
+        &mut self,
+        frontier: Frontier,
+        fault: QueryFault,
+        sink: &mut K,
+    ) -> Result<Frontier, WriteFault>
+        requires count { K.failed sink.old < 2 ^ 64 - 1 }
+        ensures pushed { Pushed K.written K.failed sink.old sink.new result
+            (error_line self.old.lines fault) }
+        ensures progress { self.new ≡ record self.old { bad = true } }
+        ensures capacity { IfOk result (λ left. left.capacity ≡ frontier.capacity) }
+    {
         self.bad = true;
         push_line(&error_line(self.lines, fault), sink).and(Ok(frontier))
     }

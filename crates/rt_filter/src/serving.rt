@@ -120,7 +120,10 @@ fn exchange<B: Start, S: Exchange<B, K>, K: Sink>(
             return ended(&progress, Some(ServeFault::Read));
         };
         if n == 0 {
-            let Ok(_) = progress.answer_last(tree, frontier, &buffer[..kept], sink) else {
+            // (as if a line feed came: where no line is begun it ends an empty one, which has no reply)
+            buffer[kept] = b'\n';
+            let last = &buffer[..=kept];
+            let Ok(_) = progress.answer_lines(tree, frontier, last, kept, sink) else {
                 return ended(&progress, Some(ServeFault::Write));
             };
             return ended(&progress, None);

@@ -1,4 +1,4 @@
-use Rattle.std.proofs.Common.{◌≡◌, ◌∙◌, ◌+◌, ◌-◌, ◌++◌, ◌≤◌, arith, rules, false, refl, ap, sym, take, drop, length, Some}
+use Rattle.std.proofs.Common.{◌∙◌, ◌+◌, ◌≤◌, arith, rules, refl, ap, take, drop, length, Some}
 use Rattle.std.proofs.lemmas.List.{length-drop, take_rest}
 use Rattle.memchr.specs.Find.{IsFirstByte, is_byte}
 use Rattle.rt_filter.specs.Stages.{line_feed, loaded_tree}
