@@ -187,7 +187,9 @@ fn push_in_shape<S: Shape + Drop, K: Sink>(
     }
 }
 
-// Pushes a line for each answer of one geometry, and then their number.
+// Pushes a line for each answer of one geometry, and then their number. Out of line, so that a query clears the locals of its
+// own search alone.
+#[inline(never)]
 #[tactic(auto, using(crate::proofs::PushLemmas::as_failed))]
 fn find<G: Geometry + Drop, K: Sink>(
     tree: &Tree,
