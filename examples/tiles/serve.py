@@ -5,7 +5,8 @@ usage: serve.py [--header] [--names FILE] [--layers FILE] [--listen ADDRESS] [--
                 [--origin ORIGIN] [--max-age SECONDS] [--processes N] [--idle SECONDS] [--timeout SECONDS]
                 [--log FILE] [--program PROGRAM] TABLE
 
-Once the table is loaded, the page's address is printed. SIGHUP has it loaded anew. README.md says what is served, and what is refused.
+Once the table is loaded, the page's address is printed. SIGHUP has it loaded anew. README.md says what is served, and what is
+refused.
 """
 
 import argparse
@@ -526,8 +527,8 @@ def serve(
     ends: Ends | None = None,
 ) -> None:
     """Answers until it is interrupted. `ready` is called once it begins. Raises why it can't go on."""
-    again = os.eventfd(0)
-    signal.signal(signal.SIGHUP, lambda *_: os.eventfd_write(again, 1))
+    again, signalled = os.pipe()
+    signal.signal(signal.SIGHUP, lambda *_: write_soon(signalled))
     port = listener.getsockname()[1]
     log_accesses(args.log)
     with Server(listener, served_by(args, port, table), counts, ends) as server:
@@ -545,13 +546,20 @@ def serve(
 def keep_loaded(args: argparse.Namespace, server: Server, port: int, again: int) -> None:
     """Loads the files beside those that are served, once for all signals that came meanwhile. What can't be loaded changes
     nothing."""
-    while os.eventfd_read(again):
+    while os.read(again, 1 << 16):
         try:
             server.served = served_by(args, port, generation=server.served.generation + 1)
             tell(f"the table is exchanged: {len(server.served.views)} boxes")
         except Exception as error:  # whatever it is: requests are answered from the table that is there
             server.counts.add("loads_failed_total")
             tell(f"{error}; the table is the one of before")
+
+
+def write_soon(descriptor: int) -> None:
+    """A byte into a pipe, unless that is full of them."""
+    os.set_blocking(descriptor, False)
+    with contextlib.suppress(BlockingIOError):
+        os.write(descriptor, b".")
 
 
 def tell(text: str) -> None:
@@ -561,8 +569,10 @@ def tell(text: str) -> None:
 def log_accesses(name: str | None) -> None:
     """Has accesses logged to a file, which is opened anew where another one stands in its place."""
     if name is not None:
-        own = logging.StreamHandler() if name == "-" else logging.handlers.WatchedFileHandler(name, encoding="ascii")
-        ACCESSES.addHandler(own)
+        if name == "-":
+            ACCESSES.addHandler(logging.StreamHandler())
+        else:
+            ACCESSES.addHandler(logging.handlers.WatchedFileHandler(name, encoding="ascii"))
         ACCESSES.setLevel(logging.INFO)
         ACCESSES.propagate = False
 

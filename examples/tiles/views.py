@@ -99,7 +99,8 @@ class Views:
         A feature's own id is its box's; one below 0, which a tile can't hold, is a property.
         """
         window = window_of(z, x, y)
-        if z <= self._level_with_counts(on and tuple(sorted(set(on)))) or self._boxes.count(Window(*window), on=on) > MOST_IN_TILE:
+        asked = None if on is None else tuple(sorted(set(on)))
+        if z <= self._level_with_counts(asked) or self._boxes.count(Window(*window), on=on) > MOST_IN_TILE:
             return self._density_tile(window, on)
         ids = self._boxes.find(Window(*window), on=on).ids
         boxes = [*self._table.places.boxes(ids)]
@@ -137,7 +138,7 @@ class Views:
 
     def _counted(self, tiles: list[tuple[int, int, int]], on: tuple[int, ...] | None) -> list[tuple[int, int, int]]:
         """Some tiles of one level, each as how many boxes meet it, and its place."""
-        counts = self._counts([window_of(*tile) for tile in tiles], on and [*on])
+        counts = self._counts([window_of(*tile) for tile in tiles], None if on is None else [*on])
         return [(count, x, y) for count, (_, x, y) in zip(counts, tiles)]
 
     def _properties(self, id: int) -> dict[str, mvt.Value]:

@@ -174,9 +174,9 @@ class Lives(Case):
         boxes = aio.Rtfilter("/no/such/table", program=PROGRAM)
         with self.assertRaisesRegex(ValueError, "^the table is open inside `async with`"):
             await boxes.count(All())
-        with self.assertRaises(Ended) as ended:
+        with self.assertRaises(FileNotFoundError) as nowhere:
             await boxes.__aenter__()
-        self.assertEqual(ended.exception.__notes__, ["the table is /no/such/table"])
+        self.assertEqual(nowhere.exception.filename, "/no/such/table")
 
     async def test_a_load_that_is_cancelled(self) -> None:
         never = self.folder / "never"

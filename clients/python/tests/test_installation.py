@@ -87,7 +87,7 @@ class Types(unittest.TestCase):
         "clients/python:clients/python/tests:tests:examples/common:examples/common/tests:examples/roads": [
             "examples/roads/*.py", "examples/roads/tests/*.py",
         ],
-        "clients/python:tests:examples/common/tests:examples/tiles": [
+        "clients/python:tests:service:examples/common/tests:examples/tiles": [
             "examples/tiles/*.py", "examples/tiles/tests/*.py", "examples/languages/tests/*.py",
         ],
         "clients/python:tests:examples/common/tests:examples/cluster": [

@@ -87,9 +87,11 @@ class Logs(unittest.TestCase):
         """A fence that appends to the log, whose file may be so long: its status, and what it says."""
         words = [sys.executable, "-B", *before, str(EXAMPLE / "fence.py"), "--program", PROGRAM, "--devices", str(DEVICES)]
         limited = ["prlimit", f"--fsize={limit}", *words] if limit is not None else words
-        with open(self.log, "ab") as log:
+        track = self.folder / "track"
+        track.write_bytes(positions)
+        with open(track, "rb") as input, open(self.log, "ab") as log:  # of a file the fence reads as much as it can
             done = subprocess.run(
-                [*limited, *options, str(self.zones)], input=positions, stdout=log, stderr=subprocess.PIPE, timeout=LONGEST
+                [*limited, *options, str(self.zones)], stdin=input, stdout=log, stderr=subprocess.PIPE, timeout=LONGEST
             )
         return done.returncode, done.stderr.decode()
 
