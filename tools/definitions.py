@@ -29,10 +29,11 @@ MOST_LINES = {"contracts": 890, "headline": 700}
 # The headline: its crate, its call and its clause.
 HEADLINE = ("rt_filter", "run", "headline")
 
-# That a tree is sound follows from its being the packed tree of its entries, and what a polygon's state says of points
-# from the state.
+# That a tree is sound and whole follows from its being the packed tree of its entries, and what a polygon's state says of
+# points from the state.
 SAID_AGAIN = {
     ("rt_tree", "Packed", "IsSound"),
+    ("rt_tree", "Packed", "IsWhole"),
     ("rt_geo", "Polygons", "HoldsEachPoint"),
     ("rt_geo", "Polygons", "SharesNoPoint"),
     ("rt_geo", "Polygons", "SharesPoint"),

@@ -164,8 +164,8 @@ fn gathers<G: Geometry>(limit: Option<u64>) -> bool
 fn begin<G: Geometry>(tree: &Tree, rooms: &mut Rooms, limit: Option<u64>)
     requires capacity { length tree.now.entries ≤ rooms.old.queue.capacity }
     requires same_room { rooms.old.hits.capacity ≡ rooms.old.queue.capacity }
-    ensures going { (geometry : G) → IsGoing G.SCORES_NODES (G.meaning geometry) tree.now limit 0 0 0
-        rooms.new.queue rooms.new.hits }
+    ensures going { (geometry : G) → IsGoing G.SCORES_NODES (G.meaning geometry) tree.now limit
+        0 0 0 rooms.new.queue rooms.new.hits }
     ensures capacity { rooms.new.queue.capacity ≡ rooms.old.queue.capacity }
 {
     rooms.queue.clear(limit);
@@ -219,8 +219,9 @@ fn gather<G: Geometry>(
     requires capacity { length tree.now.entries ≤ hits.old.capacity }
     requires asked { hits.old.is_sorted ≡ false → counted.old.asked ≡ 0 }
     requires none { hits.old.is_sorted ≡ false → hits.old.items ≡ [] }
-    ensures state { let meaning = G.meaning counted.old.geometry in (given : ℕ) (items : List Item) →
-        IsGathering meaning tree.now limit given opened.old counted.old.asked items hits.old →
+    ensures state { let meaning = G.meaning counted.old.geometry in
+        (given : ℕ) (items : List Item) → IsGathering meaning tree.now limit given opened.old
+        counted.old.asked items hits.old →
         HasGathered meaning tree.now limit given opened.new counted.new.asked hits.new.items }
     ensures sorted { hits.new.is_sorted ≡ true }
     ensures capacity { hits.new.capacity ≡ hits.old.capacity }
