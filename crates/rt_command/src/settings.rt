@@ -32,13 +32,13 @@ impl Model for Settings {
 
 impl Settings {
     /// The least number of children that a node may have.
-    pub const LEAST_FANOUT: u8 = 2;
+    pub(crate) const LEAST_FANOUT: u8 = 2;
 
     /// The greatest number of children that a node may have.
-    pub const GREATEST_FANOUT: u8 = 64;
+    pub(crate) const GREATEST_FANOUT: u8 = 64;
 
     /// The most entries that a table may have.
-    pub const MOST_ENTRIES: u32 = Table::MOST_ENTRIES;
+    pub(crate) const MOST_ENTRIES: u32 = Table::MOST_ENTRIES;
 
     /// Settings with these values: whether the table's first record is a header, the most children of a
     /// node (2 to 64) and the most entries of the table (1 to 16,777,216). `None` where one is out of its

@@ -46,8 +46,9 @@ pub(crate) fn push_search<'a, G: Geometry, K: Sink>(
     ensures capacity { IfOk result (λ left. left.capacity ≡ search.entry.capacity) }
 {
     let mut search = search;
-    let mut text = Line::new(b"");
     let mut found: u64 = 0;
+    // (one line for all, since to make one clears its bytes)
+    let mut text = ok_line(line, found);
     while let Some((id, score)) = search.next() {
         set_answer_line(&mut text, id, score);
         push_line(&text, sink)?;

@@ -17,7 +17,9 @@ const SHORT: u64 = 100_000_000;
 /// From here on a number has more digits than are written side by side.
 const LONG: u64 = 10_000_000_000_000_000;
 
-/// A text of at most 128 bytes, that is put together from its end. It takes no memory beyond its own.
+/// A line of text of at most 128 bytes, its line feed included. It takes no memory beyond its own.
+///
+/// It is put together from its end, since a number's last digit is known first.
 #[derive(Debug, Drop)]
 pub struct Line {
     // its bytes, in the back of the room
@@ -38,7 +40,7 @@ impl Model for Line {
 
 impl Line {
     /// The line of these bytes.
-    pub fn new(text: &[u8]) -> Line
+    pub(crate) fn new(text: &[u8]) -> Line
         requires { length text.now ≤ MOST_BYTES }
         ensures { result ≡ text.now }
     {
@@ -51,14 +53,14 @@ impl Line {
     }
 
     /// Gives up its bytes, so that another line can be put together in its place.
-    pub fn clear(&mut self)
+    pub(crate) fn clear(&mut self)
         ensures { self.new ≡ [] }
     {
         self.start = MOST_BYTES;
     }
 
     /// Puts more bytes before its own.
-    pub fn prepend(&mut self, text: &[u8])
+    pub(crate) fn prepend(&mut self, text: &[u8])
         requires { length self.old + length text.now ≤ MOST_BYTES }
         ensures { self.new ≡ text.now ++ self.old }
     {
@@ -68,7 +70,7 @@ impl Line {
     }
 
     /// Puts one more byte before its own.
-    pub fn prepend_byte(&mut self, byte: u8)
+    pub(crate) fn prepend_byte(&mut self, byte: u8)
         requires { length self.old + 1 ≤ MOST_BYTES }
         ensures { self.new ≡ byte ∷ self.old }
     {
@@ -77,7 +79,7 @@ impl Line {
     }
 
     /// Puts a number before its bytes.
-    pub fn prepend_number(&mut self, number: u64)
+    pub(crate) fn prepend_number(&mut self, number: u64)
         requires { length self.old + 20 ≤ MOST_BYTES }
         ensures value { self.new ≡ decimal number ++ self.old }
         ensures few { length self.new ≤ length self.old + 20 }
@@ -136,7 +138,7 @@ impl Line {
     /// Puts a number of up to 128 bits before its bytes. One of a single digit is written fastest, and one that fits
     /// 64 bits faster than a longer one.
     #[inline(always)]
-    pub fn prepend_wide(&mut self, number: u128)
+    pub(crate) fn prepend_wide(&mut self, number: u128)
         requires { length self.old + 40 ≤ MOST_BYTES }
         ensures value { self.new ≡ decimal number ++ self.old }
         ensures few { length self.new ≤ length self.old + 40 }
@@ -162,7 +164,7 @@ impl Line {
     }
 
     /// Puts a number with a sign before its bytes.
-    pub fn prepend_signed(&mut self, number: i64)
+    pub(crate) fn prepend_signed(&mut self, number: i64)
         requires { length self.old + 21 ≤ MOST_BYTES }
         ensures value { self.new ≡ signed_decimal number ++ self.old }
     {

@@ -31,11 +31,13 @@ fn expect_entries(
     boxes: &[(i64, [i32; 4])],
     layers: &[u8],
 ) {
-    let entries = loaded.as_ref().expect(rt, "it is a table").entries();
-    expect_eq(rt, entries.layers(), layers);
-    expect_eq(rt, entries.len(), boxes.len());
-    for (entry, (id, wanted)) in entries.leaves().iter().zip(boxes) {
-        expect_eq(rt, (entry.id, sides(&entry.bounds)), (*id, *wanted));
+    let table = loaded.as_ref().expect(rt, "it is a table");
+    expect_eq(rt, table.len() as usize, boxes.len());
+    for place in 0..table.len() {
+        let entry = table.get(place);
+        let found = (entry.id, sides(&entry.bounds));
+        expect_eq(rt, Some(&found), boxes.get(place as usize));
+        expect_eq(rt, Some(&entry.layer), layers.get(place as usize));
     }
 }
 

@@ -62,7 +62,7 @@ impl Entries {
     }
 
     /// Whether there are none.
-    pub fn is_empty(&self) -> bool
+    pub(crate) fn is_empty(&self) -> bool
         ensures { result ≡ (length self.now == 0) }
     {
         self.len() == 0
@@ -92,7 +92,7 @@ impl Entries {
     }
 
     /// The entry at a place, counted from 0.
-    pub fn get(&self, place: usize) -> Entry
+    pub(crate) fn get(&self, place: usize) -> Entry
         requires { place < length self.now }
         ensures { slice_get self.now place ≡ Some result }
     {
@@ -115,14 +115,14 @@ impl Entries {
     }
 
     /// The entries without their layers.
-    pub fn leaves(&self) -> &[LeafEntry]
+    pub(crate) fn leaves(&self) -> &[LeafEntry]
         ensures { result.now ≡ map without_layer self.now }
     {
         self.entries.as_slice()
     }
 
     /// Their layers.
-    pub fn layers(&self) -> &[u8]
+    pub(crate) fn layers(&self) -> &[u8]
         ensures { result.now ≡ map (λ entry. entry.layer) self.now }
     {
         self.layers.as_slice()

@@ -4,7 +4,6 @@
 //!   makes one of many [`Entries`] at once, and quicker than [`Table::push`] one by one.
 //! - A [`Tree`] is packed over a table by [`Tree::pack`]. It is seen as its fanout and two flat lists: its entries in
 //!   the order of their places, and its [`Node`]s in the order of their numbers, of which a [`NodeNo`] is one.
-//! - [`Levels`] are seen as the sizes of the levels of a tree over so many entries, computed without the tree.
 //!
 //! The definitions that the contracts cite stand in `specs/`: `Entries`, `Repeats` (why entries make no table),
 //! `Leaves` and `PlainNodes` (entries and nodes without their layers), `Levels`, `Packing` (which tree is packed),
@@ -22,7 +21,6 @@ mod ties;
 mod tree;
 
 pub use entries::{Entries, LeafEntry};
-pub use levels::Levels;
 pub use nodes::PlainNode;
 pub use table::{EntriesFault, PushFault, Table};
 pub use tree::{Node, NodeNo, Tree};

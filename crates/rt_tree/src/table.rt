@@ -102,7 +102,7 @@ impl Table {
     }
 
     /// The entries, in the order pushed.
-    pub fn entries(&self) -> &Entries
+    pub(crate) fn entries(&self) -> &Entries
         ensures value { result.now ≡ self.now }
         ensures table { IsTable self.now }
     {

@@ -6,8 +6,6 @@ mod expect;
 #[cfg(test)]
 mod layered;
 #[cfg(test)]
-mod levels;
-#[cfg(test)]
 mod table;
 #[cfg(test)]
 mod tree;

@@ -82,8 +82,8 @@ fn expect_entries(rt: &impl Abort, table: &Table, boxes: &[(i64, [i32; 4]); 5]) 
 
 fn greatest_id(table: &Table) -> Option<i64> {
     let mut greatest = None;
-    for leaf in table.entries().leaves() {
-        greatest = greatest.max(Some(leaf.id));
+    for place in 0..table.len() {
+        greatest = greatest.max(Some(table.get(place).id));
     }
     greatest
 }
@@ -91,10 +91,8 @@ fn greatest_id(table: &Table) -> Option<i64> {
 // The ids of a table, in order.
 fn expect_ids(rt: &impl Abort, table: &Table, ids: &[i64]) {
     expect_eq(rt, table.len() as usize, ids.len());
-    let mut place = 0usize;
-    for leaf in table.entries().leaves() {
-        expect_eq(rt, Some(&leaf.id), ids.get(place));
-        place = place.wrapping_add(1);
+    for place in 0..table.len() {
+        expect_eq(rt, Some(&table.get(place).id), ids.get(place as usize));
     }
 }
 
@@ -188,10 +186,8 @@ fn one_is_pushed_after_millions_at_once(rt: HostRuntime) {
 // The table has the ids from 0 up to here.
 fn expect_ids_up_to(rt: &impl Abort, table: &Table, end: i64) {
     expect_eq(rt, i64::from(table.len()), end);
-    let mut id = 0i64;
-    for leaf in table.entries().leaves() {
-        expect_eq(rt, leaf.id, id);
-        id = id.wrapping_add(1);
+    for place in 0..table.len() {
+        expect_eq(rt, table.get(place).id, i64::from(place));
     }
 }
 
