@@ -1,4 +1,4 @@
--- What a full search finds: entries of score 0, those of other scores of one word, and the wide.
+-- What a search without a queue finds: entries of score 0, those of other scores of one word, and the wide.
 use Rattle.std.proofs.Common.{◌<◌, ◌≤◌, ◌^◌, ℕ, ℤ, List, arith}
 use Rattle.std.specs.{List.{AllByRecursion}, declared.cmp.Reverse.{Reverse}}
 use Rattle.rt_search.specs.{Items.{item_cmp}, Kept.{IsEntry, entry_item, hits_in, zero_item}}

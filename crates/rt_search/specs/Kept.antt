@@ -1,4 +1,4 @@
--- How a queue keeps its items, and a full search its hits. Nothing that a public call promises speaks of this.
+-- How a queue keeps its items, and a search without one its hits. Nothing that a public call promises speaks of this.
 use Rattle.std.specs.Prelude.{◌≡◌, ◌<◌, ◌≤◌, ◌/◌, ◌%◌, ◌^◌, ◌-ℤ◌, ℕ, ℤ, pos, nat_lt, Bool, true, false, if◌then◌else◌}
 use Rattle.std.specs.Prelude.{◌⊎◌, not, filter, Option, Some, None, List, [], ◌∷◌, ◌++◌, length, map, vec_capacity}
 use Rattle.std.specs.BinaryHeap.{IsHeap, heap_capacity, heap_items, heap_len}
@@ -132,7 +132,7 @@ pub record IsKept {X A : Type 0} (cmp : X → X → Ordering) (heap : BinaryHeap
   pub counted : heap_len heap ≡ length (heap_items heap)
   pub few : length (heap_items heap) ≤ capacity
 
--- ---- what a full search finds
+-- ---- what a search without a queue finds
 
 -- ids of entries of score 0, keys of those of other scores of one word, and the wide
 abbrev pub hits_in : (ids : List (Reverse ℤ)) → (keys : List (Reverse ℕ)) → (wide : List Item) → List Item
