@@ -7,7 +7,6 @@
 use rt_filter::{
     ArgFault, Invocation, Name, Outcome, RunFault, Settings, run_fault_line, run_std, settings_of,
 };
-use rt_text::Line;
 use std::env;
 use std::fs::File;
 use std::io::{self, BufWriter, ErrorKind, Read, Write};
@@ -54,16 +53,23 @@ impl Ending {
         }
     }
 
-    /// The line on standard error, if there is one.
-    fn line(self) -> Option<Line> {
+    /// The fault of a run whose line goes to standard error, if there is one.
+    fn fault(self) -> Option<RunFault> {
         match self {
-            Ending::Ran(outcome) => outcome.fault.map(|fault| run_fault_line(&fault)),
-            Ending::Helped => None,
-            Ending::BadCommandLine => Some(Line::new(b"rtfilter: bad command line\n")),
-            Ending::NoTable => Some(Line::new(b"rtfilter: cannot open table\n")),
-            Ending::NoQueries => Some(Line::new(b"rtfilter: cannot open queries\n")),
-            Ending::NotHelped => Some(run_fault_line(&RunFault::Write)),
-            Ending::NoMemory => Some(run_fault_line(&RunFault::Memory)),
+            Ending::Ran(outcome) => outcome.fault,
+            Ending::NotHelped => Some(RunFault::Write),
+            Ending::NoMemory => Some(RunFault::Memory),
+            _ => None,
+        }
+    }
+
+    /// The line on standard error where there was no run: none after help.
+    fn line(self) -> &'static [u8] {
+        match self {
+            Ending::BadCommandLine => b"rtfilter: bad command line\n",
+            Ending::NoTable => b"rtfilter: cannot open table\n",
+            Ending::NoQueries => b"rtfilter: cannot open queries\n",
+            _ => b"",
         }
     }
 }
@@ -75,10 +81,11 @@ fn main(rt: HostRuntime) -> ExitCode {
         Err(ArgFault::Usage) => Ending::BadCommandLine,
         Err(ArgFault::Memory) => Ending::NoMemory,
     };
-    if let Some(line) = ending.line() {
-        // Nothing is left to tell where standard error fails too.
-        let _ = rt.stderr().write_all(line.bytes());
-    }
+    // (nothing is left to report where standard error fails too)
+    let _ = match ending.fault() {
+        Some(fault) => rt.stderr().write_all(run_fault_line(&fault).bytes()),
+        None => rt.stderr().write_all(ending.line()),
+    };
     ExitCode::from(ending.status())
 }
 
