@@ -48,7 +48,7 @@ pub(crate) fn push_search<'a, G: Geometry, K: Sink>(
     let mut search = search;
     let mut found: u64 = 0;
     // (one line for all, since to make one clears its bytes)
-    let mut text = ok_line(line, found);
+    let mut text = Line::empty();
     while let Some((id, score)) = search.next() {
         set_answer_line(&mut text, id, score);
         push_line(&text, sink)?;

@@ -39,6 +39,19 @@ impl Model for Line {
 }
 
 impl Line {
+    /// An empty line: its line feed alone.
+    #[inline(always)]
+    pub fn empty() -> Line
+        ensures { result ≡ 10 ∷ [] }
+    {
+        let mut line = Line {
+            room: [0; MOST_BYTES],
+            start: MOST_BYTES,
+        };
+        line.prepend_byte(b'\n');
+        line
+    }
+
     /// The line of these bytes.
     pub(crate) fn new(text: &[u8]) -> Line
         requires { length text.now ≤ MOST_BYTES }
