@@ -23,11 +23,13 @@ from chromium import Chromium
 from style_rules import faults_of
 from tiles_support import BOXES, EXAMPLE, LONGEST, Mapped, Server, hostile_map, make_map, wants
 
-from common_support import anything, children_of, descendants_of, is_gone
+from common_support import PROGRAM, anything, children_of, descendants_of, is_gone
 
 from mercator import HALF, window_of
 from negotiation import is_known, takes_gzip
 from serve import MOST_CONNECTIONS
+
+from rtfilter.prefork import library_of
 
 TILE = "/8/128/127.pbf"
 EMPTY = "/9/0/0.pbf"
@@ -447,6 +449,8 @@ class Processes(unittest.TestCase):
 
     def test_a_process_for_each_connection(self) -> None:
         """Of the program, so that a slow answer to one keeps nobody else from another, whichever takes them."""
+        if library_of(PROGRAM) is None:
+            self.skipTest("no C compiler, and so no library of the service")
         with Server(self.table, *self.options) as server:
             programs = [program for worker in children_of(server.process.pid) for program in children_of(worker)]
             self.assertEqual([len(children_of(program)) for program in programs], [MOST_CONNECTIONS] * 3)
