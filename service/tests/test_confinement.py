@@ -122,6 +122,9 @@ class Confinement(Case):
             self.assertRegex(report, r"ERROR SUMMARY: 0 errors|Command: /bin/sh|Command: /usr/bin/valgrind|" + NO_FAULT, report)
 
 
+UNLINKED = [it for it in FLAGS if it != "-shared"]
+
+
 class Source(unittest.TestCase):
     def test_by_compilers(self) -> None:
         """With all their warnings, and with gcc's search for faults."""
@@ -130,7 +133,7 @@ class Source(unittest.TestCase):
         for compiler, flags in compilers.items():
             if shutil.which(compiler):
                 tried += 1
-                words = [compiler, *FLAGS, "-Wall", "-Wextra", "-Werror", *flags, "-o", os.devnull, str(SOURCE)]
+                words = [compiler, "-c", *UNLINKED, "-Wall", "-Wextra", "-Werror", *flags, "-o", os.devnull, str(SOURCE)]
                 done = subprocess.run(words, capture_output=True, text=True)
                 self.assertEqual((done.returncode, done.stderr), (0, ""))
         if not tried:

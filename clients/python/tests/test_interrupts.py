@@ -19,6 +19,7 @@ from interrupts import is_interrupted
 import rtfilter
 from rtfilter import All, Boxes, Pool, QueryError, Rtfilter, deadlines, pool, program, threads, transport
 from rtfilter.deadlines import Deadline
+from rtfilter.prefork import library_of
 from rtfilter.replies import Reply
 
 FILES = pool.__file__, threads.__file__, deadlines.__file__
@@ -96,7 +97,8 @@ class OneProgram(unittest.TestCase):
 
     def test_a_cell_that_runs_again(self) -> None:
         """As in a notebook, which keeps where the last error was: there is one program, or one pool, once all are through."""
-        for opened, least in (partial(Rtfilter, ROWS, program=PROGRAM), 1), (partial(Pool, 2, ROWS, program=PROGRAM), 3):
+        of_pool = 2 if library_of(PROGRAM) is None else 3  # with the library one holds the table for both
+        for opened, least in (partial(Rtfilter, ROWS, program=PROGRAM), 1), (partial(Pool, 2, ROWS, program=PROGRAM), of_pool):
             shell = code.InteractiveInterpreter({"rtfilter": rtfilter, "opened": opened})
             cell = compile(CELL, "cell", "exec")
             with contextlib.redirect_stderr(io.StringIO()):

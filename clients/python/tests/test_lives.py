@@ -898,6 +898,8 @@ class Closes(Case):
         self.assert_nothing_left()
 
     def test_shared_pool(self) -> None:
+        if library_of(PROGRAM) is None:
+            self.skipTest("there is no C compiler")
         boxes = Pool(2, BOXES, program=PROGRAM, timeout=60)
         for process in children_of(self.holder()):
             stop(process)

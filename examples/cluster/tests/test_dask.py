@@ -16,6 +16,7 @@ from cluster_support import CLUSTER, DEBIAN, PROGRAM, Folders, Service, one_run,
 from shards.cutting import cut
 
 from rtfilter import Rtfilter
+from rtfilter.prefork import library_of
 
 PEER = CLUSTER / "tests/dask_peer.py"
 COUNTS = 1, 2, 4, 16  # shards
@@ -83,6 +84,8 @@ class Dask(Folders):
     def setUp(self) -> None:
         if subprocess.run([DEBIAN, "-c", "import distributed, pandas"], capture_output=True).returncode:
             self.skipTest("python3-distributed and python3-pandas: not installed")
+        if library_of(PROGRAM) is None:
+            self.skipTest("a C compiler: not installed")
         super().setUp()
 
     def test_as_one_run(self) -> None:

@@ -45,7 +45,7 @@ class Languages(unittest.TestCase):
         draining = threading.Thread(target=service.stderr.read)
         self.addCleanup(draining.join)
         self.addCleanup(service.terminate)
-        while not (line := service.stderr.readline()).startswith("ready"):
+        while "ready: " not in (line := service.stderr.readline()):
             self.assertTrue(line, "the service has ended")
         draining.start()
         return path
