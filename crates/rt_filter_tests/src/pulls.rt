@@ -99,12 +99,8 @@ fn a_pull_gives_what_is_left_of_the_buffer(rt: HostRuntime) -> Result<(), Fail> 
 fn lines_that_are_begun_take_turns(rt: HostRuntime) -> Result<(), Fail> {
     // Of the first pull 97 bytes begin a line, so that the second gives 4,000 bytes, and the third the last 97.
     let mut comments = Vec::new(rt.alloc());
-    while comments.len() < 8194 {
-        comments.push(if comments.len() % 1000 == 999 {
-            b'\n'
-        } else {
-            b'#'
-        })?;
+    for place in 0..8194 {
+        comments.push(if place % 1000 == 999 { b'\n' } else { b'#' })?;
     }
     let given = Given {
         piece: 10_000,
