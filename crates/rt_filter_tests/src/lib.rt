@@ -14,4 +14,6 @@ mod replies;
 #[cfg(test)]
 mod runs;
 #[cfg(test)]
+mod surface;
+#[cfg(test)]
 mod turns;
