@@ -125,7 +125,17 @@ fn expect_opened<G: Geometry>(
     expect_eq(rt, search.next(), None);
     let last = opened.last().copied().unwrap_or(0);
     expect_eq(rt, search.opened(), last);
-    let (frontier, _counted) = search.finish();
+    expect_cost(rt, geometry, limit, last);
+}
+
+fn expect_cost<G: Geometry>(
+    rt: &(impl Abort + AllocGlobal),
+    geometry: &G,
+    limit: Option<u64>,
+    opened: u64,
+) {
+    let tree = five(rt);
+    let frontier = Frontier::new(rt.alloc(), tree.len()).expect(rt, "there is memory");
     let (costs, _frontier) = cost(&tree, frontier, Counted::new(geometry), limit);
-    expect_eq(rt, costs, last);
+    expect_eq(rt, costs, opened);
 }
