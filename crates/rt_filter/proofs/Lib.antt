@@ -9,3 +9,4 @@ mod RunLemmas
 mod RunRows
 mod ServingLemmas
 mod TreeLemmas
+mod WorkLemmas

@@ -14,6 +14,9 @@ use Rattle.rt_filter.specs.Stages.{HasNoLineFeed, IsAnswering, line_feed, lines_
 use Rattle.rt_filter.proofs.LineLemmas.{IsCutAt, begun-found, begun-none, completed-all, completed-append, completed-ended}
 use Rattle.rt_filter.proofs.{LineLemmas.{completed-ended_none, completed-found, completed-none, found}, PushLemmas.{pushed_cut}}
 use Rattle.rt_filter.proofs.PushLemmas.{nothing_pushed, pushed_next, pushed_none, pushed_prefix}
+use Rattle.rt_filter.proofs.WorkLemmas.{counts_none, counts_then, opened_by_lines-append}
+use Rattle.rt_search.specs.Work.{CountsOn}
+use Rattle.rt_filter.specs.Works.{opened_by_line, opened_by_lines}
 use Rattle.std.proofs.Common.{rules}
 
 -- ---- replies to some lines and then others
@@ -92,18 +95,19 @@ left-rest pulled rest clear progress kept h =
 
 -- ---- what was answered
 
-pub answered-first : (loaded : Loaded) (progress : Progress) (out : Option (List ℕ)) (kept given : List ℕ)
-    → IsAnswering loaded progress progress out out kept given kept given
-answered-first loaded progress out kept given = record {
+pub answered-first : (loaded : Loaded) (progress : Progress) (out : Option (List ℕ)) (opened : ℕ) (kept given : List ℕ)
+    → IsAnswering loaded progress progress out out opened opened kept given kept given
+answered-first loaded progress out opened kept given = record {
   front = [];
   parts = refl;
   so = λ pulled is. (
     rw (append-nil pulled) is,
     rw (completed-none pulled [] tt) (nothing_pushed out),
+    rw (completed-none pulled [] tt) (counts_none opened),
   );
 }
 
-module _ (loaded : Loaded) (old progress : Progress) (old_out out : Option (List ℕ)) (kept given begun rest : List ℕ) (s : IsAnswering loaded old progress old_out out kept given begun rest) where
+module _ (loaded : Loaded) (old progress : Progress) (old_out out : Option (List ℕ)) (old_opened opened : ℕ) (kept given begun rest : List ℕ) (s : IsAnswering loaded old progress old_out out old_opened opened kept given begun rest) where
   -- a line was answered
   module _ (n : ℕ) (at : IsFirstByte (is_byte line_feed) rest (Some n)) (line : List ℕ) (line-is : line ≡ begun ++ take n rest) (fits : length line ≤ longest_line) where
     abbrev asked : Parsed
@@ -124,10 +128,21 @@ module _ (loaded : Loaded) (old progress : Progress) (old_out out : Option (List
         → reply loaded (progress.lines + 1) asked ≡ reply loaded (length (numbered_lines (pulled ++ s.front) false) + 1) (parsed_line (begun_line (pulled ++ s.front) ++ take n rest))
     reply-is pulled is = search (rules, asked-is)
 
-    pub answered-more : (left : List ℕ) (now : Progress) (sent : Option (List ℕ)) → left ≡ drop (n + 1) rest
+    -- the nodes that it opens are those that the line opens
+    opened-more : (pulled : List ℕ) → IsAfter old kept pulled
+        → opened_by_lines loaded (completed pulled (s.front ++ (take n rest ++ line_feed ∷ [])) false)
+        ≡ opened_by_lines loaded (completed pulled s.front false) + opened_by_line loaded asked
+    opened-more pulled is =
+        ap (opened_by_lines loaded) (completed-append pulled s.front (take n rest ++ line_feed ∷ []) false)
+        ∙ opened_by_lines-append loaded (completed pulled s.front false) (completed (pulled ++ s.front) (take n rest ++ line_feed ∷ []) false)
+        ∙ ap (λ lines. opened_by_lines loaded (completed pulled s.front false) + opened_by_lines loaded lines) (completed-found (pulled ++ s.front) (take n rest) [] false cut.clear)
+        ∙ ap (λ parsed. opened_by_lines loaded (completed pulled s.front false) + opened_by_line loaded parsed) (sym (asked-is pulled is))
+
+    pub answered-more : (left : List ℕ) (now : Progress) (sent : Option (List ℕ)) (total : ℕ) → left ≡ drop (n + 1) rest
         → now ≡ record { lines = progress.lines + 1; bad = progress.bad || is_fault asked; is_too_long = false }
-        → WasPushed out sent (reply loaded (progress.lines + 1) asked) → IsAnswering loaded old now old_out sent kept given [] left
-    answered-more left now sent l e w =
+        → WasPushed out sent (reply loaded (progress.lines + 1) asked) → CountsOn opened (opened_by_line loaded asked) total
+        → IsAnswering loaded old now old_out sent old_opened total kept given [] left
+    answered-more left now sent total l e w count =
         let ended : List ℕ = take n rest ++ line_feed ∷ [] in
         let parts : rest ≡ ended ++ left = cut.parts ∙ ap (λ zs. take n rest ++ line_feed ∷ zs) (sym l) ∙ sym (append_assoc (take n rest) (line_feed ∷ []) left) in
         record {
@@ -141,7 +156,8 @@ module _ (loaded : Loaded) (old progress : Progress) (old_out out : Option (List
               ap (output loaded) (completed-append pulled s.front ended false) ∙ output-append loaded (completed pulled s.front false) (completed (pulled ++ s.front) ended false)
               ∙ ap (λ zs. output loaded (completed pulled s.front false) ++ zs) one in (
                 rw (e, line-is, ← append_assoc pulled s.front ended) (after-line (pulled ++ s.front) (take n rest) cut.clear progress begun sent_so_far.0 short),
-                rw all (pushed_then old_out out sent _ _ sent_so_far.1 w),
+                rw all (pushed_then old_out out sent _ _ sent_so_far.1.0 w),
+                rw (opened-more pulled is) (counts_then old_opened opened total _ _ sent_so_far.1.1 count),
               );
         }
 
@@ -172,6 +188,11 @@ module _ (loaded : Loaded) (old progress : Progress) (old_out out : Option (List
 
   pub answered-all : HasNoLineFeed rest → (pulled : List ℕ) → IsAfter old kept pulled → WasPushed old_out out (output loaded (completed pulled given false))
   answered-all clear pulled is = search (rules, completed-append, completed-none, append-nil)
+
+  -- and so are the nodes that they open
+  pub opened-all : HasNoLineFeed rest → (pulled : List ℕ) → IsAfter old kept pulled
+      → CountsOn old_opened (opened_by_lines loaded (completed pulled given false)) opened
+  opened-all clear pulled is = search (rules, completed-append, completed-none, append-nil)
 
 -- a line that is known to be faulty is one of those that are complete
 pub left-bad : (progress : Progress) (left pulled : List ℕ) → IsLeft progress left pulled → progress.bad ≡ true → any_fault (numbered_lines pulled false) ≡ true

@@ -7,6 +7,7 @@ pub mod Replies
 pub mod Reports
 pub mod Runs
 pub mod Stages
+pub mod Works
 pub use Rattle.rt_command.specs.Choices
 pub use Rattle.rt_command.specs.Invocations
 pub use Rattle.rt_device.specs.Devices

@@ -5,11 +5,13 @@ use Rattle.std.specs.Io.KnownBytes.{Consumes}
 use Rattle.rt_command.specs.Choices.{Choices}
 use Rattle.rt_text.specs.Tables.{IsFaultOf}
 use Rattle.rt_tree.specs.Packed.{Packed}
+use Rattle.rt_search.specs.Work.{CountsOn}
 use Rattle.rt_filter.specs.Lines.{is_line_feed, lines_of_parts, longest_line, numbered_lines}
 use Rattle.rt_filter.specs.Pushes.{WasPushed}
 use Rattle.rt_filter.specs.Replies.{Loaded, output, tree_of}
 use Rattle.rt_filter.specs.Runs.{loaded_of}
 use Rattle.rt_filter.specs.Progresses.{IsAfter, completed}
+use Rattle.rt_filter.specs.Works.{opened_by_lines}
 use Rattle.rt_filter.specs.declared.progress.Progress.{Progress}
 use Rattle.rt_text.specs.declared.run_faults.RunFault.{RunFault}
 use Rattle.rt_text.specs.declared.run_faults.RunFault.TheVariants.{Table, Memory}
@@ -58,13 +60,14 @@ HasNoLineFeed = AllByRecursion (λ c. is_line_feed c ≡ false)
 
 -- of the bytes that a pull gave the front is answered, and of what stands behind the last line feed `begun` was searched
 -- and `rest` wasn't: whatever was pulled before
-pub record IsAnswering (loaded : Loaded) (old now : Progress) (old_out out : Option (List ℕ)) (kept given begun rest : List ℕ)
-    : Type 0 where
+pub record IsAnswering (loaded : Loaded) (old now : Progress) (old_out out : Option (List ℕ)) (old_opened opened : ℕ)
+    (kept given begun rest : List ℕ) : Type 0 where
   pub front : List ℕ
   pub parts : given ≡ front ++ rest
   pub so : (pulled : List ℕ) → IsAfter old kept pulled
       → IsAfter now begun (pulled ++ front)
       × WasPushed old_out out (output loaded (completed pulled front false))
+      × CountsOn old_opened (opened_by_lines loaded (completed pulled front false)) opened
 
 -- the queries are answered as far as they were pulled
 pub record IsServing (loaded : Loaded) (old_coming coming old_out out : Option (List ℕ)) (progress : Progress) (kept : List ℕ)

@@ -5,6 +5,8 @@ ghost use Rattle.std.specs.Prelude.{IfOk, OnOk, MatchResult, drop, length, take}
 ghost use Rattle.rt_filter.specs.{Lines.{longest_line, numbered_lines}, Pushes.{Pushed}, Stages.{loaded_tree}};
 ghost use Rattle.rt_filter.specs.Progresses.{IsAfter, IsLeft, completed, parsed_of, progress_of};
 ghost use Rattle.rt_filter.specs.Replies.{any_fault, is_fault, output, reply};
+ghost use Rattle.rt_filter.specs.Works.{opened_by_line, opened_by_lines};
+ghost use Rattle.rt_search.specs.Work.{CountsOn};
 ghost use Rattle.rt_text.specs.ReplyLines.{error_line};
 
 use crate::query::push_reply;
@@ -76,6 +78,11 @@ impl Progress {
             (λ done. IsLeft self.new (drop done.1 bytes.now) (pulled ++ drop kept bytes.now))
             (λ _. self.new.bad ≡ true
             → any_fault (numbered_lines (pulled ++ drop kept bytes.now) false) ≡ true) }
+        // The nodes that are opened are those of the lines, one after the other.
+        ensures worked { (pulled : List ℕ) → IsAfter self.old (take kept bytes.now) pulled
+            → IfOk result (λ done. CountsOn frontier.opened
+            (opened_by_lines (loaded_tree tree.now) (completed pulled (drop kept bytes.now) false))
+            done.0.opened) }
         ensures start { IfOk result (λ done. done.1 ≤ length bytes.now) }
         ensures few { self.new.lines ≤ self.old.lines + length bytes.now }
         ensures flushed { OnOk result (K.waits sink.old ≡ false → K.waits sink.new ≡ false) }
@@ -143,6 +150,8 @@ impl Progress {
           bad = self.old.bad || is_fault (parsed_of self.old.is_too_long line.now);
           is_too_long = false;
         } }
+        ensures worked { let asked = parsed_of self.old.is_too_long line.now in IfOk result (λ left.
+            CountsOn frontier.opened (opened_by_line (loaded_tree tree.now) asked) left.opened) }
         ensures capacity { IfOk result (λ left. left.capacity ≡ frontier.capacity) }
         ensures untouched { is_pushed.new ≡ false
             → (is_pushed.old ≡ false) × (sink.new ≡ sink.old) }
@@ -177,7 +186,7 @@ impl Progress {
         ensures pushed { Pushed K.written K.failed sink.old sink.new result
             (error_line self.old.lines fault) }
         ensures progress { self.new ≡ record self.old { bad = true } }
-        ensures capacity { IfOk result (λ left. left.capacity ≡ frontier.capacity) }
+        ensures frontier { IfOk result (λ left. left ≡ frontier) }
     {
         self.bad = true;
         push_line(&error_line(self.lines, fault), sink).and(Ok(frontier))

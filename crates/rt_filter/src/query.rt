@@ -6,8 +6,9 @@
 ghost use Rattle.std.specs.Prelude.{◌≡◌, ◌-◌, ◌<◌, ◌≤◌, ◌^◌, IfOk, length, true};
 ghost use Rattle.rt_geo.specs.{OnLayers.{on_layers_accepts}, Orders.{by_id}, Regions.{region_accepts}};
 ghost use Rattle.rt_tree.specs.Levels.{level_sizes};
-ghost use Rattle.rt_search.specs.{Answers.{answers}, Work.{opened_by_count, opened_by_search}};
-ghost use Rattle.rt_filter.specs.{Pushes.{Pushed}, Reports.{report_on}, Stages.{loaded_tree}};
+ghost use Rattle.rt_search.specs.{Answers.{answers}, Work.{CountsOn, opened_by_count, opened_by_search}};
+ghost use Rattle.rt_filter.specs.{Pushes.{Pushed}, Stages.{loaded_tree}, Works.{opened_by}};
+ghost use Rattle.rt_filter.specs.Reports.{opened_for, opened_in_shape, report_on, scored_up_to};
 ghost use Rattle.rt_filter.specs.Replies.{find_reply, levels_reply, meaning_of, query_reply, tree_of};
 
 use crate::reply::{push_line, push_ok, push_search};
@@ -46,6 +47,9 @@ pub(crate) fn push_reply<K: Sink>(
     requires count { K.failed sink.old < 2 ^ 64 - 1 }
     ensures pushed { Pushed K.written K.failed sink.old sink.new result
         (query_reply (loaded_tree tree.now) line query.now) }
+    // With `cost` before it, a query opens as many nodes.
+    ensures worked { IfOk result (λ left.
+        CountsOn frontier.opened (opened_by (loaded_tree tree.now) query.now) left.opened) }
     ensures capacity { IfOk result (λ left. left.capacity ≡ frontier.capacity) }
 {
     match query {
@@ -110,6 +114,8 @@ fn push_in_region<K: Sink>(
     ensures pushed { let accepts = on_layers_accepts (region_accepts region.now) layers in
         Pushed K.written K.failed sink.old sink.new result
         (report_on tree.now.entries accepts line report) }
+    ensures worked { IfOk result (λ left.
+        CountsOn frontier.opened (opened_for tree.now region.now layers report) left.opened) }
     ensures capacity { IfOk result (λ left. left.capacity ≡ frontier.capacity) }
 {
     // (called, so that it is known which layers the entries have)
@@ -156,6 +162,8 @@ fn push_in_shape<S: Shape + Drop, K: Sink>(
     requires count { K.failed sink.old < 2 ^ 64 - 1 }
     ensures pushed { Pushed K.written K.failed sink.old sink.new result
         (report_on tree.now.entries (S.accepts shape) line report) }
+    ensures worked { let opened = opened_in_shape tree.now (S.accepts shape) (S.state shape) report in
+        IfOk result (λ left. CountsOn frontier.opened opened left.opened) }
     ensures capacity { IfOk result (λ left. left.capacity ≡ frontier.capacity) }
 {
     let (order, limit) = match report {
@@ -203,6 +211,8 @@ fn find<G: Geometry + Drop, K: Sink>(
     requires count { K.failed sink.old < 2 ^ 64 - 1 }
     ensures pushed { Pushed K.written K.failed sink.old sink.new result
         (find_reply line (answers tree.now.entries (G.meaning geometry) limit)) }
+    ensures worked { let opened = opened_by_search (G.meaning geometry) tree.now limit in
+        IfOk result (λ left. CountsOn frontier.opened opened left.opened) }
     ensures capacity { IfOk result (λ left. left.capacity ≡ frontier.capacity) }
 {
     // (called, so that it is known that the number of answers fits)
@@ -226,6 +236,9 @@ fn find_by_distance<G: Geometry + Drop, K: Sink>(
     requires count { K.failed sink.old < 2 ^ 64 - 1 }
     ensures pushed { Pushed K.written K.failed sink.old sink.new result
         (find_reply line (answers tree.now.entries (G.meaning geometry) limit)) }
+    ensures worked { let searched = scored_up_to limit (G.meaning geometry) in
+        IfOk result (λ left.
+        CountsOn frontier.opened (opened_by_search searched tree.now limit) left.opened) }
     ensures capacity { IfOk result (λ left. left.capacity ≡ frontier.capacity) }
 {
     if limit.is_none() {
@@ -247,6 +260,7 @@ fn opened_by_find(
     requires room { length tree.now.entries ≤ frontier.capacity }
     ensures opened { let loaded = loaded_tree tree.now in
         result.0 ≡ opened_by_search (meaning_of region.now layers order) (tree_of loaded) limit }
+    ensures worked { CountsOn frontier.opened result.0 result.1.opened }
     ensures capacity { result.1.capacity ≡ frontier.capacity }
 {
     // (called, so that it is known that the tree is the packed one of its own entries)
@@ -270,6 +284,7 @@ fn opened_by_count(
     requires room { length tree.now.entries ≤ frontier.capacity }
     ensures opened { let loaded = loaded_tree tree.now in
         result.0 ≡ opened_by_count (meaning_of region.now layers by_id) (tree_of loaded) }
+    ensures worked { CountsOn frontier.opened result.0 result.1.opened }
     ensures capacity { result.1.capacity ≡ frontier.capacity }
 {
     // (called, so that it is known that the tree is the packed one of its own entries)

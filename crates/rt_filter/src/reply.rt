@@ -1,6 +1,7 @@
 //! Lines of replies, pushed.
 
 ghost use Rattle.std.specs.Prelude.{◌≡◌, ◌-◌, ◌<◌, ◌^◌, [], ◌∷◌, IfOk, MatchOption, length};
+ghost use Rattle.rt_search.specs.Work.{opened_by_search};
 ghost use Rattle.rt_text.specs.ReplyLines.{ok_line};
 ghost use Rattle.rt_filter.specs.{Pushes.{Pushed}, Replies.{find_reply}};
 
@@ -43,6 +44,9 @@ pub(crate) fn push_search<'a, G: Geometry, K: Sink>(
     requires count { K.failed sink.old < 2 ^ 64 - 1 }
     ensures pushed { Pushed K.written K.failed sink.old sink.new result
         (find_reply line search.entry.to_come) }
+    ensures worked { let searched = search.entry in IfOk result (λ left. left.opened
+        ≡ opened_by_search (G.meaning searched.geometry) searched.tree searched.limit) }
+    ensures opened_before { IfOk result (λ left. left.opened_before ≡ search.entry.opened_before) }
     ensures capacity { IfOk result (λ left. left.capacity ≡ search.entry.capacity) }
 {
     let mut search = search;

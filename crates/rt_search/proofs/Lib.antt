@@ -1,4 +1,5 @@
 mod Rows
+pub mod Agreeing
 pub mod Answering
 pub mod Children
 pub mod Chosen

@@ -1,5 +1,5 @@
 -- What a search and a count do: the nodes that they open, and the checks that they make.
-use Rattle.std.specs.Prelude.{◌≡◌, ℕ, zero, suc, ◌+◌, ◌-◌, ◌==◌, nat_le, Bool, true, false, ◌&&◌, if◌then◌else◌}
+use Rattle.std.specs.Prelude.{◌≡◌, ℕ, zero, suc, ◌+◌, ◌-◌, ◌%◌, ◌^◌, ◌==◌, nat_le, Bool, true, false, ◌&&◌, if◌then◌else◌}
 use Rattle.std.specs.Prelude.{Option, Some, None, List, length, slice_get}
 use Rattle.std.specs.List.{sum_by}
 use Rattle.std.specs.Option.{option_and_then, option_map, option_map_or}
@@ -107,3 +107,9 @@ opened_by_count = reached_from_root is_divided one_node
 -- how many checks it makes
 abbrev pub asked_by_count : Meaning → Packed → ℕ
 asked_by_count = reached_from_root is_divided its_children
+
+-- ---- by one search or count after the other
+
+-- a count of 64 bits went on by so many; where that is more than they hold, it began again at 0
+abbrev pub CountsOn : (old : ℕ) → (so_many : ℕ) → (new : ℕ) → Type 0
+CountsOn old so_many new = new % 2 ^ 64 ≡ (old + so_many) % 2 ^ 64

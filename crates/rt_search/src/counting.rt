@@ -2,7 +2,7 @@
 
 ghost use Rattle.std.specs.Prelude.{◌≡◌, ◌+◌, ◌-◌, ◌^◌, [], length};
 ghost use Rattle.std.proofs.Common.{rules};
-ghost use Rattle.rt_search.specs.{Answers.{accepted}, Work.{asked_by_count, is_divided, opened_by_count}};
+ghost use Rattle.rt_search.specs.{Answers.{accepted}, Work.{CountsOn, asked_by_count, is_divided, opened_by_count}};
 
 use crate::counts::Count;
 use crate::frontier::Frontier;
@@ -73,7 +73,7 @@ impl Visitor for Tally {
 }
 
 /// Counts the entries that are accepted. A node that is FULLY adds its size, and isn't opened. What waited in the
-/// frontier is given up.
+/// frontier is given up, and it counts the nodes that were opened.
 pub fn count<G: Geometry>(
     tree: &Tree,
     frontier: &mut Frontier,
@@ -86,11 +86,13 @@ pub fn count<G: Geometry>(
     ensures asked { counted.new.asked ≡ asked_by_count (G.meaning counted.old.geometry) tree.now }
     ensures items { frontier.new.items ≡ [] }
     ensures capacity { frontier.new.capacity ≡ frontier.old.capacity }
+    ensures counted { CountsOn frontier.old.opened result.opened frontier.new.opened }
     ensures geometry { counted.new.geometry ≡ counted.old.geometry }
 {
     frontier.rooms.queue.clear(None);
     let mut tally = Tally(0);
     let opened = walk(tree, &mut tally, counted);
+    frontier.rooms.opened = frontier.rooms.opened.wrapping_add(opened);
     let accepted = tally.0;
     Count { accepted, opened }
 }

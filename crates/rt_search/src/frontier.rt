@@ -1,7 +1,7 @@
 //! The room of searches.
 
 ghost use Rattle.std.specs.Prelude.{◌≡◌, ◌≤◌, [], length, IfOk};
-ghost use Rattle.rt_search.specs.Items.{Waiting};
+ghost use Rattle.rt_search.specs.Searching.{Workspace};
 
 use crate::hits::Hits;
 use crate::queue::Queue;
@@ -10,8 +10,8 @@ use std::marker::Model;
 
 /// The room in which searches work, one after the other; a count only clears its queue. It is made once, and never grows.
 ///
-/// It is seen as the items that wait in it, in the order in which they are taken out, and its capacity. It is one pointer,
-/// since each query hands it on by value.
+/// It is seen as the items that wait in it, in the order in which they are taken out, its capacity, and the number of
+/// nodes that all searches and counts opened that worked in it. It is one pointer, since each query hands it on by value.
 #[derive(Drop)]
 pub struct Frontier {
     pub(crate) rooms: Box<Rooms>,
@@ -22,14 +22,17 @@ pub struct Frontier {
 pub(crate) struct Rooms {
     pub queue: Queue,
     pub hits: Hits,
+    // How many nodes all searches and counts opened that ended, in 64 bits: only contracts speak of it.
+    pub opened: u64,
 }
 
 impl Model for Frontier {
-    ghost Value = { Waiting };
+    ghost Value = { Workspace };
 
     ghost view = { λ f. let rooms = f.rooms.value in record {
       items = rooms.queue.items;
       capacity = rooms.queue.capacity;
+      opened = rooms.opened;
     } };
 
     ghost invariant = { λ f. f.rooms.value.hits.capacity ≡ f.rooms.value.queue.capacity };
@@ -41,10 +44,16 @@ impl Frontier {
     pub fn new(alloc: Global, capacity: u32) -> Result<Frontier, AllocError>
         ensures items { IfOk result (λ f. f.items ≡ []) }
         ensures capacity { IfOk result (λ f. f.capacity ≡ capacity) }
+        ensures opened { IfOk result (λ f. f.opened ≡ 0) }
     {
         let queue = Queue::new(alloc, capacity)?;
         let hits = Hits::new(alloc, capacity)?;
-        let rooms = Box::new(alloc, Rooms { queue, hits })?;
+        let rooms = Rooms {
+            queue,
+            hits,
+            opened: 0,
+        };
+        let rooms = Box::new(alloc, rooms)?;
         Ok(Frontier { rooms })
     }
 

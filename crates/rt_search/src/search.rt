@@ -9,7 +9,7 @@ ghost use Rattle.std.specs.Prelude.{false, true};
 ghost use Rattle.rt_search.specs.{Answers.{Answer, answers}, Limits.{one_less}};
 ghost use Rattle.rt_search.specs.Progress.{HasEnded, HasGathered, IsFound, IsGathering, IsGiven, IsGoing, IsOver};
 ghost use Rattle.rt_search.specs.{Progress.{IsUnderWay, gathers}, Searching.{Searching}};
-ghost use Rattle.rt_search.specs.{Work.{HasWorked, opened_by_search}, declared.item.Item.{Item}};
+ghost use Rattle.rt_search.specs.{Work.{CountsOn, HasWorked, opened_by_search}, declared.item.Item.{Item}};
 
 use crate::frontier::{Frontier, Rooms};
 use crate::hits::Hits;
@@ -26,7 +26,7 @@ const FEW: u64 = 64;
 /// A search that gives the answers to a query one at a time, those of the lowest score first.
 ///
 /// It is seen as what is searched, the limit, the answers still to come and how many were given, the nodes opened and
-/// the checks made so far, and the capacity of its frontier.
+/// the checks made so far, the capacity of its frontier, and how many nodes were opened in that before.
 #[derive(Drop)]
 pub struct Search<'a, G: Geometry> {
     tree: &'a Tree,
@@ -49,6 +49,7 @@ impl<'a, G: Geometry> Model for Search<'a, G> {
       opened = s.opened;
       asked = s.counted.asked;
       capacity = s.rooms.value.queue.capacity;
+      opened_before = s.rooms.value.opened;
     } };
 
     ghost invariant = { λ s. let rooms = s.rooms.value in
@@ -77,6 +78,7 @@ impl<'a, G: Geometry> Search<'a, G> {
         ensures tree { result.tree ≡ tree.now }
         ensures geometry { result.geometry ≡ counted.entry.geometry }
         ensures capacity { result.capacity ≡ frontier.capacity }
+        ensures opened_before { result.opened_before ≡ frontier.opened }
     {
         let mut rooms = frontier.rooms;
         begin::<G>(tree, &mut rooms, limit);
@@ -106,10 +108,12 @@ impl<'a, G: Geometry> Search<'a, G> {
         ensures worked_in_all { IfNone result (HasWorked (G.meaning self.old.geometry)
             self.old.tree self.old.limit self.new.opened self.new.asked) }
 
-        ensures limit { self.new.limit ≡ self.old.limit }
-        ensures tree { self.new.tree ≡ self.old.tree }
-        ensures geometry { self.new.geometry ≡ self.old.geometry }
-        ensures capacity { self.new.capacity ≡ self.old.capacity }
+        ensures others { self.new ≡ record self.old {
+          to_come = self.new.to_come;
+          given = self.new.given;
+          opened = self.new.opened;
+          asked = self.new.asked;
+        } }
     {
         if self.limit == Some(self.given) {
             return None;
@@ -133,14 +137,16 @@ impl<'a, G: Geometry> Search<'a, G> {
     }
 
     /// The frontier, for the next search, and the geometry with the number of its checks. No more items wait in it than
-    /// the tree has entries.
+    /// the tree has entries. It counts the nodes that were opened.
     pub fn finish(self) -> (Frontier, Counted<'a, G>)
         ensures capacity { result.0.capacity ≡ self.entry.capacity }
         ensures items { length result.0.items ≤ length self.entry.tree.entries }
+        ensures counted { CountsOn self.entry.opened_before self.entry.opened result.0.opened }
         ensures geometry { result.1.geometry ≡ self.entry.geometry }
         ensures asked { result.1.asked ≡ self.entry.asked }
     {
-        let rooms = self.rooms;
+        let mut rooms = self.rooms;
+        rooms.opened = rooms.opened.wrapping_add(self.opened);
         (Frontier { rooms }, self.counted)
     }
 }
@@ -167,6 +173,7 @@ fn begin<G: Geometry>(tree: &Tree, rooms: &mut Rooms, limit: Option<u64>)
     ensures going { (geometry : G) → IsGoing G.SCORES_NODES (G.meaning geometry) tree.now limit
         0 0 0 rooms.new.queue rooms.new.hits }
     ensures capacity { rooms.new.queue.capacity ≡ rooms.old.queue.capacity }
+    ensures opened { rooms.new.opened ≡ rooms.old.opened }
 {
     rooms.queue.clear(limit);
     if gathers::<G>(limit) {
@@ -196,6 +203,7 @@ fn advance<G: Geometry>(
         (λ a. IsGiven G.SCORES_NODES meaning tree.now limit given opened.new counted.new.asked a
         rooms.new.queue rooms.new.hits) }
     ensures capacity { rooms.new.queue.capacity ≡ rooms.old.queue.capacity }
+    ensures opened_before { rooms.new.opened ≡ rooms.old.opened }
     ensures geometry { counted.new.geometry ≡ counted.old.geometry }
 {
     if gathers::<G>(limit) {
@@ -292,8 +300,8 @@ fn pull<G: Geometry>(
     }
 }
 
-/// How many nodes a search opens for so many answers, or for all where there is no limit, and the frontier. What the
-/// frontier held is given up.
+/// How many nodes a search opens for so many answers, or for all where there is no limit, and the frontier, which counts
+/// them. What the frontier held is given up.
 pub fn cost<G: Geometry>(
     tree: &Tree,
     frontier: Frontier,
@@ -305,15 +313,21 @@ pub fn cost<G: Geometry>(
     ensures opened { result.0 ≡ opened_by_search (G.meaning counted.entry.geometry) tree.now limit }
     ensures capacity { result.1.capacity ≡ frontier.capacity }
     ensures items { length result.1.items ≤ length tree.now.entries }
+    ensures counted { CountsOn frontier.opened result.0 result.1.opened }
 {
     if limit.is_none() {
         // (each node that may hold answers is opened, in whatever order)
         let mut rooms = frontier.rooms;
         let mut counted = counted;
-        let Rooms { queue, hits } = &mut *rooms;
+        let Rooms {
+            queue,
+            hits,
+            opened: in_all,
+        } = &mut *rooms;
         queue.clear(None);
         hits.clear();
         let opened = walk(tree, hits, &mut counted);
+        *in_all = in_all.wrapping_add(opened);
         return (opened, Frontier { rooms });
     }
     let mut search = Search::start(tree, frontier, counted, limit);

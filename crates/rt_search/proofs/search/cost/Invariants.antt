@@ -8,6 +8,7 @@ invariant-loop g l = record {
   geometry : l.search.geometry ≡ l.initial.search.geometry;
   limit : l.search.limit ≡ l.initial.search.limit;
   capacity : l.search.capacity ≡ l.initial.search.capacity;
+  opened_before : l.search.opened_before ≡ l.initial.search.opened_before;
 }
 
 abbrev pub decreases-loop : goal.decreases-loop

@@ -4,7 +4,7 @@ use Rattle.memchr.specs.Find.{IsFirstByte, is_byte}
 use Rattle.rt_filter.specs.Stages.{line_feed, loaded_tree}
 use Rattle.rt_filter.proofs.BufferLemmas.{all_begun, behind_line, from_front, line_at, line_fits, none_begun}
 use Rattle.rt_filter.proofs.{LineLemmas.{found_none}, PushLemmas.{as_failed, at_failure}}
-use Rattle.rt_filter.proofs.ProgressLemmas.{answered-all, answered-cut, answered-first, answered-left, answered-more, fault-cut, left-bad}
+use Rattle.rt_filter.proofs.ProgressLemmas.{answered-all, answered-cut, answered-first, answered-left, answered-more, fault-cut, left-bad, opened-all}
 use Rattle.rt_filter.proofs.ProgressLemmas.{pushed_kept, pushed_lost}
 use Rattle.rt_filter.proofs.progress.Progress.answer_lines.Goals as goal
 
@@ -15,7 +15,7 @@ loop-at-init g c = record {
   count = refl;
   capacity = refl;
   few = omega arith;
-  answered = rw (from_front c.args.bytes.now c.args.kept) (answered-first (loaded_tree c.args.tree.now) c.args.self.now (g.K.Sink.written c.args.sink.now) (take c.args.kept c.args.bytes.now) (drop c.args.kept c.args.bytes.now));
+  answered = rw (from_front c.args.bytes.now c.args.kept) (answered-first (loaded_tree c.args.tree.now) c.args.self.now (g.K.Sink.written c.args.sink.now) c.args.frontier.opened (take c.args.kept c.args.bytes.now) (drop c.args.kept c.args.bytes.now));
   flushed = λ _. refl;
 }
 
@@ -28,7 +28,7 @@ returns-in_err-frontier-clause-pushed g c pulled is =
     let order = c.loop-at.invariant.start in
     let at : IsFirstByte (is_byte line_feed) (drop searched bytes) (Some n) = rw (take_rest bytes searched) at c.in-Some.ensures in
     as_failed g.K.Sink.written g.K.Sink.failed _ c.args.sink.now _ c.from_residual.result _ _ c.from_residual.ensures.1 (
-      answered-cut _ _ _ _ _ _ _ _ _ c.loop-at.invariant.answered n at _ (line_at bytes start searched order n)
+      answered-cut _ _ _ _ _ _ _ _ _ _ _ c.loop-at.invariant.answered n at _ (line_at bytes start searched order n)
           (line_fits bytes start searched order n at c.requires.fits) _ c.in_err-frontier.ensures.pushed.0 pulled is,
       c.in_err-frontier.ensures.pushed.1 ∙ ap (λ n. n + 1) c.loop-at.invariant.count,
     )
@@ -42,7 +42,7 @@ returns-in_err-frontier-clause-progress g c pulled is =
     let order = c.loop-at.invariant.start in
     let at : IsFirstByte (is_byte line_feed) (drop searched bytes) (Some n) = rw (take_rest bytes searched) at c.in-Some.ensures in
     at_failure c.from_residual.result _ _ c.from_residual.ensures.1
-    (fault-cut _ _ _ _ _ _ _ _ _ c.loop-at.invariant.answered n at _ (line_at bytes start searched order n)
+    (fault-cut _ _ _ _ _ _ _ _ _ _ _ c.loop-at.invariant.answered n at _ (line_at bytes start searched order n)
     (line_fits bytes start searched order n at c.requires.fits) _ (ap (λ p. p.bad) c.answer_line.ensures.progress) pulled is)
 
 pub loop-at-preserved : goal.loop-at-preserved
@@ -61,9 +61,9 @@ loop-at-preserved g c =
       capacity = c.in_ok-frontier.ensures.capacity ∙ c.loop-at.invariant.capacity;
       few = rw c.answer_line.ensures.progress (omega (arith, c.loop-at.invariant.few, order));
       answered = rw (none_begun bytes (searched + n + 1))
-          (answered-more _ _ _ _ _ _ _ _ _ c.loop-at.invariant.answered n at _ (line_at bytes start searched order n)
-          (line_fits bytes start searched order n at c.requires.fits) (drop (searched + n + 1) bytes) _ _
-          (behind_line bytes searched n) c.answer_line.ensures.progress c.in_ok-frontier.ensures.pushed.0);
+          (answered-more _ _ _ _ _ _ _ _ _ _ _ c.loop-at.invariant.answered n at _ (line_at bytes start searched order n)
+          (line_fits bytes start searched order n at c.requires.fits) (drop (searched + n + 1) bytes) _ _ _
+          (behind_line bytes searched n) c.answer_line.ensures.progress c.in_ok-frontier.ensures.pushed.0 c.in_ok-frontier.ensures.worked);
       flushed = λ e.
           let same = c.answer_line.ensures.untouched e in
           ap g.K.Sink.waits same.1 ∙ c.loop-at.invariant.flushed same.0;
@@ -72,21 +72,25 @@ loop-at-preserved g c =
 pub returns-in_err-flush-clause-pushed : goal.returns-in_err-flush-clause-pushed
 returns-in_err-flush-clause-pushed g c pulled is =
     as_failed g.K.Sink.written g.K.Sink.failed _ c.args.sink.now _ c.from_residual-in_err-flush.result _ _ c.from_residual-in_err-flush.ensures.1 (
-      pushed_lost _ _ _ _ (answered-all _ _ _ _ _ _ _ _ _ c.loop-at.invariant.answered (found_none _ (rw (take_rest c.args.bytes.now c.loop-at.searched) at c.in_default.ensures)) pulled is) c.in_err-flush.ensures.lost,
+      pushed_lost _ _ _ _ (answered-all _ _ _ _ _ _ _ _ _ _ _ c.loop-at.invariant.answered (found_none _ (rw (take_rest c.args.bytes.now c.loop-at.searched) at c.in_default.ensures)) pulled is) c.in_err-flush.ensures.lost,
       c.in_err-flush.ensures.fails ∙ ap (λ n. n + 1) c.loop-at.invariant.count,
     )
 
 pub returns-in_err-flush-clause-progress : goal.returns-in_err-flush-clause-progress
 returns-in_err-flush-clause-progress g c pulled is =
     at_failure c.from_residual-in_err-flush.result _ _ c.from_residual-in_err-flush.ensures.1
-    (left-bad _ _ _ (answered-left _ _ _ _ _ _ _ _ _ c.loop-at.invariant.answered (found_none _ (rw (take_rest c.args.bytes.now c.loop-at.searched) at c.in_default.ensures)) pulled is))
+    (left-bad _ _ _ (answered-left _ _ _ _ _ _ _ _ _ _ _ c.loop-at.invariant.answered (found_none _ (rw (take_rest c.args.bytes.now c.loop-at.searched) at c.in_default.ensures)) pulled is))
 
 pub returns-clause-pushed : goal.returns-clause-pushed
 returns-clause-pushed g c pulled is =
-    let all = answered-all _ _ _ _ _ _ _ _ _ c.loop-at.invariant.answered (found_none _ (rw (take_rest c.args.bytes.now c.loop-at.searched) at c.in_default.ensures)) pulled is in
+    let all = answered-all _ _ _ _ _ _ _ _ _ _ _ c.loop-at.invariant.answered (found_none _ (rw (take_rest c.args.bytes.now c.loop-at.searched) at c.in_default.ensures)) pulled is in
     search (rules, pushed_kept)
+
+pub returns-clause-worked : goal.returns-clause-worked
+returns-clause-worked g c pulled is =
+    opened-all _ _ _ _ _ _ _ _ _ _ _ c.loop-at.invariant.answered (found_none _ (rw (take_rest c.args.bytes.now c.loop-at.searched) at c.in_default.ensures)) pulled is
 
 pub returns-clause-progress : goal.returns-clause-progress
 returns-clause-progress g c pulled is =
     rw (all_begun c.args.bytes.now c.loop-at.start c.loop-at.searched c.loop-at.invariant.start)
-    (answered-left _ _ _ _ _ _ _ _ _ c.loop-at.invariant.answered (found_none _ (rw (take_rest c.args.bytes.now c.loop-at.searched) at c.in_default.ensures)) pulled is)
+    (answered-left _ _ _ _ _ _ _ _ _ _ _ c.loop-at.invariant.answered (found_none _ (rw (take_rest c.args.bytes.now c.loop-at.searched) at c.in_default.ensures)) pulled is)

@@ -11,7 +11,7 @@ invariant-loop-at g l = record {
   capacity : l.frontier.capacity ≡ l.initial.frontier.capacity;
   few : l.self.lines ≤ l.initial.self.lines + l.start;
   answered : IsAnswering (loaded_tree l.tree) l.initial.self l.self
-      (g.K.Sink.written l.initial.sink) (g.K.Sink.written l.sink)
+      (g.K.Sink.written l.initial.sink) (g.K.Sink.written l.sink) l.initial.frontier.opened l.frontier.opened
       (take l.kept l.bytes) (drop l.kept l.bytes) (take (l.searched - l.start) (drop l.start l.bytes)) (drop l.searched l.bytes);
   flushed : l.is_pushed ≡ false → g.K.Sink.waits l.sink ≡ g.K.Sink.waits l.initial.sink;
 }
