@@ -14,7 +14,7 @@ use Rattle.rt_filter.specs.Stages.{HasNoLineFeed, IsAnswering, line_feed, lines_
 use Rattle.rt_filter.proofs.LineLemmas.{IsCutAt, begun-found, begun-none, completed-all, completed-append, completed-ended}
 use Rattle.rt_filter.proofs.{LineLemmas.{completed-ended_none, completed-found, completed-none, found}, PushLemmas.{pushed_cut}}
 use Rattle.rt_filter.proofs.PushLemmas.{nothing_pushed, pushed_next, pushed_none, pushed_prefix}
-use Rattle.rt_filter.proofs.WorkLemmas.{counts_none, counts_then, opened_by_lines-append}
+use Rattle.rt_filter.proofs.WorkLemmas.{counts_none, counts_then, opened_by_lines-append, opened_by_lines-one}
 use Rattle.rt_search.specs.Work.{CountsOn}
 use Rattle.rt_filter.specs.Works.{opened_by_line, opened_by_lines}
 use Rattle.std.proofs.Common.{rules}
@@ -136,7 +136,9 @@ module _ (loaded : Loaded) (old progress : Progress) (old_out out : Option (List
         ap (opened_by_lines loaded) (completed-append pulled s.front (take n rest ++ line_feed ∷ []) false)
         ∙ opened_by_lines-append loaded (completed pulled s.front false) (completed (pulled ++ s.front) (take n rest ++ line_feed ∷ []) false)
         ∙ ap (λ lines. opened_by_lines loaded (completed pulled s.front false) + opened_by_lines loaded lines) (completed-found (pulled ++ s.front) (take n rest) [] false cut.clear)
-        ∙ ap (λ parsed. opened_by_lines loaded (completed pulled s.front false) + opened_by_line loaded parsed) (sym (asked-is pulled is))
+        ∙ ap (λ n. opened_by_lines loaded (completed pulled s.front false) + n)
+        (opened_by_lines-one loaded (length (numbered_lines (pulled ++ s.front) false) + 1, begun_line (pulled ++ s.front) ++ take n rest)
+        ∙ ap (opened_by_line loaded) (sym (asked-is pulled is)))
 
     pub answered-more : (left : List ℕ) (now : Progress) (sent : Option (List ℕ)) (total : ℕ) → left ≡ drop (n + 1) rest
         → now ≡ record { lines = progress.lines + 1; bad = progress.bad || is_fault asked; is_too_long = false }
@@ -156,8 +158,8 @@ module _ (loaded : Loaded) (old progress : Progress) (old_out out : Option (List
               ap (output loaded) (completed-append pulled s.front ended false) ∙ output-append loaded (completed pulled s.front false) (completed (pulled ++ s.front) ended false)
               ∙ ap (λ zs. output loaded (completed pulled s.front false) ++ zs) one in (
                 rw (e, line-is, ← append_assoc pulled s.front ended) (after-line (pulled ++ s.front) (take n rest) cut.clear progress begun sent_so_far.0 short),
-                rw all (pushed_then old_out out sent _ _ sent_so_far.1.0 w),
-                rw (opened-more pulled is) (counts_then old_opened opened total _ _ sent_so_far.1.1 count),
+                rw all (pushed_then old_out out sent _ _ sent_so_far.1 w),
+                rw (opened-more pulled is) (counts_then old_opened opened total _ _ sent_so_far.2 count),
               );
         }
 

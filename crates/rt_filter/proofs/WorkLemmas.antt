@@ -1,9 +1,9 @@
 -- A query opens as many nodes as its cost line reports, whichever geometry answers it.
-use Rattle.std.proofs.Common.{◌≡◌, ◌∙◌, ◌+◌, ◌<◌, ◌^◌, ◌%◌, ◌==◌, ℕ, Bool, true, false, List, [], ◌∷◌, ◌++◌, Option, Some, None, refl}
+use Rattle.std.proofs.Common.{◌≡◌, ◌∙◌, ◌+◌, ◌^◌, ◌%◌, ℕ, true, false, List, [], ◌∷◌, ◌++◌, Option, Some, None, refl}
 use Rattle.std.proofs.{Common.{ap, arith, sym}, lemmas.Bool.Decides.{nat_tests}, lemmas.Nat.{and_mask}}
 use Rattle.std.proofs.lemmas.List.Sums.{sum_by-append}
 use Rattle.std.specs.{Prelude.{IfOk, Result, Ok, Err}, Result.{result_and}}
-use Rattle.rt_geo.specs.{Entries.{HasLayer}, Layers.{HasSome, all_layers, disjoint, subset}, Laws.{Meaning, guided, unscored_meaning}}
+use Rattle.rt_geo.specs.{Layers.{HasSome, all_layers, disjoint, subset}, Laws.{Meaning, guided, unscored_meaning}}
 use Rattle.rt_geo.specs.{Discs.{MeansBoth, disc_meaning}, OnLayers.{on_layers_accepts, on_layers_state}, Orders.{by_id, order_estimate, order_score}}
 use Rattle.rt_geo.specs.{Regions.{region_accepts, region_state}, declared.geometry.Info.{Info}, declared.geometry.Verdict.{Verdict}}
 use Rattle.rt_geo.specs.declared.{disc.Disc.{Disc}, geometry.Within.{Within}, layers.Layers.{Layers}, order.Order.{Order}}
@@ -12,7 +12,7 @@ use Rattle.rt_geo.specs.declared.region.Region.TheVariants as region
 use Rattle.rt_tree.specs.{Packed.{IsSound, Packed}, declared.tree.Node.{Node}}
 use Rattle.rt_search.specs.{Answers.{answers}, Work.{CountsOn, info_of_node, opened_by_search}}
 use Rattle.rt_search.proofs.Agreeing.{counts_same, searches_same}
-use Rattle.rt_filter.specs.{Replies.{Loaded, meaning_of, parsed_line}, Reports.{opened_for, opened_in_shape, scored_up_to}}
+use Rattle.rt_filter.specs.{Replies.{Loaded, meaning_of, parsed_line, tree_of}, Stages.{loaded_tree}, Reports.{opened_for, opened_in_shape, scored_up_to}}
 use Rattle.rt_filter.specs.{Works.{opened_by_line, opened_by_lines}, declared.query.Report.{Report, TheVariants.{Answers, Count}}}
 use Rattle.rt_filter.proofs.LayerLemmas.{answers-all, with_bits}
 
@@ -77,7 +77,9 @@ module _ (t : Packed) (sound : IsSound t) (asked : Region) where
       → opened_by_search (scored_up_to limit (meaning_of asked layers order)) t limit ≡ opened_by_search (meaning_of asked layers order) t limit
   on_layers_unscored layers order (Some limit) = refl
   on_layers_unscored layers order None =
-      searches_same t _ _ None sound refl (λ bound none v w n some. rw none (grind (arith, layers_alike layers v w n)))
+      let second = meaning_of asked layers order in
+      searches_same t (unscored_meaning second) second None sound refl
+      (λ bound none v w n some. rw none (grind (arith, layers_alike layers v w n)))
 
   -- as many as the cost of the query on these layers
   pub opened_on_layers : (layers : Layers) (report : Report)
@@ -130,7 +132,16 @@ module _ (t : Packed) (sound : IsSound t) (asked : Region) where
         ∙ ap (λ region. guided (region_accepts region) (region_state region) (order_score order) (order_estimate order)) (sym r))
         ∙ opened_scored order limit)
 
+-- the tree is the packed one of its own entries
+pub opened_packed : (t : Packed) → t ≡ tree_of (loaded_tree t) → (asked : Region) (layers : Layers) (report : Report)
+    → opened_for t asked layers report ≡ opened_for (tree_of (loaded_tree t)) asked layers report
+opened_packed t packed asked layers report = ap (λ tree. opened_for tree asked layers report) packed
+
 -- ---- lines
+
+pub opened_by_lines-one : (loaded : Loaded) (line : ℕ × List ℕ)
+    → opened_by_lines loaded (line ∷ []) ≡ opened_by_line loaded (parsed_line line.1)
+opened_by_lines-one loaded line = omega arith
 
 pub opened_by_lines-append : (loaded : Loaded) (xs ys : List (ℕ × List ℕ))
     → opened_by_lines loaded (xs ++ ys) ≡ opened_by_lines loaded xs + opened_by_lines loaded ys

@@ -114,8 +114,8 @@ fn push_in_region<K: Sink>(
     ensures pushed { let accepts = on_layers_accepts (region_accepts region.now) layers in
         Pushed K.written K.failed sink.old sink.new result
         (report_on tree.now.entries accepts line report) }
-    ensures worked { IfOk result (λ left.
-        CountsOn frontier.opened (opened_for tree.now region.now layers report) left.opened) }
+    ensures worked { let packed = tree_of (loaded_tree tree.now) in IfOk result (λ left.
+        CountsOn frontier.opened (opened_for packed region.now layers report) left.opened) }
     ensures capacity { IfOk result (λ left. left.capacity ≡ frontier.capacity) }
 {
     // (called, so that it is known which layers the entries have)

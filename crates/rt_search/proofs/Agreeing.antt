@@ -1,5 +1,5 @@
 -- Two meanings that open the same nodes of a tree, whatever was answered for their parents.
-use Rattle.std.proofs.Common.{◌≡◌, ◌∙◌, ◌+◌, ℕ, zero, suc, Bool, cond, List, [], ◌∷◌, length, Option, Some, None, refl, ap, arith}
+use Rattle.std.proofs.Common.{◌≡◌, ◌∙◌, ℕ, zero, suc, Bool, cond, List, [], ◌∷◌, Option, Some, None, refl, ap, arith}
 use Rattle.std.proofs.lemmas.List.Sums.{sum_by-cons}
 use Rattle.std.specs.{List.{AllByRecursion, sum_by}}
 use Rattle.rt_geo.specs.{Layers.{HasSome}, Laws.{Meaning}, declared.geometry.Verdict.{Verdict}}
