@@ -1,6 +1,6 @@
 //! What the words of the command line ask for.
 
-ghost use Rattle.std.specs.Prelude.{◌≡◌, ◌≤◌, ℕ, pos, [], Some, IfOk, IfErr, MatchResult, codes, option_map, true, false};
+ghost use Rattle.std.specs.Prelude.{◌≡◌, ◌≤◌, ℕ, pos, [], Some, IfOk, IfErr, MatchResult, codes, option_map, IsTrue, false};
 ghost use Rattle.clap.specs.Words.{app_of, fault_of, first_of, found_of, matches_of, rows_of, rule_of, takes};
 ghost use Rattle.rt_tree.specs.Entries.{most_entries};
 ghost use Rattle.rt_command.specs.Choices.{greatest_fanout, least_fanout};
@@ -89,7 +89,7 @@ pub fn settings_of(alloc: Global, words: &[Name]) -> Result<Invocation, ArgFault
 
     // Where clap takes the words, only memory can be wanting.
     ensures takes { IfErr result
-        (λ fault. takes filter_app words.now ≡ true → fault ≡ ArgFault.Memory) }
+        (λ fault. IsTrue (takes filter_app words.now) → fault ≡ ArgFault.Memory) }
 {
     let matches = parse(alloc, words)?;
     Ok(Invocation {
@@ -106,7 +106,7 @@ fn parse<'a>(alloc: Global, words: &'a [Name]) -> Result<ArgMatches<'a>, ArgFaul
     ensures faults { let kinds = fault_of filter_app words.entry.now in
         MatchResult result (λ _. kinds ≡ []) (IsFaultAmong kinds) }
     ensures takes { IfErr result
-        (λ fault. takes filter_app words.entry.now ≡ true → fault ≡ ArgFault.Memory) }
+        (λ fault. IsTrue (takes filter_app words.entry.now) → fault ≡ ArgFault.Memory) }
 {
     let command = filter_command(alloc)?;
     Ok(command.try_get_matches_from(words)?)

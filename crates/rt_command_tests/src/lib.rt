@@ -9,3 +9,5 @@ mod invocation;
 mod memory;
 #[cfg(test)]
 mod settings;
+#[cfg(test)]
+mod surface;

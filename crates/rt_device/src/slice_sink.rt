@@ -1,7 +1,7 @@
 //! Room in memory as a sink.
 
 ghost use Rattle.std.specs.{Io.KnownBytes.{Keeps}, Prelude.{◌≡◌, ◌+◌, ◌-◌, ◌<◌, ◌≤◌, ◌^◌, ◌↔◌, ◌||◌, [], Some, IfOk}};
-ghost use Rattle.std.specs.Prelude.{IsErr, nat_lt, OnOk, OnErr, length, min, unwrap_or, if◌then◌else◌, true, false};
+ghost use Rattle.std.specs.Prelude.{IsErr, nat_lt, OnOk, OnErr, length, min, unwrap_or, if◌then◌else◌, IsTrue, false};
 ghost use Rattle.std.specs.Result.{result_unwrap_or};
 ghost use Rattle.rt_device.specs.Devices.{IsSameIfTold, Pushes};
 
@@ -74,7 +74,7 @@ impl<'a> SliceSink<'a> {
     // Counts a call, and returns whether it is the one that fails.
     fn fails(&mut self) -> bool
         requires { self.old.failures < 2 ^ 64 - 1 }
-        ensures which { (result ≡ true) ↔ (self.old.fails_in ≡ 1) }
+        ensures which { IsTrue result ↔ (self.old.fails_in ≡ 1) }
         ensures counted { self.new ≡ record self.old {
           fails_in = self.old.fails_in - 1;
           failures = self.old.failures + (if result then 1 else 0);

@@ -1,12 +1,11 @@
 //! Readers and writers that fail once and work afterwards: each failure is told and counted, and none is tried
 //! again behind the caller's back.
 
+use crate::expect::expect_eq;
 use rt_device::{
     ReadFault, ReadSource, Sink, SliceSink, SliceSource, Source, WriteFault, WriteSink,
 };
-use std::fmt::Debug;
 use std::io::{self, Read, Write};
-use std::process::Abort;
 
 /// A reader and writer that counts its calls. The first one fails, as if a signal had come; each later one moves a
 /// byte.
@@ -41,11 +40,6 @@ impl Write for FailsFirst {
     fn flush(&mut self) -> io::Result<()> {
         self.called()
     }
-}
-
-// The two are equal. It is a call, as the proof of a test grows with the square of the comparisons that stand in it.
-fn expect_eq<T: PartialEq + Debug + Drop>(rt: &impl Abort, found: T, want: T) {
-    assert_eq!(rt; found, want);
 }
 
 #[test]

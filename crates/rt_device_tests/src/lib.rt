@@ -3,3 +3,7 @@
 
 #[cfg(test)]
 mod devices;
+#[cfg(test)]
+mod expect;
+#[cfg(test)]
+mod surface;

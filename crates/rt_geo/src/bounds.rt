@@ -1,6 +1,6 @@
 //! Boxes of 32-bit coordinates.
 
-ghost use Rattle.std.specs.{Option.{SomeIff}, Prelude.{◌≡◌, ◌∷◌, [], true}};
+ghost use Rattle.std.specs.{Option.{SomeIff}, Prelude.{◌≡◌, ◌∷◌, [], IsTrue}};
 ghost use Rattle.rt_geo.specs.Boxes.{IsLeastAround, IsRect, rect_of, plane, area, complement, hull, inside, overlaps};
 ghost use Rattle.rt_geo.specs.Distances.{rect_at};
 
@@ -24,7 +24,7 @@ pub struct Bounds {
 }
 
 impl Model for Bounds {
-    ghost use Rattle.std.specs.Prelude.{◌≡◌, true};
+    ghost use Rattle.std.specs.Prelude.{◌≡◌, IsTrue};
     ghost use Rattle.rt_geo.specs.Boxes.{IsRect, Rect, inside, plane, rect_of};
 
     ghost Value = { Rect };
@@ -33,7 +33,7 @@ impl Model for Bounds {
 
     ghost invariant = { λ b. record {
       box : IsRect (rect_of b.min_x b.max_x b.min_y b.max_y);
-      coordinates : inside (rect_of b.min_x b.max_x b.min_y b.max_y) plane ≡ true;
+      coordinates : IsTrue (inside (rect_of b.min_x b.max_x b.min_y b.max_y) plane);
     } };
 
     ghost inverse = { λ r.
@@ -74,7 +74,7 @@ impl Bounds {
     pub fn min_x(&self) -> i32
         ensures value { result ≡ self.now.min_x }
         ensures valid { IsRect self.now }
-        ensures coordinates { inside self.now plane ≡ true }
+        ensures coordinates { IsTrue (inside self.now plane) }
     {
         self.min_x
     }
@@ -83,7 +83,7 @@ impl Bounds {
     pub fn max_x(&self) -> i32
         ensures value { result ≡ self.now.max_x }
         ensures valid { IsRect self.now }
-        ensures coordinates { inside self.now plane ≡ true }
+        ensures coordinates { IsTrue (inside self.now plane) }
     {
         self.max_x
     }
@@ -92,7 +92,7 @@ impl Bounds {
     pub fn min_y(&self) -> i32
         ensures value { result ≡ self.now.min_y }
         ensures valid { IsRect self.now }
-        ensures coordinates { inside self.now plane ≡ true }
+        ensures coordinates { IsTrue (inside self.now plane) }
     {
         self.min_y
     }
@@ -101,7 +101,7 @@ impl Bounds {
     pub fn max_y(&self) -> i32
         ensures value { result ≡ self.now.max_y }
         ensures valid { IsRect self.now }
-        ensures coordinates { inside self.now plane ≡ true }
+        ensures coordinates { IsTrue (inside self.now plane) }
     {
         self.max_y
     }
@@ -129,7 +129,7 @@ fn ends(bounds: Bounds) -> i32x4
     ensures value { result
         ≡ bounds.min_x ∷ bounds.min_y ∷ complement bounds.max_x ∷ complement bounds.max_y ∷ [] }
     ensures valid { IsRect bounds }
-    ensures coordinates { inside bounds plane ≡ true }
+    ensures coordinates { IsTrue (inside bounds plane) }
 {
     sides(bounds) ^ i32x4::from_array(MAXIMUM_LANES)
 }
@@ -140,7 +140,7 @@ fn facing_ends(bounds: Bounds) -> i32x4
     ensures value { result
         ≡ bounds.max_x ∷ bounds.max_y ∷ complement bounds.min_x ∷ complement bounds.min_y ∷ [] }
     ensures valid { IsRect bounds }
-    ensures coordinates { inside bounds plane ≡ true }
+    ensures coordinates { IsTrue (inside bounds plane) }
 {
     sides(bounds).swizzle([2, 3, 0, 1]) ^ i32x4::from_array(MAXIMUM_LANES)
 }
@@ -149,7 +149,7 @@ fn facing_ends(bounds: Bounds) -> i32x4
 fn sides(bounds: Bounds) -> i32x4
     ensures value { result ≡ bounds.min_x ∷ bounds.min_y ∷ bounds.max_x ∷ bounds.max_y ∷ [] }
     ensures valid { IsRect bounds }
-    ensures coordinates { inside bounds plane ≡ true }
+    ensures coordinates { IsTrue (inside bounds plane) }
 {
     i32x4::from_array([bounds.min_x, bounds.min_y, bounds.max_x, bounds.max_y])
 }
@@ -159,7 +159,7 @@ fn sides(bounds: Bounds) -> i32x4
 pub(crate) fn mins(bounds: Bounds) -> i32x2
     ensures value { result ≡ bounds.min_x ∷ bounds.min_y ∷ [] }
     ensures valid { IsRect bounds }
-    ensures coordinates { inside bounds plane ≡ true }
+    ensures coordinates { IsTrue (inside bounds plane) }
 {
     sides(bounds).swizzle([0, 1])
 }
@@ -177,7 +177,7 @@ pub fn hull(a: Bounds, b: Bounds) -> Bounds
     ensures value { result ≡ hull a b }
     ensures least { IsLeastAround a b result }
     ensures valid { IsRect result }
-    ensures coordinates { inside result plane ≡ true }
+    ensures coordinates { IsTrue (inside result plane) }
 {
     Bounds {
         min_x: a.min_x.min(b.min_x),

@@ -83,9 +83,7 @@ impl Geometry for Disc {
     ghost use Rattle.rt_geo.specs.{Lemmas.Guided.{guided-lawful}, Lemmas.Orders.{order-admissible}};
     ghost use Rattle.rt_geo.specs.Lemmas.{Laws.{IsUnscored-never}, Shapes.{disc-faithful}};
 
-    ghost lawful = { λ d. guided-lawful (disc_accepts d) (disc_state d)
-        (order_score (near d.centre)) (order_estimate (near d.centre)) (disc-faithful d)
-        (order-admissible (near d.centre)) };
+    ghost lawful = { λ d. guided-lawful (disc-faithful d) (order-admissible (near d.centre)) };
 
     ghost no_scores = { λ d. IsUnscored-never (order_estimate (near d.centre)) };
 }

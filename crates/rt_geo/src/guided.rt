@@ -32,8 +32,7 @@ impl<S: Shape, R: Rank> Geometry for Guided<S, R> {
 
     ghost use Rattle.rt_geo.specs.Lemmas.Guided.{guided-lawful};
 
-    ghost lawful = { λ g. guided-lawful (S.accepts g.shape) (S.state g.shape)
-        (R.score g.rank) (R.estimate g.rank) (S.faithful g.shape) (R.admissible g.rank) };
+    ghost lawful = { λ g. guided-lawful (S.faithful g.shape) (R.admissible g.rank) };
 
     ghost no_scores = { λ g. R.no_scores g.rank };
 }

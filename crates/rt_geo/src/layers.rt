@@ -1,6 +1,6 @@
 //! Layers: what kind of thing each box stands for, given by a number.
 
-ghost use Rattle.std.specs.Prelude.{◌≡◌, ◌≤◌, ◌==◌, ◌||◌, ℕ, Decides, true, false};
+ghost use Rattle.std.specs.Prelude.{◌≡◌, ◌≤◌, ◌==◌, ◌||◌, ◌↔◌, ℕ, IsTrue, false};
 ghost use Rattle.rt_geo.specs.Layers.{all_layers, disjoint, has, most_layer, only, subset, union};
 
 /// A set of layers, which are the numbers from 0 to 63.
@@ -57,8 +57,8 @@ impl Layers {
     /// Whether no layer is in both sets.
     pub fn is_disjoint(self, other: Layers) -> bool
         ensures value { result ≡ disjoint self other }
-        ensures none { Decides result
-            ((layer : ℕ) → has self layer ≡ true → has other layer ≡ false) }
+        ensures none { IsTrue result
+            ↔ ((layer : ℕ) → IsTrue (has self layer) → has other layer ≡ false) }
     {
         self.bits & other.bits == 0
     }
@@ -66,8 +66,8 @@ impl Layers {
     /// Whether each layer of this set is in the other.
     pub fn is_subset(self, other: Layers) -> bool
         ensures value { result ≡ subset self other }
-        ensures each { Decides result
-            ((layer : ℕ) → has self layer ≡ true → has other layer ≡ true) }
+        ensures each { IsTrue result
+            ↔ ((layer : ℕ) → IsTrue (has self layer) → IsTrue (has other layer)) }
     {
         self.bits & other.bits == self.bits
     }

@@ -4,7 +4,7 @@
 //! four corners of the box for each edge. One corner is enough: the one farthest to the left of the edge shows
 //! whether the box meets the half-plane of the edge, the opposite one whether it lies in it.
 
-ghost use Rattle.std.specs.{List.{list_all}, Prelude.{◌≡◌, ◌≢◌, ◌<◌, ◌≤◌, ◌^◌, ◌-◌, true, not, ◌&&◌, IfSome, is_some}};
+ghost use Rattle.std.specs.{List.{list_all}, Prelude.{◌≡◌, ◌≢◌, ◌<◌, ◌≤◌, ◌^◌, ◌-◌, IsTrue, not, ◌&&◌, IfSome, is_some}};
 ghost use Rattle.std.specs.Prelude.{◌-ℤ◌, ◌*ℤ◌, unsigned_abs, ◌∷◌, length, slice_index_or, count_by};
 ghost use Rattle.rt_geo.specs.{Boxes.{IsRect}, Lemmas.HalfPlanes.{corner, leftmost_corner, rightmost_corner}};
 ghost use Rattle.rt_geo.specs.{Lemmas.Regions.{region-faithful}, Polygons.{HoldsEachPoint, IsPolygonOf, IsStrictlyConvex}};
@@ -48,7 +48,7 @@ pub struct Polygon {
 }
 
 impl Model for Polygon {
-    ghost use Rattle.std.specs.Prelude.{◌≡◌, true, List};
+    ghost use Rattle.std.specs.Prelude.{◌≡◌, IsTrue, List};
     ghost use Rattle.rt_geo.specs.Polygons.{bounding_box, has_polygon_count, is_strictly_convex};
     ghost use Rattle.rt_geo.specs.declared.distance.Point.{Point};
 
@@ -57,8 +57,8 @@ impl Model for Polygon {
     ghost view = { λ p. p.vertices.items };
 
     ghost invariant = { λ p. record {
-      count : has_polygon_count p.vertices.items ≡ true;
-      convex : is_strictly_convex p.vertices.items ≡ true;
+      count : IsTrue (has_polygon_count p.vertices.items);
+      convex : IsTrue (is_strictly_convex p.vertices.items);
       bounds : p.bounds ≡ bounding_box p.vertices.items;
     } };
 }
@@ -125,8 +125,8 @@ impl Polygon {
     /// The vertices in turn, counterclockwise.
     pub(crate) fn vertices(&self) -> &[Point]
         ensures value { result.now ≡ self.now }
-        ensures count { has_polygon_count result.now ≡ true }
-        ensures convex { is_strictly_convex result.now ≡ true }
+        ensures count { IsTrue (has_polygon_count result.now) }
+        ensures convex { IsTrue (is_strictly_convex result.now) }
     {
         &self.vertices
     }
@@ -144,6 +144,8 @@ impl Shape for Polygon {
 
     ghost state = { λ s. region_state (region.Polygon s) };
 
+    // Kept out of line: where the region is matched for each box, in line it made all others slower.
+    #[inline(never)]
     fn within(&self, info: &Info) -> Within
         ensures state { result ≡ region_state (region.Polygon self.now) info.now }
         ensures apart { result ≡ Not → SharesNoPoint self.now info.now.bounds }
@@ -299,8 +301,8 @@ fn left_of(edge: Edge, points: &[Point]) -> usize
 /// The polygon with these vertices.
 #[inline(always)]
 fn of_convex(points: &[Point]) -> Polygon
-    requires count { has_polygon_count points.now ≡ true }
-    requires convex { is_strictly_convex points.now ≡ true }
+    requires count { IsTrue (has_polygon_count points.now) }
+    requires convex { IsTrue (is_strictly_convex points.now) }
     ensures value { result ≡ points.now }
     ensures convex { IsStrictlyConvex result }
 {

@@ -3,7 +3,7 @@
 //! What is the same for all boxes is computed once: where each edge leads, how far its line lies from the origin,
 //! and which corner of a box lies farthest to its left. The products of short edges with coordinates have 63 bits.
 
-ghost use Rattle.std.specs.{List.{list_all}, Prelude.{◌≡◌, ◌≢◌, ◌<◌, ◌≤◌, ◌^◌, ◌*ℤ◌, ◌-ℤ◌, true, not, ◌&&◌, length}};
+ghost use Rattle.std.specs.{List.{list_all}, Prelude.{◌≡◌, ◌≢◌, ◌<◌, ◌≤◌, ◌^◌, ◌*ℤ◌, ◌-ℤ◌, IsTrue, not, ◌&&◌, length}};
 ghost use Rattle.std.specs.Prelude.{unsigned_abs, is_some, IfSome, count_by};
 ghost use Rattle.rt_geo.specs.{Boxes.{IsRect}, HalfPlanes.{half_plane_of, half_planes_of, is_coordinate, is_small}};
 ghost use Rattle.rt_geo.specs.HalfPlanes.{is_strictly_left, reaches, sides_of, turned_sides_of};
@@ -43,7 +43,7 @@ pub struct PreparedPolygon {
 }
 
 impl Model for PreparedPolygon {
-    ghost use Rattle.std.specs.{List.{list_all}, Prelude.{◌≡◌, true, List, map}};
+    ghost use Rattle.std.specs.{List.{list_all}, Prelude.{◌≡◌, IsTrue, List, map}};
     ghost use Rattle.rt_geo.specs.HalfPlanes.{edges_from_last, half_plane_of};
     ghost use Rattle.rt_geo.specs.Polygons.{bounding_box, has_polygon_count, is_strictly_convex};
     ghost use Rattle.rt_geo.specs.{ShortEdges.{has_short_edges}, declared.distance.Point.{Point}};
@@ -53,9 +53,9 @@ impl Model for PreparedPolygon {
     ghost view = { λ p. p.vertices.items };
 
     ghost invariant = { λ p. record {
-      count : has_polygon_count p.vertices.items ≡ true;
-      convex : is_strictly_convex p.vertices.items ≡ true;
-      short : has_short_edges p.vertices.items ≡ true;
+      count : IsTrue (has_polygon_count p.vertices.items);
+      convex : IsTrue (is_strictly_convex p.vertices.items);
+      short : IsTrue (has_short_edges p.vertices.items);
       bounds : p.bounds ≡ bounding_box p.vertices.items;
       half_planes : p.half_planes.items ≡ map half_plane_of (edges_from_last p.vertices.items);
     } };
@@ -88,7 +88,7 @@ fn state_by_half_planes(
     overlapping: bool,
     lies_inside: bool,
 ) -> Within
-    requires { list_all is_small half_planes.now ≡ true }
+    requires { IsTrue (list_all is_small half_planes.now) }
     ensures value { result
         ≡ state_by (not (overlapping && list_all (reaches (sides_of bounds)) half_planes.now))
         (lies_inside && list_all (reaches (turned_sides_of bounds)) half_planes.now) }
@@ -110,8 +110,8 @@ fn state_by_half_planes(
 /// branchless: which one parts them would be mispredicted.
 #[inline(always)]
 fn all_reach(half_planes: &[HalfPlane], sides: &[i64; 4]) -> bool
-    requires small { list_all is_small half_planes.now ≡ true }
-    requires sides { list_all is_coordinate sides.now ≡ true }
+    requires small { IsTrue (list_all is_small half_planes.now) }
+    requires sides { IsTrue (list_all is_coordinate sides.now) }
     ensures { result ≡ list_all (reaches sides.now) half_planes.now }
 {
     let mut all = true;
@@ -123,8 +123,8 @@ fn all_reach(half_planes: &[HalfPlane], sides: &[i64; 4]) -> bool
 
 /// Whether the corner that the half-plane picks of these sides lies in it.
 fn reaches(half_plane: &HalfPlane, sides: &[i64; 4]) -> bool
-    requires small { is_small half_plane.now ≡ true }
-    requires sides { list_all is_coordinate sides.now ≡ true }
+    requires small { IsTrue (is_small half_plane.now) }
+    requires sides { IsTrue (list_all is_coordinate sides.now) }
     ensures { result ≡ reaches sides.now half_plane.now }
 {
     let x = sides[half_plane.side_x as usize];
@@ -135,7 +135,7 @@ fn reaches(half_plane: &HalfPlane, sides: &[i64; 4]) -> bool
 /// The sides of a box.
 fn sides(bounds: Bounds) -> [i64; 4]
     ensures value { result ≡ sides_of bounds }
-    ensures coordinates { list_all is_coordinate result ≡ true }
+    ensures coordinates { IsTrue (list_all is_coordinate result) }
     ensures valid { IsRect bounds }
 {
     [
@@ -149,7 +149,7 @@ fn sides(bounds: Bounds) -> [i64; 4]
 /// The same from its other end on each axis, so that the opposite corner is picked.
 fn turned_sides(bounds: Bounds) -> [i64; 4]
     ensures value { result ≡ turned_sides_of bounds }
-    ensures coordinates { list_all is_coordinate result ≡ true }
+    ensures coordinates { IsTrue (list_all is_coordinate result) }
 {
     [
         to_i64(bounds.max_x()),
@@ -199,7 +199,7 @@ fn half_planes(first: Point, others: &[Point]) -> Option<ArrayVec<HalfPlane, MOS
 /// would be mispredicted.
 #[inline(always)]
 pub(crate) fn left_of_short(edge: Edge, points: &[Point]) -> usize
-    requires { is_short edge ≡ true }
+    requires { IsTrue (is_short edge) }
     ensures { result ≡ count_by (is_left edge) points.now }
 {
     let half_plane = half_plane(edge);
@@ -213,7 +213,7 @@ pub(crate) fn left_of_short(edge: Edge, points: &[Point]) -> usize
 /// Whether the point lies in the half-plane, and not on its line.
 #[inline(always)]
 fn is_strictly_left(half_plane: &HalfPlane, point: Point) -> bool
-    requires { is_small half_plane.now ≡ true }
+    requires { IsTrue (is_small half_plane.now) }
     ensures { result ≡ is_strictly_left half_plane.now point }
 {
     let x = to_i64(point.x);
@@ -232,7 +232,7 @@ pub(crate) fn is_short(edge: Edge) -> bool
 /// The half-plane to the left of a short edge.
 #[inline(always)]
 fn half_plane(edge: Edge) -> HalfPlane
-    requires { is_short edge ≡ true }
+    requires { IsTrue (is_short edge) }
     ensures { result ≡ half_plane_of edge }
 {
     let along_x = short_difference(edge.to.x, edge.from.x);

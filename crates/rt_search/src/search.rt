@@ -241,8 +241,8 @@ fn gather<G: Geometry>(
     find_all(tree, hits, counted, opened, limit);
 }
 
-// Finds all answers, and puts those up to the limit in order. Out of line, as it is done once a search.
-#[inline(never)]
+// Finds all answers, and puts those up to the limit in order.
+#[inline(always)]
 fn find_all<G: Geometry>(
     tree: &Tree,
     hits: &mut Hits,

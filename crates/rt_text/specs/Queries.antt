@@ -233,7 +233,8 @@ abbrev pub Takes : {X : Type 0} → Result (Taken X) QueryFault → Result X Que
 Takes want (Ok x) left = want ≡ Ok (x, left)
 Takes want (Err cause) left = want ≡ Err cause
 
--- the same of a parser that writes what it has read; at a fault what it wrote is left open
-abbrev pub Reads : {X : Type 0} → Result X QueryFault → Result (Unit {0}) QueryFault → X → Type 0
-Reads want (Ok done) x = want ≡ Ok x
-Reads want (Err cause) x = want ≡ Err cause
+-- the same of a parser that writes the query that it has read; at a fault what it wrote is left open
+abbrev pub Reads : Result Query QueryFault → Result (Unit {0}) QueryFault → Parsed → Type 0
+Reads want (Ok done) (parsed.Query query) = want ≡ Ok query
+Reads want (Ok done) other = ⊥
+Reads want (Err cause) found = want ≡ Err cause

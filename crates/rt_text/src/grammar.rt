@@ -27,6 +27,16 @@ type Judged<T> = Result<T, QueryFault>;
 pub fn parse(line: &[u8]) -> Parsed
     ensures { result ≡ query_of line.now }
 {
+    let mut parsed = Parsed::Skip;
+    parse_into(line, &mut parsed);
+    parsed
+}
+
+/// Writes what [`parse`] returns to `into`, whatever stands there. A query has room for a polygon: where many lines are
+/// parsed into one place, none is copied.
+pub fn parse_into(line: &[u8], into: &mut Parsed)
+    ensures { into.new ≡ query_of line.now }
+{
     let line = match line {
         [rest @ .., b'\r'] => rest,
         _ => line,
@@ -34,43 +44,54 @@ pub fn parse(line: &[u8]) -> Parsed
     let mut words = Words::new(line);
     let verb = match words.next() {
         Some(verb) if !verb.starts_with(b"#") => verb,
-        _ => return Parsed::Skip,
+        _ => {
+            *into = Parsed::Skip;
+            return;
+        }
     };
-    let mut found = Query::Levels;
-    match query(verb, &mut words, &mut found) {
-        Ok(()) => Parsed::Query(found),
-        Err(fault) => Parsed::Fault(fault),
+    if let Err(fault) = query(verb, &mut words, into) {
+        *into = Parsed::Fault(fault);
     }
 }
 
 // ---- queries
 
-// What is found is written where it is to stand: a query has room for a polygon, and each move would copy it.
+// What is found is written where it is to stand, so that it isn't copied.
 
 #[inline(always)]
-fn query(verb: &[u8], words: &mut Words, found: &mut Query) -> Judged<()>
+fn query(verb: &[u8], words: &mut Words, found: &mut Parsed) -> Judged<()>
     ensures { Reads (query verb.now words.old) result found.new }
 {
     if verb == b"levels".as_slice() {
-        *found = Query::Levels;
-        finished(words)
+        levels(words, found)
     } else if verb == b"cost".as_slice() {
-        *found = costed(words)?;
-        Ok(())
+        costed(words, found)
     } else {
         box_query(verb, words, found)
     }
 }
 
-// Kept out of line: only lines with `cost` have need of it.
+// Kept out of line, as the next: a line clears what its own kind has need of, and no other.
 #[inline(never)]
-fn costed(words: &mut Words) -> Judged<Query>
-    ensures { result ≡ map_value cost_of (box_query words.old) }
+fn levels(words: &mut Words, found: &mut Parsed) -> Judged<()>
+    ensures { Reads (map_value (λ end. Query.Levels) (finished words.old)) result found.new }
+{
+    *found = Parsed::Query(Query::Levels);
+    finished(words)
+}
+
+#[inline(never)]
+fn costed(words: &mut Words, found: &mut Parsed) -> Judged<()>
+    ensures { Reads (map_value cost_of (box_query words.old)) result found.new }
 {
     let verb = next_word(words)?;
-    let mut query = Query::Levels;
+    let mut query = Parsed::Skip;
     box_query(verb, words, &mut query)?;
-    Ok(cost_of(query))
+    let Parsed::Query(query) = query else {
+        unreachable!();
+    };
+    *found = Parsed::Query(cost_of(query));
+    Ok(())
 }
 
 // The cost of a find or a count.
@@ -95,7 +116,7 @@ fn cost_of(query: Query) -> Query
 }
 
 #[inline(always)]
-fn box_query(verb: &[u8], words: &mut Words, found: &mut Query) -> Judged<()>
+fn box_query(verb: &[u8], words: &mut Words, found: &mut Parsed) -> Judged<()>
     ensures { Reads (box_query (verb.now ∷ words.old)) result found.new }
 {
     if verb == b"find".as_slice() {
@@ -110,7 +131,7 @@ fn box_query(verb: &[u8], words: &mut Words, found: &mut Query) -> Judged<()>
 }
 
 #[inline(always)]
-fn find(words: &mut Words, found: &mut Query) -> Judged<()>
+fn find(words: &mut Words, found: &mut Parsed) -> Judged<()>
     ensures { Reads (find words.old) result found.new }
 {
     let region = region(words)?;
@@ -118,39 +139,39 @@ fn find(words: &mut Words, found: &mut Query) -> Judged<()>
     let order = order(&region, words)?;
     let limit = limit(words)?;
     finished(words)?;
-    *found = Query::Find {
+    *found = Parsed::Query(Query::Find {
         region,
         order,
         limit,
         layers,
-    };
+    });
     Ok(())
 }
 
 #[inline(always)]
-fn nearest(words: &mut Words, found: &mut Query) -> Judged<()>
+fn nearest(words: &mut Words, found: &mut Parsed) -> Judged<()>
     ensures { Reads (nearest words.old) result found.new }
 {
     let limit = natural_word(words, u64::MAX)?;
     let centre = point(words)?;
     finished(words)?;
-    *found = Query::Find {
+    *found = Parsed::Query(Query::Find {
         region: Region::All(All),
         order: Order::Near(Near(centre)),
         limit: Some(limit),
         layers: Layers::all(),
-    };
+    });
     Ok(())
 }
 
 #[inline(always)]
-fn count(words: &mut Words, found: &mut Query) -> Judged<()>
+fn count(words: &mut Words, found: &mut Parsed) -> Judged<()>
     ensures { Reads (count words.old) result found.new }
 {
     let region = region(words)?;
     let layers = on_list(words)?;
     finished(words)?;
-    *found = Query::Count { region, layers };
+    *found = Parsed::Query(Query::Count { region, layers });
     Ok(())
 }
 
@@ -270,7 +291,8 @@ fn circle(words: &mut Words) -> Judged<Circle>
     Ok(Circle { centre, radius })
 }
 
-#[inline(always)]
+// Kept out of line, as lines with `on` and `cost`.
+#[inline(never)]
 fn polygon(words: &mut Words) -> Judged<Polygon>
     ensures { Takes (polygon words.old) result words.new }
 {

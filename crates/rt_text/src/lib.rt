@@ -5,6 +5,7 @@
 //!   `specs/Tables.antt`, which rests on csv's own words for the records of a text. [`fault_line`] says a fault
 //!   of the table in one line.
 //! - [`parse`] returns what a query line asks for, or its first fault: `query_of` of `specs/Queries.antt`.
+//!   [`parse_into`] writes it where it is to stand.
 //! - [`answer_line`], [`ok_line`], [`level_line`] and [`error_line`] are the lines that a query line is answered
 //!   with (`specs/ReplyLines.antt`). Each is a [`Line`], a text of at most 128 bytes.
 //! - A [`RunFault`] is why a run ended early, with its status and its line (`specs/RunFaults.antt`).
@@ -22,7 +23,7 @@ mod tables;
 mod words;
 
 pub use fault_lines::fault_line;
-pub use grammar::parse;
+pub use grammar::{parse, parse_into};
 pub use line::Line;
 pub use numbers::{NumberFault, number};
 pub use query::{Parsed, Query, QueryFault};

@@ -1,7 +1,7 @@
 //! Numbers as text.
 
 ghost use Rattle.std.specs.{Char.{is_ascii_digit}, List.{list_all}, Prelude.{◌≡◌, ◌≤ℤ◌, ◌<◌, ◌≤◌, ◌^◌, IfOk, IfSome}};
-ghost use Rattle.std.specs.Prelude.{Some, length, min, option_map, ok_or, take, true};
+ghost use Rattle.std.specs.Prelude.{Some, length, min, option_map, ok_or, take, IsTrue};
 ghost use Rattle.std.specs.Str.Parse.{digits_value, without_leading_sign};
 ghost use Rattle.rt_text.specs.Numbers.{digits_number, number_in, number_text};
 
@@ -84,7 +84,7 @@ pub(crate) fn leading_number(text: &[u8]) -> Option<Leading<i64>>
 #[inline(always)]
 fn leading_digits(text: &[u8]) -> Leading<u64>
     ensures within { result.len ≤ length text.now }
-    ensures digits { list_all is_ascii_digit (take result.len text.now) ≡ true }
+    ensures digits { IsTrue (list_all is_ascii_digit (take result.len text.now)) }
     ensures number { result.number ≡ digits_value 10 (take result.len text.now) }
     ensures small { result.number < 10 ^ SHORT }
 {
@@ -104,7 +104,7 @@ fn leading_digits(text: &[u8]) -> Leading<u64>
 #[inline(always)]
 fn leading_group(text: &[u8]) -> Leading<u64>
     ensures within { result.len ≤ min (length text.now) GROUP }
-    ensures digits { list_all is_ascii_digit (take result.len text.now) ≡ true }
+    ensures digits { IsTrue (list_all is_ascii_digit (take result.len text.now)) }
     ensures number { result.number ≡ digits_value 10 (take result.len text.now) }
     ensures small { result.number < 10 ^ result.len }
 {
@@ -134,7 +134,7 @@ fn all_digits(text: &[u8]) -> bool
 #[inline(always)]
 fn written(digits: &[u8]) -> u64
     requires long { length digits.now ≡ GROUP }
-    requires digits { list_all is_ascii_digit digits.now ≡ true }
+    requires digits { IsTrue (list_all is_ascii_digit digits.now) }
     ensures value { result ≡ digits_value 10 digits.now }
     ensures small { result < 10 ^ GROUP }
 {

@@ -6,7 +6,7 @@
 //! layer, which is 0 where it doesn't stand.
 
 ghost use Rattle.std.specs.{List.{slice_index_or}, Prelude.{◌≡◌, ◌≤ℤ◌, ◌<◌, ◌≤◌, ◌++◌, ◌∷◌, [], length, ◌⊎◌, List, ℕ}};
-ghost use Rattle.std.specs.Prelude.{pos, unsigned_abs, Result, Ok, Some, None, IsOkAnd, IfOk, IfErr, OnErr, OnOk, All, true};
+ghost use Rattle.std.specs.Prelude.{pos, unsigned_abs, Result, Ok, Some, None, IsOkAnd, IfOk, IfErr, OnErr, OnOk, All, IsTrue};
 ghost use Rattle.csv.specs.{Reading.{ReadRecord, has_failed}, Records.{fields_of}};
 ghost use Rattle.rt_geo.specs.{Entries.{HasLayer}, Layers.{most_layer}, declared.entry.Entry.{Entry}};
 ghost use Rattle.rt_tree.specs.Entries.{first_repeat, most_entries};
@@ -143,7 +143,7 @@ fn next_record<R: Read>(records: &mut Reader<R>, fields: &mut ByteRecord) -> Jud
     ensures reads { IfOk result (λ found.
         ReadRecord R.remaining records.old records.new found (fields_of fields.new)) }
     ensures reading { OnOk result (IsReading records.new) }
-    ensures failed { OnErr result (has_failed records.new ≡ true) }
+    ensures failed { OnErr result (IsTrue (has_failed records.new)) }
     ensures fault { IfErr result
         (λ cause. (cause ≡ TableFault.Read) ⊎ (cause ≡ TableFault.Memory)) }
 {

@@ -2,8 +2,8 @@
 //!
 //! So a search that looks at no layers reads none, and an entry takes no more room than its id, its box and one byte.
 
-ghost use Rattle.std.specs.Prelude.{◌≡◌, ◌==◌, ◌-◌, ◌<◌, ◌++◌, ◌∷◌, [], OnErr, OnOk, Some, get_or, length, map};
-ghost use Rattle.std.specs.Prelude.{List, slice_get, take};
+ghost use Rattle.std.specs.Prelude.{◌≡◌, ◌==◌, ◌-◌, ◌<◌, ◌++◌, ◌∷◌, [], OnErr, OnOk, Some, length, map};
+ghost use Rattle.std.specs.Prelude.{List, slice_get, slice_index, take};
 ghost use Rattle.rt_geo.specs.declared.entry.Entry.{Entry};
 ghost use Rattle.rt_tree.specs.Leaves.{entries_of, without_layer};
 
@@ -106,7 +106,7 @@ impl Entries {
 
     /// The layer of the entry at a place, or 0. Where it isn't looked at, nothing is read.
     pub(crate) fn layer(&self, place: usize) -> u8
-        ensures { result ≡ get_or (map (λ entry. entry.layer) self.now) place 0 }
+        ensures { result ≡ slice_index (map (λ entry. entry.layer) self.now) place }
     {
         match self.layers.get(place) {
             Some(layer) => *layer,

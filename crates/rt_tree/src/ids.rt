@@ -1,7 +1,7 @@
 //! The ids of a table's entries, of which one is found in O(log n) whatever they are.
 
 ghost use Rattle.std.specs.{List.{list_any}, List.Sorted.{IsStrictlySortedBy}, Ordering.{int_cmp, int_eq}};
-ghost use Rattle.std.specs.Prelude.{◌≡◌, ◌≤◌, ◌||◌, ◌↔◌, ℤ, None, IfOk, IfErr, OnOk, OnErr, length, true, false, All};
+ghost use Rattle.std.specs.Prelude.{◌≡◌, ◌≤◌, ◌||◌, ◌↔◌, ℤ, None, IfOk, IfErr, OnOk, OnErr, length, IsTrue, false, All};
 ghost use Rattle.std.specs.Prelude.{IsSorted};
 ghost use Rattle.rt_geo.specs.Entries.{HasBox};
 ghost use Rattle.rt_tree.specs.{Entries.{first_repeat, ids_of, most_entries}, Indexes.{AreIdsOf, keeps}};
@@ -117,7 +117,7 @@ fn ids_of(alloc: Global, entries: &Entries) -> Result<Vec<i64>, AllocError>
 
 // Whether each id is above the one before it.
 fn rises(ids: &[i64]) -> bool
-    ensures { (result ≡ true) ↔ IsStrictlySortedBy int_cmp ids.now }
+    ensures { IsTrue result ↔ IsStrictlySortedBy int_cmp ids.now }
 {
     ids.is_sorted_by(|one, next| one < next)
 }

@@ -1,6 +1,6 @@
 //! Entries with distinct ids.
 
-ghost use Rattle.std.specs.Prelude.{◌≡◌, ◌==◌, ◌<◌, ◌≤◌, ◌++◌, ◌∷◌, ◌↔◌, [], length, slice_get, true, false, Ok, Err};
+ghost use Rattle.std.specs.Prelude.{◌≡◌, ◌==◌, ◌<◌, ◌≤◌, ◌++◌, ◌∷◌, ◌↔◌, [], length, slice_get, IsTrue, false, Ok, Err};
 ghost use Rattle.std.specs.Prelude.{Some, None, IfOk, IfErr, OnOk, OnErr, All};
 ghost use Rattle.rt_geo.specs.Entries.{HasBox, HasLayer};
 ghost use Rattle.rt_tree.specs.{Entries.{IsTable, first_repeat, has_id, most_entries}, Repeats.{ExplainsNoTable}};
@@ -126,7 +126,7 @@ impl Table {
         requires layer { HasLayer entry }
         ensures ok { OnOk result (self.new ≡ self.old ++ entry ∷ []) }
         ensures new { OnOk result (has_id self.old entry.id ≡ false) }
-        ensures repeated { (result ≡ Err PushFault.Repeated) ↔ (has_id self.old entry.id ≡ true) }
+        ensures repeated { (result ≡ Err PushFault.Repeated) ↔ IsTrue (has_id self.old entry.id) }
         ensures err { OnErr result (self.new ≡ self.old) }
     {
         // (read, so that its sides are known to be those of a box)

@@ -6,6 +6,8 @@ mod expect;
 #[cfg(test)]
 mod layered;
 #[cfg(test)]
+mod surface;
+#[cfg(test)]
 mod table;
 #[cfg(test)]
 mod tree;

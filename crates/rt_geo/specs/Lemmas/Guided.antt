@@ -5,10 +5,10 @@ use Rattle.rt_geo.specs.declared.geometry.Info.{Info}
 use Rattle.rt_geo.specs.declared.geometry.Within.{Within}
 
 -- a shape and a rank that keep their laws make a geometry that keeps its own
-pub guided-lawful : (accepts : Extent → Bool) (state : Info → Within) (score : Extent → ℕ) (estimate : Info → ℕ)
+pub guided-lawful : {accepts : Extent → Bool} {state : Info → Within} {score : Extent → ℕ} {estimate : Info → ℕ}
     → IsFaithful accepts state → IsAdmissible score estimate
     → IsLawful (guided accepts state score estimate)
-guided-lawful accepts state score estimate shape rank = record {
+guided-lawful shape rank = record {
   faithful = shape;
   exact = λ i question entry _. rank.exact i question.well_formed entry;
   admissibility = λ i question node b h _. rank.admissibility i question.well_formed node b h;

@@ -1,5 +1,5 @@
 -- A geometry without the scores of its nodes keeps the laws that it keeps with them.
-use Rattle.std.proofs.Common.{◌≡◌, ◌<◌, arith}
+use Rattle.std.proofs.Common.{arith}
 use Rattle.std.proofs.lemmas.Bool.Decides.{nat_tests}
 use Rattle.rt_geo.specs.Laws.{IsLawful, IsUnscored, Meaning, estimate_of, unscored_meaning}
 
