@@ -5,8 +5,8 @@ usage: tests/refusals.py PROGRAM
 
 Whichever growth of memory is refused, and whether those after it are too, the program ends in status 6 with nothing on
 standard output; once the table is loaded there is none. A refused read is one of the table or a pull, a refused write
-leaves a front of the answers. A read or a write that moves a single byte changes nothing, one that tells a fault on
-standard error among them.
+leaves a front of the answers, and no other write follows it. A read or a write that moves a single byte changes
+nothing, one that tells a fault on standard error among them.
 
 Single calls are tests of the crates, which `rt ci` and `rt test` leave in out/: where one of their growths is refused,
 they check that it is told as want of memory, that nothing else changed and that the same call then succeeds, and say
@@ -184,8 +184,7 @@ def devices(refuser, program):
             if [NO_TABLE] * 3 != found[:3]:
                 wrong.append("the table isn't read")
             yield f"reads, {os.strerror(error)}{', and all after it' * (many > 1)}", len(found), wrong
-    # what is left in the buffer may be written when it is given up, where that can be
-    once = [[(5, part, NOT_WRITTEN), (5, more, NOT_WRITTEN)] for part, more in zip(parts, parts[1:])]
+    once = [[(5, part, NOT_WRITTEN)] for part in parts[:-1]]
     none = [[(5, part, b"")] for part in parts[:-1]]
     for name, error, many, wanted in (
         ("writes", errno.EIO, ONCE, once),
@@ -209,6 +208,20 @@ def long_answers(refuser, program):
             if not (is_front if is_lost else (status, output, told) == answered):
                 wrong.append(f"run {at}: {status}, {len(output)} bytes, {told}")
         yield f"{name}, long answers", len(found), wrong
+
+
+def given_up(refuser, program):
+    """Where all writes fail from one on, two are refused: one of the output, and that of the line on standard error."""
+    refusal = Refusal("write", errno.EIO, FROM_THERE_ON)
+    for name, asked in (("many lines", FILES["lines"]), ("long answers", b"find all\n" * 3)):
+        made = []
+        while True:
+            result, met = refuser.run([program, "many.csv"], refusal, len(made) + 1, asked)
+            if not met:
+                break
+            made.append(met)
+        wrong = [f"run {at}: {met} writes refused" for at, met in enumerate(made, 1) if met != 2]
+        yield f"no write follows one that failed, {name}", len(made), wrong
 
 
 def opens(refuser, program):
@@ -261,6 +274,7 @@ def outcomes(refuser, program):
     yield from after_the_load(refuser, program)
     yield from devices(refuser, program)
     yield from long_answers(refuser, program)
+    yield from given_up(refuser, program)
     yield from opens(refuser, program)
     yield from files_first(refuser, program)
     yield from short(refuser, program)

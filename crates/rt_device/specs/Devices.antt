@@ -1,30 +1,26 @@
 -- What a pull and a push do to the bytes that a device tells.
 use Rattle.std.specs.Prelude.{◌≡◌, ◌+◌, ℕ, Bool, List, take, Option, Some, IfSome, Result, MatchResult}
-use Rattle.std.specs.Io.KnownBytes.{Appends, Consumes, IsAtEnd}
-
--- where the bytes are still told after a failure, they are as before
-abbrev pub IsSameIfTold : Option (List ℕ) → Option (List ℕ) → Type 0
-IsSameIfTold old new = IfSome new (λ after. IfSome old (λ before. after ≡ before))
+use Rattle.std.specs.Io.KnownBytes.{Appends, Consumes, IsAtEnd, Keeps}
 
 -- a pull of n bytes: the next n bytes stand at the front of the room, none only where none are to come; a failure
--- consumes nothing, where they are still told
+-- consumes nothing, and known bytes stay known
 abbrev pub Pulls : {E : Type 0} → Option (List ℕ) → Option (List ℕ) → Result ℕ E → List ℕ → Type 0
 Pulls old new pulled room =
-    MatchResult pulled (λ n. Consumes old new (take n room) × (n ≡ 0 → IsAtEnd new)) (λ _. IsSameIfTold old new)
+    MatchResult pulled (λ n. Consumes old new (take n room) × (n ≡ 0 → IsAtEnd new)) (λ _. Keeps old new)
 
--- a push of n bytes: the first n bytes were appended; a failure appends nothing, where they are still told
+-- a push of n bytes: the first n bytes were appended; a failure appends nothing, and known bytes stay known
 abbrev pub Pushes : {E : Type 0} → Option (List ℕ) → Option (List ℕ) → Result ℕ E → List ℕ → Type 0
 Pushes old new pushed piece =
-    MatchResult pushed (λ n. Appends old new (take n piece)) (λ _. IsSameIfTold old new)
+    MatchResult pushed (λ n. Appends old new (take n piece)) (λ _. Keeps old new)
 
 -- so many pulls were made, where their number is still told
 abbrev pub PulledTimes : (times : ℕ) → (old new : Option ℕ) → Type 0
 PulledTimes times old new =
     IfSome new (λ now. (before : ℕ) × (old ≡ Some before) × (now ≡ before + times))
 
--- a reader of std, and how many of its calls failed
-pub record Reader (R : Type 0) : Type 0 where
-  pub device : R
+-- a reader or a writer of std, and how many of its calls failed
+pub record Counting (D : Type 0) : Type 0 where
+  pub device : D
   pub failures : ℕ
 
 -- a writer of std, how many of its calls failed, and whether bytes that it took wait for a flush

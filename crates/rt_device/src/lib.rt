@@ -6,6 +6,7 @@
 //! [`SliceSink`] are memory, and fail where they are told to.
 #![tactic(auto)]
 
+mod buffered_sink;
 mod read_source;
 mod sink;
 mod slice_sink;
@@ -13,6 +14,7 @@ mod slice_source;
 mod source;
 mod write_sink;
 
+pub use buffered_sink::BufferedSink;
 pub use read_source::ReadSource;
 pub use sink::{Sink, WriteFault};
 pub use slice_sink::SliceSink;

@@ -14,9 +14,9 @@ pub struct ReadSource<R: Read> {
 }
 
 impl<R: Read> Model for ReadSource<R> {
-    ghost use Rattle.rt_device.specs.Devices.{Reader};
+    ghost use Rattle.rt_device.specs.Devices.{Counting};
 
-    ghost Value = { Reader R };
+    ghost Value = { Counting R };
 
     ghost view = { λ s. record { device = s.reader; failures = s.failures } };
 }

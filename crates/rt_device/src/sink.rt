@@ -2,7 +2,7 @@
 
 ghost use Rattle.std.specs.{Io.KnownBytes.{Keeps}, Prelude.{◌≡◌, ◌+◌, ◌-◌, ◌<◌, ◌≤◌, ◌^◌, ℕ, Bool, List, Option, IfOk}};
 ghost use Rattle.std.specs.Prelude.{OnOk, OnErr, false, length};
-ghost use Rattle.rt_device.specs.Devices.{IsSameIfTold, Pushes};
+ghost use Rattle.rt_device.specs.Devices.{Pushes};
 
 /// A push or a flush that failed.
 #[derive(Clone, Copy, Debug, PartialEq, Eq)]
@@ -10,7 +10,7 @@ pub struct WriteFault;
 
 /// A place that takes bytes in pieces, and may fail.
 pub trait Sink {
-    // The bytes written, where they are told.
+    // The bytes written, where they are known.
     ghost written: { Self → Option (List ℕ) };
 
     // How many calls failed, each push that took no byte among them.
@@ -29,13 +29,12 @@ pub trait Sink {
         ensures took_none { IfOk result (λ n. n ≡ 0 → failed self.new ≡ failed self.old + 1) }
         ensures fails { OnErr result (failed self.new ≡ failed self.old + 1) };
 
-    /// Hands on what was taken. It takes no byte itself.
+    /// Hands on what was taken. It takes no byte itself, and loses none where it fails.
     fn flush(&mut self) -> Result<(), WriteFault>
         requires { failed self.old < 2 ^ 64 - 1 }
-        ensures bytes { OnOk result (Keeps (written self.old) (written self.new)) }
+        ensures bytes { Keeps (written self.old) (written self.new) }
         ensures handed_on { OnOk result (waits self.new ≡ false) }
         ensures went { OnOk result (failed self.new ≡ failed self.old) }
-        ensures lost { OnErr result (IsSameIfTold (written self.old) (written self.new)) }
         ensures fails { OnErr result (failed self.new ≡ failed self.old + 1) };
 
     /// How many calls failed so far.

@@ -3,7 +3,7 @@
 ghost use Rattle.std.specs.{Io.KnownBytes.{Keeps}, Prelude.{◌≡◌, ◌+◌, ◌-◌, ◌<◌, ◌≤◌, ◌^◌, ◌↔◌, ◌||◌, [], Some, IfOk}};
 ghost use Rattle.std.specs.Prelude.{IsErr, nat_lt, OnOk, OnErr, length, min, unwrap_or, if◌then◌else◌, IsTrue, false};
 ghost use Rattle.std.specs.Result.{result_unwrap_or};
-ghost use Rattle.rt_device.specs.Devices.{IsSameIfTold, Pushes};
+ghost use Rattle.rt_device.specs.Devices.{Pushes};
 
 use crate::sink::{Sink, WriteFault};
 use std::marker::Model;
@@ -131,9 +131,8 @@ impl Sink for SliceSink<'_> {
     // As the trait says, and beside that just which flush fails. One that does leaves bytes waiting.
     fn flush(&mut self) -> Result<(), WriteFault>
         requires { self.old.failures < 2 ^ 64 - 1 }
-        ensures bytes { OnOk result (Keeps (Some self.old.bytes) (Some self.new.bytes)) }
+        ensures bytes { Keeps (Some self.old.bytes) (Some self.new.bytes) }
         ensures went { OnOk result (self.new.failures ≡ self.old.failures) }
-        ensures lost { OnErr result (IsSameIfTold (Some self.old.bytes) (Some self.new.bytes)) }
         ensures fails { OnErr result (self.new.failures ≡ self.old.failures + 1) }
         ensures which { IsErr result ↔ (self.old.fails_in ≡ 1) }
         ensures later { (self.new.fails_in ≡ self.old.fails_in - 1)

@@ -2,7 +2,7 @@
 
 ghost use Rattle.std.specs.{Io.KnownBytes.{Keeps}, Result.{result_unwrap_or}};
 ghost use Rattle.std.specs.Prelude.{◌≡◌, ◌+◌, ◌-◌, ◌<◌, ◌≤◌, ◌^◌, ◌||◌, IfOk, nat_lt, OnOk, OnErr, false, length};
-ghost use Rattle.rt_device.specs.Devices.{IsSameIfTold, Pushes};
+ghost use Rattle.rt_device.specs.Devices.{Pushes};
 
 use crate::sink::{Sink, WriteFault};
 use std::io::Write;
@@ -79,11 +79,8 @@ impl<W: Write> Sink for WriteSink<W> {
     // As the trait says, and beside that a flush that failed leaves bytes waiting.
     fn flush(&mut self) -> Result<(), WriteFault>
         requires { self.old.failures < 2 ^ 64 - 1 }
-        ensures bytes { OnOk result
-            (Keeps (W.contents self.old.device) (W.contents self.new.device)) }
+        ensures bytes { Keeps (W.contents self.old.device) (W.contents self.new.device) }
         ensures went { OnOk result (self.new.failures ≡ self.old.failures) }
-        ensures lost { OnErr result
-            (IsSameIfTold (W.contents self.old.device) (W.contents self.new.device)) }
         ensures fails { OnErr result (self.new.failures ≡ self.old.failures + 1) }
         ensures handed_on { OnOk result (self.new.waits ≡ false) }
         ensures waits { OnErr result (self.new.waits ≡ self.old.waits) }

@@ -3,22 +3,35 @@
 
 use crate::expect::expect_eq;
 use rt_device::{
-    ReadFault, ReadSource, Sink, SliceSink, SliceSource, Source, WriteFault, WriteSink,
+    BufferedSink, ReadFault, ReadSource, Sink, SliceSink, SliceSource, Source, WriteFault,
+    WriteSink,
 };
-use std::io::{self, Read, Write};
+use std::io::{self, BufWriter, Read, Write};
 
-/// A reader and writer that counts its calls. The first one fails, as if a signal had come; each later one moves a
-/// byte.
+/// A reader and writer that counts its calls. The first one fails; each later one moves a byte.
 #[derive(Drop)]
 struct FailsFirst {
     calls: u64,
+    kind: io::ErrorKind,
 }
+
+/// As if a signal had come, which std's buffer alone answers by a further try.
+const INTERRUPTED: FailsFirst = FailsFirst {
+    calls: 0,
+    kind: io::ErrorKind::Interrupted,
+};
+
+/// As if nobody read what is written.
+const BROKEN: FailsFirst = FailsFirst {
+    calls: 0,
+    kind: io::ErrorKind::BrokenPipe,
+};
 
 impl FailsFirst {
     fn called(&mut self) -> io::Result<()> {
         self.calls = self.calls.saturating_add(1);
         match self.calls {
-            1 => Err(io::Error::from(io::ErrorKind::Interrupted)),
+            1 => Err(io::Error::from(self.kind)),
             _ => Ok(()),
         }
     }
@@ -44,7 +57,7 @@ impl Write for FailsFirst {
 
 #[test]
 fn a_failed_read_is_told_once(rt: HostRuntime) {
-    let mut source = ReadSource::new(FailsFirst { calls: 0 });
+    let mut source = ReadSource::new(INTERRUPTED);
     expect_eq(&rt, source.failures(), 0);
     expect_eq(&rt, source.pull(&mut [0; 4]), Err(ReadFault));
     expect_eq(&rt, source.failures(), 1);
@@ -54,7 +67,7 @@ fn a_failed_read_is_told_once(rt: HostRuntime) {
 
 #[test]
 fn a_failed_write_is_told_once(rt: HostRuntime) {
-    let mut sink = WriteSink::new(FailsFirst { calls: 0 });
+    let mut sink = WriteSink::new(INTERRUPTED);
     expect_eq(&rt, sink.push(b"ab"), Err(WriteFault));
     expect_eq(&rt, sink.failures(), 1);
     expect_eq(&rt, sink.push(b"ab"), Ok(1));
@@ -64,7 +77,7 @@ fn a_failed_write_is_told_once(rt: HostRuntime) {
 
 #[test]
 fn a_failed_flush_is_told_once(rt: HostRuntime) {
-    let mut sink = WriteSink::new(FailsFirst { calls: 0 });
+    let mut sink = WriteSink::new(INTERRUPTED);
     expect_eq(&rt, sink.flush(), Err(WriteFault));
     expect_eq(&rt, sink.failures(), 1);
     expect_eq(&rt, sink.flush(), Ok(()));
@@ -76,6 +89,67 @@ fn a_write_that_takes_nothing_is_a_failure(rt: HostRuntime) {
     let mut sink = WriteSink::new(&mut [][..]);
     expect_eq(&rt, sink.push(b"a"), Ok(0));
     expect_eq(&rt, sink.failures(), 1);
+}
+
+#[test]
+fn bytes_wait_in_the_buffer_until_a_flush(rt: HostRuntime) -> Result<(), Fail> {
+    let mut out = Vec::new(rt.alloc());
+    let mut sink = BufferedSink::new(BufWriter::with_capacity(rt.alloc(), 4, &mut out)?);
+    expect_eq(&rt, sink.push(b"ab"), Ok(2));
+    expect_eq(&rt, sink.flush(), Ok(()));
+    expect_eq(&rt, sink.push(b"cde"), Ok(3));
+    expect_eq(&rt, sink.failures(), 0);
+    drop(sink);
+    expect_eq(&rt, out.as_slice(), b"abcde".as_slice());
+
+    // (its first write fails, so that the push has made none, and the second flush writes each of the two bytes)
+    let mut writer = BROKEN;
+    let mut sink = BufferedSink::new(BufWriter::with_capacity(rt.alloc(), 4, &mut writer)?);
+    expect_eq(&rt, sink.push(b"ab"), Ok(2));
+    expect_eq(&rt, sink.flush(), Err(WriteFault));
+    expect_eq(&rt, sink.flush(), Ok(()));
+    expect_eq(&rt, sink.failures(), 1);
+    drop(sink);
+    expect_eq(&rt, writer.calls, 4);
+    Ok(())
+}
+
+#[test]
+fn no_write_follows_one_that_failed(rt: HostRuntime) -> Result<(), Fail> {
+    let mut flushed = BROKEN;
+    let mut sink = BufferedSink::new(BufWriter::with_capacity(rt.alloc(), 4, &mut flushed)?);
+    expect_eq(&rt, sink.push(b"abc"), Ok(3));
+    expect_eq(&rt, sink.flush(), Err(WriteFault));
+    drop(sink);
+    expect_eq(&rt, flushed.calls, 1);
+
+    // (the buffer has no room for a push of two bytes more)
+    let mut filled = BROKEN;
+    let mut sink = BufferedSink::new(BufWriter::with_capacity(rt.alloc(), 4, &mut filled)?);
+    expect_eq(&rt, sink.push(b"abc"), Ok(3));
+    expect_eq(&rt, sink.push(b"de"), Err(WriteFault));
+    expect_eq(&rt, sink.failures(), 1);
+    drop(sink);
+    expect_eq(&rt, filled.calls, 1);
+    Ok(())
+}
+
+#[test]
+fn an_interrupted_write_of_the_buffer_is_tried_again(rt: HostRuntime) -> Result<(), Fail> {
+    let mut writer = INTERRUPTED;
+    let mut sink = BufferedSink::new(BufWriter::with_capacity(rt.alloc(), 4, &mut writer)?);
+    expect_eq(&rt, sink.push(b"ab"), Ok(2));
+    expect_eq(&rt, sink.flush(), Ok(()));
+    expect_eq(&rt, sink.failures(), 0);
+    Ok(())
+}
+
+#[test]
+fn a_buffered_write_that_takes_nothing_is_a_failure(rt: HostRuntime) -> Result<(), Fail> {
+    let mut sink = BufferedSink::new(BufWriter::with_capacity(rt.alloc(), 0, &mut [][..])?);
+    expect_eq(&rt, sink.push(b"a"), Ok(0));
+    expect_eq(&rt, sink.failures(), 1);
+    Ok(())
 }
 
 #[test]

@@ -1,4 +1,5 @@
 -- The lines of the answers, one after the other.
+use Rattle.std.specs.Io.KnownBytes.{Appends}
 use Rattle.std.proofs.Common.{◌≡◌, ◌+◌, ◌<◌, ◌≤◌, ℕ, ℤ, List, [], ◌∷◌, ◌++◌, length, Option, arith, append_assoc, rules}
 use Rattle.std.proofs.lemmas.List.{length-take, Concat.{flat_map-cons}, Sorted.{length_permutation}}
 use Rattle.rt_geo.specs.{Laws.{Meaning}, declared.entry.Entry.{Entry}}
@@ -7,7 +8,7 @@ use Rattle.rt_tree.proofs.SortingLemmas.{IsPermutation-sorted}
 use Rattle.rt_text.specs.ReplyLines.{answer_line, ok_line}
 use Rattle.rt_search.specs.Answers.{Answer, answer_cmp, answers, scored}
 use Rattle.rt_search.proofs.Giving.{length-scored}
-use Rattle.rt_filter.specs.Pushes.{WasCut, WasPushed, answer_lines}
+use Rattle.rt_filter.specs.Pushes.{WasCut, answer_lines}
 use Rattle.rt_filter.proofs.PushLemmas.{AllBut, pushed_cut, pushed_next}
 
 length-limited : {X : Type 0} (limit : Option ℕ) (xs : List X) → length (limited limit xs) ≤ length xs
@@ -39,7 +40,7 @@ module _ (all : List ℕ) (old mid new : Option (List ℕ)) (line count : ℕ) (
   next = rw (is, flat_map-cons (λ (answer : Answer). answer_line answer.0 answer.1) (id, score) more, append_assoc (answer_line id score) (answer_lines more) (ok_line line count)) at left
 
   -- the line of the next answer was pushed
-  pub answer_pushed : WasPushed mid new (answer_line id score) → AllBut all old new (reply_left line count more)
+  pub answer_pushed : Appends mid new (answer_line id score) → AllBut all old new (reply_left line count more)
   answer_pushed h = pushed_next all (answer_line id score) (reply_left line count more) old mid new next h
 
   -- it was cut short

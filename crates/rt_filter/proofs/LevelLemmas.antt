@@ -1,11 +1,12 @@
 -- The lines of the levels, from the top down.
+use Rattle.std.specs.Io.KnownBytes.{Appends}
 use Rattle.std.proofs.Common.{◌≡◌, ◌∙◌, ◌+◌, ◌-◌, ◌<◌, ◌≤◌, ℕ, List, ◌∷◌, ◌++◌, length, drop, get_or, Option, Some, ap}
 use Rattle.std.proofs.{Common.{zero-add, arith, append_assoc, rules}, lemmas.List.{drop_all, drop_more, get_or-reverse}}
 use Rattle.std.proofs.lemmas.List.{length-reverse, Concat.{flat_map-cons}, FromFn.{get_or-enumerate_from}}
 use Rattle.std.proofs.lemmas.{List.FromFn.{length-enumerate_from}, Option.{get_or_from_slice_get}}
 use Rattle.std.specs.{List.{enumerate_from}, Prelude.{flat_map, reverse, slice_get}}
 use Rattle.rt_text.specs.ReplyLines.{level_line, ok_line}
-use Rattle.rt_filter.specs.Pushes.{WasCut, WasPushed}
+use Rattle.rt_filter.specs.Pushes.{WasCut}
 use Rattle.rt_filter.proofs.PushLemmas.{AllBut, pushed_cut, pushed_next}
 
 abbrev pub level_lines : List (ℕ × ℕ) → List ℕ
@@ -48,7 +49,7 @@ module _ (line : ℕ) (sizes all : List ℕ) (old mid new : Option (List ℕ)) (
     next = rw is (rw (levels_left-next line sizes k size h at) at left)
 
     -- the line of the next level was pushed
-    pub level_pushed : WasPushed mid new text → AllBut all old new (levels_left line sizes (k + 1))
+    pub level_pushed : Appends mid new text → AllBut all old new (levels_left line sizes (k + 1))
     level_pushed h = pushed_next all text (levels_left line sizes (k + 1)) old mid new next h
 
     -- it was cut short

@@ -2,10 +2,9 @@
 use Rattle.std.proofs.Common.{◌≡◌, ◌∙◌, ◌+◌, ℕ, Bool, true, false, ◌||◌, List, [], ◌∷◌, ◌++◌, ◌≤◌, length, take, drop, Option, Some}
 use Rattle.std.proofs.{Common.{refl, sym, ap, arith, append_assoc, append-nil}, Math.Bool.{or-false}}
 use Rattle.std.proofs.lemmas.{Bool.Decides.{nat_tests}, Grind.{flat_map-append}, List.{length-append, Folds.{list_any-append}}}
-use Rattle.std.specs.{Io.KnownBytes.{Keeps}}
+use Rattle.std.specs.{Io.KnownBytes.{Appends, Keeps}}
 use Rattle.memchr.specs.Find.{IsFirstByte, is_byte}
-use Rattle.rt_device.specs.Devices.{IsSameIfTold}
-use Rattle.rt_filter.specs.{Lines.{is_too_long, longest_line, numbered_lines}, Pushes.{WasCut, WasPushed}}
+use Rattle.rt_filter.specs.{Lines.{is_too_long, longest_line, numbered_lines}, Pushes.{WasCut}}
 use Rattle.rt_text.specs.declared.query.Parsed.{Parsed}
 use Rattle.rt_filter.specs.Replies.{Loaded, any_fault, is_fault, output, parsed_line, reply}
 use Rattle.rt_filter.specs.Progresses.{IsAfter, IsLeft, LeftOf, begun_line, completed, kept_of, parsed_of, progress_of}
@@ -13,7 +12,7 @@ use Rattle.rt_filter.specs.declared.progress.Progress.{Progress}
 use Rattle.rt_filter.specs.Stages.{HasNoLineFeed, IsAnswering, line_feed, lines_from}
 use Rattle.rt_filter.proofs.LineLemmas.{IsCutAt, begun-found, begun-none, completed-all, completed-append, completed-ended}
 use Rattle.rt_filter.proofs.{LineLemmas.{completed-ended_none, completed-found, completed-none, found}, PushLemmas.{pushed_cut}}
-use Rattle.rt_filter.proofs.PushLemmas.{nothing_pushed, pushed_next, pushed_none, pushed_prefix}
+use Rattle.rt_filter.proofs.PushLemmas.{nothing_pushed, pushed_next, pushed_none, pushed_prefix, kept_none, pushed_then}
 use Rattle.rt_filter.proofs.WorkLemmas.{counts_none, counts_then, opened_by_lines-append, opened_by_lines-one}
 use Rattle.rt_search.specs.Work.{CountsOn}
 use Rattle.rt_filter.specs.Works.{opened_by_line, opened_by_lines}
@@ -27,10 +26,7 @@ output-append loaded xs ys = flat_map-append (λ (line : ℕ × List ℕ). reply
 pub any_fault-append : (xs ys : List (ℕ × List ℕ)) → any_fault (xs ++ ys) ≡ (any_fault xs || any_fault ys)
 any_fault-append xs ys = list_any-append (λ (line : ℕ × List ℕ). is_fault (parsed_line line.1)) xs ys
 
-pub pushed_then : (old mid new : Option (List ℕ)) (xs ys : List ℕ) → WasPushed old mid xs → WasPushed mid new ys → WasPushed old new (xs ++ ys)
-pushed_then old mid new xs ys h k = grind (arith, append_assoc, h, k)
-
-pub cut_then : (old mid new : Option (List ℕ)) (xs ys zs : List ℕ) → WasPushed old mid xs → WasCut mid new ys → WasCut old new (xs ++ (ys ++ zs))
+pub cut_then : (old mid new : Option (List ℕ)) (xs ys zs : List ℕ) → Appends old mid xs → WasCut mid new ys → WasCut old new (xs ++ (ys ++ zs))
 cut_then old mid new xs ys zs h k =
     pushed_cut (xs ++ (ys ++ zs)) ys zs old mid new (pushed_next (xs ++ (ys ++ zs)) xs (ys ++ zs) old old mid (pushed_none (xs ++ (ys ++ zs)) old) h) k
 
@@ -142,7 +138,7 @@ module _ (loaded : Loaded) (old progress : Progress) (old_out out : Option (List
 
     pub answered-more : (left : List ℕ) (now : Progress) (sent : Option (List ℕ)) (total : ℕ) → left ≡ drop (n + 1) rest
         → now ≡ record { lines = progress.lines + 1; bad = progress.bad || is_fault asked; is_too_long = false }
-        → WasPushed out sent (reply loaded (progress.lines + 1) asked) → CountsOn opened (opened_by_line loaded asked) total
+        → Appends out sent (reply loaded (progress.lines + 1) asked) → CountsOn opened (opened_by_line loaded asked) total
         → IsAnswering loaded old now old_out sent old_opened total kept given [] left
     answered-more left now sent total l e w count =
         let ended : List ℕ = take n rest ++ line_feed ∷ [] in
@@ -188,7 +184,7 @@ module _ (loaded : Loaded) (old progress : Progress) (old_out out : Option (List
   answered-left clear pulled is =
       rw (s.parts, ← append_assoc pulled s.front rest) (left-rest (pulled ++ s.front) rest clear progress begun (s.so pulled is).0)
 
-  pub answered-all : HasNoLineFeed rest → (pulled : List ℕ) → IsAfter old kept pulled → WasPushed old_out out (output loaded (completed pulled given false))
+  pub answered-all : HasNoLineFeed rest → (pulled : List ℕ) → IsAfter old kept pulled → Appends old_out out (output loaded (completed pulled given false))
   answered-all clear pulled is = search (rules, completed-append, completed-none, append-nil)
 
   -- and so are the nodes that they open
@@ -202,12 +198,12 @@ left-bad progress left pulled h e = sym h.bad ∙ e
 
 -- ---- a flush
 
-pub pushed_kept : (old mid new : Option (List ℕ)) (bytes : List ℕ) → WasPushed old mid bytes → Keeps mid new → WasPushed old new bytes
+pub pushed_kept : (old mid new : Option (List ℕ)) (bytes : List ℕ) → Appends old mid bytes → Keeps mid new → Appends old new bytes
 pushed_kept old mid new bytes w k = grind (arith, w, k)
 
-pub pushed_lost : (old mid new : Option (List ℕ)) (bytes : List ℕ) → WasPushed old mid bytes → IsSameIfTold mid new → WasCut old new bytes
+pub pushed_lost : (old mid new : Option (List ℕ)) (bytes : List ℕ) → Appends old mid bytes → Keeps mid new → WasCut old new bytes
 pushed_lost old mid new bytes w k =
-    pushed_prefix bytes old mid new [] (pushed_next bytes bytes [] old old mid (rw append-nil (pushed_none bytes old)) w) k
+    pushed_prefix bytes [] old mid new (pushed_next bytes bytes [] old old mid (rw append-nil (pushed_none bytes old)) w) (kept_none mid new k)
 
 -- ---- the end
 

@@ -1,45 +1,55 @@
 -- What pushes add up to.
-use Rattle.std.proofs.Common.{◌≡◌, ◌∙◌, ◌+◌, ℕ, List, [], ◌∷◌, ◌++◌, length, drop, Option, Some, None, refl, sym, ap}
-use Rattle.std.proofs.{Common.{arith, append_assoc, append-nil, rules}, Math.Seq.{take-append-add, take-append_seam}}
-use Rattle.std.proofs.lemmas.List.{append_cancel_left, length-append, take-append-drop}
-use Rattle.std.specs.{Io.{StartsWith}, Prelude.{IfSome, IsErrAnd, MatchResult, Result, Ok, Err}, Result.{result_and}}
-use Rattle.rt_device.specs.Devices.{IsSameIfTold}
-use Rattle.rt_filter.specs.Pushes.{Pushed, WasCut, WasPushed, WentPrefix}
-
--- a fact at each list that it may be is one at the list that it is
-pub if_some : (P : List ℕ → Type 0) (o : Option (List ℕ)) → ((xs : List ℕ) → o ≡ Some xs → P xs) → IfSome o P
-if_some P None h = tt
-if_some P (Some xs) h = h xs refl
+use Rattle.std.proofs.Common.{◌≡◌, ◌∙◌, ◌+◌, ℕ, List, [], ◌∷◌, ◌++◌, length, take, drop, Option, Some, None, refl, sym, ap}
+use Rattle.std.proofs.{Common.{arith, append_assoc, append-nil, rules}, Math.Seq.{take-append_seam}}
+use Rattle.std.proofs.lemmas.List.{take-append-drop}
+use Rattle.std.specs.{Io.{StartsWith, KnownBytes.{Appends, Keeps}}, Prelude.{IsErrAnd, MatchResult, Result, Ok, Err}, Result.{result_and}}
+use Rattle.rt_filter.specs.Pushes.{Pushed, WasCut}
 
 -- what holds anyway holds of a failure
 pub at_failure : {T E B : Type 0} (r : Result T E) (P : E → Type 0) (A : T → Type 0) → IsErrAnd r P → B → MatchResult r A (λ _. B)
 at_failure r P A is h = grind (arith, is, h)
 
 -- a sink that is left alone
-pub nothing_pushed : (written : Option (List ℕ)) → WasPushed written written []
-nothing_pushed written = if_some _ written (λ before e. e ∙ ap (λ xs. Some xs) (sym (append-nil before)))
+pub nothing_pushed : (written : Option (List ℕ)) → Appends written written []
+nothing_pushed None = tt
+nothing_pushed (Some xs) = sym (append-nil xs)
+
+-- some bytes were pushed, and then others
+pub pushed_then : (old mid new : Option (List ℕ)) (xs ys : List ℕ) → Appends old mid xs → Appends mid new ys → Appends old new (xs ++ ys)
+pushed_then old mid new xs ys h k = grind (arith, append_assoc, h, k)
 
 -- of all bytes, what isn't left was pushed
 pub record AllBut (all : List ℕ) (old now : Option (List ℕ)) (rest : List ℕ) : Type 0 where
-  pub out : (before : List ℕ) → old ≡ Some before → (out : List ℕ) × (now ≡ Some (before ++ out)) × (all ≡ out ++ rest)
+  pub out : List ℕ
+  pub parts : all ≡ out ++ rest
+  pub pushed : Appends old now out
 
 pub pushed_none : (all : List ℕ) (old : Option (List ℕ)) → AllBut all old old all
-pushed_none all old = record { out = λ before e. ([], e ∙ ap (λ xs. Some xs) (sym (append-nil before)), refl) }
+pushed_none all old = record { out = []; parts = refl; pushed = nothing_pushed old }
 
 -- nothing is left
 pub pushed_whole : (all : List ℕ) (old now : Option (List ℕ)) (rest : List ℕ) → AllBut all old now rest → length rest ≡ 0
-    → WasPushed old now all
-pushed_whole all old now [] p z = search (rules, if_some, append-nil)
+    → Appends old now all
+pushed_whole all old now [] p z = rw (p.parts, append-nil p.out) p.pushed
 pushed_whole all old now (c ∷ rest) p z = absurd (omega (arith, z))
 
 -- the next bytes were pushed too
-pub pushed_next : (all next rest : List ℕ) (old mid new : Option (List ℕ)) → AllBut all old mid (next ++ rest) → WasPushed mid new next
+pub pushed_next : (all next rest : List ℕ) (old mid new : Option (List ℕ)) → AllBut all old mid (next ++ rest) → Appends mid new next
     → AllBut all old new rest
-pushed_next all next rest old mid new p h = search (rules, append_assoc)
+pushed_next all next rest old mid new p h = record {
+  out = p.out ++ next;
+  parts = p.parts ∙ sym (append_assoc p.out next rest);
+  pushed = pushed_then old mid new p.out next p.pushed h;
+}
+
+-- so many of those that were left
+pub pushed_some : (all rest : List ℕ) (n : ℕ) (old mid new : Option (List ℕ)) → AllBut all old mid rest → Appends mid new (take n rest)
+    → AllBut all old new (drop n rest)
+pushed_some all rest n old mid new p h = pushed_next all (take n rest) (drop n rest) old mid new (rw (take-append-drop n rest) p) h
 
 -- all that was left was pushed
-pub pushed_rest : (all last : List ℕ) (old mid new : Option (List ℕ)) → AllBut all old mid last → WasPushed mid new last
-    → WasPushed old new all
+pub pushed_rest : (all last : List ℕ) (old mid new : Option (List ℕ)) → AllBut all old mid last → Appends mid new last
+    → Appends old new all
 pushed_rest all last old mid new p h =
     pushed_whole all old new [] (pushed_next all last [] old mid new (rw append-nil p) h) refl
 
@@ -53,55 +63,30 @@ prefix out rest all e = rw e (take-append_seam out rest)
 pub behind : (xs out : List ℕ) → StartsWith xs out → xs ≡ out ++ drop (length out) xs
 behind xs out h = sym (take-append-drop (length out) xs) ∙ ap (λ zs. zs ++ drop (length out) xs) h
 
--- some bytes are there, and of what follows a prefix
-later : (before out next rest all : List ℕ) (new : Option (List ℕ)) → WentPrefix (before ++ out) new next → all ≡ out ++ (next ++ rest)
-    → WentPrefix before new all
-later before out next rest all None h e = tt
-later before out next rest all (Some ys) h e =
-    let parts = ap (λ zs. zs ++ rest) (behind next h.0 h.2) in
-    let whole : all ≡ (out ++ h.0) ++ (drop (length h.0) next ++ rest) = search (rules, append_assoc) in
-    (out ++ h.0, h.1 ∙ append_assoc before out h.0, prefix (out ++ h.0) (drop (length h.0) next ++ rest) all whole)
-
 -- of the next bytes a prefix was pushed
 pub pushed_cut : (all next rest : List ℕ) (old mid new : Option (List ℕ)) → AllBut all old mid (next ++ rest) → WasCut mid new next
     → WasCut old new all
-pushed_cut all next rest old mid new p h = search (rules, if_some, later)
+pushed_cut all next rest old mid new p h =
+    let parts = ap (λ zs. zs ++ rest) (behind next h.went h.prefix) in
+    let whole : all ≡ (p.out ++ h.went) ++ (drop (length h.went) next ++ rest) = search (rules, append_assoc) in
+    record {
+      went = p.out ++ h.went;
+      prefix = prefix (p.out ++ h.went) (drop (length h.went) next ++ rest) all whole;
+      pushed = pushed_then old mid new p.out h.went p.pushed h.pushed;
+    }
 
-pub unmoved : (old new : Option (List ℕ)) (bytes : List ℕ) → IsSameIfTold old new → WasCut old new bytes
-unmoved old new bytes h = search (rules, h, append-nil)
-
--- a push or a flush failed
-pub pushed_prefix : (all : List ℕ) (old mid new : Option (List ℕ)) (rest : List ℕ) → AllBut all old mid rest → IsSameIfTold mid new
+-- none of them was
+pub pushed_prefix : (all rest : List ℕ) (old mid new : Option (List ℕ)) → AllBut all old mid rest → Appends mid new []
     → WasCut old new all
-pushed_prefix all old mid new rest p h =
-    pushed_cut all rest [] old mid new (rw (append-nil rest) p) (unmoved mid new rest h)
+pushed_prefix all rest old mid new p h =
+    pushed_cut all rest [] old mid new (rw append-nil p) (record { went = []; prefix = refl; pushed = h })
 
-pub unmoved_same : (now : Option (List ℕ)) → IsSameIfTold now now
-unmoved_same now = grind arith
+-- a push or a flush that failed keeps what was written
+pub kept_none : (old new : Option (List ℕ)) → Keeps old new → Appends old new []
+kept_none old new h = grind (arith, append-nil, h)
 
--- what came out before, and then a prefix of the bytes: told by prefixes alone
-pub cut_told : (before bytes : List ℕ) (now : Option (List ℕ)) → WentPrefix before now bytes
-    → IfSome now (λ written. StartsWith written before × StartsWith (before ++ bytes) written)
-cut_told before bytes None h = tt
-cut_told before bytes (Some written) h = let is = behind bytes h.0 h.2 in search (rules, take-append_seam, append_assoc)
-
-pub cut_replies : {T E : Type 0} (r : Result T E) (P : E → Type 0) (A : List ℕ → T → Type 0) (old now : Option (List ℕ)) (bytes : List ℕ)
-    → IsErrAnd r P → WasCut old now bytes
-    → IfSome old (λ before. MatchResult r (A before) (λ _. IfSome now (λ written. StartsWith written before × StartsWith (before ++ bytes) written)))
-cut_replies r P A old now bytes is cut = search (rules, if_some, at_failure, cut_told)
-
--- a prefix of what stands behind the same bytes
-starts_behind : (before bytes out : List ℕ) → StartsWith (before ++ bytes) (before ++ out) → StartsWith bytes out
-starts_behind before bytes out h = search (rules, append_cancel_left, take-append-add, length-append)
-
-pub told_cut : (old now : Option (List ℕ)) (bytes : List ℕ)
-    → IfSome old (λ before. IfSome now (λ written. StartsWith written before × StartsWith (before ++ bytes) written)) → WasCut old now bytes
-told_cut None now bytes h = tt
-told_cut (Some before) None bytes h = tt
-told_cut (Some before) (Some written) bytes h =
-    let out : List ℕ = drop (length before) written in
-    let is : written ≡ before ++ out = behind written before h.0 in
-    (out, is, starts_behind before bytes out (rw is at h.1))
+pub kept_same : (now : Option (List ℕ)) → Keeps now now
+kept_same now = grind arith
 
 -- ---- calls that push
 

@@ -6,17 +6,17 @@ use Rattle.rt_command.specs.Choices.{Choices}
 use Rattle.rt_geo.specs.declared.entry.Entry.{Entry}
 use Rattle.rt_text.specs.{Steps.{◌>>=◌}, Tables.{table_of}, declared.tables.TableFault.{TableFault}}
 use Rattle.rt_tree.specs.{Packed.{Packed}, Packing.{pack_of}}
-use Rattle.rt_filter.specs.Endings.{ConsumedAtLeast, Ends, EndsWith, Happened, Serves, ServesWith, SinkTells, SourceTells}
+use Rattle.rt_filter.specs.Endings.{ConsumedAtLeast, Ends, EndsWith, Happened, Serves, ServesWith, SourceTells}
 use Rattle.rt_text.specs.{RunFaults.{status_of}, declared.run_faults.RunFault.{RunFault}}
-use Rattle.rt_filter.specs.{Endings.{StillTells, told_as}, Replies.{Loaded}}
+use Rattle.rt_filter.specs.{Endings.{told_as}, Replies.{Loaded}}
 use Rattle.rt_filter.specs.{Replies.{tree_of}, Runs.{loaded_of, run_of, run_over}, Stages.{HasLoaded, Stops}}
 use Rattle.rt_filter.specs.{Stages.{is_of_load}, declared.filter.Outcome.{Outcome}}
 use Rattle.rt_filter.specs.declared.serving.{ServeFault.{ServeFault}, Served.{Served}}
-use Rattle.rt_filter.proofs.{ServingLemmas.{consumes_none, sink_tells, so_far, source_tells}, PushLemmas.{nothing_pushed}}
+use Rattle.rt_filter.proofs.{ServingLemmas.{consumes_none, so_far, source_tells}, PushLemmas.{nothing_pushed}}
 use Rattle.rt_text.specs.declared.tables.TableFault.TheVariants as load
 use Rattle.rt_text.specs.declared.run_faults.RunFault.TheVariants as run
-use Rattle.rt_filter.specs.declared.serving.ServeFault.TheVariants as serve
 use Rattle.std.proofs.Common.{rules}
+use Rattle.std.specs.Io.KnownBytes.{Appends}
 
 -- what is loaded of a table's entries, or of its fault
 abbrev pub loaded_with : Choices → Result (List Entry) TableFault → Result Loaded TableFault
@@ -54,21 +54,12 @@ module _ (choices : Choices) (table : List ℕ) (coming written : Option (List �
       → Ends choices table coming coming written written outcome
   ends_early outcome cause h of_load own fault status = rw fault (
     unread,
-    source_tells (Some cause ≡ Some run.Read) coming coming [] [] (consumes_none coming),
-    sink_tells (Some cause ≡ Some run.Write) written written unread (nothing_pushed written),
+    source_tells coming coming [] [] (consumes_none coming),
+    nothing_pushed written,
     row cause outcome.status h of_load own status,
   )
 
 module _ (choices : Choices) (table : List ℕ) (coming coming' written written' : Option (List ℕ)) where
-  -- a fault of serving is told as one of the run
-  source_so : (cause : Option ServeFault) (what : Happened) (coming coming' : Option (List ℕ)) → SourceTells (cause ≡ Some serve.Read) coming coming' what
-      → SourceTells (option_map told_as cause ≡ Some run.Read) coming coming' what
-  source_so cause what coming coming' t = grind (arith, t)
-
-  sink_so : (cause : Option ServeFault) (what : Happened) (written written' : Option (List ℕ)) → SinkTells (cause ≡ Some serve.Write) written written' what
-      → SinkTells (option_map told_as cause ≡ Some run.Write) written written' what
-  sink_so cause what written written' t = grind (arith, t)
-
   served_row : (loaded : Loaded) (what : Happened) (bad : Bool) (cause : Option ServeFault) (status : ℕ)
       → loaded_of choices table ≡ Ok loaded → ServesWith loaded what bad cause → (cause ≡ None → status ≡ (if bad then 1 else 0))
       → EndsWith (loaded_of choices table) what (record { status = status; fault = option_map told_as cause }) (option_map told_as cause)
@@ -78,7 +69,7 @@ module _ (choices : Choices) (table : List ℕ) (coming coming' written written'
       → ((loaded : Loaded) → tree ≡ tree_of loaded → Serves loaded coming coming' written written' served)
       → (outcome : Outcome) → outcome.fault ≡ option_map told_as served.fault → (served.fault ≡ None → outcome.status ≡ (if served.bad then 1 else 0))
       → Ends choices table coming coming' written written' outcome
-  ends_served tree served h s outcome fault status = search (rules, source_so, sink_so, served_row)
+  ends_served tree served h s outcome fault status = search (rules, served_row)
 
 -- ---- where nothing fails outside
 
@@ -87,8 +78,11 @@ row_whole : (loaded : Result Loaded TableFault) (what : Happened) (outcome : Out
     → fault ≢ Some run.Write → run_over loaded (what.consumed ++ what.rest) ≡ (what.out, outcome)
 row_whole loaded what outcome fault h memory unread pulls pushes = grind (arith, h, memory, unread, pulls, pushes, append-nil)
 
-told_whole : (failed : Type 0) (now : Option (List ℕ)) (bytes : List ℕ) → StillTells failed now bytes → ¬ failed → now ≡ Some bytes
-told_whole failed now bytes h other = grind (arith, h, other)
+all_queries : (queries : List ℕ) (now : Option (List ℕ)) (what : Happened) → SourceTells (Some queries) now what → queries ≡ what.consumed ++ what.rest
+all_queries queries now what h = grind (arith, h)
+
+all_written : (before out : List ℕ) (now : Option (List ℕ)) → Appends (Some before) now out → now ≡ Some (before ++ out)
+all_written before out now h = grind (arith, h)
 
 used_up : (turns : ℕ) (queries : List ℕ) (now : Option (List ℕ)) → ConsumedAtLeast turns (Some queries) now → length queries < turns → ⊥
 used_up turns queries now h less = grind (arith, h, length-append h.0)
@@ -106,9 +100,7 @@ ends_whole choices table queries before old now written written' outcome turns a
     let p : outcome.fault ≢ Some run.Read =
     λ e. used_up turns queries now (subst (λ o. ConsumedAtLeast turns o now) is_queries (used e pulls)) less in
     let q : outcome.fault ≢ Some run.Write = λ e. let more = pushed e in absurd (omega (arith, more, pushes)) in
-    let source : SourceTells (outcome.fault ≡ Some run.Read) (Some queries) now h.0 =
-    subst (λ o. SourceTells (outcome.fault ≡ Some run.Read) o now h.0) is_queries h.1 in
-    let sink : SinkTells (outcome.fault ≡ Some run.Write) (Some before) written' h.0 =
-    subst (λ o. SinkTells (outcome.fault ≡ Some run.Write) o written' h.0) is_before h.2 in
-    let whole = ap (run_of choices table) source.0 ∙ row_whole _ h.0 outcome outcome.fault h.3 m t p q in
-    (told_whole _ written' _ sink q ∙ ap (λ r. Some (before ++ r.0)) (sym whole), ap (λ r. r.1) (sym whole))
+    let source = all_queries queries now h.0 (subst (λ o. SourceTells o now h.0) is_queries h.1) in
+    let sink = all_written before h.0.out written' (subst (λ o. Appends o written' h.0.out) is_before h.2) in
+    let whole = ap (run_of choices table) source ∙ row_whole _ h.0 outcome outcome.fault h.3 m t p q in
+    (sink ∙ ap (λ r. Some (before ++ r.0)) (sym whole), ap (λ r. r.1) (sym whole))

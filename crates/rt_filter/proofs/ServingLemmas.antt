@@ -2,16 +2,16 @@
 use Rattle.std.proofs.Common.{◌≡◌, ◌∙◌, ◌+◌, ◌<◌, ◌≤◌, ℕ, Bool, true, false, List, [], ◌++◌, length, take, Option, Some}
 use Rattle.std.proofs.Common.{None, refl, sym, ap, subst, arith, append_assoc, append-nil, rules}
 use Rattle.std.proofs.{Math.Seq.{take-append_seam}, lemmas.List.{length-append, length-take-le}}
-use Rattle.std.specs.{Io.{StartsWith, KnownBytes.{Consumes, IsAtEnd}}, Prelude.{unwrap_or}}
-use Rattle.rt_device.specs.Devices.{IsSameIfTold, PulledTimes}
+use Rattle.std.specs.{Io.{StartsWith, KnownBytes.{Appends, Consumes, IsAtEnd, Keeps}}, Prelude.{unwrap_or}}
+use Rattle.rt_device.specs.Devices.{PulledTimes}
 use Rattle.rt_text.specs.Words.{is_empty}
-use Rattle.rt_filter.specs.{Endings.{ConsumedAtLeast, Happened, Serves, ServesWith, SinkTells, SourceTells}}
-use Rattle.rt_filter.specs.{Lines.{longest_line, numbered_lines}, Pushes.{WasCut, WasPushed}, Replies.{Loaded}}
+use Rattle.rt_filter.specs.{Endings.{ConsumedAtLeast, Happened, Serves, ServesWith, SourceTells}}
+use Rattle.rt_filter.specs.{Lines.{longest_line, numbered_lines}, Pushes.{WasCut}, Replies.{Loaded}}
 use Rattle.rt_filter.specs.{Progresses.{IsAfter, completed, progress_of}, Replies.{any_fault, output}, Stages.{IsServing}}
 use Rattle.rt_filter.specs.declared.progress.Progress.{Progress}
 use Rattle.rt_filter.specs.declared.serving.{ServeFault.{ServeFault}, Served.{Served}}
-use Rattle.rt_filter.proofs.{LineLemmas.{completed-all}, PushLemmas.{behind, nothing_pushed}}
-use Rattle.rt_filter.proofs.ProgressLemmas.{any_fault-append, ended-lines, or_first, output-append, pushed_then}
+use Rattle.rt_filter.proofs.{LineLemmas.{completed-all}, PushLemmas.{behind, nothing_pushed, pushed_then}}
+use Rattle.rt_filter.proofs.ProgressLemmas.{any_fault-append, ended-lines, or_first, output-append}
 use Rattle.rt_filter.specs.declared.serving.ServeFault.TheVariants as serve
 
 -- ---- what a source and a sink tell
@@ -21,6 +21,10 @@ consumes_none old = grind arith
 
 consumes_more : (old mid new : Option (List ℕ)) (xs ys : List ℕ) → Consumes old mid xs → Consumes mid new ys → Consumes old new (xs ++ ys)
 consumes_more old mid new xs ys h k = grind (arith, append_assoc xs ys)
+
+-- a pull failed, which keeps what is to come
+consumes_kept : (old mid new : Option (List ℕ)) (xs : List ℕ) → Consumes old mid xs → Keeps mid new → Consumes old new xs
+consumes_kept old mid new xs h k = grind (arith, h, k)
 
 pub consumed_none : (old : Option (List ℕ)) → ConsumedAtLeast 0 old old
 consumed_none old = ([], consumes_none old, omega arith)
@@ -51,25 +55,8 @@ ended now at = grind (arith, at)
 abbrev pub so_far : (consumed : List ℕ) (coming : Option (List ℕ)) (out : List ℕ) → Happened
 so_far consumed coming out = record { consumed = consumed; rest = rest_of coming; out = out }
 
-pub source_tells : (failed : Type 0) (old now : Option (List ℕ)) (consumed out : List ℕ) → Consumes old now consumed → SourceTells failed old now (so_far consumed now out)
-source_tells failed old now consumed out h = grind (arith, h)
-
-source_failed : (failed : Type 0) → failed → (old mid now : Option (List ℕ)) (consumed out : List ℕ) → Consumes old mid consumed → IsSameIfTold mid now
-    → SourceTells failed old now (so_far consumed mid out)
-source_failed failed f old mid now consumed out h k = grind (arith, f, h, k)
-
-pub sink_tells : (failed : Type 0) (old now : Option (List ℕ)) (what : Happened) → WasPushed old now what.out → SinkTells failed old now what
-sink_tells failed old now what h = grind (arith, h)
-
--- some went out whole, and of the next bytes a prefix
-record WentOut (failed : Type 0) (old now : Option (List ℕ)) (consumed rest xs ys : List ℕ) : Type 0 where
-  out : List ℕ
-  prefix : StartsWith ys out
-  tells : SinkTells failed old now (record { consumed = consumed; rest = rest; out = xs ++ out })
-
-went_out : (failed : Type 0) → failed → (old mid now : Option (List ℕ)) (consumed rest xs ys : List ℕ) → WasPushed old mid xs → WasCut mid now ys
-    → WentOut failed old now consumed rest xs ys
-went_out failed f old mid now consumed rest xs ys h k = search (rules, append_assoc, f, h, k)
+pub source_tells : (old now : Option (List ℕ)) (consumed out : List ℕ) → Consumes old now consumed → SourceTells old now (so_far consumed now out)
+source_tells old now consumed out h = grind (arith, h)
 
 -- ---- prefixes
 
@@ -89,29 +76,29 @@ module _ (loaded : Loaded) (coming0 coming written0 written : Option (List ℕ))
 
   -- a pull, and its lines answered
   pub serving_more : (now out : Option (List ℕ)) (more : Progress) (left given : List ℕ) → Consumes coming now given → IsAfter more left (s.pulled ++ given)
-      → WasPushed written out (output loaded (completed s.pulled given false)) → IsServing loaded coming0 now written0 out more left
+      → Appends written out (output loaded (completed s.pulled given false)) → IsServing loaded coming0 now written0 out more left
   serving_more now out more left given h e w = search (rules, consumes_more, completed-all, output-append, pushed_then)
 
   -- a failed pull, or turns that are used up
-  pub serves_read : (now : Option (List ℕ)) (served : Served) → IsSameIfTold coming now → served.bad ≡ progress.bad → served.fault ≡ Some serve.Read
+  pub serves_read : (now : Option (List ℕ)) (served : Served) → Keeps coming now → served.bad ≡ progress.bad → served.fault ≡ Some serve.Read
       → Serves loaded coming0 now written0 written served
   serves_read now served h b f = rw (b, f) (
-    so_far s.pulled coming replied,
-    source_failed (Some serve.Read ≡ Some serve.Read) refl coming0 coming now s.pulled replied s.given h,
-    sink_tells (Some serve.Read ≡ Some serve.Write) written0 written (so_far s.pulled coming replied) s.pushed,
+    so_far s.pulled now replied,
+    source_tells coming0 now s.pulled replied (consumes_kept coming0 coming now s.pulled s.given h),
+    s.pushed,
     record { replies = refl; faults = ap (λ (p : Progress). p.bad) s.so.0 },
   )
 
   -- all was read and written
-  pub serves_all : (now out : Option (List ℕ)) (served : Served) → Consumes coming now [] → IsAtEnd now → WasPushed written out (output loaded (completed s.pulled [] true))
+  pub serves_all : (now out : Option (List ℕ)) (served : Served) → Consumes coming now [] → IsAtEnd now → Appends written out (output loaded (completed s.pulled [] true))
       → served.bad ≡ any_fault (numbered_lines s.pulled true) → served.fault ≡ None → Serves loaded coming0 now written0 out served
   serves_all now out served h at w b f =
-      let all : WasPushed written0 out (output loaded (numbered_lines s.pulled true)) =
+      let all : Appends written0 out (output loaded (numbered_lines s.pulled true)) =
       search (rules, ended-lines, output-append, pushed_then) in
       rw (b, f) (
         so_far s.pulled now (output loaded (numbered_lines s.pulled true)),
-        source_tells (None ≡ Some serve.Read) coming0 now s.pulled (output loaded (numbered_lines s.pulled true)) (subst (Consumes coming0 now) (append-nil s.pulled) (consumes_more coming0 coming now s.pulled [] s.given h)),
-        sink_tells (None ≡ Some serve.Write) written0 out (so_far s.pulled now (output loaded (numbered_lines s.pulled true))) all,
+        source_tells coming0 now s.pulled (output loaded (numbered_lines s.pulled true)) (subst (Consumes coming0 now) (append-nil s.pulled) (consumes_more coming0 coming now s.pulled [] s.given h)),
+        all,
         (ended now at, record { replies = refl; faults = refl }),
       )
 
@@ -121,17 +108,16 @@ module _ (loaded : Loaded) (coming0 coming written0 written : Option (List ℕ))
       → (served.bad ≡ true → any_fault (numbered_lines (s.pulled ++ given) (is_empty (rest_of now))) ≡ true) → served.fault ≡ Some serve.Write
       → Serves loaded coming0 now written0 out served
   cut_row now out served given lines later h few cut all b f =
-      let w = went_out (Some serve.Write ≡ Some serve.Write) refl written0 written out (s.pulled ++ given) (rest_of now) replied (output loaded lines) s.pushed cut in
       rw f (
-        so_far (s.pulled ++ given) now (replied ++ w.out),
-        source_tells (Some serve.Write ≡ Some serve.Read) coming0 now (s.pulled ++ given) (replied ++ w.out) (consumes_more coming0 coming now s.pulled given s.given h),
-        w.tells,
+        so_far (s.pulled ++ given) now (replied ++ cut.went),
+        source_tells coming0 now (s.pulled ++ given) (replied ++ cut.went) (consumes_more coming0 coming now s.pulled given s.given h),
+        pushed_then written0 written out replied cut.went s.pushed cut.pushed,
         record {
           replies = search (rules, output-append, starts-between);
           faults = b;
           answered = length s.pulled;
           shorter = omega (arith, length-append s.pulled given, few);
-          replied = rw (take-append_seam s.pulled given) (take-append_seam replied w.out);
+          replied = rw (take-append_seam s.pulled given) (take-append_seam replied cut.went);
         },
       )
 

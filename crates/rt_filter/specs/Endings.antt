@@ -1,7 +1,7 @@
 -- How serving the queries may end, and a whole run.
-use Rattle.std.specs.Prelude.{◌≡◌, ◌+◌, ◌≤◌, ℕ, List, [], ◌++◌, length, take, Bool, true, false, Option, Some, None, IfSome, IsSome, Result, IsOkAnd}
+use Rattle.std.specs.Prelude.{◌≡◌, ◌+◌, ◌≤◌, ℕ, List, [], length, take, Bool, true, false, Option, Some, None, IfSome, Result, IsOkAnd}
 use Rattle.std.specs.Io.{StartsWith}
-use Rattle.std.specs.Io.KnownBytes.{Consumes}
+use Rattle.std.specs.Io.KnownBytes.{Appends, Consumes}
 use Rattle.rt_command.specs.Choices.{Choices}
 use Rattle.rt_text.specs.Words.{is_empty}
 use Rattle.rt_text.specs.declared.tables.TableFault.{TableFault}
@@ -24,18 +24,9 @@ pub record Happened : Type 0 where
   pub rest : List ℕ
   pub out : List ℕ
 
--- a device tells these bytes; one that failed tells them or none at all
-abbrev pub StillTells : (failed : Type 0) → Option (List ℕ) → List ℕ → Type 0
-StillTells failed now bytes = IfSome now (λ known. known ≡ bytes) × (¬ failed → IsSome now)
-
--- a source that told its bytes, `coming`, tells that some were consumed and the rest are to come
-abbrev pub SourceTells : (failed : Type 0) → (coming now : Option (List ℕ)) → Happened → Type 0
-SourceTells failed coming now what =
-    IfSome coming (λ queries. (queries ≡ what.consumed ++ what.rest) × StillTells failed now what.rest)
-
--- a sink that told its bytes, `written`, tells that some went out behind them
-abbrev pub SinkTells : (failed : Type 0) → (written now : Option (List ℕ)) → Happened → Type 0
-SinkTells failed written now what = IfSome written (λ before. StillTells failed now (before ++ what.out))
+-- a source reports that some bytes were consumed, and that the rest is to come
+abbrev pub SourceTells : (coming now : Option (List ℕ)) → Happened → Type 0
+SourceTells coming now what = Consumes coming now what.consumed × IfSome now (λ rest. rest ≡ what.rest)
 
 -- at least so many bytes were consumed of those that were to come, where these are told
 abbrev pub ConsumedAtLeast : (count : ℕ) → (old new : Option (List ℕ)) → Type 0
@@ -64,11 +55,10 @@ ServesWith loaded what bad None = (what.rest ≡ []) × ServesLines loaded what 
 ServesWith loaded what bad (Some serve.Read) = ServesLines loaded what bad false
 ServesWith loaded what bad (Some serve.Write) = ServesPrefix loaded what bad
 
--- this happened, as far as the devices tell, and serving ends so; a device that told no bytes leaves its part open
+-- this happened, and serving ends so; a device that reports no bytes leaves its part open
 abbrev pub Serves : Loaded → (coming coming' written written' : Option (List ℕ)) → Served → Type 0
 Serves loaded coming coming' written written' served =
-    (what : Happened) × SourceTells (served.fault ≡ Some serve.Read) coming coming' what
-    × SinkTells (served.fault ≡ Some serve.Write) written written' what
+    (what : Happened) × SourceTells coming coming' what × Appends written written' what.out
     × ServesWith loaded what served.bad served.fault
 
 -- ---- a whole run
@@ -92,9 +82,8 @@ EndsWith loaded what outcome (Some Read) = EndsServing loaded what serve.Read
 EndsWith loaded what outcome (Some Write) = EndsServing loaded what serve.Write
 EndsWith loaded what outcome (Some Memory) = (what.consumed ≡ []) × (what.out ≡ [])
 
--- how a run over a table's bytes may end, as far as source and sink tell
+-- how a run over a table's bytes may end; a device that reports no bytes leaves its part open
 abbrev pub Ends : Choices → (table : List ℕ) → (coming coming' written written' : Option (List ℕ)) → Outcome → Type 0
 Ends choices table coming coming' written written' outcome =
-    (what : Happened) × SourceTells (outcome.fault ≡ Some Read) coming coming' what
-    × SinkTells (outcome.fault ≡ Some Write) written written' what
+    (what : Happened) × SourceTells coming coming' what × Appends written written' what.out
     × EndsWith (loaded_of choices table) what outcome outcome.fault

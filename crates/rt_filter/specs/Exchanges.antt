@@ -1,10 +1,9 @@
 -- What holds whenever more queries are pulled, and what serving has done in the end. No public contract cites it.
 use Rattle.std.specs.Prelude.{◌≡◌, ◌≢◌, ◌+◌, ◌≤◌, ◌⊎◌, ℕ, Bool, false, List, [], Option, None, Some}
-use Rattle.std.specs.Io.KnownBytes.{Consumes}
+use Rattle.std.specs.Io.KnownBytes.{Appends, Consumes}
 use Rattle.rt_device.specs.Devices.{PulledTimes}
 use Rattle.rt_filter.specs.Endings.{ConsumedAtLeast, Serves}
 use Rattle.rt_filter.specs.Lines.{numbered_lines}
-use Rattle.rt_filter.specs.Pushes.{WasPushed}
 use Rattle.rt_filter.specs.Replies.{Loaded, output}
 use Rattle.rt_filter.specs.declared.serving.ServeFault.TheVariants as serve
 use Rattle.rt_filter.specs.declared.serving.Served.{Served}
@@ -47,7 +46,7 @@ nothing = record {
 abbrev pub IsAnswered : AtStart → (coming written : Option (List ℕ)) → Type 0
 IsAnswered start coming written =
     (pulled : List ℕ) × Consumes start.devices.coming coming pulled
-    × WasPushed start.devices.written written (output start.loaded (numbered_lines pulled false))
+    × Appends start.devices.written written (output start.loaded (numbered_lines pulled false))
 
 -- how serving ended within the turns that are allowed, and what it did to the devices: the clauses of `serve`
 pub record IsServed (start : AtStart) (now : Connection) (allowed : ℕ) (served : Served) : Type 0 where

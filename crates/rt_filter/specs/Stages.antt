@@ -1,13 +1,12 @@
 -- What the private stages of a run promise one another, and what their loops keep. No public contract cites it.
 use Rattle.std.specs.Prelude.{◌≡◌, ◌+◌, ℕ, List, ◌++◌, Bool, true, false, Option, Some, Ok, ⊤}
 use Rattle.std.specs.List.{AllByRecursion, enumerate_from, slice_split}
-use Rattle.std.specs.Io.KnownBytes.{Consumes}
+use Rattle.std.specs.Io.KnownBytes.{Appends, Consumes}
 use Rattle.rt_command.specs.Choices.{Choices}
 use Rattle.rt_text.specs.Tables.{IsFaultOf}
 use Rattle.rt_tree.specs.Packed.{Packed}
 use Rattle.rt_search.specs.Work.{CountsOn}
 use Rattle.rt_filter.specs.Lines.{is_line_feed, lines_of_parts, longest_line, numbered_lines}
-use Rattle.rt_filter.specs.Pushes.{WasPushed}
 use Rattle.rt_filter.specs.Replies.{Loaded, output, tree_of}
 use Rattle.rt_filter.specs.Runs.{loaded_of}
 use Rattle.rt_filter.specs.Progresses.{IsAfter, completed}
@@ -66,7 +65,7 @@ pub record IsAnswering (loaded : Loaded) (old now : Progress) (old_out out : Opt
   pub parts : given ≡ front ++ rest
   pub so : (pulled : List ℕ) → IsAfter old kept pulled
       → IsAfter now begun (pulled ++ front)
-      × WasPushed old_out out (output loaded (completed pulled front false))
+      × Appends old_out out (output loaded (completed pulled front false))
       × CountsOn old_opened (opened_by_lines loaded (completed pulled front false)) opened
 
 -- the queries are answered as far as they were pulled
@@ -75,4 +74,4 @@ pub record IsServing (loaded : Loaded) (old_coming coming old_out out : Option (
   pub pulled : List ℕ
   pub given : Consumes old_coming coming pulled
   pub so : IsAfter progress kept pulled
-  pub pushed : WasPushed old_out out (output loaded (numbered_lines pulled false))
+  pub pushed : Appends old_out out (output loaded (numbered_lines pulled false))

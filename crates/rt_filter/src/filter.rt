@@ -1,7 +1,7 @@
 //! A whole run: a table and queries in, answers out.
 
 ghost use Rattle.std.specs.Prelude.{◌≡◌, ◌+◌, ◌-◌, ◌<◌, ◌≤◌, ◌^◌, ◌⊎◌, ◌≢◌, ◌++◌, ℕ, List, Some, None, IfOk, IfErr};
-ghost use Rattle.std.specs.{Option.{option_map_or}, Prelude.{MatchOption, length, if◌then◌else◌, true, false}};
+ghost use Rattle.std.specs.{Io.Buffered.{writer_buffer, writer_contents}, Option.{option_map_or}, Prelude.{MatchOption, [], length, if◌then◌else◌, true, false}};
 ghost use Rattle.rt_device.specs.Devices.{PulledTimes};
 ghost use Rattle.rt_text.specs.{RunFaults.{status_of}, declared.run_faults.RunFault.{RunFault}};
 ghost use Rattle.rt_filter.specs.{Endings.{Ends, ConsumedAtLeast, told_as}, Runs.{run_of}};
@@ -9,12 +9,12 @@ ghost use Rattle.rt_filter.specs.Stages.{HasLoaded, Stops, is_of_load};
 
 use crate::serving::{ServeFault, serve};
 use rt_command::Settings;
-use rt_device::{ReadSource, Sink, Source, WriteSink};
+use rt_device::{BufferedSink, ReadSource, Sink, Source};
 use rt_search::Frontier;
 use rt_text::{RunFault, TableFault, read_table};
 use rt_tree::Tree;
 use std::alloc::Global;
-use std::io::{Read, Write};
+use std::io::{BufWriter, Read, Write};
 
 /// How a run ended.
 #[derive(Clone, Copy, Debug, PartialEq, Eq)]
@@ -25,27 +25,28 @@ pub struct Outcome {
     pub fault: Option<RunFault>,
 }
 
-/// A run over readers and a writer of std, in as many turns as can be counted. Returns the last two as well, as they are
-/// then. It is what the program does with its open files.
+/// A run over readers and a buffered writer of std, in as many turns as can be counted. Returns the last two as well, as
+/// they are then. It is what the program does with its open files.
 pub fn run_std<T: Read + Drop, Q: Read + Drop, W: Write + Drop>(
     alloc: Global,
     settings: &Settings,
     table: T,
     queries: Q,
-    answers: W,
-) -> (Outcome, ReadSource<Q>, WriteSink<W>)
+    answers: BufWriter<W>,
+) -> (Outcome, ReadSource<Q>, BufferedSink<W>)
     // As of `run`. Each failure of the reader of the queries or of the writer is reported, and no other; the queries are
     // given up without one only once all turns are used up.
     ensures headline { (all asked before : List ℕ) → T.remaining table ≡ Some all
-        → Q.remaining queries ≡ Some asked → W.contents answers ≡ Some before
+        → Q.remaining queries ≡ Some asked → writer_contents W.contents answers ≡ Some before
         → result.0.fault ≢ Some RunFault.Memory
         → result.0.fault ≢ Some (RunFault.Table TableFault.Read) → result.1.failures ≡ 0
         → result.2.failures ≡ 0 → length asked < 2 ^ 64 - 1
-        → (W.contents result.2.device ≡ Some (before ++ (run_of settings.now all asked).0))
+        → (writer_contents W.contents result.2.device
+        ≡ Some (before ++ (run_of settings.now all asked).0))
         × (result.0 ≡ (run_of settings.now all asked).1) }
     ensures ending { (all : List ℕ) → T.remaining table ≡ Some all → Ends settings.now all
         (Q.remaining queries) (Q.remaining result.1.device)
-        (W.contents answers) (W.contents result.2.device) result.0 }
+        (writer_contents W.contents answers) (writer_contents W.contents result.2.device) result.0 }
     ensures status { MatchOption result.0.fault (result.0.status ≤ 1)
         (λ fault. result.0.status ≡ status_of fault) }
     ensures memory { result.0.fault ≢ Some (RunFault.Table TableFault.Memory) }
@@ -55,12 +56,14 @@ pub fn run_std<T: Read + Drop, Q: Read + Drop, W: Write + Drop>(
         ⊎ ((result.1.failures ≡ 1) × (result.0.fault ≡ Some RunFault.Read)) }
     ensures turns { result.0.fault ≡ Some RunFault.Read → result.1.failures ≡ 0
         → ConsumedAtLeast (2 ^ 64 - 1) (Q.remaining queries) (Q.remaining result.1.device) }
-    ensures flushed { result.0.fault ≢ Some RunFault.Write → result.2.waits ≡ false }
+    // What was pushed has left the buffer for the writer, if the buffer was empty before.
+    ensures flushed { result.0.fault ≢ Some RunFault.Write
+        → writer_buffer answers ≡ [] → writer_buffer result.2.device ≡ [] }
     ensures untouched { (fault : RunFault) → result.0.fault ≡ Some fault → fault ≢ RunFault.Read
         → fault ≢ RunFault.Write → (result.1.device ≡ queries) × (result.2.device ≡ answers) }
 {
     let mut source = ReadSource::new(queries);
-    let mut sink = WriteSink::new(answers);
+    let mut sink = BufferedSink::new(answers);
     let outcome = run(alloc, settings, table, &mut source, &mut sink, u64::MAX);
     (outcome, source, sink)
 }
@@ -76,7 +79,7 @@ pub fn run<R: Read + Drop, S: Source, K: Sink>(
 ) -> Outcome
     requires source_count { S.failed source.old < 2 ^ 64 - 1 }
     requires sink_count { K.failed sink.old < 2 ^ 64 - 1 }
-    // The headline. The three devices tell their bytes, no growth was refused while the table was loaded, no read of it
+    // The headline. The three devices report their bytes, no growth was refused while the table was loaded, no read of it
     // failed, no pull, push or flush failed, and the queries are fewer bytes than the turns.
     ensures headline { (table queries before : List ℕ) → R.remaining reader ≡ Some table
         → S.coming source.old ≡ Some queries → K.written sink.old ≡ Some before
@@ -85,9 +88,9 @@ pub fn run<R: Read + Drop, S: Source, K: Sink>(
         → length queries < turns
         → (K.written sink.new ≡ Some (before ++ (run_of settings.now table queries).0))
         × (result ≡ (run_of settings.now table queries).1) }
-    // How a run ends, failures included, as far as source and sink tell their bytes. After a failed push or flush a
-    // prefix went out, after a failed pull or used-up turns the replies to the complete lines, and where the load fails,
-    // nothing.
+    // How a run ends, failures included: of the source and the sink, those that report their bytes report them then too.
+    // After a failed push or flush a prefix went out, after a failed pull or used-up turns the replies to the complete
+    // lines, and where the load fails, nothing.
     ensures ending { (table : List ℕ) → R.remaining reader ≡ Some table → Ends settings.now table
         (S.coming source.old) (S.coming source.new)
         (K.written sink.old) (K.written sink.new) result }

@@ -1,7 +1,7 @@
 //! The filter: from a table's bytes and query bytes to the bytes of the answers.
 //!
 //! [`run`] is the call that the program makes, by [`run_std`]; its contract is what the crate is for: where reader, source
-//! and sink tell their bytes and nothing fails, what is written, the fault and the status are `run_of` of the settings and
+//! and sink report their bytes and nothing fails, what is written, the fault and the status are `run_of` of the settings and
 //! the bytes (`specs/Runs.antt`), however reads and writes are cut. `specs/Endings.antt` says what holds after a failure.
 //! [`serve`] is what it does once the table is loaded: each query line is answered as it comes, by the search of
 //! `rt_search`. Bytes come from a [`Source`] and go to a [`Sink`], of `rt_device`; settings come from the command line
@@ -18,7 +18,8 @@ mod serving;
 pub use filter::{Outcome, run, run_std};
 pub use rt_command::{ArgFault, Invocation, Name, Settings, settings_of};
 pub use rt_device::{
-    ReadFault, ReadSource, Sink, SliceSink, SliceSource, Source, WriteFault, WriteSink,
+    BufferedSink, ReadFault, ReadSource, Sink, SliceSink, SliceSource, Source, WriteFault,
+    WriteSink,
 };
 pub use rt_text::{RunFault, run_fault_line};
 pub use serving::{ServeFault, Served, serve};

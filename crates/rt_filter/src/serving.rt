@@ -46,7 +46,8 @@ pub fn serve<S: Source, K: Sink>(
     requires room { length tree.now.entries ≤ frontier.capacity }
     requires source_count { S.failed source.old < 2 ^ 64 - 1 }
     requires sink_count { K.failed sink.old < 2 ^ 64 - 1 }
-    // The replies are those over any entries whose packed tree this is, as far as the two devices tell their bytes.
+    // The replies are those over any entries whose packed tree this is. A device that reports its bytes reports them then
+    // too, after a failure as well.
     ensures ending { (loaded : Loaded) → tree.now ≡ tree_of loaded → Serves loaded
         (S.coming source.old) (S.coming source.new)
         (K.written sink.old) (K.written sink.new) result }

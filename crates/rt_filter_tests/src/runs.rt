@@ -6,6 +6,7 @@ use itoa::Buffer;
 use rt_filter::{Outcome, RunFault, Settings, Sink, Source, run_fault_line, run_std};
 use rt_text::{Axis, TableFault};
 use std::alloc::{AllocError, Global};
+use std::io::BufWriter;
 use std::process::Abort;
 use std::test::Fail;
 
@@ -451,10 +452,11 @@ fn tells_faults_in_lines(rt: HostRuntime) {
 }
 
 #[test]
-fn runs_over_std(rt: HostRuntime) {
+fn runs_over_std(rt: HostRuntime) -> Result<(), Fail> {
     let settings = Settings::new(false, 16, 5).expect(&rt, "they are in range");
     let mut out = Vec::new(rt.alloc());
-    let (outcome, queries, answers) = run_std(rt.alloc(), &settings, BOXES, FIND, &mut out);
+    let buffered = BufWriter::with_capacity(rt.alloc(), 64, &mut out)?;
+    let (outcome, queries, answers) = run_std(rt.alloc(), &settings, BOXES, FIND, buffered);
     let well = Outcome {
         status: 0,
         fault: None,
@@ -463,6 +465,7 @@ fn runs_over_std(rt: HostRuntime) {
     expect_eq(&rt, (queries.failures(), answers.failures()), (0, 0));
     drop(answers);
     expect_eq(&rt, out.as_slice(), FOUND);
+    Ok(())
 }
 
 #[test]

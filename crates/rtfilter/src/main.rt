@@ -4,9 +4,10 @@
 //! `rt_filter::run_std` does the rest, with standard output as the writer.
 #![tactic(auto)]
 
-use rt_filter::{
-    ArgFault, Invocation, Name, Outcome, RunFault, Settings, run_fault_line, run_std, settings_of,
-};
+mod ending;
+
+use crate::ending::Ending;
+use rt_filter::{ArgFault, Invocation, Name, Settings, run_std, settings_of};
 use std::env;
 use std::fs::File;
 use std::io::{self, BufWriter, ErrorKind, Read, Write};
@@ -20,60 +21,6 @@ const USAGE: &[u8] =
 /// How many bytes of answers are kept before they are written. They are handed on before each pull in any case.
 const OUTPUT_ROOM: usize = 65_536;
 
-/// How the program ends.
-#[derive(Clone, Copy)]
-enum Ending {
-    /// The run was made, and ended so.
-    Ran(Outcome),
-    /// Help was asked for, and printed.
-    Helped,
-    /// Help was asked for, and couldn't be printed.
-    NotHelped,
-    /// The words are none that the program takes.
-    BadCommandLine,
-    /// TABLE couldn't be opened.
-    NoTable,
-    /// QUERIES couldn't be opened.
-    NoQueries,
-    /// There was no memory for the words or for the output's buffer.
-    NoMemory,
-}
-
-impl Ending {
-    /// The exit status.
-    fn status(self) -> u8 {
-        match self {
-            Ending::Ran(outcome) => outcome.status,
-            Ending::Helped => 0,
-            Ending::BadCommandLine => 2,
-            Ending::NoTable => 3,
-            Ending::NoQueries => 4,
-            Ending::NotHelped => 5,
-            Ending::NoMemory => 6,
-        }
-    }
-
-    /// The fault of a run whose line goes to standard error, if there is one.
-    fn fault(self) -> Option<RunFault> {
-        match self {
-            Ending::Ran(outcome) => outcome.fault,
-            Ending::NotHelped => Some(RunFault::Write),
-            Ending::NoMemory => Some(RunFault::Memory),
-            _ => None,
-        }
-    }
-
-    /// The line on standard error where there was no run: none after help.
-    fn line(self) -> &'static [u8] {
-        match self {
-            Ending::BadCommandLine => b"rtfilter: bad command line\n",
-            Ending::NoTable => b"rtfilter: cannot open table\n",
-            Ending::NoQueries => b"rtfilter: cannot open queries\n",
-            _ => b"",
-        }
-    }
-}
-
 fn main(rt: HostRuntime) -> ExitCode {
     let ending = match invocation(&rt) {
         Ok(invocation) => open_and_run(&rt, &invocation),
@@ -82,10 +29,7 @@ fn main(rt: HostRuntime) -> ExitCode {
         Err(ArgFault::Memory) => Ending::NoMemory,
     };
     // (nothing is left to report where standard error fails too)
-    let _ = match ending.fault() {
-        Some(fault) => rt.stderr().write_all(run_fault_line(&fault).bytes()),
-        None => rt.stderr().write_all(ending.line()),
-    };
+    let _ = ending.report(&mut rt.stderr());
     ExitCode::from(ending.status())
 }
 

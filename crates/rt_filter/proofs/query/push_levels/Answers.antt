@@ -1,4 +1,4 @@
-use Rattle.std.proofs.Common.{◌∙◌, ◌≤◌, ap, length, arith, rules}
+use Rattle.std.proofs.Common.{◌∙◌, ◌+◌, ◌≤◌, ap, length, arith, rules}
 use Rattle.rt_tree.specs.Levels.{level_sizes}
 use Rattle.rt_text.specs.ReplyLines.{ok_line}
 use Rattle.rt_filter.specs.Replies.{levels_reply}
@@ -6,7 +6,14 @@ use Rattle.rt_filter.proofs.{LevelLemmas.{level_cut, level_pushed, levels_end}, 
 use Rattle.rt_filter.proofs.query.push_levels.Goals as goal
 
 pub returns-in_err-push_line : goal.returns-in_err-push_line
-returns-in_err-push_line g c = search (rules, as_failed, level_cut)
+returns-in_err-push_line g c =
+    let sizes = level_sizes (length c.args.tree.now.entries) c.args.tree.now.fanout in record {
+      pushed = as_failed g.K.Sink.written g.K.Sink.failed _ c.loop-above.sink _ c.from_residual.result _ _ c.from_residual.ensures.1 (
+        level_cut c.args.line sizes (levels_reply c.args.line sizes) _ _ _ c.loop-above.above c.level_line.result c.loop-above.invariant.pushed c.level_len.result
+            (search rules) (search rules) (search rules) c.in_err-push_line.ensures.pushed.0,
+        c.in_err-push_line.ensures.pushed.1 ∙ ap (λ n. n + 1) c.loop-above.invariant.count,
+      );
+    }
 
 pub loop-above-preserved : goal.loop-above-preserved
 loop-above-preserved g c = search (rules, level_pushed)

@@ -1,7 +1,7 @@
 use Rattle.std.proofs.{Common.{◌≡◌, ◌∙◌, ◌+◌, ◌-◌, ◌≤◌, [], ◌∷◌, take, length, ap, sym, arith, rules}, lemmas.List.{length-take-le}}
 use Rattle.rt_filter.specs.Stages.{line_feed, loaded_tree, most_pulled}
 use Rattle.rt_filter.proofs.ProgressLemmas.{ended-fault, ended-output}
-use Rattle.rt_filter.proofs.{BufferLemmas.{ended, front_of, length_pulled, pulled, rest_of}, PushLemmas.{unmoved_same}, ServingLemmas.{consumed_more}}
+use Rattle.rt_filter.proofs.{BufferLemmas.{ended, front_of, length_pulled, pulled, rest_of}, PushLemmas.{kept_same}, ServingLemmas.{consumed_more}}
 use Rattle.rt_filter.proofs.ServingLemmas.{pulled_more, pulled_within, serves_all, serves_cut, serves_cut_at_end}
 use Rattle.rt_filter.proofs.ServingLemmas.{serves_read, serving_more}
 use Rattle.rt_filter.proofs.serving.exchange.Goals as goal
@@ -134,7 +134,7 @@ loop-turn-preserved g c =
 
 pub returns : goal.returns
 returns g c = rw (c.requires.loaded, c.requires.devices) (record {
-  ending = search (rules, serves_read, unmoved_same);
+  ending = search (rules, serves_read, kept_same);
   pushes = search rules;
   pulls = search rules;
   turns = search rules;

@@ -72,7 +72,7 @@ loop-at-preserved g c =
 pub returns-in_err-flush-clause-pushed : goal.returns-in_err-flush-clause-pushed
 returns-in_err-flush-clause-pushed g c pulled is =
     as_failed g.K.Sink.written g.K.Sink.failed _ c.args.sink.now _ c.from_residual-in_err-flush.result _ _ c.from_residual-in_err-flush.ensures.1 (
-      pushed_lost _ _ _ _ (answered-all _ _ _ _ _ _ _ _ _ _ _ c.loop-at.invariant.answered (found_none _ (rw (take_rest c.args.bytes.now c.loop-at.searched) at c.in_default.ensures)) pulled is) c.in_err-flush.ensures.lost,
+      pushed_lost _ _ _ _ (answered-all _ _ _ _ _ _ _ _ _ _ _ c.loop-at.invariant.answered (found_none _ (rw (take_rest c.args.bytes.now c.loop-at.searched) at c.in_default.ensures)) pulled is) c.flush.ensures.bytes,
       c.in_err-flush.ensures.fails ∙ ap (λ n. n + 1) c.loop-at.invariant.count,
     )
 

@@ -1,0 +1,71 @@
+//! How the program ends: its exit status, and the line on standard error.
+
+ghost use Rattle.std.specs.{Io.KnownBytes.{Appends}, Prelude.{◌≡◌, OnOk}};
+ghost use Rattle.rt_text.specs.RunFaults.{run_fault_line};
+ghost use Rattle.rtfilter.specs.Endings.{report_of, status_of};
+
+use rt_filter::{Outcome, RunFault, run_fault_line};
+use std::io::{self, Write};
+
+/// How the program ends.
+#[derive(Clone, Copy)]
+pub(crate) enum Ending {
+    /// The run was made, and ended so.
+    Ran(Outcome),
+    /// Help was asked for, and printed.
+    Helped,
+    /// Help was asked for, and couldn't be printed.
+    NotHelped,
+    /// The words are none that the program takes.
+    BadCommandLine,
+    /// TABLE couldn't be opened.
+    NoTable,
+    /// QUERIES couldn't be opened.
+    NoQueries,
+    /// There was no memory for the words or for the output's buffer.
+    NoMemory,
+}
+
+impl Ending {
+    /// The exit status.
+    pub(crate) fn status(self) -> u8
+        ensures { result ≡ status_of self }
+    {
+        match self {
+            Ending::Ran(outcome) => outcome.status,
+            Ending::Helped => 0,
+            Ending::BadCommandLine => 2,
+            Ending::NoTable => 3,
+            Ending::NoQueries => 4,
+            Ending::NotHelped => 5,
+            Ending::NoMemory => 6,
+        }
+    }
+
+    /// Writes the line that reports it, and nothing where there is none.
+    pub(crate) fn report<W: Write>(self, errors: &mut W) -> io::Result<()>
+        ensures { OnOk result
+            (Appends (W.contents errors.old) (W.contents errors.new) (report_of self)) }
+    {
+        match self {
+            Ending::Ran(outcome) => match outcome.fault {
+                Some(fault) => report_fault(fault, errors),
+                None => Ok(()),
+            },
+            Ending::Helped => Ok(()),
+            Ending::NotHelped => report_fault(RunFault::Write, errors),
+            Ending::BadCommandLine => errors.write_all(b"rtfilter: bad command line\n"),
+            Ending::NoTable => errors.write_all(b"rtfilter: cannot open table\n"),
+            Ending::NoQueries => errors.write_all(b"rtfilter: cannot open queries\n"),
+            Ending::NoMemory => report_fault(RunFault::Memory, errors),
+        }
+    }
+}
+
+// Writes the line that reports a fault of a run.
+fn report_fault<W: Write>(fault: RunFault, errors: &mut W) -> io::Result<()>
+    ensures { OnOk result
+        (Appends (W.contents errors.old) (W.contents errors.new) (run_fault_line fault)) }
+{
+    errors.write_all(run_fault_line(&fault).bytes())
+}
