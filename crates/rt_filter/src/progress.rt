@@ -14,7 +14,7 @@ use crate::reply::push_line;
 use memchr::memchr;
 use rt_device::{Sink, WriteFault};
 use rt_search::Frontier;
-use rt_text::{Parsed, QueryFault, error_line, parse};
+use rt_text::{Parsed, QueryFault, error_line, parse_into};
 use rt_tree::Tree;
 
 /// How many bytes a query line has at most, a carriage return at its end included and its line feed not.
@@ -89,13 +89,14 @@ impl Progress {
         ensures capacity { IfOk result (λ done. done.0.capacity ≡ frontier.capacity) }
     {
         let mut frontier = frontier;
+        let mut parsed = Parsed::Skip;
         let mut is_pushed = false;
         let mut start = 0;
         let mut searched = kept;
         while let Some(at) = memchr(b'\n', &bytes[searched..]) {
             let end = searched + at;
             let line = &bytes[start..end];
-            frontier = self.answer_line(tree, frontier, line, &mut is_pushed, sink)?;
+            frontier = self.answer_line(tree, frontier, line, &mut parsed, &mut is_pushed, sink)?;
             start = end + 1;
             searched = start;
         }
@@ -130,13 +131,14 @@ impl Progress {
         left
     }
 
-    // Answers a line, which is the next one. `is_pushed` is set where something is pushed; else it is left as it was, and
-    // the sink too.
+    // Answers a line, which is the next one, and is parsed into `parsed`. `is_pushed` is set where something is pushed; else
+    // it is left as it was, and the sink too.
     fn answer_line<K: Sink>(
         &mut self,
         tree: &Tree,
         frontier: Frontier,
         line: &[u8],
+        parsed: &mut Parsed,
         is_pushed: &mut bool,
         sink: &mut K,
     ) -> Result<Frontier, WriteFault>
@@ -162,7 +164,8 @@ impl Progress {
             *is_pushed = true;
             return self.push_fault(frontier, QueryFault::LineTooLong, sink);
         }
-        match &parse(line) {
+        parse_into(line, parsed);
+        match &*parsed {
             Parsed::Skip => Ok(frontier),
             Parsed::Query(query) => {
                 *is_pushed = true;
@@ -176,6 +179,7 @@ impl Progress {
     }
 
     // Pushes the reply to a faulty line, the last one that is counted.
+    #[inline(always)]
     fn push_fault<K: Sink>(
         &mut self,
         frontier: Frontier,

@@ -149,7 +149,7 @@ fn push_in_region<K: Sink>(
 }
 
 // Pushes the report on the boxes that one shape accepts; the order is matched here.
-#[inline(never)]
+#[inline(always)]
 fn push_in_shape<S: Shape + Drop, K: Sink>(
     tree: &Tree,
     frontier: Frontier,

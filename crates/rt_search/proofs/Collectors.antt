@@ -1,10 +1,10 @@
 -- What a collector becomes with answers.
-use Rattle.std.proofs.{Common.{◌≡◌, ◌+◌, ◌∷◌, [], ℕ, List, length, map, ap, arith, rules}, lemmas.List.{length-map}}
+use Rattle.std.proofs.{Common.{◌≡◌, ◌+◌, ◌∷◌, [], ℕ, List, length, map, ap, arith, rules}}
 use Rattle.rt_tree.specs.Sorting.{put}
 use Rattle.rt_search.specs.{Answers.{Answer}, Items.{Gathered, Limited, item_cmp, item_of}, Joining.{KeepsHit}}
 use Rattle.rt_search.specs.{Joining.{join_answers}, Limits.{IsPut, KeepsEnough}, Walking.{HasTaken}}
-use Rattle.rt_search.specs.declared.{counting.Tally.{Tally}, item.Item.{Item}}
-use Rattle.rt_search.proofs.{Limits.{enough_itself, enough_put_all, enough_trans}, OrderedLists.{length-put_all}}
+use Rattle.rt_search.specs.declared.{counting.Tally.{Tally}}
+use Rattle.rt_search.proofs.{Limits.{enough_itself, enough_put_all, enough_trans}}
 use Rattle.rt_search.proofs.{OrderedLists.{put_all-put}, Orders.{item_order}}
 
 -- ---- a tally: so many more
@@ -25,9 +25,6 @@ pub hits_join : (old new : Gathered) (xs : List Answer) → HasTaken KeepsHit ol
     → (new.items ≡ join_answers xs old.items) × (new.capacity ≡ old.capacity)
 hits_join old new [] h = (ap (λ w. w.items) h, ap (λ w. w.capacity) h)
 hits_join old new (a ∷ xs) h = search (rules, put_all-put, item_order, hits_join h.0 new xs h.1.1)
-
-pub length-joined : (xs : List Answer) (items : List Item) → length (join_answers xs items) ≡ length xs + length items
-length-joined xs items = grind (arith, length-put_all, item_order, length-map)
 
 pub entries_join : (old new : Limited) (xs : List Answer)
     → HasTaken (λ old a new. IsPut (item_of a) old new) old xs new

@@ -3,10 +3,10 @@ use Rattle.std.proofs.Common.{◌≡◌, ◌<◌, ◌≤◌, ◌+◌, ◌-◌, �
 use Rattle.std.proofs.lemmas.{Bool.Decides.{nat_tests}, List.{length-map, Sorted.{length_permutation}}}
 use Rattle.rt_geo.specs.{Laws.{Meaning}, declared.geometry.Verdict.{Verdict}}
 use Rattle.rt_tree.specs.{Packed.{Packed, IsSound, node_at}, declared.tree.Node.{Node}}
-use Rattle.rt_search.specs.{Answers.{accepted, answer_cmp, answer_of, answers, scored}, Remaining.{IsOpenable, put_all}}
+use Rattle.rt_search.specs.{Answers.{accepted, answer_cmp, answers, scored}, Remaining.{IsOpenable, put_all}}
 use Rattle.rt_search.specs.{Walking.{answers_in_tree, work_under}, Work.{its_children, one_node, reached_from_root}}
 use Rattle.rt_search.specs.Work.{root_verdict}
-use Rattle.rt_search.proofs.{Answering.{among-IsPermutation}, Giving.{length-scored}, OrderedLists.{length-put_all}}
+use Rattle.rt_search.proofs.{Answering.{among-IsPermutation}, OrderedLists.{length-put_all}}
 use Rattle.rt_search.proofs.{OrderedLists.{put_all-nil}, Orders.{answer_order}, Sizes.{count_is_fair, one_is_fair}}
 use Rattle.rt_search.proofs.{Sizes.{size_under, work_le}, Starting.{empty_answers, nat_eq_false}}
 
@@ -23,11 +23,6 @@ module _ (meaning : Meaning) (t : Packed) (sound : IsSound t)
     tree_count =
         let all = ap length (tree_answers ∙ sym (put_all-nil answer_cmp answer_order (scored t.entries meaning))) in
         grind (arith, length-put_all, answer_order, length-map)
-
-    -- of which there are no more than entries
-    pub tree_few : length (answers_in_tree t meaning) ≤ length t.entries
-    tree_few =
-        omega (arith, tree_count, length-map (accepted t.entries meaning) (answer_of meaning), length-scored meaning t.entries)
 
     -- ---- from the root
 

@@ -2,7 +2,7 @@
 
 use crate::expect::expect_eq;
 use rt_geo::{All, ById, Circle, Layers, Near, Order, Point, Polygon, Region, Smallest, Window};
-use rt_text::{Parsed, Query, QueryFault, parse};
+use rt_text::{Parsed, Query, QueryFault, parse, parse_into};
 use std::process::Abort;
 
 /// The query of a line that is gone when it is returned.
@@ -100,4 +100,22 @@ fn a_cost_of_a_count_has_what_the_count_has(rt: HostRuntime) {
     };
     expect_eq(&rt, region, Region::All(All));
     expect_eq(&rt, layers, Layers::of(1));
+}
+
+#[test]
+fn lines_are_parsed_into_one_place(rt: HostRuntime) {
+    let mut parsed = Parsed::Skip;
+    for line in [
+        "find polygon 3 0 0 0 30 30 0 on 3 smallest first 7",
+        "levels",
+        "# find all",
+        "find all x",
+        "",
+        "cost count circle 1 2 3 on 0,3",
+        "cost levels",
+        "nearest 3 12 -5",
+    ] {
+        parse_into(line.as_bytes(), &mut parsed);
+        assert!(rt; parsed == parse(line.as_bytes()));
+    }
 }
