@@ -41,7 +41,7 @@ module _ (accepts : Extent → Bool) (score : Extent → ℕ) where
     accepted-all : accepted entries (on_layers layers) ≡ accepted entries plain
     accepted-all = search (rules, same_by_recursion, recursion_from_All)
 
-    answers-all : (limit : Option ℕ) → answers entries (on_layers layers) limit ≡ answers entries plain limit
+    pub answers-all : (limit : Option ℕ) → answers entries (on_layers layers) limit ≡ answers entries plain limit
     answers-all limit = ap (λ found. limited limit (sorted answer_cmp (map (answer_of plain) found))) accepted-all
 
 -- on all layers the report on the boxes that a query asks for is that on what its region accepts
