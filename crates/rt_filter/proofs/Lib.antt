@@ -1,6 +1,7 @@
+mod BatchLemmas
 mod BufferLemmas
 mod FindLemmas
-mod LayerLemmas
+pub mod LayerLemmas
 mod LevelLemmas
 mod LineLemmas
 mod ProgressLemmas

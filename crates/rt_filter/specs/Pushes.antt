@@ -1,4 +1,4 @@
--- What pushes add up to. No public contract cites it.
+-- What pushes add up to. Of the public contracts that of `answer_batch` alone cites it.
 use Rattle.std.specs.Prelude.{◌≡◌, ◌+◌, ℕ, List, flat_map, Option, Result, MatchResult}
 use Rattle.std.specs.Io.{StartsWith, KnownBytes.{Appends}}
 use Rattle.rt_text.specs.ReplyLines.{answer_line}

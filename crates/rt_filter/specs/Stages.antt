@@ -1,4 +1,5 @@
--- What the private stages of a run promise one another, and what their loops keep. No public contract cites it.
+-- What the private stages of a run promise one another, and what their loops keep. Of the public contracts those of `load`
+-- and of its callers cite `HasLoaded`, `Stops` and `is_of_load`, and no other cites anything of it.
 use Rattle.std.specs.Prelude.{◌≡◌, ◌+◌, ℕ, List, ◌++◌, Bool, true, false, Option, Some, Ok, ⊤}
 use Rattle.std.specs.List.{AllByRecursion, enumerate_from, slice_split}
 use Rattle.std.specs.Io.KnownBytes.{Appends, Consumes}

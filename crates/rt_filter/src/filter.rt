@@ -127,8 +127,8 @@ pub fn run<R: Read + Drop, S: Source, K: Sink>(
     }
 }
 
-// The tree of a table, and a frontier with room for every query over it.
-fn load<R: Read + Drop>(
+/// The tree of a table, and a frontier with room for every query over it. No fault is one of the queries or the output.
+pub fn load<R: Read + Drop>(
     alloc: Global,
     settings: &Settings,
     reader: R,

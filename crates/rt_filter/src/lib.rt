@@ -8,6 +8,7 @@
 //! by [`settings_of`], of `rt_command`.
 #![tactic(auto)]
 
+mod batch;
 mod exchange;
 mod filter;
 mod progress;
@@ -15,7 +16,8 @@ mod query;
 mod reply;
 mod serving;
 
-pub use filter::{Outcome, run, run_std};
+pub use batch::answer_batch;
+pub use filter::{Outcome, load, run, run_std};
 pub use rt_command::{ArgFault, Invocation, Name, Settings, settings_of};
 pub use rt_device::{
     BufferedSink, ReadFault, ReadSource, Sink, SliceSink, SliceSource, Source, WriteFault,

@@ -4,7 +4,7 @@ ghost use Rattle.std.specs.Prelude.{◌≡◌, ◌+◌, ◌-◌, ◌||◌, ◌<�
 ghost use Rattle.std.specs.Prelude.{IfOk, OnOk, MatchResult, drop, length, take};
 ghost use Rattle.rt_filter.specs.{Lines.{longest_line, numbered_lines}, Pushes.{Pushed}, Stages.{loaded_tree}};
 ghost use Rattle.rt_filter.specs.Progresses.{IsAfter, IsLeft, completed, parsed_of, progress_of};
-ghost use Rattle.rt_filter.specs.Replies.{any_fault, is_fault, output, reply};
+ghost use Rattle.rt_filter.specs.Replies.{any_fault, is_fault, output, parsed_line, reply};
 ghost use Rattle.rt_filter.specs.Works.{opened_by_line, opened_by_lines};
 ghost use Rattle.rt_search.specs.Work.{CountsOn};
 ghost use Rattle.rt_text.specs.ReplyLines.{error_line};
@@ -176,6 +176,30 @@ impl Progress {
                 self.push_fault(frontier, *fault, sink)
             }
         }
+    }
+
+    /// Answers a line that is whole in memory, as [`Progress::answer_lines`] does one whose bytes it has.
+    pub(crate) fn answer_whole<K: Sink>(
+        &mut self,
+        tree: &Tree,
+        frontier: Frontier,
+        line: &[u8],
+        is_pushed: &mut bool,
+        sink: &mut K,
+    ) -> Result<Frontier, WriteFault>
+        requires room { length tree.now.entries ≤ frontier.capacity }
+        requires count { K.failed sink.old < 2 ^ 64 - 1 }
+        requires few { self.old.lines + 1 < 2 ^ 128 }
+        ensures pushed { Pushed K.written K.failed sink.old sink.new result (reply
+            (loaded_tree tree.now) (self.old.lines + 1) (parsed_line line.now)) }
+        ensures lines { self.new.lines ≡ self.old.lines + 1 }
+        ensures bad { self.new.bad ≡ (self.old.bad || is_fault (parsed_line line.now)) }
+        ensures capacity { IfOk result (λ left. left.capacity ≡ frontier.capacity) }
+        ensures untouched { is_pushed.new ≡ false
+            → (is_pushed.old ≡ false) × (sink.new ≡ sink.old) }
+    {
+        self.is_too_long = line.len() > LONGEST_LINE;
+        self.answer_line(tree, frontier, line, is_pushed, sink)
     }
 
     // Pushes the reply to a faulty line, the last one that is counted.

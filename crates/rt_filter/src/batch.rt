@@ -1,0 +1,80 @@
+//! Query lines of a text that is whole in memory.
+
+ghost use Rattle.std.specs.Prelude.{◌≡◌, ◌+◌, ◌-◌, ◌<◌, ◌≤◌, ◌^◌, ◌∷◌, ℕ, IfOk, OnOk, false, true, length};
+ghost use Rattle.rt_filter.specs.{Lines.{numbered_lines}, Pushes.{Pushed}, Stages.{lines_from, loaded_tree}};
+ghost use Rattle.rt_filter.specs.Replies.{Loaded, any_fault, output, tree_of};
+
+use crate::progress::Progress;
+use memchr::memchr;
+use rt_device::{Sink, WriteFault};
+use rt_search::Frontier;
+use rt_tree::Tree;
+
+/// Answers the query lines of a text, and pushes the replies to a sink: a run of its own, whose lines are numbered from 1
+/// and of which the last needs no line feed. What was pushed is flushed at the end.
+///
+/// Returns whether some line is faulty, and the frontier for the next text. An error means that a push or the flush
+/// failed; the frontier is lost then. No call can fail with out of memory but the sink's.
+pub fn answer_batch<K: Sink>(
+    tree: &Tree,
+    frontier: Frontier,
+    text: &[u8],
+    sink: &mut K,
+) -> Result<(bool, Frontier), WriteFault>
+    requires room { length tree.now.entries ≤ frontier.capacity }
+    requires sink_count { K.failed sink.old < 2 ^ 64 - 1 }
+    // The replies to all lines, over any entries whose packed tree this is; after a failed push or flush a prefix of them.
+    ensures replies { (loaded : Loaded) → tree.now ≡ tree_of loaded
+        → Pushed K.written K.failed sink.old sink.new result
+        (output loaded (numbered_lines text.now true)) }
+    ensures bad { IfOk result (λ done. done.0 ≡ any_fault (numbered_lines text.now true)) }
+    ensures capacity { IfOk result (λ done. done.1.capacity ≡ frontier.capacity) }
+    ensures flushed { OnOk result (K.waits sink.old ≡ false → K.waits sink.new ≡ false) }
+{
+    // (called, so that it is known that the tree is the packed one of its own entries)
+    let _ = tree.len();
+    answer_text(tree, frontier, text, sink)
+}
+
+// Answers the lines, over the tree's own entries.
+fn answer_text<K: Sink>(
+    tree: &Tree,
+    frontier: Frontier,
+    text: &[u8],
+    sink: &mut K,
+) -> Result<(bool, Frontier), WriteFault>
+    requires room { length tree.now.entries ≤ frontier.capacity }
+    requires sink_count { K.failed sink.old < 2 ^ 64 - 1 }
+    ensures pushed { Pushed K.written K.failed sink.old sink.new result
+        (output (loaded_tree tree.now) (numbered_lines text.now true)) }
+    ensures bad { IfOk result (λ done. done.0 ≡ any_fault (numbered_lines text.now true)) }
+    ensures capacity { IfOk result (λ done. done.1.capacity ≡ frontier.capacity) }
+    ensures flushed { OnOk result (K.waits sink.old ≡ false → K.waits sink.new ≡ false) }
+{
+    let mut frontier = frontier;
+    let mut progress = Progress::new();
+    let mut is_pushed = false;
+    let mut rest = text;
+    while !rest.is_empty() {
+        let (line, behind) = split_line(rest);
+        frontier = progress.answer_whole(tree, frontier, line, &mut is_pushed, sink)?;
+        rest = behind;
+    }
+    if is_pushed {
+        sink.flush()?;
+    }
+    Ok((progress.is_bad(), frontier))
+}
+
+// The first line, and what stands behind it and its line feed.
+fn split_line(bytes: &[u8]) -> (&[u8], &[u8])
+    requires some { 0 < length bytes.now }
+    ensures lines { (number : ℕ) → lines_from number bytes.now true
+        ≡ (number + 1, result.0.now) ∷ lines_from (number + 1) result.1.now true }
+    ensures shorter { length result.1.now < length bytes.now }
+{
+    match memchr(b'\n', bytes) {
+        Some(at) => (&bytes[..at], &bytes[at + 1..]),
+        None => (bytes, &bytes[bytes.len()..]),
+    }
+}
