@@ -1,7 +1,7 @@
 -- What pushes add up to.
 use Rattle.std.proofs.Common.{◌≡◌, ◌∙◌, ◌+◌, ℕ, List, [], ◌∷◌, ◌++◌, length, drop, Option, Some, None, refl, sym, ap}
-use Rattle.std.proofs.{Common.{arith, append_assoc, append-nil, rules}, Math.Seq.{take-append-add, take-append_seam}}
-use Rattle.std.proofs.lemmas.List.{append_cancel_left, length-append, take-append-drop}
+use Rattle.std.proofs.{Common.{arith, append_assoc, append-nil, rules}, Math.Seq.{take-append_seam}}
+use Rattle.std.proofs.lemmas.List.{take-append-drop}
 use Rattle.std.specs.{Io.{StartsWith}, Prelude.{IfSome, IsErrAnd, MatchResult, Result, Ok, Err}, Result.{result_and}}
 use Rattle.rt_device.specs.Devices.{IsSameIfTold}
 use Rattle.rt_filter.specs.Pushes.{Pushed, WasCut, WasPushed, WentPrefix}
@@ -78,30 +78,6 @@ pushed_prefix all old mid new rest p h =
 
 pub unmoved_same : (now : Option (List ℕ)) → IsSameIfTold now now
 unmoved_same now = grind arith
-
--- what came out before, and then a prefix of the bytes: told by prefixes alone
-pub cut_told : (before bytes : List ℕ) (now : Option (List ℕ)) → WentPrefix before now bytes
-    → IfSome now (λ written. StartsWith written before × StartsWith (before ++ bytes) written)
-cut_told before bytes None h = tt
-cut_told before bytes (Some written) h = let is = behind bytes h.0 h.2 in search (rules, take-append_seam, append_assoc)
-
-pub cut_replies : {T E : Type 0} (r : Result T E) (P : E → Type 0) (A : List ℕ → T → Type 0) (old now : Option (List ℕ)) (bytes : List ℕ)
-    → IsErrAnd r P → WasCut old now bytes
-    → IfSome old (λ before. MatchResult r (A before) (λ _. IfSome now (λ written. StartsWith written before × StartsWith (before ++ bytes) written)))
-cut_replies r P A old now bytes is cut = search (rules, if_some, at_failure, cut_told)
-
--- a prefix of what stands behind the same bytes
-starts_behind : (before bytes out : List ℕ) → StartsWith (before ++ bytes) (before ++ out) → StartsWith bytes out
-starts_behind before bytes out h = search (rules, append_cancel_left, take-append-add, length-append)
-
-pub told_cut : (old now : Option (List ℕ)) (bytes : List ℕ)
-    → IfSome old (λ before. IfSome now (λ written. StartsWith written before × StartsWith (before ++ bytes) written)) → WasCut old now bytes
-told_cut None now bytes h = tt
-told_cut (Some before) None bytes h = tt
-told_cut (Some before) (Some written) bytes h =
-    let out : List ℕ = drop (length before) written in
-    let is : written ≡ before ++ out = behind written before h.0 in
-    (out, is, starts_behind before bytes out (rw is at h.1))
 
 -- ---- calls that push
 
