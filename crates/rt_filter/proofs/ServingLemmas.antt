@@ -7,10 +7,10 @@ use Rattle.rt_device.specs.Devices.{PulledTimes}
 use Rattle.rt_text.specs.Words.{is_empty}
 use Rattle.rt_filter.specs.{Endings.{ConsumedAtLeast, Happened, Serves, ServesWith, SourceTells}}
 use Rattle.rt_filter.specs.{Lines.{longest_line, numbered_lines}, Pushes.{WasCut}, Replies.{Loaded}}
-use Rattle.rt_filter.specs.{Progresses.{IsAfter, completed, progress_of}, Replies.{any_fault, output}, Stages.{IsServing}}
+use Rattle.rt_filter.specs.{Progresses.{IsAfter, completed}, Replies.{any_fault, output}, Stages.{IsServing}}
 use Rattle.rt_filter.specs.declared.progress.Progress.{Progress}
 use Rattle.rt_filter.specs.declared.serving.{ServeFault.{ServeFault}, Served.{Served}}
-use Rattle.rt_filter.proofs.{LineLemmas.{completed-all}, PushLemmas.{behind, nothing_pushed, pushed_then}}
+use Rattle.rt_filter.proofs.{LineLemmas.{completed-all}, PushLemmas.{behind, pushed_then}}
 use Rattle.rt_filter.proofs.ProgressLemmas.{any_fault-append, ended-lines, or_first, output-append}
 use Rattle.rt_filter.specs.declared.serving.ServeFault.TheVariants as serve
 
@@ -26,16 +26,10 @@ consumes_more old mid new xs ys h k = grind (arith, append_assoc xs ys)
 consumes_kept : (old mid new : Option (List ℕ)) (xs : List ℕ) → Consumes old mid xs → Keeps mid new → Consumes old new xs
 consumes_kept old mid new xs h k = grind (arith, h, k)
 
-pub consumed_none : (old : Option (List ℕ)) → ConsumedAtLeast 0 old old
-consumed_none old = ([], consumes_none old, omega arith)
-
 -- a pull gave a byte at least
 pub consumed_more : (count n : ℕ) (room : List ℕ) (old mid new : Option (List ℕ)) → ConsumedAtLeast count old mid → 1 ≤ n → n ≤ length room
     → Consumes mid new (take n room) → ConsumedAtLeast (count + 1) old new
 consumed_more count n room old mid new h some bound k = search (rules, consumes_more, length-append, length-take-le)
-
-pub pulled_none : (old : Option ℕ) → PulledTimes 0 old old
-pulled_none old = grind arith
 
 pub pulled_more : (times : ℕ) (old mid new : Option ℕ) → PulledTimes times old mid → PulledTimes 1 mid new → PulledTimes (times + 1) old new
 pulled_more times old mid new h k = grind (arith, h, k)
@@ -64,11 +58,6 @@ starts-between : (before xs front back : List ℕ) → StartsWith xs front → S
 starts-between before xs front back h = let is = behind xs front h in grind (arith, is, append_assoc, take-append_seam)
 
 -- ---- serving
-
-pub serving_first : (loaded : Loaded) (coming written : Option (List ℕ)) (progress : Progress) → progress ≡ progress_of []
-    → IsServing loaded coming coming written written progress []
-serving_first loaded coming written progress e =
-    record { pulled = []; given = consumes_none coming; so = (e, refl); pushed = nothing_pushed written }
 
 module _ (loaded : Loaded) (coming0 coming written0 written : Option (List ℕ)) (progress : Progress) (kept : List ℕ) (s : IsServing loaded coming0 coming written0 written progress kept) where
   abbrev replied : List ℕ

@@ -8,6 +8,7 @@ use crate::progress::Progress;
 use memchr::memchr;
 use rt_device::{Sink, WriteFault};
 use rt_search::Frontier;
+use rt_text::Parsed;
 use rt_tree::Tree;
 
 /// Answers the query lines of a text, and pushes the replies to a sink: a run of its own, whose lines are numbered from 1
@@ -53,11 +54,12 @@ fn answer_text<K: Sink>(
 {
     let mut frontier = frontier;
     let mut progress = Progress::new();
+    let mut parsed = Parsed::Skip;
     let mut is_pushed = false;
     let mut rest = text;
     while !rest.is_empty() {
         let (line, behind) = split_line(rest);
-        frontier = progress.answer_whole(tree, frontier, line, &mut is_pushed, sink)?;
+        frontier = progress.answer_whole(tree, frontier, line, &mut parsed, &mut is_pushed, sink)?;
         rest = behind;
     }
     if is_pushed {

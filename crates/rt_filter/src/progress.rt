@@ -184,6 +184,7 @@ impl Progress {
         tree: &Tree,
         frontier: Frontier,
         line: &[u8],
+        parsed: &mut Parsed,
         is_pushed: &mut bool,
         sink: &mut K,
     ) -> Result<Frontier, WriteFault>
@@ -199,7 +200,7 @@ impl Progress {
             → (is_pushed.old ≡ false) × (sink.new ≡ sink.old) }
     {
         self.is_too_long = line.len() > LONGEST_LINE;
-        self.answer_line(tree, frontier, line, is_pushed, sink)
+        self.answer_line(tree, frontier, line, parsed, is_pushed, sink)
     }
 
     // Pushes the reply to a faulty line, the last one that is counted.

@@ -162,8 +162,8 @@ fn push_in_shape<S: Shape + Drop, K: Sink>(
     requires count { K.failed sink.old < 2 ^ 64 - 1 }
     ensures pushed { Pushed K.written K.failed sink.old sink.new result
         (report_on tree.now.entries (S.accepts shape) line report) }
-    ensures worked { let opened = opened_in_shape tree.now (S.accepts shape) (S.state shape) report in
-        IfOk result (λ left. CountsOn frontier.opened opened left.opened) }
+    ensures worked { IfOk result (λ left. CountsOn frontier.opened
+        (opened_in_shape tree.now (S.accepts shape) (S.state shape) report) left.opened) }
     ensures capacity { IfOk result (λ left. left.capacity ≡ frontier.capacity) }
 {
     let (order, limit) = match report {
