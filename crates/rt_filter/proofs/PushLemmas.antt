@@ -85,6 +85,9 @@ pushed_prefix all rest old mid new p h =
 pub kept_none : (old new : Option (List ℕ)) → Keeps old new → Appends old new []
 kept_none old new h = grind (arith, append-nil, h)
 
+pub kept_same : (now : Option (List ℕ)) → Keeps now now
+kept_same now = grind arith
+
 -- ---- calls that push
 
 -- a success that is given a value
