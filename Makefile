@@ -26,7 +26,7 @@ all_below = $(sort $(foreach it,$(call below,$(1)),$(it) $(call all_below,$(it))
 above = $(foreach crate,$(CRATES),$(if $(filter $(1),$(call all_below,$(crate))),$(crate)))
 sources = crates.txt $(shell find crates/$(1)/src crates/$(1)/specs crates/$(1)/proofs 2> /dev/null)
 
-# The proved program. No older one is left where a crate is not proved.
+# The proved program. No older one is left where a crate that it stands on is not proved.
 build/rtfilter: $(foreach it,$(call below,rtfilter),build/$(it).proved) $(call sources,rtfilter)
 	@tools/prove rtfilter run -- /dev/null
 	@cp crates/rtfilter/out/rtfilter build/rtfilter
@@ -38,7 +38,7 @@ build/rtfilter-prefork.so: service/prefork.c
 
 define library
 build/$(1).proved: $(foreach it,$(call below,$(1)),build/$(it).proved) $(call sources,$(1))
-	@rm -f build/rtfilter
+	@$(if $(filter $(1),$(call all_below,rtfilter)),rm -f build/rtfilter)
 	@tools/prove $(1) lib
 	@touch build/$(1).proved
 endef

@@ -8,6 +8,7 @@ those that these name, and so on. A line counts unless it is blank, a comment, a
   Its contract is its clauses. What a trait asks of a type, what a type says of itself as one, and what it is seen as
   count as well. The view and the invariant of a type don't: they speak of its fields, which no caller sees.
 - What the headline reaches, which is one clause of one call, is told beside what all of them reach.
+- What contracts of the library reach, and none of the program's, is told apart: who trusts the program need not know it.
 - What only SAID_AGAIN reaches is told apart: it follows from what other clauses say, or nobody has to know it.
 - Lemmas, in `specs/Lemmas`, are proved: nobody has to believe them. Types that the code declares are read there.
 
@@ -23,11 +24,15 @@ import sys
 ROOT = pathlib.Path(__file__).resolve().parent.parent
 CRATES = ROOT / "crates"
 
-# The most lines that public contracts may reach, and that the headline alone may.
-MOST_LINES = {"contracts": 890, "headline": 700}
+# The most lines that public contracts may reach, that the headline alone may, and that the library may beside the program.
+MOST_LINES = {"contracts": 890, "headline": 700, "library": 50}
 
 # The headline: its crate, its call and its clause.
 HEADLINE = ("rt_filter", "run", "headline")
+
+# The crates of the library, on which the program doesn't stand, and the calls below that are public for them alone.
+LIBRARY = {"rt_embed"}
+LIBRARY_CALLS = {("rt_filter", "answer_batch"), ("rt_filter", "load")}
 
 # That a tree is sound and whole follows from its being the packed tree of its entries, and what a polygon's state says of
 # points from the state.
@@ -159,9 +164,12 @@ def main():
     crates = re.findall(r"^(\w+):", (ROOT / "crates.txt").read_text(encoding="utf-8"), re.MULTILINE)
     every = [clause for crate in crates if not crate.endswith("_tests") for clause in clauses(crate)]
     of_headline = [clause for clause in every if clause[:3] == HEADLINE]
+    of_program = [clause for clause in every if clause[0] not in LIBRARY and clause[:2] not in LIBRARY_CALLS]
     everything = reached_from(every)
-    counted = {"contracts": reached_from(every, SAID_AGAIN), "headline": reached_from(of_headline, SAID_AGAIN)}
-    counted["said again"] = {name: everything[name] for name in everything.keys() - counted["contracts"].keys()}
+    believed = reached_from(every, SAID_AGAIN)
+    counted = {"contracts": reached_from(of_program, SAID_AGAIN), "headline": reached_from(of_headline, SAID_AGAIN)}
+    counted["library"] = {name: believed[name] for name in believed.keys() - counted["contracts"].keys()}
+    counted["said again"] = {name: everything[name] for name in everything.keys() - believed.keys()}
 
     if options.names:
         for name in sorted(everything):

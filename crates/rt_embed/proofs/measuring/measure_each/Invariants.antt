@@ -1,0 +1,15 @@
+use Rattle.std.proofs.Common.{◌≡◌, ◌≤◌, ◌-◌, length, map, take}
+use Rattle.rt_embed.specs.Questions.{measure_of}
+use Rattle.rt_embed.proofs.measuring.measure_each.Given as goal
+
+-- so many are measured
+abbrev pub invariant-loop-done : goal.invariant-loop-done
+invariant-loop-done l = record {
+  bound : l.done ≤ l.most;
+  len : length l.measured ≡ length l.initial.measured;
+  capacity : l.frontier.capacity ≡ l.initial.frontier.capacity;
+  measured : take l.done l.measured ≡ map (measure_of l.tree l.measure) (take l.done l.questions);
+}
+
+abbrev pub decreases-loop-done : goal.decreases-loop-done
+decreases-loop-done l = l.most - l.done

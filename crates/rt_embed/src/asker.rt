@@ -1,0 +1,166 @@
+//! Askers of a table.
+
+ghost use Rattle.std.specs.Prelude.{◌≡◌, ◌≤◌, ℕ, List, [], IfOk, IfErr, MatchResult, Some, length, map, min, take, true};
+ghost use Rattle.rt_command.specs.Choices.{Choices};
+ghost use Rattle.rt_embed.specs.{Asking.{IsRunOf}, Questions.{measure_of}};
+ghost use Rattle.rt_filter.specs.{Lines.{numbered_lines}, Stages.{HasLoaded, Stops, is_of_load}};
+ghost use Rattle.rt_filter.specs.Replies.{Loaded, any_fault, output, tree_of};
+
+use crate::measuring::measure_each;
+use crate::question::{Measure, Question};
+use crate::reply_sink::ReplySink;
+use rt_filter::{RunFault, Settings, answer_batch, load};
+use rt_search::Frontier;
+use rt_tree::Tree;
+use std::alloc::{AllocError, Global};
+use std::marker::Model;
+use std::mem;
+use std::sync::Arc;
+
+/// A loaded tree, which askers share, and what one of them needs for itself: the room of its searches, and its reply.
+///
+/// It is seen as the tree and the reply to the last text. No call changes the tree. A call that finds no memory returns
+/// [`AllocError`], and the asker can be asked again.
+#[derive(Drop)]
+pub struct Asker {
+    tree: Arc<Tree>,
+    // (none after a call that found no memory)
+    frontier: Option<Frontier>,
+    reply: Vec<u8>,
+}
+
+impl Model for Asker {
+    ghost use Rattle.std.specs.Prelude.{◌≤◌, IfSome, length};
+    ghost use Rattle.rt_embed.specs.Asking.{Asking};
+
+    ghost Value = { Asking };
+
+    ghost view = { λ a. record { tree = a.tree.value; reply = a.reply.items } };
+
+    ghost invariant = { λ a. IfSome a.frontier (λ f. length a.tree.value.entries ≤ f.capacity) };
+}
+
+impl Asker {
+    /// The first asker of a table that bytes give under settings, or why there is none: a fault of the table, with its
+    /// record and field, or that no memory was left.
+    pub fn open(alloc: Global, settings: &Settings, table: &[u8]) -> Result<Asker, RunFault>
+        ensures loaded { IfOk result (λ asker. HasLoaded settings.now table.now asker.tree) }
+        ensures reply { IfOk result (λ asker. asker.reply ≡ []) }
+        ensures stops { IfErr result (λ fault. Stops settings.now table.now fault) }
+        ensures of_load { IfErr result (λ fault. is_of_load (Some fault) ≡ true) }
+    {
+        let (tree, frontier) = match load(alloc, settings, table) {
+            Ok(loaded) => loaded,
+            Err(fault) => return Err(fault),
+        };
+        match Asker::of_tree(alloc, tree, frontier) {
+            Ok(asker) => Ok(asker),
+            Err(_) => Err(RunFault::Memory),
+        }
+    }
+
+    /// One more asker of the same tree, with nothing replied.
+    pub fn another(&self, alloc: Global) -> Result<Asker, AllocError>
+        ensures { IfOk result (λ asker. asker ≡ record { tree = self.now.tree; reply = [] }) }
+    {
+        let tree = Arc::try_clone(&self.tree)?;
+        let frontier = Frontier::new(alloc, tree.len())?;
+        Ok(Asker {
+            tree,
+            frontier: Some(frontier),
+            reply: Vec::new(alloc),
+        })
+    }
+
+    /// The tree.
+    pub fn tree(&self) -> &Tree
+        ensures { result.now ≡ self.now.tree }
+    {
+        &self.tree
+    }
+
+    /// Answers query lines, a run of its own: they are numbered from 1, and the last needs no line feed. The reply is kept,
+    /// in the place of the last one. Returns whether some line is faulty. After an error nothing is kept.
+    #[tactic(auto, using(crate::proofs::Headline::run_of_table))]
+    pub fn ask(&mut self, alloc: Global, queries: &[u8]) -> Result<bool, AllocError>
+        // What a run of the program writes for a table's bytes and these, where the tree is that of the table.
+        ensures headline { IfOk result (λ bad. (choices : Choices) (table : List ℕ)
+            → HasLoaded choices table self.old.tree
+            → IsRunOf choices table queries.now self.new.reply bad) }
+        // The replies over any entries whose packed tree this is.
+        ensures reply { (loaded : Loaded) → self.old.tree ≡ tree_of loaded → MatchResult result
+            (λ _. self.new.reply ≡ output loaded (numbered_lines queries.now true))
+            (λ _. self.new.reply ≡ []) }
+        ensures bad { IfOk result (λ bad. bad ≡ any_fault (numbered_lines queries.now true)) }
+        ensures tree { self.new.tree ≡ self.old.tree }
+    {
+        let room = mem::replace(&mut self.reply, Vec::new(alloc));
+        let frontier = self.take_frontier(alloc)?;
+        let mut sink = ReplySink::new(room);
+        match answer_batch(&self.tree, frontier, queries, &mut sink) {
+            Ok((bad, frontier)) => {
+                self.frontier = Some(frontier);
+                self.reply = sink.into_bytes();
+                Ok(bad)
+            }
+            Err(_) => Err(AllocError),
+        }
+    }
+
+    /// Measures questions: how many boxes each asks for, or what it costs. Returns how many are measured: as many as have
+    /// room.
+    pub fn measure(
+        &mut self,
+        alloc: Global,
+        measure: Measure,
+        questions: &[Question],
+        measured: &mut [u64],
+    ) -> Result<usize, AllocError>
+        ensures measured { IfOk result (λ n. take n measured.new
+            ≡ map (measure_of self.old.tree measure) (take n questions.now)) }
+        ensures many { IfOk result (λ n. n ≡ min (length questions.now) (length measured.old)) }
+        ensures same { self.new ≡ self.old }
+    {
+        let frontier = self.take_frontier(alloc)?;
+        let (done, left) = measure_each(&self.tree, frontier, measure, questions, measured);
+        self.frontier = Some(left);
+        Ok(done)
+    }
+
+    /// The reply to the last text.
+    pub fn reply(&self) -> &[u8]
+        ensures { result.now ≡ self.now.reply }
+    {
+        self.reply.as_slice()
+    }
+
+    /// Forgets the reply, and gives its memory back.
+    pub fn forget_reply(&mut self, alloc: Global)
+        ensures { self.new ≡ record self.old { reply = [] } }
+    {
+        self.reply = Vec::new(alloc);
+    }
+
+    // The first asker of a tree.
+    fn of_tree(alloc: Global, tree: Tree, frontier: Frontier) -> Result<Asker, AllocError>
+        requires room { length tree.entries ≤ frontier.capacity }
+        ensures { IfOk result (λ asker. asker ≡ record { tree = tree; reply = [] }) }
+    {
+        Ok(Asker {
+            tree: Arc::new(alloc, tree)?,
+            frontier: Some(frontier),
+            reply: Vec::new(alloc),
+        })
+    }
+
+    // The frontier, a new one where the last call found no memory.
+    fn take_frontier(&mut self, alloc: Global) -> Result<Frontier, AllocError>
+        ensures room { IfOk result (λ f. length self.old.tree.entries ≤ f.capacity) }
+        ensures same { self.new ≡ self.old }
+    {
+        match self.frontier.take() {
+            Some(frontier) => Ok(frontier),
+            None => Frontier::new(alloc, self.tree.len()),
+        }
+    }
+}

@@ -1,0 +1,28 @@
+//! Questions in numbers.
+
+use rt_geo::{Layers, Order, Region};
+
+/// What is asked for: the boxes of a region that are on some layers, in an order, and at most so many where there is a
+/// limit.
+#[derive(Debug, PartialEq, Eq, Drop)]
+pub struct Question {
+    /// Which boxes are asked for.
+    pub region: Region,
+    /// On which layers, all of which are [`Layers::all`].
+    pub layers: Layers,
+    /// In which order.
+    pub order: Order,
+    /// How many at most.
+    pub limit: Option<u64>,
+}
+
+/// What is measured of a question.
+#[derive(Clone, Copy, Debug, PartialEq, Eq)]
+pub enum Measure {
+    /// How many boxes are asked for, without the limit.
+    Count,
+    /// How many nodes of the tree a find opens.
+    CostOfFind,
+    /// How many nodes of the tree a count opens.
+    CostOfCount,
+}
