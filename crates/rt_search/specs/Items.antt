@@ -1,4 +1,4 @@
--- What waits in a queue, and in which order it is taken out. No public call speaks of this but of `Item`.
+-- What waits in a queue, and in which order it is taken out. No public contract cites it.
 use Rattle.std.specs.Prelude.{Bool, ℕ, Option, List}
 use Rattle.std.specs.Ordering.{bool_cmp, int_cmp, nat_cmp, on, then_cmp}
 use Rattle.std.specs.declared.cmp.Ordering.{Ordering}

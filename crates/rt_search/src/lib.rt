@@ -11,7 +11,7 @@
 //! that may hold such wait in a queue as items, each with a score. A hit is an entry that a search without a queue found.
 //!
 //! The definitions that the contracts cite stand in `specs/`: `Answers`, `Work` for the nodes that are opened and the
-//! checks that are made, `Searching` and `Items` for what a search and a frontier are seen as. Their worked rows stand
+//! checks that are made, `Searching` for what a frontier and a search are seen as. Their worked rows stand
 //! in `proofs/Rows.antt`.
 #![tactic(auto)]
 
