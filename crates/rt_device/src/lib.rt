@@ -2,8 +2,8 @@
 //!
 //! A [`Source`] gives bytes in pieces, a [`Sink`] takes them in pieces, and each call may fail. Contracts see
 //! the bytes that are to come or that are written, where a device tells them, and how many calls failed
-//! (`specs/Devices.antt`). [`ReadSource`] and [`WriteSink`] are readers and writers of std; [`SliceSource`] and
-//! [`SliceSink`] are memory, and fail where they are told to.
+//! (`specs/Devices.antt`). [`ReadSource`] and [`WriteSink`] are readers and writers of std, [`BufferedSink`] is its
+//! buffered writer; [`SliceSource`] and [`SliceSink`] are memory, and fail where they are told to.
 #![tactic(auto)]
 
 mod buffered_sink;
