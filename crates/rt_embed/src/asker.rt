@@ -47,7 +47,7 @@ impl Asker {
         ensures loaded { IfOk result (λ asker. HasLoaded settings.now table.now asker.tree) }
         ensures reply { IfOk result (λ asker. asker.reply ≡ []) }
         ensures stops { IfErr result (λ fault. Stops settings.now table.now fault) }
-        ensures of_load { IfErr result (λ fault. is_of_load (Some fault) ≡ true) }
+        ensures of_load { IfErr result (λ fault. IsTrue (is_of_load (Some fault))) }
     {
         let (tree, frontier) = match load(alloc, settings, table) {
             Ok(loaded) => loaded,

@@ -1,0 +1,13 @@
+//! Tests of `rt_embed` through its public calls.
+#![tactic(auto)]
+
+#[cfg(test)]
+mod expect;
+#[cfg(test)]
+mod given;
+#[cfg(test)]
+mod numbers;
+#[cfg(test)]
+mod scans;
+#[cfg(test)]
+mod texts;
