@@ -1,6 +1,6 @@
 //! Askers of a table.
 
-ghost use Rattle.std.specs.Prelude.{◌≡◌, ◌≤◌, ℕ, List, [], IfOk, IfErr, MatchResult, Some, length, map, min, take, true};
+ghost use Rattle.std.specs.Prelude.{◌≡◌, ◌≤◌, ℕ, List, [], IfOk, IfErr, MatchResult, IsTrue, Some, length, map, min, take, true};
 ghost use Rattle.rt_command.specs.Choices.{Choices};
 ghost use Rattle.rt_embed.specs.{Asking.{IsRunOf}, Questions.{measure_of}};
 ghost use Rattle.rt_filter.specs.{Lines.{numbered_lines}, Stages.{HasLoaded, Stops, is_of_load}};
