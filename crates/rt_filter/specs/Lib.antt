@@ -1,3 +1,4 @@
+pub mod Accounts
 pub mod Endings
 pub mod Exchanges
 pub mod Lines

@@ -1,10 +1,10 @@
 //! A whole run: a table and queries in, answers out.
 
 ghost use Rattle.std.specs.Prelude.{◌≡◌, ◌+◌, ◌-◌, ◌<◌, ◌≤◌, ◌^◌, ◌⊎◌, ◌≢◌, ◌++◌, ℕ, List, Some, None, IfOk, IfErr};
-ghost use Rattle.std.specs.{Io.Buffered.{writer_buffer, writer_contents}, Option.{option_map_or}, Prelude.{MatchOption, [], length, if◌then◌else◌, true, false}};
-ghost use Rattle.rt_device.specs.Devices.{PulledTimes};
+ghost use Rattle.std.specs.{Io.Buffered.{writer_buffer, writer_contents}, Option.{option_map_or}, Prelude.{IsTrue, MatchOption, [], length, if◌then◌else◌}};
 ghost use Rattle.rt_text.specs.{RunFaults.{status_of}, declared.run_faults.RunFault.{RunFault}};
-ghost use Rattle.rt_filter.specs.{Endings.{Ends, ConsumedAtLeast, told_as}, Runs.{run_of}};
+ghost use Rattle.rt_filter.specs.{Accounts.{Accounts, connection_of}, Endings.{Ends, ConsumedAtLeast, told_as}};
+ghost use Rattle.rt_filter.specs.Runs.{run_of};
 ghost use Rattle.rt_filter.specs.Stages.{HasLoaded, Stops, is_of_load};
 
 use crate::serving::{ServeFault, serve};
@@ -98,22 +98,10 @@ pub fn run<R: Read + Drop, S: Source, K: Sink>(
     ensures status { MatchOption result.fault (result.status ≤ 1)
         (λ fault. result.status ≡ status_of fault) }
     ensures memory { result.fault ≢ Some (RunFault.Table TableFault.Memory) }
-    // Each failure of a device is reported, and no other. A source may also be given up when the turns are used up.
-    ensures pushes { (result.fault ≡ Some RunFault.Write
-        → K.failed sink.new ≡ K.failed sink.old + 1)
-        × (result.fault ≢ Some RunFault.Write → K.failed sink.new ≡ K.failed sink.old) }
-    ensures pulls { (S.failed source.new ≡ S.failed source.old)
-        ⊎ ((S.failed source.new ≡ S.failed source.old + 1) × (result.fault ≡ Some RunFault.Read)) }
-    ensures turns { result.fault ≡ Some RunFault.Read → S.failed source.new ≡ S.failed source.old
-        → ConsumedAtLeast turns (S.coming source.old) (S.coming source.new) }
-    // No more pulls are made than turns, and so many where they are used up.
-    ensures most { (times : ℕ)
-        × PulledTimes times (S.pulled source.old) (S.pulled source.new) × (times ≤ turns) }
-    ensures used_up { result.fault ≡ Some RunFault.Read → S.failed source.new ≡ S.failed source.old
-        → PulledTimes turns (S.pulled source.old) (S.pulled source.new) }
-    // What was pushed is flushed, unless a push or a flush failed, or something waited for a flush before.
-    ensures flushed { result.fault ≢ Some RunFault.Write
-        → K.waits sink.old ≡ false → K.waits sink.new ≡ false }
+    // What is reported of the devices' failures, the pulls that are made, and what waits for a flush.
+    ensures accounts { let of = connection_of S.coming S.failed S.pulled
+        K.written K.failed K.waits in Accounts (of source.old sink.old) (of source.new sink.new)
+        turns (result.fault ≡ Some RunFault.Read) (result.fault ≡ Some RunFault.Write) }
     // A fault of neither the queries nor the output, so one of the load, leaves the queries unread, and nothing is written.
     ensures untouched { (fault : RunFault) → result.fault ≡ Some fault → fault ≢ RunFault.Read
         → fault ≢ RunFault.Write → (source.new ≡ source.old) × (sink.new ≡ sink.old) }
@@ -139,7 +127,7 @@ pub fn load<R: Read + Drop>(
     ensures stops { IfErr result (λ fault. (table : List ℕ)
         → R.remaining reader ≡ Some table → Stops settings.now table fault) }
     ensures memory { IfErr result (λ fault. fault ≢ RunFault.Table TableFault.Memory) }
-    ensures of_load { IfErr result (λ fault. is_of_load (Some fault) ≡ true) }
+    ensures of_load { IfErr result (λ fault. IsTrue (is_of_load (Some fault))) }
 {
     let table = read_table(alloc, reader, settings.header(), settings.max_entries())?;
     let tree = Tree::pack(alloc, table, settings.fanout())?;

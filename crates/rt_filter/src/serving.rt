@@ -1,8 +1,7 @@
 //! Serving query lines, which come in pieces.
 
-ghost use Rattle.std.specs.Prelude.{◌≡◌, ◌+◌, ◌-◌, ◌<◌, ◌≤◌, ◌^◌, ◌⊎◌, ◌≢◌, ℕ, Some, length, false};
-ghost use Rattle.rt_device.specs.Devices.{PulledTimes};
-ghost use Rattle.rt_filter.specs.{Endings.{ConsumedAtLeast, Serves}, Exchanges.{IsServed, connection_of}};
+ghost use Rattle.std.specs.Prelude.{◌≡◌, ◌-◌, ◌<◌, ◌≤◌, ◌^◌, Some, length};
+ghost use Rattle.rt_filter.specs.{Accounts.{Accounts, connection_of}, Endings.{Serves}, Exchanges.{IsServed}};
 ghost use Rattle.rt_filter.specs.{Replies.{Loaded, tree_of}, Stages.{loaded_tree}};
 
 use crate::exchange::{Exchange, Start};
@@ -51,24 +50,10 @@ pub fn serve<S: Source, K: Sink>(
     ensures ending { (loaded : Loaded) → tree.now ≡ tree_of loaded → Serves loaded
         (S.coming source.old) (S.coming source.new)
         (K.written sink.old) (K.written sink.new) result }
-    // Each failure of a device is reported, and no other. A source may also be given up when the turns are used up.
-    ensures pushes { (result.fault ≡ Some ServeFault.Write
-        → K.failed sink.new ≡ K.failed sink.old + 1)
-        × (result.fault ≢ Some ServeFault.Write → K.failed sink.new ≡ K.failed sink.old) }
-    ensures pulls { (S.failed source.new ≡ S.failed source.old)
-        ⊎ ((S.failed source.new ≡ S.failed source.old + 1)
-        × (result.fault ≡ Some ServeFault.Read)) }
-    ensures turns { result.fault ≡ Some ServeFault.Read → S.failed source.new ≡ S.failed source.old
-        → ConsumedAtLeast turns (S.coming source.old) (S.coming source.new) }
-    // No more pulls are made than turns, and so many where they are used up.
-    ensures most { (times : ℕ)
-        × PulledTimes times (S.pulled source.old) (S.pulled source.new) × (times ≤ turns) }
-    ensures used_up { result.fault ≡ Some ServeFault.Read
-        → S.failed source.new ≡ S.failed source.old
-        → PulledTimes turns (S.pulled source.old) (S.pulled source.new) }
-    // What was pushed is flushed, unless a push or a flush failed, or something waited for a flush before.
-    ensures flushed { result.fault ≢ Some ServeFault.Write
-        → K.waits sink.old ≡ false → K.waits sink.new ≡ false }
+    // What is reported of the devices' failures, the pulls that are made, and what waits for a flush.
+    ensures accounts { let of = connection_of S.coming S.failed S.pulled
+        K.written K.failed K.waits in Accounts (of source.old sink.old) (of source.new sink.new)
+        turns (result.fault ≡ Some ServeFault.Read) (result.fault ≡ Some ServeFault.Write) }
 {
     // (called, so that it is known that the tree is the packed one of its own entries)
     let _ = tree.len();

@@ -10,12 +10,14 @@ pub returns-in_default : goal.returns-in_default
 returns-in_default g c = rw (c.requires.loaded, c.requires.devices) (record {
   ending = serves_read (loaded_tree c.args.tree.now) _ _ _ _ _ _ c.loop-turn.invariant.serving (g.S.Exchange.coming c.pull_next.new.self) c.ended.result
       c.in_default.ensures.bytes c.ended.ensures.bad c.ended.ensures.fault;
-  pushes = search rules;
-  pulls = search rules;
-  turns = search rules;
-  most = pulled_within _ _ _ _ _ c.loop-turn.invariant.pulled c.in_default.ensures.counted c.loop-turn-test.true;
-  used_up = search rules;
-  flushed = search rules;
+  accounts = record {
+    pushes = search rules;
+    pulls = search rules;
+    turns = search rules;
+    most = pulled_within _ _ _ _ _ c.loop-turn.invariant.pulled c.in_default.ensures.counted c.loop-turn-test.true;
+    used_up = search rules;
+    flushed = search rules;
+  };
 })
 
 pub returns-in_default-answer_lines : goal.returns-in_default-answer_lines
@@ -37,12 +39,14 @@ returns-in_default-answer_lines g c =
       ending = serves_cut_at_end (loaded_tree c.args.tree.now) _ _ _ _ _ _ s (g.S.Exchange.coming c.pull_next.new.self) (g.K.Sink.written c.answer_lines.new.sink)
           c.ended-in_default-answer_lines.result (rw c.if-n-eq0.true at c.in-Ok.ensures.bytes.0) (c.in-Ok.ensures.bytes.1 (search rules)) pushed.0
           (λ e. bad (sym c.ended-in_default-answer_lines.ensures.bad ∙ e)) c.ended-in_default-answer_lines.ensures.fault;
-      pushes = search rules;
-      pulls = search rules;
-      turns = search rules;
-      most = pulled_within _ _ _ _ _ c.loop-turn.invariant.pulled c.in-Ok.ensures.counted c.loop-turn-test.true;
-      used_up = search rules;
-      flushed = search rules;
+      accounts = record {
+        pushes = search rules;
+        pulls = search rules;
+        turns = search rules;
+        most = pulled_within _ _ _ _ _ c.loop-turn.invariant.pulled c.in-Ok.ensures.counted c.loop-turn-test.true;
+        used_up = search rules;
+        flushed = search rules;
+      };
     })
 
 pub returns-then-n-eq0 : goal.returns-then-n-eq0
@@ -64,12 +68,14 @@ returns-then-n-eq0 g c =
       ending = serves_all (loaded_tree c.args.tree.now) _ _ _ _ _ _ s (g.S.Exchange.coming c.pull_next.new.self) (g.K.Sink.written c.answer_lines.new.sink)
           c.ended-then-n-eq0.result (rw c.if-n-eq0.true at c.in-Ok.ensures.bytes.0) (c.in-Ok.ensures.bytes.1 (search rules)) pushed.0
           (c.ended-then-n-eq0.ensures.bad ∙ left.bad ∙ ended-fault s.pulled) c.ended-then-n-eq0.ensures.fault;
-      pushes = search rules;
-      pulls = search rules;
-      turns = search rules;
-      most = pulled_within _ _ _ _ _ c.loop-turn.invariant.pulled c.in-Ok.ensures.counted c.loop-turn-test.true;
-      used_up = search rules;
-      flushed = search rules;
+      accounts = record {
+        pushes = search rules;
+        pulls = search rules;
+        turns = search rules;
+        most = pulled_within _ _ _ _ _ c.loop-turn.invariant.pulled c.in-Ok.ensures.counted c.loop-turn-test.true;
+        used_up = search rules;
+        flushed = search rules;
+      };
     })
 
 pub returns-in_default-answered : goal.returns-in_default-answered
@@ -93,12 +99,14 @@ returns-in_default-answered g c =
           c.ended-in_default-answered.result (take n c.pull_next.new.room) c.in-Ok.ensures.bytes.0
           (omega (arith, length-take-le n room c.in-Ok.ensures.bound, c.in-Ok.ensures.bound, given)) pushed.0
           (λ e. bad (sym c.ended-in_default-answered.ensures.bad ∙ e)) c.ended-in_default-answered.ensures.fault;
-      pushes = search rules;
-      pulls = search rules;
-      turns = search rules;
-      most = pulled_within _ _ _ _ _ c.loop-turn.invariant.pulled c.in-Ok.ensures.counted c.loop-turn-test.true;
-      used_up = search rules;
-      flushed = search rules;
+      accounts = record {
+        pushes = search rules;
+        pulls = search rules;
+        turns = search rules;
+        most = pulled_within _ _ _ _ _ c.loop-turn.invariant.pulled c.in-Ok.ensures.counted c.loop-turn-test.true;
+        used_up = search rules;
+        flushed = search rules;
+      };
     })
 
 pub loop-turn-preserved : goal.loop-turn-preserved
@@ -135,10 +143,12 @@ loop-turn-preserved g c =
 pub returns : goal.returns
 returns g c = rw (c.requires.loaded, c.requires.devices) (record {
   ending = search (rules, serves_read, kept_same);
-  pushes = search rules;
-  pulls = search rules;
-  turns = search rules;
-  most = search rules;
-  used_up = search rules;
-  flushed = search rules;
+  accounts = record {
+    pushes = search rules;
+    pulls = search rules;
+    turns = search rules;
+    most = search rules;
+    used_up = search rules;
+    flushed = search rules;
+  };
 })

@@ -1,4 +1,4 @@
-use Rattle.rt_filter.specs.{Exchanges.{connection_of}, Stages.{loaded_tree}}
+use Rattle.rt_filter.specs.{Accounts.{connection_of}, Stages.{loaded_tree}}
 use Rattle.rt_filter.proofs.serving.serve.Given as goal
 
 -- what is known before the first pull
