@@ -12,7 +12,7 @@ use Rattle.rt_filter.specs.{Endings.{told_as}, Replies.{Loaded}}
 use Rattle.rt_filter.specs.{Replies.{tree_of}, Runs.{loaded_of, run_of, run_over}, Stages.{HasLoaded, Stops}}
 use Rattle.rt_filter.specs.{Stages.{is_of_load}, declared.filter.Outcome.{Outcome}}
 use Rattle.rt_filter.specs.declared.serving.{ServeFault.{ServeFault}, Served.{Served}}
-use Rattle.rt_filter.proofs.{ServingLemmas.{consumes_none, so_far, source_tells}, PushLemmas.{nothing_pushed}}
+use Rattle.rt_filter.proofs.{ServingLemmas.{consumes_none, known, so_far, source_tells}, PushLemmas.{nothing_pushed}}
 use Rattle.rt_text.specs.declared.tables.TableFault.TheVariants as load
 use Rattle.rt_text.specs.declared.run_faults.RunFault.TheVariants as run
 use Rattle.std.proofs.Common.{rules}
@@ -51,7 +51,7 @@ module _ (choices : Choices) (table : List ℕ) (coming written : Option (List �
 
   pub ends_early : (outcome : Outcome) (cause : RunFault) → Stops choices table cause → is_of_load (Some cause) ≡ true
       → cause ≢ run.Table load.Memory → outcome.fault ≡ Some cause → outcome.status ≡ status_of cause
-      → Ends choices table coming coming written written outcome
+      → Ends choices table (known coming written) (known coming written) outcome
   ends_early outcome cause h of_load own fault status = rw fault (
     unread,
     source_tells coming coming [] [] (consumes_none coming),
@@ -66,9 +66,9 @@ module _ (choices : Choices) (table : List ℕ) (coming coming' written written'
   served_row loaded what bad cause status same w is = grind (arith, same, w, is)
 
   pub ends_served : (tree : Packed) (served : Served) → HasLoaded choices table tree
-      → ((loaded : Loaded) → tree ≡ tree_of loaded → Serves loaded coming coming' written written' served)
+      → ((loaded : Loaded) → tree ≡ tree_of loaded → Serves loaded (known coming written) (known coming' written') served)
       → (outcome : Outcome) → outcome.fault ≡ option_map told_as served.fault → (served.fault ≡ None → outcome.status ≡ (if served.bad then 1 else 0))
-      → Ends choices table coming coming' written written' outcome
+      → Ends choices table (known coming written) (known coming' written') outcome
   ends_served tree served h s outcome fault status = search (rules, served_row)
 
 -- ---- where nothing fails outside
@@ -90,7 +90,7 @@ used_up turns queries now h less = grind (arith, h, length-append h.0)
 -- the turns aren't used up by fewer bytes, and no push fails where none is counted
 pub ends_whole : (choices : Choices) (table queries before : List ℕ) (old now written written' : Option (List ℕ)) (outcome : Outcome)
     (turns pulls_old pulls_new pushes_old pushes_new : ℕ)
-    → Ends choices table old now written written' outcome → old ≡ Some queries → written ≡ Some before
+    → Ends choices table (known old written) (known now written') outcome → old ≡ Some queries → written ≡ Some before
     → (outcome.fault ≡ Some run.Read → pulls_new ≡ pulls_old → ConsumedAtLeast turns old now)
     → (outcome.fault ≡ Some run.Write → pushes_new ≡ pushes_old + 1)
     → outcome.fault ≢ Some run.Memory → outcome.fault ≢ Some (run.Table load.Read) → pulls_new ≡ pulls_old → pushes_new ≡ pushes_old

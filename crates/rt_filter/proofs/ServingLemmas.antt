@@ -5,7 +5,7 @@ use Rattle.std.proofs.{Math.Seq.{take-append_seam}, lemmas.List.{length-append, 
 use Rattle.std.specs.{Io.{StartsWith, KnownBytes.{Appends, Consumes, IsAtEnd, Keeps}}, Prelude.{unwrap_or}}
 use Rattle.rt_device.specs.Devices.{PulledTimes}
 use Rattle.rt_text.specs.Words.{is_empty}
-use Rattle.rt_filter.specs.{Endings.{ConsumedAtLeast, Happened, Serves, ServesWith, SourceTells}}
+use Rattle.rt_filter.specs.{Endings.{ConsumedAtLeast, Happened, Known, Serves, ServesWith, SourceTells}}
 use Rattle.rt_filter.specs.{Lines.{longest_line, numbered_lines}, Pushes.{WasCut}, Replies.{Loaded}}
 use Rattle.rt_filter.specs.{Progresses.{IsAfter, completed}, Replies.{any_fault, output}, Stages.{IsServing}}
 use Rattle.rt_filter.specs.declared.progress.Progress.{Progress}
@@ -15,6 +15,10 @@ use Rattle.rt_filter.proofs.ProgressLemmas.{any_fault-append, ended-lines, or_fi
 use Rattle.rt_filter.specs.declared.serving.ServeFault.TheVariants as serve
 
 -- ---- what a source and a sink tell
+
+-- what is known of their bytes
+abbrev pub known : (coming written : Option (List ℕ)) → Known
+known coming written = record { coming = coming; written = written }
 
 pub consumes_none : (old : Option (List ℕ)) → Consumes old old []
 consumes_none old = grind arith
@@ -70,7 +74,7 @@ module _ (loaded : Loaded) (coming0 coming written0 written : Option (List ℕ))
 
   -- a failed pull, or turns that are used up
   pub serves_read : (now : Option (List ℕ)) (served : Served) → Keeps coming now → served.bad ≡ progress.bad → served.fault ≡ Some serve.Read
-      → Serves loaded coming0 now written0 written served
+      → Serves loaded (known coming0 written0) (known now written) served
   serves_read now served h b f = rw (b, f) (
     so_far s.pulled now replied,
     source_tells coming0 now s.pulled replied (consumes_kept coming0 coming now s.pulled s.given h),
@@ -80,7 +84,7 @@ module _ (loaded : Loaded) (coming0 coming written0 written : Option (List ℕ))
 
   -- all was read and written
   pub serves_all : (now out : Option (List ℕ)) (served : Served) → Consumes coming now [] → IsAtEnd now → Appends written out (output loaded (completed s.pulled [] true))
-      → served.bad ≡ any_fault (numbered_lines s.pulled true) → served.fault ≡ None → Serves loaded coming0 now written0 out served
+      → served.bad ≡ any_fault (numbered_lines s.pulled true) → served.fault ≡ None → Serves loaded (known coming0 written0) (known now out) served
   serves_all now out served h at w b f =
       let all : Appends written0 out (output loaded (numbered_lines s.pulled true)) =
       search (rules, ended-lines, output-append, pushed_then) in
@@ -95,7 +99,7 @@ module _ (loaded : Loaded) (coming0 coming written0 written : Option (List ℕ))
   cut_row : (now out : Option (List ℕ)) (served : Served) (given : List ℕ) (lines later : List (ℕ × List ℕ)) → Consumes coming now given → length given ≤ longest_line + 1
       → WasCut written out (output loaded lines) → numbered_lines (s.pulled ++ given) (is_empty (rest_of now)) ≡ numbered_lines s.pulled false ++ (lines ++ later)
       → (served.bad ≡ true → any_fault (numbered_lines (s.pulled ++ given) (is_empty (rest_of now))) ≡ true) → served.fault ≡ Some serve.Write
-      → Serves loaded coming0 now written0 out served
+      → Serves loaded (known coming0 written0) (known now out) served
   cut_row now out served given lines later h few cut all b f =
       rw f (
         so_far (s.pulled ++ given) now (replied ++ cut.went),
@@ -113,7 +117,7 @@ module _ (loaded : Loaded) (coming0 coming written0 written : Option (List ℕ))
   pub serves_cut : (now out : Option (List ℕ)) (served : Served) (given : List ℕ) → Consumes coming now given → length given ≤ longest_line + 1
       → WasCut written out (output loaded (completed s.pulled given false))
       → (served.bad ≡ true → any_fault (numbered_lines (s.pulled ++ given) false) ≡ true) → served.fault ≡ Some serve.Write
-      → Serves loaded coming0 now written0 out served
+      → Serves loaded (known coming0 written0) (known now out) served
   serves_cut now out served given h few cut b f =
       let ended = is_empty (rest_of now) in
       let later : List (ℕ × List ℕ) = completed (s.pulled ++ given) [] ended in
@@ -125,7 +129,7 @@ module _ (loaded : Loaded) (coming0 coming written0 written : Option (List ℕ))
 
   -- at the end
   pub serves_cut_at_end : (now out : Option (List ℕ)) (served : Served) → Consumes coming now [] → IsAtEnd now → WasCut written out (output loaded (completed s.pulled [] true))
-      → (served.bad ≡ true → any_fault (numbered_lines s.pulled true) ≡ true) → served.fault ≡ Some serve.Write → Serves loaded coming0 now written0 out served
+      → (served.bad ≡ true → any_fault (numbered_lines s.pulled true) ≡ true) → served.fault ≡ Some serve.Write → Serves loaded (known coming0 written0) (known now out) served
   serves_cut_at_end now out served h at cut b f =
       cut_row now out served [] (completed s.pulled [] true) [] h (omega arith) cut
       (rw (ended now at, append-nil (completed s.pulled [] true)) (completed-all s.pulled [] true))
@@ -135,8 +139,8 @@ module _ (loaded : Loaded) (coming0 coming written0 written : Option (List ℕ))
 
 -- serving ends with the same replies over other entries
 pub serves_same : (loaded other : Loaded) → ((lines : List (ℕ × List ℕ)) → output other lines ≡ output loaded lines)
-    → (coming coming' written written' : Option (List ℕ)) (served : Served) → Serves loaded coming coming' written written' served
-    → Serves other coming coming' written written' served
+    → (coming coming' written written' : Option (List ℕ)) (served : Served) → Serves loaded (known coming written) (known coming' written') served
+    → Serves other (known coming written) (known coming' written') served
 serves_same loaded other same coming coming' written written' served s = (s.0, s.1, s.2, with_same s.0 served.bad served.fault s.3)
   where
     with_same : (what : Happened) (bad : Bool) (fault : Option ServeFault) → ServesWith loaded what bad fault → ServesWith other what bad fault

@@ -24,6 +24,11 @@ pub record Happened : Type 0 where
   pub rest : List ℕ
   pub out : List ℕ
 
+-- what is known of the bytes of a source and a sink: those to come, and those written
+pub record Known : Type 0 where
+  pub coming : Option (List ℕ)
+  pub written : Option (List ℕ)
+
 -- a source reports that some bytes were consumed, and that the rest is to come
 abbrev pub SourceTells : (coming now : Option (List ℕ)) → Happened → Type 0
 SourceTells coming now what = Consumes coming now what.consumed × IfSome now (λ rest. rest ≡ what.rest)
@@ -56,9 +61,9 @@ ServesWith loaded what bad (Some serve.Read) = ServesLines loaded what bad false
 ServesWith loaded what bad (Some serve.Write) = ServesPrefix loaded what bad
 
 -- this happened, and serving ends so; a device that reports no bytes leaves its part open
-abbrev pub Serves : Loaded → (coming coming' written written' : Option (List ℕ)) → Served → Type 0
-Serves loaded coming coming' written written' served =
-    (what : Happened) × SourceTells coming coming' what × Appends written written' what.out
+abbrev pub Serves : Loaded → (old now : Known) → Served → Type 0
+Serves loaded old now served =
+    (what : Happened) × SourceTells old.coming now.coming what × Appends old.written now.written what.out
     × ServesWith loaded what served.bad served.fault
 
 -- ---- a whole run
@@ -83,7 +88,7 @@ EndsWith loaded what outcome (Some Write) = EndsServing loaded what serve.Write
 EndsWith loaded what outcome (Some Memory) = (what.consumed ≡ []) × (what.out ≡ [])
 
 -- how a run over a table's bytes may end; a device that reports no bytes leaves its part open
-abbrev pub Ends : Choices → (table : List ℕ) → (coming coming' written written' : Option (List ℕ)) → Outcome → Type 0
-Ends choices table coming coming' written written' outcome =
-    (what : Happened) × SourceTells coming coming' what × Appends written written' what.out
+abbrev pub Ends : Choices → (table : List ℕ) → (old now : Known) → Outcome → Type 0
+Ends choices table old now outcome =
+    (what : Happened) × SourceTells old.coming now.coming what × Appends old.written now.written what.out
     × EndsWith (loaded_of choices table) what outcome outcome.fault

@@ -2,7 +2,7 @@
 use Rattle.std.specs.Prelude.{◌≡◌, ℕ, false, List, [], Option, None, Some}
 use Rattle.std.specs.Io.KnownBytes.{Appends, Consumes}
 use Rattle.rt_filter.specs.Accounts.{Accounts, Connection}
-use Rattle.rt_filter.specs.Endings.{Serves}
+use Rattle.rt_filter.specs.Endings.{Known, Serves}
 use Rattle.rt_filter.specs.Lines.{numbered_lines}
 use Rattle.rt_filter.specs.Replies.{Loaded, output}
 use Rattle.rt_filter.specs.declared.serving.ServeFault.TheVariants as serve
@@ -26,7 +26,11 @@ IsAnswered start coming written =
     (pulled : List ℕ) × Consumes start.devices.coming coming pulled
     × Appends start.devices.written written (output start.loaded (numbered_lines pulled false))
 
+-- what is known of their bytes
+abbrev pub known_of : Connection → Known
+known_of devices = record { coming = devices.coming; written = devices.written }
+
 -- how serving ended within the turns that are allowed, and what it did to the devices: the clauses of `serve`
 pub record IsServed (start : AtStart) (now : Connection) (allowed : ℕ) (served : Served) : Type 0 where
-  pub ending : Serves start.loaded start.devices.coming now.coming start.devices.written now.written served
+  pub ending : Serves start.loaded (known_of start.devices) (known_of now) served
   pub accounts : Accounts start.devices now allowed (served.fault ≡ Some serve.Read) (served.fault ≡ Some serve.Write)

@@ -45,8 +45,11 @@ pub fn run_std<T: Read + Drop, Q: Read + Drop, W: Write + Drop>(
         ≡ Some (before ++ (run_of settings.now all asked).0))
         × (result.0 ≡ (run_of settings.now all asked).1) }
     ensures ending { (all : List ℕ) → T.remaining table ≡ Some all → Ends settings.now all
-        (Q.remaining queries) (Q.remaining result.1.device)
-        (writer_contents W.contents answers) (writer_contents W.contents result.2.device) result.0 }
+        (record { coming = Q.remaining queries; written = writer_contents W.contents answers })
+        (record {
+        coming = Q.remaining result.1.device;
+        written = writer_contents W.contents result.2.device;
+        }) result.0 }
     ensures status { MatchOption result.0.fault (result.0.status ≤ 1)
         (λ fault. result.0.status ≡ status_of fault) }
     ensures memory { result.0.fault ≢ Some (RunFault.Table TableFault.Memory) }
@@ -92,9 +95,9 @@ pub fn run<R: Read + Drop, S: Source, K: Sink>(
     // After a failed push or flush a prefix went out, after a failed pull or used-up turns the replies to the complete
     // lines, and where the load fails, nothing.
     ensures ending { (table : List ℕ) → R.remaining reader ≡ Some table → Ends settings.now table
-        (S.coming source.old) (S.coming source.new)
-        (K.written sink.old) (K.written sink.new) result }
-    // The status is the fault's; without one it is 0 or 1. Want of memory is never told as a fault of the table.
+        (record { coming = S.coming source.old; written = K.written sink.old })
+        (record { coming = S.coming source.new; written = K.written sink.new }) result }
+    // The status is the fault's; without one it is 0 or 1. Out of memory is never reported as a fault of the table.
     ensures status { MatchOption result.fault (result.status ≤ 1)
         (λ fault. result.status ≡ status_of fault) }
     ensures memory { result.fault ≢ Some (RunFault.Table TableFault.Memory) }

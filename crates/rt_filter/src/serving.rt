@@ -48,8 +48,8 @@ pub fn serve<S: Source, K: Sink>(
     // The replies are those over any entries whose packed tree this is. A device that reports its bytes reports them then
     // too, after a failure as well.
     ensures ending { (loaded : Loaded) → tree.now ≡ tree_of loaded → Serves loaded
-        (S.coming source.old) (S.coming source.new)
-        (K.written sink.old) (K.written sink.new) result }
+        (record { coming = S.coming source.old; written = K.written sink.old })
+        (record { coming = S.coming source.new; written = K.written sink.new }) result }
     // What is reported of the devices' failures, the pulls that are made, and what waits for a flush.
     ensures accounts { let of = connection_of S.coming S.failed S.pulled
         K.written K.failed K.waits in Accounts (of source.old sink.old) (of source.new sink.new)
