@@ -25,7 +25,7 @@ ROOT = pathlib.Path(__file__).resolve().parent.parent
 CRATES = ROOT / "crates"
 
 # The most lines that public contracts may reach, that the headline alone may, and that the library may beside the program.
-MOST_LINES = {"contracts": 890, "headline": 700, "library": 50}
+MOST_LINES = {"contracts": 905, "headline": 700, "library": 50}
 
 # The headline: its crate, its call and its clause.
 HEADLINE = ("rt_filter", "run", "headline")

@@ -102,11 +102,11 @@ fn accepts(region: &Region, it: Row) -> bool {
 
 // How many boxes a question asks for.
 fn count(question: &Question) -> u64 {
-    let mut count = 0;
+    let mut count: u64 = 0;
     for n in 0..MANY {
         let it = row_at(n);
         if accepts(&question.region, it) && it.layer <= Layers::MOST && question.layers.has(it.layer) {
-            count += 1;
+            count = count.saturating_add(1);
         }
     }
     count

@@ -47,8 +47,8 @@ pub fn run_std<T: Read + Drop, Q: Read + Drop, W: Write + Drop>(
     ensures ending { (all : List ℕ) → T.remaining table ≡ Some all → Ends settings.now all
         (record { coming = Q.remaining queries; written = writer_contents W.contents answers })
         (record {
-        coming = Q.remaining result.1.device;
-        written = writer_contents W.contents result.2.device;
+          coming = Q.remaining result.1.device;
+          written = writer_contents W.contents result.2.device;
         }) result.0 }
     ensures status { MatchOption result.0.fault (result.0.status ≤ 1)
         (λ fault. result.0.status ≡ status_of fault) }
