@@ -563,7 +563,9 @@ def write_soon(descriptor: int) -> None:
 
 
 def tell(text: str) -> None:
-    print(f"serve.py: {text}", file=sys.stderr, flush=True)
+    """A line on standard error, in one write, since other processes write there too."""
+    with contextlib.suppress(OSError):
+        os.write(sys.stderr.fileno(), f"serve.py: {text}\n".encode(errors="backslashreplace"))
 
 
 def log_accesses(name: str | None) -> None:

@@ -14,14 +14,14 @@ import threading
 import time
 import unittest
 from collections.abc import Callable, Iterator
-from http.client import HTTPResponse
+from http.client import HTTPConnection, HTTPResponse
 from http.server import BaseHTTPRequestHandler, ThreadingHTTPServer
 from pathlib import Path
 from typing import Any
 
 from chromium import Chromium
 from style_rules import faults_of
-from tiles_support import BOXES, EXAMPLE, LONGEST, Mapped, Server, hostile_map, make_map, wants
+from tiles_support import BOXES, EXAMPLE, LONGEST, PATIENCE, Mapped, Server, hostile_map, make_map, wants
 
 from common_support import PROGRAM, anything, children_of, descendants_of, is_gone
 
@@ -347,8 +347,7 @@ class Reloads(unittest.TestCase):
                     server.process.send_signal(signal.SIGHUP)
                     until(lambda: {self.size(server) for _ in range(4 * processes)} == {boxes})
                     tags.add(self.tag(server))
-                    connection.request("GET", "/health")
-                    self.assertEqual(connection.getresponse().read(), b'{"boxes": %d}' % boxes)
+                    until(lambda: self.kept(connection) == b'{"boxes": %d}' % boxes)  # of one process, which may be later
                 self.assertEqual(len(tags), 3)
                 self.write(5, "nonsense\n")
                 server.process.send_signal(signal.SIGHUP)
@@ -363,6 +362,10 @@ class Reloads(unittest.TestCase):
             self.assertEqual(status, 0)
             self.assertEqual(told.count("serve.py: the table is exchanged: 9 boxes\n"), processes, told)
             self.assertEqual(told.count("; the table is the one of before\n"), processes, told)
+
+    def kept(self, connection: HTTPConnection) -> bytes:
+        connection.request("GET", "/health")
+        return connection.getresponse().read()
 
     def size(self, server: Server) -> int:
         boxes: int = json.loads(server.get("/health")[1])["boxes"]
@@ -408,7 +411,7 @@ def metric(server: Server, name: str) -> float:
 
 def until(is_so: Callable[[], bool]) -> None:
     """Waits until something is so."""
-    end = time.monotonic() + LONGEST
+    end = time.monotonic() + PATIENCE
     while not is_so():
         if time.monotonic() > end:
             raise TimeoutError

@@ -17,6 +17,7 @@ from typing import Any
 HERE = Path(__file__).resolve().parent
 EXAMPLE = HERE.parent
 LONGEST = 30  # seconds that an answer may take
+PATIENCE = 60  # seconds that a start, an end or an exchange may take on a busy machine
 BOXES = 30_000
 HOSTILE_NAME = '<img src=x onerror="throw 1"><script>throw 2</script>'
 HOSTILE_LAYER = "<b>buildings</b>"
@@ -99,7 +100,7 @@ class Server:
         return self.ended()
 
     def ended(self) -> tuple[int, str]:
-        _, errors = self.process.communicate(timeout=LONGEST)
+        _, errors = self.process.communicate(timeout=PATIENCE)
         return self.process.returncode, errors
 
     def __enter__(self) -> "Server":
