@@ -7,6 +7,7 @@ use rt_device::{
     WriteSink,
 };
 use std::io::{self, BufWriter, Read, Write};
+use std::test::Fail;
 
 /// A reader and writer that counts its calls. The first one fails; each later one moves a byte.
 #[derive(Drop)]

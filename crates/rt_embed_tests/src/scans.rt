@@ -105,7 +105,10 @@ fn count(question: &Question) -> u64 {
     let mut count: u64 = 0;
     for n in 0..MANY {
         let it = row_at(n);
-        if accepts(&question.region, it) && it.layer <= Layers::MOST && question.layers.has(it.layer) {
+        if accepts(&question.region, it)
+            && it.layer <= Layers::MOST
+            && question.layers.has(it.layer)
+        {
             count = count.saturating_add(1);
         }
     }
