@@ -3,7 +3,7 @@ use Rattle.std.proofs.Common.{◌≡◌, ℕ, Bool, List, refl, true}
 use Rattle.rt_command.specs.Choices.{Choices}
 use Rattle.rt_tree.specs.Packed.{Packed}
 use Rattle.rt_filter.specs.{Lines.{numbered_lines}, Replies.{Loaded, any_fault, output, tree_of}, Stages.{HasLoaded}}
-use Rattle.rt_embed.specs.Asking.{IsRunOf}
+use Rattle.rt_embed.specs.Sessions.{IsRunOf}
 
 pub run_of_table : (choices : Choices) (table queries reply : List ℕ) (tree : Packed) (bad : Bool) → HasLoaded choices table tree
     → ((loaded : Loaded) → tree ≡ tree_of loaded → reply ≡ output loaded (numbered_lines queries true))

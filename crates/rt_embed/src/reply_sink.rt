@@ -13,7 +13,7 @@ pub(crate) struct ReplySink {
 }
 
 impl Model for ReplySink {
-    ghost use Rattle.rt_embed.specs.Asking.{Replying};
+    ghost use Rattle.rt_embed.specs.Sessions.{Replying};
 
     ghost Value = { Replying };
 

@@ -1,6 +1,6 @@
-//! Tables, and askers of them.
+//! Tables, and sessions of them.
 
-use rt_embed::Asker;
+use rt_embed::Session;
 use rt_filter::Settings;
 use std::process::Abort;
 
@@ -12,7 +12,7 @@ pub(crate) fn settings(rt: &impl Abort, fanout: u8) -> Settings {
     Settings::new(false, fanout, 16_777_216).expect(rt, "they are in range")
 }
 
-/// An asker of a table.
-pub(crate) fn open<R: Abort + AllocGlobal>(rt: &R, fanout: u8, table: &[u8]) -> Asker {
-    Asker::open(rt.alloc(), &settings(rt, fanout), table).expect(rt, "the table is sound")
+/// A session of a table.
+pub(crate) fn open<R: Abort + AllocGlobal>(rt: &R, fanout: u8, table: &[u8]) -> Session {
+    Session::open(rt.alloc(), &settings(rt, fanout), table).expect(rt, "the table is sound")
 }

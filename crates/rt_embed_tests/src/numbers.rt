@@ -2,7 +2,7 @@
 
 use crate::expect::expect_eq;
 use crate::given::{BOXES, open};
-use rt_embed::{Asker, Measure, Question};
+use rt_embed::{Session, Measure, Question};
 use rt_geo::{ById, Order};
 use rt_text::{Parsed, Query, ok_line, parse};
 use std::process::Abort;
@@ -46,16 +46,16 @@ fn question_of(rt: &impl Abort, line: &[u8]) -> Question {
 // Measures what a line for boxes asks, and compares that with its reply.
 fn expect_measured<R: Abort + AllocGlobal>(
     rt: &R,
-    asker: &mut Asker,
+    session: &mut Session,
     measure: Measure,
     line: &[u8],
 ) -> Result<(), Fail> {
     let mut measured = [77];
     let question = question_of(rt, line);
-    let done = asker.measure(rt.alloc(), measure, &[question], &mut measured)?;
+    let done = session.measure(rt.alloc(), measure, &[question], &mut measured)?;
     expect_eq(rt, done, 1);
-    asker.ask(rt.alloc(), line)?;
-    expect_eq(rt, asker.reply(), ok_line(1, measured[0]).bytes());
+    session.ask(rt.alloc(), line)?;
+    expect_eq(rt, session.reply(), ok_line(1, measured[0]).bytes());
     Ok(())
 }
 
@@ -79,9 +79,9 @@ fn measures_are_those_in_text(rt: HostRuntime) -> Result<(), Fail> {
         ),
     ];
     for fanout in [2, 16] {
-        let mut asker = open(&rt, fanout, BOXES);
+        let mut session = open(&rt, fanout, BOXES);
         for (measure, line) in rows {
-            expect_measured(&rt, &mut asker, measure, line)?;
+            expect_measured(&rt, &mut session, measure, line)?;
         }
     }
     Ok(())
@@ -89,7 +89,7 @@ fn measures_are_those_in_text(rt: HostRuntime) -> Result<(), Fail> {
 
 #[test]
 fn as_many_are_measured_as_have_room(rt: HostRuntime) -> Result<(), Fail> {
-    let mut asker = open(&rt, 2, BOXES);
+    let mut session = open(&rt, 2, BOXES);
     let asked = [
         question_of(&rt, b"find all"),
         question_of(&rt, b"find window 0 10 0 10"),
@@ -99,13 +99,13 @@ fn as_many_are_measured_as_have_room(rt: HostRuntime) -> Result<(), Fail> {
     let count = Measure::Count;
     expect_eq(
         &rt,
-        asker.measure(rt.alloc(), count, &asked, &mut counts[..2])?,
+        session.measure(rt.alloc(), count, &asked, &mut counts[..2])?,
         2,
     );
     expect_eq(&rt, counts, [5, 2, 7, 7]);
     expect_eq(
         &rt,
-        asker.measure(rt.alloc(), count, &asked, &mut counts)?,
+        session.measure(rt.alloc(), count, &asked, &mut counts)?,
         3,
     );
     // A count has no limit.

@@ -2,7 +2,7 @@
 
 use crate::expect::expect_eq;
 use crate::given::open;
-use rt_embed::{Asker, Measure, Question};
+use rt_embed::{Session, Measure, Question};
 use rt_geo::{All, Bounds, ById, Circle, Covers, Inside, Layers, Order, Point, Region, Window};
 use std::process::Abort;
 use std::test::Fail;
@@ -38,7 +38,7 @@ fn row_at(n: u8) -> Row {
 }
 
 // The table of all boxes.
-fn asker<R: Abort + AllocGlobal>(rt: &R, fanout: u8) -> Result<Asker, Fail> {
+fn session<R: Abort + AllocGlobal>(rt: &R, fanout: u8) -> Result<Session, Fail> {
     let mut table = Vec::new(rt.alloc());
     for n in 0..MANY {
         let it = row_at(n);
@@ -140,7 +140,7 @@ fn region(rt: &impl Abort, kind: u8, n: u8) -> Region {
 
 // Counts the boxes of regions of one kind.
 fn expect_all<R: Abort + AllocGlobal>(rt: &R, kind: u8, fanout: u8) -> Result<(), Fail> {
-    let mut asker = asker(rt, fanout)?;
+    let mut session = session(rt, fanout)?;
     for n in 0..6 {
         for layers in [Layers::all(), Layers::of(1), Layers::new(12)] {
             let questions = [Question {
@@ -150,7 +150,7 @@ fn expect_all<R: Abort + AllocGlobal>(rt: &R, kind: u8, fanout: u8) -> Result<()
                 limit: None,
             }];
             let mut counts = [0];
-            let done = asker.measure(rt.alloc(), Measure::Count, &questions, &mut counts)?;
+            let done = session.measure(rt.alloc(), Measure::Count, &questions, &mut counts)?;
             expect_eq(rt, (done, counts[0]), (1, count(&questions[0])));
         }
     }

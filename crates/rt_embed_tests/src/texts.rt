@@ -2,7 +2,7 @@
 
 use crate::expect::expect_eq;
 use crate::given::{BOXES, open, settings};
-use rt_embed::Asker;
+use rt_embed::Session;
 use rt_filter::{Outcome, RunFault, Sink, SliceSink, SliceSource, run};
 use rt_text::{Axis, TableFault};
 use std::process::Abort;
@@ -11,7 +11,7 @@ use std::process::Abort;
 const ROOM: usize = 4096;
 
 // Asks, and compares the reply and whether a line is faulty with what a run writes and its status.
-fn expect_as_run<R: Abort + AllocGlobal>(rt: &R, asker: &mut Asker, fanout: u8, text: &[u8]) {
+fn expect_as_run<R: Abort + AllocGlobal>(rt: &R, session: &mut Session, fanout: u8, text: &[u8]) {
     let mut source = SliceSource::new(text, ROOM, None);
     let mut room = [0u8; ROOM];
     let mut sink = SliceSink::new(&mut room, ROOM, None);
@@ -24,11 +24,11 @@ fn expect_as_run<R: Abort + AllocGlobal>(rt: &R, asker: &mut Asker, fanout: u8, 
         &mut sink,
         u64::MAX,
     );
-    let bad = asker.ask(rt.alloc(), text).expect(rt, "there is memory");
+    let bad = session.ask(rt.alloc(), text).expect(rt, "there is memory");
     let status = u8::from(bad);
     let fault = None;
     expect_eq(rt, outcome, Outcome { status, fault });
-    expect_eq(rt, asker.reply(), sink.written());
+    expect_eq(rt, session.reply(), sink.written());
 }
 
 #[test]
@@ -48,20 +48,20 @@ fn the_reply_is_that_of_a_run(rt: HostRuntime) {
         b"find all first\r\n",
     ];
     for fanout in [2, 16] {
-        let mut asker = open(&rt, fanout, BOXES);
+        let mut session = open(&rt, fanout, BOXES);
         for text in texts {
-            expect_as_run(&rt, &mut asker, fanout, text);
+            expect_as_run(&rt, &mut session, fanout, text);
         }
         // The text before leaves nothing behind.
-        expect_as_run(&rt, &mut asker, fanout, b"");
-        expect_eq(&rt, asker.reply().len(), 0);
+        expect_as_run(&rt, &mut session, fanout, b"");
+        expect_eq(&rt, session.reply().len(), 0);
     }
 }
 
 #[test]
 fn askers_of_one_tree_have_replies_of_their_own(rt: HostRuntime) {
     let mut first = open(&rt, 2, BOXES);
-    let mut second = first.another(rt.alloc()).expect(&rt, "there is memory");
+    let mut second = first.share(rt.alloc()).expect(&rt, "there is memory");
     expect_eq(&rt, second.reply().len(), 0);
     expect_as_run(&rt, &mut first, 2, b"find all\n");
     expect_as_run(&rt, &mut second, 2, b"count all\nfind window 0 10 0 10\nx");
@@ -71,18 +71,18 @@ fn askers_of_one_tree_have_replies_of_their_own(rt: HostRuntime) {
     // One ends, and the other goes on.
     drop(first);
     expect_as_run(&rt, &mut second, 2, b"find all smallest first 3\n");
-    let third = second.another(rt.alloc()).expect(&rt, "there is memory");
+    let third = second.share(rt.alloc()).expect(&rt, "there is memory");
     expect_eq(&rt, third.reply().len(), 0);
     expect_eq(&rt, third.tree().len(), 5);
 }
 
 #[test]
 fn a_reply_is_forgotten(rt: HostRuntime) {
-    let mut asker = open(&rt, 2, BOXES);
-    expect_as_run(&rt, &mut asker, 2, b"find all\n");
-    asker.forget_reply(rt.alloc());
-    expect_eq(&rt, asker.reply().len(), 0);
-    expect_as_run(&rt, &mut asker, 2, b"find all\n");
+    let mut session = open(&rt, 2, BOXES);
+    expect_as_run(&rt, &mut session, 2, b"find all\n");
+    session.forget_reply(rt.alloc());
+    expect_eq(&rt, session.reply().len(), 0);
+    expect_as_run(&rt, &mut session, 2, b"find all\n");
 }
 
 #[test]
@@ -116,7 +116,7 @@ fn a_faulty_table_is_refused(rt: HostRuntime) {
         ),
     ];
     for (table, fault) in rows {
-        let opened = Asker::open(rt.alloc(), &settings, table);
+        let opened = Session::open(rt.alloc(), &settings, table);
         expect_eq(&rt, opened.err(), Some(RunFault::Table(fault)));
     }
     let empty = open(&rt, 2, b"");

@@ -1,8 +1,8 @@
-//! Askers of a table.
+//! Sessions of a table.
 
 ghost use Rattle.std.specs.Prelude.{◌≡◌, ◌≤◌, ℕ, List, [], IfOk, IfErr, MatchResult, IsTrue, Some, length, map, min, take, true};
 ghost use Rattle.rt_command.specs.Choices.{Choices};
-ghost use Rattle.rt_embed.specs.{Asking.{IsRunOf}, Questions.{measure_of}};
+ghost use Rattle.rt_embed.specs.{Sessions.{IsRunOf}, Questions.{measure_of}};
 ghost use Rattle.rt_filter.specs.{Lines.{numbered_lines}, Stages.{HasLoaded, Stops, is_of_load}};
 ghost use Rattle.rt_filter.specs.Replies.{Loaded, any_fault, output, tree_of};
 
@@ -17,35 +17,35 @@ use std::marker::Model;
 use std::mem;
 use std::sync::Arc;
 
-/// A loaded tree, which askers share, and what one of them needs for itself: the room of its searches, and its reply.
+/// A loaded tree, which sessions share, and what one of them needs for itself: the room of its searches, and its reply.
 ///
 /// It is seen as the tree and the reply to the last text. No call changes the tree. A call that finds no memory returns
-/// [`AllocError`], and the asker can be asked again.
+/// [`AllocError`], and the session can be asked again.
 #[derive(Drop)]
-pub struct Asker {
+pub struct Session {
     tree: Arc<Tree>,
     // (none after a call that found no memory)
     frontier: Option<Frontier>,
     reply: Vec<u8>,
 }
 
-impl Model for Asker {
+impl Model for Session {
     ghost use Rattle.std.specs.Prelude.{◌≤◌, IfSome, length};
-    ghost use Rattle.rt_embed.specs.Asking.{Asking};
+    ghost use Rattle.rt_embed.specs.Sessions.{Contents};
 
-    ghost Value = { Asking };
+    ghost Value = { Contents };
 
     ghost view = { λ a. record { tree = a.tree.value; reply = a.reply.items } };
 
     ghost invariant = { λ a. IfSome a.frontier (λ f. length a.tree.value.entries ≤ f.capacity) };
 }
 
-impl Asker {
-    /// The first asker of a table that bytes give under settings, or why there is none: a fault of the table, with its
+impl Session {
+    /// The first session of a table that bytes give under settings, or why there is none: a fault of the table, with its
     /// record and field, or that no memory was left.
-    pub fn open(alloc: Global, settings: &Settings, table: &[u8]) -> Result<Asker, RunFault>
-        ensures loaded { IfOk result (λ asker. HasLoaded settings.now table.now asker.tree) }
-        ensures reply { IfOk result (λ asker. asker.reply ≡ []) }
+    pub fn open(alloc: Global, settings: &Settings, table: &[u8]) -> Result<Session, RunFault>
+        ensures loaded { IfOk result (λ session. HasLoaded settings.now table.now session.tree) }
+        ensures reply { IfOk result (λ session. session.reply ≡ []) }
         ensures stops { IfErr result (λ fault. Stops settings.now table.now fault) }
         ensures of_load { IfErr result (λ fault. IsTrue (is_of_load (Some fault))) }
     {
@@ -53,19 +53,19 @@ impl Asker {
             Ok(loaded) => loaded,
             Err(fault) => return Err(fault),
         };
-        match Asker::of_tree(alloc, tree, frontier) {
-            Ok(asker) => Ok(asker),
+        match Session::of_tree(alloc, tree, frontier) {
+            Ok(session) => Ok(session),
             Err(_) => Err(RunFault::Memory),
         }
     }
 
-    /// One more asker of the same tree, with nothing replied.
-    pub fn another(&self, alloc: Global) -> Result<Asker, AllocError>
-        ensures { IfOk result (λ asker. asker ≡ record { tree = self.now.tree; reply = [] }) }
+    /// One more session of the same table, for another thread, with nothing replied.
+    pub fn share(&self, alloc: Global) -> Result<Session, AllocError>
+        ensures { IfOk result (λ session. session ≡ record { tree = self.now.tree; reply = [] }) }
     {
         let tree = Arc::try_clone(&self.tree)?;
         let frontier = Frontier::new(alloc, tree.len())?;
-        Ok(Asker {
+        Ok(Session {
             tree,
             frontier: Some(frontier),
             reply: Vec::new(alloc),
@@ -141,12 +141,12 @@ impl Asker {
         self.reply = Vec::new(alloc);
     }
 
-    // The first asker of a tree.
-    fn of_tree(alloc: Global, tree: Tree, frontier: Frontier) -> Result<Asker, AllocError>
+    // The first session of a tree.
+    fn of_tree(alloc: Global, tree: Tree, frontier: Frontier) -> Result<Session, AllocError>
         requires room { length tree.entries ≤ frontier.capacity }
-        ensures { IfOk result (λ asker. asker ≡ record { tree = tree; reply = [] }) }
+        ensures { IfOk result (λ session. session ≡ record { tree = tree; reply = [] }) }
     {
-        Ok(Asker {
+        Ok(Session {
             tree: Arc::new(alloc, tree)?,
             frontier: Some(frontier),
             reply: Vec::new(alloc),

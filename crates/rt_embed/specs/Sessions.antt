@@ -1,11 +1,11 @@
--- What askers are seen as, and what they reply.
+-- What sessions are seen as, and what they reply.
 use Rattle.std.specs.Prelude.{◌≡◌, ℕ, Bool, if◌then◌else◌, List, None}
 use Rattle.rt_command.specs.Choices.{Choices}
 use Rattle.rt_tree.specs.Packed.{Packed}
 use Rattle.rt_filter.specs.Runs.{run_of}
 
 -- the tree that is asked, and the reply to the last text
-pub record Asking : Type 0 where
+pub record Contents : Type 0 where
   pub tree : Packed
   pub reply : List ℕ
 
