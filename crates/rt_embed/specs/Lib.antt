@@ -1,2 +1,6 @@
+pub mod Columns
+pub mod Findings
+pub mod PlainQueries
+pub mod Puts
 pub mod Questions
 pub mod Sessions

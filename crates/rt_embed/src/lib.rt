@@ -5,10 +5,18 @@
 //! call. No pointer and no C is here.
 #![tactic(auto)]
 
-mod session;
+mod columns;
+mod finding;
 mod measuring;
+mod plain_query;
 mod question;
 mod reply_sink;
+mod score;
+mod session;
 
-pub use session::Session;
+pub use columns::Columns;
+pub use finding::{Found, Stop};
+pub use plain_query::PlainQuery;
 pub use question::{Measure, Question};
+pub use score::Score;
+pub use session::Session;

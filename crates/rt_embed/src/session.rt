@@ -1,15 +1,21 @@
 //! Sessions of a table.
 
-ghost use Rattle.std.specs.Prelude.{◌≡◌, ◌≤◌, ℕ, List, [], IfOk, IfErr, MatchResult, IsTrue, Some, length, map, min, take, true};
+ghost use Rattle.std.specs.Prelude.{◌≡◌, ◌<◌, ◌≤◌, ℕ, List, [], All, IfOk, IfErr, IsSome, MatchResult, IsTrue, Some, length, map, min, take, true};
 ghost use Rattle.rt_command.specs.Choices.{Choices};
-ghost use Rattle.rt_embed.specs.{Sessions.{IsRunOf}, Questions.{measure_of}};
+ghost use Rattle.rt_embed.specs.{Columns.{AreColumns, HasColumns, StopsAtColumns}, Findings.{HasFound}};
+ghost use Rattle.rt_embed.specs.{PlainQueries.{question_of}, Questions.{AsksNone, measured_of}, Sessions.{IsRunOf}};
 ghost use Rattle.rt_filter.specs.{Lines.{numbered_lines}, Stages.{HasLoaded, Stops, is_of_load}};
 ghost use Rattle.rt_filter.specs.Replies.{Loaded, any_fault, output, tree_of};
 
+use crate::columns::{Columns, table_of};
+use crate::finding::{Found, find_each};
 use crate::measuring::measure_each;
-use crate::question::{Measure, Question};
+use crate::plain_query::PlainQuery;
+use crate::question::Measure;
 use crate::reply_sink::ReplySink;
+use crate::score::Score;
 use rt_filter::{RunFault, Settings, answer_batch, load};
+use rt_geo::Point;
 use rt_search::Frontier;
 use rt_tree::Tree;
 use std::alloc::{AllocError, Global};
@@ -57,6 +63,23 @@ impl Session {
             Ok(session) => Ok(session),
             Err(_) => Err(RunFault::Memory),
         }
+    }
+
+    /// The first session of a table in columns, packed under the settings, whose header means nothing here; or why there is none.
+    pub fn of_columns(
+        alloc: Global,
+        settings: &Settings,
+        columns: Columns<'_>,
+    ) -> Result<Session, RunFault>
+        requires columns { AreColumns columns }
+        ensures loaded { IfOk result (λ session. HasColumns settings.now columns.entry session.tree) }
+        ensures reply { IfOk result (λ session. session.reply ≡ []) }
+        ensures fault { IfErr result (λ fault. StopsAtColumns settings.now columns.entry fault) }
+    {
+        let table = table_of(alloc, settings.max_entries(), columns)?;
+        let tree = Tree::pack(alloc, table, settings.fanout())?;
+        let frontier = Frontier::new(alloc, tree.len())?;
+        Ok(Session::of_tree(alloc, tree, frontier)?)
     }
 
     /// One more session of the same table, for another thread, with nothing replied.
@@ -107,22 +130,52 @@ impl Session {
         }
     }
 
-    /// Measures questions: how many boxes each asks for, or what it costs. Returns how many are measured: as many as have
-    /// room.
+    /// Finds the answers to queries, one list behind the other, but for the first `skip` of them all. Each id goes to `ids`, and
+    /// its score to `scores`; where the list of each query ends goes to `ends`. What has no place in `ends` or `scores` is left
+    /// out, and where `ids` is full the search ends.
+    pub fn find(
+        &mut self,
+        alloc: Global,
+        queries: &[PlainQuery],
+        vertices: &[Point],
+        skip: usize,
+        ends: &mut [usize],
+        ids: &mut [i64],
+        scores: &mut [Score],
+    ) -> Result<Found, AllocError>
+        ensures found { IfOk result (λ found. HasFound self.old.tree.entries vertices.now skip
+            queries.now ends.new ids.new scores.new found) }
+        ensures same { self.new ≡ self.old }
+    {
+        let frontier = self.take_frontier(alloc)?;
+        let (found, left) = find_each(
+            &self.tree, frontier, queries, vertices, skip, ends, ids, scores,
+        );
+        self.frontier = Some(left);
+        Ok(found)
+    }
+
+    /// Measures queries: how many boxes each asks for, or what it costs. Returns how many are measured: as many as have places,
+    /// or those before the first that asks no question.
     pub fn measure(
         &mut self,
         alloc: Global,
         measure: Measure,
-        questions: &[Question],
+        queries: &[PlainQuery],
+        vertices: &[Point],
         measured: &mut [u64],
     ) -> Result<usize, AllocError>
         ensures measured { IfOk result (λ n. take n measured.new
-            ≡ map (measure_of self.old.tree measure) (take n questions.now)) }
-        ensures many { IfOk result (λ n. n ≡ min (length questions.now) (length measured.old)) }
+            ≡ map (measured_of self.old.tree vertices.now measure) (take n queries.now)) }
+        ensures asked { IfOk result (λ n.
+            All (λ query. IsSome (question_of vertices.now query)) (take n queries.now)) }
+        ensures most { IfOk result (λ n. n ≤ min (length queries.now) (length measured.old)) }
+        ensures stop { IfOk result (λ n. n < min (length queries.now) (length measured.old)
+            → AsksNone vertices.now queries.now n) }
         ensures same { self.new ≡ self.old }
     {
         let frontier = self.take_frontier(alloc)?;
-        let (done, left) = measure_each(&self.tree, frontier, measure, questions, measured);
+        let (done, left) = measure_each(&self.tree, frontier, measure, queries, vertices, measured);
         self.frontier = Some(left);
         Ok(done)
     }

@@ -1,61 +1,81 @@
-//! Questions in numbers, beside the text that the program writes for the same questions.
+//! Queries in numbers, beside the text that the program writes for the same questions.
 
 use crate::expect::expect_eq;
 use crate::given::{BOXES, open};
-use rt_embed::{Session, Measure, Question};
-use rt_geo::{ById, Order};
-use rt_text::{Parsed, Query, ok_line, parse};
+use crate::plain::{ALL, VERTICES, measured, plain_of};
+use rt_embed::{Found, Measure, PlainQuery, Score, Session, Stop};
+use rt_text::{answer_line, ok_line};
 use std::process::Abort;
 use std::test::Fail;
 
-// What a line for boxes asks.
-fn question_of(rt: &impl Abort, line: &[u8]) -> Question {
-    match parse(line) {
-        Parsed::Query(
-            Query::Find {
-                region,
-                order,
-                limit,
-                layers,
-            },
-        )
-        | Parsed::Query(
-            Query::CostFind {
-                region,
-                order,
-                limit,
-                layers,
-            },
-        ) => Question {
-            region,
-            layers,
-            order,
-            limit,
-        },
-        Parsed::Query(Query::Count { region, layers })
-        | Parsed::Query(Query::CostCount { region, layers }) => Question {
-            region,
-            layers,
-            order: Order::ById(ById),
-            limit: None,
-        },
-        _ => panic!(rt; "the line asks for no boxes"),
-    }
+/// Lines for boxes of every region and order, on layers and with limits.
+const LINES: [&[u8]; 16] = [
+    b"find all",
+    b"find all on 3",
+    b"find all on 1,2",
+    b"find all smallest first 3",
+    b"find all near 12 12",
+    b"nearest 3 12 12",
+    b"nearest 0 12 12",
+    b"find window 0 10 0 10",
+    b"find window 0 10 0 10 on 0,3 near 9 9 first 1",
+    b"find inside 0 15 0 15 smallest",
+    b"find covers 12 12 12 12",
+    b"find circle 0 0 2",
+    b"find circle 0 0 200 first 2",
+    b"find circle 0 0 2 on 63 near 5 5",
+    b"find polygon 3 0 0 30 0 0 30",
+    b"find polygon 3 0 0 30 0 0 30 on 0 near 14 14 first 2",
+];
+
+/// A session of the boxes, which has replied to a line.
+fn replied<R: Abort + AllocGlobal>(rt: &R, fanout: u8, line: &[u8]) -> Result<Session, Fail> {
+    let mut session = open(rt, fanout, BOXES);
+    session.ask(rt.alloc(), line)?;
+    Ok(session)
 }
 
-// Measures what a line for boxes asks, and compares that with its reply.
-fn expect_measured<R: Abort + AllocGlobal>(
-    rt: &R,
-    session: &mut Session,
-    measure: Measure,
-    line: &[u8],
-) -> Result<(), Fail> {
-    let mut measured = [77];
-    let question = question_of(rt, line);
-    let done = session.measure(rt.alloc(), measure, &[question], &mut measured)?;
-    expect_eq(rt, done, 1);
-    session.ask(rt.alloc(), line)?;
-    expect_eq(rt, session.reply(), ok_line(1, measured[0]).bytes());
+// The text of answers.
+fn text_of<R: AllocGlobal>(rt: &R, ids: &[i64], scores: &[Score]) -> Result<Vec<u8>, Fail> {
+    let mut text = Vec::new(rt.alloc());
+    let mut count: u64 = 0;
+    for (id, score) in ids.iter().zip(scores) {
+        let score = u128::from(score.high) << 64 | u128::from(score.low);
+        text.extend_from_slice(answer_line(*id, score).bytes())?;
+        count = count.saturating_add(1);
+    }
+    text.extend_from_slice(ok_line(1, count).bytes())?;
+    Ok(text)
+}
+
+// Finds what a line asks, and compares that with its reply.
+fn expect_as_text<R: Abort + AllocGlobal>(rt: &R, fanout: u8, line: &[u8]) -> Result<(), Fail> {
+    let mut session = replied(rt, fanout, line)?;
+    let (mut ends, mut ids, mut scores) = ([9], [0; 6], [Score { low: 0, high: 0 }; 6]);
+    let queries = [plain_of(rt, line)];
+    let found = session.find(
+        rt.alloc(),
+        &queries,
+        &VERTICES,
+        0,
+        &mut ends,
+        &mut ids,
+        &mut scores,
+    )?;
+    expect_eq(rt, (found.done, found.stop), (1, Stop::Complete));
+    expect_eq(rt, ends[0], found.found);
+    let text = text_of(rt, &ids[..found.found], &scores[..found.found])?;
+    expect_eq(rt, session.reply(), text.as_slice());
+    Ok(())
+}
+
+#[test]
+fn answers_are_those_in_text(rt: HostRuntime) -> Result<(), Fail> {
+    for fanout in [2, 16] {
+        for line in LINES {
+            expect_as_text(&rt, fanout, line)?;
+        }
+    }
     Ok(())
 }
 
@@ -79,36 +99,140 @@ fn measures_are_those_in_text(rt: HostRuntime) -> Result<(), Fail> {
         ),
     ];
     for fanout in [2, 16] {
-        let mut session = open(&rt, fanout, BOXES);
         for (measure, line) in rows {
-            expect_measured(&rt, &mut session, measure, line)?;
+            let mut session = replied(&rt, fanout, line)?;
+            let n = measured(&rt, &mut session, measure, plain_of(&rt, line))?;
+            expect_eq(&rt, session.reply(), ok_line(1, n).bytes());
         }
     }
     Ok(())
 }
 
+/// Three queries, the second of which finds nothing.
+fn three(rt: &impl Abort) -> [PlainQuery; 3] {
+    [
+        plain_of(rt, b"nearest 3 12 12"),
+        plain_of(rt, b"find window 100 110 0 1"),
+        plain_of(rt, b"find all"),
+    ]
+}
+
+/// What they find, one list behind the other.
+const THEIRS: [i64; 8] = [2, 5, 1, 1, 2, 3, 4, 5];
+
 #[test]
-fn as_many_are_measured_as_have_room(rt: HostRuntime) -> Result<(), Fail> {
+fn lists_stand_one_behind_the_other(rt: HostRuntime) -> Result<(), Fail> {
     let mut session = open(&rt, 2, BOXES);
-    let asked = [
-        question_of(&rt, b"find all"),
-        question_of(&rt, b"find window 0 10 0 10"),
-        question_of(&rt, b"find all near 0 0 first 2"),
+    let (mut ends, mut ids, mut scores) = ([0; 3], [0; 9], [Score { low: 7, high: 7 }; 3]);
+    let found = session.find(
+        rt.alloc(),
+        &three(&rt),
+        &[],
+        0,
+        &mut ends,
+        &mut ids,
+        &mut scores,
+    )?;
+    let stop = Stop::Complete;
+    expect_eq(
+        &rt,
+        found,
+        Found {
+            done: 3,
+            found: 8,
+            stop,
+        },
+    );
+    expect_eq(&rt, ends, [3, 3, 8]);
+    expect_eq(&rt, &ids[..8], &THEIRS[..]);
+    // (there are places for three scores alone)
+    let score = |low| Score { low, high: 0 };
+    expect_eq(&rt, scores, [score(0), score(0), score(8)]);
+    Ok(())
+}
+
+#[test]
+fn what_is_full_is_gone_on_with(rt: HostRuntime) -> Result<(), Fail> {
+    let mut session = open(&rt, 2, BOXES);
+    for skip in 0..9 {
+        let mut ids = [0; 2];
+        let found = session.find(
+            rt.alloc(),
+            &three(&rt),
+            &[],
+            skip,
+            &mut [],
+            &mut ids,
+            &mut [],
+        )?;
+        let left = 8 - skip;
+        expect_eq(&rt, found.found, left.min(2));
+        expect_eq(&rt, &ids[..found.found], &THEIRS[skip..][..found.found]);
+        expect_eq(&rt, found.stop == Stop::Full, left > 2);
+    }
+    Ok(())
+}
+
+#[test]
+fn a_query_that_asks_no_question_ends_the_call(rt: HostRuntime) -> Result<(), Fail> {
+    let mut session = open(&rt, 2, BOXES);
+    let reversed = PlainQuery {
+        region: 1,
+        min_x: 1,
+        ..ALL
+    };
+    let bad = [
+        reversed,
+        PlainQuery { region: 6, ..ALL },
+        PlainQuery { order: 3, ..ALL },
+        PlainQuery {
+            region: 5,
+            vertices: 4,
+            ..ALL
+        },
+        PlainQuery {
+            region: 5,
+            vertices: 2,
+            ..ALL
+        },
+        PlainQuery {
+            region: 5,
+            first_vertex: u32::MAX,
+            vertices: u32::MAX,
+            ..ALL
+        },
     ];
+    for query in bad {
+        let (mut ends, mut ids, mut counts) = ([0; 2], [0; 9], [7; 2]);
+        let queries = [ALL, query];
+        let found = session.find(
+            rt.alloc(),
+            &queries,
+            &VERTICES,
+            0,
+            &mut ends,
+            &mut ids,
+            &mut [],
+        )?;
+        expect_eq(&rt, (found.done, found.found), (1, 5));
+        expect_eq(&rt, found.stop, Stop::BadQuery);
+        let count = Measure::Count;
+        let done = session.measure(rt.alloc(), count, &queries, &VERTICES, &mut counts)?;
+        expect_eq(&rt, (done, counts), (1, [5, 7]));
+    }
+    Ok(())
+}
+
+#[test]
+fn as_many_are_measured_as_have_places(rt: HostRuntime) -> Result<(), Fail> {
+    let mut session = open(&rt, 2, BOXES);
     let mut counts = [7; 4];
+    let queries = three(&rt);
     let count = Measure::Count;
-    expect_eq(
-        &rt,
-        session.measure(rt.alloc(), count, &asked, &mut counts[..2])?,
-        2,
-    );
-    expect_eq(&rt, counts, [5, 2, 7, 7]);
-    expect_eq(
-        &rt,
-        session.measure(rt.alloc(), count, &asked, &mut counts)?,
-        3,
-    );
+    let done = session.measure(rt.alloc(), count, &queries, &[], &mut counts[..2])?;
     // A count has no limit.
-    expect_eq(&rt, counts, [5, 2, 5, 7]);
+    expect_eq(&rt, (done, counts), (2, [5, 0, 7, 7]));
+    let done = session.measure(rt.alloc(), count, &queries, &[], &mut counts)?;
+    expect_eq(&rt, (done, counts), (3, [5, 0, 5, 7]));
     Ok(())
 }

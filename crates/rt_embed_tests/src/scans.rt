@@ -2,7 +2,8 @@
 
 use crate::expect::expect_eq;
 use crate::given::open;
-use rt_embed::{Session, Measure, Question};
+use crate::plain::{measured, plain};
+use rt_embed::{Measure, Question, Session};
 use rt_geo::{All, Bounds, ById, Circle, Covers, Inside, Layers, Order, Point, Region, Window};
 use std::process::Abort;
 use std::test::Fail;
@@ -143,15 +144,14 @@ fn expect_all<R: Abort + AllocGlobal>(rt: &R, kind: u8, fanout: u8) -> Result<()
     let mut session = session(rt, fanout)?;
     for n in 0..6 {
         for layers in [Layers::all(), Layers::of(1), Layers::new(12)] {
-            let questions = [Question {
+            let question = Question {
                 region: region(rt, kind, n),
                 layers,
                 order: Order::ById(ById),
                 limit: None,
-            }];
-            let mut counts = [0];
-            let done = session.measure(rt.alloc(), Measure::Count, &questions, &mut counts)?;
-            expect_eq(rt, (done, counts[0]), (1, count(&questions[0])));
+            };
+            let counted = measured(rt, &mut session, Measure::Count, plain(&question))?;
+            expect_eq(rt, counted, count(&question));
         }
     }
     Ok(())

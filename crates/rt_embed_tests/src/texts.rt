@@ -59,7 +59,7 @@ fn the_reply_is_that_of_a_run(rt: HostRuntime) {
 }
 
 #[test]
-fn askers_of_one_tree_have_replies_of_their_own(rt: HostRuntime) {
+fn sessions_of_one_tree_have_replies_of_their_own(rt: HostRuntime) {
     let mut first = open(&rt, 2, BOXES);
     let mut second = first.share(rt.alloc()).expect(&rt, "there is memory");
     expect_eq(&rt, second.reply().len(), 0);

@@ -1,0 +1,59 @@
+-- The answers to queries in numbers, in arrays.
+use Rattle.std.specs.Prelude.{◌≡◌, ◌<◌, ◌≤◌, ℕ, ℤ, ◌+◌, ◌^◌, ◌×◌, List, [], length, map, take, drop, flat_map, Option, Some, None, All, IsSome}
+use Rattle.std.specs.{List.{slice_index_or}, Option.{option_map_or}}
+use Rattle.rt_geo.specs.declared.distance.Point.{Point}
+use Rattle.rt_geo.specs.declared.entry.Entry.{Entry}
+use Rattle.rt_search.specs.Answers.{Answer, answers}
+use Rattle.rt_filter.specs.Replies.{meaning_of}
+use Rattle.rt_embed.specs.{PlainQueries.{question_of}, Questions.{AsksNone}}
+use Rattle.rt_embed.specs.declared.finding.Found.{Found}
+use Rattle.rt_embed.specs.declared.finding.Stop.{Stop}
+use Rattle.rt_embed.specs.declared.finding.Stop.TheVariants.{BadQuery, Complete, Full}
+use Rattle.rt_embed.specs.declared.score.Score.{Score}
+use Rattle.rt_embed.specs.declared.plain_query.PlainQuery.{PlainQuery}
+use Rattle.rt_embed.specs.declared.question.Question.{Question}
+
+-- the answers to a question
+abbrev pub answers_to : List Entry → Question → List Answer
+answers_to entries asked = answers entries (meaning_of asked.region asked.layers asked.order) asked.limit
+
+-- the answers to a query, none of one that asks no question
+abbrev pub list_of : List Entry → (vertices : List Point) → PlainQuery → List Answer
+list_of entries vertices query = option_map_or (answers_to entries) (question_of vertices query) []
+
+-- the answers to queries, one list behind the other, but for the first `skip` of them all
+abbrev pub lists_of : List Entry → (vertices : List Point) → (skip : ℕ) → List PlainQuery → List Answer
+lists_of entries vertices skip queries = drop skip (flat_map (list_of entries vertices) queries)
+
+-- an answer's id, and its score in two words
+abbrev pub id_of : Answer → ℤ
+id_of answer = answer.0
+
+abbrev pub score_of : Answer → Score
+score_of answer = record { low = answer.1 % 2 ^ 64; high = answer.1 / 2 ^ 64 }
+
+-- an array begins with a list, as far as it has places
+abbrev pub Begins : {X : Type 0} → (array list : List X) → Type 0
+Begins array list = take (length list) array ≡ take (length array) list
+
+-- why no more queries are answered: there are none, the next answer has no place, or the next query asks no question
+abbrev pub StopsFor : Stop → (entries : List Entry) (vertices : List Point) (skip : ℕ) (queries : List PlainQuery) (ids : List ℤ)
+    → (done found : ℕ) → Type 0
+StopsFor Complete entries vertices skip queries ids done found =
+    (done ≡ length queries) × (found ≡ length (lists_of entries vertices skip queries))
+StopsFor Full entries vertices skip queries ids done found =
+    (found ≡ length ids) × (done < length queries) × (found < length (lists_of entries vertices skip (take (done + 1) queries)))
+StopsFor BadQuery entries vertices skip queries ids done found =
+    (found ≡ length (lists_of entries vertices skip (take done queries))) × AsksNone vertices queries done
+
+-- what stands in the arrays: the answers to the queries, as many as were found; where the list of each query that is answered
+-- ends, as far as that has a place; and why there are no more
+pub record HasFound (entries : List Entry) (vertices : List Point) (skip : ℕ) (queries : List PlainQuery) (ends : List ℕ)
+    (ids : List ℤ) (scores : List Score) (result : Found) : Type 0 where
+  pub few : result.found ≤ length (lists_of entries vertices skip queries)
+  pub ids_stand : Begins ids (map id_of (take result.found (lists_of entries vertices skip queries)))
+  pub scores_stand : Begins scores (map score_of (take result.found (lists_of entries vertices skip queries)))
+  pub ends_stand : (k : ℕ) → k < result.done → k < length ends
+      → slice_index_or ends k 0 ≡ length (lists_of entries vertices skip (take (k + 1) queries))
+  pub asked : All (λ query. IsSome (question_of vertices query)) (take result.done queries)
+  pub stop : StopsFor result.stop entries vertices skip queries ids result.done result.found
