@@ -1,1 +1,5 @@
+mod AllLayers
+mod ArrayLemmas
+mod ColumnLemmas
 pub mod Headline
+mod ListLemmas

@@ -1,5 +1,5 @@
 -- The table that columns give, or what is wrong with it.
-use Rattle.std.specs.Prelude.{◌≡◌, ◌⊎◌, ⊥, ⊤, ℕ, zero, suc, ◌+◌, ℤ, pos, int_lt, nat_lt, Bool, if◌then◌else◌, List, [], ◌∷◌, ◌++◌, length, slice_index, Option, Some, None, Result, Ok, Err}
+use Rattle.std.specs.Prelude.{◌≡◌, ◌⊎◌, ⊤, ℕ, zero, suc, ◌+◌, ℤ, pos, int_lt, nat_lt, if◌then◌else◌, List, [], ◌∷◌, ◌++◌, length, Option, Some, None, Result, Ok, Err}
 use Rattle.std.specs.List.{slice_index_or}
 use Rattle.rt_geo.specs.Boxes.{rect_of}
 use Rattle.rt_geo.specs.Layers.{most_layer}
@@ -40,7 +40,7 @@ entry_at columns place = entry_of (place + 1) (slice_index_or columns.ids.now pl
     (slice_index_or columns.layers.now place 0)
 
 -- the first entries, so many of them
-unfoldable pub entries_upto : Columns → ℕ → Result (List Entry) TableFault
+abbrev pub entries_upto : Columns → ℕ → Result (List Entry) TableFault
 entries_upto columns zero = Ok []
 entries_upto columns (suc place) = do
   before ← entries_upto columns place

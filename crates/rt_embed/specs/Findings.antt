@@ -1,6 +1,6 @@
 -- The answers to queries in numbers, in arrays.
-use Rattle.std.specs.Prelude.{◌≡◌, ◌<◌, ◌≤◌, ℕ, ℤ, ◌+◌, ◌^◌, ◌×◌, List, [], length, map, take, drop, flat_map, Option, Some, None, All, IsSome}
-use Rattle.std.specs.{List.{slice_index_or}, Option.{option_map_or}}
+use Rattle.std.specs.Prelude.{◌≡◌, ◌<◌, ◌≤◌, ℕ, zero, suc, ℤ, ◌+◌, ◌%◌, ◌/◌, ◌^◌, List, [], ◌∷◌, ◌++◌, length, map, take, drop, flat_map, All, IsSome}
+use Rattle.std.specs.Option.{option_map_or}
 use Rattle.rt_geo.specs.declared.distance.Point.{Point}
 use Rattle.rt_geo.specs.declared.entry.Entry.{Entry}
 use Rattle.rt_search.specs.Answers.{Answer, answers}
@@ -24,6 +24,12 @@ list_of entries vertices query = option_map_or (answers_to entries) (question_of
 -- the answers to queries, one list behind the other, but for the first `skip` of them all
 abbrev pub lists_of : List Entry → (vertices : List Point) → (skip : ℕ) → List PlainQuery → List Answer
 lists_of entries vertices skip queries = drop skip (flat_map (list_of entries vertices) queries)
+
+-- where the lists of the first queries end, so many of them
+abbrev pub ends_of : List Entry → (vertices : List Point) → (skip : ℕ) → List PlainQuery → ℕ → List ℕ
+ends_of entries vertices skip queries zero = []
+ends_of entries vertices skip queries (suc k) =
+    ends_of entries vertices skip queries k ++ length (lists_of entries vertices skip (take (suc k) queries)) ∷ []
 
 -- an answer's id, and its score in two words
 abbrev pub id_of : Answer → ℤ
@@ -53,7 +59,6 @@ pub record HasFound (entries : List Entry) (vertices : List Point) (skip : ℕ) 
   pub few : result.found ≤ length (lists_of entries vertices skip queries)
   pub ids_stand : Begins ids (map id_of (take result.found (lists_of entries vertices skip queries)))
   pub scores_stand : Begins scores (map score_of (take result.found (lists_of entries vertices skip queries)))
-  pub ends_stand : (k : ℕ) → k < result.done → k < length ends
-      → slice_index_or ends k 0 ≡ length (lists_of entries vertices skip (take (k + 1) queries))
+  pub ends_stand : Begins ends (ends_of entries vertices skip queries result.done)
   pub asked : All (λ query. IsSome (question_of vertices query)) (take result.done queries)
   pub stop : StopsFor result.stop entries vertices skip queries ids result.done result.found

@@ -1,5 +1,5 @@
 -- What is measured of questions in numbers.
-use Rattle.std.specs.Prelude.{◌≡◌, ◌×◌, ℕ, List, length, slice_get, None, Some}
+use Rattle.std.specs.Prelude.{◌≡◌, ℕ, List, length, slice_get, None, Some}
 use Rattle.std.specs.Option.{option_map_or}
 use Rattle.rt_geo.specs.Orders.{by_id}
 use Rattle.rt_geo.specs.declared.distance.Point.{Point}

@@ -1,9 +1,9 @@
 //! Tables in columns: an array of ids, four of sides, and one of layers or none.
 
-ghost use Rattle.std.specs.Prelude.{◌≡◌, ◌<◌, ◌≤◌, IfOk, IfErr, All, length};
+ghost use Rattle.std.specs.Prelude.{◌≡◌, ◌<◌, ◌≤◌, All, IfErr, IfOk, Ok, length};
 ghost use Rattle.rt_geo.specs.Entries.{HasLayer};
 ghost use Rattle.rt_tree.specs.Entries.{most_entries};
-ghost use Rattle.rt_embed.specs.Columns.{AreColumns, IsRefusalOf, entry_at, table_of};
+ghost use Rattle.rt_embed.specs.Columns.{AreColumns, IsRefusalOf, entries_upto, entry_at, entry_of, table_of};
 
 use rt_geo::{Bounds, Entry, Layers};
 use rt_text::{Axis, TableFault};
@@ -44,9 +44,12 @@ pub(crate) fn table_of(alloc: Global, max: u32, columns: Columns<'_>) -> Result<
 fn entries_of(alloc: Global, columns: Columns<'_>) -> Result<Entries, TableFault>
     requires columns { AreColumns columns }
     requires few { length columns.ids.now ≤ most_entries }
-    ensures entries { IfOk result (λ entries. entries_upto columns.entry (length columns.entry.ids.now) ≡ Ok entries) }
+    ensures entries { IfOk result (λ entries.
+        entries_upto columns.entry (length columns.entry.ids.now) ≡ Ok entries) }
+    ensures len { IfOk result (λ entries. length entries ≡ length columns.entry.ids.now) }
     ensures layers { IfOk result (λ entries. All HasLayer entries) }
-    ensures fault { IfErr result (λ cause. IsRefusalOf cause (entries_upto columns.entry (length columns.entry.ids.now))) }
+    ensures fault { IfErr result (λ cause.
+        IsRefusalOf cause (entries_upto columns.entry (length columns.entry.ids.now))) }
 {
     let mut entries = Entries::empty(alloc);
     for place in 0..columns.ids.len() {
@@ -64,24 +67,29 @@ fn entry_at(columns: Columns<'_>, place: usize) -> Result<Entry, TableFault>
     ensures value { result ≡ entry_at columns.entry place }
     ensures layer { IfOk result HasLayer }
 {
-    let number = place as u32 + 1;
-    let layer = if columns.layers.is_empty() {
-        0
-    } else {
-        columns.layers[place]
-    };
+    let layer = columns.layers.get(place).copied().unwrap_or(0);
+    let x = (columns.min_x[place], columns.max_x[place]);
+    let y = (columns.min_y[place], columns.max_y[place]);
+    entry_of(place as u32 + 1, columns.ids[place], x, y, layer)
+}
+
+// The entry of a record: its id, the minimum and the maximum on each axis, and its layer.
+fn entry_of(
+    number: u32,
+    id: i64,
+    x: (i32, i32),
+    y: (i32, i32),
+    layer: u8,
+) -> Result<Entry, TableFault>
+    ensures value { result ≡ entry_of number id x.0 x.1 y.0 y.1 layer }
+    ensures layer { IfOk result HasLayer }
+{
     if layer > Layers::MOST {
         return Err(TableFault::OutOfRange { number, field: 6 });
     }
-    let (min_x, max_x) = (columns.min_x[place], columns.max_x[place]);
-    let (min_y, max_y) = (columns.min_y[place], columns.max_y[place]);
-    let Some(bounds) = Bounds::new(min_x, max_x, min_y, max_y) else {
-        let axis = if min_x > max_x { Axis::X } else { Axis::Y };
+    let Some(bounds) = Bounds::new(x.0, x.1, y.0, y.1) else {
+        let axis = if x.0 > x.1 { Axis::X } else { Axis::Y };
         return Err(TableFault::MinAboveMax { number, axis });
     };
-    Ok(Entry {
-        id: columns.ids[place],
-        bounds,
-        layer,
-    })
+    Ok(Entry { id, bounds, layer })
 }

@@ -3,12 +3,11 @@
 //! The region and the order of a query are matched once, as for a query line (`query.rt` of `rt_filter`), so that the check of
 //! each box is compiled for them.
 
-ghost use Rattle.std.specs.Prelude.{◌≡◌, ◌-◌, ◌+◌, ◌<◌, ◌≤◌, ◌++◌, List, length, map, take, drop, true, false};
-ghost use Rattle.rt_geo.specs.Laws.{Meaning};
-ghost use Rattle.rt_geo.specs.Orders.{order_score};
+ghost use Rattle.std.specs.Prelude.{◌≡◌, ◌-◌, ◌+◌, ◌<◌, ◌≤◌, ◌++◌, ◌∷◌, [], List, length, drop};
+ghost use Rattle.rt_geo.specs.{Orders.{order_score}, Regions.{region_accepts}};
 ghost use Rattle.rt_search.specs.Answers.{Answer, answers};
 ghost use Rattle.rt_filter.specs.Reports.{scanned};
-ghost use Rattle.rt_embed.specs.Findings.{Begins, HasFound, answers_to, id_of, score_of};
+ghost use Rattle.rt_embed.specs.{Findings.{Begins, HasFound, answers_to, id_of, score_of}, Puts.{IsPut, IsPutBehind}};
 
 use crate::plain_query::PlainQuery;
 use crate::question::Question;
@@ -56,7 +55,7 @@ pub(crate) fn find_each(
     ensures capacity { result.1.capacity ≡ frontier.capacity }
 {
     let mut frontier = frontier;
-    let mut put = Position {
+    let mut position = Position {
         end: 0,
         skip,
         is_whole: true,
@@ -64,18 +63,18 @@ pub(crate) fn find_each(
     let mut done: usize = 0;
     while done < queries.len() {
         let Some(question) = queries[done].question(vertices) else {
-            return (put.stopped(done, Stop::BadQuery), frontier);
+            return (position.stopped(done, Stop::BadQuery), frontier);
         };
-        let (next, left) = find_one(tree, frontier, &question, put, ids, scores);
-        put = next;
+        let (next, left) = find_one(tree, frontier, &question, position, ids, scores);
+        position = next;
         frontier = left;
-        if !put.is_whole {
-            return (put.stopped(done, Stop::Full), frontier);
+        if !position.is_whole {
+            return (position.stopped(done, Stop::Full), frontier);
         }
-        put_at(ends, done, put.end);
+        put_at(ends, done, position.end);
         done += 1;
     }
-    (put.stopped(done, Stop::Complete), frontier)
+    (position.stopped(done, Stop::Complete), frontier)
 }
 
 // How far answers are put.
@@ -198,7 +197,7 @@ fn put_in_shape<S: Shape + Drop>(
     let Cut { order, limit, from } = cut;
     match order {
         Order::ById(rank) => {
-            put(
+            put_answers(
                 tree,
                 frontier,
                 Guided { shape, rank },
@@ -220,7 +219,7 @@ fn put_in_shape<S: Shape + Drop>(
             )
         }
         Order::Smallest(rank) => {
-            put(
+            put_answers(
                 tree,
                 frontier,
                 Guided { shape, rank },
@@ -251,14 +250,14 @@ fn put_by_distance<G: Geometry + Drop>(
     ensures capacity { result.1.capacity ≡ frontier.capacity }
 {
     if limit.is_none() {
-        return put(tree, frontier, Unscored(geometry), limit, from, ids, scores);
+        return put_answers(tree, frontier, Unscored(geometry), limit, from, ids, scores);
     }
-    put(tree, frontier, geometry, limit, from, ids, scores)
+    put_answers(tree, frontier, geometry, limit, from, ids, scores)
 }
 
 // Puts the answers of one geometry. Out of line, so that a query clears the locals of its own search alone.
 #[inline(never)]
-fn put<G: Geometry + Drop>(
+fn put_answers<G: Geometry + Drop>(
     tree: &Tree,
     frontier: Frontier,
     geometry: G,
@@ -318,7 +317,7 @@ fn put_rest<'a, G: Geometry>(
         if end >= ids.len() {
             return (search, end, false);
         }
-        put_at(ids, end, id);
+        ids[end] = id;
         put_at(scores, end, Score::new(score));
         end += 1;
     }

@@ -1,5 +1,5 @@
-use Rattle.std.proofs.Common.{◌≡◌, ◌≤◌, ◌-◌, length, map, take}
-use Rattle.rt_embed.specs.Questions.{measure_of}
+use Rattle.std.proofs.Common.{All, IsSome, ◌≡◌, ◌≤◌, ◌-◌, length, map, take}
+use Rattle.rt_embed.specs.{PlainQueries.{question_of}, Questions.{measured_of}}
 use Rattle.rt_embed.proofs.measuring.measure_each.Given as goal
 
 -- so many are measured
@@ -8,7 +8,8 @@ invariant-loop-done l = record {
   bound : l.done ≤ l.most;
   len : length l.measured ≡ length l.initial.measured;
   capacity : l.frontier.capacity ≡ l.initial.frontier.capacity;
-  measured : take l.done l.measured ≡ map (measure_of l.tree l.measure) (take l.done l.questions);
+  measured : take l.done l.measured ≡ map (measured_of l.tree l.vertices l.measure) (take l.done l.queries);
+  asked : All (λ query. IsSome (question_of l.vertices query)) (take l.done l.queries);
 }
 
 abbrev pub decreases-loop-done : goal.decreases-loop-done

@@ -1,0 +1,21 @@
+use Rattle.std.proofs.Common.{IsSome, ◌∙◌, ap, rules, sym}
+use Rattle.std.specs.Option.{is_some, option_map_or}
+use Rattle.rt_embed.specs.{PlainQueries.{question_of}, Questions.{measure_of, measured_of}}
+use Rattle.rt_embed.proofs.ListLemmas.{all_more, mapped_more}
+use Rattle.rt_embed.proofs.measuring.measure_each.Goals as goal
+
+pub loop-done-preserved : goal.loop-done-preserved
+loop-done-preserved c =
+    let done = c.loop-done.done in
+    let asked = sym c.question.ensures ∙ c.in-Some.is in
+    record {
+      bound = search rules;
+      len = search rules;
+      capacity = search rules;
+      measured = mapped_more (measured_of c.args.tree.now c.args.vertices.now c.args.measure) c.args.queries.now c.loop-done.measured done
+          c.measure_one-found.result.0 _ (search rules) (search rules) c.loop-done.invariant.measured
+          (c.measure_one-found.ensures.measured
+          ∙ sym (ap (λ found. option_map_or (measure_of c.args.tree.now c.args.measure) found 0) asked));
+      asked = all_more (λ query. IsSome (question_of c.args.vertices.now query)) c.args.queries.now done _ (search rules)
+          c.loop-done.invariant.asked (ap is_some asked);
+    }
