@@ -1,1 +1,2 @@
+mod Hulls
 pub mod Headline

@@ -2,13 +2,15 @@
 //!
 //! A [`Session`] has a loaded tree, which others share, and a frontier and a reply of its own. [`Session::ask`] answers query lines
 //! with the text that the program would write for them; [`Session::measure`] counts boxes and costs, of many questions in one
-//! call. No pointer and no C is here.
+//! call; [`summary_of`] says how large its tree is. No pointer and no C is here.
 #![tactic(auto)]
 
 mod session;
 mod measuring;
 mod question;
 mod reply_sink;
+mod summary;
 
 pub use session::Session;
 pub use question::{Measure, Question};
+pub use summary::{Summary, copy_level_sizes, summary_of};
