@@ -1,1 +1,2 @@
+mod HeapRow
 mod Pointers

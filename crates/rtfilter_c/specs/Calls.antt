@@ -1,5 +1,5 @@
 -- What is held after a call.
-use Rattle.std.specs.Prelude.{◌≡◌, ◌==◌, ◌++◌, ℕ, List, [], Option, Some, IfSome, drop, length, min, take}
+use Rattle.std.specs.Prelude.{◌≡◌, ◌==◌, ◌++◌, ℕ, List, [], Option, Some, IfSome, drop, length, take}
 use Rattle.std.specs.Option.{IsSomeAnd}
 use Rattle.rt_command.specs.Choices.{Choices}
 use Rattle.rt_embed.specs.Sessions.{Contents, IsRunOf}

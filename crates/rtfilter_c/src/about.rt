@@ -50,7 +50,12 @@ fn about_of(tree: &Tree) -> About
 {
     let summary = summary_of(tree);
     let (min_x, max_x, min_y, max_y) = match summary.bounds {
-        Some(bounds) => (bounds.min_x(), bounds.max_x(), bounds.min_y(), bounds.max_y()),
+        Some(bounds) => (
+            bounds.min_x(),
+            bounds.max_x(),
+            bounds.min_y(),
+            bounds.max_y(),
+        ),
         None => (0, 0, 0, 0),
     };
     About {

@@ -18,15 +18,22 @@ pub struct Fault {
 }
 
 const TOO_MANY: u32 = 1;
+
 const FIELD_COUNT: u32 = 2;
+
 const NOT_NUMBER: u32 = 3;
+
 const OUT_OF_RANGE: u32 = 4;
+
 const MIN_ABOVE_MAX: u32 = 5;
+
 const REPEATED: u32 = 6;
 
 // The fields of a record, from 1.
 const ID: u64 = 1;
+
 const MIN_X: u64 = 2;
+
 const MIN_Y: u64 = 4;
 
 /// The numbers of a fault. `None` where it isn't the table's own: a failed read, or no memory.

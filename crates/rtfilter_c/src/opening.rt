@@ -1,6 +1,6 @@
 //! Opening, sharing and closing sessions.
 
-ghost use Rattle.std.specs.Prelude.{◌≡◌, ◌≢◌, ◌<◌, ◌↔◌, ◌∷◌, [], None, Some, IfSome, IsSome, Contains};
+ghost use Rattle.std.specs.Prelude.{◌≡◌, ◌≢◌, ◌<◌, ◌↔◌, ◌⊎◌, None, Some, IfSome, IsSome};
 ghost use Rattle.rt_command.specs.Choices.{AreAllowed, Choices};
 ghost use Rattle.rtfilter_c.specs.{Calls.{HoldsTable, holds_new}, Faults.{ReportsFault}};
 
@@ -35,7 +35,7 @@ pub extern "C" fn rtfilter_engine_open_bytes(
         record { header = header; fanout = fanout; max_entries = max_entries } in
         result ≡ BAD_TABLE → ReportsFault choices table.now fault.new }
     ensures no_fault { result ≢ BAD_TABLE → fault.new ≡ fault.old }
-    ensures codes { Contains (OK ∷ BAD_SETTING ∷ BAD_TABLE ∷ NO_MEMORY ∷ []) result }
+    ensures codes { (result ≡ OK) ⊎ (result ≡ BAD_SETTING) ⊎ (result ≡ BAD_TABLE) ⊎ (result ≡ NO_MEMORY) }
 {
     let Some(settings) = Settings::new(header, fanout, max_entries) else {
         return BAD_SETTING;
@@ -61,7 +61,7 @@ pub extern "C" fn rtfilter_engine_share(alloc: Global, of: &mut Handle, out: &mu
     ensures opened { result ≡ OK → IfSome of.old.held (λ session. out.new.held ≡ holds_new session.tree) }
     ensures closed { OK < result → out.new.held ≡ None }
     ensures same { of.new.held ≡ of.old.held }
-    ensures codes { Contains (OK ∷ NO_MEMORY ∷ []) result }
+    ensures codes { (result ≡ OK) ⊎ (result ≡ NO_MEMORY) }
 {
     let session = of.take(alloc);
     let shared = session.share(alloc);
@@ -86,7 +86,7 @@ fn hold(alloc: Global, out: &mut Handle, session: Session) -> u8
     requires closed { out.old.held ≡ None }
     ensures opened { result ≡ OK → out.new.held ≡ Some session }
     ensures closed { OK < result → out.new.held ≡ None }
-    ensures codes { Contains (OK ∷ NO_MEMORY ∷ []) result }
+    ensures codes { (result ≡ OK) ⊎ (result ≡ NO_MEMORY) }
 {
     match Box::new(alloc, session) {
         Ok(session) => {

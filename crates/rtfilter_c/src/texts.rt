@@ -1,6 +1,6 @@
 //! Query lines and their reply.
 
-ghost use Rattle.std.specs.Prelude.{◌≡◌, ◌≤◌, ◌++◌, ◌∷◌, [], Contains, IsSome, drop, length, min, take};
+ghost use Rattle.std.specs.Prelude.{◌≡◌, ◌≤◌, ◌⊎◌, IsSome, drop, length, min};
 ghost use Rattle.rtfilter_c.specs.Calls.{HasReply, HoldsNoReply, HoldsRun, HoldsSame, IsForgotten, copied};
 
 use crate::codes::{FAULTY_LINE, NO_MEMORY, OK};
@@ -24,7 +24,7 @@ pub extern "C" fn rtfilter_engine_ask(
     ensures same { HoldsSame session.old.held session.new.held }
     ensures reply { HasReply session.new.held (λ reply.
         (reply_len.new ≡ length reply) × (room.new ≡ copied reply room.old)) }
-    ensures codes { Contains (OK ∷ FAULTY_LINE ∷ NO_MEMORY ∷ []) result }
+    ensures codes { (result ≡ OK) ⊎ (result ≡ FAULTY_LINE) ⊎ (result ≡ NO_MEMORY) }
 {
     let mut asked = session.take(alloc);
     let code = match asked.ask(alloc, lines) {
