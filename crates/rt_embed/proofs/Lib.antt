@@ -2,4 +2,5 @@ mod AllLayers
 mod ArrayLemmas
 mod ColumnLemmas
 pub mod Headline
+mod Hulls
 mod ListLemmas

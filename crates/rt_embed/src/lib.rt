@@ -1,8 +1,8 @@
 //! The engine in the memory of the program that asks.
 //!
-//! A [`Session`] has a loaded tree, which others share, and a frontier and a reply of its own. [`Session::ask`] answers query lines
-//! with the text that the program would write for them; [`Session::measure`] counts boxes and costs, of many questions in one
-//! call. No pointer and no C is here.
+//! A [`Session`] has a loaded tree, which other sessions share, and a frontier and a reply of its own. [`Session::ask`] answers
+//! query lines with the text that the program writes for them; [`Session::find`] and [`Session::measure`] answer queries in
+//! numbers, many in one call. [`summary_of`] says how large a tree is. No pointer and no C is here.
 #![tactic(auto)]
 
 mod columns;
@@ -13,6 +13,7 @@ mod question;
 mod reply_sink;
 mod score;
 mod session;
+mod summary;
 
 pub use columns::Columns;
 pub use finding::{Found, Stop};
@@ -20,3 +21,4 @@ pub use plain_query::PlainQuery;
 pub use question::{Measure, Question};
 pub use score::Score;
 pub use session::Session;
+pub use summary::{Summary, copy_level_sizes, summary_of};

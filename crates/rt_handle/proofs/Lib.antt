@@ -1,0 +1,2 @@
+mod HeapRow
+mod Pointers

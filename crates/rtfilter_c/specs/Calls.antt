@@ -1,0 +1,41 @@
+-- What is held after a call.
+use Rattle.std.specs.Prelude.{◌≡◌, ◌==◌, ◌++◌, ℕ, List, [], Option, Some, IfSome, drop, length, take}
+use Rattle.std.specs.Option.{IsSomeAnd}
+use Rattle.rt_command.specs.Choices.{Choices}
+use Rattle.rt_embed.specs.Sessions.{Contents, IsRunOf}
+use Rattle.rt_filter.specs.Stages.{HasLoaded}
+use Rattle.rt_tree.specs.Packed.{Packed}
+
+-- a session of a tree, with nothing replied
+abbrev pub holds_new : Packed → Option Contents
+holds_new tree = Some (record { tree = tree; reply = [] })
+
+-- a session of the table is held, with nothing replied
+abbrev pub HoldsTable : Choices → (table : List ℕ) → (held : Option Contents) → Type 0
+HoldsTable choices table held = IsSomeAnd held (λ session. HasLoaded choices table session.tree × (session.reply ≡ []))
+
+-- before and after a call a session of the same tree is held
+abbrev pub HoldsSame : (old new : Option Contents) → Type 0
+HoldsSame old new = IfSome old (λ before. IsSomeAnd new (λ after. after.tree ≡ before.tree))
+
+-- the reply to these lines is held: of whatever table the tree is, it is what a run of the program over that table and these
+-- lines writes, and the code is that run's status
+abbrev pub HoldsRun : (old : Option Contents) → (lines : List ℕ) → (code : ℕ) → (new : Option Contents) → Type 0
+HoldsRun old lines code new = IfSome old (λ before. IsSomeAnd new (λ after. (choices : Choices) (table : List ℕ)
+    → HasLoaded choices table before.tree → IsRunOf choices table lines after.reply (code == 1)))
+
+-- the reply that is held is empty
+abbrev pub HoldsNoReply : (held : Option Contents) → Type 0
+HoldsNoReply held = IsSomeAnd held (λ session. session.reply ≡ [])
+
+-- a fact of the reply that is held
+abbrev pub HasReply : (held : Option Contents) → (Fact : List ℕ → Type 0) → Type 0
+HasReply held Fact = IsSomeAnd held (λ session. Fact session.reply)
+
+-- the reply is forgotten, and nothing else is changed
+abbrev pub IsForgotten : (old new : Option Contents) → Type 0
+IsForgotten old new = IfSome old (λ before. new ≡ holds_new before.tree)
+
+-- room with the first of these bytes at its front, as many as there are and have room, and behind them as it was
+abbrev pub copied : (bytes room : List ℕ) → List ℕ
+copied bytes room = take (length room) bytes ++ drop (length bytes) room

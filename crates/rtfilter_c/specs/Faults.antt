@@ -1,0 +1,28 @@
+-- The fault of a table in numbers.
+use Rattle.std.specs.Prelude.{◌≡◌, ℕ, List, Option, Some, None, Err}
+use Rattle.rt_command.specs.Choices.{Choices}
+use Rattle.rt_filter.specs.Runs.{loaded_of}
+use Rattle.rt_text.specs.declared.tables.Axis.TheVariants as axis
+use Rattle.rt_text.specs.declared.tables.TableFault.{TableFault}
+use Rattle.rt_text.specs.declared.tables.TableFault.TheVariants.{TooMany, FieldCount, NotNumber, OutOfRange, MinAboveMax, Repeated, Read, Memory}
+use Rattle.rtfilter_c.specs.declared.fault.Fault.{Fault}
+
+abbrev pub fault_of : (kind number field : ℕ) → Option Fault
+fault_of kind number field = Some (record { kind = kind; «record» = number; field = field })
+
+-- the kind, the record, and the field: of two that don't fit the first, min_x or min_y; how many fields were found where
+-- their number is wrong; that of the id where it comes again. A failed read and want of memory are no faults of the table
+abbrev pub numbers_of : TableFault → Option Fault
+numbers_of (TooMany number) = fault_of 1 number 0
+numbers_of (FieldCount number found) = fault_of 2 number found
+numbers_of (NotNumber number field) = fault_of 3 number field
+numbers_of (OutOfRange number field) = fault_of 4 number field
+numbers_of (MinAboveMax number axis.X) = fault_of 5 number 2
+numbers_of (MinAboveMax number axis.Y) = fault_of 5 number 4
+numbers_of (Repeated number) = fault_of 6 number 1
+numbers_of Read = None
+numbers_of Memory = None
+
+-- the numbers are those of the fault that the table has under these settings, its first
+abbrev pub ReportsFault : Choices → (table : List ℕ) → Fault → Type 0
+ReportsFault choices table fault = (cause : TableFault) × (loaded_of choices table ≡ Err cause) × (numbers_of cause ≡ Some fault)

@@ -1,0 +1,3 @@
+pub mod Abouts
+pub mod Calls
+pub mod Faults

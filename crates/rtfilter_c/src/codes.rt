@@ -1,0 +1,12 @@
+//! What the exports return, as in include/rtfilter.h.
+
+/// The call was made.
+pub(crate) const OK: u8 = 0;
+/// Some query line is faulty. The reply is whole, and says which.
+pub(crate) const FAULTY_LINE: u8 = 1;
+/// A setting is out of its range.
+pub(crate) const BAD_SETTING: u8 = 2;
+/// The table has a fault.
+pub(crate) const BAD_TABLE: u8 = 3;
+/// No memory was left.
+pub(crate) const NO_MEMORY: u8 = 6;

@@ -1,0 +1,98 @@
+//! Opening, sharing and closing sessions.
+
+ghost use Rattle.std.specs.Prelude.{◌≡◌, ◌≢◌, ◌<◌, ◌↔◌, ◌⊎◌, None, Some, IfSome, IsSome};
+ghost use Rattle.rt_command.specs.Choices.{AreAllowed, Choices};
+ghost use Rattle.rtfilter_c.specs.{Calls.{HoldsTable, holds_new}, Faults.{ReportsFault}};
+
+use crate::codes::{BAD_SETTING, BAD_TABLE, NO_MEMORY, OK};
+use crate::fault::{Fault, numbers_of};
+use rt_embed::Session;
+use rt_filter::{RunFault, Settings};
+use rt_handle::Handle;
+use std::alloc::Global;
+
+/// Opens a session of a table in CSV: [`OK`], [`BAD_SETTING`], [`BAD_TABLE`] or [`NO_MEMORY`]. The fault is written where the
+/// table has one, and nowhere else.
+#[unsafe(no_mangle)]
+pub extern "C" fn rtfilter_engine_open_bytes(
+    alloc: Global,
+    out: &mut Handle,
+    table: &[u8],
+    header: bool,
+    fanout: u8,
+    max_entries: u32,
+    fault: &mut Fault,
+) -> u8
+    requires closed { out.old.held ≡ None }
+    ensures opened { let choices : Choices =
+        record { header = header; fanout = fanout; max_entries = max_entries } in
+        result ≡ OK → HoldsTable choices table.now out.new.held }
+    ensures closed { OK < result → out.new.held ≡ None }
+    ensures setting { let choices : Choices =
+        record { header = header; fanout = fanout; max_entries = max_entries } in
+        (result ≡ BAD_SETTING) ↔ (AreAllowed choices → ⊥) }
+    ensures fault { let choices : Choices =
+        record { header = header; fanout = fanout; max_entries = max_entries } in
+        result ≡ BAD_TABLE → ReportsFault choices table.now fault.new }
+    ensures no_fault { result ≢ BAD_TABLE → fault.new ≡ fault.old }
+    ensures codes { (result ≡ OK) ⊎ (result ≡ BAD_SETTING) ⊎ (result ≡ BAD_TABLE) ⊎ (result ≡ NO_MEMORY) }
+{
+    let Some(settings) = Settings::new(header, fanout, max_entries) else {
+        return BAD_SETTING;
+    };
+    match Session::open(alloc, &settings, table) {
+        Ok(session) => hold(alloc, out, session),
+        Err(RunFault::Table(cause)) => match numbers_of(cause) {
+            Some(numbers) => {
+                *fault = numbers;
+                BAD_TABLE
+            }
+            None => NO_MEMORY,
+        },
+        Err(_) => NO_MEMORY,
+    }
+}
+
+/// Opens one more session of the same table: [`OK`] or [`NO_MEMORY`].
+#[unsafe(no_mangle)]
+pub extern "C" fn rtfilter_engine_share(alloc: Global, of: &mut Handle, out: &mut Handle) -> u8
+    requires open { IsSome of.old.held }
+    requires closed { out.old.held ≡ None }
+    ensures opened { result ≡ OK → IfSome of.old.held (λ session. out.new.held ≡ holds_new session.tree) }
+    ensures closed { OK < result → out.new.held ≡ None }
+    ensures same { of.new.held ≡ of.old.held }
+    ensures codes { (result ≡ OK) ⊎ (result ≡ NO_MEMORY) }
+{
+    let session = of.take(alloc);
+    let shared = session.share(alloc);
+    of.put(session);
+    match shared {
+        Ok(other) => hold(alloc, out, other),
+        Err(_) => NO_MEMORY,
+    }
+}
+
+/// Closes a session, and frees what it has. The table goes with its last session.
+#[unsafe(no_mangle)]
+pub extern "C" fn rtfilter_engine_close(alloc: Global, session: &mut Handle)
+    requires open { IsSome session.old.held }
+    ensures closed { session.new.held ≡ None }
+{
+    drop(session.take(alloc));
+}
+
+// Puts a session into a handle: `OK` or `NO_MEMORY`.
+fn hold(alloc: Global, out: &mut Handle, session: Session) -> u8
+    requires closed { out.old.held ≡ None }
+    ensures opened { result ≡ OK → out.new.held ≡ Some session }
+    ensures closed { OK < result → out.new.held ≡ None }
+    ensures codes { (result ≡ OK) ⊎ (result ≡ NO_MEMORY) }
+{
+    match Box::new(alloc, session) {
+        Ok(session) => {
+            out.put(session);
+            OK
+        }
+        Err(_) => NO_MEMORY,
+    }
+}

@@ -1,0 +1,86 @@
+//! Query lines and their reply.
+
+ghost use Rattle.std.specs.Prelude.{◌≡◌, ◌≤◌, ◌⊎◌, IsSome, drop, length, min};
+ghost use Rattle.rtfilter_c.specs.Calls.{HasReply, HoldsNoReply, HoldsRun, HoldsSame, IsForgotten, copied};
+
+use crate::codes::{FAULTY_LINE, NO_MEMORY, OK};
+use rt_handle::Handle;
+use std::alloc::Global;
+
+/// Answers query lines: [`OK`], [`FAULTY_LINE`] or [`NO_MEMORY`]. The reply is kept, in the place of the last one. Its length is
+/// written, and the first of its bytes, as many as have room. After [`NO_MEMORY`] it is empty.
+#[unsafe(no_mangle)]
+pub extern "C" fn rtfilter_engine_ask(
+    alloc: Global,
+    session: &mut Handle,
+    lines: &[u8],
+    room: &mut [u8],
+    reply_len: &mut usize,
+) -> u8
+    requires open { IsSome session.old.held }
+    ensures run { result ≤ FAULTY_LINE
+        → HoldsRun session.old.held lines.now result session.new.held }
+    ensures memory { result ≡ NO_MEMORY → HoldsNoReply session.new.held }
+    ensures same { HoldsSame session.old.held session.new.held }
+    ensures reply { HasReply session.new.held (λ reply.
+        (reply_len.new ≡ length reply) × (room.new ≡ copied reply room.old)) }
+    ensures codes { (result ≡ OK) ⊎ (result ≡ FAULTY_LINE) ⊎ (result ≡ NO_MEMORY) }
+{
+    let mut asked = session.take(alloc);
+    let code = match asked.ask(alloc, lines) {
+        Ok(true) => FAULTY_LINE,
+        Ok(false) => OK,
+        Err(_) => {
+            asked.forget_reply(alloc);
+            NO_MEMORY
+        }
+    };
+    let reply = asked.reply();
+    copy_front(reply, room);
+    *reply_len = reply.len();
+    session.put(asked);
+    code
+}
+
+/// Copies the bytes of the reply from a place on, as many as there are and have room, and returns their number.
+#[unsafe(no_mangle)]
+pub extern "C" fn rtfilter_engine_reply(
+    alloc: Global,
+    session: &mut Handle,
+    from: usize,
+    room: &mut [u8],
+) -> usize
+    requires open { IsSome session.old.held }
+    ensures same { session.new.held ≡ session.old.held }
+    ensures many { HasReply session.old.held (λ reply.
+        result ≡ min (length (drop from reply)) (length room.old)) }
+    ensures reply { HasReply session.old.held (λ reply.
+        room.new ≡ copied (drop from reply) room.old) }
+{
+    let asked = session.take(alloc);
+    let reply = asked.reply();
+    let many = copy_front(&reply[from.min(reply.len())..], room);
+    session.put(asked);
+    many
+}
+
+/// Forgets the reply, and frees its memory.
+#[unsafe(no_mangle)]
+pub extern "C" fn rtfilter_engine_forget(alloc: Global, session: &mut Handle)
+    requires open { IsSome session.old.held }
+    ensures { IsForgotten session.old.held session.new.held }
+{
+    let mut asked = session.take(alloc);
+    asked.forget_reply(alloc);
+    session.put(asked);
+}
+
+// Copies the first bytes, as many as there are and have room, and returns their number.
+fn copy_front(bytes: &[u8], room: &mut [u8]) -> usize
+    ensures many { result ≡ min (length bytes.now) (length room.old) }
+    ensures copied { room.new ≡ copied bytes.now room.old }
+{
+    let many = bytes.len().min(room.len());
+    room[..many].copy_from_slice(&bytes[..many]);
+    many
+}
