@@ -2,10 +2,9 @@
 use Rattle.std.proofs.Common.{◌≡◌, ◌+◌, ◌-◌, ◌<◌, ◌++◌, ◌∷◌, [], ℕ, zero, suc, List, Ok, Err, refl, arith}
 use Rattle.rt_geo.specs.declared.entry.Entry.{Entry}
 use Rattle.rt_text.specs.declared.tables.TableFault.{TableFault}
-use Rattle.rt_embed.specs.Columns.{entries_upto, entry_at}
-use Rattle.rt_embed.specs.declared.columns.Columns.{Columns}
+use Rattle.rt_embed.specs.Columns.{Lists, entries_upto, entry_at}
 
-module _ (columns : Columns) where
+module _ (columns : Lists) where
   -- one more
   pub upto_more : (place : ℕ) (before : List Entry) (entry : Entry) → entries_upto columns place ≡ Ok before
       → entry_at columns place ≡ Ok entry → entries_upto columns (place + 1) ≡ Ok (before ++ entry ∷ [])

@@ -5,11 +5,10 @@ use Rattle.std.proofs.lemmas.Grind.{flat_map-append}
 use Rattle.std.proofs.lemmas.List.{append-nil, length-append, map_more, take_all, take_more, take_more_set, take-append-drop, take-append-le}
 use Rattle.std.proofs.lemmas.List.Elements.{All-push}
 use Rattle.std.specs.Option.{option_map_or}
-use Rattle.rt_geo.specs.declared.distance.Point.{Point}
 use Rattle.rt_geo.specs.declared.entry.Entry.{Entry}
 use Rattle.rt_search.specs.Answers.{Answer}
 use Rattle.rt_embed.specs.{Findings.{answers_to, ends_of, list_of, lists_of}, PlainQueries.{question_of}}
-use Rattle.rt_embed.specs.declared.{plain_query.PlainQuery.{PlainQuery}, question.Question.{Question}}
+use Rattle.rt_embed.specs.declared.{plain_query.PlainQuery.{PlainQuery}, question.Question.{Question}, vertex.Vertex.{Vertex}}
 use Rattle.rt_embed.proofs.ArrayLemmas.{drop-append}
 
 -- each of the first items of a list is such, and so is the next
@@ -44,7 +43,7 @@ no_query = record {
   limit = 0;
 }
 
-module _ (entries : List Entry) (vertices : List Point) (skip : ℕ) where
+module _ (entries : List Entry) (vertices : List Vertex) (skip : ℕ) where
   -- the list of a query, and those of queries
   abbrev list : PlainQuery → List Answer
   list = list_of entries vertices

@@ -16,13 +16,32 @@ use Rattle.rt_text.specs.declared.tables.TableFault.{TableFault}
 use Rattle.rt_text.specs.declared.tables.TableFault.TheVariants as fault
 use Rattle.rt_embed.specs.declared.columns.Columns.{Columns}
 
+-- the items of the columns
+pub record Lists : Type 0 where
+  pub ids : List ℤ
+  pub min_x : List ℤ
+  pub max_x : List ℤ
+  pub min_y : List ℤ
+  pub max_y : List ℤ
+  pub layers : List ℕ
+
+abbrev pub lists_of : Columns → Lists
+lists_of columns = record {
+  ids = columns.ids.now;
+  min_x = columns.min_x.now;
+  max_x = columns.max_x.now;
+  min_y = columns.min_y.now;
+  max_y = columns.max_y.now;
+  layers = columns.layers.now;
+}
+
 -- columns are equally long, but for layers, of which there may be none
-pub record AreColumns (columns : Columns) : Type 0 where
-  pub min_x : length columns.min_x.now ≡ length columns.ids.now
-  pub max_x : length columns.max_x.now ≡ length columns.ids.now
-  pub min_y : length columns.min_y.now ≡ length columns.ids.now
-  pub max_y : length columns.max_y.now ≡ length columns.ids.now
-  pub layers : (length columns.layers.now ≡ 0) ⊎ (length columns.layers.now ≡ length columns.ids.now)
+pub record AreColumns (columns : Lists) : Type 0 where
+  pub min_x : length columns.min_x ≡ length columns.ids
+  pub max_x : length columns.max_x ≡ length columns.ids
+  pub min_y : length columns.min_y ≡ length columns.ids
+  pub max_y : length columns.max_y ≡ length columns.ids
+  pub layers : (length columns.layers ≡ 0) ⊎ (length columns.layers ≡ length columns.ids)
 
 -- the box of these sides, in record `number`, on a layer
 abbrev pub entry_of : (number : ℕ) → (id min_x max_x min_y max_y : ℤ) → (layer : ℕ) → Result Entry TableFault
@@ -33,14 +52,14 @@ entry_of number id min_x max_x min_y max_y layer =
     else Ok (record { id = id; bounds = rect_of min_x max_x min_y max_y; layer = layer })
 
 -- the entry at a place, counted from 0, which gives record `place + 1`; without layers it is on layer 0
-abbrev pub entry_at : Columns → (place : ℕ) → Result Entry TableFault
-entry_at columns place = entry_of (place + 1) (slice_index_or columns.ids.now place (pos 0))
-    (slice_index_or columns.min_x.now place (pos 0)) (slice_index_or columns.max_x.now place (pos 0))
-    (slice_index_or columns.min_y.now place (pos 0)) (slice_index_or columns.max_y.now place (pos 0))
-    (slice_index_or columns.layers.now place 0)
+abbrev pub entry_at : Lists → (place : ℕ) → Result Entry TableFault
+entry_at columns place = entry_of (place + 1) (slice_index_or columns.ids place (pos 0))
+    (slice_index_or columns.min_x place (pos 0)) (slice_index_or columns.max_x place (pos 0))
+    (slice_index_or columns.min_y place (pos 0)) (slice_index_or columns.max_y place (pos 0))
+    (slice_index_or columns.layers place 0)
 
 -- the first entries, so many of them
-abbrev pub entries_upto : Columns → ℕ → Result (List Entry) TableFault
+abbrev pub entries_upto : Lists → ℕ → Result (List Entry) TableFault
 entries_upto columns zero = Ok []
 entries_upto columns (suc place) = do
   before ← entries_upto columns place
@@ -53,9 +72,9 @@ without_repeat entries None = Ok entries
 without_repeat entries (Some place) = Err (fault.Repeated (place + 1))
 
 -- the table: no more entries than the most, each sound by itself, and then no id twice. What comes first of these is the fault
-abbrev pub table_of : (max : ℕ) → Columns → Result (List Entry) TableFault
-table_of max columns = if nat_lt max (length columns.ids.now) then Err (fault.TooMany (max + 1)) else do
-  entries ← entries_upto columns (length columns.ids.now)
+abbrev pub table_of : (max : ℕ) → Lists → Result (List Entry) TableFault
+table_of max columns = if nat_lt max (length columns.ids) then Err (fault.TooMany (max + 1)) else do
+  entries ← entries_upto columns (length columns.ids)
   without_repeat entries (first_repeat entries)
 
 -- a fault that may be returned where this is the table: its own, or that no memory was left
@@ -63,13 +82,13 @@ abbrev pub IsRefusalOf : TableFault → Result (List Entry) TableFault → Type 
 IsRefusalOf cause table = (cause ≡ fault.Memory) ⊎ (table ≡ Err cause)
 
 -- the tree of the table that columns give under settings
-pub record HasColumns (choices : Choices) (columns : Columns) (tree : Packed) : Type 0 where
+pub record HasColumns (choices : Choices) (columns : Lists) (tree : Packed) : Type 0 where
   pub entries : List Entry
   pub same : table_of choices.max_entries columns ≡ Ok entries
   pub packed : tree ≡ tree_of (record { entries = entries; fanout = choices.fanout })
 
 -- why there is no tree: the fault that the columns have, or that no memory was left
-abbrev pub StopsAtColumns : Choices → Columns → RunFault → Type 0
+abbrev pub StopsAtColumns : Choices → Lists → RunFault → Type 0
 StopsAtColumns choices columns (Table cause) = table_of choices.max_entries columns ≡ Err cause
 StopsAtColumns choices columns Memory = ⊤
 StopsAtColumns choices columns other = ⊥

@@ -1,7 +1,6 @@
 -- The answers to queries in numbers, in arrays.
 use Rattle.std.specs.Prelude.{◌≡◌, ◌<◌, ◌≤◌, ℕ, zero, suc, ℤ, ◌+◌, ◌%◌, ◌/◌, ◌^◌, List, [], ◌∷◌, ◌++◌, length, map, take, drop, flat_map, All, IsSome}
 use Rattle.std.specs.Option.{option_map_or}
-use Rattle.rt_geo.specs.declared.distance.Point.{Point}
 use Rattle.rt_geo.specs.declared.entry.Entry.{Entry}
 use Rattle.rt_search.specs.Answers.{Answer, answers}
 use Rattle.rt_filter.specs.Replies.{meaning_of}
@@ -12,21 +11,22 @@ use Rattle.rt_embed.specs.declared.finding.Stop.TheVariants.{BadQuery, Complete,
 use Rattle.rt_embed.specs.declared.score.Score.{Score}
 use Rattle.rt_embed.specs.declared.plain_query.PlainQuery.{PlainQuery}
 use Rattle.rt_embed.specs.declared.question.Question.{Question}
+use Rattle.rt_embed.specs.declared.vertex.Vertex.{Vertex}
 
 -- the answers to a question
 abbrev pub answers_to : List Entry → Question → List Answer
 answers_to entries asked = answers entries (meaning_of asked.region asked.layers asked.order) asked.limit
 
 -- the answers to a query, none of one that asks no question
-abbrev pub list_of : List Entry → (vertices : List Point) → PlainQuery → List Answer
+abbrev pub list_of : List Entry → (vertices : List Vertex) → PlainQuery → List Answer
 list_of entries vertices query = option_map_or (answers_to entries) (question_of vertices query) []
 
 -- the answers to queries, one list behind the other, but for the first `skip` of them all
-abbrev pub lists_of : List Entry → (vertices : List Point) → (skip : ℕ) → List PlainQuery → List Answer
+abbrev pub lists_of : List Entry → (vertices : List Vertex) → (skip : ℕ) → List PlainQuery → List Answer
 lists_of entries vertices skip queries = drop skip (flat_map (list_of entries vertices) queries)
 
 -- where the lists of the first queries end, so many of them
-abbrev pub ends_of : List Entry → (vertices : List Point) → (skip : ℕ) → List PlainQuery → ℕ → List ℕ
+abbrev pub ends_of : List Entry → (vertices : List Vertex) → (skip : ℕ) → List PlainQuery → ℕ → List ℕ
 ends_of entries vertices skip queries zero = []
 ends_of entries vertices skip queries (suc k) =
     ends_of entries vertices skip queries k ++ length (lists_of entries vertices skip (take (suc k) queries)) ∷ []
@@ -43,7 +43,7 @@ abbrev pub Begins : {X : Type 0} → (array list : List X) → Type 0
 Begins array list = take (length list) array ≡ take (length array) list
 
 -- why no more queries are answered: there are none, the next answer has no place, or the next query asks no question
-abbrev pub StopsFor : Stop → (entries : List Entry) (vertices : List Point) (skip : ℕ) (queries : List PlainQuery) (ids : List ℤ)
+abbrev pub StopsFor : Stop → (entries : List Entry) (vertices : List Vertex) (skip : ℕ) (queries : List PlainQuery) (ids : List ℤ)
     → (done found : ℕ) → Type 0
 StopsFor Complete entries vertices skip queries ids done found =
     (done ≡ length queries) × (found ≡ length (lists_of entries vertices skip queries))
@@ -54,7 +54,7 @@ StopsFor BadQuery entries vertices skip queries ids done found =
 
 -- what stands in the arrays: the answers to the queries, as many as were found; where the list of each query that is answered
 -- ends, as far as that has a place; and why there are no more
-pub record HasFound (entries : List Entry) (vertices : List Point) (skip : ℕ) (queries : List PlainQuery) (ends : List ℕ)
+pub record HasFound (entries : List Entry) (vertices : List Vertex) (skip : ℕ) (queries : List PlainQuery) (ends : List ℕ)
     (ids : List ℤ) (scores : List Score) (result : Found) : Type 0 where
   pub few : result.found ≤ length (lists_of entries vertices skip queries)
   pub ids_stand : Begins ids (map id_of (take result.found (lists_of entries vertices skip queries)))

@@ -3,7 +3,7 @@
 ghost use Rattle.std.specs.Prelude.{◌≡◌, ◌<◌, ◌≤◌, All, IfErr, IfOk, Ok, length};
 ghost use Rattle.rt_geo.specs.Entries.{HasLayer};
 ghost use Rattle.rt_tree.specs.Entries.{most_entries};
-ghost use Rattle.rt_embed.specs.Columns.{AreColumns, IsRefusalOf, entries_upto, entry_at, entry_of, table_of};
+ghost use Rattle.rt_embed.specs.Columns.{AreColumns, IsRefusalOf, entries_upto, entry_at, entry_of, lists_of, table_of};
 
 use rt_geo::{Bounds, Entry, Layers};
 use rt_text::{Axis, TableFault};
@@ -23,10 +23,10 @@ pub struct Columns<'a> {
 
 /// The table of columns, at most so many boxes.
 pub(crate) fn table_of(alloc: Global, max: u32, columns: Columns<'_>) -> Result<Table, TableFault>
-    requires columns { AreColumns columns }
+    requires columns { AreColumns (lists_of columns) }
     requires most { max ≤ most_entries }
-    ensures table { IfOk result (λ table. table_of max columns.entry ≡ Ok table) }
-    ensures fault { IfErr result (λ cause. IsRefusalOf cause (table_of max columns.entry)) }
+    ensures table { IfOk result (λ table. table_of max (lists_of columns.entry) ≡ Ok table) }
+    ensures fault { IfErr result (λ cause. IsRefusalOf cause (table_of max (lists_of columns.entry))) }
 {
     let len = columns.ids.len();
     if len > max as usize {
@@ -42,14 +42,14 @@ pub(crate) fn table_of(alloc: Global, max: u32, columns: Columns<'_>) -> Result<
 
 // The entries of columns, whose ids aren't compared.
 fn entries_of(alloc: Global, columns: Columns<'_>) -> Result<Entries, TableFault>
-    requires columns { AreColumns columns }
+    requires columns { AreColumns (lists_of columns) }
     requires few { length columns.ids.now ≤ most_entries }
     ensures entries { IfOk result (λ entries.
-        entries_upto columns.entry (length columns.entry.ids.now) ≡ Ok entries) }
+        entries_upto (lists_of columns.entry) (length columns.entry.ids.now) ≡ Ok entries) }
     ensures len { IfOk result (λ entries. length entries ≡ length columns.entry.ids.now) }
     ensures layers { IfOk result (λ entries. All HasLayer entries) }
     ensures fault { IfErr result (λ cause.
-        IsRefusalOf cause (entries_upto columns.entry (length columns.entry.ids.now))) }
+        IsRefusalOf cause (entries_upto (lists_of columns.entry) (length columns.entry.ids.now))) }
 {
     let mut entries = Entries::empty(alloc);
     for place in 0..columns.ids.len() {
@@ -61,10 +61,10 @@ fn entries_of(alloc: Global, columns: Columns<'_>) -> Result<Entries, TableFault
 
 // The entry at a place, counted from 0.
 fn entry_at(columns: Columns<'_>, place: usize) -> Result<Entry, TableFault>
-    requires columns { AreColumns columns }
+    requires columns { AreColumns (lists_of columns) }
     requires place { place < length columns.ids.now }
     requires few { length columns.ids.now ≤ most_entries }
-    ensures value { result ≡ entry_at columns.entry place }
+    ensures value { result ≡ entry_at (lists_of columns.entry) place }
     ensures layer { IfOk result HasLayer }
 {
     let layer = columns.layers.get(place).copied().unwrap_or(0);

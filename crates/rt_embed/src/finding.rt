@@ -12,7 +12,8 @@ ghost use Rattle.rt_embed.specs.{Findings.{Begins, HasFound, answers_to, id_of, 
 use crate::plain_query::PlainQuery;
 use crate::question::Question;
 use crate::score::Score;
-use rt_geo::{Counted, Disc, Geometry, Guided, OnLayers, Order, Point, Region, Shape, Unscored};
+use crate::vertex::Vertex;
+use rt_geo::{Counted, Disc, Geometry, Guided, OnLayers, Order, Region, Shape, Unscored};
 use rt_search::{Frontier, Search};
 use rt_tree::Tree;
 
@@ -43,7 +44,7 @@ pub(crate) fn find_each(
     tree: &Tree,
     frontier: Frontier,
     queries: &[PlainQuery],
-    vertices: &[Point],
+    vertices: &[Vertex],
     skip: usize,
     ends: &mut [usize],
     ids: &mut [i64],

@@ -14,6 +14,7 @@ mod reply_sink;
 mod score;
 mod session;
 mod summary;
+mod vertex;
 
 pub use columns::Columns;
 pub use finding::{Found, Stop};
@@ -22,3 +23,4 @@ pub use question::{Measure, Question};
 pub use score::Score;
 pub use session::Session;
 pub use summary::{Summary, copy_level_sizes, summary_of};
+pub use vertex::Vertex;

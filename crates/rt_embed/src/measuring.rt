@@ -8,7 +8,8 @@ ghost use Rattle.rt_search.specs.{Answers.{accepted}, Work.{opened_by_count, ope
 
 use crate::plain_query::PlainQuery;
 use crate::question::{Measure, Question};
-use rt_geo::{ById, Counted, Guided, OnLayers, Point, Region, Shape};
+use crate::vertex::Vertex;
+use rt_geo::{ById, Counted, Guided, OnLayers, Region, Shape};
 use rt_search::{Frontier, cost, count};
 use rt_tree::Tree;
 
@@ -18,7 +19,7 @@ pub(crate) fn measure_each(
     frontier: Frontier,
     measure: Measure,
     queries: &[PlainQuery],
-    vertices: &[Point],
+    vertices: &[Vertex],
     measured: &mut [u64],
 ) -> (usize, Frontier)
     requires capacity { length tree.now.entries ≤ frontier.capacity }

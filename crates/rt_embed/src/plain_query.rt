@@ -4,9 +4,10 @@ ghost use Rattle.std.specs.Prelude.{◌≡◌};
 ghost use Rattle.rt_embed.specs.PlainQueries.{box_of, limit_of, order_of, polygon_in, question_of, region_of};
 
 use crate::question::Question;
+use crate::vertex::{Vertex, points_of};
 use rt_geo::{
-    All, Bounds, ById, Circle, Covers, Inside, Layers, Near, Order, Point, Polygon, Region,
-    Smallest, Window,
+    All, Bounds, ById, Circle, Covers, Inside, Layers, MOST_VERTICES, Near, Order, Point, Polygon,
+    Region, Smallest, Window,
 };
 
 /// A query in plain numbers. What its region or its order doesn't use is ignored.
@@ -41,7 +42,7 @@ pub struct PlainQuery {
 impl PlainQuery {
     /// The question that the query asks. `None` where the region or the order isn't one of those, where the box has a
     /// minimum above its maximum, or where the vertices aren't in the list or make no polygon; and nowhere else.
-    pub fn question(&self, vertices: &[Point]) -> Option<Question>
+    pub fn question(&self, vertices: &[Vertex]) -> Option<Question>
         ensures { result ≡ question_of vertices.now self.now }
     {
         let region = self.region(vertices)?;
@@ -54,7 +55,7 @@ impl PlainQuery {
         })
     }
 
-    fn region(&self, vertices: &[Point]) -> Option<Region>
+    fn region(&self, vertices: &[Vertex]) -> Option<Region>
         ensures { result ≡ region_of vertices.now self.now }
     {
         match self.region {
@@ -80,15 +81,16 @@ impl PlainQuery {
         Bounds::new(self.min_x, self.max_x, self.min_y, self.max_y)
     }
 
-    fn polygon(&self, vertices: &[Point]) -> Option<Polygon>
+    fn polygon(&self, vertices: &[Vertex]) -> Option<Polygon>
         ensures { result ≡ polygon_in vertices.now self.now }
     {
         let first = self.first_vertex as usize;
         let end = first + self.vertices as usize;
-        if end > vertices.len() {
+        if end > vertices.len() || end - first > MOST_VERTICES {
             return None;
         }
-        Polygon::new(&vertices[first..end]).ok()
+        let points = points_of(&vertices[first..end]);
+        Polygon::new(&points[..end - first]).ok()
     }
 
     fn order(&self) -> Option<Order>

@@ -2,7 +2,7 @@
 
 ghost use Rattle.std.specs.Prelude.{◌≡◌, ◌<◌, ◌≤◌, ℕ, List, [], All, IfOk, IfErr, IsSome, MatchResult, IsTrue, Some, length, map, min, take, true};
 ghost use Rattle.rt_command.specs.Choices.{Choices};
-ghost use Rattle.rt_embed.specs.{Columns.{AreColumns, HasColumns, StopsAtColumns}, Findings.{HasFound}};
+ghost use Rattle.rt_embed.specs.{Columns.{AreColumns, HasColumns, StopsAtColumns, lists_of}, Findings.{HasFound}};
 ghost use Rattle.rt_embed.specs.{PlainQueries.{question_of}, Questions.{AsksNone, measured_of}, Sessions.{IsRunOf}};
 ghost use Rattle.rt_filter.specs.{Lines.{numbered_lines}, Stages.{HasLoaded, Stops, is_of_load}};
 ghost use Rattle.rt_filter.specs.Replies.{Loaded, any_fault, output, tree_of};
@@ -14,8 +14,8 @@ use crate::plain_query::PlainQuery;
 use crate::question::Measure;
 use crate::reply_sink::ReplySink;
 use crate::score::Score;
+use crate::vertex::Vertex;
 use rt_filter::{RunFault, Settings, answer_batch, load};
-use rt_geo::Point;
 use rt_search::Frontier;
 use rt_tree::Tree;
 use std::alloc::{AllocError, Global};
@@ -71,10 +71,10 @@ impl Session {
         settings: &Settings,
         columns: Columns<'_>,
     ) -> Result<Session, RunFault>
-        requires columns { AreColumns columns }
-        ensures loaded { IfOk result (λ session. HasColumns settings.now columns.entry session.tree) }
+        requires columns { AreColumns (lists_of columns) }
+        ensures loaded { IfOk result (λ session. HasColumns settings.now (lists_of columns.entry) session.tree) }
         ensures reply { IfOk result (λ session. session.reply ≡ []) }
-        ensures fault { IfErr result (λ fault. StopsAtColumns settings.now columns.entry fault) }
+        ensures fault { IfErr result (λ fault. StopsAtColumns settings.now (lists_of columns.entry) fault) }
     {
         let table = table_of(alloc, settings.max_entries(), columns)?;
         let tree = Tree::pack(alloc, table, settings.fanout())?;
@@ -137,7 +137,7 @@ impl Session {
         &mut self,
         alloc: Global,
         queries: &[PlainQuery],
-        vertices: &[Point],
+        vertices: &[Vertex],
         skip: usize,
         ends: &mut [usize],
         ids: &mut [i64],
@@ -162,7 +162,7 @@ impl Session {
         alloc: Global,
         measure: Measure,
         queries: &[PlainQuery],
-        vertices: &[Point],
+        vertices: &[Vertex],
         measured: &mut [u64],
     ) -> Result<usize, AllocError>
         ensures measured { IfOk result (λ n. take n measured.new

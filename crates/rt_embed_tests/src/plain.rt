@@ -1,16 +1,16 @@
 //! Queries in plain numbers that ask what query lines ask.
 
-use rt_embed::{Measure, PlainQuery, Question, Session};
-use rt_geo::{ById, Circle, Covers, Inside, Order, Point, Region, Window};
+use rt_embed::{Measure, PlainQuery, Question, Session, Vertex};
+use rt_geo::{ById, Circle, Covers, Inside, Order, Region, Window};
 use rt_text::{Parsed, Query, parse};
 use std::process::Abort;
 use std::test::Fail;
 
 /// The vertices of the polygons that lines of these tests ask for.
-pub(crate) const VERTICES: [Point; 3] = [
-    Point { x: 0, y: 0 },
-    Point { x: 30, y: 0 },
-    Point { x: 0, y: 30 },
+pub(crate) const VERTICES: [Vertex; 3] = [
+    Vertex { x: 0, y: 0 },
+    Vertex { x: 30, y: 0 },
+    Vertex { x: 0, y: 30 },
 ];
 
 /// All boxes by id, on all layers.

@@ -1,9 +1,9 @@
 -- What is held after a call.
-use Rattle.std.specs.Prelude.{◌≡◌, ◌==◌, ◌++◌, ℕ, List, [], Option, Some, IfSome, drop, length, take}
+use Rattle.std.specs.Prelude.{◌≡◌, ◌==◌, ◌++◌, ℕ, List, [], Option, Some, IfSome, drop, length, take, ℤ, true}
 use Rattle.std.specs.Option.{IsSomeAnd}
 use Rattle.rt_command.specs.Choices.{Choices}
-use Rattle.rt_embed.specs.Sessions.{Contents, IsRunOf}
-use Rattle.rt_filter.specs.Stages.{HasLoaded}
+use Rattle.rt_embed.specs.{Columns.{HasColumns, Lists}, Sessions.{Contents, IsRunOf}}
+use Rattle.rt_filter.specs.{Lines.{numbered_lines}, Replies.{Loaded, output, tree_of}, Stages.{HasLoaded}}
 use Rattle.rt_tree.specs.Packed.{Packed}
 
 -- a session of a tree, with nothing replied
@@ -18,11 +18,13 @@ HoldsTable choices table held = IsSomeAnd held (λ session. HasLoaded choices ta
 abbrev pub HoldsSame : (old new : Option Contents) → Type 0
 HoldsSame old new = IfSome old (λ before. IsSomeAnd new (λ after. after.tree ≡ before.tree))
 
--- the reply to these lines is held: of whatever table the tree is, it is what a run of the program over that table and these
--- lines writes, and the code is that run's status
+-- the reply to these lines is held: the replies to them over any entries whose packed tree this is; and of whatever table the
+-- tree is, what a run of the program over that table and these lines writes, and the code is that run's status
 abbrev pub HoldsRun : (old : Option Contents) → (lines : List ℕ) → (code : ℕ) → (new : Option Contents) → Type 0
-HoldsRun old lines code new = IfSome old (λ before. IsSomeAnd new (λ after. (choices : Choices) (table : List ℕ)
-    → HasLoaded choices table before.tree → IsRunOf choices table lines after.reply (code == 1)))
+HoldsRun old lines code new = IfSome old (λ before. IsSomeAnd new (λ after.
+    ((loaded : Loaded) → before.tree ≡ tree_of loaded → after.reply ≡ output loaded (numbered_lines lines true))
+    × ((choices : Choices) (table : List ℕ) → HasLoaded choices table before.tree
+    → IsRunOf choices table lines after.reply (code == 1))))
 
 -- the reply that is held is empty
 abbrev pub HoldsNoReply : (held : Option Contents) → Type 0
@@ -39,3 +41,12 @@ IsForgotten old new = IfSome old (λ before. new ≡ holds_new before.tree)
 -- room with the first of these bytes at its front, as many as there are and have room, and behind them as it was
 abbrev pub copied : (bytes room : List ℕ) → List ℕ
 copied bytes room = take (length room) bytes ++ drop (length bytes) room
+
+-- the columns that these arrays are
+abbrev pub columns_of : (ids min_x max_x min_y max_y : List ℤ) → (layers : List ℕ) → Lists
+columns_of ids min_x max_x min_y max_y layers =
+    record { ids = ids; min_x = min_x; max_x = max_x; min_y = min_y; max_y = max_y; layers = layers }
+
+-- a session of the table in columns is held, with nothing replied
+abbrev pub HoldsColumns : Choices → Lists → (held : Option Contents) → Type 0
+HoldsColumns choices columns held = IsSomeAnd held (λ session. HasColumns choices columns session.tree × (session.reply ≡ []))

@@ -1,6 +1,7 @@
 -- The fault of a table in numbers.
 use Rattle.std.specs.Prelude.{◌≡◌, ℕ, List, Option, Some, None, Err}
 use Rattle.rt_command.specs.Choices.{Choices}
+use Rattle.rt_embed.specs.Columns.{Lists, table_of}
 use Rattle.rt_filter.specs.Runs.{loaded_of}
 use Rattle.rt_text.specs.declared.tables.Axis.TheVariants as axis
 use Rattle.rt_text.specs.declared.tables.TableFault.{TableFault}
@@ -26,3 +27,8 @@ numbers_of Memory = None
 -- the numbers are those of the fault that the table has under these settings, its first
 abbrev pub ReportsFault : Choices → (table : List ℕ) → Fault → Type 0
 ReportsFault choices table fault = (cause : TableFault) × (loaded_of choices table ≡ Err cause) × (numbers_of cause ≡ Some fault)
+
+-- the fault of columns is reported, in numbers
+abbrev pub ReportsColumnsFault : Choices → Lists → Fault → Type 0
+ReportsColumnsFault choices columns fault =
+    (cause : TableFault) × (table_of choices.max_entries columns ≡ Err cause) × (numbers_of cause ≡ Some fault)

@@ -1,3 +1,4 @@
 pub mod Abouts
 pub mod Calls
 pub mod Faults
+pub mod Numbers

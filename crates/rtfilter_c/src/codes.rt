@@ -8,5 +8,9 @@ pub(crate) const FAULTY_LINE: u8 = 1;
 pub(crate) const BAD_SETTING: u8 = 2;
 /// The table has a fault.
 pub(crate) const BAD_TABLE: u8 = 3;
+/// The arrays are full, and there are more answers.
+pub(crate) const FULL: u8 = 5;
 /// No memory was left.
 pub(crate) const NO_MEMORY: u8 = 6;
+/// A query is faulty.
+pub(crate) const BAD_QUERY: u8 = 7;

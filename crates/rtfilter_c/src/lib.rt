@@ -7,5 +7,6 @@
 mod about;
 mod codes;
 mod fault;
+mod numbers;
 mod opening;
 mod texts;

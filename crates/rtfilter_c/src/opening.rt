@@ -1,12 +1,13 @@
 //! Opening, sharing and closing sessions.
 
-ghost use Rattle.std.specs.Prelude.{◌≡◌, ◌≢◌, ◌<◌, ◌↔◌, ◌⊎◌, None, Some, IfSome, IsSome};
+ghost use Rattle.std.specs.Prelude.{◌≡◌, ◌≢◌, ◌<◌, ◌↔◌, ◌⊎◌, false, None, Some, IfSome, IsSome};
 ghost use Rattle.rt_command.specs.Choices.{AreAllowed, Choices};
-ghost use Rattle.rtfilter_c.specs.{Calls.{HoldsTable, holds_new}, Faults.{ReportsFault}};
+ghost use Rattle.rt_embed.specs.Columns.{AreColumns};
+ghost use Rattle.rtfilter_c.specs.{Calls.{HoldsColumns, HoldsTable, columns_of, holds_new}, Faults.{ReportsColumnsFault, ReportsFault}};
 
 use crate::codes::{BAD_SETTING, BAD_TABLE, NO_MEMORY, OK};
 use crate::fault::{Fault, numbers_of};
-use rt_embed::Session;
+use rt_embed::{Columns, Session};
 use rt_filter::{RunFault, Settings};
 use rt_handle::Handle;
 use std::alloc::Global;
@@ -41,6 +42,61 @@ pub extern "C" fn rtfilter_engine_open_bytes(
         return BAD_SETTING;
     };
     match Session::open(alloc, &settings, table) {
+        Ok(session) => hold(alloc, out, session),
+        Err(RunFault::Table(cause)) => match numbers_of(cause) {
+            Some(numbers) => {
+                *fault = numbers;
+                BAD_TABLE
+            }
+            None => NO_MEMORY,
+        },
+        Err(_) => NO_MEMORY,
+    }
+}
+
+/// Opens a session of a table in columns, which are equally long; layers may be none. Codes and fault as of
+/// [`rtfilter_engine_open_bytes`].
+#[unsafe(no_mangle)]
+pub extern "C" fn rtfilter_engine_open_arrays(
+    alloc: Global,
+    out: &mut Handle,
+    ids: &[i64],
+    min_x: &[i32],
+    max_x: &[i32],
+    min_y: &[i32],
+    max_y: &[i32],
+    layers: &[u8],
+    fanout: u8,
+    max_entries: u32,
+    fault: &mut Fault,
+) -> u8
+    requires closed { out.old.held ≡ None }
+    requires columns { AreColumns (columns_of ids.now min_x.now max_x.now min_y.now max_y.now layers.now) }
+    ensures opened { let choices : Choices =
+        record { header = false; fanout = fanout; max_entries = max_entries } in
+        result ≡ OK → HoldsColumns choices (columns_of ids.now min_x.now max_x.now min_y.now max_y.now layers.now) out.new.held }
+    ensures closed { OK < result → out.new.held ≡ None }
+    ensures setting { let choices : Choices =
+        record { header = false; fanout = fanout; max_entries = max_entries } in
+        (result ≡ BAD_SETTING) ↔ (AreAllowed choices → ⊥) }
+    ensures fault { let choices : Choices =
+        record { header = false; fanout = fanout; max_entries = max_entries } in
+        result ≡ BAD_TABLE → ReportsColumnsFault choices (columns_of ids.now min_x.now max_x.now min_y.now max_y.now layers.now) fault.new }
+    ensures no_fault { result ≢ BAD_TABLE → fault.new ≡ fault.old }
+    ensures codes { (result ≡ OK) ⊎ (result ≡ BAD_SETTING) ⊎ (result ≡ BAD_TABLE) ⊎ (result ≡ NO_MEMORY) }
+{
+    let Some(settings) = Settings::new(false, fanout, max_entries) else {
+        return BAD_SETTING;
+    };
+    let columns = Columns {
+        ids,
+        min_x,
+        max_x,
+        min_y,
+        max_y,
+        layers,
+    };
+    match Session::of_columns(alloc, &settings, columns) {
         Ok(session) => hold(alloc, out, session),
         Err(RunFault::Table(cause)) => match numbers_of(cause) {
             Some(numbers) => {

@@ -1,6 +1,7 @@
 use Rattle.std.proofs.Common.{All, ◌≡◌, ◌++◌, ◌∷◌, [], ap, arith, length, rules, subst, sym}
 use Rattle.std.proofs.lemmas.{List.{length-append}, List.Elements.{All-push}}
 use Rattle.rt_geo.specs.Entries.{HasLayer}
+use Rattle.rt_embed.specs.Columns.{lists_of}
 use Rattle.rt_embed.proofs.ColumnLemmas.{upto_err, upto_more}
 use Rattle.rt_embed.proofs.columns.entries_of.Goals as goal
 
@@ -11,7 +12,7 @@ pub loop-place-preserved : goal.loop-place-preserved
 loop-place-preserved c =
     let pushed : c.push.new.self ≡ c.loop-place.entries ++ c.in_ok-entry.entry ∷ [] = search rules in
     record {
-      entries = rw pushed (upto_more c.args.columns c.loop-place.place c.loop-place.entries c.in_ok-entry.entry
+      entries = rw pushed (upto_more (lists_of c.args.columns) c.loop-place.place c.loop-place.entries c.in_ok-entry.entry
           c.loop-place.invariant.entries (search rules));
       len = omega (arith, ap length pushed, length-append c.loop-place.entries (c.in_ok-entry.entry ∷ []), c.loop-place.invariant.len);
       layers = subst (All HasLayer) (sym pushed)

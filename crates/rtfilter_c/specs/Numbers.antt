@@ -1,0 +1,31 @@
+-- What the calls for queries in numbers give.
+use Rattle.std.specs.Prelude.{◌≡◌, ◌⊎◌, ◌<◌, ℕ, ◌==◌, if◌then◌else◌, List, All, IfSome, IsSome, Option, length, map, take}
+use Rattle.rt_embed.specs.{PlainQueries.{question_of}, Questions.{AsksNone, measured_of}, Sessions.{Contents}}
+use Rattle.rt_embed.specs.declared.finding.Found.{Found}
+use Rattle.rt_embed.specs.declared.finding.Stop.{Stop}
+use Rattle.rt_embed.specs.declared.finding.Stop.TheVariants.{BadQuery, Complete, Full}
+use Rattle.rt_embed.specs.declared.plain_query.PlainQuery.{PlainQuery}
+use Rattle.rt_embed.specs.declared.question.Measure.{Measure}
+use Rattle.rt_embed.specs.declared.vertex.Vertex.{Vertex}
+use Rattle.rtfilter_c.specs.declared.numbers.Progress.{Progress}
+
+-- why no more queries are answered, by the code
+abbrev pub stop_of : (code : ℕ) → Stop
+stop_of code = if code == 5 then Full else if code == 7 then BadQuery else Complete
+
+-- what was found, and why no more
+abbrev pub finds : Progress → Stop → Found
+finds progress stop = record { done = progress.done; found = progress.found; stop = stop }
+
+-- queries are measured: with code 0 all of them, with code 7 those before the first that asks no question
+pub record MeasuredSo (session : Contents) (measure : Measure) (vertices : List Vertex) (queries : List PlainQuery)
+    (code done : ℕ) (measured : List ℕ) : Type 0 where
+  pub values : take done measured ≡ map (measured_of session.tree vertices measure) (take done queries)
+  pub asked : All (λ query. IsSome (question_of vertices query)) (take done queries)
+  pub why : ((code ≡ 0) × (done ≡ length queries)) ⊎ ((code ≡ 7) × AsksNone vertices queries done)
+
+-- the same of the session that is held, or the code 6 says that no memory was left
+abbrev pub HasMeasured : (held : Option Contents) → Measure → (vertices : List Vertex) → (queries : List PlainQuery)
+    → (code done : ℕ) → (measured : List ℕ) → Type 0
+HasMeasured held measure vertices queries code done measured =
+    (code ≡ 6) ⊎ IfSome held (λ session. MeasuredSo session measure vertices queries code done measured)
