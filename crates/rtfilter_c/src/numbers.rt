@@ -80,7 +80,15 @@ pub extern "C" fn rtfilter_engine_count(
     ensures measured { HasMeasured session.old.held Measure.Count vertices.now queries.now result done.new counts.new }
     ensures same { session.new.held ≡ session.old.held }
 {
-    measure(alloc, session, Measure::Count, queries, vertices, counts, done)
+    measure(
+        alloc,
+        session,
+        Measure::Count,
+        queries,
+        vertices,
+        counts,
+        done,
+    )
 }
 
 /// How many nodes a find of each query opens.
@@ -98,7 +106,15 @@ pub extern "C" fn rtfilter_engine_cost_of_find(
     ensures measured { HasMeasured session.old.held Measure.CostOfFind vertices.now queries.now result done.new opened.new }
     ensures same { session.new.held ≡ session.old.held }
 {
-    measure(alloc, session, Measure::CostOfFind, queries, vertices, opened, done)
+    measure(
+        alloc,
+        session,
+        Measure::CostOfFind,
+        queries,
+        vertices,
+        opened,
+        done,
+    )
 }
 
 /// How many nodes a count of each query opens.
@@ -116,7 +132,15 @@ pub extern "C" fn rtfilter_engine_cost_of_count(
     ensures measured { HasMeasured session.old.held Measure.CostOfCount vertices.now queries.now result done.new opened.new }
     ensures same { session.new.held ≡ session.old.held }
 {
-    measure(alloc, session, Measure::CostOfCount, queries, vertices, opened, done)
+    measure(
+        alloc,
+        session,
+        Measure::CostOfCount,
+        queries,
+        vertices,
+        opened,
+        done,
+    )
 }
 
 // Measures queries.
