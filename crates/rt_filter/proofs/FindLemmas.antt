@@ -1,6 +1,6 @@
 -- The lines of the answers, one after the other.
 use Rattle.std.specs.Io.KnownBytes.{Appends}
-use Rattle.std.proofs.Common.{◌≡◌, ◌+◌, ◌<◌, ◌≤◌, ℕ, ℤ, List, [], ◌∷◌, ◌++◌, length, Option, arith, append_assoc, rules}
+use Rattle.std.proofs.Common.{◌≡◌, ◌+◌, ◌≤◌, ℕ, ℤ, List, [], ◌∷◌, ◌++◌, length, Option, arith, append_assoc, rules}
 use Rattle.std.proofs.lemmas.List.{length-take, Concat.{flat_map-cons}, Sorted.{length_permutation}}
 use Rattle.rt_geo.specs.{Laws.{Meaning}, declared.entry.Entry.{Entry}}
 use Rattle.rt_tree.specs.Sorting.{limited, sorted}

@@ -1,4 +1,4 @@
-//! Lines of replies, pushed.
+//! Lines of replies, pushed and flushed.
 
 ghost use Rattle.std.specs.Prelude.{◌≡◌, ◌+◌, ◌-◌, ◌<◌, ◌^◌, [], ◌∷◌, IfOk, MatchOption, OnErr, OnOk, false, length};
 ghost use Rattle.std.specs.Io.KnownBytes.{Keeps};
@@ -31,7 +31,7 @@ pub(crate) fn push_line<K: Sink>(text: &Line, sink: &mut K) -> Result<(), WriteF
 pub(crate) fn flush_pushed<K: Sink>(is_pushed: bool, sink: &mut K) -> Result<(), WriteFault>
     requires count { K.failed sink.old < 2 ^ 64 - 1 }
     ensures bytes { Keeps (K.written sink.old) (K.written sink.new) }
-    // Nothing waits for a flush then, if nothing does where nothing was pushed.
+    // Afterwards nothing waits for a flush, unless nothing was pushed and something waited before.
     ensures flushed { OnOk result ((is_pushed ≡ false → K.waits sink.old ≡ false)
         → K.waits sink.new ≡ false) }
     ensures went { OnOk result (K.failed sink.new ≡ K.failed sink.old) }
