@@ -1,6 +1,6 @@
 -- The lines of the answers, one after the other.
 use Rattle.std.specs.Io.KnownBytes.{Appends}
-use Rattle.std.proofs.Common.{◌≡◌, ◌+◌, ◌<◌, ◌≤◌, ℕ, ℤ, List, [], ◌∷◌, ◌++◌, length, Option, arith, append_assoc, rules}
+use Rattle.std.proofs.Common.{◌≡◌, ◌+◌, ◌≤◌, ℕ, ℤ, List, [], ◌∷◌, ◌++◌, length, Option, arith, append_assoc, rules}
 use Rattle.std.proofs.lemmas.List.{length-take, Concat.{flat_map-cons}, Sorted.{length_permutation}}
 use Rattle.rt_geo.specs.{Laws.{Meaning}, declared.entry.Entry.{Entry}}
 use Rattle.rt_tree.specs.Sorting.{limited, sorted}
@@ -15,16 +15,12 @@ length-limited : {X : Type 0} (limit : Option ℕ) (xs : List X) → length (lim
 length-limited limit xs = grind (arith, length-take)
 
 -- there are at most as many answers as entries
-length-answers : (entries : List Entry) (meaning : Meaning) (limit : Option ℕ)
+pub few_answers : (entries : List Entry) (meaning : Meaning) (limit : Option ℕ)
     → length (answers entries meaning limit) ≤ length entries
-length-answers entries meaning limit =
+few_answers entries meaning limit =
     let found : List Answer = scored entries meaning in
     let same = length_permutation found (sorted answer_cmp found) (IsPermutation-sorted answer_cmp found) in
     omega (arith, same, length-limited limit (sorted answer_cmp found), length-scored meaning entries)
-
-pub few_answers : (entries : List Entry) (meaning : Meaning) (limit : Option ℕ) (found : List Answer) (n most : ℕ)
-    → found ≡ answers entries meaning limit → n ≡ length entries → n < most → length found < most
-few_answers entries meaning limit found n most is size few = search (rules, length-answers)
 
 -- what is left of a reply: the lines of these answers, and the number of all
 abbrev pub reply_left : (line count : ℕ) → List Answer → List ℕ

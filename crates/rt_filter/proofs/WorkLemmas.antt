@@ -64,6 +64,11 @@ state_all state layers all i some = let masked = all_masked i.layers some in rw 
 
 -- ---- one query
 
+-- without a limit it opens as many where no node has a score
+pub opened_unscored : (t : Packed) (limit : Option ℕ) (meaning : Meaning) → limit ≡ None
+    → opened_by_search (scored_up_to limit meaning) t limit ≡ opened_by_search (unscored_meaning meaning) t limit
+opened_unscored t limit meaning none = rw none refl
+
 module _ (t : Packed) (sound : IsSound t) (asked : Region) where
   abbrev plain : Order → Meaning
   plain order = guided (region_accepts asked) (region_state asked) (order_score order) (order_estimate order)

@@ -4,8 +4,8 @@ ghost use Rattle.std.specs.Prelude.{◌≡◌, ◌+◌, ◌-◌, ◌<◌, ◌≤
 ghost use Rattle.rt_filter.specs.{Lines.{numbered_lines}, Pushes.{Pushed}, Stages.{lines_from, loaded_tree}};
 ghost use Rattle.rt_filter.specs.Replies.{Loaded, any_fault, output, tree_of};
 
-use crate::progress::Progress;
-use memchr::memchr;
+use crate::progress::{Progress, line_end};
+use crate::reply::flush_pushed;
 use rt_device::{Sink, WriteFault};
 use rt_search::Frontier;
 use rt_text::Parsed;
@@ -62,9 +62,7 @@ fn answer_text<K: Sink>(
         frontier = progress.answer_whole(tree, frontier, line, &mut parsed, &mut is_pushed, sink)?;
         rest = behind;
     }
-    if is_pushed {
-        sink.flush()?;
-    }
+    flush_pushed(is_pushed, sink)?;
     Ok((progress.is_bad(), frontier))
 }
 
@@ -75,7 +73,7 @@ fn split_line(bytes: &[u8]) -> (&[u8], &[u8])
         ≡ (number + 1, result.0.now) ∷ lines_from (number + 1) result.1.now true }
     ensures shorter { length result.1.now < length bytes.now }
 {
-    match memchr(b'\n', bytes) {
+    match line_end(bytes) {
         Some(at) => (&bytes[..at], &bytes[at + 1..]),
         None => (bytes, &bytes[bytes.len()..]),
     }

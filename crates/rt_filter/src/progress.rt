@@ -2,7 +2,9 @@
 
 ghost use Rattle.std.specs.Prelude.{◌≡◌, ◌+◌, ◌-◌, ◌||◌, ◌<◌, ◌≤◌, ◌^◌, ◌++◌, ℕ, List, [], false, true};
 ghost use Rattle.std.specs.Prelude.{IfOk, OnOk, MatchResult, drop, length, take};
-ghost use Rattle.rt_filter.specs.{Lines.{longest_line, numbered_lines}, Pushes.{Pushed}, Stages.{loaded_tree}};
+ghost use Rattle.memchr.specs.Find.{IsFirstByte, is_byte};
+ghost use Rattle.rt_filter.specs.{Lines.{longest_line, numbered_lines}, Pushes.{Pushed}};
+ghost use Rattle.rt_filter.specs.Stages.{line_feed, loaded_tree};
 ghost use Rattle.rt_filter.specs.Progresses.{IsAfter, IsLeft, completed, parsed_of, progress_of};
 ghost use Rattle.rt_filter.specs.Replies.{any_fault, is_fault, output, parsed_line, reply};
 ghost use Rattle.rt_filter.specs.Works.{opened_by_line, opened_by_lines};
@@ -10,7 +12,7 @@ ghost use Rattle.rt_search.specs.Work.{CountsOn};
 ghost use Rattle.rt_text.specs.ReplyLines.{error_line};
 
 use crate::query::push_reply;
-use crate::reply::push_line;
+use crate::reply::{flush_pushed, push_line};
 use memchr::memchr;
 use rt_device::{Sink, WriteFault};
 use rt_search::Frontier;
@@ -93,16 +95,14 @@ impl Progress {
         let mut is_pushed = false;
         let mut start = 0;
         let mut searched = kept;
-        while let Some(at) = memchr(b'\n', &bytes[searched..]) {
+        while let Some(at) = line_end(&bytes[searched..]) {
             let end = searched + at;
             let line = &bytes[start..end];
             frontier = self.answer_line(tree, frontier, line, &mut parsed, &mut is_pushed, sink)?;
             start = end + 1;
             searched = start;
         }
-        if is_pushed {
-            sink.flush()?;
-        }
+        flush_pushed(is_pushed, sink)?;
         Ok((frontier, start))
     }
 
@@ -133,6 +133,7 @@ impl Progress {
 
     // Answers a line, which is the next one, and is parsed into `parsed`. `is_pushed` is set where something is pushed; else
     // it is left as it was, and the sink too.
+    #[tactic(auto, using(crate::proofs::PushLemmas::nothing_pushed))]
     fn answer_line<K: Sink>(
         &mut self,
         tree: &Tree,
@@ -220,4 +221,11 @@ impl Progress {
         self.bad = true;
         push_line(&error_line(self.lines, fault), sink).and(Ok(frontier))
     }
+}
+
+/// Where the first line of these bytes ends: the place of its line feed. `None` where no line is complete.
+pub(crate) fn line_end(bytes: &[u8]) -> Option<usize>
+    ensures { IsFirstByte (is_byte line_feed) bytes.now result }
+{
+    memchr(b'\n', bytes)
 }

@@ -198,7 +198,7 @@ fn push_in_shape<S: Shape + Drop, K: Sink>(
 // Pushes a line for each answer of one geometry, and then their number. Out of line, so that a query clears the locals of its
 // own search alone.
 #[inline(never)]
-#[tactic(auto, using(crate::proofs::PushLemmas::as_failed))]
+#[tactic(auto, using(crate::proofs::PushLemmas::as_failed, crate::proofs::FindLemmas::few_answers))]
 fn find<G: Geometry + Drop, K: Sink>(
     tree: &Tree,
     frontier: Frontier,
@@ -224,6 +224,7 @@ fn find<G: Geometry + Drop, K: Sink>(
 
 // The same for a geometry that scores nodes. Without a limit no node needs a score, and to sort all answers at once takes
 // less time than a queue.
+#[tactic(auto, using(crate::proofs::WorkLemmas::opened_unscored))]
 fn find_by_distance<G: Geometry + Drop, K: Sink>(
     tree: &Tree,
     frontier: Frontier,
@@ -241,10 +242,10 @@ fn find_by_distance<G: Geometry + Drop, K: Sink>(
         CountsOn frontier.opened (opened_by_search searched tree.now limit) left.opened) }
     ensures capacity { IfOk result (λ left. left.capacity ≡ frontier.capacity) }
 {
-    if limit.is_none() {
-        return find(tree, frontier, line, Unscored(geometry), limit, sink);
+    match limit {
+        None => find(tree, frontier, line, Unscored(geometry), limit, sink),
+        Some(_) => find(tree, frontier, line, geometry, limit, sink),
     }
-    find(tree, frontier, line, geometry, limit, sink)
 }
 
 // How many nodes a find opens.

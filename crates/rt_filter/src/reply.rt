@@ -1,6 +1,7 @@
-//! Lines of replies, pushed.
+//! Lines of replies, pushed and flushed.
 
-ghost use Rattle.std.specs.Prelude.{◌≡◌, ◌-◌, ◌<◌, ◌^◌, [], ◌∷◌, IfOk, MatchOption, length};
+ghost use Rattle.std.specs.Prelude.{◌≡◌, ◌+◌, ◌-◌, ◌<◌, ◌^◌, [], ◌∷◌, IfOk, MatchOption, OnErr, OnOk, false, length};
+ghost use Rattle.std.specs.Io.KnownBytes.{Keeps};
 ghost use Rattle.rt_search.specs.Work.{opened_by_search};
 ghost use Rattle.rt_text.specs.ReplyLines.{ok_line};
 ghost use Rattle.rt_filter.specs.{Pushes.{Pushed}, Replies.{find_reply}};
@@ -22,6 +23,22 @@ pub(crate) fn push_line<K: Sink>(text: &Line, sink: &mut K) -> Result<(), WriteF
             return Err(WriteFault);
         }
         rest = &rest[n..];
+    }
+    Ok(())
+}
+
+/// Flushes if something was pushed, so that none of it waits.
+pub(crate) fn flush_pushed<K: Sink>(is_pushed: bool, sink: &mut K) -> Result<(), WriteFault>
+    requires count { K.failed sink.old < 2 ^ 64 - 1 }
+    ensures bytes { Keeps (K.written sink.old) (K.written sink.new) }
+    // Afterwards nothing waits for a flush, unless nothing was pushed and something waited before.
+    ensures flushed { OnOk result ((is_pushed ≡ false → K.waits sink.old ≡ false)
+        → K.waits sink.new ≡ false) }
+    ensures went { OnOk result (K.failed sink.new ≡ K.failed sink.old) }
+    ensures fails { OnErr result (K.failed sink.new ≡ K.failed sink.old + 1) }
+{
+    if is_pushed {
+        return sink.flush();
     }
     Ok(())
 }

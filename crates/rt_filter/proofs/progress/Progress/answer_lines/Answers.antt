@@ -69,16 +69,16 @@ loop-at-preserved g c =
           ap g.K.Sink.waits same.1 ∙ c.loop-at.invariant.flushed same.0;
     }
 
-pub returns-in_err-flush-clause-pushed : goal.returns-in_err-flush-clause-pushed
-returns-in_err-flush-clause-pushed g c pulled is =
-    as_failed g.K.Sink.written g.K.Sink.failed _ c.args.sink.now _ c.from_residual-in_err-flush.result _ _ c.from_residual-in_err-flush.ensures.1 (
-      pushed_lost _ _ _ _ (answered-all _ _ _ _ _ _ _ _ _ _ _ c.loop-at.invariant.answered (found_none _ (rw (take_rest c.args.bytes.now c.loop-at.searched) at c.in_default.ensures)) pulled is) c.flush.ensures.bytes,
-      c.in_err-flush.ensures.fails ∙ ap (λ n. n + 1) c.loop-at.invariant.count,
+pub returns-in_err-flush_pushed-clause-pushed : goal.returns-in_err-flush_pushed-clause-pushed
+returns-in_err-flush_pushed-clause-pushed g c pulled is =
+    as_failed g.K.Sink.written g.K.Sink.failed _ c.args.sink.now _ c.from_residual-in_err-flush_pushed.result _ _ c.from_residual-in_err-flush_pushed.ensures.1 (
+      pushed_lost _ _ _ _ (answered-all _ _ _ _ _ _ _ _ _ _ _ c.loop-at.invariant.answered (found_none _ (rw (take_rest c.args.bytes.now c.loop-at.searched) at c.in_default.ensures)) pulled is) c.flush_pushed.ensures.bytes,
+      c.in_err-flush_pushed.ensures.fails ∙ ap (λ n. n + 1) c.loop-at.invariant.count,
     )
 
-pub returns-in_err-flush-clause-progress : goal.returns-in_err-flush-clause-progress
-returns-in_err-flush-clause-progress g c pulled is =
-    at_failure c.from_residual-in_err-flush.result _ _ c.from_residual-in_err-flush.ensures.1
+pub returns-in_err-flush_pushed-clause-progress : goal.returns-in_err-flush_pushed-clause-progress
+returns-in_err-flush_pushed-clause-progress g c pulled is =
+    at_failure c.from_residual-in_err-flush_pushed.result _ _ c.from_residual-in_err-flush_pushed.ensures.1
     (left-bad _ _ _ (answered-left _ _ _ _ _ _ _ _ _ _ _ c.loop-at.invariant.answered (found_none _ (rw (take_rest c.args.bytes.now c.loop-at.searched) at c.in_default.ensures)) pulled is))
 
 pub returns-clause-pushed : goal.returns-clause-pushed
