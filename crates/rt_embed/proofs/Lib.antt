@@ -1,4 +1,3 @@
-mod AllLayers
 mod ArrayLemmas
 mod ColumnLemmas
 pub mod Headline

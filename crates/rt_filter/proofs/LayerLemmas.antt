@@ -38,7 +38,7 @@ module _ (accepts : Extent → Bool) (score : Extent → ℕ) where
   same_by_recursion (entry ∷ entries) a = grind (arith, and_not, on_some, same_by_recursion entries a.1)
 
   module _ (entries : List Entry) (few : All HasLayer entries) (layers : Layers) (all : layers ≡ all_layers) where
-    accepted-all : accepted entries (on_layers layers) ≡ accepted entries plain
+    pub accepted-all : accepted entries (on_layers layers) ≡ accepted entries plain
     accepted-all = search (rules, same_by_recursion, recursion_from_All)
 
     pub answers-all : (limit : Option ℕ) → answers entries (on_layers layers) limit ≡ answers entries plain limit

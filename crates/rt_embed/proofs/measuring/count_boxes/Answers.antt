@@ -1,7 +1,6 @@
 use Rattle.std.proofs.Common.{◌∙◌, ap, length, sym}
 use Rattle.rt_geo.specs.{Orders.{by_id, order_score}, Regions.{region_accepts}}
-use Rattle.rt_filter.proofs.LayerLemmas.{with_bits}
-use Rattle.rt_embed.proofs.AllLayers.{accepted-all}
+use Rattle.rt_filter.proofs.LayerLemmas.{accepted-all, with_bits}
 use Rattle.rt_embed.proofs.measuring.count_boxes.Goals as goal
 
 pub returns-then-bits-clause-accepted : goal.returns-then-bits-clause-accepted
