@@ -493,20 +493,38 @@ class Checks:
 
     # - other languages
 
+    def page(self, language):
+        """The first program of a wrapper's page, and what it prints by it."""
+        text = (ROOT / f"bindings/{language}/README.md").read_text(encoding="utf-8")
+        return re.search(r"^```%s\n(.*?)^```\n\nprints\n\n```\n(.*?)^```$" % language, text, re.MULTILINE | re.DOTALL).groups()
+
     def check_rust(self):
+        """Its tests, over the shared library, and the program of its page over the static one."""
         wants("cargo", "rustc")
         crate = shutil.copytree(ROOT / "bindings/rust", self.folder / "rust", ignore=shutil.ignore_patterns("target"))
+        program, printed = self.page("rust")
+        (crate / "examples").mkdir()
+        (crate / "examples/page.rs").write_text(program)
         words = {**os.environ, "RTFILTER_LIB_DIR": f"{self.prefix}/lib", "LD_LIBRARY_PATH": f"{self.prefix}/lib"}
-        said = run("cargo", "test", "--offline", "--quiet", cwd=crate, env=words)
-        same(re.findall(r"test result: ok\. (\d+) passed", said)[:1] > ["0"], True, said)
+        said = run("cargo", "test", "--offline", "--quiet", "--jobs", 1, cwd=crate, env=words)
+        if sum(map(int, re.findall(r"test result: ok\. (\d+) passed", said))) < 4:
+            raise Differs(said)
+        static = {} if self.libraries else {"RTFILTER_STATIC": "1"}
+        same(run("cargo", "run", "--offline", "--quiet", "--jobs", 1, "--example", "page", cwd=crate, env={**words, **static}), printed)
 
     def check_go(self):
+        """Its tests, and the program of its page, over the shared library."""
         wants("go", "pkg-config")
-        package = shutil.copytree(ROOT / "bindings/go", self.folder / "go")
+        package, user = shutil.copytree(ROOT / "bindings/go", self.folder / "go"), self.folder / "go-page"
         words = {**os.environ, "PKG_CONFIG_PATH": f"{self.prefix}/lib/pkgconfig", "LD_LIBRARY_PATH": f"{self.prefix}/lib",
-                 "HOME": str(self.folder), "GOCACHE": str(self.folder / "go-cache"), "GOPROXY": "off", "GOFLAGS": "-mod=mod"}  # fmt: skip
+                 "GOPATH": str(self.folder / "go-path"), "GOCACHE": str(self.folder / "go-cache"), "GOPROXY": "off"}  # fmt: skip
         run("go", "vet", ".", cwd=package, env=words)
         run("go", "test", ".", cwd=package, env=words)
+        program, printed = self.page("go")
+        user.mkdir()
+        (user / "main.go").write_text(program)
+        (user / "go.mod").write_text("module page\ngo 1.19\nrequire rtfilter.invalid/rtfilter v0.0.0\nreplace rtfilter.invalid/rtfilter => ../go\n")
+        same(run("go", "run", ".", cwd=user, env=words), printed)
 
 
 def fault_of(line):
