@@ -310,16 +310,16 @@ static inline rtfilter_query rtfilter_nearest(int32_t x, int32_t y, uint64_t k)
     return query;
 }
 
-/* Sets `queries` and *skip up for the call of rtfilter_find() that continues where one returned RTFILTER_FULL, once its answers
- * have been taken from the arrays. `queries` and `answers` are those of that call, and answers->ends isn't null where it had
- * several queries. */
+/* Sets `queries` and *skip up for the call of rtfilter_find() that continues where one returned RTFILTER_FULL; its answers are
+ * then taken from the arrays, or have been. `queries`, *skip and `answers` are those of that call. Where it returned RTFILTER_OK,
+ * no queries are left. */
 static inline void rtfilter_continue(rtfilter_queries *queries, size_t *skip, const rtfilter_answers *answers)
 {
     if (answers->done == 0) {
         *skip += answers->found;
         return;
     }
-    *skip = answers->found - answers->ends[answers->done - 1];
+    *skip = answers->ends ? answers->found - answers->ends[answers->done - 1] : 0;
     queries->queries += answers->done;
     queries->len -= answers->done;
 }

@@ -241,6 +241,23 @@ def some_sound_table(chance):
 
 # ---- the checks
 
+# An example of a page, and what it prints.
+EXAMPLE = r"^```%s\n((?:(?!```).*\n)*)```\n\nprints\n\n```\n((?:(?!```).*\n)*)```$"
+
+# What stands around an example of docs/library.md.
+PAGE_PROGRAM = """#include <errno.h>
+#include <rtfilter.h>
+#include <stdio.h>
+#include <string.h>
+int main(void)
+{
+%s%s%sreturn 0;
+}
+"""
+OPENED = """rtfilter_session own = RTFILTER_CLOSED, *session = &own;
+rtfilter_open_file(session, "layers.csv", NULL, NULL);
+"""
+
 
 class Checks:
     """The library is built in a folder before the first one."""
@@ -321,7 +338,22 @@ class Checks:
             run("cc", *WARNINGS, "-o", self.folder / f"example-{name}", source, *over)
             said = run(self.folder / f"example-{name}", env={"LD_LIBRARY_PATH": f"{self.prefix}/lib"} if name == "shared" else {})
             same(said, "box 1\nbox 2\n")
-            same(f"```\n$ ./boxes\n{said}```\n" in page, True, "docs/library.md shows what the example prints")
+            same(f"$ ./boxes\n{said}```\n" in page, True, "docs/library.md shows what the example prints")
+
+    def check_page(self):
+        """The examples of docs/library.md print what it shows."""
+        text = (ROOT / "docs/library.md").read_text(encoding="utf-8")
+        examples = re.findall(EXAMPLE % "c", text, re.MULTILINE)
+        same(len(examples), text.count("```c\n") - 1, "examples that show what they print")
+        room = self.room("page")
+        shutil.copy(ROOT / "examples/data/layers.csv", room)
+        for at, (code, printed) in enumerate(examples):
+            source = room / f"{at}.c"
+            has_own = "rtfilter_session session" in code
+            source.write_text(PAGE_PROGRAM % (("", code, "") if has_own else (OPENED, code, "rtfilter_close(session);\n")))
+            run("cc", "-std=c11", "-Wall", "-Wextra", "-Werror", f"-I{self.prefix}/include", "-o", room / str(at), source,
+                f"-L{self.prefix}/lib", "-lrtfilter", f"-Wl,-rpath,{self.prefix}/lib", *self.libraries)  # fmt: skip
+            same(run(room / str(at), cwd=room), printed, code)
 
     # - each call
 
@@ -496,7 +528,7 @@ class Checks:
     def page(self, language):
         """The first program of a wrapper's page, and what it prints by it."""
         text = (ROOT / f"bindings/{language}/README.md").read_text(encoding="utf-8")
-        return re.search(r"^```%s\n(.*?)^```\n\nprints\n\n```\n(.*?)^```$" % language, text, re.MULTILINE | re.DOTALL).groups()
+        return re.search(EXAMPLE % language, text, re.MULTILINE).groups()
 
     def check_rust(self):
         """Its tests, over the shared library, and the program of its page over the static one."""
