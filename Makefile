@@ -96,8 +96,8 @@ test:
 	@tests/run
 
 # The clients, the recipes and the package, with the built program. NEED=all: what can't be tried here has failed.
-test-users: all
-	@tests/users.py build/rtfilter $(if $(filter all,$(NEED)),--need-all)
+test-users: all library
+	@tests/users.py build/rtfilter --archive $(ARCHIVE) $(if $(filter all,$(NEED)),--need-all)
 
 # The Debian packages that the tests want, by apt-get, as root or with sudo.
 test-packages:
@@ -111,9 +111,9 @@ test-full: build/rtfilter
 bench: all
 	@bench/bench.py build/rtfilter
 
-# The Debian packages, in build/. They want debhelper, dpkg-dev and gcc.
-deb: $(PROGRAM)
-	@packaging/make_packages.py $(PROGRAM) build
+# The Debian packages, in build/: the program, the library, the client, the service. They want debhelper, dpkg-dev and gcc.
+deb: $(PROGRAM) $(LIBRTFILTER)
+	@packaging/make_packages.py $(PROGRAM) $(LIBRTFILTER) build
 
 # The Python wheel with the program in it, in build/. It wants a C compiler.
 wheel: $(PROGRAM) build/rtfilter-prefork.so
