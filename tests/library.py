@@ -263,7 +263,7 @@ class Checks:
     """The library is built in a folder before the first one."""
 
     def __init__(self, archive, program, folder):
-        self.folder, self.program = folder, program
+        self.folder, self.archive, self.program = folder, archive, program
         self.out, self.prefix = folder / "out", folder / "usr"
         self.flags = [f"-I{self.prefix}/include", f"-I{SOURCES}", "-g", "-O1"]
         self.libraries = os.environ.get("LDLIBS", "").split()
@@ -324,6 +324,15 @@ class Checks:
         wants("pkg-config")
         words = {**os.environ, "PKG_CONFIG_PATH": f"{self.prefix}/lib/pkgconfig"}
         same(run("pkg-config", "--modversion", "rtfilter", env=words).strip(), version)
+
+    def check_uninstall(self):
+        """It leaves nothing of an installation."""
+        prefix = self.folder / "elsewhere"
+        words = f"PREFIX={prefix}", f"OUT={self.out}", f"ARCHIVE={self.archive}"
+        environment = {**os.environ, "MAKEFLAGS": ""}
+        for target, count in (("install-library", 6), ("uninstall", 0)):
+            run("make", "--no-print-directory", "-C", ROOT, target, *words, env=environment)
+            same(len([path for path in prefix.rglob("*") if not path.is_dir()]), count, target)
 
     def check_example(self):
         """The program of docs/library.md, with the flags of pkg-config, over the shared library and over the static one."""
@@ -483,7 +492,7 @@ class Checks:
         return session.measure(call, queries, vertices)
 
     def check_tables(self):
-        """A table in bytes and in arrays have the same tree, and the same first fault, which is the program's."""
+        """A table in bytes and in arrays has the same tree. In bytes its fault is the program's; in arrays ids come last."""
         chance, faults = random.Random(3), 0
         for at in range(200):
             rows = [list(row) for row in some_sound_table(chance)[0][:100]]
@@ -498,8 +507,8 @@ class Checks:
             if isinstance(expected, bytes):
                 faults += 1
                 same((in_bytes.code, in_arrays.code), (BAD_TABLE, BAD_TABLE))
-                for it in (in_bytes, in_arrays):
-                    same((it.fault.kind, it.fault.record, it.fault.field), fault_of(expected.decode()), f"table {table}")
+                for it, fault in ((in_bytes, fault_of(expected.decode())), (in_arrays, fault_of_rows(rows, most))):
+                    same((it.fault.kind, it.fault.record, it.fault.field), fault, f"table {table}")
                 continue
             with in_bytes, in_arrays:
                 info = in_bytes.info()
@@ -567,6 +576,19 @@ def fault_of(line):
             field = {"x": 2, "y": 4}.get(found[1]) or int(found[1]) if found.groups() else kind == 6
             return kind, int(record), int(field)
     raise Differs(line)
+
+
+def fault_of_rows(rows, most):
+    """The fault of a table in arrays."""
+    if len(rows) > most:
+        return 1, most + 1, 0
+    for at, (_, min_x, max_x, min_y, max_y, layer) in enumerate(rows, 1):
+        if layer > 63:
+            return 4, at, 6
+        if min_x > max_x or min_y > max_y:
+            return 5, at, 2 if min_x > max_x else 4
+    ids = [row[0] for row in rows]
+    return 6, next(at for at, id in enumerate(ids, 1) if id in ids[: at - 1]), 1
 
 
 def outcome(check):
