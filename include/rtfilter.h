@@ -139,7 +139,7 @@ int rtfilter_info_of(rtfilter_session *session, rtfilter_info *info);
  *
  * The session keeps the reply, in place of the previous one. The call stores the length of the reply in *reply_len, and its
  * first bytes in `buffer`, as many as fit into `size` bytes; no null byte is added. If the reply is longer, the rest
- * is read by rtfilter_reply(), without another search.
+ * is read by rtfilter_reply(), without another search. Calls other than rtfilter_ask() leave the reply as it is.
  *
  * Returns RTFILTER_OK, or RTFILTER_FAULTY_LINE if some line is faulty, with a complete reply in either case.
  * RTFILTER_NO_MEMORY leaves an empty reply, and 0 in *reply_len. Further code: RTFILTER_MISUSE. */

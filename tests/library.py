@@ -374,6 +374,7 @@ class Checks:
 
     def check_calls_by_valgrind(self):
         wants("valgrind")
+        # (-D: a program that is built beside that of check_calls)
         run("valgrind", "-q", "--error-exitcode=9", "--leak-check=full", "--errors-for-leak-kinds=all", "--show-leak-kinds=all",
             "--child-silent-after-fork=yes", self.built("calls.c", "-DVALGRIND"), self.room("valgrind"))  # fmt: skip
 
@@ -400,10 +401,18 @@ class Checks:
         run("cc", "-std=c11", *WARNINGS, *self.flags, f"-I{ROOT}/library", "-o", program, SOURCES / "old_processor.c", *objects)
         run(program, self.folder / "boxes.csv")
 
-    def check_wrapper_of_cpp(self):
+    def check_cpp(self):
+        """What the class answers and throws, also by the sanitizers, and the program of its page."""
         for flags in ([], ["-fsanitize=address,undefined"]):
             wrapper = self.built("wrapper.cpp", *flags, compiler="c++", standard="c++17")
             run(wrapper, self.folder / "boxes.csv")
+        program, printed = self.page("include/README.md", "cpp")
+        (self.folder / "page.cpp").write_text(program)
+        wants("pkg-config")
+        words = {**os.environ, "PKG_CONFIG_PATH": f"{self.prefix}/lib/pkgconfig", "LD_LIBRARY_PATH": f"{self.prefix}/lib"}
+        flags = run("pkg-config", "--cflags", "--libs", "rtfilter", env=words).split()
+        run("c++", "-std=c++17", *WARNINGS, "-o", self.folder / "page-cpp", self.folder / "page.cpp", *flags)
+        same(run(self.folder / "page-cpp", cwd=self.folder, env=words), printed)
 
     # - what is refused
 
@@ -534,16 +543,16 @@ class Checks:
 
     # - other languages
 
-    def page(self, language):
-        """The first program of a wrapper's page, and what it prints by it."""
-        text = (ROOT / f"bindings/{language}/README.md").read_text(encoding="utf-8")
+    def page(self, name, language):
+        """The program of a wrapper's page, and what it prints by it."""
+        text = (ROOT / name).read_text(encoding="utf-8")
         return re.search(EXAMPLE % language, text, re.MULTILINE).groups()
 
     def check_rust(self):
         """Its tests, over the shared library, and the program of its page over the static one."""
         wants("cargo", "rustc")
         crate = shutil.copytree(ROOT / "bindings/rust", self.folder / "rust", ignore=shutil.ignore_patterns("target"))
-        program, printed = self.page("rust")
+        program, printed = self.page("bindings/rust/README.md", "rust")
         (crate / "examples").mkdir()
         (crate / "examples/page.rs").write_text(program)
         words = {**os.environ, "RTFILTER_LIB_DIR": f"{self.prefix}/lib", "LD_LIBRARY_PATH": f"{self.prefix}/lib"}
@@ -561,7 +570,7 @@ class Checks:
                  "GOPATH": str(self.folder / "go-path"), "GOCACHE": str(self.folder / "go-cache"), "GOPROXY": "off"}  # fmt: skip
         run("go", "vet", ".", cwd=package, env=words)
         run("go", "test", ".", cwd=package, env=words)
-        program, printed = self.page("go")
+        program, printed = self.page("bindings/go/README.md", "go")
         user.mkdir()
         (user / "main.go").write_text(program)
         (user / "go.mod").write_text("module page\ngo 1.19\nrequire rtfilter.invalid/rtfilter v0.0.0\nreplace rtfilter.invalid/rtfilter => ../go\n")
@@ -612,6 +621,10 @@ def main():
     parser.add_argument("--only", action="append", default=[], metavar="WORD")
     args = parser.parse_args()
     passed = failed = 0
+    missing = [tool for tool in ("cc", "ar", "make", "rt") if shutil.which(tool) is None]
+    if missing:
+        print(f"skipped library: {', '.join(missing)}: not installed", "0 passed, 0 failed", sep="\n")
+        return 0
     with tempfile.TemporaryDirectory(prefix="librtfilter-") as folder:
         checks = Checks(args.archive.resolve(), args.program.resolve(), Path(folder))
         named = [getattr(checks, name) for name in dir(checks) if name.startswith("check_")]

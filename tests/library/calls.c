@@ -38,6 +38,7 @@ static void tables_in_bytes(void)
 {
     rtfilter_session session = RTFILTER_CLOSED;
     rtfilter_info info;
+    memset(&info, 0xff, sizeof info);
     EXPECT(open_text(&session, BOXES, NULL, NULL) == RTFILTER_OK && session.at);
     EXPECT(open_text(&session, BOXES, NULL, NULL) == RTFILTER_MISUSE && session.at);
     EXPECT(rtfilter_info_of(&session, &info) == RTFILTER_OK);
@@ -247,6 +248,10 @@ static void helpers(rtfilter_session *session)
     query.layers = (uint64_t)1 << 63 | 1;
     query.limit = 2;
     EXPECT(FINDS(session, query, 5, 4));
+    query = rtfilter_circle(0, 0, 200);
+    EXPECT(FINDS(session, query, 1, 4, 2, 5, 3));
+    query.order = RTFILTER_BY_ID;
+    EXPECT(FINDS(session, query, 1, 2, 3, 4, 5));
     query.layers = 0;
     EXPECT(finds(session, query, NULL, 0, 0, NULL));
     query = rtfilter_nearest(0, 0, 0);
