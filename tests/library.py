@@ -126,7 +126,7 @@ class Session:
         code = self.library.rtfilter_ask(self.at, lines, ctypes.c_size_t(len(lines)), buffer, ctypes.c_size_t(size),
                                          ctypes.byref(len_))  # fmt: skip
         reply, copied = buffer.raw[: len_.value], ctypes.c_size_t(1)
-        while copied.value:
+        while copied.value and len(reply) <= len_.value:
             same(self.library.rtfilter_reply(self.at, ctypes.c_size_t(len(reply)), buffer, ctypes.c_size_t(size),
                                              ctypes.byref(copied)), OK)  # fmt: skip
             reply += buffer.raw[: copied.value]
@@ -374,7 +374,6 @@ class Checks:
 
     def check_calls_by_valgrind(self):
         wants("valgrind")
-        # (-D: a program that is built beside that of check_calls)
         run("valgrind", "-q", "--error-exitcode=9", "--leak-check=full", "--errors-for-leak-kinds=all", "--show-leak-kinds=all",
             "--child-silent-after-fork=yes", self.built("calls.c", "-DVALGRIND"), self.room("valgrind"))  # fmt: skip
 

@@ -123,6 +123,7 @@ static void tables_in_arrays(void)
     rtfilter_close(&session);
     EXPECT(rtfilter_open_arrays(&session, 3, ids, min_x, max_x, min_y, max_y, NULL, NULL, NULL) == RTFILTER_OK);
     EXPECT(replies(&session, "count all on 0", RTFILTER_OK, "ok 1 3\n"));
+    EXPECT(rtfilter_info_of(&session, &info) == RTFILTER_OK && info.levels == 2);
     rtfilter_close(&session);
     EXPECT(rtfilter_open_arrays(&session, 0, NULL, NULL, NULL, NULL, NULL, NULL, NULL, NULL) == RTFILTER_OK);
     rtfilter_close(&session);
@@ -196,6 +197,40 @@ static void tables_in_files(void)
     EXPECT(waitpid(child, NULL, 0) == child);
     EXPECT(rtfilter_info_of(&session, &info) == RTFILTER_OK && info.boxes == 20000 && info.max_x == 19999);
     rtfilter_close(&session);
+}
+
+/* The pages of memory that the process has mapped. */
+static long pages(void)
+{
+    long count = 0;
+    FILE *file = fopen("/proc/self/statm", "r");
+    EXPECT(file && fscanf(file, "%ld", &count) == 1);
+    fclose(file);
+    return count;
+}
+
+/* A file that is opened again and again, or refused, leaves no descriptor and no map. */
+static void nothing_is_left_of_files(void)
+{
+    enum { TIMES = 500 };
+    rtfilter_session session = RTFILTER_CLOSED;
+    const int before = dup(0);
+    close(before);
+    long mapped = 0;
+    for (int i = 0; i < TIMES; i++) {
+        EXPECT(rtfilter_open_file(&session, path("boxes.csv"), NULL, NULL) == RTFILTER_OK);
+        rtfilter_close(&session);
+        EXPECT(rtfilter_open_file(&session, path("bad.csv"), NULL, NULL) == RTFILTER_BAD_TABLE);
+        EXPECT(rtfilter_open_file(&session, folder, NULL, NULL) == RTFILTER_BAD_FILE);
+        if (i == TIMES / 10)
+            mapped = pages();
+    }
+#ifndef VALGRIND /* which keeps what is freed */
+    EXPECT(pages() - mapped < TIMES * 4);
+#endif
+    const int after = dup(0);
+    close(after);
+    EXPECT(before == after);
 }
 
 /* ---- Query lines */
@@ -439,6 +474,7 @@ int main(int count, char **words)
     faulty_tables();
     tables_in_arrays();
     tables_in_files();
+    nothing_is_left_of_files();
     lines_and_replies();
     EXPECT(open_text(&session, BOXES, NULL, NULL) == RTFILTER_OK);
     helpers(&session);
