@@ -63,7 +63,7 @@ def place(source: Path, target: Path) -> None:
     """Copies a file or a folder, with modes that don't depend on who checked it out."""
     target.parent.mkdir(parents=True, exist_ok=True)
     if source.is_dir():
-        shutil.copytree(source, target, ignore=shutil.ignore_patterns("__pycache__", "tests"))
+        shutil.copytree(source, target, ignore=shutil.ignore_patterns("__pycache__", "tests", "target", "Cargo.lock"))
     else:
         shutil.copy(source, target)
     for path in (target, *target.rglob("*")):

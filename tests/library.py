@@ -1,12 +1,12 @@
 #!/usr/bin/env python3
 """Tries librtfilter, made of a proved archive, beside the program.
 
-usage: tests/library.py ARCHIVE PROGRAM
+usage: tests/library.py ARCHIVE PROGRAM [--only WORD]..
 
 The library is built and installed in a folder of its own. The programs of tests/library/ make each call and meet each code, as
 they are and by the sanitizers and valgrind; answers in lines and in numbers are compared with what the program prints; the
 wrappers of bindings/ and the example are built over what is installed. What wants a tool that isn't here is skipped and named.
-The last line is `N passed, M failed`. With TIMES in the environment, each check's time is told.
+With --only, checks are made whose name has one of these words. The last line is `N passed, M failed`. With TIMES in the environment, each check's time is told.
 """
 
 import argparse
@@ -159,8 +159,9 @@ class Session:
     def measure(self, call, queries, vertices):
         """The code, and the numbers of the queries that are measured."""
         asked, points = array(Query, queries), array(Point, vertices)
-        all_, measured, done = Queries(address(asked), len(asked), address(points), len(points)), (ctypes.c_uint64 * len(asked))(), ctypes.c_size_t(99)
-        code = self.library[call](self.at, ctypes.byref(all_), measured, ctypes.byref(done))
+        together = Queries(address(asked), len(asked), address(points), len(points))
+        measured, done = (ctypes.c_uint64 * len(asked))(), ctypes.c_size_t(99)
+        code = self.library[call](self.at, ctypes.byref(together), measured, ctypes.byref(done))
         return code, measured[: done.value]
 
 
@@ -524,7 +525,7 @@ class Checks:
                 sizes = reading.level_sizes(len(rows), fanout)
                 hull = [pick(sides) for pick, sides in zip((min, max, min, max), [*zip(*expected.values())])] or [0] * 4
                 same(info, dict(zip(info, (len(rows), len(sizes), sizes + [0] * (25 - len(sizes)), *hull))))
-                lines = b"".join(b"cost " + b" ".join(words) + b"\n" for words in ([b"find", *random_runs.some_region(chance)] for _ in range(50)))
+                lines = b"".join(b"cost find %b\n" % b" ".join(random_runs.some_region(chance)) for _ in range(50))
                 same(in_arrays.ask(lines, 4096), in_bytes.ask(lines, 4096))
         if not 50 < faults < 150:
             raise Differs(f"{faults} faults")
@@ -559,7 +560,8 @@ class Checks:
         if sum(map(int, re.findall(r"test result: ok\. (\d+) passed", said))) < 4:
             raise Differs(said)
         static = {} if self.libraries else {"RTFILTER_STATIC": "1"}
-        same(run("cargo", "run", "--offline", "--quiet", "--jobs", 1, "--example", "page", cwd=crate, env={**words, **static}), printed)
+        page = "cargo", "run", "--offline", "--quiet", "--jobs", 1, "--example", "page"
+        same(run(*page, cwd=crate, env={**words, **static}), printed)
 
     def check_go(self):
         """Its tests, and the program of its page, over the shared library."""
@@ -572,7 +574,8 @@ class Checks:
         program, printed = self.page("bindings/go/README.md", "go")
         user.mkdir()
         (user / "main.go").write_text(program)
-        (user / "go.mod").write_text("module page\ngo 1.19\nrequire rtfilter.invalid/rtfilter v0.0.0\nreplace rtfilter.invalid/rtfilter => ../go\n")
+        used = "rtfilter.invalid/rtfilter"
+        (user / "go.mod").write_text(f"module page\ngo 1.19\nrequire {used} v0.0.0\nreplace {used} => ../go\n")
         same(run("go", "run", ".", cwd=user, env=words), printed)
 
 

@@ -43,8 +43,8 @@ extern "C" {
     ) -> c_int;
     pub fn rtfilter_open_file(out: *mut Session, name: *const c_char, settings: *const Settings, fault: *mut Fault) -> c_int;
     pub fn rtfilter_open_arrays(
-        out: *mut Session, n: usize, ids: *const i64, min_x: *const i32, max_x: *const i32, min_y: *const i32,
-        max_y: *const i32, layers: *const u8, settings: *const Settings, fault: *mut Fault,
+        out: *mut Session, n: usize, ids: *const i64, min_x: *const i32, max_x: *const i32, min_y: *const i32, max_y: *const i32,
+        layers: *const u8, settings: *const Settings, fault: *mut Fault,
     ) -> c_int;
     pub fn rtfilter_share(of: *mut Session, out: *mut Session) -> c_int;
     pub fn rtfilter_close(session: *mut Session);

@@ -21,9 +21,7 @@ impl Session {
     /// Opens a session on a CSV table in memory.
     pub fn of_bytes(table: &[u8], settings: &Settings) -> Result<Session, Error> {
         // SAFETY: the table is borrowed for the call, which keeps no pointer to it.
-        open(|out, fault| unsafe {
-            ffi::rtfilter_open_bytes(out, table.as_ptr() as *const c_void, table.len(), settings, fault)
-        })
+        open(|out, fault| unsafe { ffi::rtfilter_open_bytes(out, table.as_ptr() as *const c_void, table.len(), settings, fault) })
     }
 
     /// Opens a session on a CSV file.
@@ -46,8 +44,16 @@ impl Session {
         // SAFETY: as above, and each slice has n items.
         open(|out, fault| unsafe {
             ffi::rtfilter_open_arrays(
-                out, n, boxes.ids.as_ptr(), boxes.min_x.as_ptr(), boxes.max_x.as_ptr(), boxes.min_y.as_ptr(),
-                boxes.max_y.as_ptr(), layers, settings, fault,
+                out,
+                n,
+                boxes.ids.as_ptr(),
+                boxes.min_x.as_ptr(),
+                boxes.max_x.as_ptr(),
+                boxes.min_y.as_ptr(),
+                boxes.max_y.as_ptr(),
+                layers,
+                settings,
+                fault,
             )
         })
     }

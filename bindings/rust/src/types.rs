@@ -91,8 +91,21 @@ pub struct Query {
 impl Query {
     /// All boxes, by id.
     pub const ALL: Query = Query {
-        region: 0, order: 0, min_x: 0, max_x: 0, min_y: 0, max_y: 0, x: 0, y: 0, radius: 0, near_x: 0, near_y: 0,
-        first_vertex: 0, vertices: 0, layers: u64::MAX, limit: u64::MAX,
+        region: 0,
+        order: 0,
+        min_x: 0,
+        max_x: 0,
+        min_y: 0,
+        max_y: 0,
+        x: 0,
+        y: 0,
+        radius: 0,
+        near_x: 0,
+        near_y: 0,
+        first_vertex: 0,
+        vertices: 0,
+        layers: u64::MAX,
+        limit: u64::MAX,
     };
 
     /// The boxes that overlap a window.
