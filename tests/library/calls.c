@@ -258,6 +258,19 @@ static void lines_and_replies(void)
         EXPECT(copied == (size >= whole ? 0 : whole - size < 3 ? whole - size : 3) && !memcmp(buffer, reply + front, copied));
     }
     EXPECT(rtfilter_reply(&session, SIZE_MAX, buffer, 3, &copied) == RTFILTER_OK && copied == 0);
+
+    /* Other calls leave the reply as it is. */
+    rtfilter_session other = RTFILTER_CLOSED;
+    const rtfilter_query query = rtfilter_all();
+    rtfilter_info info;
+    uint64_t counted;
+    EXPECT(FINDS(&session, query, 1, 2, 3, 4, 5) && rtfilter_info_of(&session, &info) == RTFILTER_OK);
+    EXPECT(rtfilter_count(&session, &(rtfilter_queries){&query, 1, NULL, 0}, &counted, NULL) == RTFILTER_OK && counted == 5);
+    EXPECT(rtfilter_share(&session, &other) == RTFILTER_OK && replies(&other, "count all", RTFILTER_OK, "ok 1 5\n"));
+    rtfilter_close(&other);
+    EXPECT(rtfilter_reply(&session, 0, buffer, sizeof buffer, &copied) == RTFILTER_OK && copied == whole);
+    EXPECT(memcmp(buffer, reply, whole) == 0);
+
     EXPECT(rtfilter_reply(&session, 0, NULL, 0, &copied) == RTFILTER_OK && copied == 0);
     EXPECT(rtfilter_forget(&session) == RTFILTER_OK);
     EXPECT(rtfilter_reply(&session, 0, buffer, sizeof buffer, &copied) == RTFILTER_OK && copied == 0);
