@@ -45,7 +45,9 @@ build/rtfilter: $(foreach it,$(call below,rtfilter),build/$(it).proved) $(call s
 library: $(OUT)/librtfilter.so $(LIBRTFILTER)
 	@$(PKG_CONFIG_FILE) > $(OUT)/rtfilter.pc
 
+# (what was proved is proved again where a run of the gate has set it aside)
 $(OUT)/librtfilter.a: $(if $(filter crates/%,$(ARCHIVE)),build/rtfilter_c.proved,$(ARCHIVE)) $(OUT)/rtfilter.o
+	@[ -e $(ARCHIVE) ] || tools/prove rtfilter_c lib
 	@ar p "$(HEAP)" heap.pic.o > $(OUT)/heap.pic.o
 	@cp $(ARCHIVE) $@.new && chmod 644 $@.new && ar r $@.new $(OUT)/rtfilter.o $(OUT)/heap.pic.o && mv $@.new $@
 

@@ -549,14 +549,15 @@ class Checks:
         return re.search(EXAMPLE % language, text, re.MULTILINE).groups()
 
     def check_rust(self):
-        """Its tests, over the shared library, and the program of its page over the static one."""
-        wants("cargo", "rustc")
+        """Its tests, over the shared library, and the program of its page over the static one, which pkg-config finds."""
+        wants("cargo", "rustc", "pkg-config")
         crate = shutil.copytree(ROOT / "bindings/rust", self.folder / "rust", ignore=shutil.ignore_patterns("target"))
         program, printed = self.page("bindings/rust/README.md", "rust")
         (crate / "examples").mkdir()
         (crate / "examples/page.rs").write_text(program)
-        words = {**os.environ, "RTFILTER_LIB_DIR": f"{self.prefix}/lib", "LD_LIBRARY_PATH": f"{self.prefix}/lib"}
-        said = run("cargo", "test", "--offline", "--quiet", "--jobs", 1, cwd=crate, env=words)
+        words = {**os.environ, "PKG_CONFIG_PATH": f"{self.prefix}/lib/pkgconfig", "LD_LIBRARY_PATH": f"{self.prefix}/lib"}
+        named = {**words, "RTFILTER_LIB_DIR": f"{self.prefix}/lib", "PKG_CONFIG_PATH": os.devnull}
+        said = run("cargo", "test", "--offline", "--quiet", "--jobs", 1, cwd=crate, env=named)
         if sum(map(int, re.findall(r"test result: ok\. (\d+) passed", said))) < 4:
             raise Differs(said)
         static = {} if self.libraries else {"RTFILTER_STATIC": "1"}

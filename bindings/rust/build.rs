@@ -8,7 +8,8 @@ fn main() {
     let folders = match env::var("RTFILTER_LIB_DIR") {
         Ok(folder) => format!("-L{folder}"),
         Err(_) => Command::new("pkg-config")
-            .args(["--keep-system-libs", "--libs-only-L", "rtfilter"])
+            .args(["--libs-only-L", "rtfilter"])
+            .env("PKG_CONFIG_ALLOW_SYSTEM_LIBS", "1")
             .output()
             .map(|done| String::from_utf8_lossy(&done.stdout).into_owned())
             .unwrap_or_default(),
