@@ -8,12 +8,22 @@ PREFIX ?= /usr/local
 MAKEFLAGS += --jobs=$(shell nproc)
 export JOBS
 
-CRATES := $(shell sed -n 's/^\([a-z0-9_]*\):.*/\1/p' crates.txt)
+CRATES := $(shell sed -n 's/^\([a-z0-9_]*\)\( staticlib\)\?:.*/\1/p' crates.txt)
 TESTS := $(filter %_tests,$(CRATES))
 LIBRARIES := $(filter-out rtfilter $(TESTS),$(CRATES))
 
 # The program that is installed, or packed: another one than is built here, where it is named.
 PROGRAM := build/rtfilter
+
+# The proved archive that librtfilter is made of, and the folder that it is made in: others, where they are named.
+ARCHIVE := crates/rtfilter_c/out/librtfilter_c.a
+OUT := build
+
+# It with the calls of include/rtfilter.h, and with malloc, realloc and free as the kit has them.
+LIBRTFILTER := $(OUT)/librtfilter.a
+HEAP = $(dir $(shell rt doc))c/liblibc_c.a
+LIBDIR = $(PREFIX)/lib
+PKG_CONFIG_FILE = sed 's|@PREFIX@|$(PREFIX)|; s|@LIBDIR@|$(LIBDIR)|; s|@VERSION@|'`cat VERSION`'|' library/rtfilter.pc.in
 
 # What a service and a pool load before the C library, where there is a C compiler.
 PREFORK := $(if $(shell command -v $(CC)),build/rtfilter-prefork.so)
@@ -21,7 +31,7 @@ PREFORK := $(if $(shell command -v $(CC)),build/rtfilter-prefork.so)
 all: build/rtfilter $(PREFORK)
 
 # The crates of this repository that a crate stands on, those that stand on it, and its files and folders.
-below = $(filter $(CRATES),$(shell sed -n 's/^$(1)://p' crates.txt))
+below = $(filter $(CRATES),$(shell sed -n 's/^$(1)\( staticlib\)\?://p' crates.txt))
 all_below = $(sort $(foreach it,$(call below,$(1)),$(it) $(call all_below,$(it))))
 above = $(foreach crate,$(CRATES),$(if $(filter $(1),$(call all_below,$(crate))),$(crate)))
 sources = crates.txt $(shell find crates/$(1)/src crates/$(1)/specs crates/$(1)/proofs 2> /dev/null)
@@ -31,6 +41,28 @@ build/rtfilter: $(foreach it,$(call below,rtfilter),build/$(it).proved) $(call s
 	@tools/prove rtfilter run -- /dev/null
 	@cp crates/rtfilter/out/rtfilter build/rtfilter
 
+# librtfilter, for programs in C and other languages.
+library: $(OUT)/librtfilter.so $(LIBRTFILTER)
+	@$(PKG_CONFIG_FILE) > $(OUT)/rtfilter.pc
+
+# (what was proved is proved again where a run of the gate has set it aside)
+$(OUT)/librtfilter.a: $(if $(filter crates/%,$(ARCHIVE)),build/rtfilter_c.proved,$(ARCHIVE)) $(OUT)/rtfilter.o
+	@[ -e $(ARCHIVE) ] || tools/prove rtfilter_c lib
+	@ar p "$(HEAP)" heap.pic.o > $(OUT)/heap.pic.o
+	@cp $(ARCHIVE) $@.new && chmod 644 $@.new && ar r $@.new $(OUT)/rtfilter.o $(OUT)/heap.pic.o && mv $@.new $@
+
+$(OUT)/rtfilter.o: library/rtfilter.c library/engine.h include/rtfilter.h
+	@mkdir -p $(OUT)
+	@$(CC) -std=c11 -O2 -Wall -Wextra -Wpedantic -fPIC -Iinclude $(CPPFLAGS) $(CFLAGS) -c -o $@ $<
+
+$(OUT)/librtfilter.so.1: $(LIBRTFILTER) library/rtfilter.map
+	@mkdir -p $(OUT)
+	@$(CC) -shared -Wl,-soname,librtfilter.so.1 -Wl,--version-script=library/rtfilter.map -Wl,--gc-sections,-z,defs,-z,now \
+	  $(LDFLAGS) -o $@ -Wl,--whole-archive $(LIBRTFILTER) -Wl,--no-whole-archive $(LDLIBS)
+
+$(OUT)/librtfilter.so: $(OUT)/librtfilter.so.1
+	@ln -sf librtfilter.so.1 $@
+
 # In one step, since some may build it at once.
 build/rtfilter-prefork.so: service/prefork.c
 	@mkdir -p build
@@ -39,6 +71,7 @@ build/rtfilter-prefork.so: service/prefork.c
 define library
 build/$(1).proved: $(foreach it,$(call below,$(1)),build/$(it).proved) $(call sources,$(1))
 	@$(if $(filter $(1),$(call all_below,rtfilter)),rm -f build/rtfilter)
+	@$(if $(filter $(1),rtfilter_c $(call all_below,rtfilter_c)),rm -f build/librtfilter.*)
 	@tools/prove $(1) lib
 	@touch build/$(1).proved
 endef
@@ -65,8 +98,8 @@ test:
 	@tests/run
 
 # The clients, the recipes and the package, with the built program. NEED=all: what can't be tried here has failed.
-test-users: all
-	@tests/users.py build/rtfilter $(if $(filter all,$(NEED)),--need-all)
+test-users: all library
+	@tests/users.py build/rtfilter --archive $(ARCHIVE) $(if $(filter all,$(NEED)),--need-all)
 
 # The Debian packages that the tests want, by apt-get, as root or with sudo.
 test-packages:
@@ -80,9 +113,9 @@ test-full: build/rtfilter
 bench: all
 	@bench/bench.py build/rtfilter
 
-# The Debian packages, in build/. They want debhelper, dpkg-dev and gcc.
-deb: $(PROGRAM)
-	@packaging/make_packages.py $(PROGRAM) build
+# The Debian packages, in build/: the program, the library, the client, the service. They want debhelper, dpkg-dev and gcc.
+deb: $(PROGRAM) $(LIBRTFILTER)
+	@packaging/make_packages.py $(PROGRAM) $(LIBRTFILTER) build
 
 # The Python wheel with the program in it, in build/. It wants a C compiler.
 wheel: $(PROGRAM) build/rtfilter-prefork.so
@@ -93,7 +126,7 @@ reference:
 	@/usr/bin/python3 -B -m sphinx -q -W docs/reference build/reference
 
 SHARE := $(DESTDIR)$(PREFIX)/share
-LIBRARY := $(DESTDIR)$(PREFIX)/lib/rtfilter
+SERVING := $(DESTDIR)$(PREFIX)/lib/rtfilter
 UNITS := $(DESTDIR)$(PREFIX)/lib/systemd/system
 SERVICE := $(addprefix service/,serve.py service.py listening.py health.py) clients/python/rtfilter/prefork.py
 COMPLETIONS := $(SHARE)/bash-completion/completions
@@ -102,31 +135,46 @@ COMPLETIONS := $(SHARE)/bash-completion/completions
 INSTANCE := s|rtfilter\.socket|rtfilter@%i.socket|; s|/boxes\.csv|/%i.csv|; s|/run/rtfilter/socket|/run/rtfilter/%i.socket|; \
   s|/rtfilter-service$$|&-%i|; s|^Description=.*|& of %i|
 
+# The library where it is built: make library install.
+INSTALLED_LIBRARY := $(if $(or $(filter library,$(MAKECMDGOALS)),$(wildcard $(OUT)/librtfilter.so.1)),library)
+
 # The service too, where there is a C compiler.
-install: $(PROGRAM) $(PREFORK)
+install: $(PROGRAM) $(PREFORK) $(INSTALLED_LIBRARY)
 	install -D $(PROGRAM) "$(DESTDIR)$(PREFIX)/bin/rtfilter"
 	install -D -m 644 docs/rtfilter.1 "$(SHARE)/man/man1/rtfilter.1"
 	install -D -m 644 packaging/rtfilter.bash "$(COMPLETIONS)/rtfilter"
 ifdef PREFORK
-	install -d "$(LIBRARY)" "$(UNITS)"
-	install -m 644 $(PREFORK) $(SERVICE) "$(LIBRARY)"
+	install -d "$(SERVING)" "$(UNITS)"
+	install -m 644 $(PREFORK) $(SERVICE) "$(SERVING)"
 	install -D -m 644 docs/rtfilter-serve.1 "$(SHARE)/man/man1/rtfilter-serve.1"
 	install -D -m 644 packaging/rtfilter-serve.bash "$(COMPLETIONS)/rtfilter-serve"
-	chmod 755 "$(LIBRARY)/serve.py"
+	chmod 755 "$(SERVING)/serve.py"
 	ln -sf ../lib/rtfilter/serve.py "$(DESTDIR)$(PREFIX)/bin/rtfilter-serve"
 	for kind in service socket; do \
 	  sed 's|/usr/local|$(PREFIX)|g' service/rtfilter.$$kind > "$(UNITS)/rtfilter.$$kind"; \
 	  sed '$(INSTANCE)' "$(UNITS)/rtfilter.$$kind" > "$(UNITS)/rtfilter@.$$kind"; done
 endif
+	$(if $(INSTALLED_LIBRARY),$(MAKE) --no-print-directory install-library)
+
+# The library alone.
+install-library: library
+	install -d "$(DESTDIR)$(LIBDIR)/pkgconfig" "$(DESTDIR)$(PREFIX)/include"
+	install -m 644 include/rtfilter.h include/rtfilter.hpp "$(DESTDIR)$(PREFIX)/include"
+	install -m 644 $(OUT)/librtfilter.so.1 $(LIBRTFILTER) "$(DESTDIR)$(LIBDIR)"
+	ln -sf librtfilter.so.1 "$(DESTDIR)$(LIBDIR)/librtfilter.so"
+	$(PKG_CONFIG_FILE) > "$(DESTDIR)$(LIBDIR)/pkgconfig/rtfilter.pc"
 
 uninstall:
 	rm -f "$(DESTDIR)$(PREFIX)/bin/rtfilter" "$(COMPLETIONS)/rtfilter" "$(COMPLETIONS)/rtfilter-serve"
 	rm -f "$(SHARE)/man/man1/rtfilter.1" "$(SHARE)/man/man1/rtfilter-serve.1"
 	rm -f "$(DESTDIR)$(PREFIX)/bin/rtfilter-serve" $(foreach it,.service .socket @.service @.socket,"$(UNITS)/rtfilter$(it)")
-	rm -rf "$(LIBRARY)"
+	rm -rf "$(SERVING)"
+	rm -f $(foreach it,.so .so.1 .a,"$(DESTDIR)$(LIBDIR)/librtfilter$(it)") "$(DESTDIR)$(LIBDIR)/pkgconfig/rtfilter.pc"
+	rm -f $(foreach it,h hpp,"$(DESTDIR)$(PREFIX)/include/rtfilter.$(it)")
 
 clean:
 	rm -rf build crates/*/out
 
-.PHONY: all example check test test-users test-packages test-full bench deb wheel reference install uninstall clean
+.PHONY: all library example check test test-users test-packages test-full bench deb wheel reference install install-library
+.PHONY: uninstall clean
 .DEFAULT_GOAL := all

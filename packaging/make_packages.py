@@ -1,10 +1,11 @@
 #!/usr/bin/env python3
-"""Makes the Debian packages of the built program, by debhelper.
+"""Makes the Debian packages of the built program and library, by debhelper.
 
-usage: packaging/make_packages.py PROGRAM FOLDER
+usage: packaging/make_packages.py PROGRAM LIBRARY FOLDER
 
-Writes them to the folder and prints their names: `rtfilter` with the program and the library of the service, its debug
-symbols, `python3-rtfilter` and `rtfilter-service`. The version is that of VERSION, the changes and their dates are those
+LIBRARY is librtfilter.a, of which the shared one is made. Writes the packages to the folder and prints their names: `rtfilter`
+with the program and the library of the service, `librtfilter1` and `librtfilter-dev`, the debug symbols of both,
+`python3-rtfilter` and `rtfilter-service`. The version is that of VERSION, the changes and their dates are those
 of CHANGELOG.md. The same files make the same bytes. It wants debhelper, dpkg-dev and gcc of Debian 12.
 """
 
@@ -30,10 +31,10 @@ PAGES = sorted(f"docs/{page.name}" for page in (ROOT / "docs").glob("*.md") if p
 
 # What packages are made of, beside the program.
 SOURCES = [
-    "Makefile", "README.md", "CONTRIBUTING.md", "crates.txt", *PAGES, "docs/pictures", "docs/rtfilter.1",
+    "Makefile", "VERSION", "README.md", "CONTRIBUTING.md", "crates.txt", *PAGES, "include", "library", "bindings", "docs/pictures", "docs/rtfilter.1",
     "docs/rtfilter-serve.1", "packaging/rtfilter.bash", "packaging/rtfilter-serve.bash", "service/README.md", "service/prefork.c", "service/serve.py", "service/service.py", "service/listening.py", "service/health.py",
     "service/rtfilter.service", "service/rtfilter.socket", "clients/python/rtfilter",
-    *(f"examples/{name}" for name in ("cluster", "common", "data", "geofence", "languages", "roads", "tiles")),
+    *(f"examples/{name}" for name in ("cluster", "common", "data", "geofence", "languages", "library", "roads", "tiles")),
 ]
 RELEASE = re.compile(r"^## (\S+), (\d{4}-\d\d-\d\d)\n\n((?:- .*\n|  .*\n)+)", re.MULTILINE)
 
@@ -62,7 +63,7 @@ def place(source: Path, target: Path) -> None:
     """Copies a file or a folder, with modes that don't depend on who checked it out."""
     target.parent.mkdir(parents=True, exist_ok=True)
     if source.is_dir():
-        shutil.copytree(source, target, ignore=shutil.ignore_patterns("__pycache__", "tests"))
+        shutil.copytree(source, target, ignore=shutil.ignore_patterns("__pycache__", "tests", "target", "Cargo.lock"))
     else:
         shutil.copy(source, target)
     for path in (target, *target.rglob("*")):
@@ -74,6 +75,7 @@ def place(source: Path, target: Path) -> None:
 def main() -> None:
     parser = argparse.ArgumentParser(description=__doc__.splitlines()[0])
     parser.add_argument("program", type=Path)
+    parser.add_argument("library", type=Path)
     parser.add_argument("folder", type=Path)
     args = parser.parse_args()
     version = (ROOT / "VERSION").read_text(encoding="utf-8").strip()
@@ -87,6 +89,8 @@ def main() -> None:
             place(ROOT / name, tree / name)
         place(args.program, tree / "rtfilter")
         (tree / "rtfilter").chmod(0o755)
+        place(args.library, tree / "librtfilter.a")
+        (tree / "librtfilter.a").chmod(0o644)
         place(ROOT / "packaging/debian", tree / "debian")
         (tree / "debian/changelog").write_text(changelog(), encoding="utf-8")
         environment = {**os.environ, "SOURCE_DATE_EPOCH": str(int(date.timestamp())), "MAKEFLAGS": "", "LC_ALL": "C.UTF-8"}

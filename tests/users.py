@@ -1,9 +1,10 @@
 #!/usr/bin/env python3
 """Tries what stands in clients/, service/, packaging/ and examples/, the recipes of docs/ and the gate, with the built program.
 
-usage: tests/users.py PROGRAM [--need-all] [--only NAME]..
+usage: tests/users.py PROGRAM [--archive ARCHIVE] [--need-all] [--only NAME]..
 
-They try a copy of it, beside what a service loads into it where there is a C compiler. The tests are those of the folders
+They try a copy of it, beside what a service loads into it where there is a C compiler, and packages with librtfilter where its
+proved archive is named. The tests are those of the folders
 TESTS, or of those that are named. One that wants what isn't installed here is skipped and named; with --need-all it has
 failed. The last line is `N passed, M failed`.
 """
@@ -73,9 +74,16 @@ def copied(program, folder):
     return str(shutil.copy(program, Path(folder, "rtfilter")))
 
 
+def library_of(archive, folder):
+    """librtfilter.a, made of the proved archive."""
+    words = f"ARCHIVE={archive.resolve()}", f"OUT={folder}/library"
+    subprocess.run(["make", "--silent", "-C", ROOT, "library", *words], check=True, env={**os.environ, "MAKEFLAGS": ""})
+    return f"{folder}/library/librtfilter.a"
+
+
 def side_by_side(args):
     """Runs all parts, some at once, each in a process of its own."""
-    options = ["--need-all"] * args.need_all
+    options = ["--need-all"] * args.need_all + [f"--archive={args.archive}"] * (args.archive is not None)
 
     def run(name):
         command = [sys.executable, __file__, args.program, *options, "--only", name]
@@ -101,6 +109,7 @@ def side_by_side(args):
 def main():
     parser = argparse.ArgumentParser()
     parser.add_argument("program")
+    parser.add_argument("--archive", type=Path)
     parser.add_argument("--need-all", action="store_true")
     parser.add_argument("--only", action="append", choices=TESTS, metavar="NAME")
     args = parser.parse_args()
@@ -109,6 +118,8 @@ def main():
     results = Results()
     with tempfile.TemporaryDirectory(prefix="rtfilter-") as folder:
         os.environ["RTFILTER_PROGRAM"] = copied(args.program, folder)
+        if args.archive and "package" in args.only and shutil.which("cc"):
+            os.environ["RTFILTER_LIBRARY"] = library_of(args.archive, folder)
         for name in args.only:
             unittest.TestLoader().discover(str(TESTS[name])).run(results)
     for test, why in [*results.failures, *results.errors]:

@@ -161,7 +161,7 @@ def main():
     parser.add_argument("--names", action="store_true", help="tell the definitions one by one")
     options = parser.parse_args()
 
-    crates = re.findall(r"^(\w+):", (ROOT / "crates.txt").read_text(encoding="utf-8"), re.MULTILINE)
+    crates = re.findall(r"^(\w+)(?: staticlib)?:", (ROOT / "crates.txt").read_text(encoding="utf-8"), re.MULTILINE)
     every = [clause for crate in crates if not crate.endswith("_tests") for clause in clauses(crate)]
     of_headline = [clause for clause in every if clause[:3] == HEADLINE]
     of_program = [clause for clause in every if clause[0] not in LIBRARY and clause[:2] not in LIBRARY_CALLS]

@@ -17,16 +17,25 @@ from typing import Any
 
 from support import DATA, PACKAGE, PROGRAM, ROOT
 
+LIBRARY = os.environ.get("RTFILTER_LIBRARY")  # librtfilter.a
 MAKE = ROOT / "packaging/make_packages.py"
 VERSION = (ROOT / "VERSION").read_text(encoding="utf-8").strip()
 TOOLS = "dpkg-buildpackage", "dh", "gcc", "objdump"
 MODULES = {f"usr/lib/rtfilter/{name}.py": 0o644 for name in ("health", "listening", "prefork", "service")}
+LIBRARIES = "usr/lib/x86_64-linux-gnu"
 FILES = {  # beside each package's own documents
     "rtfilter": {
         "usr/bin/rtfilter": 0o755,
         "usr/lib/rtfilter/rtfilter-prefork.so": 0o644,
         "usr/share/bash-completion/completions/rtfilter": 0o644,
         "usr/share/man/man1/rtfilter.1.gz": 0o644,
+    },
+    "librtfilter1": {f"{LIBRARIES}/librtfilter.so.1": 0o644},
+    "librtfilter-dev": {
+        f"{LIBRARIES}/librtfilter.a": 0o644,
+        f"{LIBRARIES}/pkgconfig/rtfilter.pc": 0o644,
+        "usr/include/rtfilter.h": 0o644,
+        "usr/include/rtfilter.hpp": 0o644,
     },
     "rtfilter-service": {
         "etc/default/rtfilter-service": 0o644,
@@ -90,7 +99,10 @@ class Versions(unittest.TestCase):
                   for it in re.findall(r"rtfilter-([\d.]+)-py3", (ROOT / page).read_text(encoding="utf-8"))}
         served = run(sys.executable, "-B", ROOT / "service/serve.py", "--version").split()[-1]
         client = run(sys.executable, "-B", "-c", "import rtfilter; print(rtfilter.__version__)", env={**os.environ, "PYTHONPATH": PACKAGE})
-        self.assertEqual([project["version"], *manuals, changes, *wheels, served, client.strip()], [VERSION] * 7)
+        header = ".".join(re.findall(r"#define RTFILTER_VERSION_[MP]\w+ (\d+)", (ROOT / "include/rtfilter.h").read_text()))
+        crate = tomllib.loads((ROOT / "bindings/rust/Cargo.toml").read_text(encoding="utf-8"))["package"]["version"]
+        named = [project["version"], *manuals, changes, *wheels, served, client.strip(), header, crate]
+        self.assertEqual(named, [VERSION] * 9)
 
 
 class Packages(unittest.TestCase):
@@ -99,23 +111,28 @@ class Packages(unittest.TestCase):
 
     @classmethod
     def setUpClass(cls) -> None:
-        if all(map(shutil.which, TOOLS)):
+        if LIBRARY and all(map(shutil.which, TOOLS)):
             cls.room = Path(cls.enterClassContext(tempfile.TemporaryDirectory()))
-            made = run(sys.executable, MAKE, PROGRAM, cls.room).split()
+            made = run(sys.executable, MAKE, PROGRAM, LIBRARY, cls.room).split()
             cls.packages = {Path(name).name.split("_")[0]: Path(name) for name in made}
             for name, package in cls.packages.items():
                 run("dpkg-deb", "--extract", package, cls.room / name)
 
     def setUp(self) -> None:
         wants(self, *TOOLS)
+        if not LIBRARY:
+            self.skipTest("tests/users.py names no archive of the library")
 
     def test_they_are_the_same_each_time(self) -> None:
-        """From another folder, at another time, with another mask, where the program has another date."""
+        """From another folder, at another time, with another mask, where the program and the library have other dates."""
         with tempfile.TemporaryDirectory() as folder:
+            assert LIBRARY
             program = shutil.copyfile(PROGRAM, Path(folder, "program"))
-            made = run(sys.executable, MAKE, program, folder, cwd=folder, umask=0o077).split()
-            names = ("python3-rtfilter", "rtfilter-dbgsym", "rtfilter-service", "rtfilter")
-            kinds = ("all", "amd64", "all", "amd64")
+            library = shutil.copyfile(LIBRARY, Path(folder, "library"))
+            made = run(sys.executable, MAKE, program, library, folder, cwd=folder, umask=0o077).split()
+            names = ("librtfilter-dev", "librtfilter1-dbgsym", "librtfilter1", "python3-rtfilter", "rtfilter-dbgsym",
+                     "rtfilter-service", "rtfilter")  # fmt: skip
+            kinds = ("amd64", "amd64", "amd64", "all", "amd64", "all", "amd64")
             self.assertEqual([Path(name).name for name in made], [f"{it}_{VERSION}-1_{kind}.deb" for it, kind in zip(names, kinds)])
             for name in made:
                 self.assertEqual(Path(name).read_bytes(), (self.room / Path(name).name).read_bytes(), name)
@@ -148,6 +165,27 @@ class Packages(unittest.TestCase):
         self.assertIn(".BR rtfilter-serve (1)", (ROOT / "docs/rtfilter.1").read_text())
         changes = gzip.decompress((tree / "usr/share/doc/rtfilter/changelog.Debian.gz").read_bytes()).decode()
         self.assertTrue(changes.startswith(f"rtfilter ({VERSION}-1) "), changes)
+
+    def test_the_library(self) -> None:
+        """In a clean folder, the program of its page is compiled as the page says, and prints what the page shows."""
+        wants(self, "cc", "pkg-config")
+        with tempfile.TemporaryDirectory() as system:
+            for name in ("librtfilter1", "librtfilter-dev"):
+                run("dpkg", "-x", self.packages[name], system)
+            libraries = Path(system, LIBRARIES)
+            self.assertEqual(os.readlink(libraries / "librtfilter.so"), "librtfilter.so.1")
+            page = (ROOT / "docs/library.md").read_text(encoding="utf-8")
+            Path(system, "boxes.c").write_text(found(r"(?s)```c\n(.*?)```", page)[1])
+            shown = found(r"(?s)```\n\$ (cc [^\n]*)\n\$ ./boxes\n(.*?)```", page)
+            words = {"PKG_CONFIG_SYSROOT_DIR": system, "PKG_CONFIG_LIBDIR": f"{libraries}/pkgconfig", "PATH": os.environ["PATH"],
+                     "PKG_CONFIG_ALLOW_SYSTEM_CFLAGS": "1", "PKG_CONFIG_ALLOW_SYSTEM_LIBS": "1"}  # fmt: skip
+            run("sh", "-c", shown[1], cwd=system, env=words)
+            self.assertEqual(run("./boxes", cwd=system, env={"LD_LIBRARY_PATH": str(libraries)}), shown[2])
+        about = run("dpkg-deb", "--field", self.packages["librtfilter1"], "Depends")
+        self.assertRegex(about, r"^libc6 \(>= [\d.]+\)$" if not os.environ.get("LDLIBS") else "libc6")
+        symbols = {line.split()[0].split("@")[0] for line in (ROOT / "packaging/debian/librtfilter1.symbols").read_text().splitlines()[2:]}
+        public = set(re.findall(r"^    (\w+);$", (ROOT / "library/rtfilter.map").read_text(), re.MULTILINE))
+        self.assertEqual(symbols, public | {"RTFILTER_1"})
 
     def test_debug_symbols(self) -> None:
         """They belong to the program, and name its functions."""

@@ -1,0 +1,3 @@
+module rtfilter.invalid/rtfilter
+
+go 1.19

@@ -1,0 +1,61 @@
+//! The functions and structs of rtfilter.h.
+use crate::{Fault, Info, Point, Query, Score, Settings};
+use std::os::raw::{c_char, c_int, c_void};
+
+pub const OK: c_int = 0;
+pub const FAULTY_LINE: c_int = 1;
+pub const BAD_SETTING: c_int = 2;
+pub const BAD_TABLE: c_int = 3;
+pub const BAD_FILE: c_int = 4;
+pub const FULL: c_int = 5;
+pub const NO_MEMORY: c_int = 6;
+pub const BAD_QUERY: c_int = 7;
+pub const BAD_PROCESSOR: c_int = 9;
+
+#[repr(C)]
+pub struct Session {
+    pub at: *mut c_void,
+}
+
+#[repr(C)]
+pub struct Queries {
+    pub queries: *const Query,
+    pub len: usize,
+    pub vertices: *const Point,
+    pub vertex_len: usize,
+}
+
+#[repr(C)]
+pub struct Answers {
+    pub ids: *mut i64,
+    pub scores: *mut Score,
+    pub capacity: usize,
+    pub ends: *mut usize,
+    pub done: usize,
+    pub found: usize,
+}
+
+pub type Measure = unsafe extern "C" fn(*mut Session, *const Queries, *mut u64, *mut usize) -> c_int;
+
+extern "C" {
+    pub fn rtfilter_open_bytes(
+        out: *mut Session, table: *const c_void, len: usize, settings: *const Settings, fault: *mut Fault,
+    ) -> c_int;
+    pub fn rtfilter_open_file(out: *mut Session, name: *const c_char, settings: *const Settings, fault: *mut Fault) -> c_int;
+    pub fn rtfilter_open_arrays(
+        out: *mut Session, n: usize, ids: *const i64, min_x: *const i32, max_x: *const i32, min_y: *const i32, max_y: *const i32,
+        layers: *const u8, settings: *const Settings, fault: *mut Fault,
+    ) -> c_int;
+    pub fn rtfilter_share(of: *mut Session, out: *mut Session) -> c_int;
+    pub fn rtfilter_close(session: *mut Session);
+    pub fn rtfilter_info_of(session: *mut Session, info: *mut Info) -> c_int;
+    pub fn rtfilter_ask(
+        session: *mut Session, lines: *const c_char, len: usize, buffer: *mut c_char, size: usize, reply_len: *mut usize,
+    ) -> c_int;
+    pub fn rtfilter_reply(session: *mut Session, from: usize, buffer: *mut c_char, size: usize, copied: *mut usize) -> c_int;
+    pub fn rtfilter_forget(session: *mut Session) -> c_int;
+    pub fn rtfilter_find(session: *mut Session, queries: *const Queries, skip: usize, answers: *mut Answers) -> c_int;
+    pub fn rtfilter_count(session: *mut Session, queries: *const Queries, counts: *mut u64, done: *mut usize) -> c_int;
+    pub fn rtfilter_cost_of_find(session: *mut Session, queries: *const Queries, opened: *mut u64, done: *mut usize) -> c_int;
+    pub fn rtfilter_cost_of_count(session: *mut Session, queries: *const Queries, opened: *mut u64, done: *mut usize) -> c_int;
+}

@@ -1,0 +1,52 @@
+/* The engine of librtfilter: the exports of the proved archive. Their contracts are in crates/rtfilter_c.
+ *
+ * A slice is a pointer and a number of items, and its pointer is never null, not even for no items. A session that is passed as
+ * `by` or `of` is open, one that is passed as `out` is closed. */
+#ifndef RTFILTER_ENGINE_H
+#define RTFILTER_ENGINE_H
+
+#include "rtfilter.h"
+
+struct rtfilter_engine_about {
+    uint32_t boxes, levels;
+    int32_t min_x, max_x, min_y, max_y;
+};
+
+struct rtfilter_engine_progress {
+    size_t done, found;
+};
+
+enum { RTFILTER_ENGINE_COUNT = 0, RTFILTER_ENGINE_COST_OF_FIND = 1, RTFILTER_ENGINE_COST_OF_COUNT = 2 };
+
+uint8_t rtfilter_engine_open_bytes(rtfilter_session *out, const uint8_t *table, size_t len, bool header, uint8_t fanout,
+                                   uint32_t max_entries, rtfilter_fault *fault);
+
+/* `layers` has as many items as the others, or none. */
+uint8_t rtfilter_engine_open_arrays(rtfilter_session *out, const int64_t *ids, size_t ids_len, const int32_t *min_x,
+                                    size_t min_x_len, const int32_t *max_x, size_t max_x_len, const int32_t *min_y,
+                                    size_t min_y_len, const int32_t *max_y, size_t max_y_len, const uint8_t *layers,
+                                    size_t layers_len, uint8_t fanout, uint32_t max_entries, rtfilter_fault *fault);
+
+uint8_t rtfilter_engine_share(rtfilter_session *of, rtfilter_session *out);
+
+void rtfilter_engine_close(rtfilter_session *it);
+
+uint8_t rtfilter_engine_ask(rtfilter_session *by, const uint8_t *lines, size_t len, uint8_t *room, size_t room_len,
+                            size_t *reply_len);
+
+size_t rtfilter_engine_reply(rtfilter_session *by, size_t from, uint8_t *room, size_t room_len);
+
+void rtfilter_engine_forget(rtfilter_session *by);
+
+void rtfilter_engine_info(rtfilter_session *by, struct rtfilter_engine_about *about, uint32_t *level_sizes,
+                          size_t level_sizes_len);
+
+uint8_t rtfilter_engine_find(rtfilter_session *by, const rtfilter_query *queries, size_t len, const rtfilter_point *vertices,
+                             size_t vertices_len, size_t skip, size_t *ends, size_t ends_len, int64_t *ids, size_t ids_len,
+                             rtfilter_score *scores, size_t scores_len, struct rtfilter_engine_progress *progress);
+
+uint8_t rtfilter_engine_measure(rtfilter_session *by, uint8_t what, const rtfilter_query *queries, size_t len,
+                                const rtfilter_point *vertices, size_t vertices_len, uint64_t *measured, size_t measured_len,
+                                size_t *done);
+
+#endif
