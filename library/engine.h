@@ -16,8 +16,6 @@ struct rtfilter_engine_progress {
     size_t done, found;
 };
 
-enum { RTFILTER_ENGINE_COUNT = 0, RTFILTER_ENGINE_COST_OF_FIND = 1, RTFILTER_ENGINE_COST_OF_COUNT = 2 };
-
 uint8_t rtfilter_engine_open_bytes(rtfilter_session *out, const uint8_t *table, size_t len, bool header, uint8_t fanout,
                                    uint32_t max_entries, rtfilter_fault *fault);
 
@@ -45,8 +43,11 @@ uint8_t rtfilter_engine_find(rtfilter_session *by, const rtfilter_query *queries
                              size_t vertices_len, size_t skip, size_t *ends, size_t ends_len, int64_t *ids, size_t ids_len,
                              rtfilter_score *scores, size_t scores_len, struct rtfilter_engine_progress *progress);
 
-uint8_t rtfilter_engine_measure(rtfilter_session *by, uint8_t what, const rtfilter_query *queries, size_t len,
-                                const rtfilter_point *vertices, size_t vertices_len, uint64_t *measured, size_t measured_len,
-                                size_t *done);
+/* A measure of queries, one number for each. */
+typedef uint8_t rtfilter_engine_measure(rtfilter_session *by, const rtfilter_query *queries, size_t len,
+                                        const rtfilter_point *vertices, size_t vertices_len, uint64_t *measured,
+                                        size_t measured_len, size_t *done);
+
+rtfilter_engine_measure rtfilter_engine_count, rtfilter_engine_cost_of_find, rtfilter_engine_cost_of_count;
 
 #endif

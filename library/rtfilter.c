@@ -245,8 +245,8 @@ int rtfilter_find(rtfilter_session *session, const rtfilter_queries *queries, si
     return code;
 }
 
-/* What the engine measures of each query. */
-static int measure(rtfilter_session *session, uint8_t what, const rtfilter_queries *queries, uint64_t *measured, size_t *done)
+/* One of the engine's measures of each query. */
+static int measure(rtfilter_session *session, rtfilter_engine_measure *of_engine, const rtfilter_queries *queries, uint64_t *measured, size_t *done)
 {
     size_t ignored;
     if (!is_open(session) || !are_there(queries) || !has(measured, queries->len))
@@ -254,21 +254,21 @@ static int measure(rtfilter_session *session, uint8_t what, const rtfilter_queri
     if (!done)
         done = &ignored;
     *done = 0;
-    return rtfilter_engine_measure(session, what, SLICE(queries->queries), queries->len, SLICE(queries->vertices),
+    return of_engine(session, SLICE(queries->queries), queries->len, SLICE(queries->vertices),
                                    queries->vertex_len, SLICE(measured), queries->len, done);
 }
 
 int rtfilter_count(rtfilter_session *session, const rtfilter_queries *queries, uint64_t *counts, size_t *done)
 {
-    return measure(session, RTFILTER_ENGINE_COUNT, queries, counts, done);
+    return measure(session, rtfilter_engine_count, queries, counts, done);
 }
 
 int rtfilter_cost_of_find(rtfilter_session *session, const rtfilter_queries *queries, uint64_t *opened, size_t *done)
 {
-    return measure(session, RTFILTER_ENGINE_COST_OF_FIND, queries, opened, done);
+    return measure(session, rtfilter_engine_cost_of_find, queries, opened, done);
 }
 
 int rtfilter_cost_of_count(rtfilter_session *session, const rtfilter_queries *queries, uint64_t *opened, size_t *done)
 {
-    return measure(session, RTFILTER_ENGINE_COST_OF_COUNT, queries, opened, done);
+    return measure(session, rtfilter_engine_cost_of_count, queries, opened, done);
 }

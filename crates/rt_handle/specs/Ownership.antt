@@ -3,14 +3,19 @@ use Rattle.std.specs.Prelude.{Option, Some, None}
 use base.Fml.{Fml, ftrue}
 use denote.RattleType.{RattleType}
 use denote.RawPtr.{Ptr}
-use Rattle.libc.specs.Heap.{chunk}
 use Rattle.std_alloc.specs.Box.Ownership.{box_owns}
+use Rattle.std_heap.specs.contracts.GlobalAllocator.TheImpl.{ghosts}
+use Rattle.std_heap.specs.declared.Global.{Global}
 use Rattle.rt_embed.specs.Sessions.{Contents}
 use Rattle.rt_embed.specs.contracts.session.Session.{the_row}
 
+-- an allocator of the heap: each has the same value, and frees what another gave
+abbrev pub heap : Global
+heap = record { memory = record { seal = record {} } }
+
 -- a value of a type lies at the pointer, in a block of the heap that its owner may free
 abbrev pub box_at : (type : RattleType) → Ptr → type.Denot → Fml
-box_at = box_owns chunk
+box_at = box_owns (ghosts.dealloc_token heap)
 
 -- the box of the session that is held; no memory where none is
 abbrev pub holds : Ptr → Option Contents → Fml
