@@ -5,12 +5,12 @@
 //! call; [`summary_of`] says how large its tree is. No pointer and no C is here.
 #![tactic(auto)]
 
-mod session;
 mod measuring;
 mod question;
 mod reply_sink;
+mod session;
 mod summary;
 
-pub use session::Session;
 pub use question::{Measure, Question};
+pub use session::Session;
 pub use summary::{Summary, copy_level_sizes, summary_of};
