@@ -26,19 +26,19 @@ pub extern "C" fn rtfilter_engine_ask(
         (reply_len.new ≡ length reply) × (room.new ≡ copied reply room.old)) }
     ensures codes { (result ≡ OK) ⊎ (result ≡ FAULTY_LINE) ⊎ (result ≡ NO_MEMORY) }
 {
-    let mut asked = session.take(alloc);
-    let code = match asked.ask(alloc, lines) {
+    let mut held = session.take(alloc);
+    let code = match held.ask(alloc, lines) {
         Ok(true) => FAULTY_LINE,
         Ok(false) => OK,
         Err(_) => {
-            asked.forget_reply(alloc);
+            held.forget_reply(alloc);
             NO_MEMORY
         }
     };
-    let reply = asked.reply();
+    let reply = held.reply();
     copy_front(reply, room);
     *reply_len = reply.len();
-    session.put(asked);
+    session.put(held);
     code
 }
 
@@ -57,10 +57,10 @@ pub extern "C" fn rtfilter_engine_reply(
     ensures reply { HasReply session.old.held (λ reply.
         room.new ≡ copied (drop from reply) room.old) }
 {
-    let asked = session.take(alloc);
-    let reply = asked.reply();
+    let held = session.take(alloc);
+    let reply = held.reply();
     let many = copy_front(&reply[from.min(reply.len())..], room);
-    session.put(asked);
+    session.put(held);
     many
 }
 
@@ -70,9 +70,9 @@ pub extern "C" fn rtfilter_engine_forget(alloc: Global, session: &mut Handle)
     requires open { IsSome session.old.held }
     ensures { IsForgotten session.old.held session.new.held }
 {
-    let mut asked = session.take(alloc);
-    asked.forget_reply(alloc);
-    session.put(asked);
+    let mut held = session.take(alloc);
+    held.forget_reply(alloc);
+    session.put(held);
 }
 
 // Copies the first bytes, as many as there are and have room, and returns their number.
