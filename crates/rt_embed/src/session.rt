@@ -1,6 +1,6 @@
 //! Sessions of a table.
 
-ghost use Rattle.std.specs.Prelude.{◌≡◌, ◌<◌, ◌≤◌, ℕ, List, [], All, IfOk, IfErr, IsSome, MatchResult, IsTrue, Some, length, map, min, take, true};
+ghost use Rattle.std.specs.Prelude.{◌≡◌, ◌<◌, ◌≤◌, ℕ, List, [], All, IfOk, IfErr, IsSome, IsTrue, Some, length, map, min, take, true};
 ghost use Rattle.rt_command.specs.Choices.{Choices};
 ghost use Rattle.rt_embed.specs.{Columns.{AreColumns, HasColumns, StopsAtColumns, lists_of}, Findings.{HasFound}};
 ghost use Rattle.rt_embed.specs.{PlainQueries.{question_of}, Questions.{AsksNone, measured_of}, Sessions.{IsRunOf}};
@@ -111,10 +111,10 @@ impl Session {
             → HasLoaded choices table self.old.tree
             → IsRunOf choices table queries.now self.new.reply bad) }
         // The replies over any entries whose packed tree this is.
-        ensures reply { (loaded : Loaded) → self.old.tree ≡ tree_of loaded → MatchResult result
-            (λ _. self.new.reply ≡ output loaded (numbered_lines queries.now true))
-            (λ _. self.new.reply ≡ []) }
+        ensures reply { IfOk result (λ _. (loaded : Loaded) → self.old.tree ≡ tree_of loaded
+            → self.new.reply ≡ output loaded (numbered_lines queries.now true)) }
         ensures bad { IfOk result (λ bad. bad ≡ any_fault (numbered_lines queries.now true)) }
+        ensures forgotten { IfErr result (λ _. self.new.reply ≡ []) }
         ensures tree { self.new.tree ≡ self.old.tree }
     {
         let room = mem::replace(&mut self.reply, Vec::new(alloc));

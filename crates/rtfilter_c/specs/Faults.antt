@@ -3,6 +3,8 @@ use Rattle.std.specs.Prelude.{◌≡◌, ℕ, List, Option, Some, None, Err}
 use Rattle.rt_command.specs.Choices.{Choices}
 use Rattle.rt_embed.specs.Columns.{Lists, table_of}
 use Rattle.rt_filter.specs.Runs.{loaded_of}
+use Rattle.rt_text.specs.declared.run_faults.RunFault.{RunFault}
+use Rattle.rt_text.specs.declared.run_faults.RunFault.TheVariants.{Table}
 use Rattle.rt_text.specs.declared.tables.Axis.TheVariants as axis
 use Rattle.rt_text.specs.declared.tables.TableFault.{TableFault}
 use Rattle.rt_text.specs.declared.tables.TableFault.TheVariants.{TooMany, FieldCount, NotNumber, OutOfRange, MinAboveMax, Repeated, Read, Memory}
@@ -32,3 +34,7 @@ ReportsFault choices table fault = (cause : TableFault) × (loaded_of choices ta
 abbrev pub ReportsColumnsFault : Choices → Lists → Fault → Type 0
 ReportsColumnsFault choices columns fault =
     (cause : TableFault) × (table_of choices.max_entries columns ≡ Err cause) × (numbers_of cause ≡ Some fault)
+
+-- a fault of a table, in numbers
+abbrev pub IsFaultInNumbers : RunFault → Fault → Type 0
+IsFaultInNumbers cause fault = (own : TableFault) × (cause ≡ Table own) × (numbers_of own ≡ Some fault)

@@ -1,9 +1,9 @@
 //! Opening, sharing and closing sessions.
 
-ghost use Rattle.std.specs.Prelude.{◌≡◌, ◌≢◌, ◌<◌, ◌↔◌, ◌⊎◌, false, None, Some, IfSome, IsSome};
+ghost use Rattle.std.specs.Prelude.{◌≡◌, ◌≢◌, ◌<◌, ◌↔◌, ◌⊎◌, false, None, Some, IfSome, IsErrAnd, IsOkAnd, IsSome};
 ghost use Rattle.rt_command.specs.Choices.{AreAllowed, Choices};
 ghost use Rattle.rt_embed.specs.Columns.{AreColumns};
-ghost use Rattle.rtfilter_c.specs.{Calls.{HoldsColumns, HoldsTable, columns_of, holds_new}, Faults.{ReportsColumnsFault, ReportsFault}};
+ghost use Rattle.rtfilter_c.specs.{Calls.{HoldsColumns, HoldsTable, columns_of, holds_new}, Faults.{IsFaultInNumbers, ReportsColumnsFault, ReportsFault}};
 
 use crate::codes::{BAD_SETTING, BAD_TABLE, NO_MEMORY, OK};
 use crate::fault::{Fault, numbers_of};
@@ -41,17 +41,7 @@ pub extern "C" fn rtfilter_engine_open_bytes(
     let Some(settings) = Settings::new(header, fanout, max_entries) else {
         return BAD_SETTING;
     };
-    match Session::open(alloc, &settings, table) {
-        Ok(session) => hold(alloc, out, session),
-        Err(RunFault::Table(cause)) => match numbers_of(cause) {
-            Some(numbers) => {
-                *fault = numbers;
-                BAD_TABLE
-            }
-            None => NO_MEMORY,
-        },
-        Err(_) => NO_MEMORY,
-    }
+    open(alloc, out, Session::open(alloc, &settings, table), fault)
 }
 
 /// Opens a session of a table in columns, which are equally long; layers may be none. Codes and fault as of
@@ -96,17 +86,12 @@ pub extern "C" fn rtfilter_engine_open_arrays(
         max_y,
         layers,
     };
-    match Session::of_columns(alloc, &settings, columns) {
-        Ok(session) => hold(alloc, out, session),
-        Err(RunFault::Table(cause)) => match numbers_of(cause) {
-            Some(numbers) => {
-                *fault = numbers;
-                BAD_TABLE
-            }
-            None => NO_MEMORY,
-        },
-        Err(_) => NO_MEMORY,
-    }
+    open(
+        alloc,
+        out,
+        Session::of_columns(alloc, &settings, columns),
+        fault,
+    )
 }
 
 /// Opens one more session of the same table: [`OK`] or [`NO_MEMORY`].
@@ -135,6 +120,28 @@ pub extern "C" fn rtfilter_engine_close(alloc: Global, session: &mut Handle)
     ensures closed { session.new.held ≡ None }
 {
     drop(session.take(alloc));
+}
+
+// Puts a session that was opened into a handle, or writes the fault of its table.
+fn open(alloc: Global, out: &mut Handle, opened: Result<Session, RunFault>, fault: &mut Fault) -> u8
+    requires closed { out.old.held ≡ None }
+    ensures opened { result ≡ OK → IsOkAnd opened (λ session. out.new.held ≡ Some session) }
+    ensures closed { OK < result → out.new.held ≡ None }
+    ensures fault { result ≡ BAD_TABLE → IsErrAnd opened (λ cause. IsFaultInNumbers cause fault.new) }
+    ensures no_fault { result ≢ BAD_TABLE → fault.new ≡ fault.old }
+    ensures codes { (result ≡ OK) ⊎ (result ≡ BAD_TABLE) ⊎ (result ≡ NO_MEMORY) }
+{
+    match opened {
+        Ok(session) => hold(alloc, out, session),
+        Err(RunFault::Table(cause)) => match numbers_of(cause) {
+            Some(numbers) => {
+                *fault = numbers;
+                BAD_TABLE
+            }
+            None => NO_MEMORY,
+        },
+        Err(_) => NO_MEMORY,
+    }
 }
 
 // Puts a session into a handle: `OK` or `NO_MEMORY`.

@@ -30,10 +30,7 @@ pub extern "C" fn rtfilter_engine_ask(
     let code = match held.ask(alloc, lines) {
         Ok(true) => FAULTY_LINE,
         Ok(false) => OK,
-        Err(_) => {
-            held.forget_reply(alloc);
-            NO_MEMORY
-        }
+        Err(_) => NO_MEMORY,
     };
     let reply = held.reply();
     copy_front(reply, room);

@@ -10,7 +10,7 @@ returns-in_err-entry-clause-fault c =
     let columns = lists_of c.args.columns in
     let bad : entries_upto columns (length columns.ids) ≡ Err c.in_err-entry.field-0.0 =
     upto_err columns c.loop-place.place (length columns.ids) c.loop-place.entries c.in_err-entry.field-0.0 c.loop-place-test.true
-        c.loop-place.invariant.entries (search rules) in
+    c.loop-place.invariant.entries (search rules) in
     rw bad (search rules)
 
 pub loop-place-preserved : goal.loop-place-preserved
