@@ -3,7 +3,8 @@
 
 The calls are those that CONTRIBUTING.md tells under "The way of a line", crate by crate, each called by the one before;
 a file in brackets has the calls before it. So are the calls of the second table, from the node's entries to the comparison
-of a box. Definitions that have to be believed are counted by tools/definitions.py.
+of a box, and those of the third, from an export of the library to the search. Definitions that have to be believed are counted
+by tools/definitions.py.
 
 Run from anywhere: `python3 tools/counts.py`. `--check` fails where one of these calls isn't called by the one before it,
 and where a line of a clause has more than 100 columns; its last line is `N passed, M failed`.
@@ -21,7 +22,8 @@ ROW = re.compile(r"^\| `(\w+)` \| (.*) \|$", re.MULTILINE)
 CALL_OR_FILE = re.compile(r"`([\w:]+)`|\(`(\w+\.rt)`\)")
 CLAUSE = re.compile(r" *(?:requires|ensures|ghost (?!use))")
 COLUMNS = 100
-FUNCTION = re.compile(r"^ *(?:pub(?:\(crate\))? )?(?:const )?fn \w", re.MULTILINE)
+HEAD = r"^( *)(?:pub(?:\(crate\))? )?(?:const |extern \"C\" )?fn "
+FUNCTION = re.compile(HEAD + r"\w", re.MULTILINE)
 
 
 def lines_of(crate, folder, pattern):
@@ -60,7 +62,7 @@ def body_of(crate, file, name):
     if owner:
         impls = re.findall(rf"^impl\b[^{{]*\b{owner}\b[^{{]* {{\n.*?^}}", text, re.MULTILINE | re.DOTALL)
         text = "\n".join(impls)
-    found = re.search(rf"^( *)(?:pub(?:\(crate\))? )?fn {function}\b.*?^\1}}", text, re.MULTILINE | re.DOTALL)
+    found = re.search(rf"{HEAD}{function}\b.*?^\1}}", text, re.MULTILINE | re.DOTALL)
     return found and found[0]
 
 
