@@ -1,5 +1,5 @@
 -- What the calls for queries in numbers give.
-use Rattle.std.specs.Prelude.{◌≡◌, ◌⊎◌, ◌<◌, ℕ, ◌==◌, if◌then◌else◌, List, All, IfSome, IsSome, Option, length, map, take}
+use Rattle.std.specs.Prelude.{◌≡◌, ◌⊎◌, ℕ, ◌==◌, if◌then◌else◌, List, All, IfSome, IsSome, Option, length, map, take}
 use Rattle.rt_embed.specs.{PlainQueries.{question_of}, Questions.{AsksNone, measured_of}, Sessions.{Contents}}
 use Rattle.rt_embed.specs.declared.finding.Found.{Found}
 use Rattle.rt_embed.specs.declared.finding.Stop.{Stop}
