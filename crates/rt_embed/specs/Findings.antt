@@ -1,10 +1,10 @@
 -- The answers to queries in numbers, in arrays.
-use Rattle.std.specs.Prelude.{◌≡◌, ◌<◌, ◌≤◌, ℕ, zero, suc, ℤ, ◌+◌, ◌%◌, ◌/◌, ◌^◌, List, [], ◌∷◌, ◌++◌, length, map, take, drop, flat_map, All, IsSome}
+use Rattle.std.specs.Prelude.{◌≡◌, ◌<◌, ◌≤◌, ℕ, zero, suc, ℤ, ◌+◌, ◌%◌, ◌/◌, ◌^◌, List, [], ◌∷◌, ◌++◌, length, map, take, drop, flat_map}
 use Rattle.std.specs.Option.{option_map_or}
 use Rattle.rt_geo.specs.declared.entry.Entry.{Entry}
 use Rattle.rt_search.specs.Answers.{Answer, answers}
 use Rattle.rt_filter.specs.Replies.{meaning_of}
-use Rattle.rt_embed.specs.{PlainQueries.{question_of}, Questions.{AsksNone}}
+use Rattle.rt_embed.specs.{PlainQueries.{question_of}, Questions.{AllAsk, AsksNone}}
 use Rattle.rt_embed.specs.declared.finding.Found.{Found}
 use Rattle.rt_embed.specs.declared.finding.Stop.{Stop}
 use Rattle.rt_embed.specs.declared.finding.Stop.TheVariants.{BadQuery, Complete, Full}
@@ -48,7 +48,8 @@ abbrev pub StopsFor : Stop → (entries : List Entry) (vertices : List Vertex) (
 StopsFor Complete entries vertices skip queries ids done found =
     (done ≡ length queries) × (found ≡ length (lists_of entries vertices skip queries))
 StopsFor Full entries vertices skip queries ids done found =
-    (found ≡ length ids) × (done < length queries) × (found < length (lists_of entries vertices skip (take (done + 1) queries)))
+    (found ≡ length ids) × (done < length queries) × (length (lists_of entries vertices skip (take done queries)) ≤ found)
+    × (found < length (lists_of entries vertices skip (take (done + 1) queries)))
 StopsFor BadQuery entries vertices skip queries ids done found =
     (found ≡ length (lists_of entries vertices skip (take done queries))) × AsksNone vertices queries done
 
@@ -60,5 +61,5 @@ pub record HasFound (entries : List Entry) (vertices : List Vertex) (skip : ℕ)
   pub ids_stand : Begins ids (map id_of (take result.found (lists_of entries vertices skip queries)))
   pub scores_stand : Begins scores (map score_of (take result.found (lists_of entries vertices skip queries)))
   pub ends_stand : Begins ends (ends_of entries vertices skip queries result.done)
-  pub asked : All (λ query. IsSome (question_of vertices query)) (take result.done queries)
+  pub asked : AllAsk vertices (take result.done queries)
   pub stop : StopsFor result.stop entries vertices skip queries ids result.done result.found

@@ -1,5 +1,5 @@
 -- What is measured of questions in numbers.
-use Rattle.std.specs.Prelude.{◌≡◌, ℕ, List, length, slice_get, None, Some}
+use Rattle.std.specs.Prelude.{◌≡◌, ℕ, List, All, IsSome, length, slice_get, None, Some}
 use Rattle.std.specs.Option.{option_map_or}
 use Rattle.rt_geo.specs.Orders.{by_id}
 use Rattle.rt_tree.specs.Packed.{Packed}
@@ -28,3 +28,7 @@ measured_of tree vertices measure query = option_map_or (measure_of tree measure
 abbrev pub AsksNone : (vertices : List Vertex) → List PlainQuery → (place : ℕ) → Type 0
 AsksNone vertices queries place =
     (query : PlainQuery) × (slice_get queries place ≡ Some query) × (question_of vertices query ≡ None)
+
+-- each of these queries asks a question
+abbrev pub AllAsk : (vertices : List Vertex) → List PlainQuery → Type 0
+AllAsk vertices queries = All (λ query. IsSome (question_of vertices query)) queries

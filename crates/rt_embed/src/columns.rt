@@ -26,7 +26,8 @@ pub(crate) fn table_of(alloc: Global, max: u32, columns: Columns<'_>) -> Result<
     requires columns { AreColumns (lists_of columns) }
     requires most { max ≤ most_entries }
     ensures table { IfOk result (λ table. table_of max (lists_of columns.entry) ≡ Ok table) }
-    ensures fault { IfErr result (λ cause. IsRefusalOf cause (table_of max (lists_of columns.entry))) }
+    ensures fault { IfErr result (λ cause.
+        IsRefusalOf cause (table_of max (lists_of columns.entry))) }
 {
     let len = columns.ids.len();
     if len > max as usize {

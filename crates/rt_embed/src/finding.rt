@@ -51,8 +51,8 @@ pub(crate) fn find_each(
     scores: &mut [Score],
 ) -> (Found, Frontier)
     requires capacity { length tree.now.entries ≤ frontier.capacity }
-    ensures found { HasFound tree.now.entries vertices.now skip queries.now ends.new ids.new scores.new
-        result.0 }
+    ensures found { HasFound tree.now.entries vertices.now skip queries.now
+        ends.new ids.new scores.new result.0 }
     ensures capacity { result.1.capacity ≡ frontier.capacity }
 {
     let mut frontier = frontier;
@@ -309,7 +309,8 @@ fn put_rest<'a, G: Geometry>(
     scores: &mut [Score],
 ) -> (Search<'a, G>, usize, bool)
     requires place { from ≤ length ids.old }
-    ensures put { IsPutBehind search.entry.to_come from result.1 result.2 ids.old ids.new scores.old scores.new }
+    ensures put { IsPutBehind search.entry.to_come from result.1 result.2
+        ids.old ids.new scores.old scores.new }
     ensures capacity { result.0.capacity ≡ search.entry.capacity }
 {
     let mut search = search;

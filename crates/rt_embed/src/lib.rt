@@ -1,4 +1,4 @@
-//! The engine in the memory of the program that asks.
+//! The engine in the memory of its caller.
 //!
 //! A [`Session`] has a loaded tree, which other sessions share, and a frontier and a reply of its own. [`Session::ask`] answers
 //! query lines with the text that the program writes for them; [`Session::find`] and [`Session::measure`] answer queries in

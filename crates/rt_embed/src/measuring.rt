@@ -1,7 +1,7 @@
 //! How many boxes a query in numbers asks for, and what it costs.
 
-ghost use Rattle.std.specs.Prelude.{◌≡◌, ◌<◌, ◌≤◌, All, IsSome, None, Some, length, map, min, slice_get, take};
-ghost use Rattle.rt_embed.specs.{PlainQueries.{question_of}, Questions.{AsksNone, measure_of, measured_of}};
+ghost use Rattle.std.specs.Prelude.{◌≡◌, ◌<◌, ◌≤◌, length, map, min, take};
+ghost use Rattle.rt_embed.specs.Questions.{AllAsk, AsksNone, measure_of, measured_of};
 ghost use Rattle.rt_filter.specs.{Replies.{meaning_of}, Reports.{scanned}};
 ghost use Rattle.rt_geo.specs.{Orders.{by_id, order_score}, Regions.{region_accepts}};
 ghost use Rattle.rt_search.specs.{Answers.{accepted}, Work.{opened_by_count, opened_by_search}};
@@ -25,7 +25,7 @@ pub(crate) fn measure_each(
     requires capacity { length tree.now.entries ≤ frontier.capacity }
     ensures measured { take result.0 measured.new
         ≡ map (measured_of tree.now vertices.now measure) (take result.0 queries.now) }
-    ensures asked { All (λ query. IsSome (question_of vertices.now query)) (take result.0 queries.now) }
+    ensures asked { AllAsk vertices.now (take result.0 queries.now) }
     ensures most { result.0 ≤ min (length queries.now) (length measured.old) }
     ensures stop { result.0 < min (length queries.now) (length measured.old)
         → AsksNone vertices.now queries.now result.0 }

@@ -1,4 +1,4 @@
-//! Questions in numbers.
+//! What a query asks for, and what is measured of it.
 
 use rt_geo::{Layers, Order, Region};
 
@@ -8,7 +8,7 @@ use rt_geo::{Layers, Order, Region};
 pub struct Question {
     /// Which boxes are asked for.
     pub region: Region,
-    /// On which layers, all of which are [`Layers::all`].
+    /// On which layers; [`Layers::all`] asks for each.
     pub layers: Layers,
     /// In which order.
     pub order: Order,

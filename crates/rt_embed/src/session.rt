@@ -1,9 +1,9 @@
 //! Sessions of a table.
 
-ghost use Rattle.std.specs.Prelude.{◌≡◌, ◌<◌, ◌≤◌, ℕ, List, [], All, IfOk, IfErr, IsSome, IsTrue, Some, length, map, min, take, true};
+ghost use Rattle.std.specs.Prelude.{◌≡◌, ◌<◌, ◌≤◌, ℕ, List, [], IfErr, IfOk, IsTrue, OnErr, Some, length, map, min, take, true};
 ghost use Rattle.rt_command.specs.Choices.{Choices};
 ghost use Rattle.rt_embed.specs.{Columns.{AreColumns, HasColumns, StopsAtColumns, lists_of}, Findings.{HasFound}};
-ghost use Rattle.rt_embed.specs.{PlainQueries.{question_of}, Questions.{AsksNone, measured_of}, Sessions.{IsRunOf}};
+ghost use Rattle.rt_embed.specs.{Questions.{AllAsk, AsksNone, measured_of}, Sessions.{IsRunOf}};
 ghost use Rattle.rt_filter.specs.{Lines.{numbered_lines}, Stages.{HasLoaded, Stops, is_of_load}};
 ghost use Rattle.rt_filter.specs.Replies.{Loaded, any_fault, output, tree_of};
 
@@ -48,7 +48,7 @@ impl Model for Session {
 
 impl Session {
     /// The first session of a table that bytes give under settings, or why there is none: a fault of the table, with its
-    /// record and field, or that no memory was left.
+    /// record and field, a failed read, which bytes in memory don't give, or that no memory was left.
     pub fn open(alloc: Global, settings: &Settings, table: &[u8]) -> Result<Session, RunFault>
         ensures loaded { IfOk result (λ session. HasLoaded settings.now table.now session.tree) }
         ensures reply { IfOk result (λ session. session.reply ≡ []) }
@@ -65,16 +65,18 @@ impl Session {
         }
     }
 
-    /// The first session of a table in columns, packed under the settings, whose header means nothing here; or why there is none.
+    /// The first session of a table in columns, packed under the settings, whose header isn't used; or why there is none.
     pub fn of_columns(
         alloc: Global,
         settings: &Settings,
         columns: Columns<'_>,
     ) -> Result<Session, RunFault>
         requires columns { AreColumns (lists_of columns) }
-        ensures loaded { IfOk result (λ session. HasColumns settings.now (lists_of columns.entry) session.tree) }
+        ensures loaded { IfOk result (λ session.
+            HasColumns settings.now (lists_of columns.entry) session.tree) }
         ensures reply { IfOk result (λ session. session.reply ≡ []) }
-        ensures fault { IfErr result (λ fault. StopsAtColumns settings.now (lists_of columns.entry) fault) }
+        ensures fault { IfErr result (λ fault.
+            StopsAtColumns settings.now (lists_of columns.entry) fault) }
     {
         let table = table_of(alloc, settings.max_entries(), columns)?;
         let tree = Tree::pack(alloc, table, settings.fanout())?;
@@ -132,7 +134,7 @@ impl Session {
 
     /// Finds the answers to queries, one list behind the other, but for the first `skip` of them all. Each id goes to `ids`, and
     /// its score to `scores`; where the list of each query ends goes to `ends`. What has no place in `ends` or `scores` is left
-    /// out, and where `ids` is full the search ends.
+    /// out. Where the next answer has no place in `ids` the search ends.
     pub fn find(
         &mut self,
         alloc: Global,
@@ -145,6 +147,8 @@ impl Session {
     ) -> Result<Found, AllocError>
         ensures found { IfOk result (λ found. HasFound self.old.tree.entries vertices.now skip
             queries.now ends.new ids.new scores.new found) }
+        ensures untouched { OnErr result ((ends.new ≡ ends.old) × (ids.new ≡ ids.old)
+            × (scores.new ≡ scores.old)) }
         ensures same { self.new ≡ self.old }
     {
         let frontier = self.take_frontier(alloc)?;
@@ -167,11 +171,11 @@ impl Session {
     ) -> Result<usize, AllocError>
         ensures measured { IfOk result (λ n. take n measured.new
             ≡ map (measured_of self.old.tree vertices.now measure) (take n queries.now)) }
-        ensures asked { IfOk result (λ n.
-            All (λ query. IsSome (question_of vertices.now query)) (take n queries.now)) }
+        ensures asked { IfOk result (λ n. AllAsk vertices.now (take n queries.now)) }
         ensures most { IfOk result (λ n. n ≤ min (length queries.now) (length measured.old)) }
         ensures stop { IfOk result (λ n. n < min (length queries.now) (length measured.old)
             → AsksNone vertices.now queries.now n) }
+        ensures untouched { OnErr result (measured.new ≡ measured.old) }
         ensures same { self.new ≡ self.old }
     {
         let frontier = self.take_frontier(alloc)?;

@@ -21,7 +21,8 @@ pub struct Summary {
 /// The summary of a tree.
 pub fn summary_of(tree: &Tree) -> Summary
     ensures boxes { result.boxes ≡ length tree.now.entries }
-    ensures levels { result.levels ≡ length (level_sizes (length tree.now.entries) tree.now.fanout) }
+    ensures levels { let sizes = level_sizes (length tree.now.entries) tree.now.fanout in
+        result.levels ≡ length sizes }
     ensures bounds { result.bounds ≡ reduce hull (map (λ e. e.bounds) tree.now.entries) }
 {
     Summary {
@@ -45,7 +46,8 @@ fn hull_of_boxes(tree: &Tree) -> Option<Bounds>
 /// Writes how many boxes or nodes each level has, from the boxes up, as many as have room, and zeros into the rest.
 pub fn copy_level_sizes(tree: &Tree, sizes: &mut [u32])
     ensures sizes { let levels = level_sizes (length tree.now.entries) tree.now.fanout in
-        (level : ℕ) → level < length sizes.new → slice_get sizes.new level ≡ Some (get_or levels level 0) }
+        (level : ℕ) → level < length sizes.new
+        → slice_get sizes.new level ≡ Some (get_or levels level 0) }
     ensures len { length sizes.new ≡ length sizes.old }
 {
     let mut level: usize = 0;

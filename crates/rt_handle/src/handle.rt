@@ -16,7 +16,7 @@ pub struct Opaque {
     byte: u8,
 }
 
-/// A pointer to a boxed session, or null. C has it as a struct of one pointer, and the code behind the exports as what is held.
+/// A pointer to a boxed session, or null: in C a struct of one pointer.
 ///
 /// Dropping a handle doesn't free the session: [`Handle::take`] takes it out first.
 #[repr(C)]

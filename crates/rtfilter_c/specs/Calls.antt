@@ -3,7 +3,7 @@ use Rattle.std.specs.Prelude.{◌≡◌, ◌==◌, ◌++◌, ℕ, List, [], Opti
 use Rattle.std.specs.Option.{IsSomeAnd}
 use Rattle.rt_command.specs.Choices.{Choices}
 use Rattle.rt_embed.specs.{Columns.{HasColumns, Lists}, Sessions.{Contents, IsRunOf}}
-use Rattle.rt_filter.specs.{Lines.{numbered_lines}, Replies.{Loaded, output, tree_of}, Stages.{HasLoaded}}
+use Rattle.rt_filter.specs.{Lines.{numbered_lines}, Replies.{Loaded, any_fault, output, tree_of}, Stages.{HasLoaded}}
 use Rattle.rt_tree.specs.Packed.{Packed}
 
 -- a session of a tree, with nothing replied
@@ -18,11 +18,13 @@ HoldsTable choices table held = IsSomeAnd held (λ session. HasLoaded choices ta
 abbrev pub HoldsSame : (old new : Option Contents) → Type 0
 HoldsSame old new = IfSome old (λ before. IsSomeAnd new (λ after. after.tree ≡ before.tree))
 
--- the reply to these lines is held: the replies to them over any entries whose packed tree this is; and of whatever table the
--- tree is, what a run of the program over that table and these lines writes, and the code is that run's status
+-- the reply to these lines is held: the replies to them over any entries whose packed tree this is, and the code says whether
+-- some line is faulty; and of whatever table the tree is, what a run of the program over that table and these lines writes, and
+-- the code is that run's status
 abbrev pub HoldsRun : (old : Option Contents) → (lines : List ℕ) → (code : ℕ) → (new : Option Contents) → Type 0
 HoldsRun old lines code new = IfSome old (λ before. IsSomeAnd new (λ after.
     ((loaded : Loaded) → before.tree ≡ tree_of loaded → after.reply ≡ output loaded (numbered_lines lines true))
+    × ((code == 1) ≡ any_fault (numbered_lines lines true))
     × ((choices : Choices) (table : List ℕ) → HasLoaded choices table before.tree
     → IsRunOf choices table lines after.reply (code == 1))))
 

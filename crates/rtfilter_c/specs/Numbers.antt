@@ -1,6 +1,6 @@
 -- What the calls for queries in numbers give.
-use Rattle.std.specs.Prelude.{◌≡◌, ◌⊎◌, ℕ, ◌==◌, if◌then◌else◌, List, All, IfSome, IsSome, Option, length, map, take}
-use Rattle.rt_embed.specs.{PlainQueries.{question_of}, Questions.{AsksNone, measured_of}, Sessions.{Contents}}
+use Rattle.std.specs.Prelude.{◌≡◌, ◌⊎◌, ℕ, ◌==◌, if◌then◌else◌, List, IfSome, Option, length, map, take}
+use Rattle.rt_embed.specs.{Questions.{AllAsk, AsksNone, measured_of}, Sessions.{Contents}}
 use Rattle.rt_embed.specs.declared.finding.Found.{Found}
 use Rattle.rt_embed.specs.declared.finding.Stop.{Stop}
 use Rattle.rt_embed.specs.declared.finding.Stop.TheVariants.{BadQuery, Complete, Full}
@@ -21,11 +21,12 @@ finds progress stop = record { done = progress.done; found = progress.found; sto
 pub record MeasuredSo (session : Contents) (measure : Measure) (vertices : List Vertex) (queries : List PlainQuery)
     (code done : ℕ) (measured : List ℕ) : Type 0 where
   pub values : take done measured ≡ map (measured_of session.tree vertices measure) (take done queries)
-  pub asked : All (λ query. IsSome (question_of vertices query)) (take done queries)
+  pub asked : AllAsk vertices (take done queries)
   pub why : ((code ≡ 0) × (done ≡ length queries)) ⊎ ((code ≡ 7) × AsksNone vertices queries done)
 
--- the same of the session that is held, or the code 6 says that no memory was left
+-- the same of the session that is held; or the code 6 says that no memory was left, and nothing is written
 abbrev pub HasMeasured : (held : Option Contents) → Measure → (vertices : List Vertex) → (queries : List PlainQuery)
-    → (code done : ℕ) → (measured : List ℕ) → Type 0
-HasMeasured held measure vertices queries code done measured =
-    (code ≡ 6) ⊎ IfSome held (λ session. MeasuredSo session measure vertices queries code done measured)
+    → (code old_done new_done : ℕ) → (old new : List ℕ) → Type 0
+HasMeasured held measure vertices queries code old_done new_done old new =
+    ((code ≡ 6) × (new_done ≡ old_done) × (new ≡ old))
+    ⊎ IfSome held (λ session. MeasuredSo session measure vertices queries code new_done new)

@@ -34,12 +34,14 @@ pub extern "C" fn rtfilter_engine_find(
     ensures found { result ≢ NO_MEMORY → IfSome session.old.held (λ held.
         HasFound held.tree.entries vertices.now skip queries.now ends.new ids.new scores.new
         (finds progress.new (stop_of result))) }
+    ensures untouched { result ≡ NO_MEMORY → (progress.new ≡ progress.old)
+        × (ends.new ≡ ends.old) × (ids.new ≡ ids.old) × (scores.new ≡ scores.old) }
     ensures same { session.new.held ≡ session.old.held }
     ensures codes { (result ≡ OK) ⊎ (result ≡ FULL) ⊎ (result ≡ BAD_QUERY) ⊎ (result ≡ NO_MEMORY) }
 {
-    let mut asked = session.take(alloc);
-    let answered = asked.find(alloc, queries, vertices, skip, ends, ids, scores);
-    session.put(asked);
+    let mut held = session.take(alloc);
+    let answered = held.find(alloc, queries, vertices, skip, ends, ids, scores);
+    session.put(held);
     match answered {
         Ok(found) => {
             *progress = Progress {
@@ -76,8 +78,9 @@ pub extern "C" fn rtfilter_engine_count(
     done: &mut usize,
 ) -> u8
     requires open { IsSome session.old.held }
-    requires room { length counts.old ≡ length queries.now }
-    ensures measured { HasMeasured session.old.held Measure.Count vertices.now queries.now result done.new counts.new }
+    requires places { length counts.old ≡ length queries.now }
+    ensures measured { HasMeasured session.old.held Measure.Count vertices.now queries.now
+        result done.old done.new counts.old counts.new }
     ensures same { session.new.held ≡ session.old.held }
 {
     measure(
@@ -102,8 +105,9 @@ pub extern "C" fn rtfilter_engine_cost_of_find(
     done: &mut usize,
 ) -> u8
     requires open { IsSome session.old.held }
-    requires room { length opened.old ≡ length queries.now }
-    ensures measured { HasMeasured session.old.held Measure.CostOfFind vertices.now queries.now result done.new opened.new }
+    requires places { length opened.old ≡ length queries.now }
+    ensures measured { HasMeasured session.old.held Measure.CostOfFind vertices.now queries.now
+        result done.old done.new opened.old opened.new }
     ensures same { session.new.held ≡ session.old.held }
 {
     measure(
@@ -128,8 +132,9 @@ pub extern "C" fn rtfilter_engine_cost_of_count(
     done: &mut usize,
 ) -> u8
     requires open { IsSome session.old.held }
-    requires room { length opened.old ≡ length queries.now }
-    ensures measured { HasMeasured session.old.held Measure.CostOfCount vertices.now queries.now result done.new opened.new }
+    requires places { length opened.old ≡ length queries.now }
+    ensures measured { HasMeasured session.old.held Measure.CostOfCount vertices.now queries.now
+        result done.old done.new opened.old opened.new }
     ensures same { session.new.held ≡ session.old.held }
 {
     measure(
@@ -154,13 +159,14 @@ fn measure(
     done: &mut usize,
 ) -> u8
     requires open { IsSome session.old.held }
-    requires room { length measured.old ≡ length queries.now }
-    ensures measured { HasMeasured session.old.held measure vertices.now queries.now result done.new measured.new }
+    requires places { length measured.old ≡ length queries.now }
+    ensures measured { HasMeasured session.old.held measure vertices.now queries.now
+        result done.old done.new measured.old measured.new }
     ensures same { session.new.held ≡ session.old.held }
 {
-    let mut asked = session.take(alloc);
-    let answered = asked.measure(alloc, measure, queries, vertices, measured);
-    session.put(asked);
+    let mut held = session.take(alloc);
+    let answered = held.measure(alloc, measure, queries, vertices, measured);
+    session.put(held);
     match answered {
         Ok(many) => {
             *done = many;

@@ -36,7 +36,8 @@ pub extern "C" fn rtfilter_engine_open_bytes(
         record { header = header; fanout = fanout; max_entries = max_entries } in
         result ≡ BAD_TABLE → ReportsFault choices table.now fault.new }
     ensures no_fault { result ≢ BAD_TABLE → fault.new ≡ fault.old }
-    ensures codes { (result ≡ OK) ⊎ (result ≡ BAD_SETTING) ⊎ (result ≡ BAD_TABLE) ⊎ (result ≡ NO_MEMORY) }
+    ensures codes { (result ≡ OK) ⊎ (result ≡ BAD_SETTING)
+        ⊎ (result ≡ BAD_TABLE) ⊎ (result ≡ NO_MEMORY) }
 {
     let Some(settings) = Settings::new(header, fanout, max_entries) else {
         return BAD_SETTING;
@@ -61,19 +62,23 @@ pub extern "C" fn rtfilter_engine_open_arrays(
     fault: &mut Fault,
 ) -> u8
     requires closed { out.old.held ≡ None }
-    requires columns { AreColumns (columns_of ids.now min_x.now max_x.now min_y.now max_y.now layers.now) }
+    requires len { let columns = columns_of ids.now min_x.now max_x.now min_y.now max_y.now layers.now in
+        AreColumns columns }
     ensures opened { let choices : Choices =
         record { header = false; fanout = fanout; max_entries = max_entries } in
-        result ≡ OK → HoldsColumns choices (columns_of ids.now min_x.now max_x.now min_y.now max_y.now layers.now) out.new.held }
+        let columns = columns_of ids.now min_x.now max_x.now min_y.now max_y.now layers.now in
+        result ≡ OK → HoldsColumns choices columns out.new.held }
     ensures closed { OK < result → out.new.held ≡ None }
     ensures setting { let choices : Choices =
         record { header = false; fanout = fanout; max_entries = max_entries } in
         (result ≡ BAD_SETTING) ↔ (AreAllowed choices → ⊥) }
     ensures fault { let choices : Choices =
         record { header = false; fanout = fanout; max_entries = max_entries } in
-        result ≡ BAD_TABLE → ReportsColumnsFault choices (columns_of ids.now min_x.now max_x.now min_y.now max_y.now layers.now) fault.new }
+        let columns = columns_of ids.now min_x.now max_x.now min_y.now max_y.now layers.now in
+        result ≡ BAD_TABLE → ReportsColumnsFault choices columns fault.new }
     ensures no_fault { result ≢ BAD_TABLE → fault.new ≡ fault.old }
-    ensures codes { (result ≡ OK) ⊎ (result ≡ BAD_SETTING) ⊎ (result ≡ BAD_TABLE) ⊎ (result ≡ NO_MEMORY) }
+    ensures codes { (result ≡ OK) ⊎ (result ≡ BAD_SETTING)
+        ⊎ (result ≡ BAD_TABLE) ⊎ (result ≡ NO_MEMORY) }
 {
     let Some(settings) = Settings::new(false, fanout, max_entries) else {
         return BAD_SETTING;
@@ -99,7 +104,8 @@ pub extern "C" fn rtfilter_engine_open_arrays(
 pub extern "C" fn rtfilter_engine_share(alloc: Global, of: &mut Handle, out: &mut Handle) -> u8
     requires open { IsSome of.old.held }
     requires closed { out.old.held ≡ None }
-    ensures opened { result ≡ OK → IfSome of.old.held (λ session. out.new.held ≡ holds_new session.tree) }
+    ensures opened { result ≡ OK
+        → IfSome of.old.held (λ session. out.new.held ≡ holds_new session.tree) }
     ensures closed { OK < result → out.new.held ≡ None }
     ensures same { of.new.held ≡ of.old.held }
     ensures codes { (result ≡ OK) ⊎ (result ≡ NO_MEMORY) }
@@ -127,7 +133,8 @@ fn open(alloc: Global, out: &mut Handle, opened: Result<Session, RunFault>, faul
     requires closed { out.old.held ≡ None }
     ensures opened { result ≡ OK → IsOkAnd opened (λ session. out.new.held ≡ Some session) }
     ensures closed { OK < result → out.new.held ≡ None }
-    ensures fault { result ≡ BAD_TABLE → IsErrAnd opened (λ cause. IsFaultInNumbers cause fault.new) }
+    ensures fault { result ≡ BAD_TABLE
+        → IsErrAnd opened (λ cause. IsFaultInNumbers cause fault.new) }
     ensures no_fault { result ≢ BAD_TABLE → fault.new ≡ fault.old }
     ensures codes { (result ≡ OK) ⊎ (result ≡ BAD_TABLE) ⊎ (result ≡ NO_MEMORY) }
 {

@@ -73,7 +73,7 @@ returns-then-not-position-clause-found c =
           (put.scores_stand first (sym kept.end) kept.scores_stand);
       ends_stand = kept.ends_stand;
       asked = kept.asked;
-      stop = (omega (arith, cut.0, put.ids_len), inside, omega (arith, long, cut.1));
+      stop = (omega (arith, cut.0, put.ids_len), inside, omega (arith, kept.end, put.behind), omega (arith, long, cut.1));
     })
 
 -- the list of the next query is whole
