@@ -316,11 +316,13 @@ static inline rtfilter_query rtfilter_nearest(int32_t x, int32_t y, uint64_t k)
  * no queries are left. */
 static inline void rtfilter_continue(rtfilter_queries *queries, size_t *skip, const rtfilter_answers *answers)
 {
-    if (answers->done == 0) {
+    const size_t end = answers->done && answers->ends ? answers->ends[answers->done - 1] : 0;
+    if (answers->done < queries->len && end == 0 && *skip > 0) {
+        /* All that is complete was skipped, and perhaps a part of the next query's answers. */
         *skip += answers->found;
         return;
     }
-    *skip = answers->ends ? answers->found - answers->ends[answers->done - 1] : 0;
+    *skip = answers->done < queries->len ? answers->found - end : 0;
     queries->queries += answers->done;
     queries->len -= answers->done;
 }

@@ -246,7 +246,8 @@ int rtfilter_find(rtfilter_session *session, const rtfilter_queries *queries, si
 }
 
 /* One of the engine's measures of each query. */
-static int measure(rtfilter_session *session, rtfilter_engine_measure *of_engine, const rtfilter_queries *queries, uint64_t *measured, size_t *done)
+static int measure(rtfilter_session *session, rtfilter_engine_measure *engine_measure, const rtfilter_queries *queries,
+                   uint64_t *measured, size_t *done)
 {
     size_t ignored;
     if (!is_open(session) || !are_there(queries) || !has(measured, queries->len))
@@ -254,8 +255,8 @@ static int measure(rtfilter_session *session, rtfilter_engine_measure *of_engine
     if (!done)
         done = &ignored;
     *done = 0;
-    return of_engine(session, SLICE(queries->queries), queries->len, SLICE(queries->vertices),
-                                   queries->vertex_len, SLICE(measured), queries->len, done);
+    return engine_measure(session, SLICE(queries->queries), queries->len, SLICE(queries->vertices), queries->vertex_len,
+                          SLICE(measured), queries->len, done);
 }
 
 int rtfilter_count(rtfilter_session *session, const rtfilter_queries *queries, uint64_t *counts, size_t *done)

@@ -6,7 +6,8 @@ usage: tests/library.py ARCHIVE PROGRAM [--only WORD]..
 The library is built and installed in a folder of its own. The programs of tests/library/ make each call and meet each code, as
 they are and by the sanitizers and valgrind; answers in lines and in numbers are compared with what the program prints; the
 wrappers of bindings/ and the example are built over what is installed. What wants a tool that isn't here is skipped and named.
-With --only, checks are made whose name has one of these words. The last line is `N passed, M failed`. With TIMES in the environment, each check's time is told.
+With --only, checks are made whose name has one of these words. With TIMES in the environment, the time of each check is printed.
+The last line is `N passed, M failed`.
 """
 
 import argparse

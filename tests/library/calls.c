@@ -335,6 +335,23 @@ static void pieces(rtfilter_session *session)
         EXPECT(taken == LEN(whole) && first == 3 && rest.len == 0);
     }
 
+    /* The same where the first call leaves some out. */
+    for (size_t left_out = 0; left_out <= LEN(whole) + 1; left_out++)
+        for (size_t capacity = 1; capacity <= LEN(whole) + 1; capacity++) {
+            int64_t ids[LEN(whole) + 1];
+            size_t ends[3], skip = left_out, taken = left_out < LEN(whole) ? left_out : LEN(whole);
+            rtfilter_queries rest = {three, 3, NULL, 0};
+            for (int code = RTFILTER_FULL; code == RTFILTER_FULL;) {
+                rtfilter_answers answers = {ids, NULL, capacity, ends, 9, 9};
+                code = rtfilter_find(session, &rest, skip, &answers);
+                EXPECT(code == RTFILTER_OK || (code == RTFILTER_FULL && answers.found == capacity));
+                EXPECT(memcmp(ids, whole + taken, answers.found * sizeof *ids) == 0);
+                taken += answers.found;
+                rtfilter_continue(&rest, &skip, &answers);
+            }
+            EXPECT(taken == LEN(whole) && rest.len == 0);
+        }
+
     /* Some are left out, and one query needs no ends. */
     for (size_t skip = 0; skip <= LEN(whole) + 1; skip++) {
         int64_t ids[LEN(whole)];

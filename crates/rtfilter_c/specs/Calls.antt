@@ -45,8 +45,8 @@ abbrev pub copied : (bytes room : List ℕ) → List ℕ
 copied bytes room = take (length room) bytes ++ drop (length bytes) room
 
 -- the columns that these arrays are
-abbrev pub columns_of : (ids min_x max_x min_y max_y : List ℤ) → (layers : List ℕ) → Lists
-columns_of ids min_x max_x min_y max_y layers =
+abbrev pub arrays : (ids min_x max_x min_y max_y : List ℤ) → (layers : List ℕ) → Lists
+arrays ids min_x max_x min_y max_y layers =
     record { ids = ids; min_x = min_x; max_x = max_x; min_y = min_y; max_y = max_y; layers = layers }
 
 -- a session of the table in columns is held, with nothing replied

@@ -3,7 +3,7 @@
 ghost use Rattle.std.specs.Prelude.{◌≡◌, ◌≢◌, ◌<◌, ◌↔◌, ◌⊎◌, false, None, Some, IfSome, IsErrAnd, IsOkAnd, IsSome};
 ghost use Rattle.rt_command.specs.Choices.{AreAllowed, Choices};
 ghost use Rattle.rt_embed.specs.Columns.{AreColumns};
-ghost use Rattle.rtfilter_c.specs.{Calls.{HoldsColumns, HoldsTable, columns_of, holds_new}, Faults.{IsFaultInNumbers, ReportsColumnsFault, ReportsFault}};
+ghost use Rattle.rtfilter_c.specs.{Calls.{HoldsColumns, HoldsTable, arrays, holds_new}, Faults.{IsFaultInNumbers, ReportsColumnsFault, ReportsFault}};
 
 use crate::codes::{BAD_SETTING, BAD_TABLE, NO_MEMORY, OK};
 use crate::fault::{Fault, numbers_of};
@@ -62,11 +62,11 @@ pub extern "C" fn rtfilter_engine_open_arrays(
     fault: &mut Fault,
 ) -> u8
     requires closed { out.old.held ≡ None }
-    requires len { let columns = columns_of ids.now min_x.now max_x.now min_y.now max_y.now layers.now in
-        AreColumns columns }
+    requires len { AreColumns
+        (arrays ids.now min_x.now max_x.now min_y.now max_y.now layers.now) }
     ensures opened { let choices : Choices =
         record { header = false; fanout = fanout; max_entries = max_entries } in
-        let columns = columns_of ids.now min_x.now max_x.now min_y.now max_y.now layers.now in
+        let columns = arrays ids.now min_x.now max_x.now min_y.now max_y.now layers.now in
         result ≡ OK → HoldsColumns choices columns out.new.held }
     ensures closed { OK < result → out.new.held ≡ None }
     ensures setting { let choices : Choices =
@@ -74,7 +74,7 @@ pub extern "C" fn rtfilter_engine_open_arrays(
         (result ≡ BAD_SETTING) ↔ (AreAllowed choices → ⊥) }
     ensures fault { let choices : Choices =
         record { header = false; fanout = fanout; max_entries = max_entries } in
-        let columns = columns_of ids.now min_x.now max_x.now min_y.now max_y.now layers.now in
+        let columns = arrays ids.now min_x.now max_x.now min_y.now max_y.now layers.now in
         result ≡ BAD_TABLE → ReportsColumnsFault choices columns fault.new }
     ensures no_fault { result ≢ BAD_TABLE → fault.new ≡ fault.old }
     ensures codes { (result ≡ OK) ⊎ (result ≡ BAD_SETTING)
