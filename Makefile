@@ -55,13 +55,13 @@ $(OUT)/rtfilter.o: library/rtfilter.c library/engine.h include/rtfilter.h
 	@mkdir -p $(OUT)
 	@$(CC) -std=c11 -O2 -Wall -Wextra -Wpedantic -fPIC -Iinclude $(CPPFLAGS) $(CFLAGS) -c -o $@ $<
 
-$(OUT)/librtfilter.so.1: $(LIBRTFILTER) library/rtfilter.map
+$(OUT)/librtfilter.so.0: $(LIBRTFILTER) library/rtfilter.map
 	@mkdir -p $(OUT)
-	@$(CC) -shared -Wl,-soname,librtfilter.so.1 -Wl,--version-script=library/rtfilter.map -Wl,--gc-sections,-z,defs,-z,now \
+	@$(CC) -shared -Wl,-soname,librtfilter.so.0 -Wl,--version-script=library/rtfilter.map -Wl,--gc-sections,-z,defs,-z,now \
 	  $(LDFLAGS) -o $@ -Wl,--whole-archive $(LIBRTFILTER) -Wl,--no-whole-archive $(LDLIBS)
 
-$(OUT)/librtfilter.so: $(OUT)/librtfilter.so.1
-	@ln -sf librtfilter.so.1 $@
+$(OUT)/librtfilter.so: $(OUT)/librtfilter.so.0
+	@ln -sf librtfilter.so.0 $@
 
 # In one step, since some may build it at once.
 build/rtfilter-prefork.so: service/prefork.c
@@ -136,7 +136,7 @@ INSTANCE := s|rtfilter\.socket|rtfilter@%i.socket|; s|/boxes\.csv|/%i.csv|; s|/r
   s|/rtfilter-service$$|&-%i|; s|^Description=.*|& of %i|
 
 # The library where it is built: make library install.
-INSTALLED_LIBRARY := $(if $(or $(filter library,$(MAKECMDGOALS)),$(wildcard $(OUT)/librtfilter.so.1)),library)
+INSTALLED_LIBRARY := $(if $(or $(filter library,$(MAKECMDGOALS)),$(wildcard $(OUT)/librtfilter.so.0)),library)
 
 # The service too, where there is a C compiler.
 install: $(PROGRAM) $(PREFORK) $(INSTALLED_LIBRARY)
@@ -160,8 +160,8 @@ endif
 install-library: library
 	install -d "$(DESTDIR)$(LIBDIR)/pkgconfig" "$(DESTDIR)$(PREFIX)/include"
 	install -m 644 include/rtfilter.h include/rtfilter.hpp "$(DESTDIR)$(PREFIX)/include"
-	install -m 644 $(OUT)/librtfilter.so.1 $(LIBRTFILTER) "$(DESTDIR)$(LIBDIR)"
-	ln -sf librtfilter.so.1 "$(DESTDIR)$(LIBDIR)/librtfilter.so"
+	install -m 644 $(OUT)/librtfilter.so.0 $(LIBRTFILTER) "$(DESTDIR)$(LIBDIR)"
+	ln -sf librtfilter.so.0 "$(DESTDIR)$(LIBDIR)/librtfilter.so"
 	$(PKG_CONFIG_FILE) > "$(DESTDIR)$(LIBDIR)/pkgconfig/rtfilter.pc"
 
 uninstall:
@@ -169,7 +169,7 @@ uninstall:
 	rm -f "$(SHARE)/man/man1/rtfilter.1" "$(SHARE)/man/man1/rtfilter-serve.1"
 	rm -f "$(DESTDIR)$(PREFIX)/bin/rtfilter-serve" $(foreach it,.service .socket @.service @.socket,"$(UNITS)/rtfilter$(it)")
 	rm -rf "$(SERVING)"
-	rm -f $(foreach it,.so .so.1 .a,"$(DESTDIR)$(LIBDIR)/librtfilter$(it)") "$(DESTDIR)$(LIBDIR)/pkgconfig/rtfilter.pc"
+	rm -f $(foreach it,.so .so.0 .a,"$(DESTDIR)$(LIBDIR)/librtfilter$(it)") "$(DESTDIR)$(LIBDIR)/pkgconfig/rtfilter.pc"
 	rm -f $(foreach it,h hpp,"$(DESTDIR)$(PREFIX)/include/rtfilter.$(it)")
 
 clean:

@@ -4,7 +4,7 @@
 usage: packaging/make_packages.py PROGRAM LIBRARY FOLDER
 
 LIBRARY is librtfilter.a, of which the shared one is made. Writes the packages to the folder and prints their names: `rtfilter`
-with the program and the library of the service, `librtfilter1` and `librtfilter-dev`, the debug symbols of both,
+with the program and the library of the service, `librtfilter0` and `librtfilter-dev`, the debug symbols of both,
 `python3-rtfilter` and `rtfilter-service`. The version is that of VERSION, the changes and their dates are those
 of CHANGELOG.md. The same files make the same bytes. It wants debhelper, dpkg-dev and gcc of Debian 12.
 """

@@ -272,7 +272,7 @@ class Checks:
         environment = {**os.environ, "MAKEFLAGS": ""}
         run("make", "--no-print-directory", "-C", ROOT, "install-library", f"ARCHIVE={archive}", f"OUT={self.out}",
             f"PREFIX={self.prefix}", env=environment)  # fmt: skip
-        self.library = ctypes.CDLL(str(self.prefix / "lib/librtfilter.so.1"))
+        self.library = ctypes.CDLL(str(self.prefix / "lib/librtfilter.so.0"))
         shutil.copy(ROOT / "examples/data/boxes.csv", folder)
 
     def built(self, name, *flags, compiler="cc", standard="c11", static=False):
@@ -309,12 +309,12 @@ class Checks:
     def check_names(self):
         """It has the public names of its header, and no other; it needs the C library alone, and no text of it is written to."""
         wants("nm", "readelf")
-        library = self.prefix / "lib/librtfilter.so.1"
+        library = self.prefix / "lib/librtfilter.so.0"
         declared = set(re.findall(r"^(?:int|void|const char \*) ?\*?(rtfilter_\w+)\(", HEADER, re.MULTILINE))
         exported = {line.split()[-1] for line in run("nm", "-D", "--defined-only", library).splitlines()}
-        same(exported, {f"{name}@@RTFILTER_1" for name in declared} | {"RTFILTER_1"})
+        same(exported, {f"{name}@@RTFILTER_0" for name in declared} | {"RTFILTER_0"})
         about = run("readelf", "--dynamic", library)
-        same(re.findall(r"SONAME.*\[(.*)\]", about), ["librtfilter.so.1"])
+        same(re.findall(r"SONAME.*\[(.*)\]", about), ["librtfilter.so.0"])
         same("TEXTREL" in about, False)
         if not self.libraries:
             same(re.findall(r"NEEDED.*\[(.*)\]", about), ["libc.so.6"])

@@ -30,7 +30,7 @@ FILES = {  # beside each package's own documents
         "usr/share/bash-completion/completions/rtfilter": 0o644,
         "usr/share/man/man1/rtfilter.1.gz": 0o644,
     },
-    "librtfilter1": {f"{LIBRARIES}/librtfilter.so.1": 0o644},
+    "librtfilter0": {f"{LIBRARIES}/librtfilter.so.0": 0o644},
     "librtfilter-dev": {
         f"{LIBRARIES}/librtfilter.a": 0o644,
         f"{LIBRARIES}/pkgconfig/rtfilter.pc": 0o644,
@@ -130,7 +130,7 @@ class Packages(unittest.TestCase):
             program = shutil.copyfile(PROGRAM, Path(folder, "program"))
             library = shutil.copyfile(LIBRARY, Path(folder, "library"))
             made = run(sys.executable, MAKE, program, library, folder, cwd=folder, umask=0o077).split()
-            names = ("librtfilter-dev", "librtfilter1-dbgsym", "librtfilter1", "python3-rtfilter", "rtfilter-dbgsym",
+            names = ("librtfilter-dev", "librtfilter0-dbgsym", "librtfilter0", "python3-rtfilter", "rtfilter-dbgsym",
                      "rtfilter-service", "rtfilter")  # fmt: skip
             kinds = ("amd64", "amd64", "amd64", "all", "amd64", "all", "amd64")
             self.assertEqual([Path(name).name for name in made], [f"{it}_{VERSION}-1_{kind}.deb" for it, kind in zip(names, kinds)])
@@ -170,10 +170,10 @@ class Packages(unittest.TestCase):
         """In a clean folder, the program of its page is compiled as the page says, and prints what the page shows."""
         wants(self, "cc", "pkg-config")
         with tempfile.TemporaryDirectory() as system:
-            for name in ("librtfilter1", "librtfilter-dev"):
+            for name in ("librtfilter0", "librtfilter-dev"):
                 run("dpkg", "-x", self.packages[name], system)
             libraries = Path(system, LIBRARIES)
-            self.assertEqual(os.readlink(libraries / "librtfilter.so"), "librtfilter.so.1")
+            self.assertEqual(os.readlink(libraries / "librtfilter.so"), "librtfilter.so.0")
             page = (ROOT / "docs/library.md").read_text(encoding="utf-8")
             Path(system, "boxes.c").write_text(found(r"(?s)```c\n(.*?)```", page)[1])
             shown = found(r"(?s)```\n\$ (cc [^\n]*)\n\$ ./boxes\n(.*?)```", page)
@@ -181,11 +181,11 @@ class Packages(unittest.TestCase):
                      "PKG_CONFIG_ALLOW_SYSTEM_CFLAGS": "1", "PKG_CONFIG_ALLOW_SYSTEM_LIBS": "1"}  # fmt: skip
             run("sh", "-c", shown[1], cwd=system, env=words)
             self.assertEqual(run("./boxes", cwd=system, env={"LD_LIBRARY_PATH": str(libraries)}), shown[2])
-        about = run("dpkg-deb", "--field", self.packages["librtfilter1"], "Depends")
+        about = run("dpkg-deb", "--field", self.packages["librtfilter0"], "Depends")
         self.assertRegex(about, r"^libc6 \(>= [\d.]+\)$" if not os.environ.get("LDLIBS") else "libc6")
-        symbols = {line.split()[0].split("@")[0] for line in (ROOT / "packaging/debian/librtfilter1.symbols").read_text().splitlines()[2:]}
+        symbols = {line.split()[0].split("@")[0] for line in (ROOT / "packaging/debian/librtfilter0.symbols").read_text().splitlines()[2:]}
         public = set(re.findall(r"^    (\w+);$", (ROOT / "library/rtfilter.map").read_text(), re.MULTILINE))
-        self.assertEqual(symbols, public | {"RTFILTER_1"})
+        self.assertEqual(symbols, public | {"RTFILTER_0"})
 
     def test_debug_symbols(self) -> None:
         """They belong to the program, and name its functions."""
