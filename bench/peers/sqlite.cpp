@@ -64,6 +64,7 @@ class Sqlite {
 
 public:
     explicit Sqlite(const Table &table) : table(table) {
+        sqlite3_config(SQLITE_CONFIG_MEMSTATUS, 0);  // what is counted there is counted under a lock
         open(":memory:", SQLITE_OPEN_READWRITE);
         fill();
         prepare();
