@@ -50,6 +50,9 @@ def built(library):
     sources["main"] = HERE / "main.cpp", []
     with ThreadPoolExecutor(2) as pool:
         found = dict(zip(sources, pool.map(lambda it: compiled(*it), sources.values())))
+    for name in (OURS, "main"):
+        if not found[name][0]:
+            return None, {"library": found[name][1]}
     passed_over = {f"{name}, in process": reason for name, (path, reason) in found.items() if not path}
     objects = [path for path, _ in found.values() if path]
     libraries = [option for name in peers if found[name][0] for option in peers[name][1] if option.startswith("-l")]

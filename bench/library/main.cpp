@@ -24,10 +24,10 @@
 #include <time.h>
 
 constexpr size_t PART = 1000;         // queries that are timed at once
-constexpr double PART_SECONDS = 0.02;  // of a part, which is shorter where queries are slow
-constexpr double KIND_SECONDS = 0.5;  // of an index, for all rounds of a kind
+constexpr double PART_SECONDS = 0.02;  // of a part, which has fewer queries where they are slow
+constexpr double KIND_SECONDS = 0.6;   // of an index, for all rounds of a kind
 constexpr double OPEN_SECONDS = 1.5;
-constexpr int LEAST_ROUNDS = 3, MOST_ROUNDS = 40;
+constexpr int LEAST_ROUNDS = 3, MOST_ROUNDS = 100;
 constexpr size_t COMPARED = PART;
 constexpr size_t THREADS[] = {1, 2, 4};
 constexpr double THREADS_SECONDS = 3;  // of the wall, for a number of threads of an index
