@@ -11,28 +11,25 @@
 // - `memory`: the bytes that an index has written to once it is open
 // - `threads`, with the number of threads: the seconds of all of them for a query of one
 //
-// Seconds are those of the processor, but for threads those of the wall. The indexes take turns. Queries are parted, and the
-// least time of each part counts: so a noisy moment spoils one part of one turn.
+// Seconds are those of the processor, but for threads those of the wall. The indexes take turns, as often each, but for those
+// that are slow. Queries are parted, and the least time of each part counts: so a noisy moment spoils one part of one turn.
 #include "index.hpp"
 #include <atomic>
 #include <cmath>
 #include <limits>
-#include <map>
 #include <malloc.h>
 #include <sys/wait.h>
 #include <thread>
 #include <time.h>
 
-constexpr size_t PART = 1000;         // queries that are timed at once
-constexpr double PART_SECONDS = 0.02;  // of a part, which has fewer queries where they are slow
-constexpr double KIND_SECONDS = 0.6;   // of an index, for all rounds of a kind
-constexpr double OPEN_SECONDS = 1.5;
-constexpr int LEAST_ROUNDS = 3, MOST_ROUNDS = 100;
-constexpr size_t COMPARED = PART;
+constexpr double ALL_SECONDS = 120;     // of all passes; the last one may take longer
+constexpr int ROUNDS = 6;               // of a pass; where they are slow, one in every third pass
+constexpr size_t PART = 1000;           // queries that are timed at once
+constexpr double PART_SECONDS = 0.01;   // of a part, which has fewer queries where they are slow
+constexpr double ROUND_SECONDS = 0.1;   // what is longer is slow
 constexpr size_t THREADS[] = {1, 2, 4};
-constexpr double THREADS_SECONDS = 3;  // of the wall, for a number of threads of an index
+constexpr size_t PARTS = 10, TURNS = 5 * PARTS;  // of threads
 constexpr double TURN_SECONDS = 0.002;
-constexpr size_t PARTS = 10, TURNS = 5 * PARTS;
 
 static double seconds(clockid_t clock) {
     timespec now;
@@ -91,69 +88,94 @@ static void memory(const Entry &entry, const Table &table) {
 
 // ---- one thread
 
-static void opened(const Table &table) {
-    std::map<const Entry *, double> least, spent;
-    for (int round = 0; round < MOST_ROUNDS; round++)
-        for (const Entry &entry : entries()) {
-            if (entry.is_form || (round >= LEAST_ROUNDS && spent[&entry] > OPEN_SECONDS)) continue;
-            double begun = used();
-            auto index = entry.open(table);
-            double took = used() - begun;
-            spent[&entry] += took;
-            least[&entry] = round ? std::min(least[&entry], took) : took;
-        }
-    for (const auto &[entry, took] : least) found("open", *entry, 0, took);
-}
-
 using Indexes = std::vector<std::pair<const Entry *, std::unique_ptr<Index>>>;
 
-static void compare(const Indexes &indexes, size_t kind, size_t count) {
-    std::string first, other;
-    for (const auto &[entry, index] : indexes) {
-        std::string &out = index == indexes.front().second ? first : other;
-        out.clear();
-        index->reply(0, std::min(count, COMPARED), out);
-        if (&out == &other && other != first) found("differs", *entry, kind, 1);
-    }
-}
+constexpr double ENDLESS = std::numeric_limits<double>::infinity();
 
-// How many queries of all an index answers in one part: PART, or fewer where they are slow.
+// What it takes to open an index.
+struct Opening {
+    const Entry *entry;
+    double least = ENDLESS;
+
+    void pass(const Table &table, bool with_slow) {
+        for (int round = 0; round < ROUNDS && (least < ROUND_SECONDS || (round == 0 && with_slow)); round++) {
+            double begun = used();
+            auto index = entry->open(table);
+            least = std::min(least, used() - begun);
+        }
+    }
+};
+
+// How many queries are timed at once: so many, or a half of them, and so on, where they are slow.
 static size_t part_of(Index &index, size_t count) {
     size_t few = std::min<size_t>(count, 20);
     double begun = used();
     sink = index.run(0, few);
     double each = (used() - begun) / static_cast<double>(few);
-    size_t part = std::min(PART, count);
+    size_t part = count;
     while (part > 20 && each * static_cast<double>(part) > PART_SECONDS) part /= 2;
     return part;
 }
 
-static void queries(const Indexes &indexes, const Workload &work, size_t kind) {
-    size_t count = work.queries.size();
-    for (const auto &[_, index] : indexes) index->prepare(work);
-    compare(indexes, kind, count);
-    struct Turn { size_t part; double spent = 0; std::vector<double> least; };
-    std::vector<Turn> turns;
-    for (const auto &[_, index] : indexes) turns.push_back({part_of(*index, count), 0, {}});
-    for (int round = 0; round < MOST_ROUNDS; round++)
-        for (size_t at = 0; at < indexes.size(); at++) {
-            Turn &it = turns[at];
-            if (round >= LEAST_ROUNDS && it.spent > KIND_SECONDS) continue;
-            it.least.resize((count + it.part - 1) / it.part, std::numeric_limits<double>::infinity());
-            for (size_t part = 0; part < it.least.size(); part++) {
-                double begun = used();
-                sink = indexes[at].second->run(part * it.part, std::min(count, (part + 1) * it.part));
-                double took = used() - begun;
-                it.spent += took;
-                it.least[part] = std::min(it.least[part], took);
-            }
-        }
-    for (size_t at = 0; at < indexes.size(); at++) {
-        double sum = 0;
-        for (double it : turns[at].least) sum += it;
-        found("query", *indexes[at].first, kind, sum / static_cast<double>(count));
+// What the queries of a kind take an index, by parts.
+struct Turns {
+    size_t part;
+    std::vector<double> least;
+
+    double sum() const {
+        double all = 0;
+        for (double it : least) all += it;
+        return all;
     }
-}
+    void round(Index &index, size_t count) {
+        for (size_t at = 0; at < least.size(); at++) {
+            double begun = used();
+            sink = index.run(at * part, std::min(count, (at + 1) * part));
+            least[at] = std::min(least[at], used() - begun);
+        }
+    }
+};
+
+// The queries of a kind.
+struct Kind {
+    size_t number;
+    const Workload *work;
+    std::vector<Turns> turns;  // of each index
+
+    size_t count() const { return work->queries.size(); }
+
+    void prepare(const Indexes &indexes) const {
+        for (const auto &[_, index] : indexes) index->prepare(*work);
+    }
+    void compare(const Indexes &indexes) const {
+        std::string first, other;
+        for (const auto &[entry, index] : indexes) {
+            std::string &out = entry == indexes.front().first ? first : other;
+            out.clear();
+            index->reply(0, std::min(count(), PART), out);
+            if (&out == &other && other != first) found("differs", *entry, number, 1);
+        }
+    }
+    void begin(const Indexes &indexes) {
+        prepare(indexes);
+        compare(indexes);
+        for (const auto &[_, index] : indexes) {
+            size_t part = part_of(*index, std::min(PART, count()));
+            turns.push_back({part, std::vector<double>((count() + part - 1) / part, ENDLESS)});
+        }
+    }
+    void pass(const Indexes &indexes, bool with_slow) {
+        prepare(indexes);
+        for (int round = 0; round < ROUNDS; round++)
+            for (size_t at = 0; at < indexes.size(); at++)
+                if (turns[at].sum() < ROUND_SECONDS || (round == 0 && with_slow))
+                    turns[at].round(*indexes[at].second, count());
+    }
+    void end(const Indexes &indexes) const {
+        for (size_t at = 0; at < indexes.size(); at++)
+            found("query", *indexes[at].first, number, turns[at].sum() / static_cast<double>(count()));
+    }
+};
 
 // ---- threads
 
@@ -167,8 +189,7 @@ struct Team {
     const Entry *entry;
     size_t part;
     std::vector<std::unique_ptr<Index>> threads;
-    double spent = 0;
-    std::vector<double> least = std::vector<double>(PARTS, std::numeric_limits<double>::infinity());
+    std::vector<double> least = std::vector<double>(PARTS, ENDLESS);
 
     // All threads begin each turn at once, each with another part of the queries, and a turn takes as long as the last of
     // them. Before it they sleep, since who has slept isn't soon sent off the processor, and answer another part.
@@ -213,7 +234,7 @@ struct Team {
     }
 };
 
-static void threads(const Indexes &indexes, const Workload &work) {
+static std::vector<Team> teams_of(const Indexes &indexes, const Workload &work) {
     std::vector<Team> teams;
     for (const auto &[entry, index] : indexes)
         for (size_t many : THREADS) {
@@ -223,20 +244,10 @@ static void threads(const Indexes &indexes, const Workload &work) {
                 if (auto one = index->shared()) one->prepare(work), team.threads.push_back(std::move(one));
             if (team.threads.empty()) continue;
             // (parts are short, so that no thread loses its processor in some of them)
-            team.part = part_of(*team.threads.front(), work.queries.size() / PARTS) / 4;
+            team.part = part_of(*team.threads.front(), std::min(PART, work.queries.size() / PARTS)) / 4;
             teams.push_back(std::move(team));
         }
-    for (bool is_left = true; is_left;) {
-        is_left = false;
-        for (Team &team : teams) {
-            if (team.spent > THREADS_SECONDS) continue;
-            is_left = true;
-            double begun = wall();
-            team.race();
-            team.spent += wall() - begun;
-        }
-    }
-    for (const Team &team : teams) found("threads", *team.entry, team.threads.size(), team.seconds_of_query());
+    return teams;
 }
 
 int main(int argc, char **argv) {
@@ -245,12 +256,25 @@ int main(int argc, char **argv) {
     columns_of(table);
     std::vector<Workload> works;
     for (int at = 2; at < argc; at++) works.push_back(workload_of(argv[at]));
+    std::vector<Opening> openings;
     for (const Entry &entry : entries())
-        if (!entry.is_form) memory(entry, table);
-    opened(table);
+        if (!entry.is_form) memory(entry, table), openings.push_back({&entry});
     Indexes indexes;
     for (const Entry &entry : entries()) indexes.emplace_back(&entry, entry.open(table));
-    for (size_t kind = 0; kind < works.size(); kind++) queries(indexes, works[kind], kind);
-    threads(indexes, works.front());
+    std::vector<Kind> kinds;
+    for (const Workload &work : works) kinds.push_back({kinds.size(), &work, {}}), kinds.back().begin(indexes);
+    std::vector<Team> teams = teams_of(indexes, works.front());
+
+    // All is measured in each pass, so that what slows the machine for a while meets all figures in some passes alone.
+    double begun = wall();
+    for (int pass = 0; wall() - begun < ALL_SECONDS; pass++) {
+        for (Opening &it : openings) it.pass(table, pass % 3 == 0);
+        for (Kind &it : kinds) it.pass(indexes, pass % 3 == 0);
+        for (int round = 0; round < ROUNDS; round++)
+            for (Team &it : teams) it.race();
+    }
+    for (const Opening &it : openings) found("open", *it.entry, 0, it.least);
+    for (const Kind &it : kinds) it.end(indexes);
+    for (const Team &it : teams) found("threads", *it.entry, it.threads.size(), it.seconds_of_query());
     return 0;
 }

@@ -5,7 +5,7 @@
 // calls a function with the place of each box that the region of a query may accept, and `nearest`, which finds the boxes
 // nearest to a point, as many as are wanted or more. Text at fault ends it: the workloads hold none. Neither `cost` nor
 // `levels` is known, which are about rtfilter's own tree. `PEER` makes a program of the class, or one of the indexes of
-// bench/library, which are all in one process.
+// bench/library, all of which are in one process.
 #pragma once
 #include <algorithm>
 #include <charconv>
