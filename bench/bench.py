@@ -37,7 +37,7 @@ import timing
 from copies import copies
 from counting import instructions
 from elsewhere import elsewhere
-from library import library
+from in_process import library
 from machine import machine, sentence
 from programs import OURS, ROOT, SCAN, all_programs, that_differ
 from report import RESULTS, report

@@ -2,7 +2,7 @@
 
 import textwrap
 
-import library
+import in_process
 from kinds import FORMS, LIMITS, MAIN, REGIONS
 from machine import sentence
 from programs import OURS
@@ -188,15 +188,15 @@ def calls(found):
     for count, seconds in it["threads"].items():
         title = f"windows, {count} thread{'s' if count != '1' else ''}"
         rows.append([title, beside(seconds, OURS), "", *(beside(seconds, name) for name in names)])
-    head = [f"over {count_told(it['boxes'])} boxes", OURS, f"{OURS}, {library.FORMS[many]}", *names]
+    head = [f"over {count_told(it['boxes'])} boxes", OURS, f"{OURS}, {in_process.FORMS[many]}", *names]
     return table(head, rows)
 
 
 def forms(found):
     """librtfilter by queries in numbers and by lines."""
     it = found["library"]
-    return table([f"over {count_told(it['boxes'])} boxes", *library.FORMS.values()], [
-        [kind, *(beside(seconds, name) for name in library.FORMS)] for kind, seconds in it["queries"].items()
+    return table([f"over {count_told(it['boxes'])} boxes", *in_process.FORMS.values()], [
+        [kind, *(beside(seconds, name) for name in in_process.FORMS)] for kind, seconds in it["queries"].items()
     ])
 
 

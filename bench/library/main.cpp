@@ -1,4 +1,4 @@
-// Measures indexes in one process, over one table and the same queries, for bench/library.py.
+// Measures indexes in one process, over one table and the same queries, for bench/in_process.py.
 //
 //     library TABLE LINES..
 //
