@@ -110,8 +110,8 @@ test-full: build/rtfilter
 	@tests/sizes.py build/rtfilter --full
 
 # What loads and lines cost, beside other indexes, in some minutes: tables, and pictures in build/bench.
-bench: all
-	@bench/bench.py build/rtfilter
+bench: all library
+	@bench/bench.py build/rtfilter --library $(LIBRTFILTER)
 
 # The Debian packages, in build/: the program, the library, the client, the service. They want debhelper, dpkg-dev and gcc.
 deb: $(PROGRAM) $(LIBRTFILTER)

@@ -1,7 +1,7 @@
 #!/usr/bin/env python3
 """Measures a built program beside index libraries behind the same text, and draws what it found.
 
-usage: bench/bench.py PROGRAM [--only PART]..
+usage: bench/bench.py PROGRAM [--only PART].. [--library ARCHIVE]
 
 What bench/peers holds is compiled into build/peers with g++: Boost.Geometry, GEOS, libspatialindex, SQLite's R*Tree,
 and a scan without an index. Debian's packages for them are libboost-dev, libgeos++-dev, libspatialindex-dev and
@@ -15,8 +15,9 @@ C compiler. Each gives rtfilter's answers, byte for byte, or this fails. The par
 - instructions: of a record and of lines, by valgrind
 - elsewhere: few queries over a big table, and boxes that change, beside SQLite's
 - copies: copies of a table, and connections
+- library: librtfilter, the ARCHIVE or build/librtfilter.a, beside the libraries of the others in one process
 
-Time is that of the processor, but for copies that of the wall. All of it takes some minutes on four cores, wants
+Time is that of the processor, but for copies and threads that of the wall. All of it takes some minutes on four cores, wants
 nothing else to run, and is no part of the gate. The figures are written into build/bench.json, from which
 bench/report.py makes tables and pictures.
 """
@@ -36,8 +37,9 @@ import timing
 from copies import copies
 from counting import instructions
 from elsewhere import elsewhere
+from in_process import library
 from machine import machine, sentence
-from programs import OURS, SCAN, all_programs, that_differ
+from programs import OURS, ROOT, SCAN, all_programs, that_differ
 from report import RESULTS, report
 from tables import IDS, TABLES, write_table
 
@@ -66,8 +68,8 @@ def save(found):
 class Bench:
     """The programs, the folder of tables, and in which tables answers differ."""
 
-    def __init__(self, program, folder):
-        self.program, self.folder = program, Path(folder)
+    def __init__(self, program, archive, folder):
+        self.program, self.archive, self.folder = program, archive, Path(folder)
         self.programs, self.passed_over = all_programs(program)
         self.differences = []
 
@@ -155,20 +157,32 @@ class Bench:
             self.passed_over["copies"] = "there is no build/rtfilter-prefork.so, which wants a C compiler"
         return found
 
+    def library(self):
+        found, differences, passed_over = library(self.archive, self.table("even", BOXES), BOXES, self.folder)
+        self.passed_over |= passed_over
+        self.differences += differences
+        for difference in differences:
+            print(f"FAILED: answers differ: {difference}", flush=True)
+        return found
 
-PARTS = "growth", "lines", "tables", "ids", "instructions", "elsewhere", "copies"
+
+PARTS = "growth", "lines", "tables", "ids", "instructions", "elsewhere", "copies", "library"
+ITS_OWN_MACHINE = {"library"}  # parts that have in their figures what they were made on
 
 
 def main():
     parser = argparse.ArgumentParser(description=__doc__, formatter_class=argparse.RawDescriptionHelpFormatter)
     parser.add_argument("program")
     parser.add_argument("--only", action="append", choices=PARTS)
+    parser.add_argument("--library", default=ROOT / "build/librtfilter.a", metavar="ARCHIVE")
     args = parser.parse_args()
     found = json.loads(RESULTS.read_text()) if args.only and RESULTS.exists() else {}
-    found["machine"] = machine()
-    print(sentence(found["machine"]), flush=True)
+    made_on = machine()
+    if {*(args.only or PARTS)} - ITS_OWN_MACHINE:
+        found["machine"] = made_on
+    print(sentence(made_on), flush=True)
     with tempfile.TemporaryDirectory() as folder:
-        bench = Bench(args.program, folder)
+        bench = Bench(args.program, args.library, folder)
         if not args.only:
             bench.write_tables()
         for part in args.only or PARTS:

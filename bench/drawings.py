@@ -73,6 +73,23 @@ def by_table(found):
     return svg(dots.width, dots.height, title, dots.draw())
 
 
+def in_process(found):
+    """How many times librtfilter's time the libraries of the others take in one process."""
+    def row(seconds):
+        ours = seconds[OURS]
+        return time_told(ours), {name: seconds[name] / ours for name in found["open"] if name != OURS and name in seconds}
+
+    threads = {f"{count} thread{'s' if count != '1' else ''}": row(it) for count, it in found["threads"].items()}
+    groups = {
+        "one query per call": {kind: row(seconds) for kind, seconds in found["queries"].items()},
+        "a table": {"open from arrays": row(found["open"])},
+        "windows": threads,
+    }
+    title = f"Other libraries beside librtfilter, in one process, over {count_told(found['boxes'])} boxes"
+    dots = Dots(title, groups, 2 * WIDTH)
+    return svg(dots.width, dots.height, title, dots.draw())
+
+
 def by_number(line):
     """The numbers of JSON, which has them as texts."""
     return {int(number): value for number, value in line.items()}
@@ -119,5 +136,7 @@ def pictures(found):
         yield "peers.svg", short(found["growth"])
     if "tables" in found:
         yield "tables.svg", by_table(found["tables"])
+    if found.get("library"):
+        yield "library.svg", in_process(found["library"])
     if "elsewhere" in found and "growth" in found:
         yield "elsewhere.svg", elsewhere(found["elsewhere"], found["growth"])

@@ -2,6 +2,7 @@
 
 import textwrap
 
+import in_process
 from kinds import FORMS, LIMITS, MAIN, REGIONS
 from machine import sentence
 from programs import OURS
@@ -173,8 +174,38 @@ def copies(found):
     return table([f"over {count_told(it['boxes'])} boxes", "time", "memory"], rows)
 
 
+def calls(found):
+    """librtfilter beside the libraries of the others."""
+    it = found["library"]
+    names = [name for name in it["open"] if name != OURS]
+    many = f"{OURS}, many queries a call"
+    rows = [
+        [kind, *(beside(seconds, name) for name in (OURS, many, *names))] for kind, seconds in it["queries"].items()
+    ]
+    rows.append(["open from arrays", beside(it["open"], OURS), "", *(beside(it["open"], name) for name in names)])
+    memory = {name: f"{bytes_told(count)} ({ratio_told(count / it['memory'][OURS])})" for name, count in it["memory"].items()}
+    rows.append(["memory, opened", bytes_told(it["memory"][OURS]), "", *(memory[name] for name in names)])
+    for count, seconds in it["threads"].items():
+        title = f"windows, {count} thread{'s' if count != '1' else ''}"
+        rows.append([title, beside(seconds, OURS), "", *(beside(seconds, name) for name in names)])
+    head = [f"over {count_told(it['boxes'])} boxes", OURS, f"{OURS}, {in_process.FORMS[many]}", *names]
+    return table(head, rows)
+
+
+def forms(found):
+    """librtfilter by queries in numbers and by lines."""
+    it = found["library"]
+    return table([f"over {count_told(it['boxes'])} boxes", *in_process.FORMS.values()], [
+        [kind, *(beside(seconds, name) for name in in_process.FORMS)] for kind, seconds in it["queries"].items()
+    ])
+
+
 def made_on(found):
     return textwrap.fill(sentence(found["machine"]), 118, break_on_hyphens=False) + "\n"
+
+
+def library_made_on(found):
+    return made_on(found["library"])
 
 
 # Each table by its name, and the parts of the figures that it wants.
@@ -193,6 +224,9 @@ TABLES = {
     "queries": (queries, ["elsewhere"]),
     "changes": (changes, ["elsewhere", "growth"]),
     "copies": (copies, ["copies"]),
+    "library machine": (library_made_on, ["library"]),
+    "library": (calls, ["library"]),
+    "library forms": (forms, ["library"]),
 }
 
 

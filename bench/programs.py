@@ -45,9 +45,12 @@ def built(name):
         done = subprocess.run(command, capture_output=True, text=True)
     except FileNotFoundError:
         return None, "there is no g++"
-    if done.returncode:
-        return None, next(iter(re.findall(r"(?:error|cannot find).*", done.stderr)), "it can't be compiled")
-    return str(path), None
+    return (None, reason_of(done.stderr)) if done.returncode else (str(path), None)
+
+
+def reason_of(errors):
+    """Why something can't be compiled or linked."""
+    return next(iter(re.findall(r"(?:error|cannot find).*", errors)), "it can't be compiled")
 
 
 def all_programs(program):

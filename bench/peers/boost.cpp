@@ -4,6 +4,7 @@
 #include <boost/geometry.hpp>
 #include <boost/geometry/index/rtree.hpp>
 #include <boost/iterator/function_output_iterator.hpp>
+#include <memory>
 
 namespace geometry = boost::geometry;
 namespace rtree = boost::geometry::index;
@@ -29,6 +30,9 @@ class Boost {
 
 public:
     explicit Boost(const Table &table) : table(table), tree(values(table)) {}
+
+    // For another thread: no search changes it.
+    static std::shared_ptr<Boost> shared(const std::shared_ptr<Boost> &it) { return it; }
 
     template <class Visit> void search(const Query &q, Visit visit) const {
         auto each = boost::make_function_output_iterator([&](const Value &value) { visit(value.second); });
@@ -57,4 +61,4 @@ public:
     }
 };
 
-int main(int argc, char **argv) { return answer<Boost>(argc, argv); }
+PEER(Boost)

@@ -4,6 +4,7 @@
 #include <cmath>
 #include <geos/geom/Envelope.h>
 #include <geos/index/strtree/TemplateSTRtree.h>
+#include <memory>
 
 class Geos {
     using Envelope = geos::geom::Envelope;
@@ -31,6 +32,9 @@ public:
         reach = static_cast<int64_t>(std::sqrt(10 * all.getArea() / static_cast<double>(table.boxes.size() + 1)) / 2) + 1;
     }
 
+    // For another thread: once it is built, no search changes it.
+    static std::shared_ptr<Geos> shared(const std::shared_ptr<Geos> &it) { return it; }
+
     template <class Visit> void search(const Query &q, Visit visit) const { window(q.around, visit); }
 
     void nearest(const Query &q, std::vector<Hit> &hits) const {
@@ -46,4 +50,4 @@ public:
     }
 };
 
-int main(int argc, char **argv) { return answer<Geos>(argc, argv); }
+PEER(Geos)

@@ -4,7 +4,8 @@
 // standard input, those that are complete after each read. It has a class with a constructor over the table, `search`, which
 // calls a function with the place of each box that the region of a query may accept, and `nearest`, which finds the boxes
 // nearest to a point, as many as are wanted or more. Text at fault ends it: the workloads hold none. Neither `cost` nor
-// `levels` is known, which are about rtfilter's own tree.
+// `levels` is known, which are about rtfilter's own tree. `PEER` makes a program of the class, or one of the indexes of
+// bench/library, all of which are in one process.
 #pragma once
 #include <algorithm>
 #include <charconv>
@@ -229,7 +230,7 @@ inline bool meets_polygon(const std::vector<Point> &vertices, const Box &b) {
 // Whether a box that meets `around` is accepted.
 inline bool accepts(const Query &q, const Table &table, size_t at) {
     const Box &b = table.boxes[at];
-    if (!(q.layers >> table.layers[at] & 1)) return false;
+    if (q.layers != endless && !(q.layers >> table.layers[at] & 1)) return false;
     if (q.region == Query::Inside) return is_inside(b, q.around);
     if (q.region == Query::Covers) return is_inside(q.around, b);
     if (q.region == Query::Circle) return near2(q.centre, b) <= static_cast<u128>(q.radius) * static_cast<u128>(q.radius);
@@ -256,14 +257,16 @@ template <class Item, class Less> void sort_first(std::vector<Item> &items, size
     std::sort(items.begin(), end, less);
 }
 
-// What a line is told. Where answers come by id, ids alone are sorted.
-template <class Index> class Answers {
+// The answers of a query, in order. Where they come by id, ids alone are sorted.
+template <class Index> class Finder {
     const Table &table;
     const Index &index;
-    int64_t number = 0;
-    std::vector<int64_t> ids;
-    std::vector<Hit> hits;
-    std::string out;
+
+public:
+    std::vector<int64_t> ids;  // of the last `by_id`
+    std::vector<Hit> hits;     // of the last `by_score`
+
+    Finder(const Table &table, const Index &index) : table(table), index(index) {}
 
     size_t count(const Query &q) const {
         size_t found = 0;
@@ -275,7 +278,6 @@ template <class Index> class Answers {
         index.search(q, [&](size_t at) { if (accepts(q, table, at)) ids.push_back(table.ids[at]); });
         size_t found = std::min<uint64_t>(ids.size(), q.limit);
         sort_first(ids, found, std::less<>());
-        for (size_t at = 0; at < found; at++) print(out, ids[at]), out += " 0\n";
         return found;
     }
     size_t by_score(const Query &q) {
@@ -288,16 +290,32 @@ template <class Index> class Answers {
         sort_first(hits, found, [](const Hit &a, const Hit &b) {
             return a.score < b.score || (a.score == b.score && a.id < b.id);
         });
-        for (size_t at = 0; at < found; at++) print(out, hits[at].id), out += ' ', print(out, hits[at].score), out += '\n';
         return found;
     }
+    size_t found(const Query &q) { return q.counts ? count(q) : q.order == Query::ById ? by_id(q) : by_score(q); }
+
+    // Finds the answers, prints them, and tells how many there are.
+    size_t print_found(std::string &out, const Query &q) {
+        size_t many = found(q);
+        if (q.counts) return many;
+        for (size_t at = 0; at < many; at++)
+            if (q.order == Query::ById) print(out, ids[at]), out += " 0\n";
+            else print(out, hits[at].id), out += ' ', print(out, hits[at].score), out += '\n';
+        return many;
+    }
+};
+
+// What a line is told.
+template <class Index> class Answers {
+    Finder<Index> finder;
+    int64_t number = 0;
+    std::string out;
 
 public:
-    Answers(const Table &table, const Index &index) : table(table), index(index) {}
+    Answers(const Table &table, const Index &index) : finder(table, index) {}
 
     void add(std::string_view line) {
-        Query q = query_of(line);
-        size_t found = q.counts ? count(q) : q.order == Query::ById ? by_id(q) : by_score(q);
+        size_t found = finder.print_found(out, query_of(line));
         out += "ok ", print(out, ++number), out += ' ', print(out, static_cast<int64_t>(found)), out += '\n';
         if (out.size() > 65536) flush();
     }
@@ -319,3 +337,10 @@ template <class Index> int answer(int argc, char **argv) {
     read_lines(0, [&](std::string_view line) { answers.add(line); }, [&] { answers.flush(); });
     return 0;
 }
+
+#ifdef IN_PROCESS  // its name there
+#include "../library/index.hpp"
+#define PEER(Library) static const Registered registered({IN_PROCESS, Peer<Library>::open, false});
+#else
+#define PEER(Library) int main(int argc, char **argv) { return answer<Library>(argc, argv); }
+#endif

@@ -17,4 +17,4 @@ public:
     }
 };
 
-int main(int argc, char **argv) { return answer<Scan>(argc, argv); }
+PEER(Scan)

@@ -53,6 +53,9 @@ public:
                                                               library::RTree::RV_RSTAR, id));
     }
 
+    // For another thread: none, since a search changes what its storage and its pools of nodes hold.
+    static std::shared_ptr<Spatialindex> shared(const std::shared_ptr<Spatialindex> &) { return nullptr; }
+
     template <class Visit> void search(const Query &q, Visit visit) const {
         Visitor<Visit> visitor(visit);
         if (tree) tree->intersectsWithQuery(Boxes::region(q.around), visitor);
@@ -82,4 +85,4 @@ public:
     }
 };
 
-int main(int argc, char **argv) { return answer<Spatialindex>(argc, argv); }
+PEER(Spatialindex)

@@ -1,11 +1,13 @@
 // SQLite's R*Tree of 32-bit coordinates, in memory, filled in one transaction and asked by prepared statements.
 #include "peer.hpp"
+#include <memory>
 #include <sqlite3.h>
 
 class Sqlite {
     const Table &table;
     sqlite3 *database;
     sqlite3_stmt *meets, *inside, *covers, *near;
+    std::string copy;  // the file of `shared`, once there is one
 
     void must(int code) const {
         if (code != SQLITE_OK && code != SQLITE_DONE) fail(sqlite3_errmsg(database));
@@ -26,11 +28,13 @@ class Sqlite {
         return SQLITE_OK;
     }
 
-public:
-    explicit Sqlite(const Table &table) : table(table) {
-        must(sqlite3_open(":memory:", &database));
-        const char *begin = "CREATE VIRTUAL TABLE boxes USING rtree_i32(place, minX, maxX, minY, maxY); BEGIN";
-        must(sqlite3_exec(database, begin, nullptr, nullptr, nullptr));
+    void open(const char *name, int flags) {
+        must(sqlite3_open_v2(name, &database, flags | SQLITE_OPEN_NOMUTEX, nullptr));
+    }
+    void run(const char *text) const { must(sqlite3_exec(database, text, nullptr, nullptr, nullptr)); }
+
+    void fill() const {
+        run("CREATE VIRTUAL TABLE boxes USING rtree_i32(place, minX, maxX, minY, maxY); BEGIN");
         sqlite3_stmt *insert = prepared("INSERT INTO boxes VALUES (?, ?, ?, ?, ?)");
         for (size_t at = 0; at < table.boxes.size(); at++) {
             const Box &b = table.boxes[at];
@@ -41,12 +45,43 @@ public:
             must(sqlite3_reset(insert));
         }
         must(sqlite3_finalize(insert));
-        must(sqlite3_exec(database, "COMMIT", nullptr, nullptr, nullptr));
+        run("COMMIT");
+    }
+    void prepare() {
         must(sqlite3_rtree_query_callback(database, "near", distance, nullptr, nullptr));
         meets = prepared("SELECT place FROM boxes WHERE minX <= ?2 AND maxX >= ?1 AND minY <= ?4 AND maxY >= ?3");
         inside = prepared("SELECT place FROM boxes WHERE minX >= ?1 AND maxX <= ?2 AND minY >= ?3 AND maxY <= ?4");
         covers = prepared("SELECT place FROM boxes WHERE minX <= ?1 AND maxX >= ?2 AND minY <= ?3 AND maxY >= ?4");
         near = prepared("SELECT place FROM boxes WHERE place MATCH near(?, ?)");
+    }
+
+    // A connection to a file that nothing changes, so that no search locks it.
+    Sqlite(const Table &table, const std::string &file) : table(table) {
+        open(("file:" + file + "?immutable=1").c_str(), SQLITE_OPEN_READONLY | SQLITE_OPEN_URI);
+        run("PRAGMA cache_size = -262144; PRAGMA mmap_size = 1073741824");
+        prepare();
+    }
+
+public:
+    explicit Sqlite(const Table &table) : table(table) {
+        sqlite3_config(SQLITE_CONFIG_MEMSTATUS, 0);  // what is counted there is counted under a lock
+        open(":memory:", SQLITE_OPEN_READWRITE);
+        fill();
+        prepare();
+    }
+    ~Sqlite() {
+        for (sqlite3_stmt *it : {meets, inside, covers, near}) sqlite3_finalize(it);
+        sqlite3_close(database);
+        if (!copy.empty()) unlink(copy.c_str());
+    }
+
+    // For another thread: a connection of its own, to a copy in a file.
+    static std::shared_ptr<Sqlite> shared(const std::shared_ptr<Sqlite> &it) {
+        if (it->copy.empty()) {
+            it->copy = "/tmp/rtfilter-bench-" + std::to_string(getpid()) + ".db";
+            it->run(("VACUUM INTO '" + it->copy + "'").c_str());
+        }
+        return std::shared_ptr<Sqlite>(new Sqlite(it->table, it->copy));
     }
 
     template <class Visit> void search(const Query &q, Visit visit) const {
@@ -74,4 +109,4 @@ public:
     }
 };
 
-int main(int argc, char **argv) { return answer<Sqlite>(argc, argv); }
+PEER(Sqlite)
