@@ -53,7 +53,7 @@ $(OUT)/librtfilter.a: $(if $(filter crates/%,$(ARCHIVE)),build/rtfilter_c.proved
 
 $(OUT)/rtfilter.o: library/rtfilter.c library/engine.h include/rtfilter.h
 	@mkdir -p $(OUT)
-	@$(CC) -std=c11 -O2 -Wall -Wextra -Wpedantic -fPIC -Iinclude $(CPPFLAGS) $(CFLAGS) -c -o $@ $<
+	@$(CC) -std=c11 -O -Wall -Wextra -Wpedantic -fPIC -Iinclude $(CPPFLAGS) $(CFLAGS) -c -o $@ $<
 
 $(OUT)/librtfilter.so.0: $(LIBRTFILTER) library/rtfilter.map
 	@mkdir -p $(OUT)

@@ -267,7 +267,7 @@ class Checks:
     def __init__(self, archive, program, folder):
         self.folder, self.archive, self.program = folder, archive, program
         self.out, self.prefix = folder / "out", folder / "usr"
-        self.flags = [f"-I{self.prefix}/include", f"-I{SOURCES}", "-g", "-O1"]
+        self.flags = [f"-I{self.prefix}/include", f"-I{SOURCES}", "-g", "-O"]
         self.libraries = os.environ.get("LDLIBS", "").split()
         environment = {**os.environ, "MAKEFLAGS": ""}
         run("make", "--no-print-directory", "-C", ROOT, "install-library", f"ARCHIVE={archive}", f"OUT={self.out}",

@@ -1,5 +1,7 @@
 //! Tables in columns, beside the same tables in CSV.
 
+ghost use Rattle.rt_embed.specs.Columns.{AreColumns, lists_of};
+
 use crate::expect::expect_eq;
 use crate::given::{BOXES, open, settings};
 use rt_embed::{Columns, Session};
@@ -50,7 +52,9 @@ fn without_layers_boxes_are_on_layer_0(rt: HostRuntime) -> Result<(), Fail> {
 }
 
 // The fault of columns, of which at most so many boxes are allowed.
-fn fault<R: Abort + AllocGlobal>(rt: &R, max: u32, columns: Columns<'_>) -> TableFault {
+fn fault<R: Abort + AllocGlobal>(rt: &R, max: u32, columns: Columns<'_>) -> TableFault
+    requires { AreColumns (lists_of columns) }
+{
     let settings = Settings::new(true, 16, max).expect(rt, "they are in range");
     match Session::of_columns(rt.alloc(), &settings, columns) {
         Err(RunFault::Table(fault)) => fault,

@@ -185,15 +185,14 @@ fn what_is_full_is_gone_on_with(rt: HostRuntime) -> Result<(), Fail> {
     Ok(())
 }
 
-#[test]
-fn a_query_that_asks_no_question_ends_the_call(rt: HostRuntime) -> Result<(), Fail> {
-    let mut session = open(&rt, 2, BOXES);
+// Queries that ask no question.
+fn invalid() -> [PlainQuery; 6] {
     let reversed = PlainQuery {
         region: 1,
         min_x: 1,
         ..ALL
     };
-    let bad = [
+    [
         reversed,
         PlainQuery { region: 6, ..ALL },
         PlainQuery { order: 3, ..ALL },
@@ -213,8 +212,13 @@ fn a_query_that_asks_no_question_ends_the_call(rt: HostRuntime) -> Result<(), Fa
             vertices: u32::MAX,
             ..ALL
         },
-    ];
-    for query in bad {
+    ]
+}
+
+#[test]
+fn a_query_that_asks_no_question_ends_the_call(rt: HostRuntime) -> Result<(), Fail> {
+    let mut session = open(&rt, 2, BOXES);
+    for query in invalid() {
         let (mut ends, mut ids, mut counts) = ([0; 2], [0; 9], [7; 2]);
         let queries = [ALL, query];
         let found = session.find(

@@ -1,7 +1,7 @@
 //! Queries in plain numbers that ask what query lines ask.
 
 use rt_embed::{Measure, PlainQuery, Question, Session, Vertex};
-use rt_geo::{ById, Circle, Covers, Inside, Order, Region, Window};
+use rt_geo::{Bounds, ById, Covers, Inside, Order, Region, Window};
 use rt_text::{Parsed, Query, parse};
 use std::process::Abort;
 use std::test::Fail;
@@ -69,54 +69,55 @@ fn question_of(rt: &impl Abort, line: &[u8]) -> Question {
 
 /// A question in plain numbers, a polygon being that of [`VERTICES`].
 pub(crate) fn plain(question: &Question) -> PlainQuery {
-    let mut query = PlainQuery {
+    let query = PlainQuery {
         layers: question.layers.bits(),
         limit: question.limit.unwrap_or(u64::MAX),
-        ..ALL
+        ..in_region(&question.region)
     };
     match &question.order {
-        Order::ById(_) => {}
-        Order::Near(near) => {
-            query.order = 1;
-            query.near_x = near.0.x;
-            query.near_y = near.0.y;
-        }
-        Order::Smallest(_) => query.order = 2,
+        Order::ById(_) => query,
+        Order::Near(near) => PlainQuery {
+            order: 1,
+            near_x: near.0.x,
+            near_y: near.0.y,
+            ..query
+        },
+        Order::Smallest(_) => PlainQuery { order: 2, ..query },
     }
-    let sides = match &question.region {
-        Region::All(_) => None,
-        Region::Window(Window(bounds)) => {
-            query.region = 1;
-            Some(*bounds)
-        }
-        Region::Inside(Inside(bounds)) => {
-            query.region = 2;
-            Some(*bounds)
-        }
-        Region::Covers(Covers(bounds)) => {
-            query.region = 3;
-            Some(*bounds)
-        }
-        Region::Circle(Circle { centre, radius }) => {
-            query.region = 4;
-            query.x = centre.x;
-            query.y = centre.y;
-            query.radius = *radius;
-            None
-        }
-        Region::Polygon(_) => {
-            query.region = 5;
-            query.vertices = 3;
-            None
-        }
-    };
-    if let Some(bounds) = sides {
-        query.min_x = bounds.min_x();
-        query.max_x = bounds.max_x();
-        query.min_y = bounds.min_y();
-        query.max_y = bounds.max_y();
+}
+
+// All boxes of a region.
+fn in_region(region: &Region) -> PlainQuery {
+    match region {
+        Region::All(_) => ALL,
+        Region::Window(Window(bounds)) => in_box(1, bounds),
+        Region::Inside(Inside(bounds)) => in_box(2, bounds),
+        Region::Covers(Covers(bounds)) => in_box(3, bounds),
+        Region::Circle(circle) => PlainQuery {
+            region: 4,
+            x: circle.centre.x,
+            y: circle.centre.y,
+            radius: circle.radius,
+            ..ALL
+        },
+        Region::Polygon(_) => PlainQuery {
+            region: 5,
+            vertices: 3,
+            ..ALL
+        },
     }
-    query
+}
+
+// A region that has a box.
+fn in_box(region: u32, bounds: &Bounds) -> PlainQuery {
+    PlainQuery {
+        region,
+        min_x: bounds.min_x(),
+        max_x: bounds.max_x(),
+        min_y: bounds.min_y(),
+        max_y: bounds.max_y(),
+        ..ALL
+    }
 }
 
 /// What a line for boxes asks, in plain numbers.
