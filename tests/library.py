@@ -303,14 +303,15 @@ class Checks:
         for compiler, language, standards, header in compilers:
             wants(compiler)
             for standard in standards:
-                run(compiler, "-x", language, f"-std={standard}", *WARNINGS, f"-I{self.prefix}/include", "-include", header, "-c",
+                more = ["-Wshadow", "-Wconversion"] if header.endswith("hpp") else []
+                run(compiler, "-x", language, f"-std={standard}", *WARNINGS, *more, f"-I{self.prefix}/include", "-include", header, "-c",
                     "-o", os.devnull, empty)  # fmt: skip
 
     def check_names(self):
         """It has the public names of its header, and no other; it needs the C library alone, and no text of it is written to."""
         wants("nm", "readelf")
         library = self.prefix / "lib/librtfilter.so.0"
-        declared = set(re.findall(r"^(?:int|void|const char \*) ?\*?(rtfilter_\w+)\(", HEADER, re.MULTILINE))
+        declared = set(re.findall(r"^(?:RTFILTER_INLINE )?(?:int|void|size_t|rtfilter_query|const char \*) ?(rtfilter_\w+)\(", HEADER, re.MULTILINE))
         exported = {line.split()[-1] for line in run("nm", "-D", "--defined-only", library).splitlines()}
         same(exported, {f"{name}@@RTFILTER_0" for name in declared} | {"RTFILTER_0"})
         about = run("readelf", "--dynamic", library)
@@ -326,6 +327,7 @@ class Checks:
         wants("pkg-config")
         words = {**os.environ, "PKG_CONFIG_PATH": f"{self.prefix}/lib/pkgconfig"}
         same(run("pkg-config", "--modversion", "rtfilter", env=words).strip(), version)
+        same(re.search(r'^version = "(.*)"$', (ROOT / "bindings/rust/Cargo.toml").read_text(), re.MULTILINE)[1], version)
 
     def check_uninstall(self):
         """It leaves nothing of an installation."""
@@ -576,7 +578,7 @@ class Checks:
         program, printed = self.page("bindings/go/README.md", "go")
         user.mkdir()
         (user / "main.go").write_text(program)
-        used = "rtfilter.invalid/rtfilter"
+        used = "github.com/rtfilter/rtfilter/bindings/go"
         (user / "go.mod").write_text(f"module page\ngo 1.19\nrequire {used} v0.0.0\nreplace {used} => ../go\n")
         same(run("go", "run", ".", cwd=user, env=words), printed)
 
