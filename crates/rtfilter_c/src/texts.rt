@@ -1,7 +1,8 @@
 //! Query lines and their reply.
 
 ghost use Rattle.std.specs.Prelude.{◌≡◌, ◌≤◌, ◌⊎◌, IsSome, drop, length, min};
-ghost use Rattle.rtfilter_c.specs.Calls.{HasReply, HoldsNoReply, HoldsRun, HoldsSame, IsForgotten, copied};
+ghost use Rattle.rt_embed.specs.Costs.{opened_by_text};
+ghost use Rattle.rtfilter_c.specs.Calls.{HasReply, HoldsNoReply, HoldsRun, HoldsSame, IsForgotten, Opens, copied};
 
 use crate::codes::{FAULTY_LINE, NO_MEMORY, OK};
 use rt_handle::Handle;
@@ -20,6 +21,8 @@ pub extern "C" fn rtfilter_engine_ask(
     requires open { IsSome session.old.held }
     ensures run { result ≤ FAULTY_LINE
         → HoldsRun session.old.held lines.now result session.new.held }
+    ensures worked { result ≤ FAULTY_LINE → Opens session.old.held session.new.held
+        (λ tree. opened_by_text tree lines.now) }
     ensures memory { result ≡ NO_MEMORY → HoldsNoReply session.new.held }
     ensures same { HoldsSame session.old.held session.new.held }
     ensures reply { HasReply session.new.held (λ reply.

@@ -5,6 +5,7 @@ use Rattle.std.proofs.lemmas.List.{length-append, take_all}
 use Rattle.std.proofs.lemmas.Option.{slice_get-get_or}
 use Rattle.rt_embed.specs.Findings.{Begins, answers_to, id_of, list_of, lists_of, score_of}
 use Rattle.rt_embed.specs.PlainQueries.{question_of}
+use Rattle.rt_embed.proofs.CostLemmas.{finds_next, finds_none, finds_whole}
 use Rattle.rt_embed.proofs.ListLemmas.{all_more, cut_first, cut_list, ends_len, ends_more, few_first, left_more, list_is, lists_more, no_query, whole_list}
 use Rattle.rt_embed.proofs.finding.find_each.Goals as goal
 
@@ -105,6 +106,10 @@ loop-done-preserved c =
     record {
       bound = search rules;
       capacity = search rules;
+      worked = finds_next c.args.tree.now vertices skip (length c.args.ids.now) queries done no_query inside c.loop-done.position asked
+          (length c.loop-done.ids) c.args.frontier.opened c.loop-done.frontier.opened c.find_one-left.result.1.opened kept.skip kept.end
+          (omega (arith, kept.place, kept.ids_len)) kept.ids_len (sym c.question.ensures ∙ c.in-Some.is) kept.worked
+          c.find_one-left.ensures.worked;
       ids_len = put.ids_len ∙ kept.ids_len;
       scores_len = put.scores_len ∙ kept.scores_len;
       ends_len = c.put_at.ensures.len ∙ kept.ends_len;
@@ -120,3 +125,26 @@ loop-done-preserved c =
       asked = all_more (λ query. IsSome (question_of vertices query)) queries done no_query inside kept.asked
           (ap is_some (sym c.question.ensures ∙ c.in-Some.is));
     }
+
+-- ---- the nodes that are opened
+
+pub returns-in_default-clause-worked : goal.returns-in_default-clause-worked
+returns-in_default-clause-worked c =
+    let none = finds_none c.args.tree.now c.args.vertices.now c.args.skip (length c.args.ids.now) c.args.queries.now c.loop-done.done no_query
+    c.loop-done-test.true (sym c.question.ensures ∙ c.in_default.is) in
+    rw (c.stopped.ensures, none) c.loop-done.invariant.worked
+
+pub returns-then-not-position-clause-worked : goal.returns-then-not-position-clause-worked
+returns-then-not-position-clause-worked c =
+    rw c.stopped-then-not-position.ensures
+    (finds_next c.args.tree.now c.args.vertices.now c.args.skip (length c.args.ids.now) c.args.queries.now c.loop-done.done no_query
+    c.loop-done-test.true c.loop-done.position c.in-Some.question (length c.loop-done.ids) c.args.frontier.opened c.loop-done.frontier.opened
+    c.find_one-left.result.1.opened c.loop-done.invariant.skip c.loop-done.invariant.end
+    (omega (arith, c.loop-done.invariant.place, c.loop-done.invariant.ids_len)) c.loop-done.invariant.ids_len
+    (sym c.question.ensures ∙ c.in-Some.is) c.loop-done.invariant.worked c.find_one-left.ensures.worked)
+
+pub returns-clause-worked : goal.returns-clause-worked
+returns-clause-worked c =
+    let whole = finds_whole c.args.tree.now c.args.vertices.now (c.args.skip + length c.args.ids.now + 1) c.args.queries.now c.loop-done.done
+    c.loop-done-test.false in
+    rw (c.stopped-2.ensures, whole) c.loop-done.invariant.worked
