@@ -75,8 +75,8 @@ pub extern "C" fn rtfilter_engine_forget(alloc: Global, session: &mut Handle)
     session.put(held);
 }
 
-// Copies the first bytes, as many as there are and have room, and returns their number.
-fn copy_front(bytes: &[u8], room: &mut [u8]) -> usize
+/// Copies the first bytes, as many as there are and have room, and returns their number.
+pub(crate) fn copy_front(bytes: &[u8], room: &mut [u8]) -> usize
     ensures many { result ≡ min (length bytes.now) (length room.old) }
     ensures copied { room.new ≡ copied bytes.now room.old }
 {

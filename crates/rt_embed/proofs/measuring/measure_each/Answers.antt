@@ -1,5 +1,5 @@
 use Rattle.std.proofs.Common.{IsSome, ◌∙◌, ap, rules, sym}
-use Rattle.std.specs.Option.{is_some, option_map_or}
+use Rattle.std.specs.{Option.{is_some, option_map_or}, Result.{result_ok}}
 use Rattle.rt_embed.specs.{PlainQueries.{question_of}, Questions.{measure_of, measured_of}}
 use Rattle.rt_embed.proofs.CostLemmas.{measures_next}
 use Rattle.rt_embed.proofs.ListLemmas.{all_more, mapped_more}
@@ -8,7 +8,7 @@ use Rattle.rt_embed.proofs.measuring.measure_each.Goals as goal
 pub loop-done-preserved : goal.loop-done-preserved
 loop-done-preserved c =
     let done = c.loop-done.done in
-    let asked = sym c.question.ensures ∙ c.in-Some.is in
+    let asked = sym (c.ok.ensures.value ∙ ap result_ok c.question.ensures) ∙ c.in-Some.is in
     record {
       bound = search rules;
       len = search rules;
