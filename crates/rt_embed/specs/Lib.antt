@@ -1,4 +1,5 @@
 pub mod Columns
+pub mod Costs
 pub mod Findings
 pub mod PlainQueries
 pub mod Puts

@@ -18,7 +18,7 @@ mod vertex;
 
 pub use columns::Columns;
 pub use finding::{Found, Stop};
-pub use plain_query::PlainQuery;
+pub use plain_query::{InvalidQuery, PlainQuery};
 pub use question::{Measure, Question};
 pub use score::Score;
 pub use session::Session;
