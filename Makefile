@@ -25,6 +25,11 @@ HEAP = $(dir $(shell rt doc))c/liblibc_c.a
 LIBDIR = $(PREFIX)/lib
 PKG_CONFIG_FILE = sed 's|@PREFIX@|$(PREFIX)|; s|@LIBDIR@|$(LIBDIR)|; s|@VERSION@|'`cat VERSION`'|' library/rtfilter.pc.in
 
+# The extension of the Python package, with the library in it. It wants python3-dev and python3-setuptools of Debian.
+EXTENSION := python/rtfilter/_engine.abi3.so
+BUILD_EXTENSION = cd python && RTFILTER_ARCHIVE=$(abspath $(LIBRTFILTER)) RTFILTER_INCLUDE=$(abspath include) \
+  /usr/bin/python3 -B setup.py --quiet build_ext --inplace --build-temp $(abspath $(OUT))/python
+
 # What a service and a pool load before the C library, where there is a C compiler.
 PREFORK := $(if $(shell command -v $(CC)),build/rtfilter-prefork.so)
 
@@ -62,6 +67,12 @@ $(OUT)/librtfilter.so.0: $(LIBRTFILTER) library/rtfilter.map
 
 $(OUT)/librtfilter.so: $(OUT)/librtfilter.so.0
 	@ln -sf librtfilter.so.0 $@
+
+# The Python package, to be used from this folder: PYTHONPATH=python.
+python: $(EXTENSION)
+
+$(EXTENSION): python/engine/_engine.c python/setup.py $(LIBRTFILTER)
+	@$(BUILD_EXTENSION)
 
 # In one step, since some may build it at once.
 build/rtfilter-prefork.so: service/prefork.c
@@ -175,6 +186,6 @@ uninstall:
 clean:
 	rm -rf build crates/*/out
 
-.PHONY: all library example check test test-users test-packages test-full bench deb wheel reference install install-library
+.PHONY: all library python example check test test-users test-packages test-full bench deb wheel reference install install-library
 .PHONY: uninstall clean
 .DEFAULT_GOAL := all
