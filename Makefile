@@ -110,7 +110,7 @@ test:
 
 # The clients, the recipes and the package, with the built program. NEED=all: what can't be tried here has failed.
 test-users: all library
-	@tests/users.py build/rtfilter --archive $(ARCHIVE) $(if $(filter all,$(NEED)),--need-all)
+	@tests/pytests.py build/rtfilter --archive $(ARCHIVE) $(if $(filter all,$(NEED)),--need-all)
 
 # The Debian packages that the tests want, by apt-get, as root or with sudo.
 test-packages:

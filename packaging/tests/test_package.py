@@ -121,7 +121,7 @@ class Packages(unittest.TestCase):
     def setUp(self) -> None:
         wants(self, *TOOLS)
         if not LIBRARY:
-            self.skipTest("tests/users.py names no archive of the library")
+            self.skipTest("tests/pytests.py names no archive of the library")
 
     def test_they_are_the_same_each_time(self) -> None:
         """From another folder, at another time, with another mask, where the program and the library have other dates."""

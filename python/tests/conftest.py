@@ -6,7 +6,6 @@ import subprocess
 import sys
 from collections.abc import Callable, Iterable, Iterator
 from pathlib import Path
-from typing import Any
 
 import pytest
 import random_runs
@@ -101,19 +100,3 @@ def until(word: str, lines: Iterable[str]) -> Iterator[str]:
 def client(serve: Serve, data: Path) -> Iterator[Client]:
     with Client(serve(data / "boxes.csv"), timeout=20) as client:
         yield client
-
-
-def pytest_collection_modifyitems(items: list[Any]) -> None:
-    """Each test has a limit of its own: one that hangs ends the run with the stacks of its threads."""
-    import faulthandler
-
-    faulthandler.enable()
-
-
-@pytest.fixture(autouse=True)
-def limit() -> Iterator[None]:
-    import faulthandler
-
-    faulthandler.dump_traceback_later(300, exit=True)
-    yield
-    faulthandler.cancel_dump_traceback_later()
