@@ -28,7 +28,7 @@ PKG_CONFIG_FILE = sed 's|@PREFIX@|$(PREFIX)|; s|@LIBDIR@|$(LIBDIR)|; s|@VERSION@
 # The extension of the Python package, with the library in it. It wants python3-dev and python3-setuptools of Debian.
 EXTENSION := python/rtfilter/_engine.abi3.so
 BUILD_EXTENSION = cd python && RTFILTER_ARCHIVE=$(abspath $(LIBRTFILTER)) RTFILTER_INCLUDE=$(abspath include) \
-  /usr/bin/python3 -B setup.py --quiet build_ext --inplace --build-temp $(abspath $(OUT))/python
+  /usr/bin/python3 -B setup.py --quiet build_ext --inplace --build-temp $(abspath $(OUT))/python/temporary --build-lib $(abspath $(OUT))/python/lib
 
 # What a service and a pool load before the C library, where there is a C compiler.
 PREFORK := $(if $(shell command -v $(CC)),build/rtfilter-prefork.so)
@@ -128,9 +128,9 @@ bench: all library
 deb: $(PROGRAM) $(LIBRTFILTER)
 	@packaging/make_packages.py $(PROGRAM) $(LIBRTFILTER) build
 
-# The Python wheel with the program in it, in build/. It wants a C compiler.
-wheel: $(PROGRAM) build/rtfilter-prefork.so
-	@packaging/make_wheel.py $(PROGRAM) build/rtfilter-prefork.so build
+# The Python wheel, with the program in it, in build/. It wants a C compiler, python3-dev and python3-setuptools of Debian.
+wheel: $(PROGRAM) build/rtfilter-prefork.so $(LIBRTFILTER)
+	@packaging/make_wheel.py $(PROGRAM) build/rtfilter-prefork.so $(LIBRTFILTER) build
 
 # The reference of the Python package, in build/reference. It wants python3-sphinx of Debian.
 reference:
@@ -139,7 +139,7 @@ reference:
 SHARE := $(DESTDIR)$(PREFIX)/share
 SERVING := $(DESTDIR)$(PREFIX)/lib/rtfilter
 UNITS := $(DESTDIR)$(PREFIX)/lib/systemd/system
-SERVICE := $(addprefix service/,serve.py service.py listening.py health.py) clients/python/rtfilter/prefork.py
+SERVICE := $(addprefix service/,serve.py service.py listening.py health.py prefork.py)
 COMPLETIONS := $(SHARE)/bash-completion/completions
 
 # What makes the units of many tables of those of one: an instance has the name of its table.

@@ -36,10 +36,10 @@ extern "C" {
 
 /* The version of this header. Programs that were built with an older header run with a newer library of the same soname. */
 #define RTFILTER_VERSION_MAJOR 0
-#define RTFILTER_VERSION_MINOR 2
+#define RTFILTER_VERSION_MINOR 3
 #define RTFILTER_VERSION_PATCH 0
 
-/* The version of the library that is loaded, such as "0.2.0". The string is static. */
+/* The version of the library that is loaded, such as "0.3.0". The string is static. */
 const char *rtfilter_version(void);
 
 /* ---- Codes */

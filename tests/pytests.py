@@ -23,10 +23,8 @@ sys.dont_write_bytecode = True
 ROOT = Path(__file__).resolve().parent.parent
 PARTS = {  # those that take longest first
     "service": "service/tests",
-    "client": "clients/python/tests",
     "python": "python/tests",
     "map": "examples/tiles/tests",
-    "shards": "examples/cluster/tests",
     "fence": "examples/geofence/tests",
     "roads": "examples/roads/tests",
     "languages": "examples/languages/tests",
@@ -35,7 +33,6 @@ PARTS = {  # those that take longest first
     "gate": "tests/gate",
 }
 PREFORK = "build/rtfilter-prefork.so"
-SUPPORT = "clients/python/tests"  # support.py, which recipes, package and gate need too
 PYTHON = "/usr/bin/python3"  # that of Debian, with its packages
 AT_ONCE = 2  # parts: some measure how long a call takes
 TOO_LONG = 3000  # seconds of a part
@@ -112,8 +109,7 @@ def main():
     parts = args.only or [*PARTS]
     with tempfile.TemporaryDirectory(prefix="rtfilter-") as folder:
         given = {"RTFILTER_PROGRAM": copied(args.program, folder), **libraries(args.archive, parts, folder)}
-        folders = [str(ROOT / it) for it in ("tests", SUPPORT)]
-        environment = {**os.environ, **given, "PYTHONPATH": os.pathsep.join(folders), "PYTHONDONTWRITEBYTECODE": "1"}
+        environment = {**os.environ, **given, "PYTHONPATH": str(ROOT / "tests"), "PYTHONDONTWRITEBYTECODE": "1"}
         with ThreadPoolExecutor(AT_ONCE) as threads:
             passed = failed = 0
             for good, bad, text in threads.map(lambda it: tried(it, environment, folder, args.need_all), parts):

@@ -3,7 +3,6 @@
 import os
 from array import array
 from collections.abc import Iterable
-from operator import index
 from types import TracebackType
 from typing import TYPE_CHECKING, Any, NoReturn, Self
 

@@ -1,5 +1,6 @@
 """Which polygons hold a point, exactly."""
 
+import math
 from collections.abc import Iterator, Mapping
 from typing import Any
 
@@ -59,7 +60,7 @@ class Zones:
 
     def holding(self, x: float, y: float) -> list[int]:
         """The places of the polygons that hold a point, the least first."""
-        whole_x, whole_y = self._whole(numpy.array([[x, y]]))[0].tolist()
+        whole_x, whole_y = self._whole_number(x), self._whole_number(y)
         parts = self._table.find(Covers(whole_x, whole_x, whole_y, whole_y))
         found = (int(self._zones[it]) for it in parts if self._polygons.holds(it, whole_x, whole_y))
         return [*dict.fromkeys(found)]
@@ -76,6 +77,18 @@ class Zones:
         is_new = numpy.ones(len(places), bool)  # one answer for a polygon of which two parts hold the point
         is_new[1:] = (places[1:] != places[:-1]) | (zones[1:] != zones[:-1])
         return places[is_new], zones[is_new]
+
+    def _whole_number(self, number: float) -> int:
+        """One coordinate in whole numbers: in less time than an array of it."""
+        scaled = number if self._scale is None else number * self._scale
+        try:
+            whole = math.floor(scaled)
+        except (ValueError, OverflowError):
+            raise ValueError("a coordinate that isn't finite") from None
+        whole += scaled - whole >= 0.5
+        if self._scale is None and whole != scaled:
+            raise TypeError(f"{number} isn't a whole number: give a scale")
+        return whole
 
     def _ring(self, positions: Any) -> NDArray[Any]:
         """A ring in whole numbers."""

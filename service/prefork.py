@@ -1,6 +1,6 @@
 """Starts the program with a process of its own for each connection, by a library that is loaded before the C library.
 
-The head of `service/prefork.c` has the rules. This module needs no other one of the package: the service uses it alone.
+The head of `prefork.c` has the rules.
 """
 
 import contextlib

@@ -1,6 +1,5 @@
 """The lines nearest to a point, exactly: a line is straight pieces, and its distance is that of its nearest point."""
 
-import json
 import math
 import random
 from array import array
@@ -8,25 +7,17 @@ from bisect import insort
 from collections.abc import Iterable, Iterator, Sequence
 from fractions import Fraction
 from functools import cached_property
-from itertools import pairwise
-from typing import Any, Protocol
+from typing import Any
 
-from .answers import Answers
-from .batches import batches
-from .geojson import Features, line_of, parts_of
-from .plane import Piece, Place, Sides, sides_of, square_of
-from .queries import nearest_line
-from .shapes import Shapes
+from plane import Piece, Place, square_of
+
+from rtfilter import Rtfilter
 
 LEAST_ASKED = 8  # boxes, for each line that is wanted: in nine searches of ten there is a farther one among them
 MORE = 2  # times as many are asked for, where there isn't
 SCANNED = 16  # where one of so many boxes would be asked for then, all pieces are looked at
-MOST_ANSWERS = 1 << 12  # that are asked for at once: so few that they stay in the processor's cache
-AT_ONCE = 250  # places: what is known of more would be looked through by Python's collector of garbage
 ROUNDED = 1e-3  # units: more than what the distance to a line in floats is wrong by, of numbers of 32 bits
 ENDLESS = 1 << 70  # more than the square of any distance
-
-COMMAS = bytes.maketrans(b" \n", b",,")
 
 Foot = tuple[int, int, int, int, int]
 """The point of a line that is nearest to a place: the whole part of the square of its distance, the numbers of the line
@@ -41,51 +32,10 @@ InFloats = tuple[Any, ...]
 """A piece by its number, and what `_columns` have of it."""
 
 
-class HasBoxes(Protocol):
-    """A table of boxes."""
-
-    def ask(self, lines: list[str]) -> list[Answers]: ...
-
-
-class Lines(Shapes[Piece]):
-    """Lines that are loaded at once and asked which of them are nearest to a point.
-
-    Each feature is a LineString or a MultiLineString, whose straight pieces are the shapes. An answer names a line by
-    its number: its place among the features, from 0. Arguments, and what they raise, are those of `Shapes`.
-    """
-
-    def _cut(self, features: Features) -> Iterator[tuple[int, Piece, Sides]]:
-        for line, path in parts_of(features, "LineString", line_of, self._whole):
-            for piece in pairwise(path):
-                yield line, piece, sides_of(piece)
-
-    @cached_property
-    def _pieces(self) -> "Pieces":
-        return Pieces(self._boxes, self._shapes, self._feature_of)
-
-    def nearest(self, k: int, x: float, y: float) -> list[tuple[int, Fraction]]:
-        """The k lines nearest to a point, each with the square of its distance, by that and then by number.
-
-        Where there are fewer, all come; k below 1 raises `ValueError`. Squares are in the whole units of the
-        coordinates.
-        """
-        return next(self.nearest_each(k, [(x, y)]))
-
-    def nearest_each(
-        self, k: int, points: Iterable[tuple[float, float]]
-    ) -> Iterator[list[tuple[int, Fraction]]]:
-        """The same for each point (x, y). They are asked in batches, which is faster."""
-        if k < 1:
-            raise ValueError("at least one line has to be asked for")
-        for batch in batches((self._whole(x), self._whole(y)) for x, y in points):
-            for feet in self._pieces.nearest_each(k, batch):
-                yield [(line, Fraction(above, below)) for _, line, _, above, below in feet]
-
-
 class Pieces:
     """The straight pieces of lines, and a table of the boxes round them."""
 
-    def __init__(self, boxes: HasBoxes, pieces: list[Piece], lines: list[int]) -> None:
+    def __init__(self, boxes: Rtfilter, pieces: list[Piece], lines: list[int]) -> None:
         """The id of a box is the place of its piece in a list, and in another one is the number of the piece's line."""
         self._boxes = boxes
         self._pieces = pieces
@@ -98,35 +48,25 @@ class Pieces:
         Mostly the nearest boxes tell them. Where they don't, more are asked for, from the first on. Where pieces are
         long and slanting a place lies in many boxes: then it takes less time to look at all pieces.
         """
-        for first in range(0, len(places), AT_ONCE):
-            searches = [Search(k, place, self._pieces, self._lines) for place in places[first : first + AT_ONCE]]
-            self._end(searches, min(LEAST_ASKED * k, len(self._pieces) + 1))
-            yield from [search.feet for search in searches]
+        for place in places:
+            search = Search(k, place, self._pieces, self._lines)
+            self._end(search, min(LEAST_ASKED * k, len(self._pieces) + 1))
+            yield search.feet
 
-    def _end(self, searches: list["Search"], asked: int) -> None:
-        """Has searches go on until they are over. So many boxes are asked for at first, or one more than there are."""
-        self._ask(searches, 0, asked)
-        while waiting := [search for search in searches if not search.is_over]:
+    def _end(self, search: "Search", asked: int) -> None:
+        """Has a search go on until it is over. So many boxes are asked for at first, or one more than there are."""
+        self._ask(search, 0, asked)
+        while not search.is_over:
             seen, asked = asked, MORE * asked
             if asked * SCANNED <= len(self._pieces):
-                self._ask(waiting, seen, asked)
+                self._ask(search, seen, asked)
             else:
-                for search in waiting:
-                    self._scan(search)
+                self._scan(search)
 
-    def _ask(self, searches: list["Search"], seen: int, asked: int) -> None:
-        """Has searches take the pieces of the nearest so many boxes, but for those that they have seen."""
-        for search, boxes in zip(searches, self._boxes_each(asked, [search.place for search in searches])):
-            numbers = iter(boxes[2 * seen :])
-            search.is_over = search.take(zip(numbers, numbers)) or len(boxes) < 2 * asked
-
-    def _boxes_each(self, count: int, places: list[Place]) -> Iterator[list[int]]:
-        """So many of the boxes nearest to each place: the numbers of their pieces and their scores, by turns. So many
-        places are asked about at once that their answers are bounded."""
-        at_once = max(1, MOST_ANSWERS // count)
-        for first in range(0, len(places), at_once):
-            some = places[first : first + at_once]
-            yield from numbers_of(self._boxes.ask([nearest_line(count, x, y) for x, y in some]))
+    def _ask(self, search: "Search", seen: int, asked: int) -> None:
+        """Has a search take the pieces of the nearest so many boxes, but for those that it has seen."""
+        boxes = self._boxes.nearest(asked, *search.place)
+        search.is_over = search.take(boxes[seen:]) or len(boxes) < asked
 
     def _scan(self, search: "Search") -> None:
         """Has a search take all pieces. Mostly the distance to a piece's line, in floats, tells that it is too far, in
@@ -220,10 +160,3 @@ def is_nearer(foot: Foot, known: Foot) -> bool:
     _, _, piece_known, above_known, below_known = known
     one, other = above * below_known, above_known * below
     return one < other or (one == other and piece < piece_known)
-
-
-def numbers_of(answers_each: Iterable[Answers]) -> list[list[int]]:
-    """The ids and scores of answers, by turns. Read as JSON they take half the time that `int` takes for each."""
-    texts = b"],[".join([bytes(answers)[:-1] for answers in answers_each])
-    numbers: list[list[int]] = json.loads(b"[[%b]]" % texts.translate(COMMAS))
-    return numbers
