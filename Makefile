@@ -108,7 +108,7 @@ check: build/$(CRATE).proved $(patsubst %,build/%.passed,$(filter $(CRATE)_tests
 test:
 	@tests/run
 
-# The clients, the recipes and the package, with the built program. NEED=all: what can't be tried here has failed.
+# The Python package, the service, the examples, the recipes and the packages, with the built program. NEED=all: what can't be tried here has failed.
 test-users: all library
 	@tests/pytests.py build/rtfilter --archive $(ARCHIVE) $(if $(filter all,$(NEED)),--need-all)
 
@@ -124,7 +124,8 @@ test-full: build/rtfilter
 bench: all library
 	@bench/bench.py build/rtfilter --library $(LIBRTFILTER)
 
-# The Debian packages, in build/: the program, the library, the client, the service. They want debhelper, dpkg-dev and gcc.
+# The Debian packages, in build/: the program, the library, the Python package, the service. They want debhelper, dh-python,
+# dpkg-dev, gcc, python3-dev and python3-setuptools.
 deb: $(PROGRAM) $(LIBRTFILTER)
 	@packaging/make_packages.py $(PROGRAM) $(LIBRTFILTER) build
 

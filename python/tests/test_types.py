@@ -1,6 +1,7 @@
 """The package's types, and that nothing imports private names of another package."""
 
 import ast
+import os
 import shutil
 import subprocess
 from collections.abc import Iterator
@@ -13,10 +14,21 @@ PACKAGE = ROOT / "python/rtfilter"
 FOLDERS = "python", "service", "examples", "packaging", "bench", "tests", "tools"
 
 
-def test_types(tmp_path: Path) -> None:
+CHECKED = {  # the folders of modules, and the files that are checked at once: modules of two examples may have one name
+    "python:service": ["python/rtfilter", "python/setup.py", "service/*.py", "packaging/*.py"],
+    "python:service:examples/common:examples/geofence": ["examples/common/*.py", "examples/geofence/*.py"],
+    "python:examples/common:examples/roads": ["examples/roads/*.py"],
+    "python:service:examples/tiles": ["examples/tiles/*.py"],
+}
+
+
+@pytest.mark.parametrize("folders", CHECKED)
+def test_types(folders: str, tmp_path: Path) -> None:
     mypy = shutil.which("mypy") or pytest.skip("mypy isn't installed")
-    words = [mypy, "--strict", "--cache-dir", str(tmp_path), "rtfilter", "setup.py"]
-    done = subprocess.run(words, cwd=ROOT / "python", capture_output=True, text=True)
+    files = [str(it) for pattern in CHECKED[folders] for it in sorted(ROOT.glob(pattern))]
+    words = [mypy, "--config-file", ROOT / "python/pyproject.toml", "--cache-dir", tmp_path, *files]
+    environment = {**os.environ, "MYPYPATH": os.pathsep.join(str(ROOT / it) for it in folders.split(":"))}
+    done = subprocess.run([*map(str, words)], cwd=ROOT, env=environment, capture_output=True, text=True)
     assert done.returncode == 0, done.stdout
 
 
